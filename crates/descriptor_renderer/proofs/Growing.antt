@@ -1,11 +1,11 @@
 -- There are more slots only if each has a set, or had its last generation.
-use Rattle.std.proofs.Common.{◌≡◌, ◌≢◌, ℕ, ◌+◌, ◌<◌, ◌⊎◌, ◌&&◌, Bool, true, false, List, length, None, is_some, Ok, inl, inr, refl, sym, ap, subst, ◌∙◌, arith}
+use Rattle.std.proofs.Common.{◌≡◌, ℕ, ◌<◌, ◌&&◌, Bool, true, false, List, length, None, is_some, Ok, inl, inr, refl, sym, ap, subst, ◌∙◌, arith}
 use Rattle.std.proofs.lemmas.List.{get_or_past, length-set}
 use Rattle.gpu_descriptor_types.specs.declared.device.DescriptorDevice.{Ghosts}
 use Rattle.gpu_descriptor.specs.declared.errors.AllocationError.{AllocationError}
 use Rattle.gpu_descriptor.specs.declared.set.DescriptorSet.{DescriptorSet}
 use Rattle.descriptor_table.specs.Slots.{in_list, is_kept_of, slot_at}
-use Rattle.descriptor_table.specs.Tables.{Grows, Picks, Puts, Renews, holds, is_held_use, is_usable, place_at, renewed, used_for}
+use Rattle.descriptor_table.specs.Tables.{Grows, Picks, Puts, Renews, is_held_use, is_usable, place_at, renewed, used_for}
 use Rattle.descriptor_table.specs.declared.handle.SetHandle.{SetHandle}
 use Rattle.descriptor_table.specs.declared.slot.Slot.{Slot}
 use Rattle.descriptor_table.specs.declared.slot.Use.{Use}

@@ -1,5 +1,5 @@
 -- A set that gets a handle: a kept one, or one that came.
-use Rattle.std.proofs.Common.{◌≡◌, ◌≢◌, ℕ, ◌+◌, ◌<◌, ◌≤◌, ◌⊎◌, ◌||◌, Bool, true, false, List, [], length, set, Option, Some, None, is_some, Result, Ok, inl, inr, refl, sym, ap, subst, ◌∙◌, arith}
+use Rattle.std.proofs.Common.{◌≡◌, ◌≢◌, ℕ, ◌+◌, ◌<◌, ◌≤◌, ◌⊎◌, ◌||◌, Bool, true, false, List, length, set, Option, Some, None, is_some, Result, Ok, inl, inr, refl, sym, ap, subst, ◌∙◌, arith}
 use Rattle.std.proofs.lemmas.Bool.{cases_eq}
 use Rattle.std.proofs.lemmas.List.{length-set, set-set}
 use Rattle.gpu_descriptor_types.specs.declared.device.DescriptorDevice.{Ghosts}
@@ -15,7 +15,7 @@ use Rattle.descriptor_table.proofs.Counting.{below_or}
 use Rattle.descriptor_table.proofs.Counts.{bit, count_set, same_count}
 use Rattle.descriptor_table.proofs.Listed.{other_slots, slot_set}
 use Rattle.descriptor_table.proofs.Renewing.{kept_is}
-use Rattle.descriptor_renderer.specs.Stores.{AreCleaned, ComesOf, Gets, GetsAtLast, HandlesKept, IsCleared, IsNamed, IsRefusedAtLast, TakesKept, is_free, kept_of, number_of, side_of, slots_in}
+use Rattle.descriptor_renderer.specs.Stores.{AreCleaned, ComesOf, GetsAtLast, HandlesKept, IsCleared, IsNamed, IsRefusedAtLast, TakesKept, is_free, kept_of, number_of, side_of, slots_in}
 use Rattle.descriptor_renderer.specs.declared.store.Store.{Store}
 use Rattle.descriptor_renderer.proofs.Arriving.{Arrives, arrives_then, clears_arrives, same_arrives, used_placed}
 use Rattle.descriptor_renderer.proofs.Cleared.{Clears, clears, same_clears}

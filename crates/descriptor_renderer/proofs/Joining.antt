@@ -1,6 +1,6 @@
 -- Sets that are held, one after another.
-use Rattle.std.proofs.Common.{◌≡◌, ◌≢◌, ℕ, zero, suc, ◌+◌, ◌-◌, ◌<◌, ◌≤◌, ◌⊎◌, ◌&&◌, ◌||◌, Bool, true, false, List, [], ◌∷◌, ◌++◌, length, get_or, Option, Some, None, is_some, IsSome, inl, inr, refl, sym, ap, subst, ◌∙◌, append_assoc, arith}
-use Rattle.std.proofs.lemmas.Bool.{and_right, cases_lt}
+use Rattle.std.proofs.Common.{◌≡◌, ◌≢◌, ℕ, zero, suc, ◌+◌, ◌-◌, ◌<◌, ◌≤◌, ◌⊎◌, ◌&&◌, ◌||◌, Bool, true, false, List, [], ◌∷◌, ◌++◌, length, get_or, Some, is_some, IsSome, inl, inr, refl, sym, ap, subst, ◌∙◌, append_assoc, arith}
+use Rattle.std.proofs.lemmas.Bool.{cases_lt}
 use Rattle.std.proofs.lemmas.List.{get_or-append-add, append-nil, get_or_append_left, length-append}
 use Rattle.gpu_descriptor_types.specs.declared.device.DescriptorDevice.{Ghosts}
 use Rattle.gpu_descriptor.specs.declared.set.DescriptorSet.{DescriptorSet}
@@ -18,7 +18,7 @@ use Rattle.descriptor_renderer.specs.declared.store.Store.{Store}
 use Rattle.descriptor_renderer.proofs.Arriving.{Arrives, arrives_then, clears_arrives, same_arrives, used_placed}
 use Rattle.descriptor_renderer.proofs.Cleared.{Clears}
 use Rattle.descriptor_renderer.proofs.Handing.{Fills, some_of}
-use Rattle.descriptor_renderer.proofs.Naming.{free_is, given_apart, given_clear, given_never, given_next, next_of, seen, seen_apart, seen_clear, seen_free, seen_next}
+use Rattle.descriptor_renderer.proofs.Naming.{free_is, given_apart, given_clear, given_never, given_next, next_of, seen_apart, seen_clear, seen_free, seen_next}
 
 held_use : (u : Use) → is_held_use u ≡ true → u ≡ Held
 held_use Held e = refl

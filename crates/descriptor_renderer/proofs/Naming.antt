@@ -1,15 +1,14 @@
 -- What handles name when sets come to slots, or leave them.
-use Rattle.std.proofs.Common.{◌≡◌, ◌≢◌, ℕ, ◌+◌, ◌<◌, ◌≤◌, ◌⊎◌, ◌==◌, ◌&&◌, ◌||◌, nat_le, nat_lt, not, Bool, true, false, if◌then◌else◌, List, Option, None, Some, is_some, inl, inr, refl, sym, ap, ◌∙◌, arith, eq-eqb, eqb-true, ne_eqb}
-use Rattle.std.proofs.lemmas.Bool.{and_left, and_right, cases_eq, cases_lt, le-leb, lt-leb, lt-ltb, ltb-true}
-use Rattle.descriptor_table.specs.Sets.{find, is_given, sets_of}
-use Rattle.descriptor_table.specs.Slots.{in_list, is_kept_of, is_live, slot_at}
+use Rattle.std.proofs.Common.{◌≡◌, ◌≢◌, ℕ, ◌+◌, ◌<◌, ◌≤◌, ◌⊎◌, ◌==◌, ◌&&◌, ◌||◌, nat_le, nat_lt, not, Bool, true, false, if◌then◌else◌, Option, None, Some, is_some, inl, inr, refl, sym, ap, ◌∙◌, arith, eq-eqb, eqb-true, ne_eqb}
+use Rattle.std.proofs.lemmas.Bool.{and_left, and_right, cases_eq, cases_lt, le-leb, lt-leb, lt-ltb}
+use Rattle.descriptor_table.specs.Slots.{in_list, is_kept_of, is_live}
 use Rattle.descriptor_table.specs.Tables.{is_kept}
 use Rattle.descriptor_table.specs.declared.handle.SetHandle.{SetHandle}
 use Rattle.descriptor_table.specs.declared.slot.Slot.{Slot}
 use Rattle.descriptor_table.specs.declared.slot.Use.{Use}
 use Rattle.descriptor_table.specs.declared.slot.Use.TheVariants.{Held, Drawn, Waits, Kept, Going, Taken, Vacant}
 use Rattle.descriptor_table.proofs.Chains.{and_true}
-use Rattle.descriptor_renderer.specs.Stores.{IsNamed, is_free}
+use Rattle.descriptor_renderer.specs.Stores.{is_free}
 use Rattle.descriptor_renderer.proofs.Cleared.{Clears}
 
 kept_use : (k generation : ℕ) (u : Use) (layout : ℕ) (full : Bool) → in_list (k + 2) u layout generation full ≡ true → (u ≡ Kept) × (k ≡ layout)

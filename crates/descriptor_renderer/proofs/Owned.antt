@@ -15,7 +15,7 @@ use Rattle.descriptor_table.specs.declared.slot.Slot.{Slot}
 use Rattle.descriptor_table.proofs.Counting.{below_or}
 use Rattle.descriptor_renderer.specs.LayoutRegistries.{layout_at, layouts_of, registry_of}
 use Rattle.descriptor_renderer.specs.Own.{AreOwn}
-use Rattle.descriptor_renderer.specs.Stores.{ComesOf, IsRefused, IsRefusedAtLast, NoneComes, Settles, lists_for, slots_in}
+use Rattle.descriptor_renderer.specs.Stores.{ComesOf, IsRefusedAtLast, NoneComes, Settles, lists_for, slots_in}
 use Rattle.descriptor_renderer.specs.declared.layout_registry.LayoutHandle.{LayoutHandle}
 use Rattle.descriptor_renderer.specs.declared.layout_registry.LayoutRegistry.{LayoutRegistry}
 use Rattle.descriptor_renderer.specs.declared.store.Store.{Store}

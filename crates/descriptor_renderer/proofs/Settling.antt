@@ -1,10 +1,9 @@
 -- What slots may become, so that sets stay in their slots and none is on its way.
-use Rattle.std.proofs.Common.{◌≡◌, ℕ, ◌<◌, ◌≤◌, ◌⊎◌, true, List, [], Some, None, inl, inr, sym, ap, ◌∙◌}
+use Rattle.std.proofs.Common.{◌≡◌, ℕ, ◌≤◌, ◌⊎◌, true, [], Some, None, inl, inr, sym, ◌∙◌}
 use Rattle.gpu_descriptor_types.specs.declared.device.DescriptorDevice.{Ghosts}
-use Rattle.gpu_descriptor.specs.declared.set.DescriptorSet.{DescriptorSet}
 use Rattle.descriptor_table.specs.Slots.{frame_of, slot_at}
 use Rattle.descriptor_table.specs.declared.slot.Slot.{Slot}
-use Rattle.descriptor_renderer.specs.Stores.{IsAtRest, IsUpTo, NoneComes, Settles, coming_in, is_placed, slots_in}
+use Rattle.descriptor_renderer.specs.Stores.{IsAtRest, NoneComes, Settles, coming_in, is_placed, slots_in}
 use Rattle.descriptor_renderer.specs.declared.store.Store.{Store}
 
 -- a slot's set left, or is there under the same layout, and waits for no frame later than before, and than this one. If the slot was placed, it is

@@ -1,10 +1,10 @@
 -- What handles name once sets came back, waited, or were given back.
-use Rattle.std.proofs.Common.{◌≡◌, ◌≢◌, ℕ, ◌+◌, ◌<◌, ◌≤◌, ◌==◌, ◌&&◌, nat_le, nat_lt, Bool, true, false, List, length, if◌then◌else◌, is_some, None, inl, inr, refl, sym, ap, subst, ◌∙◌, arith, leb-true}
+use Rattle.std.proofs.Common.{◌≡◌, ◌≢◌, ℕ, ◌+◌, ◌<◌, ◌&&◌, nat_le, Bool, true, false, List, length, if◌then◌else◌, is_some, None, inl, inr, refl, sym, ap, ◌∙◌, arith, leb-true}
 use Rattle.std.proofs.lemmas.Bool.{ne_eqb}
 use Rattle.std.proofs.lemmas.List.{get_or_past}
 use Rattle.descriptor_table.specs.Sets.{AreHeldOnce, KeepNames, LoseNames, sets_of}
 use Rattle.descriptor_table.specs.Slots.{in_list, is_due, is_live, slot_at, waits_until}
-use Rattle.descriptor_table.specs.Tables.{Turns, aged, is_kept, place_at, used_for, vacated}
+use Rattle.descriptor_table.specs.Tables.{Turns, aged, is_kept, place_at, vacated}
 use Rattle.descriptor_table.specs.declared.handle.SetHandle.{SetHandle}
 use Rattle.descriptor_table.specs.declared.slot.Slot.{Slot}
 use Rattle.descriptor_table.specs.declared.slot.Use.{Use}

@@ -1,5 +1,5 @@
 -- What the store of a renderer has: the table of its sets, and the allocator over a device.
-use Rattle.std.specs.Prelude.{◌≡◌, ◌≢◌, ℕ, zero, suc, ◌+◌, ◌-◌, ◌<◌, ◌≤◌, ◌⊎◌, ◌||◌, true, not, Bool, List, [], ◌∷◌, length, slice_index_or, false, if◌then◌else◌, is_some, Option, Result, Some, Ok, Err, IsOk, None, Vec, vec_capacity}
+use Rattle.std.specs.Prelude.{◌≡◌, ◌≢◌, ℕ, zero, suc, ◌+◌, ◌<◌, ◌≤◌, ◌⊎◌, ◌||◌, true, not, Bool, List, [], ◌∷◌, length, slice_index_or, if◌then◌else◌, is_some, Option, Result, Some, Ok, Err, None, Vec, vec_capacity}
 use Rattle.std.specs.declared.alloc.Global.{Global}
 use Rattle.gpu_descriptor_types.specs.Ledger.{Ledger, Pool}
 use Rattle.gpu_descriptor.specs.Caller.Others.{others_of}

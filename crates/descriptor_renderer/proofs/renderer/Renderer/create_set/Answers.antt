@@ -1,6 +1,5 @@
 use Rattle.std.proofs.Common.{◌+◌, ◌<◌, slice_get, sym, ap, subst, ◌∙◌, refl, arith}
-use Rattle.descriptor_table.specs.Sets.{KeepNames, Names, sets_of}
-use Rattle.descriptor_table.specs.Slots.{slot_at}
+use Rattle.descriptor_table.specs.Sets.{Names, sets_of}
 use Rattle.descriptor_renderer.specs.LayoutRegistries.{layouts_of}
 use Rattle.descriptor_renderer.specs.Stores.{slots_in}
 use Rattle.descriptor_renderer.proofs.Owned.{if_some, layout_here, layout_listed, own_comes, refused_names}

@@ -1,4 +1,4 @@
-use Rattle.std.proofs.Common.{◌≡◌, ◌<◌, ◌-◌, ℕ, Bool, true, false, min, if◌then◌else◌, sym, subst, ap, arith}
+use Rattle.std.proofs.Common.{◌-◌, min, if◌then◌else◌, ap, arith}
 use Rattle.descriptor_renderer.specs.LayoutRegistries.{layouts_of}
 use Rattle.descriptor_renderer.specs.Stores.{most_of, slots_in}
 use Rattle.descriptor_renderer.proofs.Owned.{own_stays}

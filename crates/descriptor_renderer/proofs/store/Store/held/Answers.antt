@@ -1,4 +1,4 @@
-use Rattle.std.proofs.Common.{◌≡◌, ◌+◌, ◌∙◌, [], length, sym, ap, arith}
+use Rattle.std.proofs.Common.{◌≡◌, ◌+◌, length, ap, arith}
 use Rattle.gpu_descriptor.specs.Caller.States.{outstanding_of}
 use Rattle.descriptor_table.specs.Tables.{count, holds, is_kept, waits}
 use Rattle.descriptor_renderer.specs.Stores.{slots_in}

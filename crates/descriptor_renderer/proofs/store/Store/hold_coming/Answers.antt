@@ -1,5 +1,5 @@
-use Rattle.std.proofs.Common.{◌≡◌, ◌+◌, ◌∙◌, [], ◌∷◌, length, inl, refl, arith}
-use Rattle.descriptor_renderer.specs.Stores.{ComesOf, coming_in, number_of, slots_in}
+use Rattle.std.proofs.Common.{◌∙◌, [], ◌∷◌, inl, refl, arith}
+use Rattle.descriptor_renderer.specs.Stores.{ComesOf, number_of, slots_in}
 use Rattle.descriptor_renderer.proofs.Growing.{grow_more}
 use Rattle.descriptor_renderer.proofs.Joining.{held_next, held_start, sets_then, stays_then, store_same}
 use Rattle.descriptor_renderer.proofs.store.Store.hold_coming.Goals as goal

@@ -1,5 +1,5 @@
-use Rattle.std.proofs.Common.{◌≡◌, ◌+◌, ◌∙◌, [], ◌∷◌, inl, refl, arith}
-use Rattle.descriptor_renderer.specs.Stores.{NoneComes, kept_of, number_of, slots_in}
+use Rattle.std.proofs.Common.{◌∙◌, [], ◌∷◌, inl, refl, arith}
+use Rattle.descriptor_renderer.specs.Stores.{NoneComes, number_of, slots_in}
 use Rattle.descriptor_renderer.proofs.Growing.{grow_more}
 use Rattle.descriptor_renderer.proofs.Joining.{held_next, held_start, kept_then, stays_then, store_same}
 use Rattle.descriptor_renderer.proofs.store.Store.hold_kept.Goals as goal
