@@ -37,23 +37,43 @@ impl<L, P, S, D: DescriptorDevice<L, P, S>> Store<L, P, S, D> {
         }
     }
 
-    /// Holds kept sets of a layout, and appends their handles, over memory that was reserved.
+    /// Holds a kept set of a layout, and appends its handle, over memory that was reserved.
+    #[inline]
+    fn hold_next(&mut self, layout: u32, handles: &mut Vec<SetHandle>)
+    {
+        match self.table.take_kept(layout) {
+            Some(place) => handles.push_reserved(self.table.hold(place)),
+            None => unreachable!(),
+        }
+    }
+
+    /// Holds so many kept sets of a layout, and appends their handles, over memory that was reserved.
     fn hold_kept(&mut self, layout: u32, many: u32, handles: &mut Vec<SetHandle>)
     {
         for _ in 0..many {
-            match self.table.take_kept(layout) {
-                Some(place) => handles.push_reserved(self.table.hold(place)),
-                None => unreachable!(),
+            self.hold_next(layout, handles);
+        }
+    }
+
+    /// Holds one of the sets that are on their way, and appends its handle, over memory that was
+    /// reserved.
+    #[inline]
+    fn hold_last(&mut self, layout: u32, handles: &mut Vec<SetHandle>)
+    {
+        match self.coming.pop() {
+            Some(set) => {
+                let place = self.table.put(layout, set);
+                handles.push_reserved(self.table.hold(place));
             }
+            None => unreachable!(),
         }
     }
 
     /// Holds the sets that are on their way, and appends their handles, over memory that was reserved.
     fn hold_coming(&mut self, layout: u32, handles: &mut Vec<SetHandle>)
     {
-        while let Some(set) = self.coming.pop() {
-            let place = self.table.put(layout, set);
-            handles.push_reserved(self.table.hold(place));
+        for _ in 0..self.coming.len() {
+            self.hold_last(layout, handles);
         }
     }
 
