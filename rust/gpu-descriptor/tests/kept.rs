@@ -290,26 +290,26 @@ fn the_last_one_that_was_kept_comes_first() {
 /// Also not if the layouts share pools.
 #[test]
 fn a_kept_set_of_another_layout_is_not_handed_out() {
-    let gpu = Gpu::default();
-    let (mut it, layouts) = renderer(&gpu, u32::MAX);
-    let set = it.create_set(layouts[0]).unwrap();
-    let kept = raw(&it, set);
-    free(&mut it, &[set]);
-    let mut others = it.create_sets(layouts[1], 2).unwrap();
-    others.push(it.create_set(layouts[1]).unwrap());
-    it.begin_frame().unwrap();
-    others.push(it.draw(layouts[1]).unwrap());
-    for set in others {
-        assert_ne!(raw(&it, set), kept);
-        assert_eq!(gpu.sets.borrow()[&raw(&it, set)].1, 1);
+    for (own, other) in [(0, 1), (1, 0), (0, 2), (3, 1)] {
+        let gpu = Gpu::default();
+        let (mut it, layouts) = renderer(&gpu, u32::MAX);
+        let set = it.create_set(layouts[own]).unwrap();
+        let kept = raw(&it, set);
+        free(&mut it, &[set]);
+        let mut others = it.create_sets(layouts[other], 2).unwrap();
+        others.push(it.create_set(layouts[other]).unwrap());
+        it.begin_frame().unwrap();
+        others.push(it.draw(layouts[other]).unwrap());
+        for set in others {
+            assert_ne!(raw(&it, set), kept);
+            assert_eq!(gpu.sets.borrow()[&raw(&it, set)].1, other as u32);
+        }
+        let counts = (it.kept_count(layouts[own]), it.kept_count(layouts[other]));
+        assert_eq!(counts, (1, 0));
+        let set = it.draw(layouts[own]).unwrap();
+        assert_eq!(raw(&it, set), kept);
+        shutdown(it);
     }
-    assert_eq!(
-        (it.kept_count(layouts[0]), it.kept_count(layouts[1])),
-        (1, 0)
-    );
-    let set = it.draw(layouts[0]).unwrap();
-    assert_eq!(raw(&it, set), kept);
-    shutdown(it);
 }
 
 #[test]

@@ -476,6 +476,8 @@ fn wrong_handles_in_a_batch() {
     stage.begin();
     stage.create_many(0, 7);
     stage.free(6, 1);
+    // In its place, under another handle.
+    stage.create_many(0, 1);
     stage.create_many(1, 3);
     stage.destroy_many(8, 1, 1);
     // At the same places, and at one that is nowhere here.
