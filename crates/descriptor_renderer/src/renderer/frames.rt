@@ -73,6 +73,7 @@ impl<L: Drop, P: Drop, S: Drop, D: DescriptorDevice<L, P, S>> Renderer<L, P, S, 
     ///
     /// If a new set is refused while sets are kept, of whatever layout, all kept sets are given back and
     /// empty pools are destroyed, as by `cleanup`, and it is asked for once more.
+    #[inline]
     pub fn draw(&mut self, layout: LayoutHandle) -> Result<SetHandle, RenderError>
         ensures draws { IfOk result (λ handle. IfSome (layout_of self.old layout) (λ known.
             Comes known.layout handle self.old self.new)) }

@@ -43,6 +43,7 @@ impl<L, P, S, D: DescriptorDevice<L, P, S>> Renderer<L, P, S, D> {
     ///
     /// If a new set is refused while sets are kept, of whatever layout, all kept sets are given back and
     /// empty pools are destroyed, as by `cleanup`, and it is asked for once more.
+    #[inline]
     pub fn draw(&mut self, layout: LayoutHandle) -> Result<SetHandle, RenderError>
     {
         if !self.is_open {
