@@ -1,14 +1,23 @@
--- Sets that were given back are counted.
-use Rattle.std.proofs.Common.{◌≡◌, ℕ, ◌+◌, List, [], ◌∷◌, length, refl, ap, ◌∙◌, arith}
+-- Sets that were given back are counted, and what becomes of all if there are none.
+use Rattle.std.proofs.Common.{◌≡◌, ℕ, ◌+◌, true, false, Bool, List, [], ◌∷◌, length, refl, sym, ap, ◌∙◌, arith, Option, Some, None}
+use Rattle.std.specs.Option.{is_some}
 use Rattle.std.specs.Iterator.{Yields}
+use Rattle.gpu_descriptor_types.specs.Ledger.{Ledger}
+use Rattle.gpu_descriptor_types.specs.Meaning.{Meaning}
+use Rattle.gpu_descriptor_types.specs.Side.{side}
+use Rattle.gpu_descriptor.specs.Caller.Frees.{Returns}
 use Rattle.gpu_descriptor.specs.Caller.Sets.{item_of, items_of}
+use Rattle.gpu_descriptor.specs.Caller.Values.{Allocations}
 use Rattle.gpu_descriptor.specs.Model.Agreement.{Item, count_of}
 use Rattle.gpu_descriptor.specs.declared.set.DescriptorSet.{DescriptorSet}
 use Rattle.gpu_descriptor.proofs.callers.HeldSets.{count_parts}
-use Rattle.descriptor_table.specs.Giving.{GivesNext}
+use Rattle.gpu_descriptor.proofs.release.Freed.{gives_none}
+use Rattle.descriptor_table.specs.Giving.{GivesNext, is_given_back}
 use Rattle.descriptor_table.specs.Sets.{sets_in}
-use Rattle.descriptor_table.specs.Tables.{slots_of}
+use Rattle.descriptor_table.specs.Slots.{goes, slot_at}
+use Rattle.descriptor_table.specs.Tables.{Turns, Vacates, slots_of}
 use Rattle.descriptor_table.specs.declared.giving.Giving.{Giving}
+use Rattle.descriptor_table.specs.declared.slot.Slot.{Slot}
 use Rattle.descriptor_table.proofs.Leaving.{given_weigh, tally, tally_length}
 
 module _ {S : Type 0} (name : S → ℕ) where
@@ -36,3 +45,12 @@ module _ {S : Type 0} (name : S → ℕ) where
       let b = tally_length xs in
       let c = tally_length (sets_in (slots_of u.table.now)) in
       omega arith
+
+-- no set is given back
+pub returns_none : {L P S : Type 0} (means : Meaning L P S) (old : Allocations P) (before : Ledger) → Returns means [] (side old before) (side old before)
+returns_none means old before = record { back = gives_none means old before; keys = refl; looks_stay = refl; comparisons = omega arith; compared = omega arith }
+
+-- no set was let go, and so none leaves
+pub none_turns : {T : Type 0} (due : Option ℕ) (slots : List (Slot T)) → is_some due ≡ false → ((p : ℕ) → goes (slot_at slots p) ≡ false) → Turns (is_given_back due) Vacates slots slots
+none_turns None slots is none = record { long = refl; rest = λ p out. refl; here = λ p goes. absurd (let bad : ◌≡◌ {A = Bool} false true = sym (none p) ∙ goes in cc) }
+none_turns (Some frame) slots is none = absurd (let bad : ◌≡◌ {A = Bool} true false = is in cc)

@@ -11,6 +11,15 @@ impl<L, P, S, D: DescriptorDevice<L, P, S>> Store<L, P, S, D> {
     #[inline]
     fn give(&mut self, due: Option<u64>)
     {
+        if due.is_none() && self.table.none_goes() {
+            return;
+        }
+        self.give_each(due);
+    }
+
+    /// Gives these sets back, one after another.
+    fn give_each(&mut self, due: Option<u64>)
+    {
         let mut giving = Giving {
             table: &mut self.table,
             due,
