@@ -175,11 +175,5 @@ module _ {T : Type 0} (slots : List (Slot T)) (next : List ℕ) (chains : List C
   pub out_linked : p < length slots → ((k : ℕ) → is_in k (slot_at slots p) ≡ false) → ((k : ℕ) → is_in k s ≡ false) → AreLinked (set slots p s) next chains
   out_linked within was now = stay_linked is_in slots next (chain_at chains) h p s within (λ k. now k ∙ sym (was k))
 
--- a list that has a slot is there
-pub count_within : (chains : List Chain) (k : ℕ) → (chain_at chains k).count ≢ 0 → k < length chains
-count_within [] k some = absurd (some refl)
-count_within (d ∷ chains) zero some = omega arith
-count_within (d ∷ chains) (suc k) some = let h = count_within chains k some in omega arith
-
 pub known_chains : {T : Type 0} (slots : List (Slot T)) (chains : List Chain) (k : ℕ) (d : Chain) → HasLists slots (length chains) → HasLists slots (length (set chains k d))
 known_chains slots chains k d known = subst (HasLists slots) (sym (length-set chains k d)) known

@@ -72,17 +72,10 @@ impl<T> SetTable<T> {
         ensures slots { slots_of self.new ≡ with_use place used (slots_of self.old) }
         ensures stays { Stays self.old self.new }
     {
-        let FrameChain {
-            frame,
-            first,
-            count,
-        } = self.frames[at];
-        self.next[place] = first;
-        self.frames[at] = FrameChain {
-            frame,
-            first: place as u32,
-            count: count + 1,
-        };
+        let chain = &mut self.frames[at];
+        self.next[place] = chain.first;
+        chain.first = place as u32;
+        chain.count += 1;
         self.slots[place].used = used;
     }
 
@@ -159,17 +152,10 @@ impl<T> SetTable<T> {
         ensures stays { Stays self.old self.new }
     {
         let last = self.frames.len() - 1;
-        let FrameChain {
-            frame,
-            first,
-            count,
-        } = self.frames[last];
-        let place = first as usize;
-        self.frames[last] = FrameChain {
-            frame,
-            first: self.next[place],
-            count: count - 1,
-        };
+        let chain = &mut self.frames[last];
+        let place = chain.first as usize;
+        chain.first = self.next[place];
+        chain.count -= 1;
         self.slots[place].used = Use::Taken;
         place
     }

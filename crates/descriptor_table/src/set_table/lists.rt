@@ -26,15 +26,13 @@ impl<T> SetTable<T> {
         ensures picks { PicksFirst (is_in list) result (slots_of self.old) (slots_of self.new) }
         ensures stays { Stays self.old self.new }
     {
-        let Chain { first, count } = self.chain(list);
-        if count == 0 {
+        let chain = self.chains.get_mut(list)?;
+        if chain.count == 0 {
             return None;
         }
-        let place = first as usize;
-        self.chains[list] = Chain {
-            first: self.next[place],
-            count: count - 1,
-        };
+        let place = chain.first as usize;
+        chain.first = self.next[place];
+        chain.count -= 1;
         self.slots[place].used = Use::Taken;
         Some(place)
     }
@@ -49,12 +47,10 @@ impl<T> SetTable<T> {
         ensures slots { slots_of self.new ≡ with_use place used (slots_of self.old) }
         ensures stays { Stays self.old self.new }
     {
-        let Chain { first, count } = self.chains[list];
-        self.next[place] = first;
-        self.chains[list] = Chain {
-            first: place as u32,
-            count: count + 1,
-        };
+        let chain = &mut self.chains[list];
+        self.next[place] = chain.first;
+        chain.first = place as u32;
+        chain.count += 1;
         self.slots[place].used = used;
     }
 

@@ -48,17 +48,10 @@ impl<T> SetTable<T> {
     #[inline]
     fn join(&mut self, at: usize, place: usize, used: Use)
     {
-        let FrameChain {
-            frame,
-            first,
-            count,
-        } = self.frames[at];
-        self.next[place] = first;
-        self.frames[at] = FrameChain {
-            frame,
-            first: place as u32,
-            count: count + 1,
-        };
+        let chain = &mut self.frames[at];
+        self.next[place] = chain.first;
+        chain.first = place as u32;
+        chain.count += 1;
         self.slots[place].used = used;
     }
 
@@ -113,17 +106,10 @@ impl<T> SetTable<T> {
     fn pick_first(&mut self) -> usize
     {
         let last = self.frames.len() - 1;
-        let FrameChain {
-            frame,
-            first,
-            count,
-        } = self.frames[last];
-        let place = first as usize;
-        self.frames[last] = FrameChain {
-            frame,
-            first: self.next[place],
-            count: count - 1,
-        };
+        let chain = &mut self.frames[last];
+        let place = chain.first as usize;
+        chain.first = self.next[place];
+        chain.count -= 1;
         self.slots[place].used = Use::Taken;
         place
     }

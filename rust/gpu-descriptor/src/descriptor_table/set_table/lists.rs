@@ -19,15 +19,13 @@ impl<T> SetTable<T> {
     #[inline]
     pub(super) fn pick(&mut self, list: usize) -> Option<usize>
     {
-        let Chain { first, count } = self.chain(list);
-        if count == 0 {
+        let chain = self.chains.get_mut(list)?;
+        if chain.count == 0 {
             return None;
         }
-        let place = first as usize;
-        self.chains[list] = Chain {
-            first: self.next[place],
-            count: count - 1,
-        };
+        let place = chain.first as usize;
+        chain.first = self.next[place];
+        chain.count -= 1;
         self.slots[place].used = Use::Taken;
         Some(place)
     }
@@ -36,12 +34,10 @@ impl<T> SetTable<T> {
     #[inline]
     pub(super) fn link(&mut self, list: usize, place: usize, used: Use)
     {
-        let Chain { first, count } = self.chains[list];
-        self.next[place] = first;
-        self.chains[list] = Chain {
-            first: place as u32,
-            count: count + 1,
-        };
+        let chain = &mut self.chains[list];
+        self.next[place] = chain.first;
+        chain.first = place as u32;
+        chain.count += 1;
         self.slots[place].used = used;
     }
 

@@ -1,66 +1,73 @@
-use Rattle.std.proofs.Common.{◌∙◌, ◌-◌, refl, sym, ap, set, arith}
+use Rattle.std.proofs.Common.{◌≡◌, ◌-◌, ◌<◌, length, true, refl, sym, ap, set, arith}
 use Rattle.std.proofs.lemmas.List.{get_or_read}
-use Rattle.descriptor_table.specs.Slots.{slot_at}
+use Rattle.descriptor_table.specs.Slots.{chain_at, is_in, slot_at}
 use Rattle.descriptor_table.specs.Tables.{used_for}
 use Rattle.descriptor_table.specs.declared.slot.Chain.{Chain}
 use Rattle.descriptor_table.specs.declared.slot.Slot.{Slot}
 use Rattle.descriptor_table.specs.declared.slot.Use.TheVariants.{Taken}
-use Rattle.descriptor_table.proofs.Chains.{count_within, few_set, in_no_frame, known_chains, known_set, pick_framed, pick_linked, pick_none, picked}
+use Rattle.descriptor_table.proofs.Chains.{few_set, in_no_frame, known_chains, known_set, pick_framed, pick_linked, picked, read_chain}
 use Rattle.descriptor_table.proofs.Listed.{read_slot}
+use Rattle.descriptor_table.proofs.set_table.SetTable.pick.Goals.{Else-chain-eq0}
 use Rattle.descriptor_table.proofs.set_table.SetTable.pick.Goals as goal
+
+-- the list is there
+there : (g : _) (c : Else-chain-eq0 g) → c.args.list < length c.args.self.now.chains.items
+there g c = let within = c.in_ok-chain.ensures.variant.0 refl in let ok = c.args.self.now.chains.ok.0 in omega arith
+
+-- and is the one that was read
+is_list : (g : _) (c : Else-chain-eq0 g) → chain_at c.args.self.now.chains.items c.args.list ≡ c.in_ok-chain.chain.now
+is_list g c = sym (read_chain c.args.self.now.chains.items c.args.list c.in_ok-chain.chain.now (there g c) c.in_ok-chain.ensures.value)
+
+-- its first slot is there, and in it
+first : (g : _) (c : Else-chain-eq0 g) → (c.in_ok-chain.chain.now.first < length c.args.self.now.slots.items) × (is_in c.args.list (slot_at c.args.self.now.slots.items c.in_ok-chain.chain.now.first) ≡ true)
+first g c = let s = c.args.self.now in picked s.slots.items s.next.items s.chains.items c.args.list c.in_ok-chain.chain.now s.linked (is_list g c) c.if-chain-eq0.false
 
 pub index-requires : goal.index-requires
 index-requires g c =
-    let s = c.args.self.now in
-    let p = picked s.slots.items s.next.items s.chains.items c.args.list c.chain-first.result s.linked (sym c.chain-first.ensures) c.if-count-eq0.false in
-    let links = s.sized.links in
+    let p = first g (goal.at.index-requires g c).Else-chain-eq0 in
+    let links = c.args.self.now.sized.links in
+    let ok = c.args.self.now.next.ok.0 in
     omega arith
 
 pub index_mut-requires : goal.index_mut-requires
 index_mut-requires g c =
-    let lt = count_within c.args.self.now.chains.items c.args.list (λ z. c.if-count-eq0.false (ap (λ (d : Chain). d.count) c.chain-first.ensures ∙ z)) in
-    let ok = c.args.self.now.chains.ok.0 in
+    let p = first g (goal.at.index_mut-requires g c).Else-chain-eq0 in
+    let ok = c.args.self.now.slots.ok.0 in
     omega arith
 
-pub index_mut-requires-2 : goal.index_mut-requires-2
-index_mut-requires-2 g c =
+pub invariant_of-self-2-clause-linked : goal.invariant_of-self-2-clause-linked
+invariant_of-self-2-clause-linked g c =
     let s = c.args.self.now in
-    let p = picked s.slots.items s.next.items s.chains.items c.args.list c.chain-first.result s.linked (sym c.chain-first.ensures) c.if-count-eq0.false in
-    let ok = s.slots.ok.0 in
-    omega arith
-
-pub invariant_of-self-clause-linked : goal.invariant_of-self-clause-linked
-invariant_of-self-clause-linked g c =
-    let s = c.args.self.now in
-    let p = picked s.slots.items s.next.items s.chains.items c.args.list c.chain-first.result s.linked (sym c.chain-first.ensures) c.if-count-eq0.false in
+    let d = (goal.at.invariant_of-self-2-clause-linked g c).Else-chain-eq0 in
+    let p = first g d in
     let links = s.sized.links in
-    pick_linked s.slots.items s.next.items s.chains.items c.args.list c.chain-first.result s.linked (sym c.chain-first.ensures) c.index_mut-2.result.now c.index.result.now c.if-count-eq0.false (count_within s.chains.items c.args.list (λ z. c.if-count-eq0.false (ap (λ (d : Chain). d.count) c.chain-first.ensures ∙ z))) (get_or_read s.next.items c.chain-first.result.first c.index.result.now (omega arith) c.index.ensures 0)
+    pick_linked s.slots.items s.next.items s.chains.items c.args.list c.in_ok-chain.chain.now s.linked (is_list g d) c.index_mut.result.now c.index.result.now c.if-chain-eq0.false (there g d) (get_or_read s.next.items c.in_ok-chain.chain.now.first c.index.result.now (omega arith) c.index.ensures 0)
 
-pub invariant_of-self-clause-framed : goal.invariant_of-self-clause-framed
-invariant_of-self-clause-framed g c =
+pub invariant_of-self-2-clause-framed : goal.invariant_of-self-2-clause-framed
+invariant_of-self-2-clause-framed g c =
     let s = c.args.self.now in
-    let p = picked s.slots.items s.next.items s.chains.items c.args.list c.chain-first.result s.linked (sym c.chain-first.ensures) c.if-count-eq0.false in
-    pick_framed s.slots.items s.next.items s.frames.items s.framed c.chain-first.result.first (used_for Taken c.index_mut-2.result.now) p.0 (in_no_frame c.args.list (slot_at s.slots.items c.chain-first.result.first) p.1) (λ f. refl)
+    let at = c.in_ok-chain.chain.now.first in
+    let p = first g (goal.at.invariant_of-self-2-clause-framed g c).Else-chain-eq0 in
+    pick_framed s.slots.items s.next.items s.frames.items s.framed at (used_for Taken c.index_mut.result.now) p.0 (in_no_frame c.args.list (slot_at s.slots.items at) p.1) (λ f. refl)
 
-pub invariant_of-self-clause-known : goal.invariant_of-self-clause-known
-invariant_of-self-clause-known g c =
+pub invariant_of-self-2-clause-known : goal.invariant_of-self-2-clause-known
+invariant_of-self-2-clause-known g c =
     let s = c.args.self.now in
-    let p = picked s.slots.items s.next.items s.chains.items c.args.list c.chain-first.result s.linked (sym c.chain-first.ensures) c.if-count-eq0.false in
-    let new = used_for Taken c.index_mut-2.result.now in
-    known_chains (set s.slots.items c.chain-first.result.first new) s.chains.items c.args.list (record { first = c.index.result.now; count = c.chain-first.result.count - 1 }) (known_set s.slots.items c.chain-first.result.first new _ s.known p.0 (ap (λ (w : Slot g.row.T.Denot). w.layout) (read_slot s.slots.items c.chain-first.result.first c.index_mut-2.result.now p.0 c.index_mut-2.ensures.value)))
+    let at = c.in_ok-chain.chain.now.first in
+    let p = first g (goal.at.invariant_of-self-2-clause-known g c).Else-chain-eq0 in
+    let new = used_for Taken c.index_mut.result.now in
+    known_chains (set s.slots.items at new) s.chains.items c.args.list (record { first = c.index.result.now; count = c.in_ok-chain.chain.now.count - 1 }) (known_set s.slots.items at new _ s.known p.0 (ap (λ (w : Slot g.row.T.Denot). w.layout) (read_slot s.slots.items at c.index_mut.result.now p.0 c.index_mut.ensures.value)))
 
-pub invariant_of-self-clause-few : goal.invariant_of-self-clause-few
-invariant_of-self-clause-few g c =
+pub invariant_of-self-2-clause-few : goal.invariant_of-self-2-clause-few
+invariant_of-self-2-clause-few g c =
     let s = c.args.self.now in
-    few_set s.most s.chains.items c.args.list (record { first = c.index.result.now; count = c.chain-first.result.count - 1 }) s.few (count_within s.chains.items c.args.list (λ z. c.if-count-eq0.false (ap (λ (d : Chain). d.count) c.chain-first.ensures ∙ z))) (λ two. let few = s.few c.args.list two in let same = ap (λ (d : Chain). d.count) c.chain-first.ensures in omega arith)
+    let d = (goal.at.invariant_of-self-2-clause-few g c).Else-chain-eq0 in
+    let same = ap (λ (d : Chain). d.count) (is_list g d) in
+    few_set s.most s.chains.items c.args.list (record { first = c.index.result.now; count = c.in_ok-chain.chain.now.count - 1 }) s.few (there g d) (λ two. let few = s.few c.args.list two in omega arith)
 
 pub returns-clause-picks : goal.returns-clause-picks
 returns-clause-picks g c =
     let s = c.args.self.now in
-    let p = picked s.slots.items s.next.items s.chains.items c.args.list c.chain-first.result s.linked (sym c.chain-first.ensures) c.if-count-eq0.false in
-    record { was = p.1; within = p.0; slots = ap (λ w. set s.slots.items c.chain-first.result.first (used_for Taken w)) (read_slot s.slots.items c.chain-first.result.first c.index_mut-2.result.now p.0 c.index_mut-2.ensures.value) }
-
-pub returns-then-count-eq0-clause-picks : goal.returns-then-count-eq0-clause-picks
-returns-then-count-eq0-clause-picks g c =
-    let s = c.args.self.now in
-    record { none = pick_none s.slots.items s.next.items s.chains.items c.args.list c.chain-first.result s.linked (sym c.chain-first.ensures) c.if-count-eq0.true; slots = refl }
+    let at = c.in_ok-chain.chain.now.first in
+    let p = first g (goal.at.returns-clause-picks g c).Else-chain-eq0 in
+    record { was = p.1; within = p.0; slots = ap (λ w. set s.slots.items at (used_for Taken w)) (read_slot s.slots.items at c.index_mut.result.now p.0 c.index_mut.ensures.value) }
