@@ -2,7 +2,7 @@
 use Rattle.std.proofs.Common.{◌≡◌, ◌≢◌, ℕ, zero, suc, ◌+◌, ◌<◌, Bool, false, if◌then◌else◌, List, [], ◌∷◌, ◌++◌, length, get_or, Some, None, inl, inr, refl, sym, ap, subst, ◌∙◌, arith}
 use Rattle.descriptor_table.specs.Places.{times, walk}
 use Rattle.descriptor_table.specs.Slots.{AreFramed, AreLinked, HasChains, HasLists, chain_at, chain_of, is_in, is_of, slot_at}
-use Rattle.descriptor_table.specs.Tables.{Puts, is_usable}
+use Rattle.descriptor_table.specs.Tables.{Puts, count, is_usable}
 use Rattle.descriptor_table.specs.declared.slot.Use.TheVariants.{Taken}
 use Rattle.descriptor_table.specs.declared.slot.Slot.{Slot}
 use Rattle.descriptor_table.specs.declared.slot.Chain.{Chain}
@@ -60,6 +60,11 @@ module _ {T : Type 0} where
   long_grown : (slots : List (Slot T)) (s : Slot T) → length (slots ++ s ∷ []) ≡ length slots + 1
   long_grown [] s = refl
   long_grown (x ∷ slots) s = let h = long_grown slots s in omega arith
+
+  -- what a slot at the end counts
+  pub count_grown : (test : Slot T → Bool) (slots : List (Slot T)) (s : Slot T) → count test (slots ++ s ∷ []) ≡ count test slots + (if test s then 1 else 0)
+  count_grown test [] s = omega arith
+  count_grown test (x ∷ slots) s = let h = count_grown test slots s in omega arith
 
   -- a set came to a new slot
   pub puts_last : (layout : ℕ) (x : T) (old new : List (Slot T)) (p : ℕ) → p ≡ length old → new ≡ old ++ record { generation = 0; layout = layout; used = Taken; leaves = false; set = Some x } ∷ [] → ((q : ℕ) → is_usable (slot_at old q) ≡ false) → Puts layout x p old new

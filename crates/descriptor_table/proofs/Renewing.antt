@@ -1,14 +1,15 @@
 -- A set that comes into a slot, gets a handle, or leaves.
-use Rattle.std.proofs.Common.{◌≡◌, ℕ, ◌+◌, ◌<◌, ◌≤◌, ◌==◌, ◌&&◌, Bool, true, false, not, nat_lt, List, length, set, Option, Some, None, is_some, inl, refl, sym, ap, ◌∙◌, arith, eqb-true, ltb-true}
+use Rattle.std.proofs.Common.{◌≡◌, ◌≢◌, ℕ, ◌+◌, ◌<◌, ◌≤◌, ◌==◌, ◌&&◌, Bool, true, false, not, nat_lt, List, length, set, Option, Some, None, is_some, inl, refl, sym, ap, ◌∙◌, arith, eqb-true, ltb-true}
 use Rattle.std.proofs.lemmas.List.{length-set, set-set}
 use Rattle.descriptor_table.specs.Slots.{goes, in_list, is_in, slot_at}
-use Rattle.descriptor_table.specs.Tables.{GivesFirst, HasRoom, Picks, Puts, Renews, Stays, is_usable, renewed, slots_of, used_for, vacated, with_use}
+use Rattle.descriptor_table.specs.Tables.{GivesFirst, HasRoom, Picks, Puts, Renews, Stays, count, is_usable, renewed, slots_of, usable_of, used_for, vacated, with_use}
 use Rattle.descriptor_table.specs.declared.handle.SetHandle.{SetHandle}
 use Rattle.descriptor_table.specs.declared.set_table.SetTable.{SetTable}
 use Rattle.descriptor_table.specs.declared.slot.Use.{Use}
 use Rattle.descriptor_table.specs.declared.slot.Use.TheVariants.{Held, Drawn, Waits, Kept, Going, Taken, Vacant}
 use Rattle.descriptor_table.specs.declared.slot.Slot.{Slot}
-use Rattle.descriptor_table.proofs.Chains.{and_true}
+use Rattle.descriptor_table.proofs.Chains.{and_true, lists_apart, taken_no_list}
+use Rattle.descriptor_table.proofs.Counts.{bit, count_set, same_count}
 use Rattle.descriptor_table.proofs.Listed.{other_slots, slot_set}
 
 module _ {T : Type 0} where
@@ -44,15 +45,35 @@ module _ {T : Type 0} where
       }
 
   -- room that is kept
-  pub room_stays : (n : ℕ) (a b : SetTable T) → Stays a b → length (slots_of b) ≡ length (slots_of a) → HasRoom n a → HasRoom n b
-  room_stays n a b stays long room =
+  pub room_stays : (n : ℕ) (a b : SetTable T) → Stays a b → length (slots_of b) ≡ length (slots_of a) → usable_of b ≡ usable_of a → HasRoom n a → HasRoom n b
+  room_stays n a b stays long usable room =
       let slots = stays.slots in
       let next = stays.next in
       let frames = stays.frames in
       record { few = (let h = room.few in omega arith); slots = (let h = room.slots in omega arith); next = (let h = room.next in omega arith); frames = (let h = room.frames in omega arith) }
 
-  pub room_less : (n : ℕ) (a : SetTable T) → HasRoom (n + 1) a → HasRoom n a
-  room_less n a room = record { few = (let h = room.few in omega arith); slots = (let h = room.slots in omega arith); next = (let h = room.next in omega arith); frames = (let h = room.frames in omega arith) }
+  -- a slot that there was got a set
+  pub room_less : (n p : ℕ) (s : Slot T) (a b c : SetTable T) → Picks is_usable p (slots_of a) (slots_of b) → slots_of c ≡ set (slots_of b) p s → is_usable s ≡ false → Stays a b → Stays b c → HasRoom (n + 1) a → HasRoom n c
+  room_less n p s a b c picks is used before after room =
+      let o = slot_at (slots_of a) p in
+      let size = ap length picks.slots ∙ length-set (slots_of a) p (used_for Taken o) in
+      let left = count_set is_usable (slots_of a) p (used_for Taken o) picks.within in
+      let was = ap bit picks.was in
+      let mid = ap (count is_usable) picks.slots in
+      let slot : is_usable (slot_at (slots_of b) p) ≡ false = ap (λ l. is_usable (slot_at l p)) picks.slots ∙ ap is_usable (slot_set (slots_of a) p (used_for Taken o) picks.within) in
+      let same = ap (count is_usable) is ∙ same_count is_usable (slots_of b) p s (omega arith) (used ∙ sym slot) in
+      let long = ap length is ∙ length-set (slots_of b) p s in
+      let slots = after.slots ∙ before.slots in
+      let next = after.next ∙ before.next in
+      let frames = after.frames ∙ before.frames in
+      record { few = (let h = room.few in omega arith); slots = (let h = room.slots in omega arith); next = (let h = room.next in omega arith); frames = (let h = room.frames in omega arith) }
+
+  -- a set that leaves a list, or gets a handle, leaves as many slots to which one can come
+  pub usable_picked : (k p : ℕ) (old new : List (Slot T)) → 0 ≢ k → Picks (is_in k) p old new → count is_usable new ≡ count is_usable old
+  usable_picked k p old new apart picks = ap (count is_usable) picks.slots ∙ same_count is_usable old p (used_for Taken (slot_at old p)) picks.within (sym (lists_apart 0 k (slot_at old p) picks.was apart))
+
+  pub usable_renewed : (number p : ℕ) (u : Use) (handle : SetHandle) (old new : List (Slot T)) → Renews number p u handle old new → p < length old → (slot_at old p).used ≡ Taken → is_usable (renewed u (slot_at old p)) ≡ false → count is_usable new ≡ count is_usable old
+  usable_renewed number p u handle old new r within taken used = ap (count is_usable) r.slots ∙ same_count is_usable old p (renewed u (slot_at old p)) within (used ∙ sym (taken_no_list (slot_at old p) taken 0))
 
   -- a set under a new handle is in use for something else
   pub renews_then : (number p : ℕ) (u : Use) (handle : SetHandle) (old mid new : List (Slot T)) → p < length old → Renews number p Taken handle old mid → new ≡ with_use p u mid → Renews number p u handle old new

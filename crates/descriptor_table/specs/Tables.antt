@@ -1,5 +1,5 @@
 -- What becomes of the slots of a table.
-use Rattle.std.specs.Prelude.{◌≡◌, ◌≢◌, ℕ, zero, suc, ◌+◌, ◌<◌, ◌≤◌, ◌⊎◌, ◌&&◌, nat_lt, Bool, true, false, not, List, [], ◌∷◌, length, slice_index_or, slice_set, vec_capacity, is_some, if◌then◌else◌, Option, Some, None, MatchOption}
+use Rattle.std.specs.Prelude.{◌≡◌, ◌≢◌, ℕ, zero, suc, ◌+◌, ◌-◌, ◌<◌, ◌≤◌, ◌⊎◌, ◌&&◌, nat_lt, Bool, true, false, not, List, [], ◌∷◌, length, slice_index_or, slice_set, vec_capacity, is_some, if◌then◌else◌, Option, Some, None, MatchOption}
 use Rattle.descriptor_table.specs.Slots.{chain_at, is_in, is_kept_of, slot_at}
 use Rattle.descriptor_table.specs.declared.handle.SetHandle.{SetHandle}
 use Rattle.descriptor_table.specs.declared.set_table.SetTable.{SetTable}
@@ -88,12 +88,20 @@ module _ {T : Type 0} where
     pub next : vec_capacity new.next ≡ vec_capacity old.next
     pub frames : vec_capacity new.frames ≡ vec_capacity old.frames
 
-  -- so many sets more can be put without an allocation
-  pub record HasRoom (n : ℕ) (t : SetTable T) : Type 0 where
+  -- there is memory for so many slots more
+  pub record HasPlaces (n : ℕ) (t : SetTable T) : Type 0 where
     pub few : length (slots_of t) + n < 4294967296
     pub slots : length (slots_of t) + n ≤ vec_capacity t.slots
     pub next : length (slots_of t) + n ≤ vec_capacity t.next
     pub frames : length (slots_of t) + n ≤ vec_capacity t.frames
+
+  -- how many slots another set can come to
+  abbrev pub usable_of : SetTable T → ℕ
+  usable_of t = count is_usable (slots_of t)
+
+  -- so many sets more can be put without an allocation: the first into slots that there are
+  abbrev pub HasRoom : ℕ → SetTable T → Type 0
+  HasRoom n t = HasPlaces (n - usable_of t) t
 
   -- a slot that is in no list
   pub record IsTaken (p : ℕ) (slots : List (Slot T)) : Type 0 where

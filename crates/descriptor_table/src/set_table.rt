@@ -57,7 +57,7 @@ pub struct SetTable<T> {
 
 impl<T> SetTable<T> {
     ghost use Rattle.descriptor_table.specs.Sets.{find, is_held};
-    ghost use Rattle.descriptor_table.specs.Tables.{HasRoom, Stays, lists_of, most_of, number_of, slots_of};
+    ghost use Rattle.descriptor_table.specs.Tables.{HasPlaces, HasRoom, Stays, lists_of, most_of, number_of, slots_of};
 
     /// No sets, and no layouts. It allocates nothing.
     pub fn new(alloc: Global, number: u64) -> Self
@@ -113,10 +113,28 @@ impl<T> SetTable<T> {
         }
     }
 
-    /// Reserves memory for so many sets more, so that nothing else allocates.
+    /// Reserves memory for so many sets more, so that nothing else allocates. Slots without a set need
+    /// none.
+    #[inline]
     pub fn reserve(&mut self, additional: u32) -> Result<(), AllocError>
         ensures room { OnOk result (HasRoom additional self.new) }
         ensures fits { HasRoom additional self.old → IsOk result }
+        ensures slots { slots_of self.new ≡ slots_of self.old }
+        ensures lists { lists_of self.new ≡ lists_of self.old }
+        ensures number { number_of self.new ≡ number_of self.old }
+        ensures most { most_of self.new ≡ most_of self.old }
+    {
+        let vacant = self.chain(VACANT).count;
+        if additional <= vacant {
+            return Ok(());
+        }
+        self.reserve_slots(additional - vacant)
+    }
+
+    /// Reserves memory for so many slots more.
+    fn reserve_slots(&mut self, additional: u32) -> Result<(), AllocError>
+        ensures room { OnOk result (HasPlaces additional self.new) }
+        ensures fits { HasPlaces additional self.old → IsOk result }
         ensures slots { slots_of self.new ≡ slots_of self.old }
         ensures lists { lists_of self.new ≡ lists_of self.old }
         ensures number { number_of self.new ≡ number_of self.old }

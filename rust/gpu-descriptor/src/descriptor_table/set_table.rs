@@ -93,8 +93,20 @@ impl<T> SetTable<T> {
         }
     }
 
-    /// Reserves memory for so many sets more, so that nothing else allocates.
+    /// Reserves memory for so many sets more, so that nothing else allocates. Slots without a set need
+    /// none.
+    #[inline]
     pub fn reserve(&mut self, additional: u32) -> Result<(), AllocError>
+    {
+        let vacant = self.chain(VACANT).count;
+        if additional <= vacant {
+            return Ok(());
+        }
+        self.reserve_slots(additional - vacant)
+    }
+
+    /// Reserves memory for so many slots more.
+    fn reserve_slots(&mut self, additional: u32) -> Result<(), AllocError>
     {
         let places = self.slots.len() as u64 + u64::from(additional);
         if places > MOST {

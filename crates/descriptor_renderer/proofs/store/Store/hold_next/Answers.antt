@@ -1,11 +1,14 @@
-use Rattle.std.proofs.Common.{◌≡◌, ◌∙◌, length, refl, ap, subst, arith}
+use Rattle.std.proofs.Common.{◌≡◌, ◌+◌, ◌∙◌, length, refl, ap, subst, arith}
+use Rattle.std.proofs.lemmas.List.{length-set}
 use Rattle.gpu_descriptor.specs.Caller.Sets.{items_of}
 use Rattle.gpu_descriptor.specs.Model.Agreement.{count_of}
 use Rattle.descriptor_table.specs.Sets.{sets_in}
-use Rattle.descriptor_table.specs.Slots.{is_kept_of}
-use Rattle.descriptor_table.specs.Tables.{Renews, slots_of}
-use Rattle.descriptor_table.specs.declared.slot.Use.TheVariants.{Held}
+use Rattle.descriptor_table.specs.Slots.{is_kept_of, slot_at}
+use Rattle.descriptor_table.specs.Tables.{Renews, renewed, slots_of, used_for}
+use Rattle.descriptor_table.specs.declared.slot.Use.TheVariants.{Held, Taken}
 use Rattle.descriptor_table.proofs.Counts.{none_count}
+use Rattle.descriptor_table.proofs.Listed.{slot_set}
+use Rattle.descriptor_table.proofs.Renewing.{room_stays, usable_picked, usable_renewed}
 use Rattle.descriptor_renderer.specs.Stores.{NoneComes, number_of, slots_in}
 use Rattle.descriptor_renderer.proofs.Given.{picked_sets, renewed_sets}
 use Rattle.descriptor_renderer.proofs.Growing.{grow_kept}
@@ -50,3 +53,16 @@ returns-clause-fewer g c = kept_fewer c.args.layout c.in-Some.place (number_of c
 
 pub returns-clause-grows : goal.returns-clause-grows
 returns-clause-grows g c = grow_kept (is_kept_of c.args.layout) c.in-Some.place (number_of c.args.self.now) c.in-Some.place Held c.hold.result (slots_in c.args.self.now) (slots_of c.take_kept.new.self) (slots_of c.hold.new.self) c.in-Some.ensures.picks (renews g (goal.at.returns-clause-grows g c).After-hold)
+
+pub returns-clause-table : goal.returns-clause-table
+returns-clause-table g c = λ n room.
+    let at = c.in-Some.place in
+    let old = slots_in c.args.self.now in
+    let mid = slots_of c.take_kept.new.self in
+    let picks = c.in-Some.ensures.picks in
+    let r = renews g (goal.at.returns-clause-table g c).After-hold in
+    let slot = ap (λ l. (slot_at l at).used) picks.slots ∙ ap (λ s. s.used) (slot_set old at (used_for Taken (slot_at old at)) picks.within) in
+    let less = room_stays n c.args.self.now.table c.take_kept.new.self c.take_kept.ensures.stays (ap length picks.slots ∙ length-set old at (used_for Taken (slot_at old at))) (usable_picked (c.args.layout + 2) at old mid (λ e. omega arith) picks) room in
+    let size = ap length picks.slots ∙ length-set old at (used_for Taken (slot_at old at)) in
+    let within = picks.within in
+    room_stays n c.take_kept.new.self c.hold.new.self c.hold.ensures.stays (ap length r.slots ∙ length-set mid at (renewed Held (slot_at mid at))) (usable_renewed (number_of c.args.self.now) at Held c.hold.result mid (slots_of c.hold.new.self) r (omega arith) slot refl) less

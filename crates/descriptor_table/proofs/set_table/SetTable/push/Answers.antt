@@ -1,10 +1,50 @@
-use Rattle.std.proofs.Common.{◌++◌, ◌∷◌, [], ℕ, List, length, refl, sym, subst, Some, false, arith}
+use Rattle.std.proofs.Common.{◌∙◌, ◌++◌, ◌∷◌, [], ℕ, List, length, refl, sym, ap, subst, Some, false, arith}
 use Rattle.std.proofs.lemmas.List.{length_push}
 use Rattle.descriptor_table.specs.Slots.{AreFramed, AreLinked, HasLists}
+use Rattle.descriptor_table.specs.Tables.{count, is_usable}
 use Rattle.descriptor_table.specs.declared.slot.Slot.{Slot}
 use Rattle.descriptor_table.specs.declared.slot.Use.TheVariants.{Taken}
-use Rattle.descriptor_table.proofs.Growing.{framed_grown, known_grown, linked_grown, puts_last}
+use Rattle.descriptor_table.proofs.Counts.{none_count}
+use Rattle.descriptor_table.proofs.Growing.{count_grown, framed_grown, known_grown, linked_grown, puts_last}
 use Rattle.descriptor_table.proofs.set_table.SetTable.push.Goals as goal
+
+pub push_reserved-requires : goal.push_reserved-requires
+push_reserved-requires g c =
+    let s = c.args.self.now in
+    let full = none_count is_usable s.slots.items c.requires.full in
+    let room = c.requires.room.slots in
+    let ok = s.slots.ok.0 in
+    omega arith
+
+pub push_reserved-requires-2 : goal.push_reserved-requires-2
+push_reserved-requires-2 g c =
+    let s = c.args.self.now in
+    let full = none_count is_usable s.slots.items c.requires.full in
+    let room = c.requires.room.next in
+    let links = s.sized.links in
+    let ok = s.next.ok.0 in
+    omega arith
+
+pub invariant_of-self-clause-sized : goal.invariant_of-self-clause-sized
+invariant_of-self-clause-sized g c =
+    let s = c.args.self.now in
+    let new : Slot g.row.T.Denot = record { generation = 0; layout = c.args.layout; used = Taken; leaves = false; set = Some c.args.set } in
+    let full = none_count is_usable s.slots.items c.requires.full in
+    let long = ap length c.push_reserved.ensures.items ∙ length_push s.slots.items new in
+    let more = ap length c.push_reserved-2.ensures.items ∙ length_push s.next.items 0 in
+    let links = s.sized.links in
+    record { few = (let h = c.requires.room.few in omega arith); links = omega arith; room = (let h = c.requires.room.frames in omega arith) }
+
+pub returns-clause-reserve : goal.returns-clause-reserve
+returns-clause-reserve g c = λ n room.
+    let s = c.args.self.now in
+    let new : Slot g.row.T.Denot = record { generation = 0; layout = c.args.layout; used = Taken; leaves = false; set = Some c.args.set } in
+    let full = none_count is_usable s.slots.items c.requires.full in
+    let long = ap length c.push_reserved.ensures.items ∙ length_push s.slots.items new in
+    let usable = ap (count is_usable) c.push_reserved.ensures.items ∙ count_grown is_usable s.slots.items new in
+    let slots = c.push_reserved.ensures.capacity in
+    let next = c.push_reserved-2.ensures.capacity in
+    record { few = (let h = room.few in omega arith); slots = (let h = room.slots in omega arith); next = (let h = room.next in omega arith); frames = (let h = room.frames in omega arith) }
 
 pub invariant_of-self-clause-linked : goal.invariant_of-self-clause-linked
 invariant_of-self-clause-linked g c =

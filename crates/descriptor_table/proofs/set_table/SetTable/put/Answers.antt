@@ -1,10 +1,13 @@
-use Rattle.std.proofs.Common.{◌+◌, subst, ap, length}
-use Rattle.descriptor_table.specs.Tables.{Puts, slots_of}
-use Rattle.descriptor_table.proofs.Renewing.{puts_again, room_stays}
+use Rattle.std.proofs.Common.{◌+◌, refl, subst, ap, length}
+use Rattle.descriptor_table.specs.Tables.{Puts, count, is_usable, slots_of}
+use Rattle.descriptor_table.proofs.Renewing.{puts_again, room_less, room_stays}
 use Rattle.descriptor_table.proofs.set_table.SetTable.put.Goals as goal
 
 pub returns-clause-reserve : goal.returns-clause-reserve
-returns-clause-reserve g c = λ n room. c.push.ensures.reserve n (room_stays (n + 1) c.args.self.now c.pick.new.self c.in_default.ensures.stays (ap length c.in_default.ensures.picks.slots) room)
+returns-clause-reserve g c = λ n room. c.push.ensures.reserve n (room_stays (n + 1) c.args.self.now c.pick.new.self c.in_default.ensures.stays (ap length c.in_default.ensures.picks.slots) (ap (count is_usable) c.in_default.ensures.picks.slots) room)
+
+pub returns-in-Some-clause-reserve : goal.returns-in-Some-clause-reserve
+returns-in-Some-clause-reserve g c = λ n room. room_less n c.in-Some.place _ c.args.self.now c.pick.new.self c.fill.new.self c.in-Some.ensures.picks c.fill.ensures.slots refl c.in-Some.ensures.stays c.fill.ensures.stays room
 
 pub returns-in-Some-clause-puts : goal.returns-in-Some-clause-puts
 returns-in-Some-clause-puts g c =

@@ -1,0 +1,35 @@
+use Rattle.std.proofs.Common.{◌≡◌, ℕ, ◌∙◌, ap, subst, arith}
+use Rattle.std.specs.Prelude.{OnOk}
+use Rattle.descriptor_table.specs.Tables.{HasPlaces, count, is_usable, usable_of}
+use Rattle.descriptor_table.specs.declared.slot.Chain.{Chain}
+use Rattle.descriptor_table.proofs.Counts.{chain_count}
+use Rattle.descriptor_table.proofs.set_table.SetTable.reserve.Goals as goal
+use Rattle.descriptor_table.proofs.set_table.SetTable.reserve.Goals.{After-chain-vacant}
+
+vacant : (g : _) (c : After-chain-vacant g) → c.chain-vacant.result.count ≡ usable_of c.args.self.now
+vacant g c = let s = c.args.self.now in ap (λ (d : Chain). d.count) c.chain-vacant.ensures ∙ chain_count s.slots.items s.next.items s.chains.items s.linked 0
+
+pub returns-then-additional-vacant-clause-room : goal.returns-then-additional-vacant-clause-room
+returns-then-additional-vacant-clause-room g c =
+    let s = c.args.self.now in
+    let same = vacant g (goal.at.returns-then-additional-vacant-clause-room g c).After-chain-vacant in
+    let le = c.if-additional-vacant.true in
+    let few = s.sized.few in
+    let links = s.sized.links in
+    let room = s.sized.room in
+    let a = s.slots.ok.0 in
+    let b = s.slots.ok.1 in
+    let d = s.next.ok.0 in
+    let e = s.next.ok.1 in
+    record { few = omega arith; slots = omega arith; next = omega arith; frames = omega arith }
+
+pub returns-clause-room : goal.returns-clause-room
+returns-clause-room g c =
+    let same = vacant g (goal.at.returns-clause-room g c).After-chain-vacant in
+    let usable = ap (count is_usable) c.reserve_slots.ensures.slots in
+    subst (λ (n : ℕ). OnOk c.reserve_slots.result (HasPlaces n c.reserve_slots.new.self)) (omega arith) c.reserve_slots.ensures.room
+
+pub returns-clause-fits : goal.returns-clause-fits
+returns-clause-fits g c = λ room.
+    let same = vacant g (goal.at.returns-clause-fits g c).After-chain-vacant in
+    c.reserve_slots.ensures.fits (subst (λ (n : ℕ). HasPlaces n c.args.self.now) (omega arith) room)
