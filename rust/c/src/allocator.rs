@@ -132,11 +132,11 @@ impl Allocator {
         count: u32,
         put: impl Fn(usize, GdSet),
     ) -> Result<(), RenderError> {
-        if self.renderer.layout(layout).is_none() {
-            return Err(RenderError::NoLayout);
-        }
         if self.reserve(count).is_err() {
-            return Err(RenderError::Allocation(AllocationError::OutOfHostMemory));
+            return Err(match self.renderer.layout(layout) {
+                Some(_) => RenderError::Allocation(AllocationError::OutOfHostMemory),
+                None => RenderError::NoLayout,
+            });
         }
         if count == 1 {
             let handle = self.renderer.create_set(layout)?;
