@@ -1,6 +1,6 @@
 -- Sets that were given back are counted, and what becomes of all if there are none.
-use Rattle.std.proofs.Common.{◌≡◌, ℕ, ◌+◌, true, false, Bool, List, [], ◌∷◌, length, refl, sym, ap, ◌∙◌, arith, Option, Some, None}
-use Rattle.std.specs.Option.{is_some}
+use Rattle.std.proofs.Common.{◌≡◌, ℕ, ◌+◌, true, false, Bool, List, [], ◌∷◌, length, refl, sym, ap, ◌∙◌, arith}
+use Rattle.std.specs.Borrow.{MutBor}
 use Rattle.std.specs.Iterator.{Yields}
 use Rattle.gpu_descriptor_types.specs.Ledger.{Ledger}
 use Rattle.gpu_descriptor_types.specs.Meaning.{Meaning}
@@ -12,11 +12,11 @@ use Rattle.gpu_descriptor.specs.Model.Agreement.{Item, count_of}
 use Rattle.gpu_descriptor.specs.declared.set.DescriptorSet.{DescriptorSet}
 use Rattle.gpu_descriptor.proofs.callers.HeldSets.{count_parts}
 use Rattle.gpu_descriptor.proofs.release.Freed.{gives_none}
-use Rattle.descriptor_table.specs.Giving.{GivesNext, is_given_back}
+use Rattle.descriptor_table.specs.Giving.{GivesFrom}
 use Rattle.descriptor_table.specs.Sets.{sets_in}
-use Rattle.descriptor_table.specs.Slots.{goes, slot_at}
+use Rattle.descriptor_table.specs.Slots.{slot_at}
 use Rattle.descriptor_table.specs.Tables.{Turns, Vacates, slots_of}
-use Rattle.descriptor_table.specs.declared.giving.Giving.{Giving}
+use Rattle.descriptor_table.specs.declared.set_table.SetTable.{SetTable}
 use Rattle.descriptor_table.specs.declared.slot.Slot.{Slot}
 use Rattle.descriptor_table.proofs.Leaving.{given_weigh, tally, tally_length}
 
@@ -30,27 +30,26 @@ module _ {S : Type 0} (name : S → ℕ) where
   counts t (x ∷ l) = count_parts name (x ∷ []) l t ∙ ap (λ n. count_of t (item_of name x ∷ []) + n) (counts t l)
 
   -- what was given back, and what is left, is what there was
-  pub given_count : (xs : List (DescriptorSet S)) (s u : Giving (DescriptorSet S)) → Yields GivesNext s xs u → (t : Item) → count_of t (items_of name (sets_in (slots_of s.table.now))) ≡ count_of t (items_of name xs) + count_of t (items_of name (sets_in (slots_of u.table.now)))
-  given_count xs s u y t =
-      let h = given_weigh (weight t) xs s u y in
-      let a = counts t (sets_in (slots_of s.table.now)) in
+  pub given_count : (test : Slot (DescriptorSet S) → Bool) (xs : List (DescriptorSet S)) (s u : MutBor (SetTable (DescriptorSet S))) → Yields (GivesFrom test) s xs u → (t : Item) → count_of t (items_of name (sets_in (slots_of s.now))) ≡ count_of t (items_of name xs) + count_of t (items_of name (sets_in (slots_of u.now)))
+  given_count test xs s u y t =
+      let h = given_weigh (weight t) test xs s u y in
+      let a = counts t (sets_in (slots_of s.now)) in
       let b = counts t xs in
-      let c = counts t (sets_in (slots_of u.table.now)) in
+      let c = counts t (sets_in (slots_of u.now)) in
       omega arith
 
-  pub given_many : (xs : List (DescriptorSet S)) (s u : Giving (DescriptorSet S)) → Yields GivesNext s xs u → length (sets_in (slots_of s.table.now)) ≡ length xs + length (sets_in (slots_of u.table.now))
-  given_many xs s u y =
-      let h = given_weigh (λ x. 1) xs s u y in
-      let a = tally_length (sets_in (slots_of s.table.now)) in
+  pub given_many : (test : Slot (DescriptorSet S) → Bool) (xs : List (DescriptorSet S)) (s u : MutBor (SetTable (DescriptorSet S))) → Yields (GivesFrom test) s xs u → length (sets_in (slots_of s.now)) ≡ length xs + length (sets_in (slots_of u.now))
+  given_many test xs s u y =
+      let h = given_weigh (λ x. 1) test xs s u y in
+      let a = tally_length (sets_in (slots_of s.now)) in
       let b = tally_length xs in
-      let c = tally_length (sets_in (slots_of u.table.now)) in
+      let c = tally_length (sets_in (slots_of u.now)) in
       omega arith
 
 -- no set is given back
 pub returns_none : {L P S : Type 0} (means : Meaning L P S) (old : Allocations P) (before : Ledger) → Returns means [] (side old before) (side old before)
 returns_none means old before = record { back = gives_none means old before; keys = refl; looks_stay = refl; comparisons = omega arith; compared = omega arith }
 
--- no set was let go, and so none leaves
-pub none_turns : {T : Type 0} (due : Option ℕ) (slots : List (Slot T)) → is_some due ≡ false → ((p : ℕ) → goes (slot_at slots p) ≡ false) → Turns (is_given_back due) Vacates slots slots
-none_turns None slots is none = record { long = refl; rest = λ p out. refl; here = λ p goes. absurd (let bad : ◌≡◌ {A = Bool} false true = sym (none p) ∙ goes in cc) }
-none_turns (Some frame) slots is none = absurd (let bad : ◌≡◌ {A = Bool} true false = is in cc)
+-- no set passes the test, and so none leaves
+pub none_turns : {T : Type 0} (test : Slot T → Bool) (slots : List (Slot T)) → ((p : ℕ) → test (slot_at slots p) ≡ false) → Turns test Vacates slots slots
+none_turns test slots none = record { long = refl; rest = λ p out. refl; here = λ p passes. absurd (let bad : ◌≡◌ {A = Bool} false true = sym (none p) ∙ passes in cc) }

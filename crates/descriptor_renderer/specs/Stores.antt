@@ -15,7 +15,6 @@ use Rattle.gpu_descriptor.specs.Caller.Values.{Allocations}
 use Rattle.gpu_descriptor.specs.declared.errors.AllocationError.{AllocationError}
 use Rattle.gpu_descriptor.specs.declared.errors.AllocationError.TheVariants.{OutOfHostMemory}
 use Rattle.gpu_descriptor.specs.declared.set.DescriptorSet.{DescriptorSet}
-use Rattle.descriptor_table.specs.Giving.{is_given_back}
 use Rattle.descriptor_table.specs.Sets.{NameEach, Names, sets_of}
 use Rattle.descriptor_table.specs.Slots.{frame_of, is_kept_of, is_live, slot_at}
 use Rattle.descriptor_table.specs.Tables.{Picks, Puts, Renews, Turns, Vacates, aged, count, holds, is_kept, place_at, lists_of, slots_of, stays, used_for, vacated, waits}
@@ -162,11 +161,11 @@ module _ {L P S D : Type 0} {d : Ghosts D L P S} where
     pub rest : IsAtRest new
     pub frames : (f : ℕ) → frame ≤ f → IsUpTo f (slots_in old) → IsUpTo f (slots_in new)
 
-  -- the sets that are given back left their slots, in one call, or there were none
-  pub record GivesBack (due : Option ℕ) (old new : Store L P S D d) : Type 0 where
+  -- the sets that pass the test left their slots, and were given back in one call, if there were any
+  pub record GivesBack (test : Slot (DescriptorSet S) → Bool) (old new : Store L P S D d) : Type 0 where
     pub sets : List (DescriptorSet S)
     pub returns : Returns d.meaning sets (side_of old) (side_of new)
-    pub turns : Turns (is_given_back due) Vacates (slots_in old) (slots_in new)
+    pub turns : Turns test Vacates (slots_in old) (slots_in new)
 
   -- sets were given back, and then empty pools went
   pub record Cleans (old new : Store L P S D d) : Type 0 where

@@ -1,12 +1,15 @@
 -- Sets that leave their slots, and how many are left.
 use Rattle.std.proofs.Common.{◌≡◌, ℕ, zero, suc, ◌+◌, ◌<◌, Bool, false, List, [], ◌∷◌, length, set, zero-add, Option, Some, None, refl, sym, ap, subst, ◌∙◌, arith}
-use Rattle.std.specs.Iterator.{Yields}
-use Rattle.std.specs.Iterator.{YieldsThen}
-use Rattle.descriptor_table.specs.Giving.{GivesNext, is_given_back}
+use Rattle.std.specs.Borrow.{MutBor}
+use Rattle.std.specs.Iterator.{MakesProgress, Yields, YieldsThen, at_most}
+use Rattle.std.specs.declared.iter.Iterator.{can_next-default}
+use Rattle.descriptor_table.specs.Giving.{GivesDue, GivesFrom, GivesNext, sets_left}
 use Rattle.descriptor_table.specs.Sets.{joined, sets_in}
-use Rattle.descriptor_table.specs.Slots.{slot_at}
-use Rattle.descriptor_table.specs.Tables.{Gives, GivesNone, Stays, Turns, Vacates, slots_of, vacated}
+use Rattle.descriptor_table.specs.Slots.{goes, is_due, slot_at}
+use Rattle.descriptor_table.specs.Tables.{Gives, GivesFirst, Stays, Turns, Vacates, slots_of, vacated}
+use Rattle.descriptor_table.specs.declared.giving.Due.{Due}
 use Rattle.descriptor_table.specs.declared.giving.Giving.{Giving}
+use Rattle.descriptor_table.specs.declared.set_table.SetTable.{SetTable}
 use Rattle.descriptor_table.specs.declared.slot.Slot.{Slot}
 use Rattle.descriptor_table.proofs.Turning.{Turning, stays_more, turn_end, turn_start, turn_step}
 
@@ -39,12 +42,12 @@ module _ {T : Type 0} (weight : T → ℕ) where
       omega arith
 
   -- what was given back, and what is left, weigh what there was
-  pub given_weigh : (xs : List T) (s t : Giving T) → Yields GivesNext s xs t → tally weight (sets_in (slots_of s.table.now)) ≡ tally weight xs + tally weight (sets_in (slots_of t.table.now))
-  given_weigh [] s t y = ap (λ (u : Giving T). tally weight (sets_in (slots_of u.table.now))) y ∙ sym (zero-add (tally weight (sets_in (slots_of t.table.now))))
-  given_weigh (x ∷ xs) s t y =
+  pub given_weigh : (test : Slot T → Bool) (xs : List T) (s t : MutBor (SetTable T)) → Yields (GivesFrom test) s xs t → tally weight (sets_in (slots_of s.now)) ≡ tally weight xs + tally weight (sets_in (slots_of t.now))
+  given_weigh test [] s t y = ap (λ (u : MutBor (SetTable T)). tally weight (sets_in (slots_of u.now))) y ∙ sym (zero-add (tally weight (sets_in (slots_of t.now))))
+  given_weigh test (x ∷ xs) s t y =
       let u = y.0 in
-      let one = gives_weigh (is_given_back s.due) x (slots_of s.table.now) (slots_of u.table.now) y.1.gives in
-      let rest = given_weigh xs u t y.2 in
+      let one = gives_weigh test x (slots_of s.now) (slots_of u.now) y.1.gives in
+      let rest = given_weigh test xs u t y.2 in
       omega arith
 
 pub tally_length : {T : Type 0} (l : List T) → tally (λ x. 1) l ≡ length l
@@ -66,38 +69,54 @@ module _ {T : Type 0} where
       let b = tally_length (sets_in new) in
       omega arith
 
-  -- a set that was taken out isn't given back again
-  vacated_out : (due : Option ℕ) (s : Slot T) → is_given_back due (vacated s) ≡ false
-  vacated_out None s = refl
-  vacated_out (Some frame) s = refl
+  -- a call gave a set, or there was none
+  pub progress : {S : Type 0} (table : S → MutBor (SetTable T)) (test : Slot T → Bool) (s t : S) (r : Option T) → GivesFirst test r (slots_of (table s).now) (slots_of (table t).now) → MakesProgress (can_next-default S T) (λ u. at_most (sets_left (table u))) s r t
+  progress table test s t None gives = record { on = λ finite. tt; keeps = tt; rests = λ finite. tt }
+  progress table test s t (Some x) gives = record { on = λ finite. (tt, tt, one_set_fewer test x (slots_of (table s).now) (slots_of (table t).now) gives); keeps = tt; rests = λ finite. tt }
 
-  -- the sets were taken out, one after another
-  given_turns : (due : Option ℕ) (xs : List T) (s t : Giving T) (old : List (Slot T)) → s.due ≡ due → Yields GivesNext s xs t → Turning (is_given_back due) Vacates old (slots_of s.table.now) → Turning (is_given_back due) Vacates old (slots_of t.table.now)
-  given_turns due [] s t old is y turning = subst (λ (u : Giving T). Turning (is_given_back due) Vacates old (slots_of u.table.now)) y turning
-  given_turns due (x ∷ xs) s t old is y turning =
-      let u = y.0 in
-      let now = slots_of s.table.now in
-      let g = subst (λ d. Gives (is_given_back d) x now (slots_of u.table.now)) is y.1.gives in
-      given_turns due xs u t old (y.1.due ∙ is) y.2 (turn_step (is_given_back due) Vacates old now (slots_of u.table.now) g.place (vacated (slot_at now g.place)) turning g.within g.was g.slots (λ o n w. w) (λ o n w. ap (is_given_back due) w ∙ vacated_out due o) refl)
+  module _ (test : Slot T → Bool) (out : (s : Slot T) → test (vacated s) ≡ false) where
+    -- the sets were taken out, one after another
+    given_turns : (xs : List T) (s t : MutBor (SetTable T)) (old : List (Slot T)) → Yields (GivesFrom test) s xs t → Turning test Vacates old (slots_of s.now) → Turning test Vacates old (slots_of t.now)
+    given_turns [] s t old y turning = subst (λ (u : MutBor (SetTable T)). Turning test Vacates old (slots_of u.now)) y turning
+    given_turns (x ∷ xs) s t old y turning =
+        let u = y.0 in
+        let now = slots_of s.now in
+        let g = y.1.gives in
+        given_turns xs u t old y.2 (turn_step test Vacates old now (slots_of u.now) g.place (vacated (slot_at now g.place)) turning g.within g.was g.slots (λ o n w. w) (λ o n w. ap test w ∙ out o) refl)
 
-  given_due : (xs : List T) (s t : Giving T) → Yields GivesNext s xs t → t.due ≡ s.due
-  given_due [] s t y = ap (λ (u : Giving T). u.due) (sym y)
-  given_due (x ∷ xs) s t y = given_due xs y.0 t y.2 ∙ y.1.due
+    given_stays : (xs : List T) (s t : MutBor (SetTable T)) → Yields (GivesFrom test) s xs t → (t.ghost_name ≡ s.ghost_name) × Stays s.now t.now
+    given_stays [] s t y = (ap (λ (u : MutBor (SetTable T)). u.ghost_name) (sym y), subst (λ (u : MutBor (SetTable T)). Stays s.now u.now) y (record { number = refl; most = refl; lists = refl; slots = refl; next = refl; frames = refl }))
+    given_stays (x ∷ xs) s t y =
+        let rest = given_stays xs y.0 t y.2 in
+        (rest.0 ∙ y.1.same, stays_more s.now y.0.now t.now y.1.stays rest.1)
 
-  given_stays : (xs : List T) (s t : Giving T) → Yields GivesNext s xs t → (t.table.ghost_name ≡ s.table.ghost_name) × Stays s.table.now t.table.now
-  given_stays [] s t y = (ap (λ (u : Giving T). u.table.ghost_name) (sym y), subst (λ (u : Giving T). Stays s.table.now u.table.now) y (record { number = refl; most = refl; lists = refl; slots = refl; next = refl; frames = refl }))
-  given_stays (x ∷ xs) s t y =
-      let rest = given_stays xs y.0 t y.2 in
-      (rest.0 ∙ y.1.same, stays_more s.table.now y.0.table.now t.table.now y.1.stays rest.1)
+    -- all these sets were taken out
+    pub given_all : (xs : List T) (s u : MutBor (SetTable T)) → YieldsThen (GivesFrom test) s xs None u → Turns test Vacates (slots_of s.now) (slots_of u.now) × (u.ghost_name ≡ s.ghost_name) × Stays s.now u.now
+    given_all xs s u d =
+        let v = d.0 in
+        let last = d.2 in
+        let old = slots_of s.now in
+        let now = slots_of v.now in
+        let none = last.gives in
+        let turning = given_turns xs s v old d.1 (turn_start test Vacates old) in
+        let stays = given_stays xs s v d.1 in
+        (subst (Turns test Vacates old) (sym none.slots) (turn_end test Vacates old now turning none.none), last.same ∙ stays.0, stays_more s.now v.now u.now stays.1 last.stays)
 
-  -- all these sets were taken out
-  pub given_all : (xs : List T) (s u : Giving T) → YieldsThen GivesNext s xs None u → Turns (is_given_back s.due) Vacates (slots_of s.table.now) (slots_of u.table.now) × (u.table.ghost_name ≡ s.table.ghost_name) × Stays s.table.now u.table.now
-  given_all xs s u d =
-      let v = d.0 in
-      let last = d.2 in
-      let old = slots_of s.table.now in
-      let now = slots_of v.table.now in
-      let none = subst (λ due. GivesNone (is_given_back due) now (slots_of u.table.now)) (given_due xs s v d.1) last.gives in
-      let turning = given_turns s.due xs s v old refl d.1 (turn_start (is_given_back s.due) Vacates old) in
-      let stays = given_stays xs s v d.1 in
-      (subst (Turns (is_given_back s.due) Vacates old) (sym none.slots) (turn_end (is_given_back s.due) Vacates old now turning none.none), last.same ∙ stays.0, stays_more s.table.now v.table.now u.table.now stays.1 last.stays)
+  -- the steps of each iterator are steps of its table
+  pub going_steps : (xs : List T) (s t : Giving T) → Yields GivesNext s xs t → Yields (GivesFrom goes) s.table xs t.table
+  going_steps [] s t y = ap (λ (u : Giving T). u.table) y
+  going_steps (x ∷ xs) s t y = (y.0.table, y.1.first, going_steps xs y.0 t y.2)
+
+  pub due_steps : (frame : ℕ) (xs : List T) (s t : Due T) → s.frame ≡ frame → Yields GivesDue s xs t → Yields (GivesFrom (is_due frame)) s.table xs t.table × (t.frame ≡ frame)
+  due_steps frame [] s t is y = (ap (λ (u : Due T). u.table) y, ap (λ (u : Due T). u.frame) (sym y) ∙ is)
+  due_steps frame (x ∷ xs) s t is y =
+      let rest = due_steps frame xs y.0 t (y.1.frame ∙ is) y.2 in
+      ((y.0.table, subst (λ f. GivesFrom (is_due f) s.table (Some x) y.0.table) is y.1.first, rest.0), rest.1)
+
+  pub going_all : (xs : List T) (s u : Giving T) → YieldsThen GivesNext s xs None u → YieldsThen (GivesFrom goes) s.table xs None u.table
+  going_all xs s u d = (d.0.table, going_steps xs s d.0 d.1, d.2.first)
+
+  pub due_all : (frame : ℕ) (xs : List T) (s u : Due T) → s.frame ≡ frame → YieldsThen GivesDue s xs None u → YieldsThen (GivesFrom (is_due frame)) s.table xs None u.table
+  due_all frame xs s u is d =
+      let steps = due_steps frame xs s d.0 is d.1 in
+      (d.0.table, steps.0, subst (λ f. GivesFrom (is_due f) d.0.table None u.table) steps.1 d.2.first)

@@ -1,24 +1,30 @@
 -- The sets that are given back.
-use Rattle.std.specs.Prelude.{◌≡◌, ℕ, length, Bool, Option, Some, None}
+use Rattle.std.specs.Prelude.{◌≡◌, ℕ, length, Bool, Option}
+use Rattle.std.specs.Borrow.{MutBor}
 use Rattle.descriptor_table.specs.Sets.{sets_in}
 use Rattle.descriptor_table.specs.Slots.{goes, is_due}
 use Rattle.descriptor_table.specs.Tables.{GivesFirst, Stays, slots_of}
+use Rattle.descriptor_table.specs.declared.giving.Due.{Due}
 use Rattle.descriptor_table.specs.declared.giving.Giving.{Giving}
+use Rattle.descriptor_table.specs.declared.set_table.SetTable.{SetTable}
 use Rattle.descriptor_table.specs.declared.slot.Slot.{Slot}
 
 module _ {T : Type 0} where
-  -- whether a set is given back: if it is due, or, without a frame, if it was let go
-  abbrev pub is_given_back : Option ℕ → Slot T → Bool
-  is_given_back None = goes
-  is_given_back (Some frame) = is_due frame
+  -- the first of the sets that pass the test was taken out of its slot
+  pub record GivesFrom (test : Slot T → Bool) (s : MutBor (SetTable T)) (r : Option T) (t : MutBor (SetTable T)) : Type 0 where
+    pub same : t.ghost_name ≡ s.ghost_name
+    pub gives : GivesFirst test r (slots_of s.now) (slots_of t.now)
+    pub stays : Stays s.now t.now
 
-  -- the first of these sets was taken out of its slot
+  -- the first of those that were let go
   pub record GivesNext (s : Giving T) (r : Option T) (t : Giving T) : Type 0 where
-    pub same : t.table.ghost_name ≡ s.table.ghost_name
-    pub due : t.due ≡ s.due
-    pub gives : GivesFirst (is_given_back s.due) r (slots_of s.table.now) (slots_of t.table.now)
-    pub stays : Stays s.table.now t.table.now
+    pub first : GivesFrom goes s.table r t.table
+
+  -- the first of those that wait for a frame up to this one
+  pub record GivesDue (s : Due T) (r : Option T) (t : Due T) : Type 0 where
+    pub frame : t.frame ≡ s.frame
+    pub first : GivesFrom (is_due s.frame) s.table r t.table
 
   -- how many sets there are
-  abbrev pub sets_left : Giving T → ℕ
-  sets_left s = length (sets_in (slots_of s.table.now))
+  abbrev pub sets_left : MutBor (SetTable T) → ℕ
+  sets_left t = length (sets_in (slots_of t.now))

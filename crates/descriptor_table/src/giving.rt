@@ -1,16 +1,14 @@
 //! Sets that go back to their pools.
 ghost use Rattle.std.specs.Prelude.{◌≡◌};
 ghost use Rattle.std.specs.Iterator.{at_most};
-ghost use Rattle.descriptor_table.specs.Giving.{GivesNext, sets_left};
+ghost use Rattle.descriptor_table.specs.Giving.{GivesDue, GivesNext, sets_left};
 
 use crate::set_table::SetTable;
 
-/// Takes the sets that go back to their pools out of their slots, up to the last: those that wait for
-/// a frame up to this one, or, without a frame, those that were let go.
+/// Takes the sets that were let go out of their slots, up to the last.
 #[derive(Drop)]
 pub struct Giving<'a, T> {
     pub table: &'a mut SetTable<T>,
-    pub due: Option<u64>,
 }
 
 impl<T> Iterator for Giving<'_, T> {
@@ -18,18 +16,42 @@ impl<T> Iterator for Giving<'_, T> {
 
     ghost next_gives = { GivesNext };
 
-    ghost remaining = { λ s. at_most (sets_left s) };
+    ghost remaining = { λ s. at_most (sets_left s.table) };
 
     #[inline]
     fn next(&mut self) -> Option<T> {
-        match self.due {
-            None => self.table.take_going(),
-            Some(frame) => self.table.take_due(frame),
-        }
+        self.table.take_going()
     }
 }
 
 impl<T> Giving<'_, T> {
+    /// Gives the table back.
+    pub fn end(self)
+        ensures { self.exit.0.now ≡ self.entry.table.now }
+    {}
+}
+
+/// Takes the sets that wait for a frame up to this one out of their slots, up to the last.
+#[derive(Drop)]
+pub struct Due<'a, T> {
+    pub table: &'a mut SetTable<T>,
+    pub frame: u64,
+}
+
+impl<T> Iterator for Due<'_, T> {
+    type Item = T;
+
+    ghost next_gives = { GivesDue };
+
+    ghost remaining = { λ s. at_most (sets_left s.table) };
+
+    #[inline]
+    fn next(&mut self) -> Option<T> {
+        self.table.take_due(self.frame)
+    }
+}
+
+impl<T> Due<'_, T> {
     /// Gives the table back.
     pub fn end(self)
         ensures { self.exit.0.now ≡ self.entry.table.now }

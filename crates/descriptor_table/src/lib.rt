@@ -7,6 +7,6 @@ mod handle;
 mod set_table;
 mod slot;
 
-pub use giving::Giving;
+pub use giving::{Due, Giving};
 pub use handle::SetHandle;
 pub use set_table::SetTable;

@@ -1,49 +1,61 @@
 //! Sets that come back: they are kept, or go back to their pools.
-ghost use Rattle.std.specs.Prelude.{◌≡◌, ℕ, ◌+◌, ◌≤◌, ◌↔◌, length, false, IsFalse, IsTrue, Option};
+ghost use Rattle.std.specs.Prelude.{◌≡◌, ℕ, ◌+◌, ◌≤◌, ◌↔◌, length, false, IsFalse, IsTrue};
 ghost use Rattle.gpu_descriptor.specs.Caller.Keeps.{Keeps};
 
 use super::Store;
-use descriptor_table::{Giving, SetHandle};
+use descriptor_table::{Due, Giving, SetHandle};
 use gpu_descriptor::DescriptorDevice;
 
 impl<L: Drop, P: Drop, S: Drop, D: DescriptorDevice<L, P, S>> Store<L, P, S, D> {
-    ghost use Rattle.descriptor_table.specs.Giving.{is_given_back};
     ghost use Rattle.descriptor_table.specs.Sets.{AreHeldOnce, sets_in};
-    ghost use Rattle.descriptor_table.specs.Slots.{is_due, slot_at};
+    ghost use Rattle.descriptor_table.specs.Slots.{goes, is_due, slot_at};
     ghost use Rattle.descriptor_renderer.specs.Stores.{AreCleaned, Cleans, ComeBack, FreesAll, FreesEach};
     ghost use Rattle.descriptor_renderer.specs.Stores.{GivesBack, IsAtRest, IsUpTo, NoneComes, Settles};
     ghost use Rattle.descriptor_renderer.specs.Stores.{StoreStays, Trims, WaitEach, coming_in, kept_of};
     ghost use Rattle.descriptor_renderer.specs.Stores.{ledger_of, most_of, number_of, pools_besides};
     ghost use Rattle.descriptor_renderer.specs.Stores.{side_of, slots_in};
 
-    /// Gives sets back to their pools: those that wait for a frame up to this one, or, without a frame,
-    /// those that were let go.
+    /// Gives the sets that were let go back to their pools.
     #[inline]
-    fn give(&mut self, due: Option<u64>)
-        ensures gives { GivesBack due self.old self.new }
+    fn give(&mut self)
+        ensures gives { GivesBack goes self.old self.new }
         ensures keeps { Keeps D.meaning (side_of self.old) (side_of self.new) }
         ensures stays { StoreStays (most_of self.old) self.old self.new }
         ensures coming { coming_in self.new ≡ coming_in self.old }
     {
-        if due.is_none() && self.table.none_goes() {
+        if self.table.none_goes() {
             // A proof has what the allocator's invariant says only by a reader.
             prove!(self.allocator.update_after_bind_descriptors() <= u32::MAX);
             prove!(self.allocator.update_after_bind_capacity() <= u32::MAX);
             return;
         }
-        self.give_each(due);
+        self.give_each();
     }
 
     /// Gives these sets back, one after another.
-    fn give_each(&mut self, due: Option<u64>)
-        ensures gives { GivesBack due self.old self.new }
+    fn give_each(&mut self)
+        ensures gives { GivesBack goes self.old self.new }
         ensures keeps { Keeps D.meaning (side_of self.old) (side_of self.new) }
         ensures stays { StoreStays (most_of self.old) self.old self.new }
         ensures coming { coming_in self.new ≡ coming_in self.old }
     {
         let mut giving = Giving {
             table: &mut self.table,
-            due,
+        };
+        self.allocator.free_from(&mut self.device, &mut giving);
+        giving.end();
+    }
+
+    /// Gives the sets that wait for a frame up to this one back to their pools.
+    fn give_due(&mut self, frame: u64)
+        ensures gives { GivesBack (is_due frame) self.old self.new }
+        ensures keeps { Keeps D.meaning (side_of self.old) (side_of self.new) }
+        ensures stays { StoreStays (most_of self.old) self.old self.new }
+        ensures coming { coming_in self.new ≡ coming_in self.old }
+    {
+        let mut giving = Due {
+            table: &mut self.table,
+            frame,
         };
         self.allocator.free_from(&mut self.device, &mut giving);
         giving.end();
@@ -63,7 +75,7 @@ impl<L: Drop, P: Drop, S: Drop, D: DescriptorDevice<L, P, S>> Store<L, P, S, D> 
     {
         self.table.age();
         self.table.trim(0);
-        self.give(None);
+        self.give();
         self.allocator.cleanup(&mut self.device);
     }
 
@@ -76,11 +88,11 @@ impl<L: Drop, P: Drop, S: Drop, D: DescriptorDevice<L, P, S>> Store<L, P, S, D> 
         ensures stays { StoreStays (most_of self.old) self.old self.new }
     {
         if self.table.most() == 0 {
-            self.give(Some(frame));
+            self.give_due(frame);
             return;
         }
         self.table.settle_due(frame);
-        self.give(None);
+        self.give();
     }
 
     /// Frees the held sets of handles at once: they are kept, or go back to their pools. If a handle
@@ -99,7 +111,7 @@ impl<L: Drop, P: Drop, S: Drop, D: DescriptorDevice<L, P, S>> Store<L, P, S, D> 
             return false;
         }
         self.table.settle_each(handles);
-        self.give(None);
+        self.give();
         true
     }
 
@@ -133,7 +145,7 @@ impl<L: Drop, P: Drop, S: Drop, D: DescriptorDevice<L, P, S>> Store<L, P, S, D> 
     {
         self.table.trim(most);
         self.table.set_most(most);
-        self.give(None);
+        self.give();
     }
 
     /// Gives all sets back: those that are held, those that wait for a frame, which is up to this one,
@@ -149,6 +161,6 @@ impl<L: Drop, P: Drop, S: Drop, D: DescriptorDevice<L, P, S>> Store<L, P, S, D> 
         self.table.settle_due(frame);
         self.table.let_held_go();
         self.table.trim(0);
-        self.give(None);
+        self.give();
     }
 }

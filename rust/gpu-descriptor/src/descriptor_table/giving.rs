@@ -3,11 +3,9 @@
 
 use crate::descriptor_table::set_table::SetTable;
 
-/// Takes the sets that go back to their pools out of their slots, up to the last: those that wait for
-/// a frame up to this one, or, without a frame, those that were let go.
+/// Takes the sets that were let go out of their slots, up to the last.
 pub struct Giving<'a, T> {
     pub table: &'a mut SetTable<T>,
-    pub due: Option<u64>,
 }
 
 impl<T> Iterator for Giving<'_, T> {
@@ -15,14 +13,32 @@ impl<T> Iterator for Giving<'_, T> {
 
     #[inline]
     fn next(&mut self) -> Option<T> {
-        match self.due {
-            None => self.table.take_going(),
-            Some(frame) => self.table.take_due(frame),
-        }
+        self.table.take_going()
     }
 }
 
 impl<T> Giving<'_, T> {
+    /// Gives the table back.
+    pub fn end(self)
+    {}
+}
+
+/// Takes the sets that wait for a frame up to this one out of their slots, up to the last.
+pub struct Due<'a, T> {
+    pub table: &'a mut SetTable<T>,
+    pub frame: u64,
+}
+
+impl<T> Iterator for Due<'_, T> {
+    type Item = T;
+
+    #[inline]
+    fn next(&mut self) -> Option<T> {
+        self.table.take_due(self.frame)
+    }
+}
+
+impl<T> Due<'_, T> {
     /// Gives the table back.
     pub fn end(self)
     {}

@@ -2,27 +2,36 @@
 //! Sets that come back: they are kept, or go back to their pools.
 
 use super::Store;
-use crate::descriptor_table::{Giving, SetHandle};
+use crate::descriptor_table::{Due, Giving, SetHandle};
 use crate::gpu_descriptor::DescriptorDevice;
 
 impl<L, P, S, D: DescriptorDevice<L, P, S>> Store<L, P, S, D> {
-    /// Gives sets back to their pools: those that wait for a frame up to this one, or, without a frame,
-    /// those that were let go.
+    /// Gives the sets that were let go back to their pools.
     #[inline]
-    fn give(&mut self, due: Option<u64>)
+    fn give(&mut self)
     {
-        if due.is_none() && self.table.none_goes() {
+        if self.table.none_goes() {
             return;
         }
-        self.give_each(due);
+        self.give_each();
     }
 
     /// Gives these sets back, one after another.
-    fn give_each(&mut self, due: Option<u64>)
+    fn give_each(&mut self)
     {
         let mut giving = Giving {
             table: &mut self.table,
-            due,
+        };
+        self.allocator.free_from(&mut self.device, &mut giving);
+        giving.end();
+    }
+
+    /// Gives the sets that wait for a frame up to this one back to their pools.
+    fn give_due(&mut self, frame: u64)
+    {
+        let mut giving = Due {
+            table: &mut self.table,
+            frame,
         };
         self.allocator.free_from(&mut self.device, &mut giving);
         giving.end();
@@ -34,7 +43,7 @@ impl<L, P, S, D: DescriptorDevice<L, P, S>> Store<L, P, S, D> {
     {
         self.table.age();
         self.table.trim(0);
-        self.give(None);
+        self.give();
         self.allocator.cleanup(&mut self.device);
     }
 
@@ -42,11 +51,11 @@ impl<L, P, S, D: DescriptorDevice<L, P, S>> Store<L, P, S, D> {
     pub(crate) fn finish(&mut self, frame: u64)
     {
         if self.table.most() == 0 {
-            self.give(Some(frame));
+            self.give_due(frame);
             return;
         }
         self.table.settle_due(frame);
-        self.give(None);
+        self.give();
     }
 
     /// Frees the held sets of handles at once: they are kept, or go back to their pools. If a handle
@@ -57,7 +66,7 @@ impl<L, P, S, D: DescriptorDevice<L, P, S>> Store<L, P, S, D> {
             return false;
         }
         self.table.settle_each(handles);
-        self.give(None);
+        self.give();
         true
     }
 
@@ -77,7 +86,7 @@ impl<L, P, S, D: DescriptorDevice<L, P, S>> Store<L, P, S, D> {
     {
         self.table.trim(most);
         self.table.set_most(most);
-        self.give(None);
+        self.give();
     }
 
     /// Gives all sets back: those that are held, those that wait for a frame, which is up to this one,
@@ -88,6 +97,6 @@ impl<L, P, S, D: DescriptorDevice<L, P, S>> Store<L, P, S, D> {
         self.table.settle_due(frame);
         self.table.let_held_go();
         self.table.trim(0);
-        self.give(None);
+        self.give();
     }
 }

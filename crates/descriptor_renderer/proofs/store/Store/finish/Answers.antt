@@ -28,9 +28,9 @@ invariant_of-self-clause-accounted g c =
 pub returns-clause-back : goal.returns-clause-back
 returns-clause-back g c =
     let old = slots_of c.args.self.now.table in
-    let gives = c.give-2.ensures.gives in
+    let gives = c.give.ensures.gives in
     record {
-      turns = came_back (is_due c.args.frame) c.args.self.now.table.most old (slots_of c.settle_due.new.self) (slots_of c.give-2.new.self.table) (due_full c.args.frame) (none_goes old c.requires.rest.placed) c.settle_due.ensures.turns gives.turns;
+      turns = came_back (is_due c.args.frame) c.args.self.now.table.most old (slots_of c.settle_due.new.self) (slots_of c.give.new.self.table) (due_full c.args.frame) (none_goes old c.requires.rest.placed) c.settle_due.ensures.turns gives.turns;
       sets = gives.sets;
       returns = gives.returns;
     }
@@ -38,14 +38,14 @@ returns-clause-back g c =
 pub returns-clause-none_due : goal.returns-clause-none_due
 returns-clause-none_due g c =
     let old = slots_of c.args.self.now.table in
-    let new = slots_of c.give-2.new.self.table in
+    let new = slots_of c.give.new.self.table in
     let most = c.args.self.now.table.most in
-    back_not_due c.args.frame most old new (came_back (is_due c.args.frame) most old (slots_of c.settle_due.new.self) new (due_full c.args.frame) (none_goes old c.requires.rest.placed) c.settle_due.ensures.turns c.give-2.ensures.gives.turns)
+    back_not_due c.args.frame most old new (came_back (is_due c.args.frame) most old (slots_of c.settle_due.new.self) new (due_full c.args.frame) (none_goes old c.requires.rest.placed) c.settle_due.ensures.turns c.give.ensures.gives.turns)
 
 pub returns-clause-settles : goal.returns-clause-settles
 returns-clause-settles g c =
     let old = slots_of c.args.self.now.table in
-    let new = slots_of c.give-2.new.self.table in
+    let new = slots_of c.give.new.self.table in
     let most = c.args.self.now.table.most in
-    let turns = came_back (is_due c.args.frame) most old (slots_of c.settle_due.new.self) new (due_full c.args.frame) (none_goes old c.requires.rest.placed) c.settle_due.ensures.turns c.give-2.ensures.gives.turns in
-    settled 0 c.args.self.now c.give-2.new.self (follow_turns 0 (is_due c.args.frame) (IsBack most) old new turns (follows_back 0 most new)) (ap (λ v. v.items) c.give-2.ensures.coming ∙ c.requires.rest.none_coming) c.requires.rest
+    let turns = came_back (is_due c.args.frame) most old (slots_of c.settle_due.new.self) new (due_full c.args.frame) (none_goes old c.requires.rest.placed) c.settle_due.ensures.turns c.give.ensures.gives.turns in
+    settled 0 c.args.self.now c.give.new.self (follow_turns 0 (is_due c.args.frame) (IsBack most) old new turns (follows_back 0 most new)) (ap (λ v. v.items) c.give.ensures.coming ∙ c.requires.rest.none_coming) c.requires.rest

@@ -1,4 +1,5 @@
 use Rattle.std.proofs.Common.{[]}
+use Rattle.descriptor_table.specs.Slots.{goes}
 use Rattle.descriptor_table.specs.Tables.{slots_of}
 use Rattle.descriptor_renderer.proofs.Returned.{none_turns, returns_none}
 use Rattle.descriptor_renderer.specs.Stores.{ledger_of}
@@ -7,4 +8,4 @@ use Rattle.descriptor_renderer.proofs.store.Store.give.Goals as goal
 pub returns-then-none_goes-clause-gives : goal.returns-then-none_goes-clause-gives
 returns-then-none_goes-clause-gives g c =
     let s = c.args.self.now in
-    record { sets = []; returns = returns_none g.D.DescriptorDevice.meaning s.allocator (ledger_of s); turns = none_turns c.args.due (slots_of s.table) c.if-is_none.ensures (c.none_goes.ensures c.if-none_goes.true) }
+    record { sets = []; returns = returns_none g.D.DescriptorDevice.meaning s.allocator (ledger_of s); turns = none_turns goes (slots_of s.table) (c.none_goes.ensures c.if-none_goes.true) }

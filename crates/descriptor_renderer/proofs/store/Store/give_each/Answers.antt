@@ -1,29 +1,30 @@
-use Rattle.std.proofs.Common.{length, sym, ap, subst, arith}
+use Rattle.std.proofs.Common.{length, sym, ap, subst, refl, arith}
 use Rattle.gpu_descriptor.specs.Caller.Sets.{items_of}
 use Rattle.gpu_descriptor.specs.Model.Agreement.{count_of}
 use Rattle.descriptor_table.specs.Sets.{sets_in}
-use Rattle.descriptor_table.specs.Giving.{is_given_back}
+use Rattle.descriptor_table.specs.Slots.{goes}
 use Rattle.descriptor_table.specs.Tables.{Stays, Turns, Vacates, slots_of}
-use Rattle.descriptor_table.proofs.Leaving.{given_all}
+use Rattle.descriptor_table.proofs.Leaving.{given_all, going_all, going_steps}
 use Rattle.descriptor_renderer.proofs.Returned.{given_count, given_many}
 use Rattle.descriptor_renderer.proofs.store.Store.give_each.Goals as goal
 
 pub free_from-requires-clause-outstanding : goal.free_from-requires-clause-outstanding
 free_from-requires-clause-outstanding g c xs t y i =
     let name = g.D.DescriptorDevice.meaning.set_name in
-    let all = given_count name xs _ t y i in
+    let all = given_count name goes xs _ t.table (going_steps xs _ t y) i in
     let was = c.args.self.now.exact i in
     omega arith
 
 pub shape_of-self : goal.shape_of-self
-shape_of-self g c = let f = c.free_from.ensures.frees in sym (given_all f.sets _ _ f.drained).1
+shape_of-self g c = let f = c.free_from.ensures.frees in sym (given_all goes (λ s. refl) f.sets _ _ (going_all f.sets _ _ f.drained)).1
 
 pub invariant_of-self-clause-exact : goal.invariant_of-self-clause-exact
 invariant_of-self-clause-exact g c = λ i.
     let name = g.D.DescriptorDevice.meaning.set_name in
     let f = c.free_from.ensures.frees in
-    let all = given_count name f.sets _ f.drained.0 f.drained.1 i in
-    let last = ap (λ l. count_of i (items_of name (sets_in l))) f.drained.2.gives.slots in
+    let steps = going_all f.sets _ _ f.drained in
+    let all = given_count name goes f.sets _ steps.0 steps.1 i in
+    let last = ap (λ l. count_of i (items_of name (sets_in l))) steps.2.gives.slots in
     let back = f.returns.back.returned i in
     let was = c.args.self.now.exact i in
     let end = ap (λ t. count_of i (items_of name (sets_in (slots_of t)))) c.end.ensures in
@@ -33,8 +34,9 @@ pub invariant_of-self-clause-accounted : goal.invariant_of-self-clause-accounted
 invariant_of-self-clause-accounted g c =
     let name = g.D.DescriptorDevice.meaning.set_name in
     let f = c.free_from.ensures.frees in
-    let all = given_many name f.sets _ f.drained.0 f.drained.1 in
-    let last = ap (λ l. length (sets_in l)) f.drained.2.gives.slots in
+    let steps = going_all f.sets _ _ f.drained in
+    let all = given_many name goes f.sets _ steps.0 steps.1 in
+    let last = ap (λ l. length (sets_in l)) steps.2.gives.slots in
     let back = f.returns.back.outstanding in
     let was = c.args.self.now.accounted in
     let end = ap (λ t. length (sets_in (slots_of t))) c.end.ensures in
@@ -43,12 +45,12 @@ invariant_of-self-clause-accounted g c =
 pub returns-clause-gives : goal.returns-clause-gives
 returns-clause-gives g c =
     let f = c.free_from.ensures.frees in
-    let all = given_all f.sets _ _ f.drained in
-    record { sets = f.sets; returns = f.returns; turns = subst (λ t. Turns (is_given_back c.args.due) Vacates (slots_of c.args.self.now.table) (slots_of t)) (sym c.end.ensures) all.0 }
+    let all = given_all goes (λ s. refl) f.sets _ _ (going_all f.sets _ _ f.drained) in
+    record { sets = f.sets; returns = f.returns; turns = subst (λ t. Turns goes Vacates (slots_of c.args.self.now.table) (slots_of t)) (sym c.end.ensures) all.0 }
 
 pub returns-clause-stays : goal.returns-clause-stays
 returns-clause-stays g c =
     let f = c.free_from.ensures.frees in
-    let all = given_all f.sets _ _ f.drained in
+    let all = given_all goes (λ s. refl) f.sets _ _ (going_all f.sets _ _ f.drained) in
     let stays = subst (Stays c.args.self.now.table) (sym c.end.ensures) all.2 in
     record { number = stays.number; lists = stays.lists; limit = c.free_from.ensures.keeps.limit; besides = c.free_from.ensures.keeps.others; keeps = stays.most }
