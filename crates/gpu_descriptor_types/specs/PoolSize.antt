@@ -1,7 +1,7 @@
 -- How many sets a new pool holds, and its counts.
 use Rattle.gpu_descriptor_types.specs.Bounds.{greatest_i32, greatest_u32}
 use Rattle.gpu_descriptor_types.specs.Counts.{greatest}
-use Rattle.std.specs.Prelude.{◌≡◌, ℕ, ◌*◌, ◌/◌, ◌^◌, ◌≤◌, ◌==◌, max, min, List, map, sum, fold, slice_set, if◌then◌else◌, nat_le}
+use Rattle.std.specs.Prelude.{◌≡◌, ℕ, ◌*◌, ◌/◌, ◌^◌, ◌≤◌, ◌==◌, max, min, List, map, sum, fold, slice_set, if◌then◌else◌, nat_le, Option, None, Some}
 
 -- how many sets a pool is to hold at least
 abbrev pub min_sets : ℕ
@@ -52,6 +52,11 @@ pub record IsCutSize (counts : List ℕ) (room total wanted sets : ℕ) : Type 0
   pub is_whole : IsPoolSize counts total wanted whole
   pub cut : sets ≡ sets_in_room room (sum counts) whole
   pub some : 1 ≤ sets
+
+-- so many sets, cut to a bound on their descriptors, of which each set has as many as each says, but not below what is wanting
+abbrev pub bounded_sets : Option ℕ → (each wanted sets : ℕ) → ℕ
+bounded_sets None each wanted sets = sets
+bounded_sets (Some most) each wanted sets = min sets (max wanted (most / max 1 each))
 
 -- how many sets a pool holds at least that is not cut to the room, unless fewer are wanting
 abbrev pub pool_size_floor : List ℕ → ℕ

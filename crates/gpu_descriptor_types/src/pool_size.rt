@@ -3,7 +3,8 @@ ghost use Rattle.std.specs.Prelude.{◌≡◌, ℕ, ◌*◌, ◌<◌, ◌≤◌,
 ghost use Rattle.std.specs.Prelude.{fold, map};
 ghost use Rattle.gpu_descriptor_types.specs.Counts.{kinds as kinds_of};
 ghost use Rattle.gpu_descriptor_types.specs.PoolSize.{IsCutSize, IsPoolSize, IsRounded};
-ghost use Rattle.gpu_descriptor_types.specs.PoolSize.{greatest_pool_size, pool_counts, pool_size_floor};
+ghost use Rattle.gpu_descriptor_types.specs.PoolSize.{bounded_sets, greatest_pool_size, pool_counts};
+ghost use Rattle.gpu_descriptor_types.specs.PoolSize.{pool_size_floor};
 ghost use Rattle.gpu_descriptor_types.specs.PoolSize.{sets_in_room as sets_in_room_of};
 ghost use Rattle.gpu_descriptor_types.specs.PoolSize.{sets_of_kind, start_size as start_size_of};
 
@@ -61,6 +62,8 @@ pub fn cut_pool_size(
     ensures some { IfSome result (λ pool. 1 ≤ pool.1) }
     ensures at_most { IfSome result (λ pool. pool.1 ≤ greatest_pool_size) }
     ensures within { IfSome result (λ pool. sum (kinds_of pool.0) ≤ room) }
+    ensures fits { IfSome result (λ pool. All (λ count. count * pool.1 < 2 ^ 32)
+        (kinds_of counts.now)) }
 
     // Where a pool of the size of `new_pool_size` fits, it is not cut.
     ensures whole { (sets : ℕ) → IsPoolSize (kinds_of counts.now) total wanted sets
@@ -72,6 +75,30 @@ pub fn cut_pool_size(
         return None;
     }
     Some((counts_of_sets(counts, sets), sets))
+}
+
+/// A pool size of these counts, cut so that the pool has at most `most` descriptors, unless the
+/// `wanted` sets need more; as it is with `None`.
+pub fn bounded_pool_size(
+    counts: &DescriptorTotalCount,
+    size: (DescriptorTotalCount, u32),
+    wanted: u32,
+    most: Option<u64>,
+) -> (DescriptorTotalCount, u32)
+    requires counts { kinds_of size.0 ≡ pool_counts (kinds_of counts.now) size.1 }
+    requires fits { All (λ count. count * size.1 < 2 ^ 32) (kinds_of counts.now) }
+    ensures sets { result.1 ≡ bounded_sets most (sum (kinds_of counts.now)) wanted size.1 }
+    ensures counts { kinds_of result.0 ≡ pool_counts (kinds_of counts.now) result.1 }
+{
+    let Some(most) = most else {
+        return size;
+    };
+    let fit = most / counts.total().max(1);
+    let sets = u64::from(size.1).min(fit.max(u64::from(wanted))) as u32;
+    if sets == size.1 {
+        return size;
+    }
+    (counts_of_sets(counts, sets), sets)
 }
 
 /// How many of so many sets fit into room for descriptors, where each set has `each`.

@@ -35,3 +35,9 @@ returns-clause-whole c = λ sets is fits.
     let same = pool_size_once (kinds_of c.args.counts.now) c.args.total c.args.wanted c.new_pool_size-whole.result.1 sets c.new_pool_size-whole.ensures.sets is in
     let room : max 1 (c.new_pool_size-whole.result.1 * sum (kinds_of c.args.counts.now)) ≤ c.args.room = subst (λ n. max 1 (n * sum (kinds_of c.args.counts.now)) ≤ c.args.room) (sym same) fits in
     cut ∙ all_in_room c.args.room (sum (kinds_of c.args.counts.now)) c.new_pool_size-whole.result.1 room ∙ same
+
+pub returns-clause-fits : goal.returns-clause-fits
+returns-clause-fits c = λ k d within.
+    let whole = c.new_pool_size-whole.ensures.fits k d within in
+    let less = mul-le-mul_left (slice_index_or (kinds_of c.args.counts.now) k d) c.sets_in_room-sets.ensures.at_most in
+    omega arith
