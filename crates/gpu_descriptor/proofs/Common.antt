@@ -24,7 +24,7 @@ pub use Rattle.gpu_descriptor_types.specs.Flags.{CanFree, IsUpdateAfterBind}
 pub use Rattle.gpu_descriptor_types.specs.Ledger.{AreLive, Counters, HasNoSets, CanGive, Ledger, Pool, after_alloc, after_create, after_destroy, after_no_alloc, after_no_create, after_release, alloc_refused, create_refused, fresh, live_sets, no_rise, on_pool, pool_refusals}
 pub use Rattle.gpu_descriptor_types.specs.Meaning.{IsOfLayout, Meaning}
 pub use Rattle.gpu_descriptor_types.specs.Multiset.{AreIn, HasSize, LiveSet, Spells, set_eq, times}
-pub use Rattle.gpu_descriptor_types.specs.PoolSize.{greatest_pool_size, IsPoolSize, pool_counts, pool_size_floor, sets_in_room, start_size}
+pub use Rattle.gpu_descriptor_types.specs.PoolSize.{bounded_sets, greatest_pool_size, IsPoolSize, pool_counts, pool_size_floor, sets_in_room, start_size}
 pub use Rattle.gpu_descriptor_types.specs.Side.{side}
 pub use Rattle.gpu_descriptor_types.proofs.Counting.{IsExact, all_taken_out, any_found, any_from, bool_iff, count_by-append, count_by_alike, count_by_no, count_by_none, count_by_yes, counts_alike, list_any-count_by, set_exact, times-append}
 pub use Rattle.gpu_descriptor_types.specs.declared.errors.CreatePoolError.{CreatePoolError}

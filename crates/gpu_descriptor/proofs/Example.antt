@@ -1,7 +1,7 @@
 -- The definitions at one state, worked out by the check. A plain key has six pools: two empty ones at the front, one
 -- with a set, an empty one behind it, one with a set, and an empty one at the end. A marked key has two
 -- pools, both empty.
-use Rattle.gpu_descriptor.proofs.Common.{◌++◌, ◌≡◌, ℕ, true, false, List, [], ◌∷◌, None, if◌then◌else◌, map, replicate, refl, sets_in_room, State, Item, Key, key_eq, Entry, Bucket, no_pools, cleaned_bucket, pool_descriptors, bucket_load, released, binary_digits}
+use Rattle.gpu_descriptor.proofs.Common.{◌++◌, ◌≡◌, ℕ, true, false, List, [], ◌∷◌, None, Some, if◌then◌else◌, map, replicate, refl, bounded_sets, sets_in_room, State, Item, Key, key_eq, Entry, Bucket, no_pools, cleaned_bucket, pool_descriptors, bucket_load, released, binary_digits}
 
 -- ---- the state
 
@@ -56,6 +56,14 @@ cut_size = refl
 
 no_size : sets_in_room 2 3 64 ≡ 0
 no_size = refl
+
+-- a bound of 10 descriptors leaves 3 sets of three, 10 sets without any, and 5 where 5 are wanting. Without a bound the size stays
+bounds_shown : map (λ bound. bound 64) (bounded_sets (Some 10) 3 1 ∷ bounded_sets (Some 10) 0 1 ∷ bounded_sets (Some 10) 3 5 ∷ bounded_sets None 3 1 ∷ []) ≡ 3 ∷ 10 ∷ 5 ∷ 64 ∷ []
+bounds_shown = refl
+
+-- 65536 descriptors are fewer than a set of 100000, so its pool has what is wanting
+great_set : bounded_sets (Some 65536) 100000 1 64 ≡ 1
+great_set = refl
 
 -- ---- binary digits
 

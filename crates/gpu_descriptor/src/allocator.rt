@@ -51,6 +51,7 @@ impl<P, S> Model for DescriptorAllocator<P, S> {
 
     ghost view = { λ a. record {
       limit = a.max_update_after_bind_descriptors_in_all_pools;
+      most = a.budget.most;
       table = map row_of a.table.buckets.entries;
       looks = a.budget.looks.count;
       comparisons = a.comparisons.count;
@@ -96,9 +97,19 @@ impl<P, S> DescriptorAllocator<P, S> {
             budget: Budget {
                 room: max_update_after_bind_descriptors_in_all_pools,
                 looks: Tally::zero(),
+                most: None,
             },
             comparisons: Tally::zero(),
             sets: PhantomData,
         }
+    }
+
+    /// From now on a new pool has at most `most` descriptors, unless what is wanting needs more: it
+    /// holds no more sets than have so many descriptors, or than are wanting. At first, and with
+    /// `None`, its size is as in the original. Pools that exist stay.
+    pub fn set_most_pool_descriptors(&mut self, most: Option<u64>)
+        ensures value { self.new ≡ record self.old { most = most } }
+    {
+        self.budget.most = most;
     }
 }

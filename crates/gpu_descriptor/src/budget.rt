@@ -1,7 +1,7 @@
-//! What the layers below change of the allocator.
+//! What the layers below use of the allocator.
 use gpu_descriptor_types::Tally;
 
-/// What the layers below change of the allocator.
+/// What the layers below use of the allocator.
 #[derive(Debug, Drop)]
 pub(crate) struct Budget {
     /// What the limit leaves for descriptors of further pools of marked layouts.
@@ -9,4 +9,7 @@ pub(crate) struct Budget {
 
     /// How often a request looked at a pool.
     pub(crate) looks: Tally,
+
+    /// How many descriptors a new pool has at most, unless what is wanting needs more.
+    pub(crate) most: Option<u64>,
 }

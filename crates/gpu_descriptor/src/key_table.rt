@@ -136,8 +136,8 @@ impl<P: Drop> KeyTable<P> {
             (key_of request.now.key)).pools }
         requires bound { sum_over sets_out (map row_of self.old.buckets.entries) + request.now.count
             < 2 ^ 64 }
-        ensures served { IfOk result (λ ended. ServesKey D.meaning (key_of request.now.key)
-            budget.old.room request.now.count
+        ensures served { IfOk result (λ ended. ServesKey D.meaning budget.old.most
+            (key_of request.now.key) budget.old.room request.now.count
             (appended (K.items sink.old.sets) (K.items sink.new.sets)) ended
             (map row_of self.old.buckets.entries) (map row_of self.new.buckets.entries)
             (D.ledger device.old) (D.ledger device.new)) }
@@ -150,6 +150,7 @@ impl<P: Drop> KeyTable<P> {
         ensures sets { OnErr result (K.items sink.new.sets ≡ K.items sink.old.sets) }
         ensures refused { IfErr result (λ e. IsUnserved request.now.count e (books_in
             D.meaning.pool_name (map row_of self.old.buckets.entries) (key_of request.now.key))) }
+        ensures most { budget.new.most ≡ budget.old.most }
         ensures looks { CountsLooks budget.old.looks.count budget.new.looks.count
             (D.ledger device.old) (D.ledger device.new) }
         ensures room { budget.new.room + sum_over bucket_load (map row_of self.new.buckets.entries)
@@ -180,8 +181,8 @@ impl<P: Drop> KeyTable<P> {
         requires absent { lookup (is_of (key_of request.now.key)) self.old.buckets.entries ≡ None }
         requires bound { sum_over sets_out (map row_of self.old.buckets.entries) + request.now.count
             < 2 ^ 64 }
-        ensures served { IfOk result (λ ended. ServesKey D.meaning (key_of request.now.key)
-            budget.old.room request.now.count
+        ensures served { IfOk result (λ ended. ServesKey D.meaning budget.old.most
+            (key_of request.now.key) budget.old.room request.now.count
             (appended (K.items sink.old.sets) (K.items sink.new.sets)) ended
             (map row_of self.old.buckets.entries) (map row_of self.new.buckets.entries)
             (D.ledger device.old) (D.ledger device.new)) }
@@ -194,6 +195,7 @@ impl<P: Drop> KeyTable<P> {
         ensures sets { OnErr result (K.items sink.new.sets ≡ K.items sink.old.sets) }
         ensures refused { IfErr result (λ e. IsUnserved request.now.count e (books_in
             D.meaning.pool_name (map row_of self.old.buckets.entries) (key_of request.now.key))) }
+        ensures most { budget.new.most ≡ budget.old.most }
         ensures looks { CountsLooks budget.old.looks.count budget.new.looks.count
             (D.ledger device.old) (D.ledger device.new) }
         ensures room { budget.new.room + sum_over bucket_load (map row_of self.new.buckets.entries)

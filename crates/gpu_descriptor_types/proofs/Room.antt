@@ -1,9 +1,9 @@
--- How many of a pool's sets the room for descriptors lets it have.
-use Rattle.std.proofs.Common.{◌≡◌, ℕ, ◌+◌, ◌-◌, ◌*◌, ◌/◌, ◌≤◌, ◌==◌, max, min, inl, inr, refl, ap, ◌∙◌, arith, eqb-true}
+-- How many of a pool's sets the room for descriptors lets it have, and a bound on its descriptors.
+use Rattle.std.proofs.Common.{◌≡◌, ℕ, ◌+◌, ◌-◌, ◌*◌, ◌/◌, ◌≤◌, ◌<◌, ◌==◌, max, min, Option, None, Some, inl, inr, refl, ap, ◌∙◌, arith, eqb-true}
 use Rattle.std.proofs.Math.Nat.{div-mul-le_self, mul-le-mul_right}
 use Rattle.std.proofs.lemmas.Nat.{le-div}
 use Rattle.std.proofs.lemmas.Bool.{cases_Bool, eqb-false}
-use Rattle.gpu_descriptor_types.specs.PoolSize.{sets_in_room}
+use Rattle.gpu_descriptor_types.specs.PoolSize.{bounded_sets, sets_in_room}
 
 pub few_in_room : (room each whole : ℕ) → sets_in_room room each whole ≤ whole
 few_in_room room each whole = elim (cases_Bool (each == 0)) [
@@ -62,3 +62,17 @@ all_in_room room each whole fits = elim (cases_Bool (each == 0)) [
       let above : whole ≤ room / each = le-div whole room each high (omega arith) in
       rw some (omega arith))
 ]
+
+-- a bound
+pub bounded_few : (most : Option ℕ) (each wanted sets : ℕ) → bounded_sets most each wanted sets ≤ sets
+bounded_few None each wanted sets = omega arith
+bounded_few (Some most) each wanted sets = omega arith
+
+pub bounded_some : (most : Option ℕ) (each wanted sets : ℕ) → 1 ≤ wanted → 1 ≤ sets → 1 ≤ bounded_sets most each wanted sets
+bounded_some None each wanted sets wants some = some
+bounded_some (Some most) each wanted sets wants some = omega arith
+
+-- what is below what is wanting wasn't cut to it
+pub bounded_whole : (most : Option ℕ) (each wanted sets size : ℕ) → size ≡ bounded_sets most each wanted sets → size < wanted → size ≡ sets
+bounded_whole None each wanted sets size is short = is
+bounded_whole (Some most) each wanted sets size is short = omega arith

@@ -53,7 +53,7 @@ pub record IsCutSize (counts : List ℕ) (room total wanted sets : ℕ) : Type 0
   pub cut : sets ≡ sets_in_room room (sum counts) whole
   pub some : 1 ≤ sets
 
--- so many sets, cut to a bound on their descriptors, of which each set has as many as each says, but not below what is wanting
+-- so many sets, cut to a bound on their descriptors, but not below what is wanting. Each set has as many as each says, or counts as one
 abbrev pub bounded_sets : Option ℕ → (each wanted sets : ℕ) → ℕ
 bounded_sets None each wanted sets = sets
 bounded_sets (Some most) each wanted sets = min sets (max wanted (most / max 1 each))

@@ -77,8 +77,8 @@ pub fn cut_pool_size(
     Some((counts_of_sets(counts, sets), sets))
 }
 
-/// A pool size of these counts, cut so that the pool has at most `most` descriptors, unless the
-/// `wanted` sets need more; as it is with `None`.
+/// A pool size of these counts, cut so that its sets have at most `most` descriptors together, unless
+/// the `wanted` sets have more; as it is with `None`. A set without descriptors counts as one.
 pub fn bounded_pool_size(
     counts: &DescriptorTotalCount,
     size: (DescriptorTotalCount, u32),

@@ -182,9 +182,9 @@ module _ {P : Type 0} (name : P → ℕ) where
   agree_is a l es is agree = subst Agree (state_is a l es is) agree
 
   pub whole_clean : (a : Allocations P) (l k : Ledger) (es now fs : List (BucketKey × DescriptorBucket P)) (limit : ℕ) → a.table ≡ map row_of es → HasDistinctKeys (rows_in name es) → rows_in name now ≡ map cleared_row (rows_in name es) → k ≡ ledger_less (rows_in name es) l → fs ≡ filter (λ e. has_pools e.1) now
-      → IsCleaned (state_of name a l) (state_of name (record { limit = limit; table = map row_of fs; looks = 0; comparisons = 0 }) k)
+      → IsCleaned (state_of name a l) (state_of name (record { limit = limit; most = None; table = map row_of fs; looks = 0; comparisons = 0 }) k)
   whole_clean a l k es now fs limit is distinct rows pools kept =
-      let new : Allocations P = record { limit = limit; table = map row_of fs; looks = 0; comparisons = 0 } in
+      let new : Allocations P = record { limit = limit; most = None; table = map row_of fs; looks = 0; comparisons = 0 } in
       let new_is : state_of name new k ≡ record { books = books_of (rows_in name (filter (λ e. has_pools e.1) now)); ledger = pools_less (rows_in name es) l.pools } =
       state_is new k fs refl ∙ (λ i. record { books = books_of (rows_in name (kept i)); ledger = (pools i).pools }) in
       subst (λ t. IsCleaned (state_of name a l) t) (sym new_is) (subst (λ s. IsCleaned s (record { books = books_of (rows_in name (filter (λ e. has_pools e.1) now)); ledger = pools_less (rows_in name es) l.pools })) (sym (state_is a l es is)) (is_cleaned name now (rows_in name es) l.pools distinct rows))

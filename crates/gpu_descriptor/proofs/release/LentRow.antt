@@ -1,5 +1,5 @@
 -- One run through a row that the table lends.
-use Rattle.gpu_descriptor.proofs.Common.{◌≡◌, ℕ, Bool, List, ◌∷◌, map, count_by, Option, Some, IsSome, length, refl, sym, ap, subst, ◌∙◌, fun_ext, lookup, set_value, option_map_or, Ledger, after_release, live_sets, BucketKey, DescriptorSet, DescriptorBucket, Agree, AreOutstanding, Key, key_eq, Bucket, no_pools, books_of, HasDistinctKeys, key_of, Allocations, AreBookedIn, IsTakenAt, Releases, names_of, bucket_back, trimmed_bucket, trimmed_ledger, more_destroyed, more_released, released, pools_gone, open_pools, items_of, named_row, state_of, AllPass, books_in, row_of, bucket_of}
+use Rattle.gpu_descriptor.proofs.Common.{◌≡◌, ℕ, Bool, List, ◌∷◌, map, count_by, Option, None, Some, IsSome, length, refl, sym, ap, subst, ◌∙◌, fun_ext, lookup, set_value, option_map_or, Ledger, after_release, live_sets, BucketKey, DescriptorSet, DescriptorBucket, Agree, AreOutstanding, Key, key_eq, Bucket, no_pools, books_of, HasDistinctKeys, key_of, Allocations, AreBookedIn, IsTakenAt, Releases, names_of, bucket_back, trimmed_bucket, trimmed_ledger, more_destroyed, more_released, released, pools_gone, open_pools, items_of, named_row, state_of, AllPass, books_in, row_of, bucket_of}
 use Rattle.gpu_descriptor.specs.Caller.States.{keys_of}
 use Rattle.gpu_descriptor.specs.Inner.RunSteps.{lies_at}
 use Rattle.gpu_descriptor.proofs.foreign.LedgerPools.{taken_from, release_pools}
@@ -35,9 +35,9 @@ module _ {P S : Type 0} (name : P → ℕ) (set_name : S → ℕ) (a : Allocatio
       ledger : after ≡ trimmed_ledger 1 (bucket_back ((state_of name a l).books x.key.is) x.number (length (names_of set_name (x ∷ xs))) here.entry) (after_release here.entry.pool (live_sets x.key.is.counts (names_of set_name (x ∷ xs))) l)
       ledger = gone ∙ (λ i. trimmed_ledger 1 (here.books i) (here.ledger i))
 
-      pub row_ran : (limit : ℕ) (fs : List (BucketKey × DescriptorBucket P)) → fs ≡ set_value test es w → state_of name (record { limit = limit; table = map row_of fs; looks = 0; comparisons = 0 }) after ≡ released (items_of set_name (x ∷ xs)) (state_of name a l)
+      pub row_ran : (limit : ℕ) (fs : List (BucketKey × DescriptorBucket P)) → fs ≡ set_value test es w → state_of name (record { limit = limit; most = None; table = map row_of fs; looks = 0; comparisons = 0 }) after ≡ released (items_of set_name (x ∷ xs)) (state_of name a l)
       row_ran limit fs wrote =
-          let new : Allocations P = record { limit = limit; table = map row_of fs; looks = 0; comparisons = 0 } in
+          let new : Allocations P = record { limit = limit; most = None; table = map row_of fs; looks = 0; comparisons = 0 } in
           let s = state_of name a l in
           let k = x.key.is in
           let some : IsSome (lookup test es) = rw found refl in

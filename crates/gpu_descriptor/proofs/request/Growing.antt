@@ -15,16 +15,16 @@ use Rattle.gpu_descriptor.proofs.request.TakenPlaces.{came_long, fresh_or_past, 
 abbrev pub all_so_far : ℕ → (ℕ → Bool) → List Fresh → List Part → Grant
 all_so_far id refused fresh parts = grant_of id 0 refused fresh parts
 
-pub record Growing (k : Key) (start n id first room total wanting : ℕ) (items : List Item) (old new : List Entry) (l m : Ledger) : Type 0 where
+pub record Growing (most : Option ℕ) (k : Key) (start n id first room total wanting : ℕ) (items : List Item) (old new : List Entry) (l m : Ledger) : Type 0 where
   pub refused : ℕ → Bool
   pub parts : List Part
   pub fresh : List Fresh
   pub totals : total ≡ allocated_in (all_shared refused n old) + given_by fresh
   pub wants : wanting + given_by fresh ≡ rest refused n old
-  pub sized : AreSized k start (allocated_in (all_shared refused n old)) (rest refused n old) fresh
+  pub sized : AreSized most k start (allocated_in (all_shared refused n old)) (rest refused n old) fresh
   pub room_now : room ≡ room_after k start fresh
   pub full : 0 < wanting → AreFull fresh
-  pub list : wanting ≡ 0 → IsFreshList k start (allocated_in (all_shared refused n old)) (rest refused n old) fresh
+  pub list : wanting ≡ 0 → IsFreshList most k start (allocated_in (all_shared refused n old)) (rest refused n old) fresh
   pub taken : HasTaken k n (all_so_far id refused fresh parts) items (bucket id first old) (bucket id first new) l m
 
 -- there is one pool more for each new one
@@ -75,19 +75,19 @@ new_more pools (h ∷ fs) f new none at =
 given_more : (fs : List Fresh) (f : Fresh) → given_by (fs ++ f ∷ []) ≡ given_by fs + f.given
 given_more fs f = sum_by-append (λ (f : Fresh). f.given) fs (f ∷ []) ∙ (let one : given_by (f ∷ []) ≡ f.given = omega arith in omega arith)
 
-sized_more : (k : Key) (room t w : ℕ) (fs : List Fresh) (f : Fresh) (left total wanted : ℕ) → AreSized k room t w fs → left ≡ room_after k room fs → total ≡ t + given_by fs → wanted ≡ w - given_by fs → IsNextSize k left total wanted f.size → AreSized k room t w (fs ++ f ∷ [])
-sized_more k room t w [] f left total wanted all room_is total_is wanted_is one =
+sized_more : (most : Option ℕ) (k : Key) (room t w : ℕ) (fs : List Fresh) (f : Fresh) (left total wanted : ℕ) → AreSized most k room t w fs → left ≡ room_after k room fs → total ≡ t + given_by fs → wanted ≡ w - given_by fs → IsNextSize most k left total wanted f.size → AreSized most k room t w (fs ++ f ∷ [])
+sized_more most k room t w [] f left total wanted all room_is total_is wanted_is one =
     let a : total ≡ t = omega arith in
     let b : wanted ≡ w = omega arith in
     (rw (room_is, a, b) at one, tt)
-sized_more k room t w (h ∷ fs) f left total wanted all room_is total_is wanted_is one = (let s = sum_by-cons (λ (f : Fresh). f.given) h fs in (all.0, sized_more k (room - pool_descriptors k h.size) (t + h.given) (w - h.given) fs f left total wanted all.1 room_is (omega arith) (omega arith) one))
+sized_more most k room t w (h ∷ fs) f left total wanted all room_is total_is wanted_is one = (let s = sum_by-cons (λ (f : Fresh). f.given) h fs in (all.0, sized_more most k (room - pool_descriptors k h.size) (t + h.given) (w - h.given) fs f left total wanted all.1 room_is (omega arith) (omega arith) one))
 
 full_more : (fs : List Fresh) (f : Fresh) → AreFull fs → f.given ≡ f.size → AreFull (fs ++ f ∷ [])
 full_more [] f all one = (one, tt)
 full_more (h ∷ fs) f all one = (all.0, full_more fs f all.1 one)
 
-module _ {k : Key} {start n id first room left total wanting : ℕ} {items : List Item} {old new new' : List Entry} {l m m' : Ledger} {more : List ℕ}
-    (booked : AreBookedIn k l.pools old) (s : Growing k start n id first room total wanting items old new l m) (a : IsGrown k room left total wanting more new new' m m') where
+module _ {most : Option ℕ} {k : Key} {start n id first room left total wanting : ℕ} {items : List Item} {old new new' : List Entry} {l m m' : Ledger} {more : List ℕ}
+    (booked : AreBookedIn k l.pools old) (s : Growing most k start n id first room total wanting items old new l m) (a : IsGrown most k room left total wanting more new new' m m') where
   abbrev f : Fresh
   f = a.pool
 
@@ -153,10 +153,10 @@ module _ {k : Key} {start n id first room left total wanting : ℕ} {items : Lis
       let long = length-append s.fresh (f ∷ []) in
       a.counters ∙ up ∙ same_counters _ _ (omega arith) (omega arith) (omega arith) (omega arith) (omega arith) (omega arith) (omega arith) (omega arith)
 
-  sized_now : AreSized k start (allocated_in (all_shared s.refused n old)) (rest s.refused n old) fresh_now
-  sized_now = (let w = s.wants in sized_more k start _ _ s.fresh f room total wanting s.sized s.room_now s.totals (omega arith) a.size)
+  sized_now : AreSized most k start (allocated_in (all_shared s.refused n old)) (rest s.refused n old) fresh_now
+  sized_now = (let w = s.wants in sized_more most k start _ _ s.fresh f room total wanting s.sized s.room_now s.totals (omega arith) a.size)
 
-  pub grow_more : {total' wanting' number : ℕ} {put : List Item} → 0 < wanting → total' ≡ total + length more → wanting' + length more ≡ wanting → number ≡ first + length new → put ≡ items ++ items_at k id number more → Growing k start n id first left total' wanting' put old new' l m'
+  pub grow_more : {total' wanting' number : ℕ} {put : List Item} → 0 < wanting → total' ≡ total + length more → wanting' + length more ≡ wanting → number ≡ first + length new → put ≡ items ++ items_at k id number more → Growing most k start n id first left total' wanting' put old new' l m'
   grow_more some totals' less number_is put_is =
       let all = given_more s.fresh f in
       let g = a.given in
@@ -182,8 +182,8 @@ module _ {k : Key} {start n id first room left total wanting : ℕ} {items : Lis
       }
 
 -- a walk goes before
-pub grow_start : {k : Key} {start n id first own place total wanting : ℕ} {items : List Item} {old new : List Entry} {l m : Ledger} → IsWalked k n wanting items (bucket id first old) (bucket own place new) l m → own ≡ id → place ≡ first → total + wanting ≡ allocated_in old + n → Growing k start n id first start total wanting items old new l m
-grow_start {k} {n = n} {id = id} {first = first} {items = items} {old = old} {new = new} {l = l} {m = m} walked ids places totals =
+pub grow_start : {most : Option ℕ} {k : Key} {start n id first own place total wanting : ℕ} {items : List Item} {old new : List Entry} {l m : Ledger} → IsWalked k n wanting items (bucket id first old) (bucket own place new) l m → own ≡ id → place ≡ first → total + wanting ≡ allocated_in old + n → Growing most k start n id first start total wanting items old new l m
+grow_start {most} {k} {n = n} {id = id} {first = first} {items = items} {old = old} {new = new} {l = l} {m = m} walked ids places totals =
     let w : IsWalked k n _ items (bucket id first old) (bucket id first new) l m = rw (ids, places) at walked in
     let g = w.grant in
     let wants = w.wants in
@@ -203,11 +203,11 @@ grow_start {k} {n = n} {id = id} {first = first} {items = items} {old = old} {ne
       taken = subst (λ (g : Grant). HasTaken k n g items (bucket id first old) (bucket id first new) l m) grant w.taken;
     }
 
-pub grow_end : {k : Key} {start n id first own place room total wanting : ℕ} {items : List Item} {old new : List Entry} {l m : Ledger} → Growing k start n id first room total wanting items old new l m → wanting ≡ 0 → own ≡ id → place ≡ first → (done : Unit {0}) → IsTaken (Ok done) k start n items (bucket id first old) (bucket own place new) l m
+pub grow_end : {most : Option ℕ} {k : Key} {start n id first own place room total wanting : ℕ} {items : List Item} {old new : List Entry} {l m : Ledger} → Growing most k start n id first room total wanting items old new l m → wanting ≡ 0 → own ≡ id → place ≡ first → (done : Unit {0}) → IsTaken (Ok done) most k start n items (bucket id first old) (bucket own place new) l m
 grow_end s end ids places done = rw (ids, places) (all_so_far _ s.refused s.fresh s.parts, s.taken, refl, s.list end)
 
-pub grow_stop : (why : Stop) {k : Key} {start n id first own place room total wanting : ℕ} {items put : List Item} {old new newer : List Entry} {l m m' : Ledger} → 0 < wanting → Growing k start n id first room total wanting items old new l m → put ≡ items → newer ≡ new → own ≡ id → place ≡ first → IsRefused why m m' → StopsAtNew why k room → IsTaken (Err why) k start n put (bucket id first old) (bucket own place newer) l m'
-grow_stop why {k} {start} {n} {id} {old = old} {m = m} some s same_sets same_pools ids places refused in_room = rw (same_sets, same_pools, ids, places) (
+pub grow_stop : (why : Stop) {most : Option ℕ} {k : Key} {start n id first own place room total wanting : ℕ} {items put : List Item} {old new newer : List Entry} {l m m' : Ledger} → 0 < wanting → Growing most k start n id first room total wanting items old new l m → put ≡ items → newer ≡ new → own ≡ id → place ≡ first → IsRefused why m m' → StopsAtNew why k room → IsTaken (Err why) most k start n put (bucket id first old) (bucket own place newer) l m'
+grow_stop why {most} {k} {start} {n} {id} {old = old} {m = m} some s same_sets same_pools ids places refused in_room = rw (same_sets, same_pools, ids, places) (
   all_so_far _ s.refused s.fresh s.parts,
   m,
   s.taken,
@@ -215,7 +215,7 @@ grow_stop why {k} {start} {n} {id} {old = old} {m = m} some s same_sets same_poo
   refused,
 )
   where
-    stops_at : (why : Stop) → IsFreshPrefix k start (allocated_in (all_shared s.refused n old)) (rest s.refused n old) s.fresh → StopsAtNew why k (room_after k start s.fresh) → StopsAt why k start n (all_so_far id s.refused s.fresh s.parts) old
+    stops_at : (why : Stop) → IsFreshPrefix most k start (allocated_in (all_shared s.refused n old)) (rest s.refused n old) s.fresh → StopsAtNew why k (room_after k start s.fresh) → StopsAt why most k start n (all_so_far id s.refused s.fresh s.parts) old
     stops_at (stop.ExistingPoolRefused e) front none = absurd none
     stops_at why front none = (refl, front, none)
 

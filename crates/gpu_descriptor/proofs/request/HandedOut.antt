@@ -9,11 +9,12 @@ use Rattle.gpu_descriptor.proofs.request.Promises.{short}
 
 module _ {L P S : Type 0} {means : Meaning L P S} {k : Key} {count : ℕ} {sets : List (DescriptorSet S)} {ended : Result (Unit {0}) Stop} {old new : Allocations P} {before after : Ledger}
     (t : Takes means k count sets ended (side old before) (side new after)) (agree : Agree (state_of means.pool_name old before)) where
-  pub keeps_all : HasDistinctKeys (table_of means.pool_name new) → new.limit ≡ old.limit → marked_load_of new ≤ new.limit → pool_load_of new ≤ new.limit → Keeps means (side old before) (side new after)
-  keeps_all rows limit load pool_load =
+  pub keeps_all : HasDistinctKeys (table_of means.pool_name new) → new.limit ≡ old.limit → new.most ≡ old.most → marked_load_of new ≤ new.limit → pool_load_of new ≤ new.limit → Keeps means (side old before) (side new after)
+  keeps_all rows limit most load pool_load =
       record {
         agree = record { rows = rows; books = taken_agree t agree };
         limit = limit;
+        most = most;
         load = load;
         pool_load = pool_load;
         foreign = taken_leaves t agree;
@@ -21,11 +22,12 @@ module _ {L P S : Type 0} {means : Meaning L P S} {k : Key} {count : ℕ} {sets 
         others = taken_others_of t agree;
       }
 
-  pub keeps_back : {last : Allocations P} {final : Ledger} → Returns means sets (side new after) (side last final) → new.limit ≡ old.limit → Keeps means (side new after) (side last final) → Keeps means (side old before) (side last final)
-  keeps_back r limit then =
+  pub keeps_back : {last : Allocations P} {final : Ledger} → Returns means sets (side new after) (side last final) → new.limit ≡ old.limit → new.most ≡ old.most → Keeps means (side new after) (side last final) → Keeps means (side old before) (side last final)
+  keeps_back r limit most then =
       record {
         agree = then.agree;
         limit = then.limit ∙ limit;
+        most = then.most ∙ most;
         load = then.load;
         pool_load = then.pool_load;
         foreign = back_leaves t agree r.back;

@@ -1,13 +1,23 @@
 -- What a key's next pool takes of the room, and when its size was cut.
-use Rattle.gpu_descriptor.proofs.Common.{greatest_pool_size, ◌≡◌, ℕ, ◌+◌, ◌-◌, ◌*◌, ◌<◌, ◌≤◌, max, sum, List, [], ◌∷◌, ◌++◌, inl, inr, refl, sym, ◌∙◌, subst, arith, mul-le-mul_right, cases_Bool, IsPoolSize, sets_in_room, start_size, Key, Fresh, IsNextSize, AreSized, room_after, pool_descriptors}
-use Rattle.gpu_descriptor_types.proofs.Room.{few_in_room, fits_in_room, whole_in_room}
+use Rattle.gpu_descriptor.proofs.Common.{greatest_pool_size, ◌≡◌, ℕ, ◌+◌, ◌-◌, ◌*◌, ◌<◌, ◌≤◌, max, sum, List, [], ◌∷◌, ◌++◌, inl, inr, refl, sym, ◌∙◌, subst, arith, mul-le-mul_right, cases_Bool, if◌then◌else◌, Option, IsPoolSize, sets_in_room, start_size, Key, Fresh, IsNextSize, AreSized, room_after, pool_descriptors}
+use Rattle.gpu_descriptor_types.proofs.Room.{bounded_few, bounded_whole, few_in_room, fits_in_room, whole_in_room}
 use Rattle.gpu_descriptor_types.proofs.Sizes.{pool_size_small, pool_size_below}
 
 -- ---- a key's next pool
 
-module _ (k : Key) (room total wanted size : ℕ) (s : IsNextSize k room total wanted size) where
+module _ (most : Option ℕ) (k : Key) (room total wanted size : ℕ) (s : IsNextSize most k room total wanted size) where
+  -- how many sets it would hold without the bound
+  abbrev unbounded : ℕ
+  unbounded = if k.marked then sets_in_room room (sum k.counts) s.whole else s.whole
+
+  least : size ≤ unbounded
+  least = (let is = s.cut in let a = bounded_few most (sum k.counts) wanted unbounded in omega arith)
+
   few : size ≤ s.whole
-  few = grind (arith, s.cut, few_in_room room (sum k.counts) s.whole)
+  few = (
+      let a = least in
+      let b : unbounded ≤ s.whole = elim (cases_Bool k.marked) [ inl on ↦ rw on (few_in_room room (sum k.counts) s.whole) | inr off ↦ rw off (omega arith) ] in
+      omega arith)
 
   pub next_small : size ≤ greatest_pool_size
   next_small = (let a = few in let b = pool_size_small k.counts total wanted s.whole s.is_whole in omega arith)
@@ -18,7 +28,13 @@ module _ (k : Key) (room total wanted size : ℕ) (s : IsNextSize k room total w
   -- it fits
   pub next_fits : pool_descriptors k size ≤ room
   next_fits = elim (cases_Bool k.marked) [
-    | inl on ↦ (let is : size ≡ sets_in_room room (sum k.counts) s.whole = s.cut ∙ rw on refl in rw on (fits_in_room room (sum k.counts) s.whole size is s.some))
+    | inl on ↦ (
+        let is : unbounded ≡ sets_in_room room (sum k.counts) s.whole = rw on refl in
+        let some = s.some in
+        let below = least in
+        let all = fits_in_room room (sum k.counts) s.whole unbounded is (omega arith) in
+        let less = mul-le-mul_right (sum k.counts) least in
+        rw on (omega arith))
     | inr off ↦ rw off (omega arith)
   ]
 
@@ -34,14 +50,17 @@ module _ (k : Key) (room total wanted size : ℕ) (s : IsNextSize k room total w
         | inr off ↦ rw off (omega arith)
       ])
 
-  -- where it leaves room for another, it was not cut
-  pub next_whole : pool_descriptors k 1 ≤ room - pool_descriptors k size → IsPoolSize k.counts total wanted size
-  next_whole left = subst (λ n. IsPoolSize k.counts total wanted n) (sym is) s.is_whole
+  -- where it leaves room for another and is below what is wanting, it was not cut
+  pub next_whole : size < wanted → pool_descriptors k 1 ≤ room - pool_descriptors k size → IsPoolSize k.counts total wanted size
+  next_whole short left = subst (λ n. IsPoolSize k.counts total wanted n) (sym is) s.is_whole
     where
+      all : size ≡ unbounded
+      all = bounded_whole most (sum k.counts) wanted unbounded size s.cut short
+
       is : size ≡ s.whole
       is = elim (cases_Bool k.marked) [
-        | inl on ↦ (let at : size ≡ sets_in_room room (sum k.counts) s.whole = s.cut ∙ rw on refl in whole_in_room room (sum k.counts) s.whole size at s.some (rw on at left))
-        | inr off ↦ s.cut ∙ rw off refl
+        | inl on ↦ (let at : size ≡ sets_in_room room (sum k.counts) s.whole = all ∙ rw on refl in whole_in_room room (sum k.counts) s.whole size at s.some (rw on at left))
+        | inr off ↦ all ∙ rw off refl
       ]
 
 -- ---- several, one after another
@@ -51,6 +70,6 @@ room_more k room [] f = refl
 room_more k room (g ∷ pools) f = room_more k (room - pool_descriptors k g.size) pools f
 
 -- before the last of some there was room for one
-pub last_fits : (k : Key) (room total wanted : ℕ) (front : List Fresh) (last : Fresh) → AreSized k room total wanted (front ++ last ∷ []) → pool_descriptors k 1 ≤ room_after k room front
-last_fits k room total wanted [] last sized = one_fits k room total wanted last.size sized.0
-last_fits k room total wanted (f ∷ front) last sized = last_fits k (room - pool_descriptors k f.size) (total + f.given) (wanted - f.given) front last sized.1
+pub last_fits : (most : Option ℕ) (k : Key) (room total wanted : ℕ) (front : List Fresh) (last : Fresh) → AreSized most k room total wanted (front ++ last ∷ []) → pool_descriptors k 1 ≤ room_after k room front
+last_fits most k room total wanted [] last sized = one_fits most k room total wanted last.size sized.0
+last_fits most k room total wanted (f ∷ front) last sized = last_fits most k (room - pool_descriptors k f.size) (total + f.given) (wanted - f.given) front last sized.1

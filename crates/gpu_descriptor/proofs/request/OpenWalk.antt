@@ -1,5 +1,5 @@
 -- The walk over the open pools: the pools between them have nothing to give.
-use Rattle.gpu_descriptor.proofs.Common.{◌≡◌, ℕ, suc, ◌+◌, ◌-◌, ◌<◌, ◌≤◌, List, [], ◌∷◌, ◌++◌, length, min, slice_set, if◌then◌else◌, Some, Err, refl, sym, ap, ◌∙◌, arith, inl, inr, map, length-map, map-set, length-set, slice_get-map, slice_get_within, lt-ltb, cases_lt, slice_get, option_map, Ledger, Counters, DescriptorPool, Item, Key, Entry, DeviceAllocationError, AreBookedIn, IsBookedIn, free_in, open_numbers, entry_of, IsAsked, IsNoMemory, IsTaken, items_at}
+use Rattle.gpu_descriptor.proofs.Common.{◌≡◌, ℕ, suc, ◌+◌, ◌-◌, ◌<◌, ◌≤◌, List, [], ◌∷◌, ◌++◌, length, min, slice_set, if◌then◌else◌, None, Some, Err, refl, sym, ap, ◌∙◌, arith, inl, inr, map, length-map, map-set, length-set, slice_get-map, slice_get_within, lt-ltb, cases_lt, slice_get, option_map, Ledger, Counters, DescriptorPool, Item, Key, Entry, DeviceAllocationError, AreBookedIn, IsBookedIn, free_in, open_numbers, entry_of, IsAsked, IsNoMemory, IsTaken, items_at}
 use Rattle.gpu_descriptor.specs.declared.bucket.stop.Stop.TheVariants.{ExistingPoolRefused}
 use Rattle.gpu_descriptor.proofs.table.Exact.{bucket}
 use Rattle.gpu_descriptor.proofs.lists.OpenList.{listed_closes, listed_stays}
@@ -102,7 +102,7 @@ module _ {P : Type 0} {name : P → ℕ} {k : Key} {n id first wanting : ℕ} {o
               walking = rw (now, map-set (entry_of name) items i q) next;
             })
 
-        pub open_walk_stop : {own start : ℕ} (room : ℕ) (error : DeviceAllocationError) (m' : Ledger) → id ≡ own → first ≡ start → entry_of name q ≡ entry_of name p → IsNoMemory wanting (entry_of name p) error m m' → IsTaken (Err (ExistingPoolRefused error)) k room n out (bucket own start old) (bucket id first (map (entry_of name) (slice_set items (number - first) q))) l m'
+        pub open_walk_stop : {own start : ℕ} (room : ℕ) (error : DeviceAllocationError) (m' : Ledger) → id ≡ own → first ≡ start → entry_of name q ≡ entry_of name p → IsNoMemory wanting (entry_of name p) error m m' → IsTaken (Err (ExistingPoolRefused error)) None k room n out (bucket own start old) (bucket id first (map (entry_of name) (slice_set items (number - first) q))) l m'
         open_walk_stop room error m' ids starts same none = rw (sym ids, sym starts, map-set (entry_of name) items (number - first) q) (walk_stop k room n id first (number - first) wanting out old (map (entry_of name) items) l m m' (entry_of name p) (entry_of name q) error walk_reaches was entry_at_place same none)
 
         pub listed_now_same : entry_of name q ≡ entry_of name p → numbers ≡ open_numbers first (free_in (slice_set items (number - first) q))

@@ -26,13 +26,13 @@ record Had (k : Key) (n : ℕ) (items : List Item) (old new : Bucket) (l m : ℕ
   bucket : new ≡ bucket_with n g old
   ledger : m ≡ ledger_with k g l
 
-had_taken : (ended : Result (Unit {0}) Stop) (k : Key) (room n : ℕ) (items : List Item) (old new : Bucket) (l m : Ledger) → IsTaken ended k room n items old new l m → Had k n items old new l.pools m.pools
-had_taken (Ok x) k room n items old new l m t = record { g = t.0; grant = t.1.grant; made = made_all k t.0.fresh room _ _ t.3; came = t.1.came; bucket = t.1.bucket; ledger = t.1.pools }
-had_taken (Err why) k room n items old new l m t = record { g = t.0; grant = t.2.grant; made = made_before why t.3; came = t.2.came; bucket = t.2.bucket; ledger = t.4.pools ∙ t.2.pools }
+had_taken : (ended : Result (Unit {0}) Stop) (most : Option ℕ) (k : Key) (room n : ℕ) (items : List Item) (old new : Bucket) (l m : Ledger) → IsTaken ended most k room n items old new l m → Had k n items old new l.pools m.pools
+had_taken (Ok x) most k room n items old new l m t = record { g = t.0; grant = t.1.grant; made = made_all most k t.0.fresh room _ _ t.3; came = t.1.came; bucket = t.1.bucket; ledger = t.1.pools }
+had_taken (Err why) most k room n items old new l m t = record { g = t.0; grant = t.2.grant; made = made_before why t.3; came = t.2.came; bucket = t.2.bucket; ledger = t.4.pools ∙ t.2.pools }
   where
-    made_before : (why : Stop) → StopsAt why k room n t.0 old.pools → AreMade t.0.fresh
+    made_before : (why : Stop) → StopsAt why most k room n t.0 old.pools → AreMade t.0.fresh
     made_before (stop.ExistingPoolRefused e) at = subst AreMade (sym at.no_fresh) tt
-    made_before why at = made_prefix k t.0.fresh _ _ _ at.1.sized at.1.full
+    made_before why at = made_prefix most k t.0.fresh _ _ _ at.1.sized at.1.full
 
 module _ {L P S : Type 0} {means : Meaning L P S} {k : Key} {count : ℕ} {sets : List (DescriptorSet S)} {ended : Result (Unit {0}) Stop} {old new : Allocations P} {before after : Ledger}
     (t : Takes means k count sets ended (side old before) (side new after)) (agree : Agree (state_of means.pool_name old before)) where
@@ -50,7 +50,7 @@ module _ {L P S : Type 0} {means : Meaning L P S} {k : Key} {count : ℕ} {sets 
   state = λ i. record { books = fun_ext t.serves.books i; ledger = after.pools }
 
   had : Had k count items (s.books k) t.serves.bucket s.ledger after.pools
-  had = had_taken ended k room count items (s.books k) t.serves.bucket before after t.serves.served.taken
+  had = had_taken ended old.most k room count items (s.books k) t.serves.bucket before after t.serves.served.taken
 
   as_granted : granted k count had.g s ≡ state_of means.pool_name new after
   as_granted = sym (state ∙ (λ i. with_bucket k (had.bucket i) (had.ledger i) s))
@@ -113,7 +113,7 @@ module _ {L P S : Type 0} {means : Meaning L P S} {k : Key} {count : ℕ} {sets 
       now : state_of means.pool_name new after ≡ granted k count g s
       now = state ∙ (λ i. with_bucket k (taken.bucket i) ((refused.pools ∙ taken.pools) i) s)
 
-      rolls : StopsAt why k room count g (s.books k).pools → Rolls why
+      rolls : StopsAt why old.most k room count g (s.books k).pools → Rolls why
       rolls at = (
         stopped (proceeds distinct some last final _) (record {
           why = why;
@@ -136,7 +136,7 @@ module _ {L P S : Type 0} {means : Meaning L P S} {k : Key} {count : ℕ} {sets 
 
     pub went_back : {why : Stop} → ended ≡ Err why → Rolls why
     went_back {why} is =
-        let taken = subst (λ (r : Result (Unit {0}) Stop). IsTaken r k room count items (s.books k) t.serves.bucket before after) is t.serves.served.taken in
+        let taken = subst (λ (r : Result (Unit {0}) Stop). IsTaken r old.most k room count items (s.books k) t.serves.bucket before after) is t.serves.served.taken in
         rolls why taken.0 taken.1 taken.2 taken.4 taken.3
 
   module _ {last : Allocations P} {final : Ledger} {calls : ℕ} (back : GivesBack means sets calls (side new after) (side last final)) where
@@ -175,8 +175,8 @@ module _ {L P S : Type 0} {means : Meaning L P S} {k : Key} {count : ℕ} {sets 
 
   -- ---- the sets are kept
 
-  all_of : {x : Unit {0}} → ended ≡ Ok x → IsTaken (Ok x) k room count items (s.books k) t.serves.bucket before after
-  all_of is = subst (λ (r : Result (Unit {0}) Stop). IsTaken r k room count items (s.books k) t.serves.bucket before after) is t.serves.served.taken
+  all_of : {x : Unit {0}} → ended ≡ Ok x → IsTaken (Ok x) old.most k room count items (s.books k) t.serves.bucket before after
+  all_of is = subst (λ (r : Result (Unit {0}) Stop). IsTaken r old.most k room count items (s.books k) t.serves.bucket before after) is t.serves.served.taken
 
   pub kept_many : {x : Unit {0}} → ended ≡ Ok x → length sets ≡ count
   kept_many is = subst (λ (r : Result (Unit {0}) Stop). OnOk r (length sets ≡ count)) is t.serves.served.all

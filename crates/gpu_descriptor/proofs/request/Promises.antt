@@ -1,5 +1,5 @@
 -- What every outcome of a request promises.
-use Rattle.gpu_descriptor.proofs.Common.{◌≡◌, ◌≢◌, ℕ, suc, ◌+◌, ◌-◌, ◌*◌, ◌<◌, ◌≤◌, Bool, List, [], ◌∷◌, map, length, sum_by, inl, inr, refl, sym, ap, ◌∙◌, subst, arith, length-map, length-append, sum_by-cons, sum_by-append, pool_size_floor, ◌↔◌, min, OnOk, Counters, create_refused, alloc_refused, no_rise, CreatePoolError, DeviceAllocationError, Stop, Item, Key, Entry, cases_lt, ◌⊎◌, Allocates, Call, IsBack, IsDone, IsStopped, StopsAt, out_then, stop_rise, wanting, Fresh, IsFreshPrefix, IsNextSize, room_after, AreSized, AreFull, IsFreshList, given_by, Grant, Part, portion_of, items_at, items_in, AreBelowTwice, IsShort, CreatesOnlyWhereShort, pool_descriptors, Portion, offer, rest, portions_of}
+use Rattle.gpu_descriptor.proofs.Common.{◌≡◌, ◌≢◌, ℕ, suc, ◌+◌, ◌-◌, ◌*◌, ◌<◌, ◌≤◌, Bool, Option, List, [], ◌∷◌, map, length, sum_by, inl, inr, refl, sym, ap, ◌∙◌, subst, arith, length-map, length-append, sum_by-cons, sum_by-append, pool_size_floor, ◌↔◌, min, OnOk, Counters, create_refused, alloc_refused, no_rise, CreatePoolError, DeviceAllocationError, Stop, Item, Key, Entry, cases_lt, ◌⊎◌, Allocates, Call, IsBack, IsDone, IsStopped, StopsAt, out_then, stop_rise, wanting, Fresh, IsFreshPrefix, IsNextSize, room_after, AreSized, AreFull, IsFreshList, given_by, Grant, Part, portion_of, items_at, items_in, AreBelowTwice, IsShort, CreatesOnlyWhereShort, pool_descriptors, Portion, offer, rest, portions_of}
 use Rattle.gpu_descriptor_types.proofs.Sizes.{pool_size_some}
 use Rattle.gpu_descriptor.specs.declared.bucket.stop.Stop.TheVariants as stop
 use Rattle.gpu_descriptor.specs.Model.Outcomes.Allocates.{none, above_limit as was_above_limit, past_bound as was_past_bound, no_memory_at_start as had_no_memory, done, stopped}
@@ -34,19 +34,19 @@ shares_sum refused n number (e ∷ newer) =
 -- ---- pools are created only where the existing ones fall short
 
 -- a pool that was not cut, gave all it has, and didn't do gave the least that a pool holds
-whole_gave : (k : Key) (room total wanted : ℕ) (f : Fresh) → IsNextSize k room total wanted f.size → pool_descriptors k 1 ≤ room - pool_descriptors k f.size → f.given ≡ f.size → f.given < wanted → pool_size_floor k.counts ≤ f.given
-whole_gave k room total wanted f next left full short = (let some = pool_size_some k.counts total wanted f.size (next_whole k room total wanted f.size next left) in omega arith)
+whole_gave : (most : Option ℕ) (k : Key) (room total wanted : ℕ) (f : Fresh) → IsNextSize most k room total wanted f.size → pool_descriptors k 1 ≤ room - pool_descriptors k f.size → f.given ≡ f.size → f.given < wanted → pool_size_floor k.counts ≤ f.given
+whole_gave most k room total wanted f next left full short = (let some = pool_size_some k.counts total wanted f.size (next_whole most k room total wanted f.size next (omega arith) left) in omega arith)
 
 -- new pools that gave all they have and didn't do are few; with room left for one more so are they and that one. The last may have been cut
-few : (k : Key) (room total wanted : ℕ) (pools : List Fresh) → AreSized k room total wanted pools → AreFull pools → given_by pools < wanted → (more : ℕ) → (more ≡ 0) ⊎ ((more ≡ pool_size_floor k.counts) × (pool_descriptors k 1 ≤ room_after k room pools)) → length pools * pool_size_floor k.counts + more ≤ given_by pools + pool_size_floor k.counts
-few k room total wanted [] sized full short more why = elim why [ inl nothing ↦ (omega arith) | inr one ↦ (let is = one.0 in omega arith) ]
-few k room total wanted (f ∷ []) sized full short more why = elim why [ inl nothing ↦ (omega arith) | inr one ↦ (let is = one.0 in let gave = whole_gave k room total wanted f sized.0 one.1 full.0 (omega arith) in omega arith) ]
-few k room total wanted (f ∷ h ∷ pools) sized full short more why =
+few : (most : Option ℕ) (k : Key) (room total wanted : ℕ) (pools : List Fresh) → AreSized most k room total wanted pools → AreFull pools → given_by pools < wanted → (more : ℕ) → (more ≡ 0) ⊎ ((more ≡ pool_size_floor k.counts) × (pool_descriptors k 1 ≤ room_after k room pools)) → length pools * pool_size_floor k.counts + more ≤ given_by pools + pool_size_floor k.counts
+few most k room total wanted [] sized full short more why = elim why [ inl nothing ↦ (omega arith) | inr one ↦ (let is = one.0 in omega arith) ]
+few most k room total wanted (f ∷ []) sized full short more why = elim why [ inl nothing ↦ (omega arith) | inr one ↦ (let is = one.0 in let gave = whole_gave most k room total wanted f sized.0 one.1 full.0 (omega arith) in omega arith) ]
+few most k room total wanted (f ∷ h ∷ pools) sized full short more why =
     let sum = sum_by-cons (λ (g : Fresh). g.given) f (h ∷ pools) in
     let is = full.0 in
-    let left = one_fits k (room - pool_descriptors k f.size) (total + f.given) (wanted - f.given) h.size sized.1.0 in
-    let gave = whole_gave k room total wanted f sized.0 left is (omega arith) in
-    let rest = few k (room - pool_descriptors k f.size) (total + f.given) (wanted - f.given) (h ∷ pools) sized.1 full.1 (omega arith) more why in
+    let left = one_fits most k (room - pool_descriptors k f.size) (total + f.given) (wanted - f.given) h.size sized.1.0 in
+    let gave = whole_gave most k room total wanted f sized.0 left is (omega arith) in
+    let rest = few most k (room - pool_descriptors k f.size) (total + f.given) (wanted - f.given) (h ∷ pools) sized.1 full.1 (omega arith) more why in
     omega arith
 
 pools_short : (c : Call) (g : Grant) → 0 < wanting c g → AreBelowTwice (out_then c g) (wanting c g) g.fresh → OnOk c.answer (AreFilled c) → (n : ℕ) → c.after.created ≡ c.before.created + n → n * pool_size_floor c.key.counts < wanting c g + pool_size_floor c.key.counts → IsShort c g
@@ -62,23 +62,23 @@ pools_short c g some below filled n rise few = record {
 }
 
 -- after a front
-prefix_short : (c : Call) (s : IsStopped c) (why : Stop) (room : ℕ) → IsBack c s.grant why → IsFreshPrefix c.key room (out_then c s.grant) (wanting c s.grant) s.grant.fresh
+prefix_short : (c : Call) (s : IsStopped c) (why : Stop) (room : ℕ) → IsBack c s.grant why → IsFreshPrefix c.most c.key room (out_then c s.grant) (wanting c s.grant) s.grant.fresh
     → ((stop_rise why).created * pool_size_floor c.key.counts ≡ 0) ⊎ (((stop_rise why).created * pool_size_floor c.key.counts ≡ pool_size_floor c.key.counts) × (pool_descriptors c.key 1 ≤ room_after c.key room s.grant.fresh)) → IsShort c s.grant
 prefix_short c s why room back front more =
     let short = front.short in
     let n = ap (λ (k : Counters). k.created) back.counters in
-    let all = few c.key room _ _ s.grant.fresh front.sized front.full short ((stop_rise why).created * pool_size_floor c.key.counts) more in
-    pools_short c s.grant (omega arith) (prefix_below c.key room _ _ s.grant.fresh front.sized front.full short) (rw back.answer tt) (length s.grant.fresh + (stop_rise why).created) (omega arith) (omega arith)
+    let all = few c.most c.key room _ _ s.grant.fresh front.sized front.full short ((stop_rise why).created * pool_size_floor c.key.counts) more in
+    pools_short c s.grant (omega arith) (prefix_below c.most c.key room _ _ s.grant.fresh front.sized front.full short) (rw back.answer tt) (length s.grant.fresh + (stop_rise why).created) (omega arith) (omega arith)
 
 -- a list that gave all
-done_short : (c : Call) (d : IsDone c) → IsFreshList c.key (c.limit - d.pooled) (out_then c d.grant) (wanting c d.grant) d.grant.fresh → 0 < length d.grant.fresh → IsShort c d.grant
+done_short : (c : Call) (d : IsDone c) → IsFreshList c.most c.key (c.limit - d.pooled) (out_then c d.grant) (wanting c d.grant) d.grant.fresh → 0 < length d.grant.fresh → IsShort c d.grant
 done_short c d (no_fresh zero_wanted empty) some = (let e = ap length empty in absurd (omega arith))
 done_short c d (some_fresh front last parts short sized le given) some =
     let g : Grant = d.grant in
     let m : ℕ = pool_size_floor c.key.counts in
-    let whole_sized = subst (AreSized c.key (c.limit - d.pooled) (out_then c g) (wanting c g)) parts sized in
-    let all = few c.key (c.limit - d.pooled) _ _ front short.sized short.full short.short m (inr (refl, last_fits c.key _ _ _ front last whole_sized)) in
-    let below = subst (AreBelowTwice (out_then c g) (wanting c g)) (sym parts) (list_below c.key (c.limit - d.pooled) (out_then c g) (wanting c g) front last whole_sized short.full short.short) in
+    let whole_sized = subst (AreSized c.most c.key (c.limit - d.pooled) (out_then c g) (wanting c g)) parts sized in
+    let all = few c.most c.key (c.limit - d.pooled) _ _ front short.sized short.full short.short m (inr (refl, last_fits c.most c.key _ _ _ front last whole_sized)) in
+    let below = subst (AreBelowTwice (out_then c g) (wanting c g)) (sym parts) (list_below c.most c.key (c.limit - d.pooled) (out_then c g) (wanting c g) front last whole_sized short.full short.short) in
     let less = short.short in
     let long = ap length parts ∙ length-append front (last ∷ []) in
     let same : length g.fresh ≡ suc (length front) = omega arith in
@@ -98,7 +98,7 @@ fits : {why : Stop} {one room : ℕ} → (why ≡ stop.NoRoomUnderLimit) ↔ (ro
 fits {one = one} {room = room} told other = elim (cases_lt room one) [ inl lt ↦ absurd (other (told.1 lt)) | inr le ↦ le ]
 
 module _ (c : Call) where
-  stop_short : (s : IsStopped c) (why : Stop) → IsBack c s.grant why → StopsAt why c.key (c.limit - s.pooled) c.count s.grant (c.old.books c.key).pools → c.before.created < c.after.created → IsShort c s.grant
+  stop_short : (s : IsStopped c) (why : Stop) → IsBack c s.grant why → StopsAt why c.most c.key (c.limit - s.pooled) c.count s.grant (c.old.books c.key).pools → c.before.created < c.after.created → IsShort c s.grant
   stop_short s (stop.ExistingPoolRefused e) back at more =
       let n = ap (λ (k : Counters). k.created) back.counters in
       let none = alloc_creates e in

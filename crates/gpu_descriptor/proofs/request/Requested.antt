@@ -1,7 +1,7 @@
 -- What a request leaves of an allocator: why it is declined before the walk, and what it took.
 use Rattle.gpu_descriptor.proofs.sums.TableSums.{adds_up, outstanding_of-table, marked_load_of-table, pool_load_of-table}
 use Rattle.gpu_descriptor.specs.Model.Books.{AddsUp}
-use Rattle.gpu_descriptor.proofs.Common.{side, Meaning, greatest_u64, [], ◌≡◌, ℕ, ◌+◌, ◌-◌, ◌*◌, ◌<◌, ◌≤◌, ◌&&◌, Bool, true, false, List, map, length, sum, Result, Err, inl, inr, refl, sym, ap, subst, ◌∙◌, arith, mul-le-mul_right, cases_Bool, and_parts, ltb-true, ltb-false, IsDistinct, nat_lt, ◌⊎◌, kinds, Ledger, AllocationError, BucketKey, DescriptorSet, DescriptorBucket, Stop, Key, key_eq, Bucket, BucketOf, HasDistinctKeys, books_of, next_number, sum_over, key_of, Allocations, bucket_load, descriptors_out, set_descriptors, sets_out, IsWithinLimit, call_of, IsDeclined, IsUnserved, IsSound, ServesKey, Takes, named_row, state_of, table_of, outstanding_of, marked_load_of, pool_load_of, IsConsistent, row_of, stored_keys, books_in}
+use Rattle.gpu_descriptor.proofs.Common.{side, Meaning, greatest_u64, [], ◌≡◌, ℕ, ◌+◌, ◌-◌, ◌*◌, ◌<◌, ◌≤◌, ◌&&◌, Bool, true, false, List, map, length, sum, Option, Result, Err, inl, inr, refl, sym, ap, subst, ◌∙◌, arith, mul-le-mul_right, cases_Bool, and_parts, ltb-true, ltb-false, IsDistinct, nat_lt, ◌⊎◌, kinds, Ledger, AllocationError, BucketKey, DescriptorSet, DescriptorBucket, Stop, Key, key_eq, Bucket, BucketOf, HasDistinctKeys, books_of, next_number, sum_over, key_of, Allocations, bucket_load, descriptors_out, set_descriptors, sets_out, IsWithinLimit, call_of, IsDeclined, IsUnserved, IsSound, ServesKey, Takes, named_row, state_of, table_of, outstanding_of, marked_load_of, pool_load_of, IsConsistent, row_of, stored_keys, books_in}
 use Rattle.gpu_descriptor.specs.declared.errors.AllocationError.TheVariants.{Fragmentation}
 use Rattle.gpu_descriptor.specs.Model.Outcomes.Allocates.{above_limit, past_bound, no_memory_at_start}
 use Rattle.gpu_descriptor.proofs.table.TableBooks.{rows_are, distinct_rows}
@@ -19,36 +19,36 @@ module _ {P : Type 0} (a : Allocations P) (es : List (BucketKey × DescriptorBuc
   books_at name before k = ap (λ (t : List (Key × BucketOf P)). books_of (map (named_row name) t) k) is
 
 -- the fields of an allocator, as callers see them
-abbrev pub seen : {P : Type 0} → ℕ → ℕ → ℕ → List (BucketKey × DescriptorBucket P) → Allocations P
-seen most looks compared es = record { limit = most; table = map row_of es; looks = looks; comparisons = compared }
+abbrev pub seen : {P : Type 0} → ℕ → Option ℕ → ℕ → ℕ → List (BucketKey × DescriptorBucket P) → Allocations P
+seen limit most looks compared es = record { limit = limit; most = most; table = map row_of es; looks = looks; comparisons = compared }
 
 -- no key has two rows, where the table has none twice
 pub rows_distinct : {P : Type 0} (name : P → ℕ) (es : List (BucketKey × DescriptorBucket P)) → IsDistinct key_eq (stored_keys es) → HasDistinctKeys (map (named_row name) (map row_of es))
 rows_distinct name es distinct = subst HasDistinctKeys (sym (rows_are name es)) (distinct_rows name es distinct)
 
 -- a table without keys
-pub counted_none : {P : Type 0} (most : ℕ) → IsConsistent {P = P} most 0 most 0 []
-counted_none most = record { is_load = refl; within = omega arith; is_room = omega arith; is_out = refl }
+pub counted_none : {P : Type 0} (max : ℕ) → IsConsistent {P = P} max 0 max 0 []
+counted_none max = record { is_load = refl; within = omega arith; is_room = omega arith; is_out = refl }
 
-module _ {P : Type 0} {a : Allocations P} {most looks compared : ℕ} (es : List (BucketKey × DescriptorBucket P)) (is : seen most looks compared es ≡ a) where
+module _ {P : Type 0} {a : Allocations P} {max looks compared : ℕ} {most : Option ℕ} (es : List (BucketKey × DescriptorBucket P)) (is : seen max most looks compared es ≡ a) where
   pub table_is : a.table ≡ map row_of es
   table_is = ap (λ (x : Allocations P). x.table) (sym is)
 
   -- where nothing was written, callers see the same
-  pub seen_again : {looked : ℕ} (fs : List (BucketKey × DescriptorBucket P)) → fs ≡ es → looked ≡ looks → seen most looked compared fs ≡ a
-  seen_again fs rows count = (λ i. seen most (count i) compared (rows i)) ∙ is
+  pub seen_again : {looked : ℕ} {bound : Option ℕ} (fs : List (BucketKey × DescriptorBucket P)) → fs ≡ es → looked ≡ looks → bound ≡ most → seen max bound looked compared fs ≡ a
+  seen_again fs rows count stays = (λ i. seen max (stays i) (count i) compared (rows i)) ∙ is
 
   pub rows_apart : (name : P → ℕ) → IsDistinct key_eq (stored_keys es) → HasDistinctKeys (table_of name a)
   rows_apart name apart = subst (λ (x : Allocations P). HasDistinctKeys (table_of name x)) is (rows_distinct name es apart)
 
-  pub load_within : {marked room out : ℕ} → IsConsistent most marked room out es → marked_load_of a ≤ a.limit
+  pub load_within : {marked room out : ℕ} → IsConsistent max marked room out es → marked_load_of a ≤ a.limit
   load_within counted = subst (λ (x : Allocations P). marked_load_of x ≤ x.limit) is (let load = counted.is_load in let within = counted.within in omega arith)
 
-  pub pool_load_within : {marked room out : ℕ} → IsConsistent most marked room out es → pool_load_of a ≤ a.limit
+  pub pool_load_within : {marked room out : ℕ} → IsConsistent max marked room out es → pool_load_of a ≤ a.limit
   pool_load_within counted = subst (λ (x : Allocations P). pool_load_of x ≤ x.limit) is (let room = counted.is_room in omega arith)
 
 -- the rows of an allocator and its limit
-module _ {P : Type 0} {a : Allocations P} {most looks compared marked room out : ℕ} {es : List (BucketKey × DescriptorBucket P)} (is : seen most looks compared es ≡ a) (counted : IsConsistent most marked room out es) (apart : IsDistinct key_eq (stored_keys es)) where
+module _ {P : Type 0} {a : Allocations P} {max looks compared marked room out : ℕ} {most : Option ℕ} {es : List (BucketKey × DescriptorBucket P)} (is : seen max most looks compared es ≡ a) (counted : IsConsistent max marked room out es) (apart : IsDistinct key_eq (stored_keys es)) where
   pub keeps_limit : (name : P → ℕ) → IsSound name a
   keeps_limit name = record { rows = rows_apart es is name apart; load = load_within es is counted; pool_load = pool_load_within es is counted }
 
@@ -65,7 +65,7 @@ module _ {L P S : Type 0} (means : Meaning L P S) (a : Allocations P) (before : 
 
 -- ---- the tests of a request, over the fields of an allocator
 
-module _ {L P S : Type 0} (means : Meaning L P S) {a : Allocations P} {most looks compared marked room out : ℕ} {es : List (BucketKey × DescriptorBucket P)} (is : seen most looks compared es ≡ a) (counted : IsConsistent most marked room out es) (apart : IsDistinct key_eq (stored_keys es)) (before : Ledger)
+module _ {L P S : Type 0} (means : Meaning L P S) {a : Allocations P} {max looks compared marked room out : ℕ} {most : Option ℕ} {es : List (BucketKey × DescriptorBucket P)} (is : seen max most looks compared es ≡ a) (counted : IsConsistent max marked room out es) (apart : IsDistinct key_eq (stored_keys es)) (before : Ledger)
     (key : BucketKey) {count : ℕ} (some : 0 < count) {above : Bool} (test : above ≡ (key.update_after_bind && nat_lt a.limit (count * sum (kinds key.counts) + marked_load_of a))) where
   abbrev Declines : AllocationError → Type 0
   Declines error = IsDeclined (call_of means (key_of key) count (side a before) (side a before) (Err error))
@@ -103,14 +103,14 @@ module _ {L P S : Type 0} (means : Meaning L P S) {a : Allocations P} {most look
     ])
 
 -- a request that passed them, and took what its key has
-module _ {L P S : Type 0} {means : Meaning L P S} {key : BucketKey} {room count : ℕ} {sets : List (DescriptorSet S)} {ended : Result (Unit {0}) Stop} {es : List (BucketKey × DescriptorBucket P)} (fs : List (BucketKey × DescriptorBucket P)) {before after : Ledger}
-    (s : ServesKey means (key_of key) room count sets ended (map row_of es) (map row_of fs) before after) {a : Allocations P} {most looks compared marked out : ℕ} (is : seen most looks compared es ≡ a) (counted : IsConsistent most marked room out es)
+module _ {L P S : Type 0} {means : Meaning L P S} {most : Option ℕ} {key : BucketKey} {room count : ℕ} {sets : List (DescriptorSet S)} {ended : Result (Unit {0}) Stop} {es : List (BucketKey × DescriptorBucket P)} (fs : List (BucketKey × DescriptorBucket P)) {before after : Ledger}
+    (s : ServesKey means most (key_of key) room count sets ended (map row_of es) (map row_of fs) before after) {a : Allocations P} {max looks compared marked out : ℕ} (is : seen max most looks compared es ≡ a) (counted : IsConsistent max marked room out es)
     {above : Bool} (test : above ≡ (key.update_after_bind && nat_lt a.limit (count * sum (kinds key.counts) + marked_load_of a))) (below : above ≡ false) where
   sets_within : key.update_after_bind ≡ true → count * sum (kinds key.counts) + marked_load_of a ≤ a.limit
   sets_within = within_of key.update_after_bind a.limit (count * sum (kinds key.counts) + marked_load_of a) (sym test ∙ below)
 
   -- their descriptors keep the limit
-  pub given_fits : {given : ℕ} → given ≡ length sets → set_descriptors (key_of key) given + marked ≤ most
+  pub given_fits : {given : ℕ} → given ≡ length sets → set_descriptors (key_of key) given + marked ≤ max
   given_fits {given} long = elim (cases_Bool key.update_after_bind) [
     | inl on ↦ (
         let few = s.served.few in
@@ -124,7 +124,7 @@ module _ {L P S : Type 0} {means : Meaning L P S} {key : BucketKey} {room count 
     | inr off ↦ (let none : set_descriptors (key_of key) given ≡ 0 = rw off refl in let all = counted.within in omega arith)
   ]
 
-  pub counted_now : {given more left : ℕ} → given ≡ length sets → more ≡ set_descriptors (key_of key) given → left + sum_over bucket_load (map row_of fs) ≡ room + sum_over bucket_load (map row_of es) → IsConsistent most (marked + more) left (out + given) fs
+  pub counted_now : {given more left : ℕ} → given ≡ length sets → more ≡ set_descriptors (key_of key) given → left + sum_over bucket_load (map row_of fs) ≡ room + sum_over bucket_load (map row_of es) → IsConsistent max (marked + more) left (out + given) fs
   counted_now long load moved =
       let fits = given_fits long in
       let same = ap (set_descriptors (key_of key)) long in
@@ -135,14 +135,14 @@ module _ {L P S : Type 0} {means : Meaning L P S} {key : BucketKey} {room count 
       let many = s.out in
       record { is_load = omega arith; within = omega arith; is_room = omega arith; is_out = omega arith }
 
-  pub takes_of : {past : Bool} → past ≡ nat_lt greatest_u64 (out + count) → past ≡ false → {looked : ℕ} → Takes means (key_of key) count sets ended (side a before) (side (seen most looked compared fs) after)
-  takes_of bounded kept_in {looked} =
+  pub takes_of : {past : Bool} → past ≡ nat_lt greatest_u64 (out + count) → past ≡ false → {looked : ℕ} {bound : Option ℕ} → Takes means (key_of key) count sets ended (side a before) (side (seen max bound looked compared fs) after)
+  takes_of bounded kept_in {looked} {bound} =
       let fits = ltb-false greatest_u64 (out + count) (sym bounded ∙ kept_in) in
       let all = ap outstanding_of is in
       let is_out = counted.is_out in
-      let room_is : room ≡ most - sum_over bucket_load (map row_of es) = (let is_room = counted.is_room in omega arith) in
+      let room_is : room ≡ max - sum_over bucket_load (map row_of es) = (let is_room = counted.is_room in omega arith) in
       record {
         within = sets_within;
         fits = omega arith;
-        serves = subst (λ (x : Allocations P). ServesKey means (key_of key) (x.limit - pool_load_of x) count sets ended x.table (map row_of fs) before after) is (subst (λ (r : ℕ). ServesKey means (key_of key) r count sets ended (map row_of es) (map row_of fs) before after) room_is s);
+        serves = subst (λ (x : Allocations P). ServesKey means x.most (key_of key) (x.limit - pool_load_of x) count sets ended x.table (map row_of fs) before after) is (subst (λ (r : ℕ). ServesKey means most (key_of key) r count sets ended (map row_of es) (map row_of fs) before after) room_is s);
       }

@@ -138,17 +138,17 @@ abbrev pub AreMade : List Fresh → Type 0
 AreMade [] = Unit {0}
 AreMade (f ∷ fs) = (1 ≤ f.size) × (f.size ≤ greatest_pool_size) × (f.given ≤ f.size) × AreMade fs
 
-pub made_prefix : (k : Key) (fs : List Fresh) (room total wanted : ℕ) → AreSized k room total wanted fs → AreFull fs → AreMade fs
-made_prefix k [] room total wanted sized full = tt
-made_prefix k (f ∷ fs) room total wanted sized full = (sized.0.some, next_small k _ _ _ f.size sized.0, (let is = full.0 in omega arith), made_prefix k fs _ _ _ sized.1 full.1)
+pub made_prefix : (most : Option ℕ) (k : Key) (fs : List Fresh) (room total wanted : ℕ) → AreSized most k room total wanted fs → AreFull fs → AreMade fs
+made_prefix most k [] room total wanted sized full = tt
+made_prefix most k (f ∷ fs) room total wanted sized full = (sized.0.some, next_small most k _ _ _ f.size sized.0, (let is = full.0 in omega arith), made_prefix most k fs _ _ _ sized.1 full.1)
 
-pub made_list : (k : Key) (front : List Fresh) (last : Fresh) (room total wanted : ℕ) → AreSized k room total wanted (front ++ last ∷ []) → AreFull front → last.given ≤ last.size → AreMade (front ++ last ∷ [])
-made_list k [] last room total wanted sized full few = (sized.0.some, next_small k _ _ _ _ sized.0, few, tt)
-made_list k (f ∷ front) last room total wanted sized full few = (sized.0.some, next_small k _ _ _ f.size sized.0, (let is = full.0 in omega arith), made_list k front last _ _ _ sized.1 full.1 few)
+pub made_list : (most : Option ℕ) (k : Key) (front : List Fresh) (last : Fresh) (room total wanted : ℕ) → AreSized most k room total wanted (front ++ last ∷ []) → AreFull front → last.given ≤ last.size → AreMade (front ++ last ∷ [])
+made_list most k [] last room total wanted sized full few = (sized.0.some, next_small most k _ _ _ _ sized.0, few, tt)
+made_list most k (f ∷ front) last room total wanted sized full few = (sized.0.some, next_small most k _ _ _ f.size sized.0, (let is = full.0 in omega arith), made_list most k front last _ _ _ sized.1 full.1 few)
 
-pub made_all : (k : Key) (fs : List Fresh) (room total wanted : ℕ) → IsFreshList k room total wanted fs → AreMade fs
-made_all k fs room total wanted (none_fresh zero_wanted empty) = subst AreMade (sym empty) tt
-made_all k fs room total wanted (some_fresh front last is short sized few given) = subst AreMade (sym is) (made_list k front last room total wanted (subst (AreSized k room total wanted) is sized) short.full few)
+pub made_all : (most : Option ℕ) (k : Key) (fs : List Fresh) (room total wanted : ℕ) → IsFreshList most k room total wanted fs → AreMade fs
+made_all most k fs room total wanted (none_fresh zero_wanted empty) = subst AreMade (sym empty) tt
+made_all most k fs room total wanted (some_fresh front last is short sized few given) = subst AreMade (sym is) (made_list most k front last room total wanted (subst (AreSized most k room total wanted) is sized) short.full few)
 
 -- a live pool is none of them
 pub not_new : (ledger : ℕ → Option Pool) (q : ℕ) (pool : Pool) (fs : List Fresh) → AreNew ledger fs → ledger q ≡ Some pool → list_any (λ f. f.pool == q) fs ≡ false

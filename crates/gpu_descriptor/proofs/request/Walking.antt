@@ -1,5 +1,5 @@
 -- The walk over a key's pools, as far as it has come.
-use Rattle.gpu_descriptor.proofs.Common.{◌≡◌, ◌≢◌, ℕ, zero, suc, ◌+◌, ◌<◌, ◌≤◌, List, [], ◌∷◌, ◌++◌, length, map, min, take, drop, slice_set, Bool, false, nat_lt, ◌&&◌, Option, Some, Err, refl, sym, ap, ◌∙◌, subst, arith, append-nil, drop_all, fun_ext, slice_get, Key, Entry, Bucket, Item, Pool, Ledger, live_sets, DeviceAllocationError, set_at, update_apart, items_of, Part, items_at, pool_with, ledger_with, rest, all_shared, IsBookedIn, AreBookedIn, IsAsked, IsNoMemory, HasTaken, IsWalked, IsTaken, option_map}
+use Rattle.gpu_descriptor.proofs.Common.{◌≡◌, ◌≢◌, ℕ, zero, suc, ◌+◌, ◌<◌, ◌≤◌, List, [], ◌∷◌, ◌++◌, length, map, min, take, drop, slice_set, Bool, false, nat_lt, ◌&&◌, Option, None, Some, Err, refl, sym, ap, ◌∙◌, subst, arith, append-nil, drop_all, fun_ext, slice_get, Key, Entry, Bucket, Item, Pool, Ledger, live_sets, DeviceAllocationError, set_at, update_apart, items_of, Part, items_at, pool_with, ledger_with, rest, all_shared, IsBookedIn, AreBookedIn, IsAsked, IsNoMemory, HasTaken, IsWalked, IsTaken, option_map}
 use Rattle.gpu_descriptor.specs.declared.bucket.stop.Stop.TheVariants.{ExistingPoolRefused}
 use Rattle.std.proofs.Math.Seq.{take-length}
 use Rattle.gpu_descriptor.proofs.table.Exact.{bucket}
@@ -76,7 +76,7 @@ walk_start k n id first old l =
 pub walk_end : {k : Key} {n id first own place wanting : ℕ} {items : List Item} {old new : List Entry} {l m : Ledger} → id ≡ own → first ≡ place → Walking k n id first 0 wanting items old new l m → IsWalked k n wanting items (bucket own place old) (bucket id first new) l m
 walk_end ids places s = rw (sym ids, sym places) (record { grant = so_far _ 0 s.refused s.parts; all = refl; no_fresh = refl; wants = s.wants; taken = s.taken })
 
-pub walk_stop : (k : Key) (room n id first i wanting : ℕ) (items : List Item) (old new : List Entry) (l m m' : Ledger) (e f : Entry) (error : DeviceAllocationError) → Walking k n id first (suc i) wanting items old new l m → slice_get old i ≡ Some e → slice_get new i ≡ Some e → f ≡ e → IsNoMemory wanting e error m m' → IsTaken (Err (ExistingPoolRefused error)) k room n items (bucket id first old) (bucket id first (slice_set new i f)) l m'
+pub walk_stop : (k : Key) (room n id first i wanting : ℕ) (items : List Item) (old new : List Entry) (l m m' : Ledger) (e f : Entry) (error : DeviceAllocationError) → Walking k n id first (suc i) wanting items old new l m → slice_get old i ≡ Some e → slice_get new i ≡ Some e → f ≡ e → IsNoMemory wanting e error m m' → IsTaken (Err (ExistingPoolRefused error)) None k room n items (bucket id first old) (bucket id first (slice_set new i f)) l m'
 walk_stop k room n id first i wanting items old new l m m' e f error s was is same none = (
   so_far id (suc i) s.refused s.parts,
   m,

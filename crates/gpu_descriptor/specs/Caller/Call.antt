@@ -21,6 +21,7 @@ module _ {L P S : Type 0} (means : Meaning L P S) where
     key = k;
     count = count;
     limit = old.value.limit;
+    most = old.value.most;
     old = state_of means.pool_name old.value old.ledger;
     new = state_of means.pool_name new.value new.ledger;
     before = old.ledger.counters;

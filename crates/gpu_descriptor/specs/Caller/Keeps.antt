@@ -12,6 +12,8 @@ pub record Keeps {L P S : Type 0} (means : Meaning L P S) (old new : Side (Alloc
   pub agree : Agrees means.pool_name new.value new.ledger
   -- the limit stays
   pub limit : new.value.limit ≡ old.value.limit
+  -- so does the bound on the descriptors of a new pool
+  pub most : new.value.most ≡ old.value.most
   -- the marked sets that are out, and the pools of marked keys, are within the limit
   pub load : marked_load_of new.value ≤ new.value.limit
   pub pool_load : pool_load_of new.value ≤ new.value.limit

@@ -1,5 +1,5 @@
 -- What one new pool adds, why a request stops, and what it has taken then.
-use Rattle.std.specs.Prelude.{◌≡◌, ℕ, ◌+◌, false, nat_eq, min, List, [], ◌∷◌, ◌++◌, length, Some, None, Result, Ok, Err}
+use Rattle.std.specs.Prelude.{◌≡◌, ℕ, ◌+◌, false, nat_eq, min, List, [], ◌∷◌, ◌++◌, length, Option, Some, None, Result, Ok, Err}
 use Rattle.std.specs.Map.{update}
 use Rattle.gpu_descriptor_types.specs.Ledger.{Ledger, live_sets, on_pool, fresh, no_rise}
 use Rattle.gpu_descriptor_types.specs.PoolSize.{pool_counts}
@@ -14,9 +14,9 @@ use Rattle.gpu_descriptor.specs.Model.Grants.{Grant, pool_with}
 use Rattle.gpu_descriptor.specs.Inner.Walk.{HasTaken, IsRefused}
 
 -- a new pool was created and gave what it has of so many sets. It took of the room what it has
-pub record IsGrown (k : Key) (room left total wanted : ℕ) (names : List ℕ) (old new : List Entry) (before after : Ledger) : Type 0 where
+pub record IsGrown (most : Option ℕ) (k : Key) (room left total wanted : ℕ) (names : List ℕ) (old new : List Entry) (before after : Ledger) : Type 0 where
   pub pool : Fresh
-  pub size : IsNextSize k room total wanted pool.size
+  pub size : IsNextSize most k room total wanted pool.size
   pub less : left + pool_descriptors k pool.size ≡ room
   pub given : pool.given ≡ min pool.size wanted
   pub many : length names ≡ pool.given
@@ -26,6 +26,6 @@ pub record IsGrown (k : Key) (room left total wanted : ℕ) (names : List ℕ) (
   pub counters : after.counters ≡ risen (record no_rise { created = 1; asked = 1 }) before.counters
 
 -- what was taken of a key's pools: all that was asked for, or what had come when the request stopped
-abbrev pub IsTaken : Result (Unit {0}) Stop → Key → (room n : ℕ) → List Item → (old new : Bucket) → (before after : Ledger) → Type 0
-IsTaken (Ok done) k room n items old new before after = (g : Grant) × HasTaken k n g items old new before after × (g.skipped ≡ 0) × IsFreshList k room (allocated_in (all_shared g.refused n old.pools)) (rest g.refused n old.pools) g.fresh
-IsTaken (Err why) k room n items old new before after = (g : Grant) × (between : Ledger) × HasTaken k n g items old new before between × StopsAt why k room n g old.pools × IsRefused why between after
+abbrev pub IsTaken : Result (Unit {0}) Stop → Option ℕ → Key → (room n : ℕ) → List Item → (old new : Bucket) → (before after : Ledger) → Type 0
+IsTaken (Ok done) most k room n items old new before after = (g : Grant) × HasTaken k n g items old new before after × (g.skipped ≡ 0) × IsFreshList most k room (allocated_in (all_shared g.refused n old.pools)) (rest g.refused n old.pools) g.fresh
+IsTaken (Err why) most k room n items old new before after = (g : Grant) × (between : Ledger) × HasTaken k n g items old new before between × StopsAt why most k room n g old.pools × IsRefused why between after

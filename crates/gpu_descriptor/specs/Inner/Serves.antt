@@ -1,6 +1,6 @@
 -- What a request took of one key, before any of it is freed: in the bucket, in the table, and of an allocator.
 use Rattle.gpu_descriptor_types.specs.Bounds.{greatest_u64}
-use Rattle.std.specs.Prelude.{◌≡◌, ℕ, ◌+◌, ◌-◌, ◌*◌, ◌<◌, ◌≤◌, ◌⊎◌, true, if◌then◌else◌, List, length, sum, Result, OnOk, None}
+use Rattle.std.specs.Prelude.{◌≡◌, ℕ, ◌+◌, ◌-◌, ◌*◌, ◌<◌, ◌≤◌, ◌⊎◌, true, if◌then◌else◌, List, length, sum, Option, Result, OnOk, None}
 use Rattle.gpu_descriptor_types.specs.Ledger.{Ledger}
 use Rattle.gpu_descriptor_types.specs.Meaning.{Meaning}
 use Rattle.gpu_descriptor_types.specs.Side.{Side}
@@ -24,13 +24,13 @@ pub record IsSound {P : Type 0} (name : P → ℕ) (a : Allocations P) : Type 0 
   pub pool_load : pool_load_of a ≤ a.limit
 
 module _ {L P S : Type 0} (means : Meaning L P S) where
-  module _ (k : Key) (room count : ℕ) (sets : List (DescriptorSet S)) (ended : Result (Unit {0}) Stop) where
+  module _ (most : Option ℕ) (k : Key) (room count : ℕ) (sets : List (DescriptorSet S)) (ended : Result (Unit {0}) Stop) where
     -- a request had these sets of a bucket
     pub record IsServed (old new : Bucket) (before after : Ledger) : Type 0 where
       pub numbers : next_number old + count ≤ greatest_u64
       pub few : length sets ≤ count
       pub all : OnOk ended (length sets ≡ count)
-      pub taken : IsTaken ended k room count (items_of means.set_name sets) old new before after
+      pub taken : IsTaken ended most k room count (items_of means.set_name sets) old new before after
 
     -- and the table has the key's new bucket
     pub record ServesKey (old new : List (Key × BucketOf P)) (before after : Ledger) : Type 0 where
@@ -44,7 +44,7 @@ module _ {L P S : Type 0} (means : Meaning L P S) where
   pub record Takes (k : Key) (count : ℕ) (sets : List (DescriptorSet S)) (ended : Result (Unit {0}) Stop) (old new : Side (Allocations P)) : Type 0 where
     pub within : k.marked ≡ true → count * sum k.counts + marked_load_of old.value ≤ old.value.limit
     pub fits : outstanding_of old.value + count ≤ greatest_u64
-    pub serves : ServesKey k (old.value.limit - pool_load_of old.value) count sets ended old.value.table new.value.table old.ledger new.ledger
+    pub serves : ServesKey old.value.most k (old.value.limit - pool_load_of old.value) count sets ended old.value.table new.value.table old.ledger new.ledger
 
 -- a request ended before the walk
 abbrev pub IsDeclined : Call → Type 0

@@ -2,7 +2,7 @@
 use Rattle.std.specs.Prelude.{◌≡◌, ℕ, ◌+◌, ◌-◌, ◌≤◌, ◌<◌, false, ◌==◌, if◌then◌else◌, List, [], ◌∷◌, ◌++◌, sum, sum_by, Option, None}
 use Rattle.std.specs.List.{list_any}
 use Rattle.gpu_descriptor_types.specs.Ledger.{Pool}
-use Rattle.gpu_descriptor_types.specs.PoolSize.{IsPoolSize, sets_in_room}
+use Rattle.gpu_descriptor_types.specs.PoolSize.{IsPoolSize, bounded_sets, sets_in_room}
 use Rattle.gpu_descriptor.specs.Model.Books.{Key, Entry}
 use Rattle.gpu_descriptor.specs.Model.Load.{pool_descriptors}
 use Rattle.gpu_descriptor.specs.Model.Shares.{Portion}
@@ -16,17 +16,17 @@ pub record Fresh : Type 0 where
 abbrev pub given_by : List Fresh → ℕ
 given_by pools = sum_by (λ f. f.given) pools
 
--- how many sets a key's next pool holds: as many as a new pool, but if the key is marked no more than there is room for
-pub record IsNextSize (k : Key) (room total wanted size : ℕ) : Type 0 where
+-- how many sets a key's next pool holds: as many as a new pool, but if the key is marked no more than there is room for, and no more than the bound on the descriptors of a new pool leaves
+pub record IsNextSize (most : Option ℕ) (k : Key) (room total wanted size : ℕ) : Type 0 where
   pub whole : ℕ
   pub is_whole : IsPoolSize k.counts total wanted whole
-  pub cut : size ≡ (if k.marked then sets_in_room room (sum k.counts) whole else whole)
+  pub cut : size ≡ bounded_sets most (sum k.counts) wanted (if k.marked then sets_in_room room (sum k.counts) whole else whole)
   pub some : 1 ≤ size
 
 -- each has the size of the key's next pool at that moment
-abbrev pub AreSized : Key → (room total wanted : ℕ) → List Fresh → Type 0
-AreSized k room total wanted [] = Unit {0}
-AreSized k room total wanted (f ∷ pools) = IsNextSize k room total wanted f.size × AreSized k (room - pool_descriptors k f.size) (total + f.given) (wanted - f.given) pools
+abbrev pub AreSized : Option ℕ → Key → (room total wanted : ℕ) → List Fresh → Type 0
+AreSized most k room total wanted [] = Unit {0}
+AreSized most k room total wanted (f ∷ pools) = IsNextSize most k room total wanted f.size × AreSized most k (room - pool_descriptors k f.size) (total + f.given) (wanted - f.given) pools
 
 -- the room that new pools leave
 abbrev pub room_after : Key → ℕ → List Fresh → ℕ
@@ -42,17 +42,17 @@ abbrev pub AreNew : (ℕ → Option Pool) → List Fresh → Type 0
 AreNew ledger [] = Unit {0}
 AreNew ledger (f ∷ pools) = (ledger f.pool ≡ None) × (list_any (λ h. h.pool == f.pool) pools ≡ false) × AreNew ledger pools
 
-module _ (k : Key) (room total wanted : ℕ) where
+module _ (most : Option ℕ) (k : Key) (room total wanted : ℕ) where
   -- new pools that gave all they have, and sets are still wanting
   pub record IsFreshPrefix (pools : List Fresh) : Type 0 where
-    pub sized : AreSized k room total wanted pools
+    pub sized : AreSized most k room total wanted pools
     pub full : AreFull pools
     pub short : given_by pools < wanted
 
   -- new pools that gave all that was wanting: none, or a prefix and one more that has the rest
   pub data IsFreshList (pools : List Fresh) : Type 0 where
     none : wanted ≡ 0 → pools ≡ [] → IsFreshList pools
-    some : (prefix : List Fresh) (last : Fresh) → pools ≡ prefix ++ last ∷ [] → IsFreshPrefix prefix → AreSized k room total wanted pools → last.given ≤ last.size → given_by pools ≡ wanted → IsFreshList pools
+    some : (prefix : List Fresh) (last : Fresh) → pools ≡ prefix ++ last ∷ [] → IsFreshPrefix prefix → AreSized most k room total wanted pools → last.given ≤ last.size → given_by pools ≡ wanted → IsFreshList pools
 
 -- what new pools gave, in order
 abbrev pub fresh_portions : ℕ → List Fresh → List Portion

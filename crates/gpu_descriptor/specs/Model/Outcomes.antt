@@ -66,6 +66,8 @@ pub record Call : Type 0 where
   pub count : ℕ
   -- the most descriptors that the marked sets which are out may have, and the most that the pools of marked keys may have
   pub limit : ℕ
+  -- how many descriptors a new pool has at most, unless what is wanting needs more
+  pub most : Option ℕ
   pub old : State
   pub new : State
   pub before : Counters
@@ -107,9 +109,9 @@ StopsAtNew (stop.ExistingPoolRefused e) k room = ⊥
 StopsAtNew why k room = (why ≡ stop.NoRoomUnderLimit) ↔ (room < pool_descriptors k 1)
 
 -- what had been taken then: of the existing pools, or of all these and a prefix of new ones
-abbrev pub StopsAt : Stop → Key → (room n : ℕ) → Grant → List Entry → Type 0
-StopsAt (stop.ExistingPoolRefused e) k room n g old = EndsAtPool n old e g
-StopsAt why k room n g old = (g.skipped ≡ 0) × IsFreshPrefix k room (allocated_in (all_shared g.refused n old)) (rest g.refused n old) g.fresh × StopsAtNew why k (room_after k room g.fresh)
+abbrev pub StopsAt : Stop → Option ℕ → Key → (room n : ℕ) → Grant → List Entry → Type 0
+StopsAt (stop.ExistingPoolRefused e) most k room n g old = EndsAtPool n old e g
+StopsAt why most k room n g old = (g.skipped ≡ 0) × IsFreshPrefix most k room (allocated_in (all_shared g.refused n old)) (rest g.refused n old) g.fresh × StopsAtNew why k (room_after k room g.fresh)
 
 -- ---- the outcomes
 
@@ -163,7 +165,7 @@ module _ (c : Call) where
     pub all : grant.skipped ≡ 0
     pub pooled : ℕ
     pub is_pooled : AddsUp bucket_load c.old.books pooled
-    pub fresh : IsFreshList c.key (c.limit - pooled) (out_then grant) (wanting grant) grant.fresh
+    pub fresh : IsFreshList c.most c.key (c.limit - pooled) (out_then grant) (wanting grant) grant.fresh
     pub answer : c.answer ≡ Ok (items_in c.key grant.id grant.parts)
     pub state : c.new ≡ granted c.key c.count grant c.old
     pub counters : c.after ≡ risen (grant_rise c.count grant (c.old.books c.key).pools) c.before
@@ -182,7 +184,7 @@ module _ (c : Call) where
     -- the pool load before
     pub pooled : ℕ
     pub is_pooled : AddsUp bucket_load c.old.books pooled
-    pub at : StopsAt why c.key (c.limit - pooled) c.count grant (c.old.books c.key).pools
+    pub at : StopsAt why c.most c.key (c.limit - pooled) c.count grant (c.old.books c.key).pools
     pub back : IsBack grant why
 
   pub data Allocates : Type 0 where

@@ -97,6 +97,7 @@ impl<P, S> DescriptorAllocator<P, S> {
         ensures goes { OnSome result (IsNearerEnd I.can_next I.remaining sets.old sets.new) }
         ensures keys { keys_of self.new ≡ keys_of self.old }
         ensures limit { self.new.limit ≡ self.old.limit }
+        ensures most { self.new.most ≡ self.old.most }
         ensures looks_stay { self.new.looks ≡ self.old.looks }
         ensures rises { self.old.comparisons ≤ self.new.comparisons }
         ensures few { self.new.comparisons ≤ self.old.comparisons + binary_digits (open_pools

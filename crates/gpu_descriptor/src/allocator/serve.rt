@@ -150,6 +150,7 @@ impl<P: Drop, S> DescriptorAllocator<P, S> {
         ensures ledger { OnErr result (D.ledger device.new ≡ D.ledger device.old) }
         ensures within { IsSound D.meaning.pool_name self.new }
         ensures limit { self.new.limit ≡ self.old.limit }
+        ensures most { self.new.most ≡ self.old.most }
     {
         if self.would_exceed_limit(&request.key, request.count) {
             return Err(AllocationError::Fragmentation);

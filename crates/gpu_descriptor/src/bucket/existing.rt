@@ -1,6 +1,6 @@
 //! How a request takes sets from the existing pools of its key.
 ghost use Rattle.std.specs.Prelude.{◌≡◌, ◌+◌, ◌<◌, ◌≤◌, ◌++◌, ◌^◌, List, length, map};
-ghost use Rattle.std.specs.Prelude.{IfErr, OnOk, Err};
+ghost use Rattle.std.specs.Prelude.{IfErr, OnOk, Err, None};
 ghost use Rattle.std.specs.VecDeque.{deque_capacity};
 ghost use Rattle.gpu_descriptor.specs.declared.set.DescriptorSet.{DescriptorSet};
 ghost use Rattle.gpu_descriptor.specs.declared.bucket.stop.Stop.TheVariants.{ExistingPoolRefused};
@@ -90,7 +90,7 @@ fn walk<'k, L, P, S, D: DescriptorDevice<L, P, S>, K: SetPlaces<S>>(
     ensures stopped { IfErr result (λ e. (put : List (DescriptorSet S)) ×
         (K.items sink.new.sets ≡ K.items sink.old.sets ++ put) ×
         (length put + sink.new.left ≡ request.now.count) × IsTaken (Err (ExistingPoolRefused e))
-        (key_of request.now.key) 0 request.now.count (items_of D.meaning.set_name put)
+        None (key_of request.now.key) 0 request.now.count (items_of D.meaning.set_name put)
         (bucket_in D.meaning.pool_name view.old) (bucket_in D.meaning.pool_name view.new)
         (D.ledger device.old) (D.ledger device.new)) }
     ensures own { PutsOfLayout D.meaning request.now.layout.now (K.items sink.old.sets)
@@ -133,7 +133,7 @@ impl<P> DescriptorBucket<P> {
             (bucket_of D.meaning.pool_name self.old) (bucket_of D.meaning.pool_name self.new)
             (D.ledger device.old) (D.ledger device.new)) }
         ensures stopped { IfErr result (λ e. IsTaken (Err (ExistingPoolRefused e))
-            (key_of request.now.key) 0 request.now.count
+            None (key_of request.now.key) 0 request.now.count
             (items_of D.meaning.set_name
             (appended (K.items sink.old.sets) (K.items sink.new.sets)))
             (bucket_of D.meaning.pool_name self.old) (bucket_of D.meaning.pool_name self.new)

@@ -1,6 +1,6 @@
 //! How a request takes sets from a new pool of its key.
-ghost use Rattle.std.specs.Prelude.{◌≡◌, ◌+◌, ◌<◌, ◌≤◌, ◌++◌, ◌∷◌, ◌^◌, List, [], length, map};
-ghost use Rattle.std.specs.Prelude.{true, false, IfErr, IfSome, IfNone, OnOk};
+ghost use Rattle.std.specs.Prelude.{◌≡◌, ◌+◌, ◌*◌, ◌<◌, ◌≤◌, ◌++◌, ◌∷◌, ◌^◌, List, [], length, map};
+ghost use Rattle.std.specs.Prelude.{true, false, All, IfErr, IfSome, IfNone, None, OnOk};
 ghost use Rattle.std.specs.VecDeque.{deque_capacity};
 ghost use Rattle.gpu_descriptor_types.specs.Counts.{kinds};
 ghost use Rattle.gpu_descriptor_types.specs.Flags.{bits, pool_flags as pool_flags_of};
@@ -26,7 +26,7 @@ use crate::places::SetPlaces;
 use bitflags::Flags;
 use gpu_descriptor_types::{
     DescriptorDevice, DescriptorPoolCreateFlags, DescriptorTotalCount, Layouts, Tally,
-    cut_pool_size, new_pool_size,
+    bounded_pool_size, cut_pool_size, new_pool_size,
 };
 use std::alloc::AllocError;
 
@@ -42,21 +42,21 @@ fn pool_flags(update_after_bind: bool) -> DescriptorPoolCreateFlags
     flags
 }
 
-/// The counts of a key's next pool, and how many sets it holds; `None` where the limit leaves no
-/// room for one.
+/// The counts of a key's next pool without a bound on its descriptors, and how many sets it holds;
+/// `None` where the limit leaves no room for one.
 #[inline]
-fn next_size(
+fn unbounded_size(
     key: &BucketKey,
     total: u64,
     wanted: u32,
     room: u32,
 ) -> Option<(DescriptorTotalCount, u32)>
-    ensures sets { IfSome result (λ pool. IsNextSize (key_of key.now) room total wanted pool.1) }
+    ensures sets { IfSome result (λ pool. IsNextSize None (key_of key.now) room total wanted
+        pool.1) }
     ensures counts { IfSome result (λ pool. kinds pool.0 ≡ pool_counts_of (kinds key.now.counts)
         pool.1) }
-    ensures at_most { IfSome result (λ pool. pool.1 ≤ greatest_pool_size) }
-    ensures room { IfSome result (λ pool. (pool_descriptors (key_of key.now) pool.1 ≤ room)
-        × (pool_descriptors (key_of key.now) pool.1 < 2 ^ 32)) }
+    ensures fits { IfSome result (λ pool. All (λ count. count * pool.1 < 2 ^ 32)
+        (kinds key.now.counts)) }
     ensures none { IfNone result (room < pool_descriptors (key_of key.now) 1) }
 {
     if key.update_after_bind {
@@ -64,6 +64,29 @@ fn next_size(
     } else {
         Some(new_pool_size(&key.counts, total, wanted))
     }
+}
+
+/// The same with the bound, where there is one.
+#[inline]
+fn next_size(
+    key: &BucketKey,
+    total: u64,
+    wanted: u32,
+    room: u32,
+    most: Option<u64>,
+) -> Option<(DescriptorTotalCount, u32)>
+    requires some { 1 ≤ wanted }
+    ensures sets { IfSome result (λ pool. IsNextSize most (key_of key.now) room total wanted
+        pool.1) }
+    ensures counts { IfSome result (λ pool. kinds pool.0 ≡ pool_counts_of (kinds key.now.counts)
+        pool.1) }
+    ensures at_most { IfSome result (λ pool. pool.1 ≤ greatest_pool_size) }
+    ensures room { IfSome result (λ pool. (pool_descriptors (key_of key.now) pool.1 ≤ room)
+        × (pool_descriptors (key_of key.now) pool.1 < 2 ^ 32)) }
+    ensures none { IfNone result (room < pool_descriptors (key_of key.now) 1) }
+{
+    let size = unbounded_size(key, total, wanted, room)?;
+    Some(bounded_pool_size(&key.counts, size, wanted, most))
 }
 
 impl<P> DescriptorBucket<P> {
@@ -86,8 +109,8 @@ impl<P> DescriptorBucket<P> {
             self.old.id (self.old.offset + length self.old.pools.items)) put) ×
             (sink.new.left + length put ≡ sink.old.left) ×
             (self.new.total ≡ self.old.total + length put) ×
-            IsGrown (key_of request.now.key) budget.old.room budget.new.room self.old.total
-            sink.old.left (map D.meaning.set_name put) (bucket_of D.meaning.pool_name self.old).pools
+            IsGrown budget.old.most (key_of request.now.key) budget.old.room budget.new.room
+            self.old.total sink.old.left (map D.meaning.set_name put) (bucket_of D.meaning.pool_name self.old).pools
             (bucket_of D.meaning.pool_name self.new).pools (D.ledger device.old)
             (D.ledger device.new)) }
         ensures own { PutsOfLayout D.meaning request.now.layout.now (K.items sink.old.sets)
@@ -101,11 +124,13 @@ impl<P> DescriptorBucket<P> {
             × IsRefused stop (D.ledger device.old) (D.ledger device.new)
             × StopsAtNew stop (key_of request.now.key) budget.old.room) }
         ensures numbers_stay { KeepsNumbers self.old self.new }
+        ensures most { budget.new.most ≡ budget.old.most }
         ensures looks { CountsLooks budget.old.looks.count budget.new.looks.count
             (D.ledger device.old) (D.ledger device.new) }
     {
         let key = &request.key;
-        let Some((counts, size)) = next_size(key, self.total, sink.left, budget.room) else {
+        let Some((counts, size)) = next_size(key, self.total, sink.left, budget.room, budget.most)
+        else {
             return Err(Stop::NoRoomUnderLimit);
         };
         if self.reserve_pool().is_err() {

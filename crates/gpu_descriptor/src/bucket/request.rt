@@ -50,8 +50,8 @@ impl<P: Drop> DescriptorBucket<P> {
         requires booked { AreBookedIn (key_of request.now.key) (D.ledger device.old).pools
             (bucket_of D.meaning.pool_name self.old).pools }
         requires bound { self.old.total + request.now.count < 2 ^ 64 }
-        ensures served { IfOk result (λ ended. IsServed D.meaning (key_of request.now.key)
-            budget.old.room request.now.count
+        ensures served { IfOk result (λ ended. IsServed D.meaning budget.old.most
+            (key_of request.now.key) budget.old.room request.now.count
             (appended (K.items sink.old.sets) (K.items sink.new.sets)) ended
             (bucket_of D.meaning.pool_name self.old) (bucket_of D.meaning.pool_name self.new)
             (D.ledger device.old) (D.ledger device.new) × (self.new.total ≡ self.old.total
@@ -66,6 +66,7 @@ impl<P: Drop> DescriptorBucket<P> {
         ensures numbers_stay { KeepsNumbers self.old self.new }
         ensures refused { IfErr result (λ e. IsUnserved request.now.count e
             (bucket_of D.meaning.pool_name self.old)) }
+        ensures most { budget.new.most ≡ budget.old.most }
         ensures looks { CountsLooks budget.old.looks.count budget.new.looks.count
             (D.ledger device.old) (D.ledger device.new) }
         ensures room { budget.new.room + stored_load (key_of request.now.key) self.new.pools.items
@@ -98,7 +99,8 @@ impl<P: Drop> DescriptorBucket<P> {
         requires numbers { next_number (bucket_of D.meaning.pool_name self.old) + request.now.count
             < 2 ^ 64 }
         requires left { sink.old.left ≡ request.now.count }
-        ensures taken { IsTaken result (key_of request.now.key) budget.old.room request.now.count
+        ensures taken { IsTaken result budget.old.most (key_of request.now.key) budget.old.room
+            request.now.count
             (items_of D.meaning.set_name
             (appended (K.items sink.old.sets) (K.items sink.new.sets)))
             (bucket_of D.meaning.pool_name self.old) (bucket_of D.meaning.pool_name self.new)
@@ -115,6 +117,7 @@ impl<P: Drop> DescriptorBucket<P> {
         ensures all { OnOk result (sink.new.left ≡ 0) }
         ensures room { budget.new.room + stored_load (key_of request.now.key) self.new.pools.items
             ≡ budget.old.room + stored_load (key_of request.now.key) self.old.pools.items }
+        ensures most { budget.new.most ≡ budget.old.most }
         ensures looks { CountsLooks budget.old.looks.count budget.new.looks.count
             (D.ledger device.old) (D.ledger device.new) }
     {

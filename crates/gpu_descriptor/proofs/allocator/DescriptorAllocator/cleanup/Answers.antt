@@ -59,6 +59,7 @@ loop-place-preserved g c =
       out = h.out;
       marked = h.marked;
       limit = h.limit;
+      most = h.most;
       looks = h.looks;
       comparisons = h.comparisons;
     }
@@ -90,7 +91,7 @@ returns g c =
     let rows = h.rows ∙ all_cleared c.loop-place.place (rows_in name es) le in
     let less = h.ledger ∙ ap (λ l. ledger_less l (ledger c.args.device.now)) (take_all c.loop-place.place (rows_in name es) le) in
     let counted = counted_filter _ _ _ _ _ _ kept h.counted in
-    let now : Allocations _ = record { limit = c.loop-place.self-inside.max_update_after_bind_descriptors_in_all_pools; table = map row_of c.retain.new.self.entries; looks = c.loop-place.self-inside.budget.looks.count; comparisons = c.loop-place.self-inside.comparisons.count } in
+    let now : Allocations _ = record { limit = c.loop-place.self-inside.max_update_after_bind_descriptors_in_all_pools; most = c.loop-place.self-inside.budget.most; table = map row_of c.retain.new.self.entries; looks = c.loop-place.self-inside.budget.looks.count; comparisons = c.loop-place.self-inside.comparisons.count } in
     let clean = whole_clean name c.args.self.now (ledger c.args.device.now) (ledger c.loop-place.device) es c.loop-place.self-inside.table.buckets.entries _ c.loop-place.self-inside.max_update_after_bind_descriptors_in_all_pools was distinct rows less kept in
     let foreign = cleaned_foreign _ _ clean in
     let accounted = cleaned_loses _ _ clean in
@@ -110,6 +111,7 @@ returns g c =
       keeps = record {
         agree = record { rows = rows_distinct name c.retain.new.self.entries (distinct_stored _ (λ k l. search rules) _ c.retain.ensures.unique); books = clean_agrees _ _ c.requires.agree.books clean };
         limit = h.limit ∙ ap (λ (a : Allocations _). a.limit) c.self.view_is;
+        most = h.most ∙ ap (λ (a : Allocations _). a.most) c.self.view_is;
         load = (omega arith);
         pool_load = (omega arith);
         foreign = foreign;

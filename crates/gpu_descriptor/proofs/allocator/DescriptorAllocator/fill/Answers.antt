@@ -55,7 +55,7 @@ returns-in-Ok-ended-clause-own g c =
 
 pub returns-in-Ok-ended-clause-keeps : goal.returns-in-Ok-ended-clause-keeps
 returns-in-Ok-ended-clause-keeps g c =
-    keeps_all c.in-Ok.ensures.taken c.requires.agree.books c.in-Ok.ensures.within.rows c.in-Ok.ensures.limit c.in-Ok.ensures.within.load c.in-Ok.ensures.within.pool_load
+    keeps_all c.in-Ok.ensures.taken c.requires.agree.books c.in-Ok.ensures.within.rows c.in-Ok.ensures.limit c.in-Ok.ensures.most c.in-Ok.ensures.within.load c.in-Ok.ensures.within.pool_load
 
 pub returns-in-Err-ended-clause-hands_out : goal.returns-in-Err-ended-clause-hands_out
 returns-in-Err-ended-clause-hands_out g c =
@@ -65,4 +65,4 @@ returns-in-Err-ended-clause-hands_out g c =
 pub returns-in-Err-ended-clause-keeps : goal.returns-in-Err-ended-clause-keeps
 returns-in-Err-ended-clause-keeps g c =
     let at = goal.at.returns-in-Err-ended-clause-keeps g c in
-    keeps_back (taken g at.In-Ok) c.requires.agree.books (returned g at.After-free_after) c.in-Ok.ensures.limit c.free_after.ensures.keeps
+    keeps_back (taken g at.In-Ok) c.requires.agree.books (returned g at.After-free_after) c.in-Ok.ensures.limit c.in-Ok.ensures.most c.free_after.ensures.keeps

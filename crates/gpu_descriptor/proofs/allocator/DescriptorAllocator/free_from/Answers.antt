@@ -12,6 +12,7 @@ pub loop-ahead-init : goal.loop-ahead-init
 loop-ahead-init g c = record {
   freed = freed_none g.D.DescriptorDevice.meaning g.I.Iterator.next_gives g.I.Iterator.can_next g.I.Iterator.remaining c.args.sets.now c.args.self.now (g.D.DescriptorDevice.ledger c.args.device.now) c.next-ahead.result c.next-ahead.new.self c.requires.agree.books c.requires.ends c.next-ahead.ensures.steps c.next-ahead.ensures.goes;
   limit = λ i. c.args.self.now.limit;
+  most = λ i. c.args.self.now.most;
   looks = λ i. c.args.self.now.looks;
 }
 
@@ -31,6 +32,7 @@ loop-ahead-preserved g c =
       freed = freed_more g.D.DescriptorDevice.meaning g.I.Iterator.next_gives g.I.Iterator.can_next g.I.Iterator.remaining c.args.sets.now c.args.self.now (g.D.DescriptorDevice.ledger c.args.device.now) c.loop-ahead.self (g.D.DescriptorDevice.ledger c.loop-ahead.device) c.in-Some.first c.loop-ahead.sets
           c.requires.agree.books c.requires.outstanding r _ _ _ _ c.release_run-ahead.ensures.ran c.release_run-ahead.ensures.keys c.release_run-ahead.ensures.goes c.release_run-ahead.ensures.rises c.release_run-ahead.ensures.few;
       limit = c.release_run-ahead.ensures.limit ∙ c.loop-ahead.invariant.limit;
+      most = c.release_run-ahead.ensures.most ∙ c.loop-ahead.invariant.most;
       looks = c.release_run-ahead.ensures.looks_stay ∙ c.loop-ahead.invariant.looks;
     }
 
@@ -52,6 +54,7 @@ returns-clause-keeps g c =
     record {
       agree = record { rows = rows_apart _ c.self.view_is name c.self.inside.table.distinct; books = r.agree };
       limit = c.loop-ahead.invariant.limit;
+      most = c.loop-ahead.invariant.most;
       load = load_within _ c.self.view_is (opened c.self.invariant);
       pool_load = pool_load_within _ c.self.view_is (opened c.self.invariant);
       foreign = foreign;

@@ -1,5 +1,5 @@
 use Rattle.gpu_descriptor.proofs.sums.Loads.{opened, closed}
-use Rattle.gpu_descriptor.proofs.Common.{greatest_u64, ◌≡◌, ◌+◌, ◌≤◌, length, arith, refl, ap, subst, sym, ◌∙◌, ltb-false, Ledger, Bucket, key_of, set_descriptors, state_of, IsConsistent, AreBookedIn}
+use Rattle.gpu_descriptor.proofs.Common.{greatest_u64, ◌≡◌, ◌+◌, ◌≤◌, length, arith, refl, None, ap, subst, sym, ◌∙◌, ltb-false, Ledger, Bucket, key_of, set_descriptors, state_of, IsConsistent, AreBookedIn}
 use Rattle.gpu_descriptor.proofs.request.StateAgrees.{booked_of}
 use Rattle.gpu_descriptor.proofs.cleanup.KeyOrder.{keys_seen}
 use Rattle.gpu_descriptor.proofs.request.Requested.{keeps_limit, seen, seen_again, table_is, books_at, declined_by_limit, declined_by_bound, declined_unserved, given_fits, counted_now, takes_of}
@@ -32,7 +32,7 @@ serve-requires-clause-bound g c =
 pub returns-in_err-ended-clause-declined : goal.returns-in_err-ended-clause-declined
 returns-in_err-ended-clause-declined g c =
     rw (passed c.from_residual.result c.in_err-ended.field-0.0 c.from_residual.ensures.1) (declined_unserved g.D.DescriptorDevice.meaning c.self.view_is (opened c.self.invariant) c.self.inside.table.distinct _ c.args.request.now.key c.requires.some c.would_exceed_limit.ensures c.if-would_exceed_limit.false
-    c.would_exceed_64_bits.ensures c.if-would_exceed_64_bits.false (seen_again _ c.self.view_is _ c.in_err-ended.ensures.entries (ap (λ b. b.looks.count) c.in_err-ended.ensures.budget)) c.in_err-ended.ensures.ledger c.in_err-ended.field-0.0 c.in_err-ended.ensures.refused)
+    c.would_exceed_64_bits.ensures c.if-would_exceed_64_bits.false (seen_again _ c.self.view_is _ c.in_err-ended.ensures.entries (ap (λ b. b.looks.count) c.in_err-ended.ensures.budget) (ap (λ b. b.most) c.in_err-ended.ensures.budget)) c.in_err-ended.ensures.ledger c.in_err-ended.field-0.0 c.in_err-ended.ensures.refused)
 
 -- so many came
 many : (g : _) (c : After-from-taken g) → c.from-taken.result ≡ length (appended (g.K.SetPlaces.items c.args.sink.now.sets) (g.K.SetPlaces.items c.serve.new.sink.sets))
@@ -74,7 +74,7 @@ returns-clause-taken g c =
     takes_of c.serve.new.self.buckets.entries c.in_ok-ended.ensures.served c.self.view_is (opened c.self.invariant) c.would_exceed_limit.ensures c.if-would_exceed_limit.false c.would_exceed_64_bits.ensures c.if-would_exceed_64_bits.false
 
 pub returns-clause-keys : goal.returns-clause-keys
-returns-clause-keys g c = keys_seen (key_of c.args.request.now.key) c.args.self.now (seen 0 0 0 c.serve.new.self.buckets.entries) c.self.inside.table.buckets.entries c.serve.new.self.buckets.entries (table_is _ c.self.view_is) refl c.in_ok-ended.ensures.keys
+returns-clause-keys g c = keys_seen (key_of c.args.request.now.key) c.args.self.now (seen 0 None 0 0 c.serve.new.self.buckets.entries) c.self.inside.table.buckets.entries c.serve.new.self.buckets.entries (table_is _ c.self.view_is) refl c.in_ok-ended.ensures.keys
 
 pub returns-clause-within : goal.returns-clause-within
 returns-clause-within g c = keeps_limit refl (counted g (goal.at.returns-clause-within g c).After-marked_descriptors_of_sets-descriptors) c.serve.new.self.distinct g.D.DescriptorDevice.meaning.pool_name

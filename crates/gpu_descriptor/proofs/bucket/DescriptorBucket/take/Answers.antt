@@ -1,4 +1,4 @@
-use Rattle.gpu_descriptor.proofs.Common.{◌≡◌, ℕ, ◌+◌, ◌≤◌, ◌++◌, List, length, map, sym, ap, ◌∙◌, arith, Result, Ok, OnOk, IfErr, true, false, length-append, [], ◌∷◌, Err, length-map, map-append, Ledger, DeviceAllocationError, DescriptorPool, DescriptorSet, Item, Entry, Key, key_of, set_at, fresh_entry, items_at, items_of, IsTaken, entry_of, stored_load, IsWalked}
+use Rattle.gpu_descriptor.proofs.Common.{◌≡◌, ℕ, ◌+◌, ◌≤◌, ◌++◌, List, length, map, sym, ap, ◌∙◌, arith, Result, Ok, OnOk, IfErr, true, false, length-append, [], ◌∷◌, None, Err, length-map, map-append, Ledger, DeviceAllocationError, DescriptorPool, DescriptorSet, Item, Entry, Key, key_of, set_at, fresh_entry, items_at, items_of, IsTaken, entry_of, stored_load, IsWalked}
 use Rattle.std.specs.Result.{is_ok}
 use mathlib.Core.Bool.{true≢false}
 use Rattle.gpu_descriptor.proofs.sums.PoolsLoad.{pools_load}
@@ -17,7 +17,7 @@ module _ {P : Type 0} (name : P → ℕ) {k : Key} {n id first own start : ℕ} 
   walked_load : {wanting : ℕ} → IsWalked k n wanting items (bucket id first (map (entry_of name) old)) (bucket own start (map (entry_of name) new)) l m → stored_load k new ≡ stored_load k old
   walked_load w = (let a = load_entries name k old in let b = load_entries name k new in let same = load_walked k n w.grant (bucket id first (map (entry_of name) old)) (bucket own start (map (entry_of name) new)) l m items w.taken w.no_fresh in omega arith)
 
-  stopped_load : {error : DeviceAllocationError} → IsTaken (Err (ExistingPoolRefused error)) k 0 n items (bucket id first (map (entry_of name) old)) (bucket own start (map (entry_of name) new)) l m → stored_load k new ≡ stored_load k old
+  stopped_load : {error : DeviceAllocationError} → IsTaken (Err (ExistingPoolRefused error)) None k 0 n items (bucket id first (map (entry_of name) old)) (bucket own start (map (entry_of name) new)) l m → stored_load k new ≡ stored_load k old
   stopped_load t = (let a = load_entries name k old in let b = load_entries name k new in let same = load_walked k n t.0 (bucket id first (map (entry_of name) old)) (bucket own start (map (entry_of name) new)) l t.1 items t.2 t.3.no_fresh in omega arith)
 
 -- what is known of an Ok, and of an Err
@@ -49,6 +49,7 @@ loop-sink-init g c =
       growing = grow_start known c.take_from_existing.ensures.numbers_stay.id c.take_from_existing.ensures.numbers_stay.offset (let out = allocated_entries name c.args.self.now.pools.items in let counted = c.args.self.now.counted in let all = c.take_from_existing.ensures.left in omega arith);
       load = ap (λ n. c.args.budget.now.room + n) (walked_load name c.args.self.now.pools.items c.take_from_existing.new.self.pools.items known);
       own = c.take_from_existing.ensures.own;
+      most = λ i. c.args.budget.now.most;
       looks = c.take_from_existing.ensures.looks;
     }
 
@@ -65,7 +66,7 @@ pub loop-sink-preserved : goal.loop-sink-preserved
 loop-sink-preserved g c =
     let inv = c.loop-sink.invariant in
     let got = c.in_ok-take_from_new.ensures.grown in
-    let grown = got.4 in
+    let grown = rw inv.most at got.4 in
     let key : Key = key_of c.args.request.now.key in
     let items : List (DescriptorPool g.row.P.Denot) = c.loop-sink.self.pools.items in
     let new : List Entry = map (entry_of g.D.DescriptorDevice.meaning.pool_name) items in
@@ -106,6 +107,7 @@ loop-sink-preserved g c =
           let less = grown.less in
           omega arith);
       own = λ first before. c.in_ok-take_from_new.ensures.own first (inv.own first before);
+      most = c.in_ok-take_from_new.ensures.most ∙ inv.most;
       looks = (let a = inv.looks in let b = c.in_ok-take_from_new.ensures.looks in omega arith);
     }
 

@@ -12,9 +12,10 @@ invariant-loop-sink g l = record {
   front : g.K.SetPlaces.items l.sink.sets ≡ g.K.SetPlaces.items l.fn.sink.sets ++ appended (g.K.SetPlaces.items l.fn.sink.sets) (g.K.SetPlaces.items l.sink.sets);
   numbers_stay : KeepsNumbers l.fn.self l.self;
   pools : length l.self.pools.items + l.sink.left ≤ length l.fn.self.pools.items + l.fn.request.count;
-  growing : Growing (key_of l.fn.request.key) l.fn.budget.room l.fn.request.count l.fn.self.id l.fn.self.offset l.budget.room l.self.total l.sink.left (items_of g.D.DescriptorDevice.meaning.set_name (appended (g.K.SetPlaces.items l.fn.sink.sets) (g.K.SetPlaces.items l.sink.sets))) (map (entry_of g.D.DescriptorDevice.meaning.pool_name) l.fn.self.pools.items) (map (entry_of g.D.DescriptorDevice.meaning.pool_name) l.self.pools.items) (g.D.DescriptorDevice.ledger l.fn.device) (g.D.DescriptorDevice.ledger l.device);
+  growing : Growing l.fn.budget.most (key_of l.fn.request.key) l.fn.budget.room l.fn.request.count l.fn.self.id l.fn.self.offset l.budget.room l.self.total l.sink.left (items_of g.D.DescriptorDevice.meaning.set_name (appended (g.K.SetPlaces.items l.fn.sink.sets) (g.K.SetPlaces.items l.sink.sets))) (map (entry_of g.D.DescriptorDevice.meaning.pool_name) l.fn.self.pools.items) (map (entry_of g.D.DescriptorDevice.meaning.pool_name) l.self.pools.items) (g.D.DescriptorDevice.ledger l.fn.device) (g.D.DescriptorDevice.ledger l.device);
   load : l.budget.room + stored_load (key_of l.fn.request.key) l.self.pools.items ≡ l.fn.budget.room + stored_load (key_of l.fn.request.key) l.fn.self.pools.items;
   own : PutsOfLayout g.D.DescriptorDevice.meaning l.fn.request.layout.now (g.K.SetPlaces.items l.fn.sink.sets) (g.K.SetPlaces.items l.sink.sets);
+  most : l.budget.most ≡ l.fn.budget.most;
   looks : CountsLooks l.fn.budget.looks.count l.budget.looks.count (g.D.DescriptorDevice.ledger l.fn.device) (g.D.DescriptorDevice.ledger l.device);
 }
 

@@ -1,4 +1,4 @@
-use Rattle.gpu_descriptor.proofs.Common.{◌≡◌, ℕ, Global, ◌+◌, ◌++◌, arith, length, sum_by, List, Result, Ok, Err, sym, ap, ◌∙◌, subst, map, OnOk, IfErr, length-map, Ledger, DeviceAllocationError, DescriptorSet, DescriptorPool, Bucket, Key, key_of, allocated_in, items_of, item_of, AreBookedIn, IsTaken, bucket_in, bucket_of, entry_of, IsWalked}
+use Rattle.gpu_descriptor.proofs.Common.{◌≡◌, ℕ, Global, ◌+◌, ◌++◌, arith, length, sum_by, List, None, Result, Ok, Err, sym, ap, ◌∙◌, subst, map, OnOk, IfErr, length-map, Ledger, DeviceAllocationError, DescriptorSet, DescriptorPool, Bucket, Key, key_of, allocated_in, items_of, item_of, AreBookedIn, IsTaken, bucket_in, bucket_of, entry_of, IsWalked}
 use Rattle.std.specs.declared.collections.VecDeque.{VecDeque}
 use Rattle.std.proofs.lemmas.Result.{IfErr-weaker, on_ok_weaker}
 use Rattle.gpu_descriptor.specs.declared.bucket.stop.Stop.TheVariants.{ExistingPoolRefused}
@@ -18,7 +18,7 @@ module _ {S : Type 0} (name : S → ℕ) (was : List (DescriptorSet S)) {now : L
     walked_as : {wanting : ℕ} → IsWalked k n wanting (items_of name put) old new l m → IsWalked k n wanting (items_of name (appended was now)) older newer l m
     walked_as w = rw (sym first, sym last, sym all) w
 
-    stopped_as : {error : DeviceAllocationError} → IsTaken (Err (ExistingPoolRefused error)) k 0 n (items_of name put) old new l m → IsTaken (Err (ExistingPoolRefused error)) k 0 n (items_of name (appended was now)) older newer l m
+    stopped_as : {error : DeviceAllocationError} → IsTaken (Err (ExistingPoolRefused error)) None k 0 n (items_of name put) old new l m → IsTaken (Err (ExistingPoolRefused error)) None k 0 n (items_of name (appended was now)) older newer l m
     stopped_as t = rw (sym first, sym last, sym all) t
 
 -- the bucket before and after, as the view has it
@@ -49,7 +49,7 @@ module _ {S : Type 0} (name : S → ℕ) (was now : List (DescriptorSet S)) wher
   module _ (k : Key) (n left : ℕ) (old new : Bucket) (l m : Ledger) where
     more : (r : Result (Unit {0}) DeviceAllocationError)
         → OnOk r ((put : List (DescriptorSet S)) × (now ≡ was ++ put) × (length put + left ≡ n) × IsWalked k n left (items_of name put) old new l m)
-        → IfErr r (λ e. (put : List (DescriptorSet S)) × (now ≡ was ++ put) × (length put + left ≡ n) × IsTaken (Err (ExistingPoolRefused e)) k 0 n (items_of name put) old new l m)
+        → IfErr r (λ e. (put : List (DescriptorSet S)) × (now ≡ was ++ put) × (length put + left ≡ n) × IsTaken (Err (ExistingPoolRefused e)) None k 0 n (items_of name put) old new l m)
         → (allocated_in new.pools ≡ allocated_in old.pools + length (appended was now)) × (length (appended was now) + left ≡ n)
     more (Ok done) walked stopped = (allocated_walked k n walked.3.grant old new l m _ walked.3.taken walked.3.no_fresh ∙ ap (λ j. allocated_in old.pools + j) (long walked.0 walked.1), ap (λ (xs : List (DescriptorSet S)). length xs + left) (sym (all name was walked.0 walked.1)) ∙ walked.2)
     more (Err e) walked stopped = (allocated_walked k n stopped.3.0 old new l _ _ stopped.3.2 stopped.3.3.no_fresh ∙ ap (λ j. allocated_in old.pools + j) (long stopped.0 stopped.1), ap (λ (xs : List (DescriptorSet S)). length xs + left) (sym (all name was stopped.0 stopped.1)) ∙ stopped.2)

@@ -32,7 +32,7 @@ module _ (g : _) (c : In-Ok g) where
 
   -- a pool of one set fits
   fits : pool_descriptors key 1 ≤ c.args.budget.now.room
-  fits = one_fits key c.args.budget.now.room c.args.self.now.total c.args.sink.now.left size c.in-Some.ensures.sets
+  fits = one_fits c.args.budget.now.most key c.args.budget.now.room c.args.self.now.total c.args.sink.now.left size c.in-Some.ensures.sets
 
 -- what came stands behind what was there
 kept : (g : _) (c : In-Ok-alloc_descriptor_sets g) → (g.K.SetPlaces.items c.alloc_descriptor_sets.new.sets.sets) ≡ (g.K.SetPlaces.items c.args.sink.now.sets) ++ map (set_at (key_of c.args.request.now.key) c.args.self.now.id (c.args.self.now.offset + length c.args.self.now.pools.items)) c.in-Ok-alloc_descriptor_sets.ensures.ok.sets
@@ -82,7 +82,7 @@ returns-in-Ok-alloc_descriptor_sets-clause-grown g c =
     ∙ ap (λ (e : Entry). old ++ e ∷ []) (same_entry (entry_of g.D.DescriptorDevice.meaning.pool_name value) _ c.in-Ok-alloc_descriptor_sets.ensures.name refl count (ap (λ n. c.in-Some.size - n) count)) in
     let room : c.alloc_descriptor_sets.new.sets.left + length put.sets ≡ c.args.sink.now.left = (let r = put.room in let n = c.new.ensures.left in let a = c.aim.ensures.left in omega arith) in
     let total : c.push.new.self.total ≡ c.args.self.now.total + length put.sets = (let pushed = c.push.ensures.total in let kept = c.reserve_pool.ensures.total in omega arith) in
-    (put.sets, kept g (goal.at.returns-in-Ok-alloc_descriptor_sets-clause-grown g c).In-Ok-alloc_descriptor_sets, room, total, grown (key g d) c.args.budget.now.room _ c.args.self.now.total c.args.sink.now.left (size g d) (name g d) names old new (before g d) (created g d) m' c.in-Some.ensures.sets (let fits = c.in-Some.ensures.room.0 in let load = c.marked_descriptors_of_pool.ensures in omega arith) long c.in-Ok.ensures.new_name (made g d) is now)
+    (put.sets, kept g (goal.at.returns-in-Ok-alloc_descriptor_sets-clause-grown g c).In-Ok-alloc_descriptor_sets, room, total, grown c.args.budget.now.most (key g d) c.args.budget.now.room _ c.args.self.now.total c.args.sink.now.left (size g d) (name g d) names old new (before g d) (created g d) m' c.in-Some.ensures.sets (let fits = c.in-Some.ensures.room.0 in let load = c.marked_descriptors_of_pool.ensures in omega arith) long c.in-Ok.ensures.new_name (made g d) is now)
 
 pub returns-in_default-clause-err : goal.returns-in_default-clause-err
 returns-in_default-clause-err g c =
@@ -90,13 +90,13 @@ returns-in_default-clause-err g c =
 
 pub returns-then-is_err-clause-err : goal.returns-then-is_err-clause-err
 returns-then-is_err-clause-err g c =
-    (refl, refl, c.reserve_pool.ensures.pools, c.reserve_pool.ensures.total, refl, none_asked (g.D.DescriptorDevice.ledger c.args.device.now) stop.NoMemoryForPool refl, had_room (λ is. absurd (cc)) (one_fits (key_of c.args.request.now.key) c.args.budget.now.room c.args.self.now.total c.args.sink.now.left c.in-Some.size c.in-Some.ensures.sets))
+    (refl, refl, c.reserve_pool.ensures.pools, c.reserve_pool.ensures.total, refl, none_asked (g.D.DescriptorDevice.ledger c.args.device.now) stop.NoMemoryForPool refl, had_room (λ is. absurd (cc)) (one_fits c.args.budget.now.most (key_of c.args.request.now.key) c.args.budget.now.room c.args.self.now.total c.args.sink.now.left c.in-Some.size c.in-Some.ensures.sets))
 
 pub returns-in-Err-clause-err : goal.returns-in-Err-clause-err
 returns-in-Err-clause-err g c =
     let l : Ledger = g.D.DescriptorDevice.ledger c.args.device.now in
     let m : Ledger = g.D.DescriptorDevice.ledger c.create_descriptor_pool.new.self in
-    (refl, refl, c.reserve_pool.ensures.pools, c.reserve_pool.ensures.total, refl, not_created c.in-Err.error l m c.in-Err.ensures.err, had_room (λ is. absurd (cc)) (one_fits (key_of c.args.request.now.key) c.args.budget.now.room c.args.self.now.total c.args.sink.now.left c.in-Some.size c.in-Some.ensures.sets))
+    (refl, refl, c.reserve_pool.ensures.pools, c.reserve_pool.ensures.total, refl, not_created c.in-Err.error l m c.in-Err.ensures.err, had_room (λ is. absurd (cc)) (one_fits c.args.budget.now.most (key_of c.args.request.now.key) c.args.budget.now.room c.args.self.now.total c.args.sink.now.left c.in-Some.size c.in-Some.ensures.sets))
 
 pub returns-in-Err-clause-looks : goal.returns-in-Err-clause-looks
 returns-in-Err-clause-looks g c =

@@ -1,13 +1,18 @@
-use Rattle.gpu_descriptor.proofs.Common.{arith, refl, key_of}
-use Rattle.std.proofs.lemmas.Option.{IfSome_then}
-use Rattle.gpu_descriptor.proofs.request.NextSize.{next_fits}
+use Rattle.gpu_descriptor.proofs.Common.{arith, ap, ◌∙◌, sum, key_of, kinds, bounded_sets}
+use Rattle.gpu_descriptor_types.proofs.Room.{bounded_some}
+use Rattle.gpu_descriptor.proofs.request.NextSize.{next_fits, next_small}
 use Rattle.gpu_descriptor.proofs.bucket.growth.next_size.Goals as goal
 
-pub returns-then-key-clause-sets : goal.returns-then-key-clause-sets
-returns-then-key-clause-sets c = IfSome_then c.cut_pool_size.result c.cut_pool_size.ensures.sets (λ pool s. record { whole = s.whole; is_whole = s.is_whole; cut = rw c.if-key.true s.cut; some = s.some })
+pub returns-clause-sets : goal.returns-clause-sets
+returns-clause-sets c =
+    let s = c.in_ok-size.ensures.sets in
+    let each = sum (kinds c.args.key.now.counts) in
+    let is = c.bounded_pool_size.ensures.sets in
+    let some = bounded_some c.args.most each c.args.wanted c.in_ok-size.size.1 c.requires.some s.some in
+    record { whole = s.whole; is_whole = s.is_whole; cut = is ∙ ap (bounded_sets c.args.most each c.args.wanted) s.cut; some = omega arith }
 
-pub returns-then-key-clause-room : goal.returns-then-key-clause-room
-returns-then-key-clause-room c = IfSome_then c.cut_pool_size.result (returns-then-key-clause-sets c) (λ pool s. (let fits = next_fits (key_of c.args.key.now) c.args.room c.args.total c.args.wanted pool.1 s in let small = c.ranges.room.fits in (fits, omega arith)))
+pub returns-clause-at_most : goal.returns-clause-at_most
+returns-clause-at_most c = next_small c.args.most (key_of c.args.key.now) c.args.room c.args.total c.args.wanted _ (returns-clause-sets c)
 
-pub returns-else-key-clause-sets : goal.returns-else-key-clause-sets
-returns-else-key-clause-sets c = record { whole = c.new_pool_size.result.1; is_whole = c.new_pool_size.ensures.sets; cut = rw c.if-key.false refl; some = c.new_pool_size.ensures.some }
+pub returns-clause-room : goal.returns-clause-room
+returns-clause-room c = (let fits = next_fits c.args.most (key_of c.args.key.now) c.args.room c.args.total c.args.wanted _ (returns-clause-sets c) in let small = c.ranges.room.fits in (fits, omega arith))
