@@ -7,6 +7,8 @@ mod acts;
 #[cfg(test)]
 mod bench;
 #[cfg(test)]
+mod bounded;
+#[cfg(test)]
 mod callers;
 #[cfg(test)]
 mod capacity;

@@ -109,6 +109,8 @@ impl<P, S> DescriptorAllocator<P, S> {
     /// `None`, its size is as in the original. Pools that exist stay.
     pub fn set_most_pool_descriptors(&mut self, most: Option<u64>)
         ensures value { self.new ≡ record self.old { most = most } }
+        ensures agree { (name : P → ℕ) (ledger : Ledger) → Agrees name self.old ledger
+            → Agrees name self.new ledger }
     {
         self.budget.most = most;
     }

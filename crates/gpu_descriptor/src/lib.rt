@@ -21,7 +21,8 @@ pub use errors::AllocationError;
 pub use flags::DescriptorSetLayoutCreateFlags;
 pub use gpu_descriptor_types::{
     CreatePoolError, DescriptorDevice, DescriptorPoolCreateFlags, DescriptorTotalCount,
-    DeviceAllocationError, Layouts, SetSink, Tally, cut_pool_size, new_pool_size,
+    DeviceAllocationError, Layouts, SetSink, Tally, bounded_pool_size, cut_pool_size,
+    new_pool_size,
 };
 pub use layout::SetLayout;
 pub use set::DescriptorSet;

@@ -1,6 +1,8 @@
 //! The greatest counts, as a caller hands them in: no clause says that the words of the contracts
 //! mean these numbers.
-use gpu_descriptor_types::{DescriptorTotalCount, cut_pool_size, new_pool_size};
+use gpu_descriptor_types::{
+    DescriptorTotalCount, bounded_pool_size, cut_pool_size, new_pool_size,
+};
 
 /// The same count for each kind.
 fn of_each(count: u32) -> DescriptorTotalCount {
@@ -39,4 +41,17 @@ fn no_counts(rt: HostRuntime) {
     assert_eq!(rt; none.total(), 0);
     assert_eq!(rt; new_pool_size(&none, 0, u32::MAX), (one, 2_147_483_647));
     assert_eq!(rt; cut_pool_size(&none, 0, 1, 1), Some((one, 64)));
+}
+
+#[test]
+fn bounded_counts(rt: HostRuntime) {
+    let all = of_each(u32::MAX);
+    let one = new_pool_size(&all, 0, 1);
+    assert_eq!(rt; bounded_pool_size(&all, one, u32::MAX, Some(0)), (all, 1));
+    let none = DescriptorTotalCount::default();
+    let many = new_pool_size(&none, 0, u32::MAX);
+    let (_, bounded) = bounded_pool_size(&none, many, 1, Some(u64::MAX));
+    assert_eq!(rt; bounded, 2_147_483_647);
+    let (_, cut) = bounded_pool_size(&none, many, 0, Some(0));
+    assert_eq!(rt; cut, 0);
 }
