@@ -203,13 +203,14 @@ module _ {S : Type 0} where
 
 module _ {L P S D : Type 0} {d : Ghosts D L P S} where
   pub store_same : (s : Store L P S D d) → StoreStays (most_of s) s s
-  store_same s = record { number = refl; lists = refl; limit = refl; besides = refl; keeps = refl }
+  store_same s = record { number = refl; lists = refl; limit = refl; bound = refl; besides = refl; keeps = refl }
 
   pub stays_then : (old mid new : Store L P S D d) → StoreStays (most_of old) old mid → StoreStays (most_of mid) mid new → StoreStays (most_of old) old new
   stays_then old mid new a b = record {
     number = b.number ∙ a.number;
     lists = b.lists ∙ a.lists;
     limit = b.limit ∙ a.limit;
+    bound = b.bound ∙ a.bound;
     besides = b.besides ∙ a.besides;
     keeps = b.keeps ∙ a.keeps;
   }

@@ -30,6 +30,8 @@ pub record Rendering (L S : Type 0) : Type 0 where
   pub most : ℕ
   pub pools_besides : ℕ → Option Pool
   pub limit : ℕ
+  -- how many descriptors a new pool has at most, unless what is wanting needs more
+  pub bound : Option ℕ
 
 module _ {L P S D : Type 0} {d : Ghosts D L P S} where
   -- the sets, the allocator and the device
@@ -90,6 +92,10 @@ module _ {L P S D : Type 0} {d : Ghosts D L P S} where
   abbrev pub limit_of : Renderer L P S D d → ℕ
   limit_of r = stores.limit_of r.store
 
+  -- how many descriptors a new pool has at most, unless what is wanting needs more
+  abbrev pub bound_of : Renderer L P S D d → Option ℕ
+  bound_of r = stores.bound_of r.store
+
   -- the last frame that the device can be done with, of those up to this one: the open frame is none of them
   abbrev pub done_of : ℕ → Renderer L P S D d → ℕ
   done_of frame r = if r.is_open then min frame (r.frame - 1) else frame
@@ -105,6 +111,7 @@ module _ {L P S D : Type 0} {d : Ghosts D L P S} where
     most = most_of r;
     pools_besides = pools_besides r;
     limit = limit_of r;
+    bound = bound_of r;
   }
 
   -- a set of the layout has the handle, which was never given; each other handle names what it named

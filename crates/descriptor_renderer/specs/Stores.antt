@@ -110,6 +110,10 @@ module _ {L P S D : Type 0} {d : Ghosts D L P S} where
   abbrev pub limit_of : Store L P S D d → ℕ
   limit_of s = s.allocator.limit
 
+  -- how many descriptors a new pool has at most, unless what is wanting needs more
+  abbrev pub bound_of : Store L P S D d → Option ℕ
+  bound_of s = s.allocator.most
+
   -- the number that tells the handles of the table from those of others
   abbrev pub number_of : Store L P S D d → ℕ
   number_of s = s.table.number
@@ -152,6 +156,7 @@ module _ {L P S D : Type 0} {d : Ghosts D L P S} where
     pub number : number_of new ≡ number_of old
     pub lists : lists_in new ≡ lists_in old
     pub limit : limit_of new ≡ limit_of old
+    pub bound : bound_of new ≡ bound_of old
     pub besides : pools_besides new ≡ pools_besides old
     pub keeps : most_of new ≡ most
 

@@ -70,7 +70,8 @@ pub struct Renderer<L, P, S, D: DescriptorDevice<L, P, S>> {
 impl<L: Drop, P: Drop, S: Drop, D: DescriptorDevice<L, P, S>> Renderer<L, P, S, D> {
     ghost use Rattle.gpu_descriptor.specs.declared.layout.SetLayout.{SetLayout};
     ghost use Rattle.descriptor_renderer.specs.declared.layout_registry.LayoutHandle.{LayoutHandle};
-    ghost use Rattle.descriptor_renderer.specs.Renderers.{frame_of, is_open, kept_of, layout_of};
+    ghost use Rattle.descriptor_renderer.specs.Renderers.{bound_of, frame_of, is_open, kept_of};
+    ghost use Rattle.descriptor_renderer.specs.Renderers.{layout_of};
     ghost use Rattle.descriptor_renderer.specs.Renderers.{layouts_in, ledger_in, limit_of, most_of};
     ghost use Rattle.descriptor_renderer.specs.Renderers.{number_of, pools_besides, pools_in, seen};
     ghost use Rattle.descriptor_renderer.specs.Renderers.{sets_by, side_of, slots_of, store_of};
@@ -78,7 +79,9 @@ impl<L: Drop, P: Drop, S: Drop, D: DescriptorDevice<L, P, S>> Renderer<L, P, S, 
     /// A renderer over a device, without layouts, sets and an open frame. It allocates nothing.
     ///
     /// `limit` is the driver's, on the update-after-bind descriptors of all pools. By `renderer` its
-    /// handles are told from those of other renderers: give each of a program a number of its own.
+    /// handles are told from those of other renderers: give each of a program a number of its own. A
+    /// new pool has at most 65,536 descriptors, unless what is wanting needs more:
+    /// `set_most_pool_descriptors` changes that.
     pub fn new(alloc: Global, device: D, limit: u32, renderer: u64) -> Self
         ensures layouts { (handle : LayoutHandle) → layout_of result handle ≡ None }
         ensures frame { frame_of result ≡ 0 }
@@ -87,6 +90,7 @@ impl<L: Drop, P: Drop, S: Drop, D: DescriptorDevice<L, P, S>> Renderer<L, P, S, 
         ensures most { most_of result ≡ u32.MAX }
         ensures pools { pools_besides result ≡ (D.ledger device).pools }
         ensures limit { limit_of result ≡ limit }
+        ensures bound { bound_of result ≡ Some 65536 }
         ensures ledger { ledger_in result ≡ D.ledger device }
         ensures number { number_of result ≡ renderer }
     {
@@ -153,6 +157,26 @@ impl<L: Drop, P: Drop, S: Drop, D: DescriptorDevice<L, P, S>> Renderer<L, P, S, 
             { slots = slots_of self.new; most = most } }
     {
         self.store.set_keep(most);
+    }
+
+    /// From now on a new pool has at most `most` descriptors, unless what is wanting needs more: it
+    /// holds no more sets than have so many descriptors, or than are wanting. With `None` its size is
+    /// as in the original. Pools that exist stay.
+    pub fn set_most_pool_descriptors(&mut self, most: Option<u64>)
+        ensures bound { bound_of self.new ≡ most }
+        ensures ledger { ledger_in self.new ≡ ledger_in self.old }
+        ensures slots { slots_of self.new ≡ slots_of self.old }
+        ensures rest { seen self.new ≡ record (seen self.old) { bound = most } }
+    {
+        self.store.set_most_pool_descriptors(most);
+    }
+
+    /// How many descriptors a new pool has at most, unless what is wanting needs more; `None` if none
+    /// is bounded.
+    pub fn most_pool_descriptors(&self) -> Option<u64>
+        ensures { result ≡ bound_of self.now }
+    {
+        self.store.most_pool_descriptors()
     }
 
     /// The layout of a handle. None under a handle of another renderer.

@@ -1,5 +1,5 @@
 //! The table of a renderer's sets over an allocator and a device.
-ghost use Rattle.std.specs.Prelude.{◌≡◌, ℕ, ◌+◌, ◌<◌, ◌≤◌, [], length, OnOk, vec_capacity, option_map};
+ghost use Rattle.std.specs.Prelude.{◌≡◌, ℕ, ◌+◌, ◌<◌, ◌≤◌, [], length, OnOk, Some, vec_capacity, option_map};
 ghost use Rattle.std.specs.Option.{option_copied};
 ghost use Rattle.gpu_descriptor.specs.Caller.Sets.{raw_of};
 ghost use Rattle.gpu_descriptor.specs.Caller.States.{Agrees, outstanding_of, state_of};
@@ -18,6 +18,10 @@ use gpu_descriptor::{DescriptorAllocator, DescriptorDevice, DescriptorSet};
 use std::alloc::{AllocError, Global};
 use std::marker::PhantomData;
 use std::vec::Vec;
+
+/// How many descriptors a new pool of a renderer has at most at first, unless what is wanting needs
+/// more.
+const MOST_POOL_DESCRIPTORS: u64 = 65_536;
 
 /// The sets of a renderer, an allocator and a device. What the allocator handed out is in the table.
 #[derive(Drop)]
@@ -41,24 +45,27 @@ pub(crate) struct Store<L, P, S, D: DescriptorDevice<L, P, S>> {
 
 impl<L: Drop, P: Drop, S: Drop, D: DescriptorDevice<L, P, S>> Store<L, P, S, D> {
     ghost use Rattle.descriptor_renderer.specs.Stores.{HasListRoom, IsAtRest, StoreStays, coming_in, kept_of, ledger_of};
-    ghost use Rattle.descriptor_renderer.specs.Stores.{limit_of, lists_in, most_of, number_of};
+    ghost use Rattle.descriptor_renderer.specs.Stores.{bound_of, limit_of, lists_in, most_of, number_of};
     ghost use Rattle.descriptor_renderer.specs.Stores.{pools_besides, side_of, slots_in};
 
     /// No sets and no layouts, for the renderer of this number, over a new allocator with this limit on
-    /// update-after-bind descriptors. It allocates nothing.
+    /// update-after-bind descriptors, whose new pools are bounded. It allocates nothing.
     pub(crate) fn new(alloc: Global, device: D, limit: u32, number: u64) -> Self
         ensures slots { slots_in result ≡ [] }
         ensures ledger { ledger_of result ≡ D.ledger device }
         ensures besides { pools_besides result ≡ (D.ledger device).pools }
         ensures limit { limit_of result ≡ limit }
+        ensures bound { bound_of result ≡ Some 65536 }
         ensures number { number_of result ≡ number }
         ensures most { most_of result ≡ u32.MAX }
         ensures lists { lists_in result ≡ 0 }
         ensures rest { IsAtRest result }
     {
+        let mut allocator = DescriptorAllocator::new(alloc, limit);
+        allocator.set_most_pool_descriptors(Some(MOST_POOL_DESCRIPTORS));
         Store {
             device,
-            allocator: DescriptorAllocator::new(alloc, limit),
+            allocator,
             table: SetTable::new(alloc, number),
             coming: Vec::new(alloc),
             layout: PhantomData,
@@ -89,6 +96,30 @@ impl<L: Drop, P: Drop, S: Drop, D: DescriptorDevice<L, P, S>> Store<L, P, S, D> 
         ensures coming { coming_in self.new ≡ coming_in self.old }
     {
         self.table.add_layout();
+    }
+
+    /// From now on a new pool has at most `most` descriptors, unless what is wanting needs more. `None`
+    /// bounds none.
+    pub(crate) fn set_most_pool_descriptors(&mut self, most: Option<u64>)
+        ensures bound { bound_of self.new ≡ most }
+        ensures slots { slots_in self.new ≡ slots_in self.old }
+        ensures ledger { ledger_of self.new ≡ ledger_of self.old }
+        ensures besides { pools_besides self.new ≡ pools_besides self.old }
+        ensures number { number_of self.new ≡ number_of self.old }
+        ensures lists { lists_in self.new ≡ lists_in self.old }
+        ensures limit { limit_of self.new ≡ limit_of self.old }
+        ensures keeps { most_of self.new ≡ most_of self.old }
+        ensures coming { coming_in self.new ≡ coming_in self.old }
+    {
+        self.allocator.set_most_pool_descriptors(most);
+    }
+
+    /// How many descriptors a new pool has at most, unless what is wanting needs more; `None` if none
+    /// is bounded.
+    pub(crate) fn most_pool_descriptors(&self) -> Option<u64>
+        ensures { result ≡ bound_of self.now }
+    {
+        self.allocator.most_pool_descriptors()
     }
 
     /// The raw set of a handle, in this frame if one is open.
