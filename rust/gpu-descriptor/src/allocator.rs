@@ -37,7 +37,8 @@ impl<P, S> DescriptorAllocator<P, S> {
     /// allows, so one set can use up the limit: if that is 500,000, the first set of a layout with 10,000
     /// descriptors comes from a pool of 50 sets. Requests for update-after-bind layouts with other counts
     /// then fail with `Fragmentation`, and `cleanup` can't destroy that pool while one of its sets is out.
-    /// Allocate sets of the small layouts first, or give each of two allocators a part of the limit.
+    /// Allocate sets of the small layouts first, give each of two allocators a part of the limit, or bound
+    /// the pools by [`set_most_pool_descriptors`](Self::set_most_pool_descriptors).
     /// [`update_after_bind_capacity`](Self::update_after_bind_capacity) returns how much is used.
     #[must_use]
     pub fn new(max_update_after_bind_descriptors_in_all_pools: u32) -> Self {
@@ -227,6 +228,29 @@ impl<P, S> DescriptorAllocator<P, S> {
     pub unsafe fn cleanup<L>(&mut self, device: &impl DescriptorDevice<L, P, S>) {
         let device = &mut Adapter { device };
         self.inner.call_in_drop(|inner| inner.cleanup(device));
+    }
+
+    /// Bounds new pools from now on: each has at most `most` descriptors, of all kinds together, unless the
+    /// sets that a request still needs have more. So it holds no more sets than have `most` descriptors, or
+    /// than are needed, and at least one. Pools that exist stay.
+    ///
+    /// At first it is `None`: pools are as in gpu-descriptor 0.3.2, where a new one is for at least 64 sets
+    /// however many descriptors a set has, or for as many as the limit allows. That is 6,400,000 descriptors
+    /// for one set of a layout with 100,000; with `Some(65_536)` its pool has the one set.
+    ///
+    /// # Panics
+    ///
+    /// The allocator is poisoned.
+    pub fn set_most_pool_descriptors(&mut self, most: Option<u64>) {
+        self.inner
+            .call(|inner| inner.set_most_pool_descriptors(most));
+    }
+
+    /// How many descriptors a new pool has at most, unless more are needed at once, as set by
+    /// [`set_most_pool_descriptors`](Self::set_most_pool_descriptors).
+    #[must_use]
+    pub fn most_pool_descriptors(&self) -> Option<u64> {
+        self.inner.get().most_pool_descriptors()
     }
 
     /// How many sets are outstanding.

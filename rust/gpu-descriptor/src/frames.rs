@@ -326,6 +326,19 @@ impl<P, S> FrameManager<P, S> {
         self.inner.call_in_drop(|inner| inner.cleanup(device));
     }
 
+    /// Bounds the descriptors of each new pool from now on, as
+    /// [`DescriptorAllocator::set_most_pool_descriptors`](crate::DescriptorAllocator::set_most_pool_descriptors)
+    /// does. At first it is `None`, as in gpu-descriptor 0.3.2.
+    pub fn set_most_pool_descriptors(&mut self, most: Option<u64>) {
+        self.inner.get_mut().set_most_pool_descriptors(most);
+    }
+
+    /// How many descriptors a new pool has at most, unless more are needed at once.
+    #[must_use]
+    pub fn most_pool_descriptors(&self) -> Option<u64> {
+        self.inner.get().most_pool_descriptors()
+    }
+
     /// How many sets are in use or retired.
     #[must_use]
     pub fn outstanding(&self) -> u64 {

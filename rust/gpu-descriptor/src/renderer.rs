@@ -163,7 +163,9 @@ pub struct Renderer<L, P, S, D: DescriptorDevice<L, P, S>> {
 
 impl<L, P, S, D: DescriptorDevice<L, P, S>> Renderer<L, P, S, D> {
     /// A renderer over a device, without layouts, sets and an open frame. It allocates nothing. The limit
-    /// is that of [`DescriptorAllocator::new`](crate::DescriptorAllocator::new).
+    /// is that of [`DescriptorAllocator::new`](crate::DescriptorAllocator::new). Other than with a
+    /// `DescriptorAllocator`, a new pool has at most 65,536 descriptors, unless more are needed at once:
+    /// [`set_most_pool_descriptors`](Self::set_most_pool_descriptors) changes that.
     ///
     /// # Panics
     ///
@@ -288,6 +290,21 @@ impl<L, P, S, D: DescriptorDevice<L, P, S>> Renderer<L, P, S, D> {
     /// is `u32::MAX`, and 0 keeps none. It allocates nothing. See [Kept sets](Self#kept-sets).
     pub fn set_keep(&mut self, most: u32) {
         self.inner.call(|inner| inner.set_keep(most));
+    }
+
+    /// Bounds the descriptors of each new pool from now on, as
+    /// [`DescriptorAllocator::set_most_pool_descriptors`](crate::DescriptorAllocator::set_most_pool_descriptors)
+    /// does. At first it is `Some(65_536)`; with `None` the sizes of pools are those of gpu-descriptor 0.3.2.
+    /// Pools that exist stay.
+    pub fn set_most_pool_descriptors(&mut self, most: Option<u64>) {
+        self.inner
+            .call(|inner| inner.set_most_pool_descriptors(most));
+    }
+
+    /// How many descriptors a new pool has at most, unless more are needed at once.
+    #[must_use]
+    pub fn most_pool_descriptors(&self) -> Option<u64> {
+        self.inner.get().most_pool_descriptors()
     }
 
     /// Creates a set of a layout, which is held until it is freed or destroyed, in a frame or between

@@ -177,6 +177,8 @@ fn calls_of_an_allocator() -> Vec<Call<Allocating>> {
         Panics (on.it).allocate_one(&on.device, &on.layout);
         PanicsButInADrop (on.it).free(&on.device, on.sets.drain(..));
         PanicsButInADrop (on.it).cleanup(&on.device);
+        Panics (on.it).set_most_pool_descriptors(None);
+        Answers (on.it).most_pool_descriptors();
         Answers (on.it).outstanding();
         Answers (on.it).update_after_bind_descriptors();
         Answers (on.it).update_after_bind_capacity();
@@ -238,6 +240,8 @@ fn calls_of_a_manager() -> Vec<Call<Managing>> {
         PanicsButInADrop (on.it).finish(&on.device, 1);
         PanicsButInADrop (on.it).free(&on.device, on.sets.drain(..));
         PanicsButInADrop (on.it).cleanup(&on.device);
+        Answers (on.it).set_most_pool_descriptors(None);
+        Answers (on.it).most_pool_descriptors();
         Answers (on.it).reserve(1);
         Answers (on.it).retire(1, on.sets.remove(0));
         Answers (on.it).retire_late(0, on.sets.remove(0));
@@ -304,6 +308,8 @@ fn calls_of_a_renderer() -> Vec<Call<Rendering>> {
         Panics (on.it.as_mut().unwrap()).begin_frame();
         Panics (on.it.as_mut().unwrap()).skip_to(9);
         Panics (on.it.as_mut().unwrap()).set_keep(0);
+        Panics (on.it.as_mut().unwrap()).set_most_pool_descriptors(None);
+        Answers (on.it.as_mut().unwrap()).most_pool_descriptors();
         Panics (on.it.as_mut().unwrap()).draw(on.layout);
         Panics (on.it.as_mut().unwrap()).create_set(on.layout);
         Panics (on.it.as_mut().unwrap()).create_sets(on.layout, 0);

@@ -54,6 +54,20 @@ impl<P, S> FrameManager<P, S> {
         self.greatest
     }
 
+    /// From now on a new pool has at most `most` descriptors, unless what is wanting needs more, as by
+    /// `DescriptorAllocator::set_most_pool_descriptors`.
+    pub fn set_most_pool_descriptors(&mut self, most: Option<u64>)
+    {
+        self.allocator.set_most_pool_descriptors(most);
+    }
+
+    /// How many descriptors a new pool has at most, unless what is wanting needs more; `None` if none
+    /// is bounded.
+    pub fn most_pool_descriptors(&self) -> Option<u64>
+    {
+        self.allocator.most_pool_descriptors()
+    }
+
     /// The allocator.
     pub fn allocator(&self) -> &DescriptorAllocator<P, S>
     {

@@ -54,7 +54,9 @@ impl<L, P, S, D: DescriptorDevice<L, P, S>> Renderer<L, P, S, D> {
     /// A renderer over a device, without layouts, sets and an open frame. It allocates nothing.
     ///
     /// `limit` is the driver's, on the update-after-bind descriptors of all pools. By `renderer` its
-    /// handles are told from those of other renderers: give each of a program a number of its own.
+    /// handles are told from those of other renderers: give each of a program a number of its own. A
+    /// new pool has at most 65,536 descriptors, unless what is wanting needs more:
+    /// `set_most_pool_descriptors` changes that.
     pub fn new(alloc: Global, device: D, limit: u32, renderer: u64) -> Self
     {
         Renderer {
@@ -97,6 +99,21 @@ impl<L, P, S, D: DescriptorDevice<L, P, S>> Renderer<L, P, S, D> {
     pub fn set_keep(&mut self, most: u32)
     {
         self.store.set_keep(most);
+    }
+
+    /// From now on a new pool has at most `most` descriptors, unless what is wanting needs more: it
+    /// holds no more sets than have so many descriptors, or than are wanting. With `None` its size is
+    /// as in the original. Pools that exist stay.
+    pub fn set_most_pool_descriptors(&mut self, most: Option<u64>)
+    {
+        self.store.set_most_pool_descriptors(most);
+    }
+
+    /// How many descriptors a new pool has at most, unless what is wanting needs more; `None` if none
+    /// is bounded.
+    pub fn most_pool_descriptors(&self) -> Option<u64>
+    {
+        self.store.most_pool_descriptors()
     }
 
     /// The layout of a handle. None under a handle of another renderer.

@@ -11,6 +11,10 @@ use crate::kit::alloc::{AllocError, Global};
 use crate::kit::marker::PhantomData;
 use crate::kit::vec::Vec;
 
+/// How many descriptors a new pool of a renderer has at most at first, unless what is wanting needs
+/// more.
+const MOST_POOL_DESCRIPTORS: u64 = 65_536;
+
 /// The sets of a renderer, an allocator and a device. What the allocator handed out is in the table.
 pub(crate) struct Store<L, P, S, D: DescriptorDevice<L, P, S>> {
     allocator: DescriptorAllocator<P, S>,
@@ -26,12 +30,14 @@ pub(crate) struct Store<L, P, S, D: DescriptorDevice<L, P, S>> {
 
 impl<L, P, S, D: DescriptorDevice<L, P, S>> Store<L, P, S, D> {
     /// No sets and no layouts, for the renderer of this number, over a new allocator with this limit on
-    /// update-after-bind descriptors. It allocates nothing.
+    /// update-after-bind descriptors, whose new pools are bounded. It allocates nothing.
     pub(crate) fn new(alloc: Global, device: D, limit: u32, number: u64) -> Self
     {
+        let mut allocator = DescriptorAllocator::new(alloc, limit);
+        allocator.set_most_pool_descriptors(Some(MOST_POOL_DESCRIPTORS));
         Store {
             device,
-            allocator: DescriptorAllocator::new(alloc, limit),
+            allocator,
             table: SetTable::new(alloc, number),
             coming: Vec::new(alloc),
             layout: PhantomData,
@@ -48,6 +54,20 @@ impl<L, P, S, D: DescriptorDevice<L, P, S>> Store<L, P, S, D> {
     pub(crate) fn add_layout(&mut self)
     {
         self.table.add_layout();
+    }
+
+    /// From now on a new pool has at most `most` descriptors, unless what is wanting needs more. `None`
+    /// bounds none.
+    pub(crate) fn set_most_pool_descriptors(&mut self, most: Option<u64>)
+    {
+        self.allocator.set_most_pool_descriptors(most);
+    }
+
+    /// How many descriptors a new pool has at most, unless what is wanting needs more; `None` if none
+    /// is bounded.
+    pub(crate) fn most_pool_descriptors(&self) -> Option<u64>
+    {
+        self.allocator.most_pool_descriptors()
     }
 
     /// The raw set of a handle, in this frame if one is open.

@@ -66,8 +66,17 @@ impl<P, S> DescriptorAllocator<P, S> {
             outstanding: 0,
             budget: Budget {
                 room: max_update_after_bind_descriptors_in_all_pools,
+                most: None,
             },
             sets: PhantomData,
         }
+    }
+
+    /// From now on a new pool has at most `most` descriptors, unless what is wanting needs more: it
+    /// holds no more sets than have so many descriptors, or than are wanting. At first, and with
+    /// `None`, its size is as in the original. Pools that exist stay.
+    pub fn set_most_pool_descriptors(&mut self, most: Option<u64>)
+    {
+        self.budget.most = most;
     }
 }

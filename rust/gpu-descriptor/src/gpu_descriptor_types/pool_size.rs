@@ -48,6 +48,26 @@ pub fn cut_pool_size(
     Some((counts_of_sets(counts, sets), sets))
 }
 
+/// A pool size of these counts, cut so that its sets have at most `most` descriptors together, unless
+/// the `wanted` sets have more; as it is with `None`. A set without descriptors counts as one.
+pub fn bounded_pool_size(
+    counts: &DescriptorTotalCount,
+    size: (DescriptorTotalCount, u32),
+    wanted: u32,
+    most: Option<u64>,
+) -> (DescriptorTotalCount, u32)
+{
+    let Some(most) = most else {
+        return size;
+    };
+    let fit = most / counts.total_u64().max(1);
+    let sets = u64::from(size.1).min(fit.max(u64::from(wanted))) as u32;
+    if sets == size.1 {
+        return size;
+    }
+    (counts_of_sets(counts, sets), sets)
+}
+
 /// How many of so many sets fit into room for descriptors, where each set has `each`.
 fn sets_in_room(room: u32, each: u64, sets: u32) -> u32
 {

@@ -28,6 +28,13 @@ impl<P, S> DescriptorAllocator<P, S> {
         self.max_update_after_bind_descriptors_in_all_pools - self.budget.room
     }
 
+    /// How many descriptors a new pool has at most, unless what is wanting needs more; `None` where
+    /// that isn't bounded.
+    pub fn most_pool_descriptors(&self) -> Option<u64>
+    {
+        self.budget.most
+    }
+
     /// How many pools there are for sets of layouts with these counts and this mark.
     pub fn pool_count(&self, counts: &DescriptorTotalCount, update_after_bind: bool) -> usize
     {

@@ -10,7 +10,7 @@ use crate::gpu_descriptor::key::BucketKey;
 use crate::gpu_descriptor::places::SetPlaces;
 use crate::gpu_descriptor_types::{
     DescriptorDevice, DescriptorPoolCreateFlags, DescriptorTotalCount, Layouts,
-    cut_pool_size, new_pool_size,
+    bounded_pool_size, cut_pool_size, new_pool_size,
 };
 use crate::kit::alloc::AllocError;
 
@@ -25,10 +25,10 @@ fn pool_flags(update_after_bind: bool) -> DescriptorPoolCreateFlags
     flags
 }
 
-/// The counts of a key's next pool, and how many sets it holds; `None` where the limit leaves no
-/// room for one.
+/// The counts of a key's next pool without a bound on its descriptors, and how many sets it holds;
+/// `None` where the limit leaves no room for one.
 #[inline]
-fn next_size(
+fn unbounded_size(
     key: &BucketKey,
     total: u64,
     wanted: u32,
@@ -40,6 +40,20 @@ fn next_size(
     } else {
         Some(new_pool_size(&key.counts, total, wanted))
     }
+}
+
+/// The same with the bound, where there is one.
+#[inline]
+fn next_size(
+    key: &BucketKey,
+    total: u64,
+    wanted: u32,
+    room: u32,
+    most: Option<u64>,
+) -> Option<(DescriptorTotalCount, u32)>
+{
+    let size = unbounded_size(key, total, wanted, room)?;
+    Some(bounded_pool_size(&key.counts, size, wanted, most))
 }
 
 impl<P> DescriptorBucket<P> {
@@ -56,7 +70,8 @@ impl<P> DescriptorBucket<P> {
     ) -> Result<(), Stop>
     {
         let key = &request.key;
-        let Some((counts, size)) = next_size(key, self.total, sink.left, budget.room) else {
+        let Some((counts, size)) = next_size(key, self.total, sink.left, budget.room, budget.most)
+        else {
             return Err(Stop::NoRoomUnderLimit);
         };
         if self.reserve_pool().is_err() {
