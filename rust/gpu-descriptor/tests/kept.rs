@@ -191,6 +191,8 @@ type Sets<'a> = Renderer<u32, u64, u64, &'a Gpu>;
 fn renderer<'a>(gpu: &'a Gpu, keep: u32) -> (Sets<'a>, [LayoutHandle; LAYOUTS]) {
     let mut it = Renderer::new(gpu, LIMIT);
     it.set_keep(keep);
+    // A pool of the third layout is for two sets.
+    it.set_most_pool_descriptors(None);
     // SAFETY: they are the device's, and stay.
     let layouts = [0, 1, 2, 3].map(|at| unsafe { it.add_layout(layout(at)) }.unwrap());
     (it, layouts)

@@ -1,0 +1,183 @@
+//! The bound on the descriptors of new pools, by hand: how many sets each pool is created for.
+
+use gpu_descriptor::frames::FrameManager;
+use gpu_descriptor::renderer::Renderer;
+use gpu_descriptor::*;
+use std::cell::RefCell;
+
+/// It notes how many sets each pool is for, and sees that the counts are those of so many.
+struct Device {
+    images: u32,
+    pools: RefCell<Vec<u32>>,
+}
+
+impl Device {
+    fn new(images: u32) -> Self {
+        Device {
+            images,
+            pools: RefCell::default(),
+        }
+    }
+
+    /// The pools that came since the last call.
+    fn pools(&self) -> Vec<u32> {
+        self.pools.take()
+    }
+}
+
+impl DescriptorDevice<(), (), ()> for Device {
+    unsafe fn create_descriptor_pool(
+        &self,
+        counts: &DescriptorTotalCount,
+        max_sets: u32,
+        _: DescriptorPoolCreateFlags,
+    ) -> Result<(), CreatePoolError> {
+        assert_eq!(counts.sampled_image, self.images * max_sets);
+        self.pools.borrow_mut().push(max_sets);
+        Ok(())
+    }
+
+    unsafe fn destroy_descriptor_pool(&self, (): ()) {}
+
+    unsafe fn alloc_descriptor_sets<'a>(
+        &self,
+        (): &mut (),
+        layouts: impl ExactSizeIterator<Item = &'a ()>,
+        sets: &mut impl Extend<()>,
+    ) -> Result<(), DeviceAllocationError> {
+        sets.extend(layouts.copied());
+        Ok(())
+    }
+
+    unsafe fn dealloc_descriptor_sets(&self, (): &mut (), sets: impl Iterator<Item = ()>) {
+        sets.for_each(drop);
+    }
+}
+
+/// A layout with so many images, update-after-bind or not.
+fn layout(images: u32, is_marked: bool) -> SetLayout<()> {
+    let mut flags = DescriptorSetLayoutCreateFlags::empty();
+    flags.set(DescriptorSetLayoutCreateFlags::UPDATE_AFTER_BIND, is_marked);
+    let counts = DescriptorTotalCount {
+        sampled_image: images,
+        ..Default::default()
+    };
+    SetLayout {
+        layout: (),
+        counts,
+        flags,
+    }
+}
+
+const MOST: Option<u64> = Some(65_536);
+
+/// The pools of these requests to an allocator. With a limit the layout is update-after-bind.
+fn pools(most: Option<u64>, limit: u32, images: u32, requests: &[u32]) -> Vec<u32> {
+    let (mut it, device) = (DescriptorAllocator::new(limit), Device::new(images));
+    it.set_most_pool_descriptors(most);
+    assert_eq!(it.most_pool_descriptors(), most);
+    let layout = layout(images, limit > 0);
+    let mut sets = Vec::new();
+    for count in requests {
+        unsafe { it.allocate_into(&device, &layout, *count, &mut sets) }.unwrap();
+    }
+    unsafe { it.free(&device, sets) };
+    unsafe { it.cleanup(&device) };
+    device.pools()
+}
+
+#[test]
+fn an_allocator_begins_without() {
+    let it = DescriptorAllocator::<(), ()>::new(0);
+    assert_eq!(it.most_pool_descriptors(), None);
+}
+
+#[test]
+fn of_100_000_images() {
+    assert_eq!(pools(None, 0, 100_000, &[1]), [64]);
+    assert_eq!(pools(MOST, 0, 100_000, &[1]), [1]);
+    assert_eq!(pools(MOST, 0, 100_000, &[3]), [3]);
+    assert_eq!(pools(MOST, 0, 100_000, &[1, 3, 1]), [1, 3, 1]);
+    assert_eq!(pools(Some(299_999), 0, 100_000, &[1]), [2]);
+    assert_eq!(pools(Some(300_000), 0, 100_000, &[1]), [3]);
+}
+
+#[test]
+fn of_100_000_images_under_a_limit() {
+    assert_eq!(pools(None, 500_000, 100_000, &[1]), [5]);
+    assert_eq!(pools(MOST, 500_000, 100_000, &[1]), [1]);
+    assert_eq!(pools(MOST, 500_000, 100_000, &[3, 1, 1]), [3, 1, 1]);
+}
+
+/// 65 sets of 2,000 images: of these 32 are in a pool.
+#[test]
+fn of_some_images() {
+    assert_eq!(pools(None, 0, 2_000, &[1; 65]), [64, 64]);
+    assert_eq!(pools(MOST, 0, 2_000, &[1; 65]), [32; 3]);
+}
+
+/// A pool of small sets is below the bound. Without descriptors a set counts as one.
+#[test]
+fn of_few_images() {
+    for images in [0, 1, 1_024] {
+        assert_eq!(pools(MOST, 0, images, &[1]), [64]);
+    }
+    assert_eq!(pools(MOST, 0, 1_025, &[1]), [63]);
+    assert_eq!(pools(Some(10), 0, 0, &[1]), [10]);
+    assert_eq!(pools(Some(10), 0, 1, &[1]), [10]);
+    assert_eq!(pools(Some(0), 0, 1, &[1, 5]), [1, 5]);
+    assert_eq!(pools(Some(u64::MAX), 0, 1, &[1]), [64]);
+}
+
+/// Pools that exist stay, with all their sets, when the bound changes.
+#[test]
+fn pools_stay() {
+    let (mut it, device) = (DescriptorAllocator::new(0), Device::new(100_000));
+    let layout = layout(100_000, false);
+    let mut sets = unsafe { it.allocate_for(&device, &layout, 1) }.unwrap();
+    assert_eq!(device.pools(), [64]);
+    it.set_most_pool_descriptors(MOST);
+    assert_eq!(it.pool_count(&layout.counts, false), 1);
+    unsafe { it.allocate_into(&device, &layout, 63, &mut sets) }.unwrap();
+    assert_eq!(device.pools(), []);
+    unsafe { it.allocate_into(&device, &layout, 1, &mut sets) }.unwrap();
+    assert_eq!(device.pools(), [1]);
+    it.set_most_pool_descriptors(Some(200_000));
+    unsafe { it.allocate_into(&device, &layout, 1, &mut sets) }.unwrap();
+    assert_eq!(device.pools(), [2]);
+    unsafe { it.free(&device, sets) };
+}
+
+#[test]
+fn of_a_manager() {
+    let (mut it, device) = (FrameManager::new(0), Device::new(100_000));
+    assert_eq!(it.most_pool_descriptors(), None);
+    it.set_most_pool_descriptors(MOST);
+    assert_eq!(it.most_pool_descriptors(), MOST);
+    let layout = layout(100_000, false);
+    let mut sets = unsafe { it.allocate_for(&device, &layout, 1) }.unwrap();
+    it.set_most_pool_descriptors(None);
+    unsafe { it.allocate_into(&device, &layout, 1, &mut sets) }.unwrap();
+    assert_eq!(device.pools(), [1, 64]);
+    unsafe { it.free(&device, sets) };
+}
+
+#[test]
+fn a_renderer_begins_with_one() {
+    let device = Device::new(100_000);
+    let mut it = Renderer::new(&device, 500_000);
+    assert_eq!(it.most_pool_descriptors(), MOST);
+    let plain = unsafe { it.add_layout(layout(100_000, false)) }.unwrap();
+    let marked = unsafe { it.add_layout(layout(100_000, true)) }.unwrap();
+    let _ = it.create_set(plain).unwrap();
+    let _ = it.create_set(marked).unwrap();
+    let _ = it.create_sets(marked, 2).unwrap();
+    assert_eq!(device.pools(), [1, 1, 2]);
+    it.set_most_pool_descriptors(None);
+    assert_eq!(it.most_pool_descriptors(), None);
+    let _ = it.create_set(plain).unwrap();
+    let _ = it.create_set(marked).unwrap();
+    // Two more marked sets would fit.
+    assert_eq!(device.pools(), [64, 2]);
+    unsafe { it.shutdown() };
+}
