@@ -9,6 +9,7 @@ enum { MOST = 4096 };
 // A device that counts, with a list of results for the calls that may fail.
 struct world {
     uint64_t pools, sets, next, calls, releases;
+    uint32_t max_sets; // of the last pool
     uint32_t results[64];
     uint32_t result_count, used;
     gd_allocator back; // called back from each call, if it isn't zeroed
@@ -37,6 +38,7 @@ static void expect_of_each(gd_status wanted, gd_allocator it, gd_layout known, g
     CHECK(gd_free_after(it, &any, 1, 1) == wanted && gd_free_after(it, NULL, 0, 1) == wanted);
     CHECK(gd_free_all(it) == wanted && gd_frame_done(it, UINT64_MAX) == wanted);
     CHECK(gd_cleanup(it) == wanted && gd_destroy(it) == wanted && gd_keep(it, 0) == wanted);
+    CHECK(gd_set_most_pool_descriptors(it, 1) == wanted);
     CHECK(gd_add_layout(it, 1, counts, 0, &layout) == wanted);
     CHECK(layout.index == UNTOUCHED && layout.owner == UNTOUCHED);
     CHECK(gd_outstanding(it, &number) == wanted && gd_waiting(it, &number) == wanted);
@@ -68,6 +70,7 @@ static gd_status create_pool(void *user, const gd_pool_info *info, uint64_t *poo
     if (why != GD_OK)
         return why;
     world->pools++;
+    world->max_sets = info->max_sets;
     *pool = ++world->next;
     return GD_OK;
 }
@@ -395,6 +398,28 @@ static void free_in_one_call(void) {
     CHECK(gd_destroy(allocator) == GD_OK && world.pools == 0);
 }
 
+// A set of 100,000 images: its pool has no other one, unless more are asked for or there is no bound.
+static void bound_pools(void) {
+    static const uint32_t COUNTS[GD_KINDS] = {[GD_SAMPLED_IMAGE] = 100000};
+    struct world world = {0};
+    gd_device device = device_of(&world);
+    gd_allocator allocator;
+    gd_layout layout;
+    gd_set sets[69];
+    create(&device, 0, &allocator);
+    CHECK(gd_add_layout(allocator, 1, COUNTS, 0, &layout) == GD_OK);
+    CHECK(gd_allocate(allocator, layout, 1, sets) == GD_OK && world.max_sets == 1);
+    CHECK(gd_allocate(allocator, layout, 3, sets + 1) == GD_OK && world.max_sets == 3);
+    CHECK(gd_set_most_pool_descriptors(allocator, UINT64_MAX) == GD_OK && world.pools == 2);
+    CHECK(gd_allocate(allocator, layout, 1, sets + 4) == GD_OK && world.max_sets == 64);
+    // The pool stays when it is bounded again.
+    CHECK(gd_set_most_pool_descriptors(allocator, 200000) == GD_OK && world.pools == 3);
+    CHECK(gd_allocate(allocator, layout, 63, sets + 5) == GD_OK && world.pools == 3);
+    CHECK(gd_allocate(allocator, layout, 1, sets + 68) == GD_OK && world.max_sets == 2);
+    CHECK(gd_free(allocator, sets, 69) == GD_OK && gd_destroy(allocator) == GD_OK);
+    CHECK(world.pools == 0 && world.sets == 0);
+}
+
 // Sets of a layout are kept, and come again under other names. They aren't outstanding.
 static void keep_some(void) {
     struct world world = {0};
@@ -492,6 +517,7 @@ int main(void) {
         call_allocators_back();
         free_all();
         free_in_one_call();
+        bound_pools();
     }
     keep_some();
     return_unknown_statuses_while_sets_are_kept();

@@ -456,6 +456,8 @@ static void open_all(uint32_t limit) {
         CHECK(status == GD_OK || (status == GD_OUT_OF_HOST_MEMORY && memory_refused_one_in > 0));
     } while (status != GD_OK);
     CHECK(LIBRARY(gd_keep(allocator, keep)) == GD_OK);
+    // The line program has no bound.
+    CHECK(LIBRARY(gd_set_most_pool_descriptors(allocator, UINT64_MAX)) == GD_OK);
     memset(&device, 0, sizeof device); // it was copied
     fprintf(program, "limit %u\n", limit);
     fprintf(expected, "limit %u\n", limit);

@@ -261,6 +261,17 @@ gd_status gd_frame_done(gd_allocator allocator, uint64_t frame);
 gd_status gd_keep(gd_allocator allocator, uint32_t most);
 
 /*
+ * Bounds new pools from now on: each has at most 'most' descriptors, of all kinds together, unless the sets
+ * that a gd_allocate still needs have more. So it holds no more sets than have 'most' descriptors, or than
+ * are needed, and at least one. At first it is 65,536. With UINT64_MAX there is no bound: a new pool is for
+ * at least 64 sets however many descriptors a set has, or for as many as the limit allows. Pools that exist
+ * stay. It allocates nothing.
+ *
+ * GD_BAD_ALLOCATOR, GD_BUSY, GD_INTERNAL_ERROR.
+ */
+gd_status gd_set_most_pool_descriptors(gd_allocator allocator, uint64_t most);
+
+/*
  * Gives kept sets back to the driver, and destroys empty pools: of the layouts that share pools the
  * oldest ones, up to the first that has sets. If no set is outstanding no pool is left. The sets that
  * are outstanding aren't kept when they are freed, so that their pools become empty; those that

@@ -271,6 +271,13 @@ impl Allocator {
         self.renderer.set_keep(most);
     }
 
+    /// Bounds the descriptors of new pools from now on, but not if it is the greatest number. It allocates
+    /// nothing.
+    pub fn set_most_pool_descriptors(&mut self, most: u64) {
+        let most = (most < u64::MAX).then_some(most);
+        self.renderer.set_most_pool_descriptors(most);
+    }
+
     /// Frees kept sets, and destroys empty pools. It allocates nothing.
     pub fn cleanup(&mut self) {
         self.renderer.cleanup();

@@ -184,6 +184,20 @@ pub unsafe extern "C" fn gd_keep(allocator: GdAllocator, most: u32) -> GdStatus 
 }
 
 #[unsafe(no_mangle)]
+pub unsafe extern "C" fn gd_set_most_pool_descriptors(
+    allocator: GdAllocator,
+    most: u64,
+) -> GdStatus {
+    // SAFETY: the header's.
+    unsafe {
+        slot::enter(allocator, |it| {
+            it.set_most_pool_descriptors(most);
+            GdStatus::OK
+        })
+    }
+}
+
+#[unsafe(no_mangle)]
 pub unsafe extern "C" fn gd_cleanup(allocator: GdAllocator) -> GdStatus {
     // SAFETY: the header's.
     unsafe {
