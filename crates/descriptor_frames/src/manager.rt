@@ -31,7 +31,7 @@ pub struct FrameManager<P, S> {
 
 impl<P, S> FrameManager<P, S> {
     ghost use Rattle.descriptor_frames.specs.Frames.{AreRetiredOut, allocator_of, greatest_of};
-    ghost use Rattle.descriptor_frames.specs.Frames.{retired_of};
+    ghost use Rattle.descriptor_frames.specs.Frames.{reserve_of, retired_of};
 
     /// A manager without sets, whose allocator has this limit on update-after-bind descriptors. It
     /// allocates nothing.
@@ -91,6 +91,31 @@ impl<P, S> FrameManager<P, S> {
         ensures { result ≡ greatest_of self.now }
     {
         self.greatest
+    }
+
+    /// From now on a new pool has at most `most` descriptors, unless what is wanting needs more, as by
+    /// `DescriptorAllocator::set_most_pool_descriptors`.
+    pub fn set_most_pool_descriptors(&mut self, most: Option<u64>)
+        ensures allocator { allocator_of self.new ≡ record (allocator_of self.old) { most = most } }
+        ensures list { retired_of self.new ≡ retired_of self.old }
+        ensures reserve { reserve_of self.new ≡ reserve_of self.old }
+        ensures greatest { greatest_of self.new ≡ greatest_of self.old }
+
+        // On any device.
+        ensures agree { (pool_name : P → ℕ) (l : Ledger) → Agrees pool_name
+            (allocator_of self.old) l → Agrees pool_name (allocator_of self.new) l }
+        ensures retired { (pool_name : P → ℕ) (set_name : S → ℕ) (l : Ledger) → AreRetiredOut
+            pool_name set_name self.old l → AreRetiredOut pool_name set_name self.new l }
+    {
+        self.allocator.set_most_pool_descriptors(most);
+    }
+
+    /// How many descriptors a new pool has at most, unless what is wanting needs more; `None` if none
+    /// is bounded.
+    pub fn most_pool_descriptors(&self) -> Option<u64>
+        ensures { result ≡ (allocator_of self.now).most }
+    {
+        self.allocator.most_pool_descriptors()
     }
 
     /// The allocator.
