@@ -1,8 +1,6 @@
 //! The greatest counts, as a caller hands them in: no clause says that the words of the contracts
 //! mean these numbers.
-use gpu_descriptor_types::{
-    DescriptorTotalCount, bounded_pool_size, cut_pool_size, new_pool_size,
-};
+use gpu_descriptor_types::{DescriptorTotalCount, bounded_pool_size, cut_pool_size, new_pool_size};
 
 /// The same count for each kind.
 fn of_each(count: u32) -> DescriptorTotalCount {
