@@ -1,10 +1,10 @@
 -- Sets that were asked for, and are on their way.
-use Rattle.std.proofs.Common.{◌≡◌, ℕ, ◌-◌, ◌<◌, ◌≤◌, [], length, inl, inr, refl, sym, ap, subst, ◌∙◌, arith}
+use Rattle.std.proofs.Common.{◌≡◌, ℕ, ◌-◌, ◌<◌, ◌≤◌, ◌⊎◌, [], length, inl, inr, refl, sym, ap, subst, ◌∙◌, arith}
 use Rattle.gpu_descriptor_types.specs.declared.device.DescriptorDevice.{Ghosts}
 use Rattle.gpu_descriptor.specs.Caller.Sets.{AreOfLayout}
 use Rattle.descriptor_table.specs.Slots.{slot_at}
 use Rattle.descriptor_table.proofs.Counting.{below_or}
-use Rattle.descriptor_renderer.specs.Stores.{Asks, AsksAtLast, coming_in, kept_of, slots_in}
+use Rattle.descriptor_renderer.specs.Stores.{AreCleaned, Asks, AsksAtLast, coming_in, kept_of, slots_in}
 use Rattle.descriptor_renderer.specs.declared.store.Store.{Store}
 use Rattle.descriptor_renderer.proofs.Cleared.{Clears, clears, same_clears}
 use Rattle.descriptor_renderer.proofs.Growing.{cleared_long}
@@ -13,13 +13,15 @@ use Rattle.descriptor_renderer.proofs.Handing.{cleared_of}
 module _ {L P S D : Type 0} {d : Ghosts D L P S} where
   -- kept sets may have gone, and at most so many of the layout are on their way
   pub record Brings (layout : L) (many : ℕ) (old new : Store L P S D d) : Type 0 where
+    pub cleared : (slots_in new ≡ slots_in old) ⊎ AreCleaned (slots_in old) (slots_in new)
     pub clear : (q : ℕ) → Clears (slot_at (slots_in old) q) (slot_at (slots_in new) q)
     pub long : length (slots_in new) ≡ length (slots_in old)
     pub few : length (coming_in new).items ≤ many
     pub own : AreOfLayout d.meaning layout (coming_in new).items
 
-  asked : (layout : L) (first many : ℕ) (old mid new : Store L P S D d) → ((q : ℕ) → Clears (slot_at (slots_in old) q) (slot_at (slots_in mid) q)) → length (slots_in mid) ≡ length (slots_in old) → first ≤ many → Asks layout first mid new → Brings layout many old new
-  asked layout first many old mid new clear long le asks = record {
+  asked : (layout : L) (first many : ℕ) (old mid new : Store L P S D d) → ((q : ℕ) → Clears (slot_at (slots_in old) q) (slot_at (slots_in mid) q)) → length (slots_in mid) ≡ length (slots_in old) → ((slots_in mid ≡ slots_in old) ⊎ AreCleaned (slots_in old) (slots_in mid)) → first ≤ many → Asks layout first mid new → Brings layout many old new
+  asked layout first many old mid new clear long cleared le asks = record {
+    cleared = subst (λ l. (l ≡ slots_in old) ⊎ AreCleaned (slots_in old) l) (sym asks.slots) cleared;
     clear = λ q. subst (λ l. Clears (slot_at (slots_in old) q) (slot_at l q)) (sym asks.slots) (clear q);
     long = ap length asks.slots ∙ long;
     few = (let n = asks.hands_out.many in omega arith);
@@ -29,8 +31,11 @@ module _ {L P S D : Type 0} {d : Ghosts D L P S} where
   pub brought : (layout : L) (number many : ℕ) (old new : Store L P S D d) → (coming_in old).items ≡ [] → (many ≤ kept_of number old → new ≡ old) → (kept_of number old < many → AsksAtLast layout (many - kept_of number old) many old new) → Brings layout many old new
   brought layout number many old new none kept asks = elim (below_or (kept_of number old) many) [
     | inl few ↦ elim (asks few) [
-      | inl at_once ↦ asked layout (many - kept_of number old) many old old new (λ q. same_clears (slot_at (slots_in old) q) (slot_at (slots_in old) q) refl) refl (omega arith) at_once
-      | inr later ↦ asked layout many many old later.0 new (clears (slots_in old) (slots_in later.0) (cleared_of layout (many - kept_of number old) old later.0 later.1)) (cleared_long layout (many - kept_of number old) old later.0 later.1) (omega arith) later.2
+      | inl at_once ↦ asked layout (many - kept_of number old) many old old new (λ q. same_clears (slot_at (slots_in old) q) (slot_at (slots_in old) q) refl) refl (inl refl) (omega arith) at_once
+      | inr later ↦
+          let cleaned = cleared_of layout (many - kept_of number old) old later.0 later.1 in
+          let long = cleared_long layout (many - kept_of number old) old later.0 later.1 in
+          asked layout many many old later.0 new (clears (slots_in old) (slots_in later.0) cleaned) long (inr cleaned) (omega arith) later.2
     ]
     | inr enough ↦
         let same = kept enough in
@@ -38,6 +43,7 @@ module _ {L P S D : Type 0} {d : Ghosts D L P S} where
         let long = ap length empty in
         let short = ap length none in
         record {
+          cleared = inl (ap slots_in same);
           clear = λ q. same_clears (slot_at (slots_in old) q) (slot_at (slots_in new) q) (ap (λ s. slot_at (slots_in s) q) same);
           long = ap (λ s. length (slots_in s)) same;
           few = omega arith;

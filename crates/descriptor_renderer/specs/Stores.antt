@@ -72,6 +72,12 @@ pub record HoldEach {T : Type 0} (number layout : ℕ) (handles : List SetHandle
   pub held : (i : ℕ) → i < length handles → holds (slot_at new (place_at handles i)) ≡ true
   pub rest : (p : ℕ) → ((i : ℕ) → i < length handles → place_at handles i ≢ p) → slot_at new p ≡ slot_at old p
 
+-- the sets of the handles were kept, or came, perhaps after all kept sets left their slots; all else is as it was
+pub record HoldAtLast {T : Type 0} (number layout : ℕ) (handles : List SetHandle) (old new : List (Slot T)) : Type 0 where
+  pub mid : List (Slot T)
+  pub cleared : (mid ≡ old) ⊎ AreCleaned old mid
+  pub holds : HoldEach number layout handles mid new
+
 -- so many sets, each held, have handles that were never given
 pub record AreNamed {T : Type 0} (number layout : ℕ) (handles : List SetHandle) (old new : List (Slot T)) : Type 0 where
   pub of_layout : (i : ℕ) → i < length handles → (slot_at new (place_at handles i)).layout ≡ layout

@@ -7,7 +7,7 @@ ghost use Rattle.gpu_descriptor.specs.Caller.Sets.{raw_of};
 ghost use Rattle.descriptor_table.specs.Sets.{AreHeldOnce, KeepNames, LoseNames};
 ghost use Rattle.descriptor_table.specs.Tables.{Grows};
 ghost use Rattle.descriptor_renderer.specs.Stores.{BringsAtLast, FreesAll, FreesEach, HandlesKept};
-ghost use Rattle.descriptor_renderer.specs.Stores.{HandlesNew, IsRefusedAtLast, WaitEach};
+ghost use Rattle.descriptor_renderer.specs.Stores.{HandlesNew, HoldAtLast, IsRefusedAtLast, WaitEach};
 
 use super::Renderer;
 use crate::errors::{DestroyError, RenderError};
@@ -71,7 +71,9 @@ impl<L: Drop, P: Drop, S: Drop, D: DescriptorDevice<L, P, S>> Renderer<L, P, S, 
     ) -> Result<(), RenderError>
         ensures creates { OnOk result (IfSome (layout_of self.old layout) (λ known.
             (given : List SetHandle) × (handles.new.items ≡ handles.old.items ++ given)
-            × (length given ≡ many) × ComeEach known.layout given self.old self.new)) }
+            × (length given ≡ many) × ComeEach known.layout given self.old self.new
+            × HoldAtLast (number_of self.old) layout.place given (slots_of self.old)
+            (slots_of self.new))) }
         ensures kept { many ≤ kept_of layout self.old → side_of self.new ≡ side_of self.old }
         ensures comes { kept_of layout self.old < many → OnOk result (IfSome
             (layout_of self.old layout) (λ known. BringsAtLast known.layout

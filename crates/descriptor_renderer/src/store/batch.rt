@@ -12,7 +12,7 @@ use std::vec::Vec;
 impl<L: Drop, P: Drop, S: Drop, D: DescriptorDevice<L, P, S>> Store<L, P, S, D> {
     ghost use Rattle.descriptor_table.specs.Tables.{Grows, HasRoom};
     ghost use Rattle.descriptor_table.specs.declared.handle.SetHandle.{SetHandle};
-    ghost use Rattle.descriptor_renderer.specs.Stores.{AreNamed, Asks, AsksAtLast, BringsAtLast, ComesOf, HasLayout, HoldEach};
+    ghost use Rattle.descriptor_renderer.specs.Stores.{AreNamed, Asks, AsksAtLast, BringsAtLast, ComesOf, HasLayout, HoldAtLast, HoldEach};
     ghost use Rattle.descriptor_renderer.specs.Stores.{IsAtRest, IsRefused, IsRefusedAtLast, NoneComes, SetsCome, Settles};
     ghost use Rattle.descriptor_renderer.specs.Stores.{StoreStays, coming_in, kept_of, most_of};
     ghost use Rattle.descriptor_renderer.specs.Stores.{number_of, side_of, slots_in};
@@ -176,7 +176,8 @@ impl<L: Drop, P: Drop, S: Drop, D: DescriptorDevice<L, P, S>> Store<L, P, S, D> 
         requires room { vec_len handles.old + many ≤ vec_capacity handles.old }
         ensures creates { OnOk result ((given : List SetHandle)
             × (handles.new.items ≡ handles.old.items ++ given) × (length given ≡ many)
-            × AreNamed (number_of self.old) layout given (slots_in self.old) (slots_in self.new)) }
+            × AreNamed (number_of self.old) layout given (slots_in self.old) (slots_in self.new)
+            × HoldAtLast (number_of self.old) layout given (slots_in self.old) (slots_in self.new)) }
         ensures kept { many ≤ kept_of layout self.old → (result ≡ Ok tt)
             × (side_of self.new ≡ side_of self.old) }
         ensures comes { kept_of layout self.old < many → OnOk result (BringsAtLast known.now.layout

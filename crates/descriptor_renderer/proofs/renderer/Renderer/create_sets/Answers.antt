@@ -4,7 +4,7 @@ use Rattle.descriptor_table.specs.declared.handle.SetHandle.{SetHandle}
 use Rattle.descriptor_table.proofs.Holding.{same_default}
 use Rattle.descriptor_table.specs.Slots.{slot_at}
 use Rattle.descriptor_renderer.specs.LayoutRegistries.{layouts_of}
-use Rattle.descriptor_renderer.specs.Stores.{slots_in}
+use Rattle.descriptor_renderer.specs.Stores.{HoldAtLast, slots_in}
 use Rattle.descriptor_renderer.proofs.Owned.{found_set, if_some, layout_here, layout_listed, own_comes, refused_names}
 use Rattle.descriptor_renderer.proofs.renderer.Renderer.create_sets.Goals as goal
 
@@ -46,6 +46,7 @@ returns-in-Ok-clause-creates g c =
             let same = ap (λ (h : SetHandle). h.place) (same_default given i e (record { renderer = 0; place = 0; generation = 0 }) lt) in
             own h.place x known (found_set old.renderer old.frame old.is_open new h x found) (ap (λ p. slice_get (layouts_of old.layouts) (slot_at new p).layout) same ∙ ap (slice_get (layouts_of old.layouts)) (named.of_layout i lt) ∙ here);
       },
+      subst (λ n. HoldAtLast n c.args.layout.place given (slots_in old.store) new) old.numbers_sets creates.4,
     )
 
 pub returns-in-Err-clause-stay : goal.returns-in-Err-clause-stay

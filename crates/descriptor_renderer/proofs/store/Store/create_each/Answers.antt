@@ -44,7 +44,8 @@ hold_coming-requires-clause-table g c =
 pub returns-clause-creates : goal.returns-clause-creates
 returns-clause-creates g c =
     let h = all_held g c in
-    (h.0, h.1, h.2, are_named (number_of c.args.self.now) c.args.layout h.0 (slots_in c.args.self.now) (slots_in c.bring.new.self) (slots_in c.hold_coming.new.self) (brings g c).clear h.3)
+    let named = are_named (number_of c.args.self.now) c.args.layout h.0 (slots_in c.args.self.now) (slots_in c.bring.new.self) (slots_in c.hold_coming.new.self) (brings g c).clear h.3 in
+    (h.0, h.1, h.2, named, record { mid = slots_in c.bring.new.self; cleared = (brings g c).cleared; holds = h.3 })
 
 pub returns-clause-comes : goal.returns-clause-comes
 returns-clause-comes g c = λ few. (c.bring.new.self, c.in_ok-bring.ensures.asks few, c.hold_coming.ensures.side ∙ c.hold_kept.ensures.side)
