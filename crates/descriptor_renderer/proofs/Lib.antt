@@ -1,3 +1,4 @@
+mod Adding
 mod Arriving
 mod Back
 mod Bringing
@@ -13,6 +14,7 @@ mod Listed
 mod Naming
 mod Owned
 mod Remaining
+mod Removing
 mod Resting
 mod Results
 mod Returned

@@ -44,11 +44,11 @@ due_use Taken due frame full opened later e = refl
 due_use Vacant due frame full opened later e = refl
 
 module _ {T : Type 0} (frame : ℕ) (opened : Bool) where
-  same_shown : (o n : Slot T) → n ≡ o → ShowsSame frame opened o n
+  pub same_shown : (o n : Slot T) → n ≡ o → ShowsSame frame opened o n
   same_shown o n e = record { generation = ap (λ (s : Slot T). s.generation) e; set = ap (shown frame opened) e }
 
   -- a slot that had no live handle, and has none
-  quiet_shown : (o n : Slot T) → n.generation ≡ o.generation → is_live frame opened o.used ≡ false → is_live frame opened n.used ≡ false → ShowsSame frame opened o n
+  pub quiet_shown : (o n : Slot T) → n.generation ≡ o.generation → is_live frame opened o.used ≡ false → is_live frame opened n.used ≡ false → ShowsSame frame opened o n
   quiet_shown o n g was is = record {
     generation = g;
     set = ap (λ b. if b then n.set else None) is ∙ sym (ap (λ b. if b then o.set else None) was);

@@ -12,7 +12,7 @@ use Rattle.gpu_descriptor.specs.declared.set.DescriptorSet.{DescriptorSet}
 use Rattle.descriptor_table.specs.Sets.{NameEach, Names, Sets, sets_of}
 use Rattle.descriptor_table.specs.declared.handle.SetHandle.{SetHandle}
 use Rattle.descriptor_table.specs.declared.slot.Slot.{Slot}
-use Rattle.descriptor_renderer.specs.LayoutRegistries.{layout_at, layouts_of}
+use Rattle.descriptor_renderer.specs.LayoutRegistries.{layout_at, layout_slots, layouts_by}
 use Rattle.descriptor_renderer.specs.Stores as stores
 use Rattle.descriptor_renderer.specs.declared.layout_registry.LayoutHandle.{LayoutHandle}
 use Rattle.descriptor_renderer.specs.declared.renderer.Renderer.{Renderer}
@@ -21,7 +21,9 @@ use Rattle.descriptor_renderer.specs.declared.store.Store.{Store}
 -- what a caller sees of a renderer
 pub record Rendering (L S : Type 0) : Type 0 where
   pub number : ℕ
+  -- the layouts by handle, and which handles were given for layouts
   pub layouts : LayoutHandle → Option (SetLayout L)
+  pub given : LayoutHandle → Bool
   pub frame : ℕ
   pub is_open : Bool
   -- the slots of its sets, each with its layout and what it is in use for
@@ -42,13 +44,17 @@ module _ {L P S D : Type 0} {d : Ghosts D L P S} where
   abbrev pub number_of : Renderer L P S D d → ℕ
   number_of r = r.renderer
 
-  -- the layouts, in the order in which they were added
-  abbrev pub layouts_in : Renderer L P S D d → List (SetLayout L)
-  layouts_in r = layouts_of r.layouts
+  -- the slots of the layouts
+  abbrev pub layouts_in : Renderer L P S D d → List (Slot (SetLayout L))
+  layouts_in r = layout_slots r.layouts
 
-  -- the layout of a handle. None if the renderer did not give the handle
+  -- the layout of a handle. None if the renderer did not give the handle, or the layout was removed
   abbrev pub layout_of : Renderer L P S D d → LayoutHandle → Option (SetLayout L)
   layout_of r = layout_at r.layouts
+
+  -- whether a handle was ever given for a layout
+  abbrev pub layout_given : Renderer L P S D d → LayoutHandle → Bool
+  layout_given r h = (layouts_by r.layouts).given h.slot
 
   -- the frame that was opened last, 0 before the first
   abbrev pub frame_of : Renderer L P S D d → ℕ
@@ -67,7 +73,7 @@ module _ {L P S D : Type 0} {d : Ghosts D L P S} where
 
   -- how many sets of a layout are kept
   abbrev pub kept_of : LayoutHandle → Renderer L P S D d → ℕ
-  kept_of layout r = stores.kept_of layout.place r.store
+  kept_of layout r = stores.kept_of layout.slot.place r.store
 
   -- how many sets of a layout are kept at most
   abbrev pub most_of : Renderer L P S D d → ℕ
@@ -105,6 +111,7 @@ module _ {L P S D : Type 0} {d : Ghosts D L P S} where
   seen r = record {
     number = number_of r;
     layouts = layout_of r;
+    given = layout_given r;
     frame = frame_of r;
     is_open = is_open r;
     slots = slots_of r;

@@ -17,7 +17,7 @@ use Rattle.gpu_descriptor.specs.declared.errors.AllocationError.TheVariants.{Out
 use Rattle.gpu_descriptor.specs.declared.set.DescriptorSet.{DescriptorSet}
 use Rattle.descriptor_table.specs.Sets.{NameEach, Names, sets_of}
 use Rattle.descriptor_table.specs.Slots.{frame_of, is_kept_of, is_live, slot_at}
-use Rattle.descriptor_table.specs.Tables.{Picks, Puts, Renews, Turns, Vacates, aged, count, holds, is_kept, place_at, lists_of, slots_of, stays, used_for, vacated, waits}
+use Rattle.descriptor_table.specs.Tables.{Picks, Puts, Renews, Turns, Vacates, aged, count, detached, holds, is_kept, place_at, lists_of, slots_of, stays, used_for, vacated, waits}
 use Rattle.descriptor_table.specs.declared.handle.SetHandle.{SetHandle}
 use Rattle.descriptor_table.specs.declared.slot.Slot.{Slot}
 use Rattle.descriptor_table.specs.declared.slot.Use.{Use}
@@ -50,6 +50,10 @@ pub record WaitEach {T : Type 0} (handles : List SetHandle) (frame : ℕ) (old n
 pub record AreCleaned {T : Type 0} (old new : List (Slot T)) : Type 0 where
   pub long : length new ≡ length old
   pub each : (p : ℕ) → p < length old → slot_at new p ≡ (if is_kept (slot_at old p) then vacated (aged (slot_at old p)) else aged (slot_at old p))
+
+-- the slot after its layout, if it is this one, was removed: a kept set left it, and any other is of no layout, and isn't kept when it comes back
+abbrev pub removed : {T : Type 0} → ℕ → Slot T → Slot T
+removed layout s = detached layout (if is_kept_of layout s then vacated s else s)
 
 -- a set has the handle, which was never given, and is in use for this; each other handle names what it named, in whatever frame
 pub record IsNamed {T : Type 0} (number layout : ℕ) (u : Use) (handle : SetHandle) (old new : List (Slot T)) : Type 0 where
@@ -248,6 +252,13 @@ module _ {L P S D : Type 0} {d : Ghosts D L P S} where
   -- the sets that pass the test came back, and those that are not kept were given back in one call, if there were any
   pub record ComeBack (test : Slot (DescriptorSet S) → Bool) (old new : Store L P S D d) : Type 0 where
     pub turns : Turns test (IsBack (most_of old)) (slots_in old) (slots_in new)
+    pub sets : List (DescriptorSet S)
+    pub returns : Returns d.meaning sets (side_of old) (side_of new)
+
+  -- the kept sets of the layout were given back in one call, if there were any, and the others are of no layout
+  pub record Removes (layout : ℕ) (old new : Store L P S D d) : Type 0 where
+    pub long : length (slots_in new) ≡ length (slots_in old)
+    pub each : (p : ℕ) → p < length (slots_in old) → slot_at (slots_in new) p ≡ removed layout (slot_at (slots_in old) p)
     pub sets : List (DescriptorSet S)
     pub returns : Returns d.meaning sets (side_of old) (side_of new)
 

@@ -1,19 +1,20 @@
 //! The renderer: layouts that are added as it runs, sets of a frame, and sets that are held.
-ghost use Rattle.std.specs.Prelude.{◌≡◌, ◌≤◌, ◌++◌, [], ◌∷◌, length};
-ghost use Rattle.std.specs.Prelude.{IfErr, IfOk, IsSome, None, OnErr, OnOk, Some, false, true};
+ghost use Rattle.std.specs.Prelude.{◌≡◌, ◌≢◌, ◌≤◌, ◌↔◌, [], length};
+ghost use Rattle.std.specs.Prelude.{IfErr, IfOk, IsErrOf, IsSome, None, OnErr, OnOk, Some, false, true};
 ghost use Rattle.std.specs.Option.{option_copied};
 ghost use Rattle.gpu_descriptor.specs.Caller.SetLayouts.{IsMeant};
 ghost use Rattle.descriptor_table.specs.Sets.{KeepNames};
-ghost use Rattle.descriptor_table.specs.Tables.{count, holds, is_kept, waits};
-ghost use Rattle.descriptor_renderer.specs.LayoutRegistries.{layouts_of, registry_of};
+ghost use Rattle.descriptor_table.specs.Tables.{Grows, count, holds, is_kept, waits};
+ghost use Rattle.descriptor_renderer.specs.LayoutRegistries.{layout_slots, registry_of};
 ghost use Rattle.descriptor_renderer.specs.Own.{AreOwn};
-ghost use Rattle.descriptor_renderer.specs.Stores.{AreCleaned, Cleans, IsAtRest, IsUpTo, Trims};
+ghost use Rattle.descriptor_renderer.specs.Stores.{AreCleaned, Cleans, IsAtRest, IsUpTo, Removes, Trims};
 ghost use Rattle.descriptor_renderer.specs.Stores.{lists_for, lists_in, slots_in};
 ghost use Rattle.descriptor_renderer.specs.Stores as stores;
 
 mod frames;
 mod sets;
 
+use crate::errors::RenderError;
 use crate::layout_registry::{LayoutHandle, LayoutRegistry};
 use crate::store::Store;
 use gpu_descriptor::{DescriptorDevice, SetLayout};
@@ -42,8 +43,8 @@ pub struct Counts {
 ///
 /// A set that comes back is kept, as long as no more of its layout are kept than `set_keep` says, at
 /// first all. Kept sets are handed out again before the device is asked for a new one. They have the
-/// contents that they had. `cleanup` gives them back. Only `draw`, `create_set`, `create_sets` and
-/// `add_layout` allocate.
+/// contents that they had. `cleanup` gives them back, and `remove_layout` those of its layout. Only
+/// `draw`, `create_set`, `create_sets` and `add_layout` allocate.
 ///
 /// The raw set of a handle is borrowed, as the device is, to be written and bound. Do not allocate or
 /// free on the device in the meantime: only the renderer does.
@@ -59,10 +60,10 @@ pub struct Renderer<L, P, S, D: DescriptorDevice<L, P, S>> {
     /// The last field, as the device in it is dropped last.
     store: Store<L, P, S, D>,
     ghost rest: { IsAtRest store },
-    ghost own: { AreOwn D.meaning (layouts_of layouts) (slots_in store) },
+    ghost own: { AreOwn D.meaning (layout_slots layouts) (slots_in store) },
     ghost begun: { is_open ≡ true → 1 ≤ frame },
     ghost rising: { IsUpTo frame (slots_in store) },
-    ghost lists: { lists_in store ≡ lists_for (length (layouts_of layouts)) },
+    ghost lists: { lists_in store ≡ lists_for (length (layout_slots layouts)) },
     ghost numbers_sets: { stores.number_of store ≡ renderer },
     ghost numbers_layouts: { registry_of layouts ≡ renderer },
 }
@@ -71,7 +72,7 @@ impl<L: Drop, P: Drop, S: Drop, D: DescriptorDevice<L, P, S>> Renderer<L, P, S, 
     ghost use Rattle.gpu_descriptor.specs.declared.layout.SetLayout.{SetLayout};
     ghost use Rattle.descriptor_renderer.specs.declared.layout_registry.LayoutHandle.{LayoutHandle};
     ghost use Rattle.descriptor_renderer.specs.Renderers.{bound_of, frame_of, is_open, kept_of};
-    ghost use Rattle.descriptor_renderer.specs.Renderers.{layout_of};
+    ghost use Rattle.descriptor_renderer.specs.Renderers.{layout_given, layout_of};
     ghost use Rattle.descriptor_renderer.specs.Renderers.{layouts_in, ledger_in, limit_of, most_of};
     ghost use Rattle.descriptor_renderer.specs.Renderers.{number_of, pools_besides, pools_in, seen};
     ghost use Rattle.descriptor_renderer.specs.Renderers.{sets_by, side_of, slots_of, store_of};
@@ -103,32 +104,73 @@ impl<L: Drop, P: Drop, S: Drop, D: DescriptorDevice<L, P, S>> Renderer<L, P, S, 
         }
     }
 
-    /// Adds a layout, and returns its handle. If an allocation fails, or if there are `u32::MAX`, the
-    /// layout is returned, and nothing changed.
+    /// Adds a layout, and returns its handle, which was never given before. If an allocation fails, or if
+    /// there are `u32::MAX`, the layout is returned, and nothing changed.
     pub fn add_layout(
         &mut self,
         layout: SetLayout<L>,
     ) -> Result<LayoutHandle, AllocFailed<SetLayout<L>>>
         requires { IsMeant D.meaning layout }
         ensures added { IfOk result (λ handle. layout_of self.new handle ≡ Some layout) }
-        ensures list { OnOk result (layouts_in self.new ≡ layouts_in self.old ++ layout ∷ []) }
+        ensures never { IfOk result (λ handle. layout_given self.old handle ≡ false) }
+        ensures given { IfOk result (λ handle. layout_given self.new handle ≡ true) }
         ensures fresh { IfOk result (λ handle. layout_of self.old handle ≡ None) }
+        ensures others { IfOk result (λ handle. (other : LayoutHandle) → other ≢ handle
+            → (layout_of self.new other ≡ layout_of self.old other)
+            × (layout_given self.new other ≡ layout_given self.old other)) }
         ensures kept { (handle : LayoutHandle) (known : SetLayout L) → layout_of self.old handle
             ≡ Some known → layout_of self.new handle ≡ Some known }
+        ensures grows { Grows (layouts_in self.old) (layouts_in self.new) }
         ensures stay { OnErr result (layouts_in self.new ≡ layouts_in self.old) }
         ensures back { IfErr result (λ failed. failed.value ≡ layout) }
-        ensures rest { seen self.new ≡ record (seen self.old) { layouts = layout_of self.new } }
+        ensures rest { seen self.new ≡ record (seen self.old)
+            { layouts = layout_of self.new; given = layout_given self.new } }
         ensures device { side_of self.new ≡ side_of self.old }
     {
         if self.store.reserve_layout().is_err() {
             return Err(AllocFailed { value: layout });
         }
+        let places = self.layouts.places();
         match self.layouts.add(layout) {
             Ok(handle) => {
-                self.store.add_layout();
+                if self.layouts.places() > places {
+                    self.store.add_layout();
+                }
                 Ok(handle)
             }
             Err(failed) => Err(failed),
+        }
+    }
+
+    /// Removes a layout, and returns it. Its handle names none from now on, and none later. Its kept sets
+    /// are given back. Its other sets stay as they are, and aren't kept when they come back. It allocates
+    /// nothing.
+    ///
+    /// It returns `NoLayout` if the handle names no layout, and then nothing changed.
+    pub fn remove_layout(&mut self, layout: LayoutHandle) -> Result<SetLayout<L>, RenderError>
+        ensures removed { IfOk result (λ known. layout_of self.old layout ≡ Some known) }
+        ensures gone { OnOk result (layout_of self.new layout ≡ None) }
+        ensures others { (other : LayoutHandle) → other ≢ layout → layout_of self.new other
+            ≡ layout_of self.old other }
+        ensures given { (other : LayoutHandle) → layout_given self.new other
+            ≡ layout_given self.old other }
+        ensures removes { OnOk result (Removes layout.slot.place (store_of self.old)
+            (store_of self.new)) }
+        ensures none_kept { OnOk result (kept_of layout self.new ≡ 0) }
+        ensures names { KeepNames (sets_by self.old) (sets_by self.new) }
+        ensures no_layout { (IsErrOf result RenderError.NoLayout) ↔ (layout_of self.old layout ≡ None) }
+        ensures only { IfErr result (λ error. error ≡ RenderError.NoLayout) }
+        ensures stay { OnErr result ((slots_of self.new ≡ slots_of self.old)
+            × (side_of self.new ≡ side_of self.old)) }
+        ensures rest { seen self.new ≡ record (seen self.old)
+            { layouts = layout_of self.new; slots = slots_of self.new } }
+    {
+        match self.layouts.remove(layout) {
+            Some(removed) => {
+                self.store.remove_layout(layout.place());
+                Ok(removed)
+            }
+            None => Err(RenderError::NoLayout),
         }
     }
 
@@ -179,18 +221,11 @@ impl<L: Drop, P: Drop, S: Drop, D: DescriptorDevice<L, P, S>> Renderer<L, P, S, 
         self.store.most_pool_descriptors()
     }
 
-    /// The layout of a handle. None under a handle of another renderer.
+    /// The layout of a handle. None if it was removed, and under a handle of another renderer.
     pub fn layout(&self, layout: LayoutHandle) -> Option<&SetLayout<L>>
         ensures { option_copied result ≡ layout_of self.now layout }
     {
         self.layouts.get(layout)
-    }
-
-    /// The layouts, in the order in which they were added.
-    pub fn layouts(&self) -> &[SetLayout<L>]
-        ensures { result.now ≡ layouts_in self.now }
-    {
-        self.layouts.layouts()
     }
 
     /// The device, to write sets and to bind them.
@@ -228,13 +263,14 @@ impl<L: Drop, P: Drop, S: Drop, D: DescriptorDevice<L, P, S>> Renderer<L, P, S, 
         }
     }
 
-    /// How many sets of a layout are kept. 0 under a handle of another renderer.
+    /// How many sets of a layout are kept. 0 if the layout was removed, and under a handle of another
+    /// renderer.
     pub fn kept_count(&self, layout: LayoutHandle) -> u32
         ensures kept { IsSome (layout_of self.now layout) → result ≡ kept_of layout self.now }
         ensures none { layout_of self.now layout ≡ None → result ≡ 0 }
     {
         match self.layouts.get(layout) {
-            Some(_) => self.store.kept_count(layout.place),
+            Some(_) => self.store.kept_count(layout.place()),
             None => 0,
         }
     }

@@ -87,8 +87,6 @@ impl<L: Drop, P: Drop, S: Drop, D: DescriptorDevice<L, P, S>> Store<L, P, S, D> 
     pub(crate) fn add_layout(&mut self)
         requires { HasListRoom self.old }
         ensures lists { lists_in self.new ≡ lists_with (lists_in self.old) }
-        ensures known { (p : ℕ) → p < length (slots_in self.old)
-            → (slot_at (slots_in self.old) p).layout + 2 < lists_in self.old }
         ensures slots { slots_in self.new ≡ slots_in self.old }
         ensures side { side_of self.new ≡ side_of self.old }
         ensures number { number_of self.new ≡ number_of self.old }

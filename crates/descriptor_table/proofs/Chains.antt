@@ -2,7 +2,7 @@
 use Rattle.std.proofs.Common.{◌≡◌, ◌≢◌, ℕ, zero, suc, ◌+◌, ◌-◌, ◌<◌, ◌≤◌, ◌==◌, ◌&&◌, Bool, true, false, not, nat_lt, List, [], ◌∷◌, length, get_or, set, slice_get, Option, None, Some, is_some, inl, inr, refl, sym, ap, subst, ◌∙◌, arith, ne_eqb, eqb-true}
 use Rattle.std.proofs.lemmas.List.{get_or-set_other, get_or-set_same, get_or_read, length-set}
 use Rattle.descriptor_table.specs.Places.{walk}
-use Rattle.descriptor_table.specs.Slots.{AreFew, AreFramed, AreLinked, HasLists, chain_at, chain_of, in_list, is_in, is_of, slot_at, waits_for}
+use Rattle.descriptor_table.specs.Slots.{AreFew, AreFramed, AreLinked, HasLists, HasListsOf, chain_at, chain_of, in_list, is_in, is_of, slot_at, waits_for}
 use Rattle.descriptor_table.specs.Tables.{used_for}
 use Rattle.descriptor_table.specs.declared.slot.Use.{Use}
 use Rattle.descriptor_table.specs.declared.slot.Use.TheVariants.{Held, Drawn, Waits, Kept, Going, Taken, Vacant}
@@ -104,16 +104,16 @@ few_set most chains k c few within le j two = elim (same_or j k) [
 ]
 
 module _ {T : Type 0} where
+  -- one slot changed
+  pub lists_set : (slots : List (Slot T)) (p : ℕ) (s : Slot T) (lists : ℕ) → HasLists slots lists → p < length slots → HasListsOf lists s → HasLists (set slots p s) lists
+  lists_set slots p s lists known within here q lt = elim (same_or q p) [
+    | inl e ↦ subst (HasListsOf lists) (sym (ap (slot_at (set slots p s)) e ∙ slot_set slots p s within)) here
+    | inr ne ↦ subst (HasListsOf lists) (sym (other_slots slots p s q ne)) (known q (let size = length-set slots p s in omega arith))
+  ]
+
   -- a slot keeps its layout
-  pub known_set : (slots : List (Slot T)) (p : ℕ) (s : Slot T) (lists : ℕ) → HasLists slots lists → p < length slots → s.layout ≡ (slot_at slots p).layout → HasLists (set slots p s) lists
-  known_set slots p s lists known within same q lt =
-      let size = length-set slots p s in
-      let was = known q (omega arith) in
-      let now : (slot_at (set slots p s) q).layout ≡ (slot_at slots q).layout = elim (same_or q p) [
-        | inl e ↦ subst (λ q. (slot_at (set slots p s) q).layout ≡ (slot_at slots q).layout) (sym e) (ap (λ (w : Slot T). w.layout) (slot_set slots p s within) ∙ same)
-        | inr ne ↦ ap (λ (w : Slot T). w.layout) (other_slots slots p s q ne)
-      ] in
-      omega arith
+  pub known_set : (slots : List (Slot T)) (p : ℕ) (u : Use) (w : Slot T) (lists : ℕ) → HasLists slots lists → p < length slots → w ≡ slot_at slots p → HasLists (set slots p (used_for u w)) lists
+  known_set slots p u w lists known within is = lists_set slots p (used_for u w) lists known within (subst (HasListsOf lists) (sym is) (known p within))
 
 -- what the code reads
 pub got_chain : (chains : List Chain) (k : ℕ) (c : Chain) → Some c ≡ slice_get chains k → (k < length chains) × (chain_at chains k ≡ c)

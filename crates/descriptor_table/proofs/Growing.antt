@@ -1,7 +1,7 @@
 -- The lists of slots, when a slot comes at the end.
 use Rattle.std.proofs.Common.{◌≡◌, ◌≢◌, ℕ, zero, suc, ◌+◌, ◌<◌, Bool, false, if◌then◌else◌, List, [], ◌∷◌, ◌++◌, length, get_or, Some, None, inl, inr, refl, sym, ap, subst, ◌∙◌, arith}
 use Rattle.descriptor_table.specs.Places.{times, walk}
-use Rattle.descriptor_table.specs.Slots.{AreFramed, AreLinked, HasChains, HasLists, chain_at, chain_of, is_in, is_of, slot_at}
+use Rattle.descriptor_table.specs.Slots.{AreFramed, AreLinked, HasChains, HasLists, HasListsOf, chain_at, chain_of, is_in, is_of, slot_at}
 use Rattle.descriptor_table.specs.Tables.{Puts, count, is_usable}
 use Rattle.descriptor_table.specs.declared.slot.Use.TheVariants.{Taken}
 use Rattle.descriptor_table.specs.declared.slot.Slot.{Slot}
@@ -53,8 +53,8 @@ module _ {T : Type 0} where
 
   pub known_grown : (slots : List (Slot T)) (s : Slot T) (lists : ℕ) → s.layout + 2 < lists → HasLists slots lists → length (slots ++ s ∷ []) ≡ length slots + 1 → HasLists (slots ++ s ∷ []) lists
   known_grown slots s lists lt known long q within = elim (same_or q (length slots)) [
-    | inl e ↦ subst (λ q. (slot_at (slots ++ s ∷ []) q).layout + 2 < lists) (sym e) (subst (λ (o : Slot T). o.layout + 2 < lists) (sym (last_slot slots s)) lt)
-    | inr ne ↦ subst (λ (o : Slot T). o.layout + 2 < lists) (sym (slots_before slots s q ne)) (known q (omega arith))
+    | inl e ↦ subst (HasListsOf lists) (sym (ap (slot_at (slots ++ s ∷ [])) e ∙ last_slot slots s)) (omega arith, λ may. lt)
+    | inr ne ↦ subst (HasListsOf lists) (sym (slots_before slots s q ne)) (known q (omega arith))
   ]
 
   long_grown : (slots : List (Slot T)) (s : Slot T) → length (slots ++ s ∷ []) ≡ length slots + 1

@@ -1,7 +1,8 @@
 -- How many slots there are in several lists together.
 use Rattle.std.proofs.Common.{◌≡◌, ◌≢◌, ℕ, zero, suc, ◌+◌, ◌<◌, ◌≤◌, ◌==◌, ◌&&◌, ◌||◌, nat_lt, not, Bool, true, false, List, length, is_some, inl, inr, refl, sym, ap, subst, ◌∙◌, arith, eq-eqb, ne_eqb}
 use Rattle.std.proofs.lemmas.Bool.{and_right, cases_order, le-ltb, lt-ltb, or_from, or_left, or_right}
-use Rattle.descriptor_table.specs.Slots.{AreFramed, AreLinked, HasFrames, HasLists, chain_at, chain_of, frame_at, in_list, is_in, is_of, slot_at, waits_for}
+use Rattle.std.proofs.lemmas.List.{get_or_past}
+use Rattle.descriptor_table.specs.Slots.{AreFramed, AreLinked, HasFrames, chain_at, chain_of, frame_at, in_list, is_in, is_of, slot_at, waits_for}
 use Rattle.descriptor_table.specs.Tables.{count, is_kept, is_waiting_use, waits}
 use Rattle.descriptor_table.specs.declared.slot.Use.{Use}
 use Rattle.descriptor_table.specs.declared.slot.Use.TheVariants.{Held, Drawn, Waits, Kept, Going, Taken, Vacant}
@@ -9,7 +10,7 @@ use Rattle.descriptor_table.specs.declared.slot.Slot.{Slot}
 use Rattle.descriptor_table.specs.declared.slot.Chain.{Chain}
 use Rattle.descriptor_table.specs.declared.slot.FrameChain.{FrameChain}
 use Rattle.descriptor_table.proofs.Chains.{frames_apart, frames_none}
-use Rattle.descriptor_table.proofs.Counting.{same_or}
+use Rattle.descriptor_table.proofs.Counting.{below_or, same_or}
 use Rattle.descriptor_table.proofs.Counts.{bit, chain_count, count_as, count_split, heads_count, none_count}
 use Rattle.descriptor_table.proofs.Frames.{chain_here, none_of}
 use Rattle.descriptor_table.proofs.Holding.{named_or}
@@ -90,12 +91,21 @@ module _ {T : Type 0} where
       omega arith
 
   -- all lists
-  pub kept_end : (slots : List (Slot T)) (lists k : ℕ) → HasLists slots lists → lists ≤ k → count (kept_below k) slots ≡ count is_kept slots
-  kept_end slots lists k known all = count_as (kept_below k) is_kept slots (λ p lt. let s = slot_at slots p in and_yes (is_kept s) (nat_lt (s.layout + 2) k) (lt-ltb (s.layout + 2) k (let below = known p lt in omega arith)))
+  pub kept_end : (slots : List (Slot T)) (next : List ℕ) (chains : List Chain) (k : ℕ) → AreLinked slots next chains → length chains ≤ k → count (kept_below k) slots ≡ count is_kept slots
+  kept_end slots next chains k linked all = count_as (kept_below k) is_kept slots (λ p lt. here (slot_at slots p) p refl)
     where
       and_yes : (a b : Bool) → b ≡ true → (a && b) ≡ a
       and_yes true b e = e
       and_yes false b e = refl
+
+      none : (j : ℕ) → k ≤ j → (p : ℕ) → is_in j (slot_at slots p) ≡ false
+      none j le = none_in is_in slots next (chain_at chains) linked j (ap (λ (d : Chain). d.count) (get_or_past chains j (record { first = 0; count = 0 }) (omega arith)))
+
+      here : (s : Slot T) (p : ℕ) → s ≡ slot_at slots p → kept_below k s ≡ is_kept s
+      here s p is = elim (below_or (s.layout + 2) k) [
+        | inl lt ↦ and_yes (is_kept s) (nat_lt (s.layout + 2) k) (lt-ltb (s.layout + 2) k lt)
+        | inr le ↦ (let out = ap (is_in (s.layout + 2)) is ∙ none (s.layout + 2) le p in ap (λ b. b && nat_lt (s.layout + 2) k) out ∙ sym out)
+      ]
 
   -- whether a slot's set waits for one of the first frames
   abbrev pub first_of : List FrameChain → ℕ → Slot T → Bool

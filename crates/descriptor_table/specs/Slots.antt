@@ -137,9 +137,13 @@ module _ {T : Type 0} where
   abbrev pub AreFramed : List (Slot T) → List ℕ → List FrameChain → Type 0
   AreFramed slots next frames = HasChains is_of slots next (chain_of frames)
 
-  -- the layout of each slot has its list
+  -- the lists of a slot are there: that of its layout if its set may be kept
+  abbrev pub HasListsOf : ℕ → Slot T → Type 0
+  HasListsOf lists s = (2 < lists) × (s.leaves ≡ false → s.layout + 2 < lists)
+
+  -- each slot has its lists
   abbrev pub HasLists : List (Slot T) → ℕ → Type 0
-  HasLists slots lists = (p : ℕ) → p < length slots → (slot_at slots p).layout + 2 < lists
+  HasLists slots lists = (p : ℕ) → p < length slots → HasListsOf lists (slot_at slots p)
 
   -- each slot is so
   abbrev pub AllSlots : (Slot T → Type 0) → List (Slot T) → Type 0

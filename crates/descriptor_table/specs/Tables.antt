@@ -1,5 +1,5 @@
 -- What becomes of the slots of a table.
-use Rattle.std.specs.Prelude.{◌≡◌, ◌≢◌, ℕ, zero, suc, ◌+◌, ◌-◌, ◌<◌, ◌≤◌, ◌⊎◌, ◌&&◌, nat_lt, Bool, true, false, not, List, [], ◌∷◌, length, slice_index_or, slice_set, vec_capacity, is_some, if◌then◌else◌, Option, Some, None, MatchOption}
+use Rattle.std.specs.Prelude.{◌≡◌, ◌≢◌, ℕ, zero, suc, ◌+◌, ◌-◌, ◌<◌, ◌≤◌, ◌⊎◌, ◌==◌, ◌&&◌, nat_lt, Bool, true, false, not, List, [], ◌∷◌, length, slice_index_or, slice_set, vec_capacity, is_some, if◌then◌else◌, Option, Some, None, MatchOption}
 use Rattle.descriptor_table.specs.Slots.{chain_at, is_in, is_kept_of, slot_at}
 use Rattle.descriptor_table.specs.declared.handle.SetHandle.{SetHandle}
 use Rattle.descriptor_table.specs.declared.set_table.SetTable.{SetTable}
@@ -188,6 +188,15 @@ module _ {T : Type 0} where
   -- the slots without the flag of new sets
   abbrev pub aged : Slot T → Slot T
   aged s = record s { leaves = true }
+
+  -- the slot, if it is of the layout, of none, and its set isn't kept when it comes back
+  abbrev pub detached : ℕ → Slot T → Slot T
+  detached layout s = record s { layout = if s.layout == layout then 4294967295 else s.layout; leaves = if s.layout == layout then true else s.leaves }
+
+  -- each slot of the layout is of none
+  pub record AreDetached (layout : ℕ) (old new : List (Slot T)) : Type 0 where
+    pub long : length new ≡ length old
+    pub each : (p : ℕ) → p < length old → slot_at new p ≡ detached layout (slot_at old p)
 
   -- a set came into a slot that had none, and has no handle there yet
   pub record Puts (layout : ℕ) (set : T) (p : ℕ) (old new : List (Slot T)) : Type 0 where

@@ -1,4 +1,5 @@
 //! The handles of sets.
+ghost use Rattle.std.specs.Prelude.{◌≡◌};
 
 /// A set of a renderer: one that is held until it is freed or destroyed, or one of a frame. Only the
 /// renderer that gave it has the set, and it names no other set later.
@@ -10,4 +11,12 @@ pub struct SetHandle {
 
     /// How many handles were given for the place, with this one. So it is never 0.
     pub(crate) generation: u32,
+}
+
+/// The place of the slot of a handle.
+#[inline]
+pub fn place_of(handle: SetHandle) -> u32
+    ensures { result ≡ handle.place }
+{
+    handle.place
 }

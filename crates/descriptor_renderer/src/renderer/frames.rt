@@ -79,10 +79,10 @@ impl<L: Drop, P: Drop, S: Drop, D: DescriptorDevice<L, P, S>> Renderer<L, P, S, 
             Comes known.layout handle self.old self.new)) }
         ensures kept { is_open self.old ≡ true → IsSome (layout_of self.old layout)
             → 0 < kept_of layout self.old → (handle : SetHandle) × (result ≡ Ok handle)
-            × HandlesKept layout.place (Use.Drawn (frame_of self.old)) handle (store_of self.old)
+            × HandlesKept layout.slot.place (Use.Drawn (frame_of self.old)) handle (store_of self.old)
             (store_of self.new) }
         ensures comes { kept_of layout self.old ≡ 0 → IfOk result (λ handle.
-            IfSome (layout_of self.old layout) (λ known. HandlesNew known.layout layout.place
+            IfSome (layout_of self.old layout) (λ known. HandlesNew known.layout layout.slot.place
             (Use.Drawn (frame_of self.old)) handle (store_of self.old) (store_of self.new))) }
         ensures known { OnOk result (IsSome (layout_of self.old layout)) }
         ensures no_frame { (IsErrOf result RenderError.NoFrame) ↔ (is_open self.old ≡ false) }
@@ -104,7 +104,7 @@ impl<L: Drop, P: Drop, S: Drop, D: DescriptorDevice<L, P, S>> Renderer<L, P, S, 
         let Some(known) = self.layouts.get(layout) else {
             return Err(RenderError::NoLayout);
         };
-        match self.store.draw(known, layout.place, self.frame) {
+        match self.store.draw(known, layout.place(), self.frame) {
             Ok(handle) => Ok(handle),
             Err(error) => Err(RenderError::Allocation(error)),
         }

@@ -30,10 +30,10 @@ impl<L: Drop, P: Drop, S: Drop, D: DescriptorDevice<L, P, S>> Renderer<L, P, S, 
         ensures creates { IfOk result (λ handle. IfSome (layout_of self.old layout) (λ known.
             Comes known.layout handle self.old self.new)) }
         ensures kept { IsSome (layout_of self.old layout) → 0 < kept_of layout self.old
-            → (handle : SetHandle) × (result ≡ Ok handle) × HandlesKept layout.place Use.Held handle
+            → (handle : SetHandle) × (result ≡ Ok handle) × HandlesKept layout.slot.place Use.Held handle
             (store_of self.old) (store_of self.new) }
         ensures comes { kept_of layout self.old ≡ 0 → IfOk result (λ handle.
-            IfSome (layout_of self.old layout) (λ known. HandlesNew known.layout layout.place
+            IfSome (layout_of self.old layout) (λ known. HandlesNew known.layout layout.slot.place
             Use.Held handle (store_of self.old) (store_of self.new))) }
         ensures known { OnOk result (IsSome (layout_of self.old layout)) }
         ensures needs_no_frame { ¬ (IsErrOf result RenderError.NoFrame) }
@@ -51,7 +51,7 @@ impl<L: Drop, P: Drop, S: Drop, D: DescriptorDevice<L, P, S>> Renderer<L, P, S, 
         let Some(known) = self.layouts.get(layout) else {
             return Err(RenderError::NoLayout);
         };
-        match self.store.create(known, layout.place) {
+        match self.store.create(known, layout.place()) {
             Ok(handle) => Ok(handle),
             Err(error) => Err(RenderError::Allocation(error)),
         }
@@ -72,7 +72,7 @@ impl<L: Drop, P: Drop, S: Drop, D: DescriptorDevice<L, P, S>> Renderer<L, P, S, 
         ensures creates { OnOk result (IfSome (layout_of self.old layout) (λ known.
             (given : List SetHandle) × (handles.new.items ≡ handles.old.items ++ given)
             × (length given ≡ many) × ComeEach known.layout given self.old self.new
-            × HoldAtLast (number_of self.old) layout.place given (slots_of self.old)
+            × HoldAtLast (number_of self.old) layout.slot.place given (slots_of self.old)
             (slots_of self.new))) }
         ensures kept { many ≤ kept_of layout self.old → side_of self.new ≡ side_of self.old }
         ensures comes { kept_of layout self.old < many → OnOk result (IfSome
@@ -99,7 +99,7 @@ impl<L: Drop, P: Drop, S: Drop, D: DescriptorDevice<L, P, S>> Renderer<L, P, S, 
         if handles.reserve(many as usize).is_err() {
             return Err(RenderError::Allocation(AllocationError::OutOfHostMemory));
         }
-        match self.store.create_each(known, layout.place, many, handles) {
+        match self.store.create_each(known, layout.place(), many, handles) {
             Ok(()) => Ok(()),
             Err(error) => Err(RenderError::Allocation(error)),
         }

@@ -10,7 +10,7 @@ impl<L: Drop, P: Drop, S: Drop, D: DescriptorDevice<L, P, S>> Store<L, P, S, D> 
     ghost use Rattle.descriptor_table.specs.Sets.{AreHeldOnce, sets_in};
     ghost use Rattle.descriptor_table.specs.Slots.{goes, is_due, slot_at};
     ghost use Rattle.descriptor_renderer.specs.Stores.{AreCleaned, Cleans, ComeBack, FreesAll, FreesEach};
-    ghost use Rattle.descriptor_renderer.specs.Stores.{GivesBack, IsAtRest, IsUpTo, NoneComes, Settles};
+    ghost use Rattle.descriptor_renderer.specs.Stores.{GivesBack, HasLayout, IsAtRest, IsUpTo, NoneComes, Removes, Settles};
     ghost use Rattle.descriptor_renderer.specs.Stores.{StoreStays, Trims, WaitEach, coming_in, kept_of};
     ghost use Rattle.descriptor_renderer.specs.Stores.{ledger_of, most_of, number_of, pools_besides};
     ghost use Rattle.descriptor_renderer.specs.Stores.{side_of, slots_in};
@@ -145,6 +145,21 @@ impl<L: Drop, P: Drop, S: Drop, D: DescriptorDevice<L, P, S>> Store<L, P, S, D> 
     {
         self.table.trim(most);
         self.table.set_most(most);
+        self.give();
+    }
+
+    /// Gives the kept sets of a layout back. Its other sets are of none from now on, and aren't kept when
+    /// they come back.
+    pub(crate) fn remove_layout(&mut self, layout: u32)
+        requires rest { IsAtRest self.old }
+        requires layout { HasLayout layout self.old }
+        ensures removes { Removes layout self.old self.new }
+        ensures rest { IsAtRest self.new }
+        ensures frames { (f : ℕ) → IsUpTo f (slots_in self.old) → IsUpTo f (slots_in self.new) }
+        ensures stays { StoreStays (most_of self.old) self.old self.new }
+    {
+        self.table.let_kept_go(layout);
+        self.table.detach(layout);
         self.give();
     }
 

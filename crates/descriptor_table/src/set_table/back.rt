@@ -1,5 +1,5 @@
 //! Sets that come back: they are kept, or go back to their pools.
-ghost use Rattle.std.specs.Prelude.{◌≡◌, ◌+◌, ◌<◌, ◌≤◌, ℕ, IsTrue, true, length};
+ghost use Rattle.std.specs.Prelude.{◌≡◌, ◌+◌, ◌<◌, ◌≤◌, ℕ, IsTrue, true, false, length};
 
 use super::{GOING, KEPT, SetTable};
 use crate::handle::SetHandle;
@@ -174,6 +174,16 @@ impl<T> SetTable<T> {
         while let Some(place) = self.pick_above(list, most) {
             self.link(GOING, place, Use::Going);
         }
+    }
+
+    /// Lets the kept sets of a layout go.
+    pub fn let_kept_go(&mut self, layout: u32)
+        requires { layout + 2 < lists_of self.old }
+        ensures turns { Turns (is_kept_of layout) Leaves (slots_of self.old) (slots_of self.new) }
+        ensures none { (p : ℕ) → is_kept_of layout (slot_at (slots_of self.new) p) ≡ false }
+        ensures stays { Stays self.old self.new }
+    {
+        self.trim_list(layout as usize + KEPT, 0);
     }
 
     /// Lets kept sets go, but so many of each layout.

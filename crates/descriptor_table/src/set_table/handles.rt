@@ -13,7 +13,7 @@ impl<T> SetTable<T> {
 
     /// The set of a slot that is in no list is in use for something else, and in none then.
     #[inline]
-    fn assign(&mut self, place: usize, used: Use)
+    pub(super) fn assign(&mut self, place: usize, used: Use)
         requires within { place < length (slots_of self.old) }
         requires was { IsNowhere (slot_at (slots_of self.old) place).used }
         requires used { IsNowhere used }

@@ -1,14 +1,31 @@
-//! Layouts that are added, and sets that get old.
-ghost use Rattle.std.specs.Prelude.{◌≡◌, ◌+◌, ◌<◌, ◌≤◌, ℕ, IsOk, OnOk, length, slice_set, vec_capacity};
+//! Layouts that are added and removed, and sets that get old.
+ghost use Rattle.std.specs.Prelude.{◌≡◌, ◌↔◌, ◌+◌, ◌<◌, ◌≤◌, ℕ, false, IsOk, IsTrue, OnOk, length};
+ghost use Rattle.std.specs.Prelude.{slice_set, vec_capacity};
 
-use super::{KEPT, SetTable};
+use super::{KEPT, NO_LAYOUT, SetTable};
 use crate::slot::Chain;
 use std::alloc::AllocError;
 
 impl<T> SetTable<T> {
-    ghost use Rattle.descriptor_table.specs.Slots.{chain_at, slot_at};
-    ghost use Rattle.descriptor_table.specs.Tables.{AreAged, Stays, aged, lists_of, lists_with};
-    ghost use Rattle.descriptor_table.specs.Tables.{most_of, number_of, slots_of};
+    ghost use Rattle.descriptor_table.specs.Slots.{chain_at, is_kept_of, slot_at};
+    ghost use Rattle.descriptor_table.specs.Tables.{AreAged, AreDetached, Stays, aged, detached};
+    ghost use Rattle.descriptor_table.specs.Tables.{lists_of, lists_with, most_of, number_of, slots_of};
+
+    /// Whether a layout was added.
+    #[inline]
+    pub fn has_layouts(&self) -> bool
+        ensures { IsTrue result ↔ (0 < lists_of self.now) }
+    {
+        self.chains.len() > 0
+    }
+
+    /// How many slots there are.
+    #[inline]
+    pub fn places(&self) -> usize
+        ensures { result ≡ length (slots_of self.now) }
+    {
+        self.slots.len()
+    }
 
     /// Reserves memory for one layout more.
     pub fn reserve_layout(&mut self) -> Result<(), AllocError>
@@ -38,8 +55,6 @@ impl<T> SetTable<T> {
     pub fn add_layout(&mut self)
         requires room { lists_of self.old + 3 ≤ vec_capacity self.old.chains }
         ensures lists { lists_of self.new ≡ lists_with (lists_of self.old) }
-        ensures known { (p : ℕ) → p < length (slots_of self.old)
-            → (slot_at (slots_of self.old) p).layout + 2 < lists_of self.old }
         ensures slots { self.new.slots ≡ self.old.slots }
         ensures number { number_of self.new ≡ number_of self.old }
         ensures most { most_of self.new ≡ most_of self.old }
@@ -71,6 +86,34 @@ impl<T> SetTable<T> {
     {
         for place in 0..self.slots.len() {
             self.age_at(place);
+        }
+    }
+
+    /// The slot, if it is of a layout, is of none from now on.
+    #[inline]
+    fn detach_at(&mut self, place: usize, layout: u32)
+        requires within { place < length (slots_of self.old) }
+        requires none_kept { is_kept_of layout (slot_at (slots_of self.old) place) ≡ false }
+        ensures slots { slots_of self.new ≡ slice_set (slots_of self.old) place
+            (detached layout (slot_at (slots_of self.old) place)) }
+        ensures stays { Stays self.old self.new }
+    {
+        let slot = &mut self.slots[place];
+        if slot.layout == layout {
+            slot.layout = NO_LAYOUT;
+            slot.leaves = true;
+        }
+    }
+
+    /// The sets of a layout, of which none is kept, are of none from now on, and aren't kept when they
+    /// come back.
+    pub fn detach(&mut self, layout: u32)
+        requires none_kept { (p : ℕ) → is_kept_of layout (slot_at (slots_of self.old) p) ≡ false }
+        ensures detached { AreDetached layout (slots_of self.old) (slots_of self.new) }
+        ensures stays { Stays self.old self.new }
+    {
+        for place in 0..self.slots.len() {
+            self.detach_at(place, layout);
         }
     }
 

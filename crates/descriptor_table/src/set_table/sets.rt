@@ -7,6 +7,7 @@ use crate::slot::{Slot, Use};
 use std::mem;
 
 impl<T> SetTable<T> {
+    ghost use Rattle.descriptor_table.specs.Sets.{find, is_held};
     ghost use Rattle.descriptor_table.specs.Slots.{IsNowhere, goes, is_due, slot_at};
     ghost use Rattle.descriptor_table.specs.Tables.{GivesFirst, HasRoom, HasTaken, IsTaken};
     ghost use Rattle.descriptor_table.specs.Tables.{Puts, Renews, Stays, is_usable, lists_of, vacated};
@@ -195,5 +196,21 @@ impl<T> SetTable<T> {
     {
         let place = self.pick_due(frame)?;
         self.take_out(place)
+    }
+
+    /// Takes the held set of a handle out of its slot.
+    pub fn remove(&mut self, handle: SetHandle) -> Option<T>
+        ensures set { result ≡ find (number_of self.old) 0 false (slots_of self.old) handle }
+        ensures held { IsSome result → is_held (number_of self.old) (slots_of self.old) handle ≡ true }
+        ensures slots { IsSome result → slots_of self.new ≡ slice_set (slots_of self.old) handle.place
+            (vacated (slot_at (slots_of self.old) handle.place)) }
+        ensures none { result ≡ None → slots_of self.new ≡ slots_of self.old }
+        ensures stays { Stays self.old self.new }
+    {
+        if !self.holds(handle) {
+            return None;
+        }
+        self.assign(handle.place as usize, Use::Taken);
+        self.take_out(handle.place as usize)
     }
 }

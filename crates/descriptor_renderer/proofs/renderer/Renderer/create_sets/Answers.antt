@@ -1,25 +1,25 @@
-use Rattle.std.proofs.Common.{◌+◌, ◌<◌, ◌++◌, slice_get, slice_index_or, sym, ap, subst, ◌∙◌, arith}
+use Rattle.std.proofs.Common.{◌+◌, ◌-◌, ◌<◌, ◌++◌, slice_index_or, inl, refl, sym, ap, subst, ◌∙◌, arith}
 use Rattle.descriptor_table.specs.Sets.{NameEach, sets_of}
 use Rattle.descriptor_table.specs.declared.handle.SetHandle.{SetHandle}
 use Rattle.descriptor_table.proofs.Holding.{same_default}
 use Rattle.descriptor_table.specs.Slots.{slot_at}
-use Rattle.descriptor_renderer.specs.LayoutRegistries.{layouts_of}
-use Rattle.descriptor_renderer.specs.Stores.{HoldAtLast, slots_in}
-use Rattle.descriptor_renderer.proofs.Owned.{found_set, if_some, layout_here, layout_listed, own_comes, refused_names}
+use Rattle.descriptor_renderer.specs.LayoutRegistries.{layout_slots}
+use Rattle.descriptor_renderer.specs.Stores.{BringsAtLast, HoldAtLast, kept_of, number_of, slots_in}
+use Rattle.descriptor_renderer.proofs.Owned.{found_set, if_some, layout_here, layout_listed, own_comes, own_known, refused_names}
 use Rattle.descriptor_renderer.proofs.renderer.Renderer.create_sets.Goals as goal
 
 pub create_each-requires-clause-layout : goal.create_each-requires-clause-layout
 create_each-requires-clause-layout g c =
     let old = c.args.self.now in
-    let here = layout_here old.layouts c.args.layout c.in-Some.known.now (sym c.in-Some.ensures.layout) in
-    subst (λ n. c.args.layout.place + 2 < n) (sym old.lists) (layout_listed (layouts_of old.layouts) c.args.layout.place c.in-Some.known.now here)
+    let here = layout_here old.layouts c.args.layout c.in-Some.known.now c.place.result c.place.ensures (sym c.in-Some.ensures.layout) in
+    subst (λ n. c.place.result + 2 < n) (sym old.lists) (layout_listed (layout_slots old.layouts) c.place.result c.in-Some.known.now here)
 
 pub invariant_of-self-2-clause-own : goal.invariant_of-self-2-clause-own
 invariant_of-self-2-clause-own g c =
     let old = c.args.self.now in
     let known = c.in-Some.known.now in
-    let here = layout_here old.layouts c.args.layout known (sym c.in-Some.ensures.layout) in
-    own_comes 0 c.args.layout.place (layouts_of old.layouts) known old.store c.create_each.new.self here c.create_each.ensures.settles old.own
+    let here = layout_here old.layouts c.args.layout known c.place.result c.place.ensures (sym c.in-Some.ensures.layout) in
+    own_comes 0 c.place.result (layout_slots old.layouts) known old.store c.create_each.new.self here c.create_each.ensures.settles old.own
 
 pub invariant_of-self-2-clause-rising : goal.invariant_of-self-2-clause-rising
 invariant_of-self-2-clause-rising g c = c.create_each.ensures.settles.frames c.args.self.now.frame (omega arith) c.args.self.now.rising
@@ -28,8 +28,8 @@ pub returns-in-Ok-clause-creates : goal.returns-in-Ok-clause-creates
 returns-in-Ok-clause-creates g c =
     let old = c.args.self.now in
     let known = c.in-Some.known.now in
-    let here = layout_here old.layouts c.args.layout known (sym c.in-Some.ensures.layout) in
-    let own = own_comes 0 c.args.layout.place (layouts_of old.layouts) known old.store c.create_each.new.self here c.create_each.ensures.settles old.own in
+    let here = layout_here old.layouts c.args.layout known c.place.result c.place.ensures (sym c.in-Some.ensures.layout) in
+    let own = own_comes 0 c.place.result (layout_slots old.layouts) known old.store c.create_each.new.self here c.create_each.ensures.settles old.own in
     let creates = c.in-Ok.ensures.creates in
     let given = creates.0 in
     let named = creates.3 in
@@ -44,12 +44,24 @@ returns-in-Ok-clause-creates g c =
         own = λ i e x lt found.
             let h = slice_index_or given i e in
             let same = ap (λ (h : SetHandle). h.place) (same_default given i e (record { renderer = 0; place = 0; generation = 0 }) lt) in
-            own h.place x known (found_set old.renderer old.frame old.is_open new h x found) (ap (λ p. slice_get (layouts_of old.layouts) (slot_at new p).layout) same ∙ ap (slice_get (layouts_of old.layouts)) (named.of_layout i lt) ∙ here);
+            own_known g.D.DescriptorDevice.meaning (layout_slots old.layouts) new own old.layouts.table.sized.few h.place c.place.result x known (found_set old.renderer old.frame old.is_open new h x found) (ap (λ p. (slot_at new p).layout) same ∙ named.of_layout i lt) here;
       },
-      subst (λ n. HoldAtLast n c.args.layout.place given (slots_in old.store) new) old.numbers_sets creates.4,
+      subst (λ n. HoldAtLast n c.args.layout.slot.place given (slots_in old.store) new) old.numbers_sets (subst (λ p. HoldAtLast (number_of old.store) p given (slots_in old.store) new) c.place.ensures creates.4),
     )
 
 pub returns-in-Err-clause-stay : goal.returns-in-Err-clause-stay
 returns-in-Err-clause-stay g c =
     let old = c.args.self.now in
     refused_names c.in-Some.known.now.layout _ c.args.many c.in-Err.error old.store c.create_each.new.self c.in-Err.ensures.refused old.renderer old.frame old.is_open
+
+pub returns-then-is_err-clause-refused : goal.returns-then-is_err-clause-refused
+returns-then-is_err-clause-refused g c = λ error e. inl (record { is = cc; seen = refl; side = refl })
+
+pub returns-in-Ok-clause-comes : goal.returns-in-Ok-clause-comes
+returns-in-Ok-clause-comes g c = λ few.
+    let old = c.args.self.now in
+    let known = c.in-Some.known.now in
+    let at = c.place.ensures in
+    let many = c.args.many in
+    let comes = c.in-Ok.ensures.comes (subst (λ p. kept_of p old.store < many) (sym at) few) in
+    if_some _ known _ c.in-Some.ensures.layout (subst (λ p. BringsAtLast known.layout (many - kept_of p old.store) many old.store c.create_each.new.self) at comes)

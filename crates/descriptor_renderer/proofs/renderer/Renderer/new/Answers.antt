@@ -1,9 +1,10 @@
-use Rattle.std.proofs.Common.{◌≡◌, ◌==◌, Bool, true, false, if◌then◌else◌, List, [], slice_get, None, ap, refl, ℕ}
+use Rattle.std.proofs.Common.{false, ap}
+use Rattle.descriptor_table.specs.Slots.{slot_at}
+use Rattle.descriptor_renderer.specs.LayoutRegistries.{layout_slots, registry_of}
+use Rattle.descriptor_renderer.proofs.Owned.{found_none}
 use Rattle.descriptor_renderer.proofs.renderer.Renderer.new.Goals as goal
 
-none_at : {X : Type 0} (here : Bool) (xs : List X) (i : ℕ) → xs ≡ [] → (if here then slice_get xs i else None) ≡ None
-none_at true xs i none = ap (λ ys. slice_get ys i) none
-none_at false xs i none = refl
-
 pub returns-clause-layouts : goal.returns-clause-layouts
-returns-clause-layouts g c handle = none_at (handle.registry == c.new-2.result.registry) c.new-2.result.layouts.items handle.place c.new-2.ensures.layouts
+returns-clause-layouts g c handle =
+    let r = c.new-2.result in
+    found_none (registry_of r) 0 false (layout_slots r) handle.slot (ap (λ l. (slot_at l handle.slot.place).set) c.new-2.ensures.slots)

@@ -36,4 +36,4 @@ returns g c =
     let n = c.len-list-end.ensures in
     let ok = s.chains.ok.0 in
     let end = c.loop-list-test.false in
-    c.loop-list.invariant ∙ kept_end s.slots.items _ c.loop-list.list s.known (omega arith)
+    c.loop-list.invariant ∙ kept_end s.slots.items s.next.items s.chains.items c.loop-list.list s.linked (omega arith)

@@ -51,7 +51,7 @@ pub invariant_of-self-clause-known : goal.invariant_of-self-clause-known
 invariant_of-self-clause-known g c =
     let s = c.args.self.now in
     let i = inside g (goal.at.invariant_of-self-clause-known g c).In-Some in
-    known_set s.slots.items c.in-Some.chain.first (used_for Taken c.index_mut.result.now) _ s.known i (ap (λ (w : Slot g.row.T.Denot). w.layout) (read_slot s.slots.items c.in-Some.chain.first c.index_mut.result.now i c.index_mut.ensures.value))
+    known_set s.slots.items c.in-Some.chain.first Taken c.index_mut.result.now _ s.known i (read_slot s.slots.items c.in-Some.chain.first c.index_mut.result.now i c.index_mut.ensures.value)
 
 pub returns-clause-picks : goal.returns-clause-picks
 returns-clause-picks g c =

@@ -44,7 +44,7 @@ invariant_of-self-clause-rising g c =
 pub invariant_of-self-clause-known : goal.invariant_of-self-clause-known
 invariant_of-self-clause-known g c =
     let s = c.args.self.now in
-    known_set s.slots.items c.args.place (used_for c.args.used c.index_mut.result.now) _ s.known c.requires.taken.taken.within (ap (λ (w : Slot g.row.T.Denot). w.layout) (read_slot s.slots.items c.args.place c.index_mut.result.now c.requires.taken.taken.within c.index_mut.ensures.value))
+    known_set s.slots.items c.args.place c.args.used c.index_mut.result.now _ s.known c.requires.taken.taken.within (read_slot s.slots.items c.args.place c.index_mut.result.now c.requires.taken.taken.within c.index_mut.ensures.value)
 
 pub returns-clause-stays : goal.returns-clause-stays
 returns-clause-stays g c =

@@ -1,0 +1,90 @@
+-- A layout that comes into a slot and has a handle, and one that leaves.
+use Rattle.std.proofs.Common.{◌≡◌, ◌≢◌, ℕ, ◌+◌, ◌<◌, ◌⊎◌, zero, suc, true, false, List, [], ◌∷◌, length, set, slice_index_or, Option, None, Some, IsSome, inl, inr, refl, sym, ap, subst, ◌∙◌, arith}
+use Rattle.std.proofs.lemmas.List.{length-set}
+use Rattle.descriptor_table.specs.Sets.{AreHeldOnce, LoseNames, Names, find, is_held, sets_of}
+use Rattle.descriptor_table.specs.Slots.{is_live, slot_at}
+use Rattle.descriptor_table.specs.Tables.{Grows, Puts, Renews, place_at, renewed, vacated}
+use Rattle.descriptor_table.specs.declared.handle.SetHandle.{SetHandle}
+use Rattle.descriptor_table.specs.declared.slot.Slot.{Slot}
+use Rattle.descriptor_table.specs.declared.slot.Use.TheVariants.{Held}
+use Rattle.descriptor_table.proofs.Counting.{same_or}
+use Rattle.descriptor_table.proofs.Holding.{held_is}
+use Rattle.descriptor_table.proofs.Naming.{names_lost}
+use Rattle.descriptor_table.proofs.Listed.{other_slots, slot_set}
+use Rattle.descriptor_renderer.proofs.Cleared.{same_clears}
+use Rattle.descriptor_renderer.proofs.Growing.{grow_new}
+use Rattle.descriptor_renderer.proofs.Handing.{named, new_fills}
+use Rattle.descriptor_renderer.proofs.Owned.{found_none, same_some}
+
+module _ {T : Type 0} (number p : ℕ) (x : T) (handle : SetHandle) (old mid new : List (Slot T)) (puts : Puts 0 x p old mid) (renews : Renews number p Held handle mid new) where
+  slot_here : slot_at new p ≡ renewed Held (slot_at mid p)
+  slot_here = ap (λ l. slot_at l p) renews.slots ∙ slot_set mid p (renewed Held (slot_at mid p)) puts.within
+
+  added_here : (slot_at new p).set ≡ Some x
+  added_here = ap (λ (s : Slot T). s.set) slot_here ∙ ap (λ (s : Slot T). s.set) puts.here
+
+  added_there : (n : ℕ) → n ≢ p → slot_at new n ≡ slot_at old n
+  added_there n ne = ap (λ l. slot_at l n) renews.slots ∙ other_slots mid p (renewed Held (slot_at mid p)) n ne ∙ puts.others n ne
+
+  -- no handle but the new one names something else
+  pub added_names : Names handle x (sets_of number 0 false old) (sets_of number 0 false new)
+  added_names =
+      let fills = new_fills (λ n y. y ≡ x) number 0 p Held handle x old mid new puts refl renews in
+      let is = named (λ n y. y ≡ x) number 0 p Held handle old new (record { mid = old; clears = λ q. same_clears (slot_at old q) (slot_at old q) refl; fills = fills }) in
+      let at : (slot_at new handle.place).set ≡ Some x = ap (λ (h : SetHandle). (slot_at new h.place).set) renews.is ∙ added_here in
+      subst (λ y. Names handle y (sets_of number 0 false old) (sets_of number 0 false new)) (same_some is.set x (sym is.here ∙ at)) (is.names 0 false refl)
+
+  pub added_fresh : find number 0 false old handle ≡ None
+  added_fresh = found_none number 0 false old handle (ap (λ (h : SetHandle). (slot_at old h.place).set) renews.is ∙ puts.empty)
+
+  pub added_stay : (n : ℕ) (y : T) → (slot_at old n).set ≡ Some y → (slot_at new n).set ≡ Some y
+  added_stay n y is = elim (same_or n p) [
+    | inl e ↦ absurd (let no : None ≡ Some y = sym puts.empty ∙ ap (λ q. (slot_at old q).set) (sym e) ∙ is in cc)
+    | inr ne ↦ ap (λ (s : Slot T). s.set) (added_there n ne) ∙ is
+  ]
+
+  pub added_only : (n : ℕ) (y : T) → (slot_at new n).set ≡ Some y → ((slot_at old n).set ≡ Some y) ⊎ (y ≡ x)
+  added_only n y is = elim (same_or n p) [
+    | inl e ↦ inr (same_some y x (sym is ∙ ap (λ q. (slot_at new q).set) e ∙ added_here))
+    | inr ne ↦ inl (ap (λ (s : Slot T). s.set) (sym (added_there n ne)) ∙ is)
+  ]
+
+  pub added_grows : Grows old new
+  added_grows = grow_new number 0 p x Held handle old mid new (λ s. refl) puts renews
+
+  pub added_one : (length new ≡ length old) ⊎ (length new ≡ length old + 1)
+  added_one =
+      let long = ap length renews.slots ∙ length-set mid p (renewed Held (slot_at mid p)) in
+      elim puts.grows [
+        | inl same ↦ inl (long ∙ same)
+        | inr more ↦ inr (long ∙ more.0)
+      ]
+
+-- a layout that leaves its slot
+module _ {T : Type 0} (number : ℕ) (h : SetHandle) (old new : List (Slot T)) where
+  only_held : is_held number old h ≡ true → AreHeldOnce number old (h ∷ [])
+  only_held held = record {
+    held = λ i d lt. at_first i d lt;
+    once = λ i j d lt less. absurd (omega arith);
+  }
+    where
+      at_first : (i : ℕ) (d : SetHandle) → i < 1 → is_held number old (slice_index_or (h ∷ []) i d) ≡ true
+      at_first zero d lt = held
+      at_first (suc i) d lt = absurd (omega arith)
+
+  pub left_names : is_held number old h ≡ true → new ≡ set old h.place (vacated (slot_at old h.place)) → LoseNames (h ∷ []) (sets_of number 0 false old) (sets_of number 0 false new)
+  left_names held made = names_lost number 0 false (h ∷ []) old new (only_held held) (λ i lt. ap (λ (s : Slot T). is_live 0 false s.used) (here i lt)) (λ i lt. ap (λ (s : Slot T). s.generation) (here i lt)) (λ p apart. ap (λ l. slot_at l p) made ∙ other_slots old h.place (vacated (slot_at old h.place)) p (λ e. apart 0 (omega arith) (sym e)))
+    where
+      here : (i : ℕ) → i < 1 → slot_at new (place_at (h ∷ []) i) ≡ vacated (slot_at old (place_at (h ∷ []) i))
+      here zero lt = ap (λ l. slot_at l h.place) made ∙ slot_set old h.place (vacated (slot_at old h.place)) (held_is number old h held).within
+      here (suc i) lt = absurd (omega arith)
+
+  pub left_only : (r : Option T) → (IsSome r → is_held number old h ≡ true) → (IsSome r → new ≡ set old h.place (vacated (slot_at old h.place))) → (r ≡ None → new ≡ old) → (n : ℕ) (y : T) → (slot_at new n).set ≡ Some y → (slot_at old n).set ≡ Some y
+  left_only None held made none n y is = ap (λ l. (slot_at l n).set) (sym (none refl)) ∙ is
+  left_only (Some x) held made none n y is = elim (same_or n h.place) [
+    | inl e ↦ absurd (
+        let gone = ap (λ l. slot_at l h.place) (made refl) ∙ slot_set old h.place (vacated (slot_at old h.place)) (held_is number old h (held refl)).within in
+        let no : None ≡ Some y = sym (ap (λ (s : Slot T). s.set) gone) ∙ ap (λ q. (slot_at new q).set) (sym e) ∙ is in
+        cc)
+    | inr ne ↦ ap (λ (s : Slot T). s.set) (sym (ap (λ l. slot_at l n) (made refl) ∙ other_slots old h.place (vacated (slot_at old h.place)) n ne)) ∙ is
+  ]
