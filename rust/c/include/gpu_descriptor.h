@@ -197,14 +197,23 @@ gd_status gd_destroy(gd_allocator allocator);
 /*
  * Adds a layout: the driver's handle, the descriptors of one set by kind, and 0 or
  * GD_UPDATE_AFTER_BIND. Counts and flags must be those of the layout: the library can't check them.
- * The same layout again has the same index. Layouts with the same counts and flags share pools. A
- * layout can't be removed; its memory is freed by gd_destroy. The time is linear in the number of
- * layouts.
+ * A layout that is known, by handle, counts and flags, has the same index again. Layouts with the same
+ * counts and flags share pools.
  *
  * GD_NULL_POINTER, GD_BAD_FLAGS, GD_OUT_OF_HOST_MEMORY, GD_BAD_ALLOCATOR, GD_BUSY, GD_INTERNAL_ERROR.
  */
 gd_status gd_add_layout(gd_allocator allocator, uint64_t handle, const uint32_t counts[GD_KINDS],
                         uint32_t flags, gd_layout *layout);
+
+/*
+ * Removes a layout: call it before you destroy the layout, as the driver may give its handle to another.
+ * From then on it is GD_BAD_LAYOUT, also once other layouts were added. Its kept sets go back to the
+ * driver. Its outstanding sets stay valid until they are freed, and then go back to the driver too. It
+ * allocates nothing. The time is linear in the most sets that were there at once.
+ *
+ * GD_BAD_LAYOUT, GD_BAD_ALLOCATOR, GD_BUSY, GD_INTERNAL_ERROR.
+ */
+gd_status gd_remove_layout(gd_allocator allocator, gd_layout layout);
 
 /*
  * Allocates 'count' sets, all or none: kept ones of this layout first, the others new, in one request. If

@@ -1,8 +1,8 @@
 //! An allocator: a renderer over the host's device.
 //!
 //! Sets, their names and their frames are the renderer's, of which it is proved that a name leads to one
-//! set, and that a set is freed once. What this file adds is the form that they have in C, and that a
-//! `gd_set` has the handle of its set.
+//! set, that a set is freed once, and that a name leads to one layout. What this file adds is the form that
+//! they have in C, that a `gd_set` has the handle of its set, and that a layout is known by the host's handle.
 
 use crate::abi::{GdLayout, GdSet, GdStatus};
 use crate::descriptor_renderer::{LayoutHandle, RenderError, Renderer, SetHandle};
@@ -12,31 +12,47 @@ use crate::gpu_descriptor::{
 };
 use crate::kit::alloc::{AllocError, Global};
 use crate::kit::vec::Vec;
+use crate::known::Known;
+
+type HostRenderer = Renderer<u64, u64, u64, HostDevice>;
 
 pub struct Allocator {
     id: u64,
-    renderer: Renderer<u64, u64, u64, HostDevice>,
+    renderer: HostRenderer,
 
     /// How many sets are held.
     held: usize,
 
     /// The handles of a call. There is capacity for all sets that are held.
     handles: Vec<SetHandle>,
+
+    /// The layouts, by the host's handles.
+    known: Known,
 }
 
-/// The name of a set in C: 64 bits, which no other set of the allocator gets.
+/// The name of a set or a layout in C: 64 bits, which no other set or layout of the allocator gets. It is
+/// never 0.
 #[inline]
 fn name_of(handle: SetHandle) -> u64 {
     u64::from(handle.generation) << 32 | u64::from(handle.place)
 }
 
-/// The handle of a set with this name.
+/// The handle of a set or a layout with this name.
 #[inline]
 fn handle_of(owner: u64, name: u64) -> SetHandle {
     SetHandle {
         renderer: owner,
         place: name as u32,
         generation: (name >> 32) as u32,
+    }
+}
+
+/// The host's handle of a known layout, by its name.
+fn layout_of(id: u64, renderer: &HostRenderer) -> impl Fn(u64) -> u64 {
+    move |name| {
+        let slot = handle_of(id, name);
+        let it = renderer.layout(LayoutHandle { slot });
+        it.expect("a known layout is there").layout
     }
 }
 
@@ -52,6 +68,7 @@ impl Allocator {
             renderer,
             held: 0,
             handles: Vec::new(Global),
+            known: Known::new(),
         }
     }
 
@@ -82,27 +99,54 @@ impl Allocator {
         for (kind, count) in counts.iter().enumerate() {
             total.set_kind(kind, *count);
         }
-        let mut layouts = self.renderer.layouts().iter();
-        let known =
-            layouts.position(|it| (it.layout, it.flags, it.counts) == (handle, flags, total));
-        if let Some(place) = known {
-            return Ok(GdLayout {
-                index: place as u64,
-                owner: self.id,
-            });
-        }
-        let added = self.renderer.add_layout(SetLayout {
+        let layout = SetLayout {
             layout: handle,
             counts: total,
             flags,
-        });
-        match added {
-            Ok(LayoutHandle { registry, place }) => Ok(GdLayout {
-                index: u64::from(place),
-                owner: registry,
-            }),
-            Err(_) => Err(GdStatus::OUT_OF_HOST_MEMORY),
+        };
+        let index = match self.known_layout(&layout) {
+            Some(name) => name,
+            None => self.new_layout(layout)?,
+        };
+        Ok(GdLayout {
+            index,
+            owner: self.id,
+        })
+    }
+
+    /// The name of a layout with this handle, these counts and flags.
+    fn known_layout(&self, layout: &SetLayout<u64>) -> Option<u64> {
+        self.known.find(layout.layout, |name| {
+            let slot = handle_of(self.id, name);
+            let it = self.renderer.layout(LayoutHandle { slot });
+            it.is_some_and(|it| {
+                (it.layout, it.flags, it.counts) == (layout.layout, layout.flags, layout.counts)
+            })
+        })
+    }
+
+    /// Adds a layout, and returns its name.
+    fn new_layout(&mut self, layout: SetLayout<u64>) -> Result<u64, GdStatus> {
+        let (id, renderer, handle) = (self.id, &self.renderer, layout.layout);
+        if self.known.reserve(layout_of(id, renderer)).is_err() {
+            return Err(GdStatus::OUT_OF_HOST_MEMORY);
         }
+        let Ok(LayoutHandle { slot }) = self.renderer.add_layout(layout) else {
+            return Err(GdStatus::OUT_OF_HOST_MEMORY);
+        };
+        self.known.put(handle, name_of(slot));
+        Ok(name_of(slot))
+    }
+
+    /// Removes a layout. It allocates nothing.
+    pub fn remove_layout(&mut self, layout: GdLayout) -> GdStatus {
+        let slot = handle_of(layout.owner, layout.index);
+        let Ok(removed) = self.renderer.remove_layout(LayoutHandle { slot }) else {
+            return GdStatus::BAD_LAYOUT;
+        };
+        let handle_of = layout_of(self.id, &self.renderer);
+        self.known.remove(removed.layout, layout.index, handle_of);
+        GdStatus::OK
     }
 
     /// Allocates sets, and passes each with its index to `put`.
@@ -113,13 +157,9 @@ impl Allocator {
         count: u32,
         put: impl Fn(usize, GdSet),
     ) -> GdStatus {
-        let Ok(place) = u32::try_from(layout.index) else {
-            return GdStatus::BAD_LAYOUT;
-        };
         self.renderer.device().has_bad_result.set(false);
-        let registry = layout.owner;
-        let layout = LayoutHandle { registry, place };
-        match self.create(layout, count, put) {
+        let slot = handle_of(layout.owner, layout.index);
+        match self.create(LayoutHandle { slot }, count, put) {
             Ok(()) => GdStatus::OK,
             Err(error) => self.status_of(error),
         }

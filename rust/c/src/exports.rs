@@ -97,6 +97,12 @@ pub unsafe extern "C" fn gd_add_layout(
 }
 
 #[unsafe(no_mangle)]
+pub unsafe extern "C" fn gd_remove_layout(allocator: GdAllocator, layout: GdLayout) -> GdStatus {
+    // SAFETY: the header's.
+    unsafe { slot::enter(allocator, |it| it.remove_layout(layout)) }
+}
+
+#[unsafe(no_mangle)]
 pub unsafe extern "C" fn gd_allocate(
     allocator: GdAllocator,
     layout: GdLayout,

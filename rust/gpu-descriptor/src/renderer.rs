@@ -189,8 +189,7 @@ impl<L, P, S, D: DescriptorDevice<L, P, S>> Renderer<L, P, S, D> {
         }
     }
 
-    /// Adds a layout, and returns its handle. A layout can't be removed. Destroy it yourself after
-    /// `shutdown`.
+    /// Adds a layout, and returns its handle. Destroy it yourself after `remove_layout` or `shutdown`.
     ///
     /// # Errors
     ///
@@ -199,13 +198,26 @@ impl<L, P, S, D: DescriptorDevice<L, P, S>> Renderer<L, P, S, D> {
     /// # Safety
     ///
     /// * It is a layout of the renderer's device, created with these flags and descriptor counts.
-    /// * It stays valid until the renderer is shut down or dropped.
+    /// * It stays valid until it is removed, or the renderer is shut down or dropped.
     pub unsafe fn add_layout(
         &mut self,
         layout: SetLayout<L>,
     ) -> Result<LayoutHandle, AddLayoutError<L>> {
         let added = self.inner.call(|inner| inner.add_layout(layout));
         added.map_err(|failed| AddLayoutError(failed.value))
+    }
+
+    /// Removes a layout, and returns it. Its handle names none from now on, and none later. Its kept sets
+    /// are freed, and then pools are destroyed as by
+    /// [`DescriptorAllocator::free`](crate::DescriptorAllocator::free). Its other sets stay as they are,
+    /// and aren't kept when they come back. It allocates nothing. The time is linear in the most sets that
+    /// there were at once.
+    ///
+    /// # Errors
+    ///
+    /// `NoLayout`: the handle names no layout. Then nothing changed.
+    pub fn remove_layout(&mut self, layout: LayoutHandle) -> Result<SetLayout<L>, RenderError> {
+        self.inner.call(|inner| inner.remove_layout(layout))
     }
 
     /// Opens the next frame, and returns its number: they count from 1.
@@ -424,16 +436,10 @@ impl<L, P, S, D: DescriptorDevice<L, P, S>> Renderer<L, P, S, D> {
         self.inner.get().set(set)
     }
 
-    /// The layout of a handle. `None` under a handle of another renderer.
+    /// The layout of a handle. `None` if it was removed, and under a handle of another renderer.
     #[must_use]
     pub fn layout(&self, layout: LayoutHandle) -> Option<&SetLayout<L>> {
         self.inner.get().layout(layout)
-    }
-
-    /// The layouts, in the order in which they were added.
-    #[must_use]
-    pub fn layouts(&self) -> &[SetLayout<L>] {
-        self.inner.get().layouts()
     }
 
     /// The device, to write sets and to bind them.
@@ -467,7 +473,8 @@ impl<L, P, S, D: DescriptorDevice<L, P, S>> Renderer<L, P, S, D> {
         self.inner.get().counts()
     }
 
-    /// How many sets of a layout are kept; 0 under a handle of another renderer.
+    /// How many sets of a layout are kept; 0 if the layout was removed, and under a handle of another
+    /// renderer.
     #[must_use]
     pub fn kept_count(&self, layout: LayoutHandle) -> u32 {
         self.inner.get().kept_count(layout)

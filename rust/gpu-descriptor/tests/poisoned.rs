@@ -305,6 +305,7 @@ impl Stage for Rendering {
 fn calls_of_a_renderer() -> Vec<Call<Rendering>> {
     calls! { Rendering, on:
         Panics (on.it.as_mut().unwrap()).add_layout(layout());
+        Panics (on.it.as_mut().unwrap()).remove_layout(on.layout);
         Panics (on.it.as_mut().unwrap()).begin_frame();
         Panics (on.it.as_mut().unwrap()).skip_to(9);
         Panics (on.it.as_mut().unwrap()).set_keep(0);
@@ -325,7 +326,6 @@ fn calls_of_a_renderer() -> Vec<Call<Rendering>> {
         Answers (on.it.as_mut().unwrap()).set(on.drawn).unwrap();
         Answers (on.it.as_mut().unwrap()).set(on.held).unwrap();
         Answers (on.it.as_mut().unwrap()).layout(on.layout).unwrap();
-        Answers (on.it.as_mut().unwrap()).layouts();
         Answers (on.it.as_mut().unwrap()).device();
         Answers (on.it.as_mut().unwrap()).frame();
         Answers (on.it.as_mut().unwrap()).is_frame_open();

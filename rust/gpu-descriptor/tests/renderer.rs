@@ -129,8 +129,6 @@ impl<'a> Stage<'a> {
             assert_eq!(it.layout(*handle).map(|it| it.layout), Some(number));
             assert!(it.kept_count(*handle) <= self.keep);
         }
-        let layouts = it.layouts().iter().map(|it| it.layout);
-        assert!(layouts.eq(0..self.layouts.len() as u32));
     }
 
     fn refused(&mut self, error: RenderError) -> bool {

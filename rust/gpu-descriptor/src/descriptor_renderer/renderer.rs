@@ -4,6 +4,7 @@
 mod frames;
 mod sets;
 
+use crate::descriptor_renderer::errors::RenderError;
 use crate::descriptor_renderer::layout_registry::{LayoutHandle, LayoutRegistry};
 use crate::descriptor_renderer::store::Store;
 use crate::gpu_descriptor::{DescriptorDevice, SetLayout};
@@ -32,8 +33,8 @@ pub struct Counts {
 ///
 /// A set that comes back is kept, as long as no more of its layout are kept than `set_keep` says, at
 /// first all. Kept sets are handed out again before the device is asked for a new one. They have the
-/// contents that they had. `cleanup` gives them back. Only `draw`, `create_set`, `create_sets` and
-/// `add_layout` allocate.
+/// contents that they had. `cleanup` gives them back, and `remove_layout` those of its layout. Only
+/// `draw`, `create_set`, `create_sets` and `add_layout` allocate.
 ///
 /// The raw set of a handle is borrowed, as the device is, to be written and bound. Do not allocate or
 /// free on the device in the meantime: only the renderer does.
@@ -68,8 +69,8 @@ impl<L, P, S, D: DescriptorDevice<L, P, S>> Renderer<L, P, S, D> {
         }
     }
 
-    /// Adds a layout, and returns its handle. If an allocation fails, or if there are `u32::MAX`, the
-    /// layout is returned, and nothing changed.
+    /// Adds a layout, and returns its handle, which was never given before. If an allocation fails, or if
+    /// there are `u32::MAX`, the layout is returned, and nothing changed.
     pub fn add_layout(
         &mut self,
         layout: SetLayout<L>,
@@ -78,12 +79,31 @@ impl<L, P, S, D: DescriptorDevice<L, P, S>> Renderer<L, P, S, D> {
         if self.store.reserve_layout().is_err() {
             return Err(AllocFailed { value: layout });
         }
+        let places = self.layouts.places();
         match self.layouts.add(layout) {
             Ok(handle) => {
-                self.store.add_layout();
+                if self.layouts.places() > places {
+                    self.store.add_layout();
+                }
                 Ok(handle)
             }
             Err(failed) => Err(failed),
+        }
+    }
+
+    /// Removes a layout, and returns it. Its handle names none from now on, and none later. Its kept sets
+    /// are given back. Its other sets stay as they are, and aren't kept when they come back. It allocates
+    /// nothing.
+    ///
+    /// It returns `NoLayout` if the handle names no layout, and then nothing changed.
+    pub fn remove_layout(&mut self, layout: LayoutHandle) -> Result<SetLayout<L>, RenderError>
+    {
+        match self.layouts.remove(layout) {
+            Some(removed) => {
+                self.store.remove_layout(layout.place());
+                Ok(removed)
+            }
+            None => Err(RenderError::NoLayout),
         }
     }
 
@@ -116,16 +136,10 @@ impl<L, P, S, D: DescriptorDevice<L, P, S>> Renderer<L, P, S, D> {
         self.store.most_pool_descriptors()
     }
 
-    /// The layout of a handle. None under a handle of another renderer.
+    /// The layout of a handle. None if it was removed, and under a handle of another renderer.
     pub fn layout(&self, layout: LayoutHandle) -> Option<&SetLayout<L>>
     {
         self.layouts.get(layout)
-    }
-
-    /// The layouts, in the order in which they were added.
-    pub fn layouts(&self) -> &[SetLayout<L>]
-    {
-        self.layouts.layouts()
     }
 
     /// The device, to write sets and to bind them.
@@ -157,11 +171,12 @@ impl<L, P, S, D: DescriptorDevice<L, P, S>> Renderer<L, P, S, D> {
         }
     }
 
-    /// How many sets of a layout are kept. 0 under a handle of another renderer.
+    /// How many sets of a layout are kept. 0 if the layout was removed, and under a handle of another
+    /// renderer.
     pub fn kept_count(&self, layout: LayoutHandle) -> u32
     {
         match self.layouts.get(layout) {
-            Some(_) => self.store.kept_count(layout.place),
+            Some(_) => self.store.kept_count(layout.place()),
             None => 0,
         }
     }

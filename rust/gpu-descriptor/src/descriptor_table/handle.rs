@@ -12,3 +12,10 @@ pub struct SetHandle {
     /// How many handles were given for the place, with this one. So it is never 0.
     pub(crate) generation: u32,
 }
+
+/// The place of the slot of a handle.
+#[inline]
+pub fn place_of(handle: SetHandle) -> u32
+{
+    handle.place
+}

@@ -8,5 +8,5 @@ mod set_table;
 mod slot;
 
 pub use giving::{Due, Giving};
-pub use handle::SetHandle;
+pub use handle::{SetHandle, place_of};
 pub use set_table::SetTable;

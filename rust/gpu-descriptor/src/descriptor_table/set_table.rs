@@ -26,6 +26,9 @@ pub(crate) const GOING: usize = 1;
 /// The list of the kept sets of the first layout.
 pub(crate) const KEPT: usize = 2;
 
+/// What a slot has in place of a layout once its layout was removed.
+pub(crate) const NO_LAYOUT: u32 = u32::MAX;
+
 /// The sets, each in a slot.
 pub struct SetTable<T> {
     /// The number of the renderer, which tells its handles from those of others.

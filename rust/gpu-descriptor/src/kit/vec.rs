@@ -62,18 +62,6 @@ impl<T> Vec<T> {
         self.0.pop()
     }
 
-    /// `items`, `len`: the value is last; or, if an allocation failed, nothing changed and the value
-    /// is returned.
-    pub fn push(&mut self, value: T) -> Result<(), AllocFailed<T>> {
-        match self.0.try_reserve(1) {
-            Ok(()) => {
-                self.0.push(value);
-                Ok(())
-            }
-            Err(_) => Err(AllocFailed { value }),
-        }
-    }
-
     /// `items`, `len`: the value is at its place; or, if an allocation failed, nothing changed and the value
     /// is returned. `succeeds`, `in_place`: if there is capacity, it is `Ok`, and nothing is allocated.
     pub fn insert(&mut self, index: usize, value: T) -> Result<(), AllocFailed<T>> {
@@ -166,9 +154,7 @@ mod tests {
 
     #[test]
     fn last_values_come_first() {
-        let mut items = Vec::new(Global);
-        items.push(1).unwrap();
-        items.push(2).unwrap();
+        let mut items = Vec(std_alloc::vec![1, 2]);
         assert_eq!(items.pop(), Some(2));
         assert_eq!(items.into_iter().collect::<std_alloc::vec::Vec<_>>(), [1]);
     }

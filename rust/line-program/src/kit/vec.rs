@@ -18,6 +18,18 @@ impl<T> Vec<T> {
         items.reserve_exact(capacity)?;
         Ok(items)
     }
+
+    /// `items`, `len`: the value is last; or, if an allocation failed, nothing changed and the value
+    /// is returned.
+    pub fn push(&mut self, value: T) -> Result<(), AllocFailed<T>> {
+        match self.0.try_reserve(1) {
+            Ok(()) => {
+                self.0.push(value);
+                Ok(())
+            }
+            Err(_) => Err(AllocFailed { value }),
+        }
+    }
 }
 
 impl<T: PartialEq> PartialEq for Vec<T> {

@@ -52,7 +52,7 @@ impl<L, P, S, D: DescriptorDevice<L, P, S>> Renderer<L, P, S, D> {
         let Some(known) = self.layouts.get(layout) else {
             return Err(RenderError::NoLayout);
         };
-        match self.store.draw(known, layout.place, self.frame) {
+        match self.store.draw(known, layout.place(), self.frame) {
             Ok(handle) => Ok(handle),
             Err(error) => Err(RenderError::Allocation(error)),
         }

@@ -16,7 +16,7 @@ impl<L, P, S, D: DescriptorDevice<L, P, S>> Renderer<L, P, S, D> {
         let Some(known) = self.layouts.get(layout) else {
             return Err(RenderError::NoLayout);
         };
-        match self.store.create(known, layout.place) {
+        match self.store.create(known, layout.place()) {
             Ok(handle) => Ok(handle),
             Err(error) => Err(RenderError::Allocation(error)),
         }
@@ -41,7 +41,7 @@ impl<L, P, S, D: DescriptorDevice<L, P, S>> Renderer<L, P, S, D> {
         if handles.reserve(many as usize).is_err() {
             return Err(RenderError::Allocation(AllocationError::OutOfHostMemory));
         }
-        match self.store.create_each(known, layout.place, many, handles) {
+        match self.store.create_each(known, layout.place(), many, handles) {
             Ok(()) => Ok(()),
             Err(error) => Err(RenderError::Allocation(error)),
         }

@@ -89,6 +89,15 @@ impl<L, P, S, D: DescriptorDevice<L, P, S>> Store<L, P, S, D> {
         self.give();
     }
 
+    /// Gives the kept sets of a layout back. Its other sets are of none from now on, and aren't kept when
+    /// they come back.
+    pub(crate) fn remove_layout(&mut self, layout: u32)
+    {
+        self.table.let_kept_go(layout);
+        self.table.detach(layout);
+        self.give();
+    }
+
     /// Gives all sets back: those that are held, those that wait for a frame, which is up to this one,
     /// and those that are kept.
     pub(crate) fn free_all(&mut self, frame: u64)

@@ -126,6 +126,12 @@ impl<T> SetTable<T> {
         }
     }
 
+    /// Lets the kept sets of a layout go.
+    pub fn let_kept_go(&mut self, layout: u32)
+    {
+        self.trim_list(layout as usize + KEPT, 0);
+    }
+
     /// Lets kept sets go, but so many of each layout.
     pub fn trim(&mut self, most: u32)
     {

@@ -8,7 +8,7 @@ use crate::descriptor_table::slot::Use;
 impl<T> SetTable<T> {
     /// The set of a slot that is in no list is in use for something else, and in none then.
     #[inline]
-    fn assign(&mut self, place: usize, used: Use)
+    pub(super) fn assign(&mut self, place: usize, used: Use)
     {
         self.slots[place].used = used;
     }

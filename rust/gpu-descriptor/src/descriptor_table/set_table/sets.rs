@@ -130,4 +130,14 @@ impl<T> SetTable<T> {
         let place = self.pick_due(frame)?;
         self.take_out(place)
     }
+
+    /// Takes the held set of a handle out of its slot.
+    pub fn remove(&mut self, handle: SetHandle) -> Option<T>
+    {
+        if !self.holds(handle) {
+            return None;
+        }
+        self.assign(handle.place as usize, Use::Taken);
+        self.take_out(handle.place as usize)
+    }
 }

@@ -1,0 +1,144 @@
+//! The names of the known layouts, found by the host's handles.
+//!
+//! Open addressing with steps of one: at most half of the cells are used, and a removal moves names back, so
+//! that nothing is left of it. No name is 0. Which layout a name has is the renderer's to say, so nothing but
+//! time rests on the place of a name.
+
+use crate::kit::alloc::{AllocError, Global};
+use crate::kit::vec::Vec;
+
+/// How many cells there are at first.
+const FEWEST: usize = 16;
+
+pub struct Known {
+    /// As many as a power of two, or none; each with a name, or 0.
+    cells: Vec<u64>,
+    count: usize,
+}
+
+impl Known {
+    /// It allocates nothing.
+    pub fn new() -> Self {
+        Known {
+            cells: Vec::new(Global),
+            count: 0,
+        }
+    }
+
+    /// The cells go round. There are some.
+    fn wrapped(&self, at: usize) -> usize {
+        at & (self.cells.len() - 1)
+    }
+
+    /// Where the names of a handle begin. There are cells.
+    fn home(&self, handle: u64) -> usize {
+        let mixed = handle.wrapping_mul(0x9e37_79b9_7f4a_7c15);
+        self.wrapped((mixed ^ (mixed >> 32)) as usize)
+    }
+
+    /// The first name from a handle's home on for which this is true.
+    pub fn find(&self, handle: u64, is_same: impl Fn(u64) -> bool) -> Option<u64> {
+        if self.count == 0 {
+            return None;
+        }
+        let mut at = self.home(handle);
+        while self.cells[at] != 0 {
+            if is_same(self.cells[at]) {
+                return Some(self.cells[at]);
+            }
+            at = self.wrapped(at + 1);
+        }
+        None
+    }
+
+    /// Makes room for one more name. On an error nothing changed.
+    pub fn reserve(&mut self, handle_of: impl Fn(u64) -> u64) -> Result<(), AllocError> {
+        if self.count < self.cells.len() / 2 {
+            return Ok(());
+        }
+        let size = (self.cells.len() * 2).max(FEWEST);
+        let mut cells = Vec::new(Global);
+        cells.reserve_exact(size)?;
+        cells.0.resize(size, 0);
+        let before = core::mem::replace(&mut self.cells, cells);
+        for name in before.iter().copied().filter(|name| *name != 0) {
+            self.enter(handle_of(name), name);
+        }
+        Ok(())
+    }
+
+    fn enter(&mut self, handle: u64, name: u64) {
+        let mut at = self.home(handle);
+        while self.cells[at] != 0 {
+            at = self.wrapped(at + 1);
+        }
+        self.cells.0[at] = name;
+    }
+
+    /// Puts a name in. There is room.
+    pub fn put(&mut self, handle: u64, name: u64) {
+        self.enter(handle, name);
+        self.count += 1;
+    }
+
+    /// Takes a name out that was put in under this handle.
+    pub fn remove(&mut self, handle: u64, name: u64, handle_of: impl Fn(u64) -> u64) {
+        let mut at = self.home(handle);
+        while self.cells[at] != name {
+            at = self.wrapped(at + 1);
+        }
+        self.close(at, handle_of);
+        self.count -= 1;
+    }
+
+    /// Moves names back over a cell, up to the next that is free.
+    fn close(&mut self, mut hole: usize, handle_of: impl Fn(u64) -> u64) {
+        let mut at = self.wrapped(hole + 1);
+        while self.cells[at] != 0 {
+            // It may move to the hole unless its home is after that.
+            let home = self.home(handle_of(self.cells[at]));
+            if self.wrapped(at.wrapping_sub(home)) >= self.wrapped(at.wrapping_sub(hole)) {
+                self.cells.0[hole] = self.cells[at];
+                hole = at;
+            }
+            at = self.wrapped(at + 1);
+        }
+        self.cells.0[hole] = 0;
+    }
+}
+
+#[cfg(test)]
+mod tests {
+    use super::*;
+    use std::collections::BTreeMap;
+
+    /// Random steps beside a map. Handles are few, so many have one home, and many have several names.
+    #[test]
+    fn names_beside_a_map() {
+        let (mut known, mut names) = (Known::new(), BTreeMap::new());
+        let mut random = 7u64;
+        let mut below = |end: u64| {
+            random = random.wrapping_mul(0x5851_f42d_4c95_7f2d).wrapping_add(11);
+            (random >> 33) % end
+        };
+        for name in 1..200_000 {
+            let handle = below(40) * 0x1_0000;
+            if below(1000) < 500 + 300 * u64::from(names.len() < 60) {
+                known.reserve(|name| names[&name]).unwrap();
+                names.insert(name, handle);
+                known.put(handle, name);
+            } else if let Some((gone, handle)) = names.iter().nth(below(60) as usize) {
+                let (gone, handle) = (*gone, *handle);
+                known.remove(handle, gone, |name| names[&name]);
+                names.remove(&gone);
+            }
+            let here = names.iter().find(|it| *it.1 == handle).map(|it| *it.0);
+            assert_eq!(known.find(handle, |name| Some(name) == here), here);
+            assert_eq!(known.count, names.len());
+        }
+        for (name, handle) in &names {
+            assert_eq!(known.find(*handle, |it| it == *name), Some(*name));
+        }
+        assert!(known.cells.len() < 8 * 300, "{}", known.cells.len());
+    }
+}

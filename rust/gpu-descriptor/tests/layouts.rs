@@ -1,0 +1,126 @@
+//! Layouts of a `Renderer` that are removed: what their handles name, what becomes of their sets, and that
+//! memory follows the most layouts at once.
+
+mod gpu;
+mod refuses;
+
+use gpu::{Gpu, Set, layout};
+use gpu_descriptor::renderer::{LayoutHandle, RenderError, Renderer};
+use refuses::{bytes, calls, counted};
+use std::collections::HashSet;
+
+type Sets<'a> = Renderer<u32, usize, Set, &'a Gpu>;
+
+fn add(it: &mut Sets, number: u32) -> LayoutHandle {
+    // SAFETY: the device knows no layouts.
+    counted(|| unsafe { it.add_layout(layout(number)) }).unwrap()
+}
+
+/// Removes a layout, without memory.
+fn remove(it: &mut Sets, handle: LayoutHandle) -> Result<u32, RenderError> {
+    let before = calls();
+    let removed = counted(|| it.remove_layout(handle));
+    assert_eq!(calls(), before, "no memory is taken");
+    removed.map(|it| it.layout)
+}
+
+fn shutdown(gpu: &Gpu, it: Sets) {
+    // SAFETY: no frame is in flight.
+    unsafe { it.shutdown() };
+    assert!(gpu.is_empty());
+}
+
+/// Each call with a handle that names no layout is refused as with one of another renderer.
+fn is_unknown(it: &mut Sets, handle: LayoutHandle) {
+    assert!(it.layout(handle).is_none());
+    assert_eq!(it.kept_count(handle), 0);
+    assert_eq!(it.create_set(handle), Err(RenderError::NoLayout));
+    assert_eq!(it.create_sets(handle, 2), Err(RenderError::NoLayout));
+    it.begin_frame().unwrap();
+    assert_eq!(it.draw(handle), Err(RenderError::NoLayout));
+    it.end_frame();
+    assert_eq!(remove(it, handle), Err(RenderError::NoLayout));
+}
+
+#[test]
+fn a_removed_handle_names_nothing() {
+    let (gpu, other_gpu) = (Gpu::new(), Gpu::new());
+    let (mut it, mut other) = (
+        Renderer::new(&gpu, 10_000),
+        Renderer::new(&other_gpu, 10_000),
+    );
+    let (first, second) = (add(&mut it, 0), add(&mut it, 1));
+    let foreign = add(&mut other, 2);
+    is_unknown(&mut it, foreign);
+    let mut seen = HashSet::from([first, second]);
+    let mut last = first;
+    for round in 0..100 {
+        assert_eq!(remove(&mut it, last), Ok(round % 3));
+        is_unknown(&mut it, last);
+        let next = add(&mut it, (round + 1) % 3);
+        assert!(seen.insert(next), "no handle comes twice");
+        is_unknown(&mut it, last);
+        assert_eq!(it.layout(next).map(|it| it.layout), Some((round + 1) % 3));
+        assert_eq!(it.layout(second).map(|it| it.layout), Some(1));
+        last = next;
+    }
+    shutdown(&gpu, it);
+    shutdown(&other_gpu, other);
+}
+
+/// The next layout has the slot of the removed one, and its counts, so its sets are in the same pools.
+#[test]
+fn sets_of_a_removed_layout() {
+    let gpu = Gpu::new();
+    let mut it = Renderer::new(&gpu, 10_000);
+    let old = add(&mut it, 0);
+    let held = it.create_sets(old, 4).unwrap();
+    it.begin_frame().unwrap();
+    let drawn = it.draw(old).unwrap();
+    // SAFETY: no frame in flight reads it.
+    unsafe { it.free_sets(&held[..1]) }.unwrap();
+    assert_eq!((it.kept_count(old), gpu.live_sets()), (1, 5));
+    assert_eq!(remove(&mut it, old), Ok(0));
+    assert_eq!(gpu.live_sets(), 4, "the kept set is freed, and no other");
+    let new = add(&mut it, 0);
+    let raws: Vec<_> = held[1..].iter().map(|set| *it.set(*set).unwrap()).collect();
+    assert!(it.set(drawn).is_some());
+    // None is kept for the layout that has the slot now, however it comes back.
+    it.end_frame();
+    it.destroy_set(held[1], 1).unwrap();
+    // SAFETY: no frame in flight reads one.
+    unsafe { it.free_sets(&held[2..3]) }.unwrap();
+    assert_eq!((it.kept_count(new), it.counts().kept), (0, 0));
+    assert!(!gpu.is_live(raws[1]));
+    // SAFETY: as above.
+    unsafe { it.gpu_done(1) };
+    assert_eq!((it.kept_count(new), it.counts().kept), (0, 0));
+    assert_eq!((it.counts().held, gpu.live_sets()), (1, 1));
+    assert!(gpu.is_live(raws[2]));
+    // Sets of the new layout are kept.
+    let own = it.create_sets(new, 2).unwrap();
+    // SAFETY: as above.
+    unsafe { it.free_sets(&[own[0], held[3], own[1]]) }.unwrap();
+    assert_eq!((it.kept_count(new), gpu.live_sets()), (2, 2));
+    shutdown(&gpu, it);
+}
+
+#[test]
+fn memory_follows_the_most_layouts_at_once() {
+    let gpu = Gpu::new();
+    let mut it = Renderer::new(&gpu, 10_000);
+    let mut live: Vec<_> = (0..30).map(|number| add(&mut it, number % 3)).collect();
+    let mut turn = |at: usize| {
+        let set = counted(|| it.create_set(live[at])).unwrap();
+        // SAFETY: no frame is in flight.
+        unsafe { it.free_sets(&[set]) }.unwrap();
+        let number = it.layout(live[at]).unwrap().layout;
+        assert_eq!(remove(&mut it, live[at]), Ok(number));
+        live[at] = add(&mut it, number);
+    };
+    (0..30).for_each(&mut turn);
+    let before = (calls(), bytes());
+    (0..10_000).for_each(|round| turn(round * 7 % 30));
+    assert_eq!((calls(), bytes()), before);
+    shutdown(&gpu, it);
+}
