@@ -97,6 +97,9 @@ static void run(void) {
         RETRY(gd_allocate(allocator, layouts[at], MOST, sets[at]));
     for (uint32_t at = 0; at < LAYOUTS; at++)
         ALLOCATES_NOTHING(gd_free(allocator, sets[at], MOST));
+    ALLOCATES_NOTHING(gd_remove_layout(allocator, layouts[4]));
+    uint32_t other[GD_KINDS] = {9};
+    RETRY(gd_add_layout(allocator, 4, other, 0, &layouts[4]));
     RETRY(gd_allocate(allocator, layouts[4], MOST, more));
     ALLOCATES_NOTHING(gd_free_after(allocator, more, 100, 1));
     ALLOCATES_NOTHING(gd_free_all(allocator));

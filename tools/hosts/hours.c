@@ -1,6 +1,7 @@
 // A long run in little room. Requests of a few sets and frees of any sets, of which about a
-// thousand are out at most, until so many sets were allocated. The driver refuses few calls, and
-// gives the handles of freed sets and destroyed pools again, as real drivers do.
+// thousand are out at most, until so many sets were allocated. Layouts come and go, three at once. The
+// driver refuses few calls, and gives the handles of freed sets and destroyed pools again, as real
+// drivers do.
 //
 // The resident size is printed at ten points. At the last one it may be little more than at the
 // first. No name comes twice, and names have few places. KEEP is how many sets are kept, at first all.
@@ -42,7 +43,7 @@ static gd_set held[MOST_HELD];
 static uint32_t held_count;
 static uint32_t uses[PLACES];  // how often a place was used
 static uint64_t strange_names; // that have none of these places
-static uint64_t met, refused, calls, most_held, frame = 10;
+static uint64_t met, refused, calls, most_held, frame = 10, layout_count;
 static uint32_t keep;
 
 // ---- the driver ----
@@ -175,15 +176,26 @@ static uint64_t resident(void) {
     return size;
 }
 
+// Adds a layout that never was.
+static void add_layout(uint32_t layout) {
+    uint32_t counts[GD_KINDS] = {[GD_SAMPLER] = layout, [GD_UNIFORM_BUFFER] = 1};
+    CHECK(gd_add_layout(allocator, layout_count++, counts, layout == 2 ? GD_UPDATE_AFTER_BIND : 0,
+                        &layouts[layout]) == GD_OK);
+}
+
+// Removes a layout, of which sets may be out, and adds another in its place.
+static void replace_layout(void) {
+    uint32_t layout = random_below(LAYOUTS);
+    CHECK(gd_remove_layout(allocator, layouts[layout]) == GD_OK);
+    add_layout(layout);
+}
+
 static void open_all(void) {
     gd_device device = {NULL, create_pool, destroy_pool, allocate_sets, free_sets};
     CHECK(gd_create(&device, 200000, &allocator) == GD_OK);
     CHECK(gd_keep(allocator, keep) == GD_OK);
-    for (uint32_t layout = 0; layout < LAYOUTS; layout++) {
-        uint32_t counts[GD_KINDS] = {[GD_SAMPLER] = layout, [GD_UNIFORM_BUFFER] = 1};
-        CHECK(gd_add_layout(allocator, layout, counts, layout == 2 ? GD_UPDATE_AFTER_BIND : 0,
-                            &layouts[layout]) == GD_OK);
-    }
+    for (uint32_t layout = 0; layout < LAYOUTS; layout++)
+        add_layout(layout);
 }
 
 static void close_all(void) {
@@ -206,6 +218,8 @@ static void act(void) {
     else
         operation += allocate(lot);
     CHECK(gd_frame_done(allocator, frame - 3) == GD_OK);
+    if (one_in(20))
+        replace_layout();
     if (one_in(10000))
         clean_up();
 }
@@ -229,7 +243,7 @@ int main(int words, char **word) {
     close_all();
     printf("%" PRIu64 " sets allocated and freed, %" PRIu64 " held at most; requests met %" PRIu64,
            operation, most_held, met);
-    printf(", refused %" PRIu64 "; calls %" PRIu64, refused, calls);
+    printf(", refused %" PRIu64 "; calls %" PRIu64 "; layouts %" PRIu64, refused, calls, layout_count);
     printf("; resident %" PRIu64 " kilobytes, at the first of ten points %" PRIu64 "\n", last,
            first);
     return 0;

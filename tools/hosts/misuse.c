@@ -38,7 +38,7 @@ static void expect_of_each(gd_status wanted, gd_allocator it, gd_layout known, g
     CHECK(gd_free_after(it, &any, 1, 1) == wanted && gd_free_after(it, NULL, 0, 1) == wanted);
     CHECK(gd_free_all(it) == wanted && gd_frame_done(it, UINT64_MAX) == wanted);
     CHECK(gd_cleanup(it) == wanted && gd_destroy(it) == wanted && gd_keep(it, 0) == wanted);
-    CHECK(gd_set_most_pool_descriptors(it, 1) == wanted);
+    CHECK(gd_set_most_pool_descriptors(it, 1) == wanted && gd_remove_layout(it, known) == wanted);
     CHECK(gd_add_layout(it, 1, counts, 0, &layout) == wanted);
     CHECK(layout.index == UNTOUCHED && layout.owner == UNTOUCHED);
     CHECK(gd_outstanding(it, &number) == wanted && gd_waiting(it, &number) == wanted);
@@ -278,6 +278,65 @@ static void pass_wrong_sets(void) {
     CHECK(gd_destroy(other) == GD_OK && world.pools == 0);
 }
 
+// A layout that was removed is none, also once its place has another, which is known by another index.
+static void remove_layouts(void) {
+    struct world world = {0};
+    gd_device device = device_of(&world);
+    gd_allocator one, other;
+    gd_layout layout, foreign, next, none = {0, 0};
+    gd_set sets[6], set;
+    uint32_t counts[GD_KINDS] = {1};
+    create(&device, 100, &one);
+    create(&device, 100, &other);
+    CHECK(gd_add_layout(one, 5, counts, 0, &layout) == GD_OK);
+    CHECK(gd_add_layout(other, 5, counts, 0, &foreign) == GD_OK);
+    CHECK(gd_remove_layout(one, none) == GD_BAD_LAYOUT);
+    CHECK(gd_remove_layout(one, foreign) == GD_BAD_LAYOUT);
+    CHECK(gd_allocate(one, layout, 6, sets) == GD_OK && gd_free(one, sets, 2) == GD_OK);
+    CHECK(world.sets == EITHER(4, 6));
+    CHECK(gd_remove_layout(one, layout) == GD_OK && world.sets == 4);
+    for (int later = 0; later < 2; later++) {
+        CHECK(gd_remove_layout(one, layout) == GD_BAD_LAYOUT);
+        CHECK(gd_allocate(one, layout, 1, &set) == GD_BAD_LAYOUT);
+        if (later == 0)
+            CHECK(gd_add_layout(one, 5, counts, 0, &next) == GD_OK);
+    }
+    CHECK(next.index != layout.index && (next.index & UINT32_MAX) == (layout.index & UINT32_MAX));
+    // Of the sets of the old one none is kept.
+    CHECK(gd_free(one, &sets[2], 1) == GD_OK && world.sets == 3);
+    CHECK(gd_free_after(one, &sets[3], 1, 1) == GD_OK && gd_frame_done(one, 1) == GD_OK);
+    CHECK(world.sets == 2 && gd_allocate(one, next, 1, &set) == GD_OK && world.sets == 3);
+    CHECK(gd_free(one, &set, 1) == GD_OK && gd_free(one, &sets[4], 2) == GD_OK);
+    CHECK(world.sets == EITHER(0, 1));
+    CHECK(gd_destroy(one) == GD_OK && gd_destroy(other) == GD_OK && world.pools == 0);
+}
+
+// Handle, counts and flags make a layout. One that goes leaves the others known.
+static void know_layouts(void) {
+    enum { HANDLES = 40, KINDS = 3 };
+    struct world world = {0};
+    gd_device device = device_of(&world);
+    gd_allocator allocator;
+    gd_layout layouts[HANDLES * KINDS], again;
+    create(&device, 100, &allocator);
+    for (int round = 0; round < 9; round++) {
+        for (uint32_t at = 0; at < HANDLES * KINDS; at++) {
+            uint32_t counts[GD_KINDS] = {1 + at % KINDS % 2}, flags = at % KINDS / 2 * GD_UPDATE_AFTER_BIND;
+            uint64_t handle = UINT64_C(4096) * (at / KINDS);
+            bool is_known = round > 0 && at % 7 != (uint32_t)round - 1;
+            CHECK(gd_add_layout(allocator, handle, counts, flags, &again) == GD_OK);
+            CHECK(again.index != 0 && (round == 0 || (again.index == layouts[at].index) == is_known));
+            layouts[at] = again;
+            for (uint32_t before = 0; before < at; before++)
+                CHECK(layouts[before].index != again.index);
+        }
+        for (uint32_t at = 0; at < HANDLES * KINDS; at++)
+            if (at % 7 == (uint32_t)round)
+                CHECK(gd_remove_layout(allocator, layouts[at]) == GD_OK);
+    }
+    CHECK(gd_destroy(allocator) == GD_OK && world.calls == 0);
+}
+
 // Unknown statuses at each call of a request: it fails, and what it had is freed.
 static void return_unknown_statuses(void) {
     static const uint32_t UNKNOWN[] = {1, 9, 14, GD_NULL_POINTER, GD_BUSY, GD_INTERNAL_ERROR, 1000, UINT32_MAX};
@@ -513,6 +572,8 @@ int main(void) {
         pass_null();
         use_destroyed();
         pass_wrong_sets();
+        remove_layouts();
+        know_layouts();
         return_unknown_statuses();
         call_allocators_back();
         free_all();

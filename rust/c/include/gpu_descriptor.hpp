@@ -120,6 +120,9 @@ class allocator {
         return status;
     }
 
+    /* Removes a layout. Sets of it stay valid until they are freed. */
+    gd_status remove_layout(gd_layout layout) noexcept { return gd_remove_layout(raw_, layout); }
+
     /* Frees all of its sets and destroys it. It does nothing if there is none. */
     gd_status destroy() noexcept {
         if (!*this)

@@ -141,4 +141,31 @@ mod tests {
         }
         assert!(known.cells.len() < 8 * 300, "{}", known.cells.len());
     }
+
+    /// Handles as drivers give them: addresses, and small numbers.
+    #[test]
+    fn a_name_is_found_by_few_looks() {
+        for step in [1, 64, 4096, 1 << 32] {
+            let mut known = Known::new();
+            for name in 1..=30_000u64 {
+                known.reserve(|name| name * step).unwrap();
+                known.put(name * step, name);
+            }
+            let looks = std::cell::Cell::new(0);
+            let (mut sum, mut most) = (0, 0);
+            for name in 1..=30_000 {
+                looks.set(0);
+                let found = known.find(name * step, |it| {
+                    looks.set(looks.get() + 1);
+                    it == name
+                });
+                assert_eq!(found, Some(name));
+                (sum, most) = (sum + looks.get(), most.max(looks.get()));
+            }
+            assert!(
+                sum < 2 * 30_000 && most < 100,
+                "{step}: {sum} looks, {most} at most"
+            );
+        }
+    }
 }

@@ -2,7 +2,6 @@ use Rattle.std.proofs.Common.{◌+◌, ap, ◌∙◌, arith}
 use Rattle.descriptor_table.specs.Slots.{frame_at, is_of, slot_at}
 use Rattle.descriptor_table.specs.Tables.{used_for}
 use Rattle.descriptor_table.specs.declared.slot.FrameChain.{FrameChain}
-use Rattle.descriptor_table.specs.declared.slot.Slot.{Slot}
 use Rattle.descriptor_table.proofs.Chains.{in_no_list, known_set, wait_linked}
 use Rattle.descriptor_table.proofs.Frames.{has_set, join_framed, join_more, read_frame}
 use Rattle.descriptor_table.proofs.Listed.{read_slot}

@@ -2,7 +2,6 @@ use Rattle.std.proofs.Common.{◌+◌, sym, ap, set, ◌∙◌, arith}
 use Rattle.descriptor_table.specs.Slots.{is_in, slot_at}
 use Rattle.descriptor_table.specs.Tables.{used_for}
 use Rattle.descriptor_table.specs.declared.slot.Chain.{Chain}
-use Rattle.descriptor_table.specs.declared.slot.Slot.{Slot}
 use Rattle.descriptor_table.proofs.Chains.{few_set, in_no_frame, known_chains, known_set, link_framed, link_linked, link_more, read_chain, taken_no_frame}
 use Rattle.descriptor_table.proofs.Listed.{read_slot}
 use Rattle.descriptor_table.proofs.set_table.SetTable.link.Goals as goal

@@ -3,7 +3,6 @@ use Rattle.std.proofs.lemmas.List.{get_or_read}
 use Rattle.descriptor_table.specs.Slots.{chain_at, is_in, slot_at}
 use Rattle.descriptor_table.specs.Tables.{used_for}
 use Rattle.descriptor_table.specs.declared.slot.Chain.{Chain}
-use Rattle.descriptor_table.specs.declared.slot.Slot.{Slot}
 use Rattle.descriptor_table.specs.declared.slot.Use.TheVariants.{Taken}
 use Rattle.descriptor_table.proofs.Chains.{few_set, in_no_frame, known_chains, known_set, pick_framed, pick_linked, picked, read_chain}
 use Rattle.descriptor_table.proofs.Listed.{read_slot}

@@ -2,7 +2,6 @@ use Rattle.std.proofs.Common.{◌≡◌, ◌-◌, ◌<◌, length, true, refl, s
 use Rattle.descriptor_table.specs.Slots.{HasFrames, frame_at, is_of, slot_at}
 use Rattle.descriptor_table.specs.Tables.{used_for}
 use Rattle.descriptor_table.specs.declared.slot.FrameChain.{FrameChain}
-use Rattle.descriptor_table.specs.declared.slot.Slot.{Slot}
 use Rattle.descriptor_table.specs.declared.slot.Use.TheVariants.{Taken}
 use Rattle.descriptor_table.proofs.Chains.{in_no_list, known_set, out_linked}
 use Rattle.descriptor_table.proofs.Frames.{end_framed, first_inside, first_waits, has_front, last_is}

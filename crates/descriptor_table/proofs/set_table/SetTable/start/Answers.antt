@@ -1,7 +1,6 @@
 use Rattle.std.proofs.Common.{◌<◌, length, refl, sym, ap, set, subst, ◌∙◌, arith}
 use Rattle.descriptor_table.specs.Slots.{AreFramed, HasFrames, is_of, slot_at}
 use Rattle.descriptor_table.specs.Tables.{used_for}
-use Rattle.descriptor_table.specs.declared.slot.Slot.{Slot}
 use Rattle.descriptor_table.proofs.Chains.{in_no_list, known_set, out_linked, taken_no_list}
 use Rattle.descriptor_table.proofs.Frames.{few_frames, has_put, start_framed}
 use Rattle.descriptor_table.proofs.Listed.{read_slot}
