@@ -6,15 +6,14 @@ use Rattle.gpu_descriptor.specs.declared.layout.SetLayout.{SetLayout}
 use Rattle.gpu_descriptor.specs.declared.set.DescriptorSet.{DescriptorSet}
 use Rattle.descriptor_table.specs.Sets.{KeepNames, sets_in, sets_of}
 use Rattle.descriptor_table.specs.Slots.{frame_of, goes, in_list, is_kept_of, is_live, slot_at}
-use Rattle.descriptor_table.specs.Tables.{AreDetached, Leaves, Turns, Vacates, count, detached, holds, is_kept, used_for, vacated, waits}
+use Rattle.descriptor_table.specs.Tables.{AreDetached, Leaves, Turns, Vacates, count, detached, holds, used_for, vacated, waits}
 use Rattle.descriptor_table.specs.declared.slot.Slot.{Slot}
 use Rattle.descriptor_table.specs.declared.slot.Use.{Use}
 use Rattle.descriptor_table.specs.declared.slot.Use.TheVariants.{Held, Drawn, Waits, Kept, Going, Taken, Vacant}
-use Rattle.descriptor_table.proofs.Chains.{and_true}
 use Rattle.descriptor_table.proofs.Counting.{below_or}
 use Rattle.descriptor_table.proofs.Counts.{none_count}
 use Rattle.descriptor_table.proofs.Leaving.{same_sets}
-use Rattle.descriptor_table.proofs.Naming.{ShowsSame, names_kept, shown}
+use Rattle.descriptor_table.proofs.Naming.{ShowsSame, names_kept}
 use Rattle.descriptor_table.proofs.Renewing.{kept_is}
 use Rattle.descriptor_renderer.specs.Own.{AreOwn, IsOwn}
 use Rattle.descriptor_renderer.specs.Stores.{IsUpTo, is_placed, removed}
@@ -53,8 +52,8 @@ none_of layout Kept l generation full e = by_layout (l == layout) refl
   where
     by_layout : (b : Bool) → (l == layout) ≡ b → (((layout + 2) == ((if b then 4294967295 else l) + 2)) && (nat_lt generation 4294967295 && full)) ≡ false
     by_layout true is = and_right ((layout + 2) == 4294967297) (nat_lt generation 4294967295 && full) (
-      let same = eqb-true l layout is in
-      sym (ap (λ b. b && (nat_lt generation 4294967295 && full)) (eq-eqb (layout + 2) (l + 2) (omega arith))) ∙ e)
+        let same = eqb-true l layout is in
+        sym (ap (λ b. b && (nat_lt generation 4294967295 && full)) (eq-eqb (layout + 2) (l + 2) (omega arith))) ∙ e)
     by_layout false is = e
 none_of layout Going l generation full e = e
 none_of layout Taken l generation full e = refl
@@ -112,15 +111,15 @@ module _ {T : Type 0} (layout : ℕ) where
 
     pub removed_names : (number frame : ℕ) (opened : Bool) → KeepNames (sets_of number frame opened old) (sets_of number frame opened new)
     removed_names number frame opened = names_kept number frame opened old new (λ p. by_kept (ShowsSame frame opened) p
-      (λ o e. quiet_shown frame opened o (detached layout (vacated o)) refl (ap (is_live frame opened) (kept_as layout o e).0) refl)
-      (λ o e. record { generation = refl; set = refl })
-      (λ s e. same_shown frame opened s s refl))
+        (λ o e. quiet_shown frame opened o (detached layout (vacated o)) refl (ap (is_live frame opened) (kept_as layout o e).0) refl)
+        (λ o e. record { generation = refl; set = refl })
+        (λ s e. same_shown frame opened s s refl))
 
     pub removed_none : count (is_kept_of layout) new ≡ 0
     removed_none = none_count (is_kept_of layout) new (λ p. by_kept (λ o n. is_kept_of layout n ≡ false) p
-      (λ o e. ap (λ b. b && (nat_lt o.generation 4294967295 && true)) (ne_eqb (layout + 2) 0 (λ e. omega arith)))
-      (λ o e. none_of layout o.used o.layout o.generation (is_some o.set) e)
-      (λ s e. ap (is_kept_of layout) e))
+        (λ o e. ap (λ b. b && (nat_lt o.generation 4294967295 && true)) (ne_eqb (layout + 2) 0 (λ e. omega arith)))
+        (λ o e. none_of layout o.used o.layout o.generation (is_some o.set) e)
+        (λ s e. ap (is_kept_of layout) e))
 
 module _ {L P S : Type 0} (means : Meaning L P S) (layout : ℕ) (layouts fewer : List (Slot (SetLayout L))) (others : (n : ℕ) → n ≢ layout → slot_at fewer n ≡ slot_at layouts n) where
   of_others : (n : ℕ) (x : DescriptorSet S) → (n ≢ 4294967295 → IsOwn means layouts n x) → (if n == layout then 4294967295 else n) ≢ 4294967295 → IsOwn means fewer (if n == layout then 4294967295 else n) x
@@ -136,10 +135,10 @@ module _ {L P S : Type 0} (means : Meaning L P S) (layout : ℕ) (layouts fewer 
   -- the sets that are left are of their layouts
   pub own_removed : (old new : List (Slot (DescriptorSet S))) → length new ≡ length old → ((p : ℕ) → p < length old → slot_at new p ≡ removed layout (slot_at old p)) → AreOwn means layouts old → AreOwn means fewer new
   own_removed old new long each own p = by_kept layout old new long each IsSo p
-    (λ o e was x full. absurd (let no : ◌≡◌ {A = Option (DescriptorSet S)} None (Some x) = full in cc))
-    (λ o e was x full. of_others o.layout x (was x full))
-    (λ s e was x full. absurd (let no : None ≡ Some x = sym (ap (λ (s : Slot (DescriptorSet S)). s.set) e) ∙ full in cc))
-    (own p)
+      (λ o e was x full. absurd (let no : ◌≡◌ {A = Option (DescriptorSet S)} None (Some x) = full in cc))
+      (λ o e was x full. of_others o.layout x (was x full))
+      (λ s e was x full. absurd (let no : None ≡ Some x = sym (ap (λ (s : Slot (DescriptorSet S)). s.set) e) ∙ full in cc))
+      (own p)
     where
       IsSo : Slot (DescriptorSet S) → Slot (DescriptorSet S) → Type 0
       IsSo o n = ((x : DescriptorSet S) → o.set ≡ Some x → o.layout ≢ 4294967295 → IsOwn means layouts o.layout x) → (x : DescriptorSet S) → n.set ≡ Some x → n.layout ≢ 4294967295 → IsOwn means fewer n.layout x

@@ -32,8 +32,8 @@ impl Known {
 
     /// Where the names of a handle begin. There are cells.
     fn home(&self, handle: u64) -> usize {
-        let mixed = handle.wrapping_mul(0x9e37_79b9_7f4a_7c15);
-        self.wrapped((mixed ^ (mixed >> 32)) as usize)
+        let bits = self.cells.len().trailing_zeros();
+        (handle.wrapping_mul(0x9e37_79b9_7f4a_7c15) >> (64 - bits)) as usize
     }
 
     /// The first name from a handle's home on for which this is true.
@@ -163,7 +163,7 @@ mod tests {
                 (sum, most) = (sum + looks.get(), most.max(looks.get()));
             }
             assert!(
-                sum < 2 * 30_000 && most < 100,
+                sum < 2 * 30_000 && most < 40,
                 "{step}: {sum} looks, {most} at most"
             );
         }
