@@ -131,14 +131,15 @@ static RENDERERS: AtomicU32 = AtomicU32::new(0);
 /// and a validation layer reports that it is bound without; of a kept one it can't. So call `set_keep(0)`
 /// in a debug build: it keeps none, and the layer reports a set that isn't written.
 ///
-/// The device frees the kept sets at a `cleanup`, `free_all` or `shutdown`, and if it refuses a new set.
+/// The device frees the kept sets at a `cleanup`, `free_all` or `shutdown`, those of a layout at its
+/// `remove_layout`, and all if it refuses a new set.
 ///
 /// # Which calls are unsafe
 ///
 /// A wrong device can't be given, and neither can a set that isn't out: handles are checked. What is
 /// left are promises of which only the caller knows:
 ///
-/// * `add_layout`: the layout is what it is said to be, as long as the renderer is there;
+/// * `add_layout`: the layout is what it is said to be, as long as the renderer has it;
 /// * `gpu_done`: the device is done with these frames;
 /// * `free_sets`: the device is done with these sets;
 /// * `free_all` and `shutdown`: the device is done with all of them.
