@@ -73,7 +73,10 @@ module _ {T : Type 0} (number : ℕ) (h : SetHandle) (old new : List (Slot T)) w
       at_first (suc i) d lt = absurd (omega arith)
 
   pub left_names : is_held number old h ≡ true → new ≡ set old h.place (vacated (slot_at old h.place)) → LoseNames (h ∷ []) (sets_of number 0 false old) (sets_of number 0 false new)
-  left_names held made = names_lost number 0 false (h ∷ []) old new (only_held held) (λ i lt. ap (λ (s : Slot T). is_live 0 false s.used) (here i lt)) (λ i lt. ap (λ (s : Slot T). s.generation) (here i lt)) (λ p apart. ap (λ l. slot_at l p) made ∙ other_slots old h.place (vacated (slot_at old h.place)) p (λ e. apart 0 (omega arith) (sym e)))
+  left_names held made =
+      let quiet : (i : ℕ) → i < 1 → _ = λ i lt. ap (λ (s : Slot T). is_live 0 false s.used) (here i lt) in
+      let generation : (i : ℕ) → i < 1 → _ = λ i lt. ap (λ (s : Slot T). s.generation) (here i lt) in
+      names_lost number 0 false (h ∷ []) old new (only_held held) quiet generation (λ p apart. ap (λ l. slot_at l p) made ∙ other_slots old h.place (vacated (slot_at old h.place)) p (λ e. apart 0 (omega arith) (sym e)))
     where
       here : (i : ℕ) → i < 1 → slot_at new (place_at (h ∷ []) i) ≡ vacated (slot_at old (place_at (h ∷ []) i))
       here zero lt = ap (λ l. slot_at l h.place) made ∙ slot_set old h.place (vacated (slot_at old h.place)) (held_is number old h held).within

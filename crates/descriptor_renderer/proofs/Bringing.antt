@@ -19,14 +19,15 @@ module _ {L P S D : Type 0} {d : Ghosts D L P S} where
     pub few : length (coming_in new).items ≤ many
     pub own : AreOfLayout d.meaning layout (coming_in new).items
 
-  asked : (layout : L) (first many : ℕ) (old mid new : Store L P S D d) → ((q : ℕ) → Clears (slot_at (slots_in old) q) (slot_at (slots_in mid) q)) → length (slots_in mid) ≡ length (slots_in old) → ((slots_in mid ≡ slots_in old) ⊎ AreCleaned (slots_in old) (slots_in mid)) → first ≤ many → Asks layout first mid new → Brings layout many old new
-  asked layout first many old mid new clear long cleared le asks = record {
-    cleared = subst (λ l. (l ≡ slots_in old) ⊎ AreCleaned (slots_in old) l) (sym asks.slots) cleared;
-    clear = λ q. subst (λ l. Clears (slot_at (slots_in old) q) (slot_at l q)) (sym asks.slots) (clear q);
-    long = ap length asks.slots ∙ long;
-    few = (let n = asks.hands_out.many in omega arith);
-    own = asks.own;
-  }
+  module _ (layout : L) (first many : ℕ) (old mid new : Store L P S D d) (clear : (q : ℕ) → Clears (slot_at (slots_in old) q) (slot_at (slots_in mid) q)) (long : length (slots_in mid) ≡ length (slots_in old)) where
+    asked : ((slots_in mid ≡ slots_in old) ⊎ AreCleaned (slots_in old) (slots_in mid)) → first ≤ many → Asks layout first mid new → Brings layout many old new
+    asked cleared le asks = record {
+      cleared = subst (λ l. (l ≡ slots_in old) ⊎ AreCleaned (slots_in old) l) (sym asks.slots) cleared;
+      clear = λ q. subst (λ l. Clears (slot_at (slots_in old) q) (slot_at l q)) (sym asks.slots) (clear q);
+      long = ap length asks.slots ∙ long;
+      few = (let n = asks.hands_out.many in omega arith);
+      own = asks.own;
+    }
 
   pub brought : (layout : L) (number many : ℕ) (old new : Store L P S D d) → (coming_in old).items ≡ [] → (many ≤ kept_of number old → new ≡ old) → (kept_of number old < many → AsksAtLast layout (many - kept_of number old) many old new) → Brings layout many old new
   brought layout number many old new none kept asks = elim (below_or (kept_of number old) many) [

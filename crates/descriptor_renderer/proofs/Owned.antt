@@ -18,11 +18,8 @@ use Rattle.descriptor_renderer.specs.Stores.{ComesOf, IsRefusedAtLast, NoneComes
 use Rattle.descriptor_renderer.specs.declared.layout_registry.LayoutHandle.{LayoutHandle}
 use Rattle.descriptor_renderer.specs.declared.layout_registry.LayoutRegistry.{LayoutRegistry}
 use Rattle.descriptor_renderer.specs.declared.store.Store.{Store}
+use Rattle.descriptor_renderer.proofs.Handing.{some_of}
 use Rattle.descriptor_renderer.proofs.Showing.{cleaned_names}
-
-pub some_of : {T : Type 0} (o : Option T) → is_some o ≡ true → (x : T) × (o ≡ Some x)
-some_of None e = absurd (cc)
-some_of (Some x) e = (x, refl)
 
 pub same_some : {T : Type 0} (x y : T) → Some x ≡ Some y → x ≡ y
 same_some x y e = ap (λ o. elim o [ None ↦ x | Some z ↦ z ]) e
@@ -36,14 +33,15 @@ module _ {L P S D : Type 0} {d : Ghosts D L P S} where
   ]
 
   -- and those that come, which are of this layout
-  pub own_comes : (f number : ℕ) (layouts : List (Slot (SetLayout L))) (known : SetLayout L) (old new : Store L P S D d) → (slot_at layouts number).set ≡ Some known → Settles (ComesOf d.meaning known.layout number) f old new → AreOwn d.meaning layouts (slots_in old) → AreOwn d.meaning layouts (slots_in new)
-  own_comes f number layouts known old new here settles own p x full = elim (settles.sets p x full) [
-    | inl stays ↦ subst (λ n. n ≢ 4294967295 → IsOwn d.meaning layouts n x) (sym stays.1) (own p x stays.0)
-    | inr comes ↦ λ some. (let there = ap (λ n. (slot_at layouts n).set) comes.0 ∙ here in record {
-      there = ap is_some there;
-      own = λ other is. subst (λ (l : SetLayout L). IsOfLayout d.meaning l.layout x.raw) (same_some known other (sym there ∙ is)) comes.1;
-    })
-  ]
+  module _ (f number : ℕ) (layouts : List (Slot (SetLayout L))) (known : SetLayout L) (old new : Store L P S D d) (here : (slot_at layouts number).set ≡ Some known) where
+    pub own_comes : Settles (ComesOf d.meaning known.layout number) f old new → AreOwn d.meaning layouts (slots_in old) → AreOwn d.meaning layouts (slots_in new)
+    own_comes settles own p x full = elim (settles.sets p x full) [
+      | inl stays ↦ subst (λ n. n ≢ 4294967295 → IsOwn d.meaning layouts n x) (sym stays.1) (own p x stays.0)
+      | inr comes ↦ λ some. (let there = ap (λ n. (slot_at layouts n).set) comes.0 ∙ here in record {
+        there = ap is_some there;
+        own = λ other is. subst (λ (l : SetLayout L). IsOfLayout d.meaning l.layout x.raw) (same_some known other (sym there ∙ is)) comes.1;
+      })
+    ]
 
   -- a refusal changes no names
   pub refused_names : (layout : L) (first last : ℕ) (error : AllocationError) (old new : Store L P S D d) → IsRefusedAtLast layout first last error old new → (number frame : ℕ) (opened : Bool) → KeepNames (sets_of number frame opened (slots_in old)) (sets_of number frame opened (slots_in new))
@@ -107,10 +105,11 @@ layout_here r h known place at e = ap (λ n. (slot_at (layout_slots r) n).set) a
 
 module _ {L P S : Type 0} (means : Meaning L P S) where
   -- a set of a layout that is there
-  pub own_known : (layouts : List (Slot (SetLayout L))) (slots : List (Slot (DescriptorSet S))) → AreOwn means layouts slots → length layouts < 4294967296 → (p n : ℕ) (x : DescriptorSet S) (known : SetLayout L) → (slot_at slots p).set ≡ Some x → (slot_at slots p).layout ≡ n → (slot_at layouts n).set ≡ Some known → IsOfLayout means known.layout x.raw
-  own_known layouts slots own few p n x known full at here =
-      let within = layout_within layouts n known here in
-      (own p x full (λ none. omega arith)).own known (ap (λ n. (slot_at layouts n).set) at ∙ here)
+  module _ (layouts : List (Slot (SetLayout L))) (slots : List (Slot (DescriptorSet S))) (own : AreOwn means layouts slots) (few : length layouts < 4294967296) where
+    pub own_known : (p n : ℕ) (x : DescriptorSet S) (known : SetLayout L) → (slot_at slots p).set ≡ Some x → (slot_at slots p).layout ≡ n → (slot_at layouts n).set ≡ Some known → IsOfLayout means known.layout x.raw
+    own_known p n x known full at here =
+        let within = layout_within layouts n known here in
+        (own p x full (λ none. omega arith)).own known (ap (λ n. (slot_at layouts n).set) at ∙ here)
 
   -- with one layout more, the sets that are there are of theirs
   pub own_added : (layouts more : List (Slot (SetLayout L))) (slots : List (Slot (DescriptorSet S))) → ((n : ℕ) (known : SetLayout L) → (slot_at layouts n).set ≡ Some known → (slot_at more n).set ≡ Some known) → AreOwn means layouts slots → AreOwn means more slots

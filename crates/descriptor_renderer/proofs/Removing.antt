@@ -59,6 +59,10 @@ none_of layout Going l generation full e = e
 none_of layout Taken l generation full e = refl
 none_of layout Vacant l generation full e = e
 
+-- what is read past the end
+abbrev IsPast : {T : Type 0} → Slot T → Type 0
+IsPast s = s ≡ record { generation = 0; layout = 0; used = Taken; leaves = false; set = None }
+
 module _ {T : Type 0} (layout : ℕ) where
   removed_gone : (s : Slot T) → is_kept_of layout s ≡ true → removed layout s ≡ detached layout (vacated s)
   removed_gone s e = ap (λ b. detached layout (if b then vacated s else s)) e
@@ -93,7 +97,7 @@ module _ {T : Type 0} (layout : ℕ) where
   -- all slots became so
   module _ (old new : List (Slot T)) (long : length new ≡ length old) (each : (p : ℕ) → p < length old → slot_at new p ≡ removed layout (slot_at old p)) where
     -- a kept set of the layout left, or the slot may be of no layout
-    by_kept : (P : Slot T → Slot T → Type 0) (p : ℕ) → ((o : Slot T) → is_kept_of layout o ≡ true → P o (detached layout (vacated o))) → ((o : Slot T) → is_kept_of layout o ≡ false → P o (detached layout o)) → ((s : Slot T) → s ≡ record { generation = 0; layout = 0; used = Taken; leaves = false; set = None } → P s s) → P (slot_at old p) (slot_at new p)
+    by_kept : (P : Slot T → Slot T → Type 0) (p : ℕ) → ((o : Slot T) → is_kept_of layout o ≡ true → P o (detached layout (vacated o))) → ((o : Slot T) → is_kept_of layout o ≡ false → P o (detached layout o)) → ((s : Slot T) → IsPast s → P s s) → P (slot_at old p) (slot_at new p)
     by_kept P p gone other none = elim (below_or p (length old)) [
       | inl lt ↦ subst (P (slot_at old p)) (sym (each p lt)) (by_test (slot_at old p) (is_kept_of layout (slot_at old p)) refl)
       | inr le ↦ subst (P (slot_at old p)) (past old p le ∙ sym (past new p (omega arith))) (none (slot_at old p) (past old p le))

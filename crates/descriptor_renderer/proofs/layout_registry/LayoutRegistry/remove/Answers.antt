@@ -14,4 +14,7 @@ pub returns-clause-names : goal.returns-clause-names
 returns-clause-names g c = λ some.
     let old = c.args.self.now.table in
     let new = c.remove.new.self in
-    subst (λ n. LoseNames (c.args.handle.slot ∷ []) (sets_of (number_of old) 0 false (slots_of old)) (sets_of n 0 false (slots_of new))) (sym c.remove.ensures.stays.number) (left_names (number_of old) c.args.handle.slot (slots_of old) (slots_of new) (c.remove.ensures.held some) (c.remove.ensures.slots some))
+    let h = c.args.handle.slot in
+    let n = number_of old in
+    let names = left_names n h (slots_of old) (slots_of new) (c.remove.ensures.held some) (c.remove.ensures.slots some) in
+    subst (λ m. LoseNames (h ∷ []) (sets_of n 0 false (slots_of old)) (sets_of m 0 false (slots_of new))) (sym c.remove.ensures.stays.number) names

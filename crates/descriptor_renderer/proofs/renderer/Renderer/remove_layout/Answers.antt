@@ -1,4 +1,4 @@
-use Rattle.std.proofs.Common.{◌≡◌, ◌+◌, ◌<◌, length, refl, sym, ap, subst, ◌∙◌}
+use Rattle.std.proofs.Common.{◌≡◌, ◌≢◌, ℕ, ◌+◌, ◌<◌, length, refl, sym, ap, subst, ◌∙◌}
 use Rattle.std.proofs.lemmas.List.{length-set}
 use Rattle.descriptor_table.specs.Slots.{is_kept_of, slot_at}
 use Rattle.descriptor_table.specs.Tables.{count, vacated}
@@ -21,8 +21,10 @@ invariant_of-self-clause-own g c =
     let old = c.args.self.now in
     let layouts = layout_slots old.layouts in
     let p = c.args.layout.slot.place in
+    let fewer = layout_slots c.remove.new.self in
     let removes = c.remove_layout.ensures.removes in
-    own_removed g.D.DescriptorDevice.meaning c.place.result layouts (layout_slots c.remove.new.self) (λ n ne. ap (λ l. slot_at l n) (c.in-Some.ensures.slots refl) ∙ other_slots layouts p (vacated (slot_at layouts p)) n (λ e. ne (e ∙ sym c.place.ensures))) (slots_in old.store) (slots_in c.remove_layout.new.self) removes.long removes.each old.own
+    let others : (n : ℕ) → n ≢ c.place.result → slot_at fewer n ≡ slot_at layouts n = λ n ne. ap (λ l. slot_at l n) (c.in-Some.ensures.slots refl) ∙ other_slots layouts p (vacated (slot_at layouts p)) n (λ e. ne (e ∙ sym c.place.ensures)) in
+    own_removed g.D.DescriptorDevice.meaning c.place.result layouts fewer others (slots_in old.store) (slots_in c.remove_layout.new.self) removes.long removes.each old.own
 
 pub invariant_of-self-clause-rising : goal.invariant_of-self-clause-rising
 invariant_of-self-clause-rising g c = c.remove_layout.ensures.frames c.args.self.now.frame c.args.self.now.rising

@@ -29,7 +29,8 @@ pub invariant_of-self-clause-known : goal.invariant_of-self-clause-known
 invariant_of-self-clause-known g c =
     let s = c.args.self.now in
     let new = used_for c.args.used c.index_mut-2.result.now in
-    known_chains (set s.slots.items c.args.place new) s.chains.items c.args.list (record { first = c.args.place; count = c.index_mut-chain.result.now.count + 1 }) (known_set s.slots.items c.args.place c.args.used c.index_mut-2.result.now _ s.known c.requires.taken.within (read_slot s.slots.items c.args.place c.index_mut-2.result.now c.requires.taken.within c.index_mut-2.ensures.value))
+    let known = known_set s.slots.items c.args.place c.args.used c.index_mut-2.result.now _ s.known c.requires.taken.within (read_slot s.slots.items c.args.place c.index_mut-2.result.now c.requires.taken.within c.index_mut-2.ensures.value) in
+    known_chains (set s.slots.items c.args.place new) s.chains.items c.args.list (record { first = c.args.place; count = c.index_mut-chain.result.now.count + 1 }) known
 
 pub invariant_of-self-clause-few : goal.invariant_of-self-clause-few
 invariant_of-self-clause-few g c =

@@ -55,7 +55,8 @@ invariant_of-self-2-clause-known g c =
     let at = c.in_ok-chain.chain.now.first in
     let p = first g (goal.at.invariant_of-self-2-clause-known g c).Else-chain-eq0 in
     let new = used_for Taken c.index_mut.result.now in
-    known_chains (set s.slots.items at new) s.chains.items c.args.list (record { first = c.index.result.now; count = c.in_ok-chain.chain.now.count - 1 }) (known_set s.slots.items at Taken c.index_mut.result.now _ s.known p.0 (read_slot s.slots.items at c.index_mut.result.now p.0 c.index_mut.ensures.value))
+    let known = known_set s.slots.items at Taken c.index_mut.result.now _ s.known p.0 (read_slot s.slots.items at c.index_mut.result.now p.0 c.index_mut.ensures.value) in
+    known_chains (set s.slots.items at new) s.chains.items c.args.list (record { first = c.index.result.now; count = c.in_ok-chain.chain.now.count - 1 }) known
 
 pub invariant_of-self-2-clause-few : goal.invariant_of-self-2-clause-few
 invariant_of-self-2-clause-few g c =
