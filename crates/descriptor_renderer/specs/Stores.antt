@@ -10,12 +10,13 @@ use Rattle.gpu_descriptor.specs.Caller.Call.{layout_key}
 use Rattle.gpu_descriptor.specs.Caller.CleansUp.{CleansUp}
 use Rattle.gpu_descriptor.specs.Caller.Frees.{Returns}
 use Rattle.gpu_descriptor.specs.Caller.HandsOut.{HandsOut}
-use Rattle.gpu_descriptor.specs.Caller.Sets.{AreOfLayout}
+use Rattle.gpu_descriptor.specs.Caller.Sets.{AreOfLayout, items_of}
 use Rattle.gpu_descriptor.specs.Caller.Values.{Allocations}
+use Rattle.gpu_descriptor.specs.Model.Agreement.{Item, count_of}
 use Rattle.gpu_descriptor.specs.declared.errors.AllocationError.{AllocationError}
 use Rattle.gpu_descriptor.specs.declared.errors.AllocationError.TheVariants.{OutOfHostMemory}
 use Rattle.gpu_descriptor.specs.declared.set.DescriptorSet.{DescriptorSet}
-use Rattle.descriptor_table.specs.Sets.{NameEach, Names, sets_of}
+use Rattle.descriptor_table.specs.Sets.{NameEach, Names, sets_in, sets_of}
 use Rattle.descriptor_table.specs.Slots.{frame_of, is_kept_of, is_live, slot_at}
 use Rattle.descriptor_table.specs.Tables.{Picks, Puts, Renews, Turns, Vacates, aged, count, detached, holds, is_kept, place_at, lists_of, slots_of, stays, used_for, vacated, waits}
 use Rattle.descriptor_table.specs.declared.handle.SetHandle.{SetHandle}
@@ -260,6 +261,8 @@ module _ {L P S D : Type 0} {d : Ghosts D L P S} where
     pub long : length (slots_in new) ≡ length (slots_in old)
     pub each : (p : ℕ) → p < length (slots_in old) → slot_at (slots_in new) p ≡ removed layout (slot_at (slots_in old) p)
     pub sets : List (DescriptorSet S)
+    -- these, and those that are left, are those that there were
+    pub gave : (t : Item) → count_of t (items_of d.meaning.set_name (sets_in (slots_in old))) ≡ count_of t (items_of d.meaning.set_name sets) + count_of t (items_of d.meaning.set_name (sets_in (slots_in new)))
     pub returns : Returns d.meaning sets (side_of old) (side_of new)
 
   -- the sets of the handles came back, and those that are not kept were given back in one call, if there were any

@@ -5,5 +5,6 @@ mod first;
 mod frames;
 mod handles;
 mod kept;
+mod layouts;
 mod lost;
 mod refused;

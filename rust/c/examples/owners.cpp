@@ -90,6 +90,11 @@ int main() {
         kept.erase(kept.begin(), kept.begin() + 10); // moves the others
         require(outstanding(allocator) == 42, "ten of fifty sets are freed");
 
+        gd::set other;
+        require(allocator.remove_layout(layout) == GD_OK, "remove_layout");
+        require(allocator.allocate(layout, other) == GD_BAD_LAYOUT, "a layout that was removed");
+        require(outstanding(allocator) == 42 && device.sets == 42, "its sets stay, and none is kept");
+
         gd::allocator moved = std::move(allocator);
         require(!allocator && moved, "a move"); // NOLINT: a moved owner is empty
     }

@@ -22,8 +22,7 @@
  *
  * Ownership: gd_destroy frees the library's memory of an allocator and destroys its pools. The values
  * gd_allocator, gd_layout and gd_set own nothing: copy them as you like. Layouts are yours. Before you
- * destroy one, and after the last gd_allocate with it, call gd_cleanup: then no set of it is kept, and
- * none is later.
+ * destroy one, call gd_remove_layout: then no set of it is kept, and none is later.
  *
  * Kept sets: a set that is freed, at once or after a frame, is kept, and gd_allocate hands it out again
  * for the same layout under a new name, before it asks the driver for new ones. gd_keep says how many

@@ -1,6 +1,8 @@
-use Rattle.std.proofs.Common.{◌≡◌, ◌<◌, ℕ, ◌∙◌, length, ap, arith}
+use Rattle.std.proofs.Common.{◌≡◌, ◌<◌, ℕ, ◌∙◌, length, ap, arith, Vec}
 use Rattle.gpu_descriptor.specs.Caller.Sets.{items_of}
 use Rattle.gpu_descriptor.specs.Model.Agreement.{count_of}
+use Rattle.std.specs.declared.alloc.Global.{Global}
+use Rattle.gpu_descriptor.specs.declared.set.DescriptorSet.{DescriptorSet}
 use Rattle.descriptor_table.specs.Sets.{sets_in}
 use Rattle.descriptor_table.specs.Slots.{slot_at}
 use Rattle.descriptor_table.specs.Tables.{slots_of}
@@ -33,7 +35,20 @@ invariant_of-self-clause-accounted g c =
     omega arith
 
 pub returns-clause-removes : goal.returns-clause-removes
-returns-clause-removes g c = record { long = long g c; each = each g c; sets = c.give.ensures.gives.sets; returns = c.give.ensures.gives.returns }
+returns-clause-removes g c = record {
+  long = long g c;
+  each = each g c;
+  sets = c.give.ensures.gives.sets;
+  gave = λ t. (
+      let coming = λ (v : Vec (DescriptorSet g.row.S.Denot) Global). count_of t (items_of g.D.DescriptorDevice.meaning.set_name v.items) in
+      let none = ap coming c.give.ensures.coming in
+      let was = c.args.self.now.exact t in
+      let is = c.give.new.self.exact t in
+      let back = c.give.ensures.gives.returns.back.returned t in
+      omega arith
+      );
+  returns = c.give.ensures.gives.returns;
+}
 
 pub returns-clause-rest : goal.returns-clause-rest
 returns-clause-rest g c = record {
