@@ -172,6 +172,16 @@ static void pass_null(void) {
     CHECK(gd_destroy(allocator) == GD_OK);
 }
 
+// Another header than the library's: nothing is read and nothing written.
+static void pass_other_headers(void) {
+    gd_allocator allocator = {&keep, 77};
+    for (uint32_t bit = 0; bit < 64; bit++)
+        CHECK(gd_create_checked(GD_HEADER ^ UINT64_C(1) << bit, NULL, 0, &allocator) == GD_BAD_VERSION);
+    CHECK(allocator.slot == &keep && allocator.id == 77);
+    CHECK(gd_create_checked(GD_HEADER, NULL, 0, &allocator) == GD_NULL_POINTER && allocator.id == 0);
+    CHECK(gd_version() == GD_VERSION && GD_VERSION >= GD_MAKE_VERSION(0u, 1u, 0u));
+}
+
 // An allocator that was destroyed, with and without another in its slot.
 static void use_destroyed(void) {
     struct world world = {0};
@@ -570,6 +580,7 @@ int main(void) {
     for (int at = 0; at < 2; at++) {
         keep = KEEPS[at];
         pass_null();
+        pass_other_headers();
         use_destroyed();
         pass_wrong_sets();
         remove_layouts();

@@ -48,11 +48,23 @@
 
 #include <stdint.h>
 
+/* The version of this header. gd_version returns the library's. */
+#define GD_VERSION_MAJOR 0u
+#define GD_VERSION_MINOR 1u
+#define GD_VERSION_PATCH 0u
+#define GD_MAKE_VERSION(major, minor, patch) ((major) * 0x400000u + (minor) * 0x1000u + (patch))
+#define GD_VERSION GD_MAKE_VERSION(GD_VERSION_MAJOR, GD_VERSION_MINOR, GD_VERSION_PATCH)
+
+/* The number of the binary interface. It changes with a struct, a number or a function of this header. */
+#define GD_ABI 1u
+
 #ifdef __cplusplus
 #define GD_NOEXCEPT noexcept
+#define GD_INLINE inline
 extern "C" {
 #else
 #define GD_NOEXCEPT
+#define GD_INLINE static inline
 #endif
 
 /* The result of a call. */
@@ -80,8 +92,9 @@ enum {
     GD_BAD_RESULT = 26,     /* one of your functions returned another status than it may */
     GD_BUSY = 27,           /* another call on the allocator is running */
     GD_OUTSTANDING = 28,    /* gd_destroy while sets are outstanding */
-    GD_INTERNAL_ERROR = 29  /* a bug of the library stopped a call; each later call on the allocator
+    GD_INTERNAL_ERROR = 29, /* a bug of the library stopped a call; each later call on the allocator
                                returns this too */
+    GD_BAD_VERSION = 30     /* of gd_create: the program was compiled with the header of another ABI */
 };
 
 /* The kinds of descriptors: the indices of counts. */
@@ -173,6 +186,22 @@ typedef struct gd_set {
     uint64_t owner;
 } gd_set;
 
+/* The version of the library, by GD_MAKE_VERSION. */
+uint32_t gd_version(void);
+
+/* The ABI's number and the sizes of structs, which gd_create compares with the library's. */
+#define GD_HEADER                                                                                       \
+    (GD_ABI * (UINT64_C(1) << 40) + sizeof(gd_device) * (UINT64_C(1) << 32) +                           \
+     sizeof(gd_pool_info) * (UINT64_C(1) << 24) + sizeof(gd_allocator) * (UINT64_C(1) << 16) +          \
+     sizeof(gd_layout) * (UINT64_C(1) << 8) + sizeof(gd_set))
+
+/*
+ * What gd_create calls, for those who load the library at run time or from another language. With
+ * another 'header' than GD_HEADER it reads and writes nothing.
+ */
+gd_status gd_create_checked(uint64_t header, const gd_device *device, uint32_t limit,
+                            gd_allocator *allocator);
+
 /*
  * Creates an allocator. The device is copied; what 'user' points to must stay valid until gd_destroy.
  * All pools for update-after-bind layouts together have at most 'limit' descriptors: in Vulkan this is
@@ -181,9 +210,14 @@ typedef struct gd_set {
  *
  * A few hundred bytes of a destroyed allocator are kept for the next one.
  *
- * GD_NULL_POINTER, GD_OUT_OF_HOST_MEMORY.
+ * GD_NULL_POINTER, GD_OUT_OF_HOST_MEMORY, GD_BAD_VERSION.
  */
-gd_status gd_create(const gd_device *device, uint32_t limit, gd_allocator *allocator);
+GD_INLINE gd_status gd_create(const gd_device *device, uint32_t limit, gd_allocator *allocator) {
+    const gd_allocator none = {0, 0};
+    if (allocator)
+        *allocator = none;
+    return gd_create_checked(GD_HEADER, device, limit, allocator);
+}
 
 /*
  * Destroys an allocator and all its pools. No set may be outstanding; gd_free_all frees what is left.

@@ -9,7 +9,7 @@ if(NOT TARGET gpu_descriptor::static)
   add_library(gpu_descriptor::shared SHARED IMPORTED)
   set_target_properties(gpu_descriptor::shared PROPERTIES
     IMPORTED_LOCATION "${_gpu_descriptor_prefix}/lib/libgpu_descriptor_c.so"
-    IMPORTED_NO_SONAME TRUE
+    IMPORTED_SONAME "libgpu_descriptor_c.so.@ABI@"
     INTERFACE_INCLUDE_DIRECTORIES "${_gpu_descriptor_prefix}/include")
 endif()
 unset(_gpu_descriptor_prefix)

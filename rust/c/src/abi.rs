@@ -1,6 +1,18 @@
 //! The types of `gpu_descriptor.h`.
 
+use crate::slot::GdAllocator;
 use core::ffi::c_void;
+
+/// `GD_ABI`, which names the shared library, too.
+pub const ABI: u64 = 1;
+
+/// `GD_HEADER`.
+pub const HEADER: u64 = ABI << 40
+    | (size_of::<GdDevice>() as u64) << 32
+    | (size_of::<GdPoolInfo>() as u64) << 24
+    | (size_of::<GdAllocator>() as u64) << 16
+    | (size_of::<GdLayout>() as u64) << 8
+    | size_of::<GdSet>() as u64;
 
 /// `gd_status`.
 #[repr(transparent)]
@@ -22,6 +34,7 @@ impl GdStatus {
     pub const BUSY: Self = GdStatus(27);
     pub const OUTSTANDING: Self = GdStatus(28);
     pub const INTERNAL_ERROR: Self = GdStatus(29);
+    pub const BAD_VERSION: Self = GdStatus(30);
 }
 
 /// `gd_pool_info`.
@@ -80,3 +93,6 @@ const _: () = {
     assert!(size_of::<GdDevice>() == 5 * size_of::<usize>());
     assert!(size_of::<GdLayout>() == 16 && size_of::<GdSet>() == 24);
 };
+
+#[cfg(test)]
+mod tests;

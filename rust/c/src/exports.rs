@@ -4,7 +4,7 @@
 //! header says: valid, as long as its count, and not in use elsewhere.
 #![allow(clippy::missing_safety_doc)]
 
-use crate::abi::{GdDevice, GdLayout, GdSet, GdStatus};
+use crate::abi::{GdDevice, GdLayout, GdSet, GdStatus, HEADER};
 use crate::allocator::Allocator;
 use crate::device::HostDevice;
 use crate::slot::{self, GdAllocator};
@@ -28,12 +28,32 @@ fn is_missing(sets: *const GdSet, count: u32) -> bool {
     sets.is_null() && count > 0
 }
 
+/// A part of the crate's version.
+const fn number(text: &str) -> u32 {
+    match u32::from_str_radix(text, 10) {
+        Ok(number) => number,
+        Err(_) => panic!("cargo gives numbers"),
+    }
+}
+
 #[unsafe(no_mangle)]
-pub unsafe extern "C" fn gd_create(
+pub extern "C" fn gd_version() -> u32 {
+    const MAJOR: u32 = number(env!("CARGO_PKG_VERSION_MAJOR"));
+    const MINOR: u32 = number(env!("CARGO_PKG_VERSION_MINOR"));
+    const PATCH: u32 = number(env!("CARGO_PKG_VERSION_PATCH"));
+    MAJOR << 22 | MINOR << 12 | PATCH
+}
+
+#[unsafe(no_mangle)]
+pub unsafe extern "C" fn gd_create_checked(
+    header: u64,
     device: *const GdDevice,
     limit: u32,
     allocator: *mut GdAllocator,
 ) -> GdStatus {
+    if header != HEADER {
+        return GdStatus::BAD_VERSION;
+    }
     if allocator.is_null() {
         return GdStatus::NULL_POINTER;
     }
