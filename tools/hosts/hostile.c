@@ -154,8 +154,8 @@ int main(int words, char **word) {
         CHECK(gd_destroy(sides[at].allocator) == GD_OK && sides[at].alive == 0);
     }
     printf("%" PRIu64 " operations: %" PRIu64 " met, bad sets %" PRIu64 ", bad layouts %" PRIu64
-           ", no answers %" PRIu64 "\n",
+           ", lost %" PRIu64 ", no answers %" PRIu64 "\n",
            operation, statuses[GD_OK], statuses[GD_BAD_SET], statuses[GD_BAD_LAYOUT],
-           statuses[GD_BAD_RESULT]);
+           statuses[GD_DEVICE_LOST], statuses[GD_BAD_RESULT]);
     return 0;
 }

@@ -349,7 +349,7 @@ static void know_layouts(void) {
 
 // Unknown statuses at each call of a request: it fails, and what it had is freed.
 static void return_unknown_statuses(void) {
-    static const uint32_t UNKNOWN[] = {1, 9, 14, GD_NULL_POINTER, GD_BUSY, GD_INTERNAL_ERROR, 1000, UINT32_MAX};
+    static const uint32_t UNKNOWN[] = {1, 9, 15, GD_NULL_POINTER, GD_BUSY, GD_INTERNAL_ERROR, 1000, UINT32_MAX};
     static gd_set sets[MOST];
     struct world world = {0};
     gd_device device = device_of(&world);

@@ -80,6 +80,7 @@ enum {
                                    fragmented or as full; of your functions: memory or the pool is
                                    fragmented */
     GD_OUT_OF_POOL_MEMORY = 13, /* only of your functions: the pool has no room */
+    GD_DEVICE_LOST = 14,        /* the device is lost. Other calls work: gd_free_all, then gd_destroy */
 
     /* Mistakes in a call. */
     GD_NULL_POINTER = 20,   /* a pointer or a function is NULL */
@@ -89,7 +90,8 @@ enum {
                                list */
     GD_BAD_FLAGS = 24,      /* unknown flags */
     GD_BAD_COUNTS = 25,     /* only of gpu_descriptor_vulkan.h: a layout that can't be counted */
-    GD_BAD_RESULT = 26,     /* one of your functions returned another status than it may */
+    GD_BAD_RESULT = 26,     /* one of your functions returned another status than it may, or the driver an
+                               unknown error */
     GD_BUSY = 27,           /* another call on the allocator is running */
     GD_OUTSTANDING = 28,    /* gd_destroy while sets are outstanding */
     GD_INTERNAL_ERROR = 29, /* a bug of the library stopped a call; each later call on the allocator
@@ -142,7 +144,7 @@ typedef struct gd_pool_info {
  *
  * gd_free_sets frees sets, at least 1, all of this pool.
  *
- * gd_create_pool and gd_allocate_sets return GD_OK or one of the four reasons. If gd_allocate_sets
+ * gd_create_pool and gd_allocate_sets return GD_OK or one of the five reasons. If gd_allocate_sets
  * returns GD_FRAGMENTATION or GD_OUT_OF_POOL_MEMORY for an existing pool, the next pool is asked. If it
  * does so for a new pool, the pool is destroyed, and gd_allocate returns GD_FRAGMENTATION; so it does if
  * gd_create_pool returns one of them. Each other reason is what gd_allocate returns. For a status that
@@ -150,7 +152,8 @@ typedef struct gd_pool_info {
  *
  * They run inside of a call on the allocator, in its thread. They may call other allocators; a call on
  * the same one is GD_BUSY. They must return: not by longjmp, and not by a C++ exception, which would
- * end the program. For this their types are noexcept in C++.
+ * end the program. For this their types are noexcept in C++. An allocator of which one left by longjmp is
+ * stuck: each later call on it is GD_BUSY, and its pools stay.
  */
 typedef gd_status (*gd_create_pool)(void *user, const gd_pool_info *info, uint64_t *pool) GD_NOEXCEPT;
 typedef void (*gd_destroy_pool)(void *user, uint64_t pool) GD_NOEXCEPT;
@@ -188,6 +191,9 @@ typedef struct gd_set {
 
 /* The version of the library, by GD_MAKE_VERSION. */
 uint32_t gd_version(void);
+
+/* The name of a status, as "GD_OK"; "unknown status" for other numbers. */
+const char *gd_status_name(gd_status status);
 
 /* The ABI's number and the sizes of structs, which gd_create compares with the library's. */
 #define GD_HEADER                                                                                       \
@@ -255,8 +261,8 @@ gd_status gd_remove_layout(gd_allocator allocator, gd_layout layout);
  * If new sets are refused while any sets are kept, these are freed and empty pools destroyed, as by
  * gd_cleanup, and all 'count' are asked for once more. It fails only if they are refused again.
  *
- * GD_OUT_OF_DEVICE_MEMORY, GD_OUT_OF_HOST_MEMORY, GD_FRAGMENTATION, GD_BAD_RESULT, GD_NULL_POINTER,
- * GD_BAD_LAYOUT, GD_BAD_ALLOCATOR, GD_BUSY, GD_INTERNAL_ERROR.
+ * GD_OUT_OF_DEVICE_MEMORY, GD_OUT_OF_HOST_MEMORY, GD_FRAGMENTATION, GD_DEVICE_LOST, GD_BAD_RESULT,
+ * GD_NULL_POINTER, GD_BAD_LAYOUT, GD_BAD_ALLOCATOR, GD_BUSY, GD_INTERNAL_ERROR.
  */
 gd_status gd_allocate(gd_allocator allocator, gd_layout layout, uint32_t count, gd_set *sets);
 

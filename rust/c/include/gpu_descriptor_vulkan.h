@@ -58,8 +58,8 @@ typedef struct gdv_device {
 
 /*
  * The status for a result of the driver. VK_ERROR_OUT_OF_POOL_MEMORY, VK_ERROR_FRAGMENTED_POOL and
- * VK_ERROR_FRAGMENTATION of an existing pool end no request: the next pool is asked. An error without a
- * name of its own, as VK_ERROR_DEVICE_LOST, is GD_OUT_OF_HOST_MEMORY: don't try again for ever.
+ * VK_ERROR_FRAGMENTATION of an existing pool end no request: the next pool is asked. An error that has no
+ * status, as VK_ERROR_UNKNOWN, is GD_BAD_RESULT.
  */
 static inline gd_status gdv_reason(VkResult result) {
     switch (result) {
@@ -67,17 +67,24 @@ static inline gd_status gdv_reason(VkResult result) {
         return GD_OK;
     case VK_ERROR_OUT_OF_DEVICE_MEMORY:
         return GD_OUT_OF_DEVICE_MEMORY;
+    case VK_ERROR_OUT_OF_HOST_MEMORY:
+        return GD_OUT_OF_HOST_MEMORY;
     case VK_ERROR_FRAGMENTED_POOL:
     case VK_ERROR_FRAGMENTATION:
         return GD_FRAGMENTATION;
     case VK_ERROR_OUT_OF_POOL_MEMORY:
         return GD_OUT_OF_POOL_MEMORY;
+    case VK_ERROR_DEVICE_LOST:
+        return GD_DEVICE_LOST;
     default:
-        return GD_OUT_OF_HOST_MEMORY;
+        return GD_BAD_RESULT;
     }
 }
 
-/* The result for a status of gpu_descriptor.h. Mistakes, such as GD_BAD_SET, are VK_ERROR_UNKNOWN. */
+/*
+ * The result for a status of gpu_descriptor.h, as vkAllocateDescriptorSets may return it, or as the driver
+ * returned it (VK_ERROR_DEVICE_LOST). Mistakes, such as GD_BAD_SET, are VK_ERROR_UNKNOWN.
+ */
 static inline VkResult gdv_result(gd_status status) {
     switch (status) {
     case GD_OK:
@@ -87,7 +94,11 @@ static inline VkResult gdv_result(gd_status status) {
     case GD_OUT_OF_HOST_MEMORY:
         return VK_ERROR_OUT_OF_HOST_MEMORY;
     case GD_FRAGMENTATION:
-        return VK_ERROR_FRAGMENTATION;
+        return VK_ERROR_FRAGMENTED_POOL;
+    case GD_OUT_OF_POOL_MEMORY:
+        return VK_ERROR_OUT_OF_POOL_MEMORY;
+    case GD_DEVICE_LOST:
+        return VK_ERROR_DEVICE_LOST;
     default:
         return VK_ERROR_UNKNOWN;
     }

@@ -1,7 +1,7 @@
 //! The types of `gpu_descriptor.h`.
 
 use crate::slot::GdAllocator;
-use core::ffi::c_void;
+use core::ffi::{CStr, c_void};
 
 /// `GD_ABI`, which names the shared library, too.
 pub const ABI: u64 = 1;
@@ -25,6 +25,7 @@ impl GdStatus {
     pub const OUT_OF_HOST_MEMORY: Self = GdStatus(11);
     pub const FRAGMENTATION: Self = GdStatus(12);
     pub const OUT_OF_POOL_MEMORY: Self = GdStatus(13);
+    pub const DEVICE_LOST: Self = GdStatus(14);
     pub const NULL_POINTER: Self = GdStatus(20);
     pub const BAD_ALLOCATOR: Self = GdStatus(21);
     pub const BAD_LAYOUT: Self = GdStatus(22);
@@ -35,6 +36,30 @@ impl GdStatus {
     pub const OUTSTANDING: Self = GdStatus(28);
     pub const INTERNAL_ERROR: Self = GdStatus(29);
     pub const BAD_VERSION: Self = GdStatus(30);
+
+    /// The name of the header.
+    pub fn name(self) -> &'static CStr {
+        match self.0 {
+            0 => c"GD_OK",
+            10 => c"GD_OUT_OF_DEVICE_MEMORY",
+            11 => c"GD_OUT_OF_HOST_MEMORY",
+            12 => c"GD_FRAGMENTATION",
+            13 => c"GD_OUT_OF_POOL_MEMORY",
+            14 => c"GD_DEVICE_LOST",
+            20 => c"GD_NULL_POINTER",
+            21 => c"GD_BAD_ALLOCATOR",
+            22 => c"GD_BAD_LAYOUT",
+            23 => c"GD_BAD_SET",
+            24 => c"GD_BAD_FLAGS",
+            25 => c"GD_BAD_COUNTS",
+            26 => c"GD_BAD_RESULT",
+            27 => c"GD_BUSY",
+            28 => c"GD_OUTSTANDING",
+            29 => c"GD_INTERNAL_ERROR",
+            30 => c"GD_BAD_VERSION",
+            _ => c"unknown status",
+        }
+    }
 }
 
 /// `gd_pool_info`.

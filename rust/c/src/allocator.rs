@@ -157,7 +157,7 @@ impl Allocator {
         count: u32,
         put: impl Fn(usize, GdSet),
     ) -> GdStatus {
-        self.renderer.device().has_bad_result.set(false);
+        self.renderer.device().cause.set(GdStatus::OK);
         let slot = handle_of(layout.owner, layout.index);
         match self.create(LayoutHandle { slot }, count, put) {
             Ok(()) => GdStatus::OK,
@@ -219,8 +219,9 @@ impl Allocator {
 
     /// The status of a request that was refused.
     fn status_of(&self, error: RenderError) -> GdStatus {
-        if self.renderer.device().has_bad_result.get() {
-            return GdStatus::BAD_RESULT;
+        let cause = self.renderer.device().cause.get();
+        if cause != GdStatus::OK {
+            return cause;
         }
         match error {
             RenderError::Allocation(AllocationError::OutOfDeviceMemory) => {

@@ -32,9 +32,9 @@ pub struct HostDevice {
     /// How many pools exist.
     pub pools: Cell<u64>,
 
-    /// A function returned an unknown status in this request. It is refused as if an allocation of the
-    /// host had failed.
-    pub has_bad_result: Cell<bool>,
+    /// Why a request was refused, if that is no reason of the allocator's: `DEVICE_LOST`, or `BAD_RESULT` for
+    /// an unknown status; else `OK`. It is refused as if an allocation of the host had failed.
+    pub cause: Cell<GdStatus>,
 }
 
 // SAFETY: `user` is the host's, and the header says that any thread may pass it to the functions.
@@ -54,7 +54,7 @@ impl HostDevice {
             layout: 0,
             filled: 0,
             pools: Cell::new(0),
-            has_bad_result: Cell::new(false),
+            cause: Cell::new(GdStatus::OK),
         })
     }
 
@@ -98,6 +98,16 @@ impl HostDevice {
         }
     }
 
+    /// Notes a status that is no reason of the allocator's. A lost device stays lost.
+    #[cold]
+    fn note(&self, status: GdStatus) {
+        if status == GdStatus::DEVICE_LOST {
+            self.cause.set(status);
+        } else if self.cause.get() == GdStatus::OK {
+            self.cause.set(GdStatus::BAD_RESULT);
+        }
+    }
+
     /// Frees the sets of the first `count` handles.
     fn free_first(&mut self, pool: u64, count: usize) {
         if count > 0 {
@@ -136,7 +146,7 @@ impl DescriptorDevice<u64, u64, u64> for HostDevice {
                 Err(CreatePoolError::Fragmentation)
             }
             _ => {
-                self.has_bad_result.set(true);
+                self.note(status);
                 Err(CreatePoolError::OutOfHostMemory)
             }
         }
@@ -174,7 +184,7 @@ impl DescriptorDevice<u64, u64, u64> for HostDevice {
             GdStatus::FRAGMENTATION => Err(DeviceAllocationError::FragmentedPool),
             GdStatus::OUT_OF_POOL_MEMORY => Err(DeviceAllocationError::OutOfPoolMemory),
             _ => {
-                self.has_bad_result.set(true);
+                self.note(status);
                 Err(DeviceAllocationError::OutOfHostMemory)
             }
         }

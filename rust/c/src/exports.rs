@@ -8,6 +8,7 @@ use crate::abi::{GdDevice, GdLayout, GdSet, GdStatus, HEADER};
 use crate::allocator::Allocator;
 use crate::device::HostDevice;
 use crate::slot::{self, GdAllocator};
+use core::ffi::c_char;
 
 /// Zeroes an array of the host's, so that a request that failed leaves no set there.
 ///
@@ -42,6 +43,11 @@ pub extern "C" fn gd_version() -> u32 {
     const MINOR: u32 = number(env!("CARGO_PKG_VERSION_MINOR"));
     const PATCH: u32 = number(env!("CARGO_PKG_VERSION_PATCH"));
     MAJOR << 22 | MINOR << 12 | PATCH
+}
+
+#[unsafe(no_mangle)]
+pub extern "C" fn gd_status_name(status: GdStatus) -> *const c_char {
+    status.name().as_ptr()
 }
 
 #[unsafe(no_mangle)]

@@ -31,6 +31,7 @@ fn statuses_are_the_headers() {
         ("GD_OUT_OF_HOST_MEMORY", GdStatus::OUT_OF_HOST_MEMORY),
         ("GD_FRAGMENTATION", GdStatus::FRAGMENTATION),
         ("GD_OUT_OF_POOL_MEMORY", GdStatus::OUT_OF_POOL_MEMORY),
+        ("GD_DEVICE_LOST", GdStatus::DEVICE_LOST),
         ("GD_NULL_POINTER", GdStatus::NULL_POINTER),
         ("GD_BAD_ALLOCATOR", GdStatus::BAD_ALLOCATOR),
         ("GD_BAD_LAYOUT", GdStatus::BAD_LAYOUT),
@@ -44,7 +45,12 @@ fn statuses_are_the_headers() {
     ];
     for (name, status) in statuses {
         assert_eq!(status.0, number_of(name), "{name}");
+        assert_eq!(status.name().to_str(), Ok(name));
     }
+    let counts = GdStatus(number_of("GD_BAD_COUNTS"));
+    assert_eq!(counts.name(), c"GD_BAD_COUNTS");
+    let known = (0..100).filter(|it| GdStatus(*it).name() != c"unknown status");
+    assert_eq!(known.count(), statuses.len() + 1);
     let first = TEXT.find("GD_OK = 0").unwrap();
     let list = &TEXT[first..first + TEXT[first..].find("};").unwrap()];
     // GD_BAD_COUNTS is of the header for Vulkan alone.

@@ -1,0 +1,145 @@
+// gpu_descriptor_vulkan.h over functions of its own, so that no driver is needed: what the header makes of
+// results and statuses, a device that is lost, and functions that are missing.
+#include "gpu_descriptor_vulkan.h"
+#include "host.h"
+
+// The results of the calls that may fail. All later ones are VK_SUCCESS.
+static VkResult results[64];
+static uint32_t result_count, used;
+static uint64_t pools, sets_alive, next_handle;
+
+static VkResult next_result(void) {
+    return used == result_count ? VK_SUCCESS : results[used++];
+}
+
+static VKAPI_ATTR VkResult VKAPI_CALL create_pool(VkDevice device, const VkDescriptorPoolCreateInfo *info,
+                                                  const VkAllocationCallbacks *callbacks,
+                                                  VkDescriptorPool *pool) {
+    (void)device, (void)callbacks;
+    CHECK(info->maxSets > 0);
+    VkResult result = next_result();
+    if (result == VK_SUCCESS) {
+        pools++;
+        *pool = GDV_HANDLE(VkDescriptorPool, ++next_handle);
+    }
+    return result;
+}
+
+static VKAPI_ATTR void VKAPI_CALL destroy_pool(VkDevice device, VkDescriptorPool pool,
+                                               const VkAllocationCallbacks *callbacks) {
+    (void)device, (void)callbacks;
+    CHECK(pool != VK_NULL_HANDLE);
+    pools--;
+}
+
+static VKAPI_ATTR VkResult VKAPI_CALL allocate_sets(VkDevice device, const VkDescriptorSetAllocateInfo *info,
+                                                    VkDescriptorSet *sets) {
+    (void)device;
+    VkResult result = next_result();
+    for (uint32_t at = 0; result == VK_SUCCESS && at < info->descriptorSetCount; at++) {
+        sets[at] = GDV_HANDLE(VkDescriptorSet, ++next_handle);
+        sets_alive++;
+    }
+    return result;
+}
+
+static VKAPI_ATTR VkResult VKAPI_CALL free_sets(VkDevice device, VkDescriptorPool pool, uint32_t count,
+                                                const VkDescriptorSet *sets) {
+    (void)device, (void)pool, (void)sets;
+    sets_alive -= count;
+    return VK_SUCCESS;
+}
+
+static gdv_device functions(void) {
+    gdv_device vulkan = {NULL, NULL, create_pool, destroy_pool, allocate_sets, free_sets};
+    return vulkan;
+}
+
+// Each error keeps its cause, and comes back as one that vkAllocateDescriptorSets may return.
+static void check_mappings(void) {
+    static const struct {
+        VkResult result;
+        gd_status status;
+        VkResult back;
+    } ROWS[] = {
+        {VK_SUCCESS, GD_OK, VK_SUCCESS},
+        {VK_ERROR_OUT_OF_DEVICE_MEMORY, GD_OUT_OF_DEVICE_MEMORY, VK_ERROR_OUT_OF_DEVICE_MEMORY},
+        {VK_ERROR_OUT_OF_HOST_MEMORY, GD_OUT_OF_HOST_MEMORY, VK_ERROR_OUT_OF_HOST_MEMORY},
+        {VK_ERROR_FRAGMENTED_POOL, GD_FRAGMENTATION, VK_ERROR_FRAGMENTED_POOL},
+        {VK_ERROR_FRAGMENTATION, GD_FRAGMENTATION, VK_ERROR_FRAGMENTED_POOL},
+        {VK_ERROR_OUT_OF_POOL_MEMORY, GD_OUT_OF_POOL_MEMORY, VK_ERROR_OUT_OF_POOL_MEMORY},
+        {VK_ERROR_DEVICE_LOST, GD_DEVICE_LOST, VK_ERROR_DEVICE_LOST},
+        {VK_ERROR_UNKNOWN, GD_BAD_RESULT, VK_ERROR_UNKNOWN},
+        {VK_ERROR_INITIALIZATION_FAILED, GD_BAD_RESULT, VK_ERROR_UNKNOWN},
+    };
+    for (size_t row = 0; row < sizeof ROWS / sizeof *ROWS; row++) {
+        CHECK(gdv_reason(ROWS[row].result) == ROWS[row].status);
+        CHECK(gdv_result(ROWS[row].status) == ROWS[row].back);
+    }
+    for (gd_status status = GD_NULL_POINTER; status <= GD_BAD_VERSION; status++)
+        CHECK(gdv_result(status) == VK_ERROR_UNKNOWN);
+}
+
+// A layout of which a pool has few sets, so that a request takes several pools.
+static gd_layout large_layout(gd_allocator allocator) {
+    uint32_t counts[GD_KINDS] = {[GD_SAMPLER] = 100000000};
+    gd_layout layout;
+    CHECK(gd_add_layout(allocator, 1, counts, 0, &layout) == GD_OK);
+    return layout;
+}
+
+// The device is lost at each call of a request, and stays lost, whatever it returns later: that is the status,
+// and all calls that free and destroy work.
+static void lose_the_device(void) {
+    gd_set many[200], few[8];
+    for (uint32_t at = 0; at < 6; at++) {
+        gdv_device vulkan = functions();
+        gd_allocator allocator;
+        gd_layout small;
+        uint32_t counts[GD_KINDS] = {1};
+        uint64_t out = 0;
+        result_count = used = 0;
+        CHECK(gdv_create(&vulkan, 100, &allocator) == GD_OK);
+        gd_layout large = large_layout(allocator);
+        CHECK(gd_add_layout(allocator, 2, counts, 0, &small) == GD_OK);
+        CHECK(gd_allocate(allocator, small, 8, few) == GD_OK && gd_free(allocator, few, 2) == GD_OK);
+        for (uint32_t lost = 0; lost < 64; lost++)
+            results[lost] = lost < at ? VK_SUCCESS : lost == at ? VK_ERROR_DEVICE_LOST : VK_ERROR_UNKNOWN;
+        result_count = 64;
+        CHECK(gd_allocate(allocator, large, 200, many) == GD_DEVICE_LOST && sets_alive == 6);
+        CHECK(gd_outstanding(allocator, &out) == GD_OK && out == 6 && gdv_handle(many[0]) == VK_NULL_HANDLE);
+        CHECK(gd_free_after(allocator, few + 2, 3, 1) == GD_OK && gd_frame_done(allocator, 1) == GD_OK);
+        CHECK(gd_free(allocator, few + 5, 1) == GD_OK && gd_cleanup(allocator) == GD_OK && sets_alive == 2);
+        CHECK(gd_free_all(allocator) == GD_OK && gd_destroy(allocator) == GD_OK);
+        CHECK(sets_alive == 0 && pools == 0);
+    }
+}
+
+// An unknown error first, and then the device is lost. The next request has its own status.
+static void lose_the_device_late(void) {
+    gdv_device vulkan = functions();
+    gd_allocator allocator;
+    gd_set many[200], one;
+    uint32_t counts[GD_KINDS] = {1};
+    gd_layout small;
+    result_count = used = 0;
+    CHECK(gdv_create(&vulkan, 100, &allocator) == GD_OK);
+    gd_layout large = large_layout(allocator);
+    CHECK(gd_add_layout(allocator, 2, counts, 0, &small) == GD_OK);
+    CHECK(gd_allocate(allocator, small, 1, &one) == GD_OK && gd_free(allocator, &one, 1) == GD_OK);
+    results[0] = VK_ERROR_UNKNOWN;
+    results[1] = VK_ERROR_DEVICE_LOST;
+    results[2] = VK_ERROR_OUT_OF_DEVICE_MEMORY;
+    result_count = 3;
+    CHECK(gd_allocate(allocator, large, 200, many) == GD_DEVICE_LOST && used == 2);
+    CHECK(gd_allocate(allocator, large, 200, many) == GD_OUT_OF_DEVICE_MEMORY && used == 3);
+    CHECK(gd_destroy(allocator) == GD_OK && pools == 0);
+}
+
+int main(void) {
+    check_mappings();
+    lose_the_device();
+    lose_the_device_late();
+    printf("each error keeps its cause\n");
+    return 0;
+}
