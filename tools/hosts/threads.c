@@ -1,11 +1,16 @@
-// Threads that call one allocator without a lock. Each call succeeds or returns GD_BUSY, and nothing is
-// lost. Mostly all sets are kept. Then allocators are created and destroyed while threads use those that there were.
+// Threads that call one allocator without a lock. Each call waits for its turn, and nothing is lost. Mostly all
+// sets are kept. Then allocators are created and destroyed while threads use those that there were. All that is
+// done again with allocators that don't wait: each call succeeds or returns GD_BUSY.
+//
+// usage: threads [busy] ; with `busy` the library is one in which no call waits
 #define _POSIX_C_SOURCE 200809L
 #include "gpu_descriptor.h"
 #include "host.h"
 #include <pthread.h>
 #include <sched.h>
 #include <stdatomic.h>
+#include <string.h>
+#include <time.h>
 
 enum { THREADS = 4, SETS = 3000, LOT = 5, ALLOCATORS = 500 };
 
@@ -61,8 +66,11 @@ static gd_allocator allocator;
 static gd_layout layout;
 static gd_device device = {NULL, create_pool, destroy_pool, allocate_sets, free_sets};
 
+static bool waits;
+static uint32_t flags;
+
 static gd_status counted_call(gd_status status) {
-    CHECK(status == GD_OK || status == GD_BUSY);
+    CHECK(status == GD_OK || (status == GD_BUSY && !waits));
     atomic_fetch_add(status == GD_OK ? &succeeded : &busy, 1);
     if (status == GD_BUSY)
         (void)sched_yield();
@@ -102,11 +110,11 @@ static void *use_late(void *unused) {
         gd_layout known = {0, late.id};
         gd_set set;
         gd_status status = gd_allocate(late, known, 1, &set);
-        CHECK(status == GD_OK || status == GD_BUSY || status == GD_BAD_ALLOCATOR ||
+        CHECK(status == GD_OK || (status == GD_BUSY && !waits) || status == GD_BAD_ALLOCATOR ||
               status == GD_BAD_LAYOUT);
         atomic_fetch_add(status == GD_OK ? &succeeded : status == GD_BUSY ? &busy : &gone, 1);
         while (status == GD_OK && (status = gd_free(late, &set, 1)) != GD_OK) {
-            CHECK(status == GD_BUSY);
+            CHECK(status == GD_BUSY && !waits);
             status = GD_OK;
         }
         (void)sched_yield();
@@ -120,7 +128,7 @@ static void make_and_destroy(void) {
         gd_allocator made;
         gd_layout known;
         gd_status status;
-        CHECK(gd_create(&device, 100, &made) == GD_OK);
+        CHECK(gd_create_with_flags(&device, 100, flags, &made) == GD_OK);
         do
             status = gd_add_layout(made, 1, counts, 0, &known);
         while (status == GD_BUSY);
@@ -148,11 +156,70 @@ static void wait_for(pthread_t *threads) {
         CHECK(pthread_join(threads[at], NULL) == 0);
 }
 
-int main(void) {
+// ---- a call that waits ----
+
+static _Thread_local bool is_slow;
+static atomic_bool has_begun;
+
+// Inside of a call, while another thread waits: a call of this thread is turned away.
+static gd_status create_slowly(void *user, const gd_pool_info *info, uint64_t *pool) {
+    struct timespec pause = {0, 200000000};
+    uint64_t out = 0;
+    if (is_slow) {
+        atomic_store(&has_begun, true);
+        CHECK(nanosleep(&pause, NULL) == 0);
+        CHECK(gd_outstanding(allocator, &out) == GD_BUSY && gd_destroy(allocator) == GD_BUSY);
+    }
+    return create_pool(user, info, pool);
+}
+
+static void *allocate_slowly(void *unused) {
+    gd_set set;
+    (void)unused;
+    is_slow = true;
+    CHECK(gd_allocate(allocator, layout, 1, &set) == GD_OK);
+    return NULL;
+}
+
+static double seconds_of(clockid_t clock) {
+    struct timespec now;
+    CHECK(clock_gettime(clock, &now) == 0);
+    return (double)now.tv_sec + (double)now.tv_nsec / 1e9;
+}
+
+// Both this thread and the one that waits beside it sleep until the slow call is done.
+static void *wait_asleep(void *unused) {
+    uint64_t out = 0;
+    (void)unused;
+    while (!atomic_load(&has_begun))
+        (void)sched_yield();
+    double used = seconds_of(CLOCK_THREAD_CPUTIME_ID), begin = seconds_of(CLOCK_MONOTONIC);
+    CHECK(gd_outstanding(allocator, &out) == GD_OK && out == 1);
+    CHECK(seconds_of(CLOCK_MONOTONIC) - begin > 0.1);
+    CHECK(seconds_of(CLOCK_THREAD_CPUTIME_ID) - used < 0.05);
+    return NULL;
+}
+
+static void wait_for_a_slow_call(void) {
+    pthread_t threads[3];
+    gd_device slow = device;
+    uint32_t counts[GD_KINDS] = {1};
+    slow.create_pool = create_slowly;
+    CHECK(gd_create(&slow, 100, &allocator) == GD_OK);
+    CHECK(gd_add_layout(allocator, 1, counts, 0, &layout) == GD_OK);
+    for (int at = 0; at < 3; at++)
+        CHECK(pthread_create(&threads[at], NULL, at == 0 ? allocate_slowly : wait_asleep, NULL) == 0);
+    for (int at = 0; at < 3; at++)
+        CHECK(pthread_join(threads[at], NULL) == 0);
+    CHECK(gd_free_all(allocator) == GD_OK && gd_destroy(allocator) == GD_OK && pools == 0);
+}
+
+static void share(void) {
     pthread_t threads[THREADS];
     uint32_t counts[GD_KINDS] = {1};
     uint64_t out = 1;
-    CHECK(gd_create(&device, 100, &allocator) == GD_OK);
+    succeeded = busy = gone = 0;
+    CHECK(gd_create_with_flags(&device, 100, flags, &allocator) == GD_OK);
     CHECK(gd_add_layout(allocator, 1, counts, 0, &layout) == GD_OK);
     start(threads, use, true);
     wait_for(threads);
@@ -162,10 +229,22 @@ int main(void) {
     CHECK(gd_destroy(allocator) == GD_OK && pools == 0);
     printf("%llu calls succeeded, %llu busy\n", (unsigned long long)succeeded, (unsigned long long)busy);
     (void)fflush(stdout);
+    current_slot = current_id = 0;
     start(threads, use_late, false);
     make_and_destroy();
     wait_for(threads);
     printf("in all %llu calls succeeded, %llu busy, %llu on allocators that were gone\n",
            (unsigned long long)succeeded, (unsigned long long)busy, (unsigned long long)gone);
+}
+
+int main(int words, char **word) {
+    waits = words < 2 || strcmp(word[1], "busy") != 0;
+    if (waits)
+        wait_for_a_slow_call();
+    share();
+    flags = GD_EXTERNALLY_SYNCHRONIZED;
+    waits = false;
+    share();
+    CHECK(busy > 0);
     return 0;
 }

@@ -34,10 +34,13 @@
  * Pointers must be valid, and arrays at least as long as their count. NULL is GD_NULL_POINTER, unless
  * the count is 0. A gd_allocator is zeroed, or gd_create wrote it.
  *
- * Threads: each function may be called from any thread. One call on an allocator runs at a time. A
- * call that comes while another runs changes nothing and returns GD_BUSY: from another thread, and
- * from one of your four functions too. It doesn't wait, so use a lock if threads share an allocator.
- * Make no call from a signal handler.
+ * Threads: each function may be called from any thread. One call on an allocator runs at a time, and a
+ * call that comes from another thread waits for its turn. A call from one of your four functions, on the
+ * allocator that called it, changes nothing and returns GD_BUSY. An allocator that was created with
+ * GD_EXTERNALLY_SYNCHRONIZED doesn't wait: a call that comes while another runs is GD_BUSY, from another
+ * thread too, so use a lock if threads share it. A library without std has only such ones. Two threads
+ * whose functions call each the allocator that the other is in wait for ever. Make no call from a signal
+ * handler.
  *
  * Units: counts of sets are sets, counts of a layout or a pool are descriptors (for inline uniform
  * blocks: bytes, and bindings). Handles are the driver's own values, of 64 bits. The library compares
@@ -92,7 +95,8 @@ enum {
     GD_BAD_COUNTS = 25,     /* only of gpu_descriptor_vulkan.h: a layout that can't be counted */
     GD_BAD_RESULT = 26,     /* one of your functions returned another status than it may, or the driver an
                                unknown error */
-    GD_BUSY = 27,           /* another call on the allocator is running */
+    GD_BUSY = 27,           /* a call from one of your functions, or without waiting: another call on the
+                               allocator is running */
     GD_OUTSTANDING = 28,    /* gd_destroy while sets are outstanding */
     GD_INTERNAL_ERROR = 29, /* a bug of the library stopped a call; each later call on the allocator
                                returns this too */
@@ -124,6 +128,11 @@ enum {
     GD_UPDATE_AFTER_BIND = 2    /* of a layout: update-after-bind; of a pool: it is for such layouts */
 };
 
+/* Flags of gd_create_with_flags. */
+enum {
+    GD_EXTERNALLY_SYNCHRONIZED = 1 /* no call waits for that of another thread: it returns GD_BUSY */
+};
+
 /* A pool to create. */
 typedef struct gd_pool_info {
     uint32_t max_sets;         /* how many sets it holds at most, at least 1 */
@@ -153,7 +162,8 @@ typedef struct gd_pool_info {
  * They run inside of a call on the allocator, in its thread. They may call other allocators; a call on
  * the same one is GD_BUSY. They must return: not by longjmp, and not by a C++ exception, which would
  * end the program. For this their types are noexcept in C++. An allocator of which one left by longjmp is
- * stuck: each later call on it is GD_BUSY, and its pools stay.
+ * stuck, and its pools stay: each later call of this thread on it is GD_BUSY, and those of others wait for
+ * ever.
  */
 typedef gd_status (*gd_create_pool)(void *user, const gd_pool_info *info, uint64_t *pool) GD_NOEXCEPT;
 typedef void (*gd_destroy_pool)(void *user, uint64_t pool) GD_NOEXCEPT;
@@ -205,24 +215,30 @@ const char *gd_status_name(gd_status status);
  * What gd_create calls, for those who load the library at run time or from another language. With
  * another 'header' than GD_HEADER it reads and writes nothing.
  */
-gd_status gd_create_checked(uint64_t header, const gd_device *device, uint32_t limit,
+gd_status gd_create_checked(uint64_t header, const gd_device *device, uint32_t limit, uint32_t flags,
                             gd_allocator *allocator);
 
 /*
  * Creates an allocator. The device is copied; what 'user' points to must stay valid until gd_destroy.
  * All pools for update-after-bind layouts together have at most 'limit' descriptors: in Vulkan this is
  * maxUpdateAfterBindDescriptorsInAllPools; with a greater one the pools may exceed what the driver
- * allows. If it fails, 'allocator' is zeroed.
+ * allows. 'flags' is 0 or GD_EXTERNALLY_SYNCHRONIZED. If it fails, 'allocator' is zeroed.
  *
  * A few hundred bytes of a destroyed allocator are kept for the next one.
  *
- * GD_NULL_POINTER, GD_OUT_OF_HOST_MEMORY, GD_BAD_VERSION.
+ * GD_NULL_POINTER, GD_BAD_FLAGS, GD_OUT_OF_HOST_MEMORY, GD_BAD_VERSION.
  */
-GD_INLINE gd_status gd_create(const gd_device *device, uint32_t limit, gd_allocator *allocator) {
+GD_INLINE gd_status gd_create_with_flags(const gd_device *device, uint32_t limit, uint32_t flags,
+                                         gd_allocator *allocator) {
     const gd_allocator none = {0, 0};
     if (allocator)
         *allocator = none;
-    return gd_create_checked(GD_HEADER, device, limit, allocator);
+    return gd_create_checked(GD_HEADER, device, limit, flags, allocator);
+}
+
+/* The same without flags. */
+GD_INLINE gd_status gd_create(const gd_device *device, uint32_t limit, gd_allocator *allocator) {
+    return gd_create_with_flags(device, limit, 0, allocator);
 }
 
 /*

@@ -12,9 +12,10 @@
  * device must no longer use, and destroys it; a gd::set that lives longer does nothing at its end. A
  * gd::allocator ends before vkDestroyDevice. Its gdv_device is declared before it and isn't moved.
  *
- * A destructor has no status. If another thread calls the allocator meanwhile (GD_BUSY), the set stays
- * outstanding until gd_free_all, and the allocator isn't destroyed. So keep the lock that orders your
- * calls while owners end.
+ * A destructor has no status. It waits for other threads' calls. If no call waits
+ * (GD_EXTERNALLY_SYNCHRONIZED, or a library without std) and one of another thread runs, the set stays
+ * outstanding until gd_free_all, and the allocator isn't destroyed: so keep the lock that orders your calls
+ * while owners end. The same happens in one of the device's four functions: no owner may end there.
  */
 #ifndef GPU_DESCRIPTOR_HPP
 #define GPU_DESCRIPTOR_HPP
@@ -107,8 +108,8 @@ class allocator {
         return &raw_;
     }
 
-    gd_status create(const gd_device &device, uint32_t limit) noexcept {
-        return gd_create(&device, limit, put());
+    gd_status create(const gd_device &device, uint32_t limit, uint32_t flags = 0) noexcept {
+        return gd_create_with_flags(&device, limit, flags, put());
     }
 
     /* Allocates a set, which replaces the old one of `to`. If it fails, `to` is as before. */

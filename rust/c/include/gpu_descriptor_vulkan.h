@@ -221,18 +221,26 @@ static inline gd_device gdv_functions(gdv_device *vulkan) {
 
 /*
  * Creates an allocator for a VkDevice. 'limit' is the device's maxUpdateAfterBindDescriptorsInAllPools;
- * without update-after-bind layouts it doesn't matter. 'vulkan' must stay where it is until gd_destroy.
+ * without update-after-bind layouts it doesn't matter. 'flags' are those of gd_create_with_flags. 'vulkan'
+ * must stay where it is until gd_destroy.
  *
- * GD_NULL_POINTER, also if a function of 'vulkan' is NULL; GD_OUT_OF_HOST_MEMORY.
+ * GD_NULL_POINTER, also if a function of 'vulkan' is NULL; GD_BAD_FLAGS, GD_OUT_OF_HOST_MEMORY,
+ * GD_BAD_VERSION.
  */
-static inline gd_status gdv_create(gdv_device *vulkan, uint32_t limit, gd_allocator *allocator) {
+static inline gd_status gdv_create_with_flags(gdv_device *vulkan, uint32_t limit, uint32_t flags,
+                                              gd_allocator *allocator) {
     if (allocator != NULL)
         memset(allocator, 0, sizeof *allocator);
     if (vulkan == NULL || vulkan->create_pool == NULL || vulkan->destroy_pool == NULL ||
         vulkan->allocate_sets == NULL || vulkan->free_sets == NULL)
         return GD_NULL_POINTER;
     gd_device device = gdv_functions(vulkan);
-    return gd_create(&device, limit, allocator);
+    return gd_create_with_flags(&device, limit, flags, allocator);
+}
+
+/* The same without flags. */
+static inline gd_status gdv_create(gdv_device *vulkan, uint32_t limit, gd_allocator *allocator) {
+    return gdv_create_with_flags(vulkan, limit, 0, allocator);
 }
 
 /* Whether a binding has a variable count. */

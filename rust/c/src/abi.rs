@@ -62,6 +62,9 @@ impl GdStatus {
     }
 }
 
+/// `GD_EXTERNALLY_SYNCHRONIZED`.
+pub const EXTERNALLY_SYNCHRONIZED: u32 = 1;
+
 /// `gd_pool_info`.
 #[repr(C)]
 pub struct GdPoolInfo {

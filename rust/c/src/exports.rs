@@ -4,7 +4,7 @@
 //! header says: valid, as long as its count, and not in use elsewhere.
 #![allow(clippy::missing_safety_doc)]
 
-use crate::abi::{GdDevice, GdLayout, GdSet, GdStatus, HEADER};
+use crate::abi::{EXTERNALLY_SYNCHRONIZED, GdDevice, GdLayout, GdSet, GdStatus, HEADER};
 use crate::allocator::Allocator;
 use crate::device::HostDevice;
 use crate::slot::{self, GdAllocator};
@@ -55,6 +55,7 @@ pub unsafe extern "C" fn gd_create_checked(
     header: u64,
     device: *const GdDevice,
     limit: u32,
+    flags: u32,
     allocator: *mut GdAllocator,
 ) -> GdStatus {
     if header != HEADER {
@@ -72,7 +73,11 @@ pub unsafe extern "C" fn gd_create_checked(
     let Some(device) = HostDevice::new(unsafe { &*device }) else {
         return GdStatus::NULL_POINTER;
     };
-    match slot::create(|id| Allocator::new(id, device, limit)) {
+    if flags & !EXTERNALLY_SYNCHRONIZED != 0 {
+        return GdStatus::BAD_FLAGS;
+    }
+    let waits = flags & EXTERNALLY_SYNCHRONIZED == 0;
+    match slot::create(waits, |id| Allocator::new(id, device, limit)) {
         Ok(created) => {
             // SAFETY: the header's.
             unsafe { allocator.write(created) };

@@ -7,9 +7,9 @@
 use crate::abi::GdStatus;
 use crate::allocator::Allocator;
 use crate::kit::alloc::AllocError;
+use crate::lock::{Held, Lock};
 use core::cell::UnsafeCell;
-use core::hint::spin_loop;
-use core::sync::atomic::{AtomicBool, AtomicU64, Ordering};
+use core::sync::atomic::{AtomicU64, Ordering};
 use std_alloc::vec::Vec;
 
 /// `gd_allocator`.
@@ -31,70 +31,50 @@ pub struct Slot {
     /// The allocator's; 0 if there is none.
     id: AtomicU64,
 
-    /// Whether a call is under way. Whoever set it may use `allocator` and `is_poisoned`.
-    is_busy: AtomicBool,
+    /// Held by the call that is under way, which may use `allocator` and `is_poisoned`.
+    lock: Lock,
     allocator: UnsafeCell<Option<Allocator>>,
 
     /// Whether a call panicked, so that nobody knows its state.
     is_poisoned: UnsafeCell<bool>,
 
-    /// The next free slot. Whoever locked `FREE` may use it.
+    /// The next free slot. Whoever locked the free slots may use it.
     next: UnsafeCell<Option<&'static Slot>>,
 }
 
-// SAFETY: each cell is used only by whoever set `is_busy` or locked `FREE`, and an allocator may move to
+// SAFETY: each cell is used only by whoever holds `lock` or locked the free slots, and an allocator may move to
 // another thread.
 unsafe impl Sync for Slot where Allocator: Send {}
 
-/// A flag that is set, and cleared at the end of this value.
-struct Held<'a>(&'a AtomicBool);
-
-impl<'a> Held<'a> {
-    #[inline]
-    fn try_new(flag: &'a AtomicBool) -> Option<Self> {
-        if flag.swap(true, Ordering::Acquire) {
-            None
-        } else {
-            Some(Held(flag))
-        }
-    }
-
-    /// Only for flags that are set for a few instructions at a time.
-    fn wait(flag: &'a AtomicBool) -> Self {
-        loop {
-            match Held::try_new(flag) {
-                Some(held) => return held,
-                None => spin_loop(),
-            }
-        }
-    }
-}
-
-impl Drop for Held<'_> {
-    #[inline]
-    fn drop(&mut self) {
-        self.0.store(false, Ordering::Release);
-    }
-}
-
 /// The slots without an allocator.
 struct FreeSlots {
-    is_locked: AtomicBool,
+    lock: Lock,
     first: UnsafeCell<Option<&'static Slot>>,
 }
 
-// SAFETY: `first` is used only by whoever set `is_locked`.
+// SAFETY: `first` is used only by whoever holds `lock`.
 unsafe impl Sync for FreeSlots {}
 
 static LAST_ID: AtomicU64 = AtomicU64::new(0);
-static FREE: FreeSlots = FreeSlots {
-    is_locked: AtomicBool::new(false),
-    first: UnsafeCell::new(None),
-};
+
+/// The free slots in which calls wait for their turn, and those in which they don't.
+static WAITING: FreeSlots = FreeSlots::new();
+static BUSY: FreeSlots = FreeSlots::new();
 
 impl FreeSlots {
+    const fn new() -> Self {
+        FreeSlots {
+            lock: Lock::new(false),
+            first: UnsafeCell::new(None),
+        }
+    }
+
+    fn of(waits: bool) -> &'static Self {
+        if waits { &WAITING } else { &BUSY }
+    }
+
     fn pop(&self) -> Option<&'static Slot> {
-        let _held = Held::wait(&self.is_locked);
+        let _held = self.lock.spin();
         // SAFETY: it is locked.
         unsafe {
             let slot = (*self.first.get())?;
@@ -104,7 +84,7 @@ impl FreeSlots {
     }
 
     fn push(&self, slot: &'static Slot) {
-        let _held = Held::wait(&self.is_locked);
+        let _held = self.lock.spin();
         // SAFETY: it is locked.
         unsafe {
             *slot.next.get() = *self.first.get();
@@ -113,12 +93,12 @@ impl FreeSlots {
     }
 }
 
-fn new_slot() -> Result<&'static Slot, AllocError> {
+fn new_slot(waits: bool) -> Result<&'static Slot, AllocError> {
     let mut slots = Vec::new();
     slots.try_reserve_exact(1).map_err(|_| AllocError)?;
     slots.push(Slot {
         id: AtomicU64::new(0),
-        is_busy: AtomicBool::new(false),
+        lock: Lock::new(waits),
         allocator: UnsafeCell::new(None),
         is_poisoned: UnsafeCell::new(false),
         next: UnsafeCell::new(None),
@@ -126,16 +106,20 @@ fn new_slot() -> Result<&'static Slot, AllocError> {
     Ok(&slots.leak()[0])
 }
 
-/// Creates an allocator, which gets its id.
-pub fn create(allocator: impl FnOnce(u64) -> Allocator) -> Result<GdAllocator, AllocError> {
-    let slot = match FREE.pop() {
+/// Creates an allocator, which gets its id. If it waits, so do its calls for those of other threads.
+pub fn create(
+    waits: bool,
+    allocator: impl FnOnce(u64) -> Allocator,
+) -> Result<GdAllocator, AllocError> {
+    let waits = waits && cfg!(feature = "std");
+    let slot = match FreeSlots::of(waits).pop() {
         Some(slot) => slot,
-        None => new_slot()?,
+        None => new_slot(waits)?,
     };
     let id = LAST_ID.fetch_add(1, Ordering::Relaxed) + 1;
     // A call through an older id may just be finding out that it is too late.
-    let _held = Held::wait(&slot.is_busy);
-    // SAFETY: `is_busy` is set.
+    let _held = slot.lock.spin();
+    // SAFETY: the lock is held.
     unsafe {
         *slot.allocator.get() = Some(allocator(id));
         *slot.is_poisoned.get() = false;
@@ -144,7 +128,7 @@ pub fn create(allocator: impl FnOnce(u64) -> Allocator) -> Result<GdAllocator, A
     Ok(GdAllocator { slot, id })
 }
 
-/// Begins a call: the slot, which is busy until the flag is dropped.
+/// Begins a call: the slot, of which the lock is held.
 ///
 /// # Safety
 ///
@@ -159,7 +143,7 @@ unsafe fn begin(allocator: GdAllocator) -> Result<(&'static Slot, Held<'static>)
     if slot.id.load(Ordering::Relaxed) != allocator.id {
         return Err(GdStatus::BAD_ALLOCATOR);
     }
-    let held = Held::try_new(&slot.is_busy).ok_or(GdStatus::BUSY)?;
+    let held = slot.lock.hold().ok_or(GdStatus::BUSY)?;
     // In between the allocator may have been destroyed.
     if slot.id.load(Ordering::Relaxed) != allocator.id {
         return Err(GdStatus::BAD_ALLOCATOR);
@@ -188,7 +172,7 @@ fn catch(call: impl FnOnce() -> GdStatus) -> Option<GdStatus> {
     Some(call())
 }
 
-/// Makes a call on an allocator, unless another is under way. No panic leaves it.
+/// Makes a call on an allocator, in its turn or if no other is under way. No panic leaves it.
 ///
 /// # Safety
 ///
@@ -203,7 +187,7 @@ pub unsafe fn enter(
         Ok(begun) => begun,
         Err(status) => return status,
     };
-    // SAFETY: `is_busy` is set, by this call.
+    // SAFETY: this call holds the lock.
     let (cell, is_poisoned) = unsafe { (&mut *slot.allocator.get(), &mut *slot.is_poisoned.get()) };
     let (Some(allocator), false) = (cell, *is_poisoned) else {
         return GdStatus::INTERNAL_ERROR;
@@ -228,7 +212,7 @@ pub unsafe fn destroy(
         enter(allocator, |it| {
             let status = call(it);
             if status == GdStatus::OK {
-                // The slot is still busy, so no call gets in after this one.
+                // The lock is still held, so no call gets in after this one.
                 (*allocator.slot).id.store(0, Ordering::Relaxed);
             }
             status
@@ -239,12 +223,12 @@ pub unsafe fn destroy(
     }
     // SAFETY: `enter` found the slot.
     let slot: &'static Slot = unsafe { &*allocator.slot };
-    let held = Held::wait(&slot.is_busy);
-    // SAFETY: `is_busy` is set.
+    let held = slot.lock.spin();
+    // SAFETY: the lock is held.
     let old = unsafe { (*slot.allocator.get()).take() };
     drop(held);
     drop(old);
-    FREE.push(slot);
+    FreeSlots::of(slot.lock.waits()).push(slot);
     GdStatus::OK
 }
 

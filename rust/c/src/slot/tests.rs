@@ -23,6 +23,10 @@ unsafe extern "C" fn allocate_sets(
 unsafe extern "C" fn free_sets(_: *mut c_void, _: u64, _: u32, _: *const u64) {}
 
 fn created() -> GdAllocator {
+    created_with(true)
+}
+
+fn created_with(waits: bool) -> GdAllocator {
     let device = GdDevice {
         user: core::ptr::null_mut(),
         create_pool: Some(create_pool),
@@ -31,7 +35,7 @@ fn created() -> GdAllocator {
         free_sets: Some(free_sets),
     };
     let device = HostDevice::new(&device).unwrap();
-    create(|id| Allocator::new(id, device, 0)).unwrap()
+    create(waits, |id| Allocator::new(id, device, 0)).unwrap()
 }
 
 /// A panic is a status, and so is each later call. Another allocator is not touched. Without std a panic
@@ -55,18 +59,20 @@ fn a_panic_is_a_status() {
     }
 }
 
-/// A call inside of a call is turned away.
+/// A call inside of a call is turned away, also if it would wait for another thread's.
 #[test]
 fn a_call_inside_is_busy() {
-    let allocator = created();
-    // SAFETY: `create` made it.
-    unsafe {
-        let status = enter(allocator, |_| {
-            assert_eq!(enter(allocator, |_| unreachable!()), GdStatus::BUSY);
-            assert_eq!(destroy(allocator, |_| unreachable!()), GdStatus::BUSY);
-            GdStatus::OUTSTANDING
-        });
-        assert_eq!(status, GdStatus::OUTSTANDING);
-        assert_eq!(destroy(allocator, |_| GdStatus::OK), GdStatus::OK);
+    for waits in [true, false] {
+        let allocator = created_with(waits);
+        // SAFETY: `create` made it.
+        unsafe {
+            let status = enter(allocator, |_| {
+                assert_eq!(enter(allocator, |_| unreachable!()), GdStatus::BUSY);
+                assert_eq!(destroy(allocator, |_| unreachable!()), GdStatus::BUSY);
+                GdStatus::OUTSTANDING
+            });
+            assert_eq!(status, GdStatus::OUTSTANDING);
+            assert_eq!(destroy(allocator, |_| GdStatus::OK), GdStatus::OK);
+        }
     }
 }
