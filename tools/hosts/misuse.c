@@ -180,9 +180,9 @@ static void pass_null(void) {
 static void pass_other_headers(void) {
     gd_allocator allocator = {&keep, 77};
     for (uint32_t bit = 0; bit < 64; bit++)
-        CHECK(gd_create_checked(GD_HEADER ^ UINT64_C(1) << bit, NULL, 0, 0, &allocator) == GD_BAD_VERSION);
+        CHECK(gd_create_checked(GD_HEADER ^ UINT64_C(1) << bit, NULL, 1, 0, 0, &allocator) == GD_BAD_VERSION);
     CHECK(allocator.slot == &keep && allocator.id == 77);
-    CHECK(gd_create_checked(GD_HEADER, NULL, 0, 0, &allocator) == GD_NULL_POINTER && allocator.id == 0);
+    CHECK(gd_create_checked(GD_HEADER, NULL, 1, 0, 0, &allocator) == GD_NULL_POINTER && allocator.id == 0);
     CHECK(gd_version() == GD_VERSION && GD_VERSION >= GD_MAKE_VERSION(0u, 1u, 0u));
 }
 

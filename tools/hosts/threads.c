@@ -160,16 +160,19 @@ static void wait_for(pthread_t *threads) {
 
 static _Thread_local bool is_slow;
 static atomic_bool has_begun;
+static atomic_uint late, turned_away;
 
-// Inside of a call, while another thread waits: a call of this thread is turned away.
+// Inside of a call, while two other threads call: a call of this thread is turned away.
 static gd_status create_slowly(void *user, const gd_pool_info *info, uint64_t *pool) {
     struct timespec pause = {0, 200000000};
     uint64_t out = 0;
-    if (is_slow) {
-        atomic_store(&has_begun, true);
-        CHECK(nanosleep(&pause, NULL) == 0);
-        CHECK(gd_outstanding(allocator, &out) == GD_BUSY && gd_destroy(allocator) == GD_BUSY);
-    }
+    atomic_store(&has_begun, true);
+    while (is_slow && atomic_load(&late) < 2)
+        (void)sched_yield();
+    while (is_slow && !waits && atomic_load(&turned_away) < 2)
+        (void)sched_yield();
+    CHECK(nanosleep(&pause, NULL) == 0);
+    CHECK(gd_outstanding(allocator, &out) == GD_BUSY && gd_destroy(allocator) == GD_BUSY);
     return create_pool(user, info, pool);
 }
 
@@ -181,34 +184,38 @@ static void *allocate_slowly(void *unused) {
     return NULL;
 }
 
-static double seconds_of(clockid_t clock) {
+static double seconds_used(void) {
     struct timespec now;
-    CHECK(clock_gettime(clock, &now) == 0);
+    CHECK(clock_gettime(CLOCK_THREAD_CPUTIME_ID, &now) == 0);
     return (double)now.tv_sec + (double)now.tv_nsec / 1e9;
 }
 
-// Both this thread and the one that waits beside it sleep until the slow call is done.
-static void *wait_asleep(void *unused) {
+// Sleeps until the slow call is done, or is turned away.
+static void *come_late(void *unused) {
     uint64_t out = 0;
     (void)unused;
     while (!atomic_load(&has_begun))
         (void)sched_yield();
-    double used = seconds_of(CLOCK_THREAD_CPUTIME_ID), begin = seconds_of(CLOCK_MONOTONIC);
-    CHECK(gd_outstanding(allocator, &out) == GD_OK && out == 1);
-    CHECK(seconds_of(CLOCK_MONOTONIC) - begin > 0.1);
-    CHECK(seconds_of(CLOCK_THREAD_CPUTIME_ID) - used < 0.05);
+    double begin = seconds_used();
+    atomic_fetch_add(&late, 1);
+    gd_status status = gd_outstanding(allocator, &out);
+    CHECK(waits ? status == GD_OK && out == 1 : status == GD_BUSY && out == 0);
+    CHECK(seconds_used() - begin < 0.05);
+    atomic_fetch_add(&turned_away, 1);
     return NULL;
 }
 
-static void wait_for_a_slow_call(void) {
+static void call_beside_a_slow_call(void) {
     pthread_t threads[3];
     gd_device slow = device;
     uint32_t counts[GD_KINDS] = {1};
     slow.create_pool = create_slowly;
-    CHECK(gd_create(&slow, 100, &allocator) == GD_OK);
+    has_begun = false;
+    late = turned_away = 0;
+    CHECK(gd_create_with_flags(&slow, 100, flags, &allocator) == GD_OK);
     CHECK(gd_add_layout(allocator, 1, counts, 0, &layout) == GD_OK);
     for (int at = 0; at < 3; at++)
-        CHECK(pthread_create(&threads[at], NULL, at == 0 ? allocate_slowly : wait_asleep, NULL) == 0);
+        CHECK(pthread_create(&threads[at], NULL, at == 0 ? allocate_slowly : come_late, NULL) == 0);
     for (int at = 0; at < 3; at++)
         CHECK(pthread_join(threads[at], NULL) == 0);
     CHECK(gd_free_all(allocator) == GD_OK && gd_destroy(allocator) == GD_OK && pools == 0);
@@ -238,13 +245,11 @@ static void share(void) {
 }
 
 int main(int words, char **word) {
-    waits = words < 2 || strcmp(word[1], "busy") != 0;
-    if (waits)
-        wait_for_a_slow_call();
-    share();
-    flags = GD_EXTERNALLY_SYNCHRONIZED;
-    waits = false;
-    share();
-    CHECK(busy > 0);
+    for (int turn = 0; turn < 2; turn++) {
+        flags = turn == 0 ? 0 : GD_EXTERNALLY_SYNCHRONIZED;
+        waits = flags == 0 && (words < 2 || strcmp(word[1], "busy") != 0);
+        call_beside_a_slow_call();
+        share();
+    }
     return 0;
 }

@@ -1,5 +1,5 @@
-// Owners of sets over a device that only counts: sets are freed at the end of their scope, or after a
-// frame, and kept. It checks the counts and prints them.
+// Owners of sets over a device that only counts: sets are freed at the end of their scope or after a frame, and
+// kept. It checks the counts and prints them.
 #include "gpu_descriptor.hpp"
 
 #include <cstdio>
@@ -51,13 +51,13 @@ uint64_t outstanding(const gd::allocator &allocator) {
     return sets;
 }
 
-// One frame: a set that lives for this scope, and one that waits for the end of the frame.
-void draw(gd::allocator &allocator, gd_layout layout, uint64_t frame) {
-    gd::set scratch, bound;
-    require(allocator.allocate(layout, scratch) == GD_OK, "allocate");
-    require(allocator.allocate(layout, bound) == GD_OK, "allocate");
-    require(bound.handle() != scratch.handle(), "two handles");
-    require(bound.free_after(frame) == GD_OK && !bound, "free_after");
+// One frame: sets of its own, which come back after it, and a material, whose last use it may be.
+void draw(gd::allocator &allocator, gd_layout layout, gd::set &material, uint64_t number) {
+    gd::frame frame(allocator, number);
+    gd_set scratch[2];
+    require(frame.allocate(layout, 2, scratch) == GD_OK, "allocate");
+    require(material.handle() != scratch[0].handle, "two handles");
+    material.used_in(number);
 }
 
 } // namespace
@@ -72,23 +72,29 @@ int main() {
         gd::allocator allocator;
         require(allocator.create(functions, 500000) == GD_OK, "create");
         require(gd_add_layout(allocator.raw(), 77, kinds, 0, &layout) == GD_OK, "gd_add_layout");
+        gd::set material;
         for (uint64_t frame = 1; frame <= 10; frame++) {
             if (frame > 2)
                 require(gd_frame_done(allocator.raw(), frame - 2) == GD_OK, "gd_frame_done");
-            draw(allocator, layout, frame);
+            if (frame % 4 == 1) // replaced: the old one comes back after the frame of its last use
+                require(allocator.allocate(layout, material) == GD_OK, "allocate");
+            draw(allocator, layout, material, frame);
         }
-        std::printf("after ten frames: %u sets wait, of %u\n", unsigned(outstanding(allocator)), device.sets);
-        require(outstanding(allocator) == 2, "two sets wait");
-        // In each frame two are in use while that of the frame before waits.
-        require(device.sets == 3, "no more than are in use at once");
+        std::printf("after ten frames: %u sets are out, of %u\n", unsigned(outstanding(allocator)), device.sets);
+        require(outstanding(allocator) == 5, "two frames are in flight, and the material is held");
+        require(device.sets == 6, "no more than are in use at once");
+        require(material.free_after(10) == GD_OK, "free_after");
+        require(gd_frame_done(allocator.raw(), 10) == GD_OK, "gd_frame_done");
 
+        gd::sets batch;
+        require(allocator.allocate(layout, 8, batch) == GD_OK && batch.size() == 8, "a batch");
         for (int count = 0; count < 50; count++) {
             gd::set set;
             require(allocator.allocate(layout, set) == GD_OK, "allocate");
             kept.push_back(std::move(set));
         }
         kept.erase(kept.begin(), kept.begin() + 10); // moves the others
-        require(outstanding(allocator) == 42, "ten of fifty sets are freed");
+        require(outstanding(allocator) == 48, "ten of fifty sets are freed");
 
         gd::set other;
         require(allocator.remove_layout(layout) == GD_OK, "remove_layout");

@@ -49,6 +49,7 @@
 #ifndef GPU_DESCRIPTOR_H
 #define GPU_DESCRIPTOR_H
 
+#include <stddef.h>
 #include <stdint.h>
 
 /* The version of this header. gd_version returns the library's. */
@@ -215,11 +216,12 @@ const char *gd_status_name(gd_status status);
  * What gd_create calls, for those who load the library at run time or from another language. With
  * another 'header' than GD_HEADER it reads and writes nothing.
  */
-gd_status gd_create_checked(uint64_t header, const gd_device *device, uint32_t limit, uint32_t flags,
-                            gd_allocator *allocator);
+gd_status gd_create_checked(uint64_t header, const gd_device *device, size_t user_size, uint32_t limit,
+                            uint32_t flags, gd_allocator *allocator);
 
 /*
- * Creates an allocator. The device is copied; what 'user' points to must stay valid until gd_destroy.
+ * Creates an allocator. The device is copied, and so are the first 'user_size' bytes that 'user' points to:
+ * then your functions get a pointer to the copy, which is aligned as a uint64_t.
  * All pools for update-after-bind layouts together have at most 'limit' descriptors: in Vulkan this is
  * maxUpdateAfterBindDescriptorsInAllPools; with a greater one the pools may exceed what the driver
  * allows. 'flags' is 0 or GD_EXTERNALLY_SYNCHRONIZED. If it fails, 'allocator' is zeroed.
@@ -228,15 +230,21 @@ gd_status gd_create_checked(uint64_t header, const gd_device *device, uint32_t l
  *
  * GD_NULL_POINTER, GD_BAD_FLAGS, GD_OUT_OF_HOST_MEMORY, GD_BAD_VERSION.
  */
-GD_INLINE gd_status gd_create_with_flags(const gd_device *device, uint32_t limit, uint32_t flags,
-                                         gd_allocator *allocator) {
+GD_INLINE gd_status gd_create_with_copy(const gd_device *device, size_t user_size, uint32_t limit,
+                                        uint32_t flags, gd_allocator *allocator) {
     const gd_allocator none = {0, 0};
     if (allocator)
         *allocator = none;
-    return gd_create_checked(GD_HEADER, device, limit, flags, allocator);
+    return gd_create_checked(GD_HEADER, device, user_size, limit, flags, allocator);
 }
 
-/* The same without flags. */
+/* The same without a copy: what 'user' points to must stay where it is until gd_destroy. */
+GD_INLINE gd_status gd_create_with_flags(const gd_device *device, uint32_t limit, uint32_t flags,
+                                         gd_allocator *allocator) {
+    return gd_create_with_copy(device, 0, limit, flags, allocator);
+}
+
+/* And without flags. */
 GD_INLINE gd_status gd_create(const gd_device *device, uint32_t limit, gd_allocator *allocator) {
     return gd_create_with_flags(device, limit, 0, allocator);
 }

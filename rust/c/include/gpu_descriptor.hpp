@@ -4,16 +4,20 @@
  *     gd::allocator allocator;
  *     allocator.create(device, limit);             // or gdv_create(&vulkan, limit, allocator.put())
  *     gd::set set;
- *     allocator.allocate(layout, set);             // set.handle() is the driver's
- *     status = set.free_after(frame);              // or set.free(), or the end of `set`
+ *     allocator.allocate(layout, set);             // set.vk() is the VkDescriptorSet
+ *     set.used_in(frame);                          // its end frees it after this frame
  *
- * Owners are moved and not copied. The end of a gd::set, and a new set in its place, frees the set at
- * once: the device must no longer use it. The end of a gd::allocator frees all of its sets, which the
- * device must no longer use, and destroys it; a gd::set that lives longer does nothing at its end. A
- * gd::allocator ends before vkDestroyDevice. Its gdv_device is declared before it and isn't moved.
+ *     gd::frame frame(allocator, number);
+ *     gd_set drawn;
+ *     frame.allocate(layout, drawn);               // gd::vk(drawn); the end of `frame` frees it after `number`
+ *
+ * Owners are moved and not copied. The end of a gd::set or gd::sets, and new ones in its place, frees them: after
+ * the frame of used_in, and without one at once, when the device must no longer use them. The end of a
+ * gd::allocator frees all of its sets, which the device must no longer use, and destroys it; an owner of sets
+ * that lives longer does nothing at its end. A gd::allocator ends before vkDestroyDevice.
  *
  * A destructor has no status. It waits for other threads' calls. If no call waits
- * (GD_EXTERNALLY_SYNCHRONIZED, or a library without std) and one of another thread runs, the set stays
+ * (GD_EXTERNALLY_SYNCHRONIZED, or a library without std) and one of another thread runs, the sets stay
  * outstanding until gd_free_all, and the allocator isn't destroyed: so keep the lock that orders your calls
  * while owners end. The same happens in one of the device's four functions: no owner may end there.
  */
@@ -22,33 +26,77 @@
 
 #include "gpu_descriptor.h"
 
+#include <memory>
+#include <new>
 #include <utility>
+
+/* VkDescriptorSet is a pointer to it, or a number: as Vulkan's header has it, which isn't included. */
+struct VkDescriptorSet_T;
 
 namespace gd {
 
+#if defined(VK_USE_64_BIT_PTR_DEFINES) ? (VK_USE_64_BIT_PTR_DEFINES == 1) : (UINTPTR_MAX == UINT64_MAX)
+using vk_descriptor_set = VkDescriptorSet_T *;
+inline vk_descriptor_set vk(const gd_set &raw) noexcept {
+    return reinterpret_cast<vk_descriptor_set>(raw.handle);
+}
+#else
+using vk_descriptor_set = uint64_t;
+inline vk_descriptor_set vk(const gd_set &raw) noexcept {
+    return raw.handle;
+}
+#endif
+
+/* The frame after which an owner frees its sets, if it was given one. */
+class last_use {
+  public:
+    /* The sets are used in this frame. The highest one counts. */
+    void used_in(uint64_t frame) noexcept {
+        frame_ = is_used_ && frame_ > frame ? frame_ : frame;
+        is_used_ = true;
+    }
+
+  protected:
+    gd_status free_when_done(gd_allocator allocator, const gd_set *raw, uint32_t count) const noexcept {
+        return is_used_ ? gd_free_after(allocator, raw, count, frame_) : gd_free(allocator, raw, count);
+    }
+
+    uint64_t frame_ = 0;
+    bool is_used_ = false;
+};
+
 /* One set, or none. */
-class set {
+class set : public last_use {
   public:
     set() = default;
     /* Takes the ownership of a set that gd_allocate returned, also one of many. */
     set(gd_allocator allocator, gd_set raw) noexcept : allocator_(allocator), raw_(raw) {}
     set(const set &) = delete;
     set &operator=(const set &) = delete;
-    set(set &&other) noexcept : allocator_(other.allocator_), raw_(other.release()) {}
+    set(set &&other) noexcept : last_use(other), allocator_(other.allocator_), raw_(other.release()) {}
     set &operator=(set &&other) noexcept {
         if (this != &other) {
-            (void)free();
+            (void)reset();
+            last_use::operator=(other);
             allocator_ = other.allocator_;
             raw_ = other.release();
         }
         return *this;
     }
-    ~set() { (void)free(); }
+    ~set() { (void)reset(); }
 
     /* The driver's handle. */
     uint64_t handle() const noexcept { return raw_.handle; }
+    vk_descriptor_set vk() const noexcept { return gd::vk(raw_); }
     const gd_set &raw() const noexcept { return raw_; }
     explicit operator bool() const noexcept { return raw_.owner != 0; }
+
+    /* Frees it after the frame of used_in, or at once. It keeps the set if that fails. */
+    gd_status reset() noexcept {
+        if (!*this)
+            return GD_OK;
+        return end(free_when_done(allocator_, &raw_, 1));
+    }
 
     /* gd_free. It does nothing if there is no set, and keeps the set if it fails. */
     gd_status free() noexcept {
@@ -57,14 +105,10 @@ class set {
         return end(gd_free(allocator_, &raw_, 1));
     }
 
-    /*
-     * gd_free_after. It does nothing if there is no set, and keeps the set if it fails. The end of the
-     * set would then free it at once: wait for the device first, or release() the set.
-     */
+    /* gd_free_after. It does nothing if there is no set, and keeps the set if it fails. */
     [[nodiscard]] gd_status free_after(uint64_t frame) noexcept {
-        if (!*this)
-            return GD_OK;
-        return end(gd_free_after(allocator_, &raw_, 1, frame));
+        used_in(frame);
+        return reset();
     }
 
     /* Gives up the ownership. */
@@ -73,12 +117,80 @@ class set {
   private:
     gd_status end(gd_status status) noexcept {
         if (status == GD_OK)
-            raw_ = gd_set{};
+            (void)release();
         return status;
     }
 
     gd_allocator allocator_{};
     gd_set raw_{};
+};
+
+/* Some sets of one layout, or none. They are freed together, by one call. */
+class sets : public last_use {
+  public:
+    sets() = default;
+    sets(const sets &) = delete;
+    sets &operator=(const sets &) = delete;
+    sets(sets &&other) noexcept { take(other); }
+    sets &operator=(sets &&other) noexcept {
+        if (this != &other) {
+            (void)reset();
+            take(other);
+        }
+        return *this;
+    }
+    ~sets() { (void)reset(); }
+
+    uint32_t size() const noexcept { return count_; }
+    const gd_set &operator[](uint32_t index) const noexcept { return raw_[index]; }
+    vk_descriptor_set vk(uint32_t index) const noexcept { return gd::vk(raw_[index]); }
+    const gd_set *begin() const noexcept { return raw_.get(); }
+    const gd_set *end() const noexcept { return raw_.get() + count_; }
+
+    /* As those of gd::set. They keep all sets if they fail. */
+    gd_status reset() noexcept { return done(free_when_done(allocator_, raw_.get(), count_)); }
+    gd_status free() noexcept { return done(gd_free(allocator_, raw_.get(), count_)); }
+    [[nodiscard]] gd_status free_after(uint64_t frame) noexcept {
+        used_in(frame);
+        return reset();
+    }
+
+    /* gd_allocate. If it fails, nothing changed. */
+    gd_status allocate(gd_allocator allocator, gd_layout layout, uint32_t count) noexcept {
+        sets made;
+        made.raw_.reset(new (std::nothrow) gd_set[count]);
+        if (!made.raw_)
+            return GD_OUT_OF_HOST_MEMORY;
+        const gd_status status = gd_allocate(allocator, layout, count, made.raw_.get());
+        if (status != GD_OK)
+            return status;
+        made.allocator_ = allocator;
+        made.count_ = count;
+        *this = std::move(made);
+        return GD_OK;
+    }
+
+  private:
+    void take(sets &other) noexcept {
+        last_use::operator=(std::exchange(static_cast<last_use &>(other), last_use()));
+        allocator_ = other.allocator_;
+        raw_ = std::move(other.raw_);
+        count_ = std::exchange(other.count_, 0u);
+    }
+
+    gd_status done(gd_status status) noexcept {
+        if (count_ == 0)
+            return GD_OK;
+        if (status == GD_OK) {
+            sets none;
+            take(none);
+        }
+        return status;
+    }
+
+    gd_allocator allocator_{};
+    std::unique_ptr<gd_set[]> raw_;
+    uint32_t count_ = 0;
 };
 
 /* One allocator, or none. */
@@ -121,6 +233,11 @@ class allocator {
         return status;
     }
 
+    /* Allocates sets, which replace the old ones of `to`. If it fails, `to` is as before. */
+    gd_status allocate(gd_layout layout, uint32_t count, sets &to) noexcept {
+        return to.allocate(raw_, layout, count);
+    }
+
     /* Removes a layout. Sets of it stay valid until they are freed. */
     gd_status remove_layout(gd_layout layout) noexcept { return gd_remove_layout(raw_, layout); }
 
@@ -141,6 +258,93 @@ class allocator {
 
   private:
     gd_allocator raw_{};
+};
+
+/*
+ * The sets that are drawn in one frame. Its end, and the begin of another one, frees them all after the frame,
+ * by one call.
+ */
+class frame {
+  public:
+    frame() = default;
+    frame(const allocator &of, uint64_t number) noexcept : allocator_(of.raw()), number_(number) {}
+    frame(const frame &) = delete;
+    frame &operator=(const frame &) = delete;
+    frame(frame &&other) noexcept { take(other); }
+    frame &operator=(frame &&other) noexcept {
+        if (this != &other) {
+            (void)end();
+            take(other);
+        }
+        return *this;
+    }
+    ~frame() { (void)end(); }
+
+    uint64_t number() const noexcept { return number_; }
+    uint32_t size() const noexcept { return count_; }
+
+    /* gd_allocate. The sets are the frame's. */
+    gd_status allocate(gd_layout layout, uint32_t count, gd_set *to) noexcept {
+        if (!reserve(count)) {
+            for (uint32_t index = 0; index < count; index++)
+                to[index] = gd_set{};
+            return GD_OUT_OF_HOST_MEMORY;
+        }
+        const gd_status status = gd_allocate(allocator_, layout, count, to);
+        if (status == GD_OK)
+            for (uint32_t index = 0; index < count; index++)
+                raw_[count_++] = to[index];
+        return status;
+    }
+    gd_status allocate(gd_layout layout, gd_set &to) noexcept { return allocate(layout, 1, &to); }
+
+    /* Frees its sets after this frame. It keeps them if that fails. */
+    gd_status end() noexcept {
+        if (count_ == 0)
+            return GD_OK;
+        const gd_status status = gd_free_after(allocator_, raw_.get(), count_, number_);
+        if (status == GD_OK)
+            count_ = 0;
+        return status;
+    }
+
+    /* Ends this frame, and begins another one in its memory. If that fails, it is still this one. */
+    gd_status begin(uint64_t number) noexcept {
+        const gd_status status = end();
+        if (status == GD_OK)
+            number_ = number;
+        return status;
+    }
+
+  private:
+    bool reserve(uint32_t count) noexcept {
+        if (count > UINT32_MAX - count_)
+            return false;
+        if (count_ + count <= room_)
+            return true;
+        const uint32_t wanted = count_ + count, room = wanted > UINT32_MAX / 2 ? wanted : 2 * wanted;
+        std::unique_ptr<gd_set[]> grown(new (std::nothrow) gd_set[room]);
+        if (!grown)
+            return false;
+        for (uint32_t index = 0; index < count_; index++)
+            grown[index] = raw_[index];
+        raw_ = std::move(grown);
+        room_ = room;
+        return true;
+    }
+
+    void take(frame &other) noexcept {
+        allocator_ = other.allocator_;
+        number_ = other.number_;
+        raw_ = std::move(other.raw_);
+        count_ = std::exchange(other.count_, 0u);
+        room_ = std::exchange(other.room_, 0u);
+    }
+
+    gd_allocator allocator_{};
+    uint64_t number_ = 0;
+    std::unique_ptr<gd_set[]> raw_;
+    uint32_t count_ = 0, room_ = 0;
 };
 
 } // namespace gd

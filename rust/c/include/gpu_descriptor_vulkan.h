@@ -2,7 +2,7 @@
  * gpu_descriptor_vulkan.h: the device of gpu_descriptor.h for a VkDevice. Header only, for C11 and
  * C++17.
  *
- *     gdv_device vulkan;                                  // must stay where it is until gd_destroy
+ *     gdv_device vulkan;                                  // is copied
  *     gdv_init(&vulkan, device, NULL);
  *     gdv_create(&vulkan, limit, &allocator);
  *     gdv_add_layout(allocator, layout, &layout_info, &known);
@@ -14,8 +14,8 @@
  * All else is gpu_descriptor.h. Vulkan's own rules on threads hold as well: nobody else may use the
  * pools, which are known to the library alone.
  *
- * With VK_NO_PROTOTYPES there is no gdv_init: write the fields of a gdv_device, as your loader has the
- * functions.
+ * With VK_NO_PROTOTYPES gdv_init takes the functions by their names from where it is called, as volk has them.
+ * gdv_load asks vkGetDeviceProcAddr for them.
  *
  * The header allocates nothing: the arrays of a call are the library's.
  */
@@ -36,18 +36,15 @@
 static_assert(sizeof(VkDescriptorPool) == 8 && sizeof(VkDescriptorSet) == 8 &&
                   sizeof(VkDescriptorSetLayout) == 8,
               "handles have 64 bits");
-static_assert((int)GD_FREE_DESCRIPTOR_SET ==
-                      (int)VK_DESCRIPTOR_POOL_CREATE_FREE_DESCRIPTOR_SET_BIT &&
-                  (int)GD_UPDATE_AFTER_BIND ==
-                      (int)VK_DESCRIPTOR_POOL_CREATE_UPDATE_AFTER_BIND_BIT &&
-                  (int)GD_UPDATE_AFTER_BIND ==
-                      (int)VK_DESCRIPTOR_SET_LAYOUT_CREATE_UPDATE_AFTER_BIND_POOL_BIT,
+static_assert(GD_FREE_DESCRIPTOR_SET == 1 && VK_DESCRIPTOR_POOL_CREATE_FREE_DESCRIPTOR_SET_BIT == 1 &&
+                  GD_UPDATE_AFTER_BIND == 2 && VK_DESCRIPTOR_POOL_CREATE_UPDATE_AFTER_BIND_BIT == 2 &&
+                  VK_DESCRIPTOR_SET_LAYOUT_CREATE_UPDATE_AFTER_BIND_POOL_BIT == 2,
               "the flags are Vulkan's");
 
 /* A device, and the functions that are called on it. */
 typedef struct gdv_device {
     VkDevice device;
-    const VkAllocationCallbacks *callbacks; /* for the driver's memory of a pool; may be NULL */
+    const VkAllocationCallbacks *callbacks; /* for the driver's memory of a pool, or NULL */
     PFN_vkCreateDescriptorPool create_pool;
     PFN_vkDestroyDescriptorPool destroy_pool;
     PFN_vkAllocateDescriptorSets allocate_sets;
@@ -61,7 +58,7 @@ typedef struct gdv_device {
  * VK_ERROR_FRAGMENTATION of an existing pool end no request: the next pool is asked. An error that has no
  * status, as VK_ERROR_UNKNOWN, is GD_BAD_RESULT.
  */
-static inline gd_status gdv_reason(VkResult result) {
+GD_INLINE gd_status gdv_reason(VkResult result) {
     switch (result) {
     case VK_SUCCESS:
         return GD_OK;
@@ -85,7 +82,7 @@ static inline gd_status gdv_reason(VkResult result) {
  * The result for a status of gpu_descriptor.h, as vkAllocateDescriptorSets may return it, or as the driver
  * returned it (VK_ERROR_DEVICE_LOST). Mistakes, such as GD_BAD_SET, are VK_ERROR_UNKNOWN.
  */
-static inline VkResult gdv_result(gd_status status) {
+GD_INLINE VkResult gdv_result(gd_status status) {
     switch (status) {
     case GD_OK:
         return VK_SUCCESS;
@@ -105,41 +102,51 @@ static inline VkResult gdv_result(gd_status status) {
 }
 
 /* On some platforms handles are pointers, on others they are numbers. */
-#if (VK_USE_64_BIT_PTR_DEFINES == 1)
+#if (VK_USE_64_BIT_PTR_DEFINES != 1)
+#define GDV_HANDLE(type, number) (number)
+#define GDV_NUMBER(handle) (handle)
+#elif defined(__cplusplus)
+#define GDV_HANDLE(type, number) (reinterpret_cast<type>(number))
+#define GDV_NUMBER(handle) (reinterpret_cast<uint64_t>(handle))
+#else
 #define GDV_HANDLE(type, number) ((type)(uintptr_t)(number))
 #define GDV_NUMBER(handle) ((uint64_t)(uintptr_t)(handle))
+#endif
+
+/* Casts, as either language has them. */
+#ifdef __cplusplus
+#define GDV_CAST(type, value) (static_cast<type>(value))
 #else
-#define GDV_HANDLE(type, number) ((type)(number))
-#define GDV_NUMBER(handle) ((uint64_t)(handle))
+#define GDV_CAST(type, value) ((type)(value))
 #endif
 
 /* The driver's handle of a set. */
-static inline VkDescriptorSet gdv_handle(gd_set set) {
+GD_INLINE VkDescriptorSet gdv_handle(gd_set set) {
     return GDV_HANDLE(VkDescriptorSet, set.handle);
 }
 
 /* ---- the four functions ---- */
 
 /* The type of a kind. GD_INLINE_UNIFORM_BLOCK_BINDINGS has none. */
-static inline VkDescriptorType gdv_type(uint32_t kind) {
+GD_INLINE VkDescriptorType gdv_type(uint32_t kind) {
     if (kind == GD_ACCELERATION_STRUCTURE)
         return VK_DESCRIPTOR_TYPE_ACCELERATION_STRUCTURE_KHR;
     if (kind == GD_INLINE_UNIFORM_BLOCK_BYTES)
         return VK_DESCRIPTOR_TYPE_INLINE_UNIFORM_BLOCK;
-    return (VkDescriptorType)kind; /* the first eleven have Vulkan's numbers */
+    return GDV_CAST(VkDescriptorType, kind); /* the first eleven have Vulkan's numbers */
 }
 
 /* The kind of a type; GD_KINDS if it has none. */
-static inline uint32_t gdv_kind(VkDescriptorType type) {
+GD_INLINE uint32_t gdv_kind(VkDescriptorType type) {
     for (uint32_t kind = 0; kind < GD_INLINE_UNIFORM_BLOCK_BINDINGS; kind++)
         if (gdv_type(kind) == type)
             return kind;
     return GD_KINDS;
 }
 
-static inline gd_status gdv_create_pool(void *user, const gd_pool_info *pool_info,
+GD_INLINE gd_status gdv_create_pool(void *user, const gd_pool_info *pool_info,
                                         uint64_t *pool) GD_NOEXCEPT {
-    const gdv_device *it = (const gdv_device *)user;
+    const gdv_device *it = GDV_CAST(const gdv_device *, user);
     VkDescriptorPoolSize sizes[GD_KINDS];
     uint32_t size_count = 0;
     for (uint32_t kind = 0; kind < GD_INLINE_UNIFORM_BLOCK_BINDINGS; kind++) {
@@ -167,49 +174,85 @@ static inline gd_status gdv_create_pool(void *user, const gd_pool_info *pool_inf
     return status;
 }
 
-static inline void gdv_destroy_pool(void *user, uint64_t pool) GD_NOEXCEPT {
-    const gdv_device *it = (const gdv_device *)user;
+GD_INLINE void gdv_destroy_pool(void *user, uint64_t pool) GD_NOEXCEPT {
+    const gdv_device *it = GDV_CAST(const gdv_device *, user);
     it->destroy_pool(it->device, GDV_HANDLE(VkDescriptorPool, pool), it->callbacks);
 }
 
 /* The arrays are passed on as they are: handles have 64 bits, and no function of C reads them. */
-static inline gd_status gdv_allocate_sets(void *user, uint64_t pool, uint32_t count,
+GD_INLINE gd_status gdv_allocate_sets(void *user, uint64_t pool, uint32_t count,
                                           const uint64_t *layouts, uint64_t *sets) GD_NOEXCEPT {
-    const gdv_device *it = (const gdv_device *)user;
+    const gdv_device *it = GDV_CAST(const gdv_device *, user);
     VkDescriptorSetAllocateInfo info;
     memset(&info, 0, sizeof info);
     info.sType = VK_STRUCTURE_TYPE_DESCRIPTOR_SET_ALLOCATE_INFO;
     info.descriptorPool = GDV_HANDLE(VkDescriptorPool, pool);
     info.descriptorSetCount = count;
-    info.pSetLayouts = (const VkDescriptorSetLayout *)(const void *)layouts;
-    return gdv_reason(it->allocate_sets(it->device, &info, (VkDescriptorSet *)(void *)sets));
+    info.pSetLayouts = GDV_CAST(const VkDescriptorSetLayout *, GDV_CAST(const void *, layouts));
+    VkDescriptorSet *handles = GDV_CAST(VkDescriptorSet *, GDV_CAST(void *, sets));
+    return gdv_reason(it->allocate_sets(it->device, &info, handles));
 }
 
-static inline void gdv_free_sets(void *user, uint64_t pool, uint32_t count,
+GD_INLINE void gdv_free_sets(void *user, uint64_t pool, uint32_t count,
                                  const uint64_t *sets) GD_NOEXCEPT {
-    const gdv_device *it = (const gdv_device *)user;
+    const gdv_device *it = GDV_CAST(const gdv_device *, user);
     /* It returns VK_SUCCESS, always. */
     (void)it->free_sets(it->device, GDV_HANDLE(VkDescriptorPool, pool), count,
-                        (const VkDescriptorSet *)(const void *)sets);
+                        GDV_CAST(const VkDescriptorSet *, GDV_CAST(const void *, sets)));
 }
 
 /* ---- your calls ---- */
 
-#ifndef VK_NO_PROTOTYPES
-/* Writes a gdv_device. The callbacks aren't copied: they must stay valid until gd_destroy. */
-static inline void gdv_init(gdv_device *vulkan, VkDevice device,
-                            const VkAllocationCallbacks *callbacks) {
+/* Writes a gdv_device. */
+GD_INLINE void gdv_set(gdv_device *vulkan, VkDevice device, const VkAllocationCallbacks *callbacks,
+                           PFN_vkCreateDescriptorPool create_pool,
+                           PFN_vkDestroyDescriptorPool destroy_pool,
+                           PFN_vkAllocateDescriptorSets allocate_sets,
+                           PFN_vkFreeDescriptorSets free_sets) {
     vulkan->device = device;
     vulkan->callbacks = callbacks;
-    vulkan->create_pool = vkCreateDescriptorPool;
-    vulkan->destroy_pool = vkDestroyDescriptorPool;
-    vulkan->allocate_sets = vkAllocateDescriptorSets;
-    vulkan->free_sets = vkFreeDescriptorSets;
+    vulkan->create_pool = create_pool;
+    vulkan->destroy_pool = destroy_pool;
+    vulkan->allocate_sets = allocate_sets;
+    vulkan->free_sets = free_sets;
+}
+
+/* The same with the functions that have Vulkan's names where it is called. */
+#ifdef VK_NO_PROTOTYPES
+#define gdv_init(vulkan, device, callbacks)                                                              \
+    gdv_set(vulkan, device, callbacks, vkCreateDescriptorPool, vkDestroyDescriptorPool,                  \
+            vkAllocateDescriptorSets, vkFreeDescriptorSets)
+#else
+GD_INLINE void gdv_init(gdv_device *vulkan, VkDevice device,
+                            const VkAllocationCallbacks *callbacks) {
+    gdv_set(vulkan, device, callbacks, vkCreateDescriptorPool, vkDestroyDescriptorPool,
+            vkAllocateDescriptorSets, vkFreeDescriptorSets);
 }
 #endif
 
-/* The gd_device of a VkDevice, for gd_create. 'vulkan' must stay where it is until gd_destroy. */
-static inline gd_device gdv_functions(gdv_device *vulkan) {
+#ifdef __cplusplus
+#define GDV_FUNCTION(name, load, device) (reinterpret_cast<PFN_##name>(load(device, #name)))
+#else
+#define GDV_FUNCTION(name, load, device) ((PFN_##name)load(device, #name))
+#endif
+
+/* The same with the functions that vkGetDeviceProcAddr gives. GD_NULL_POINTER if one is missing. */
+GD_INLINE gd_status gdv_load(gdv_device *vulkan, VkDevice device,
+                                 const VkAllocationCallbacks *callbacks, PFN_vkGetDeviceProcAddr load) {
+    if (vulkan == NULL || load == NULL)
+        return GD_NULL_POINTER;
+    gdv_set(vulkan, device, callbacks, GDV_FUNCTION(vkCreateDescriptorPool, load, device),
+            GDV_FUNCTION(vkDestroyDescriptorPool, load, device),
+            GDV_FUNCTION(vkAllocateDescriptorSets, load, device),
+            GDV_FUNCTION(vkFreeDescriptorSets, load, device));
+    return vulkan->create_pool == NULL || vulkan->destroy_pool == NULL || vulkan->allocate_sets == NULL ||
+                   vulkan->free_sets == NULL
+               ? GD_NULL_POINTER
+               : GD_OK;
+}
+
+/* The gd_device of a VkDevice, for gd_create: 'vulkan' must stay where it is until gd_destroy. */
+GD_INLINE gd_device gdv_functions(gdv_device *vulkan) {
     gd_device device;
     device.user = vulkan;
     device.create_pool = gdv_create_pool;
@@ -219,38 +262,73 @@ static inline gd_device gdv_functions(gdv_device *vulkan) {
     return device;
 }
 
+/* What an allocator has inside: a copy of a gdv_device and of its callbacks. */
+typedef struct gdv_copy {
+    gdv_device vulkan;
+    VkAllocationCallbacks callbacks;
+} gdv_copy;
+
+GD_INLINE gdv_device gdv_inside(void *user) {
+    const gdv_copy *copy = GDV_CAST(const gdv_copy *, user);
+    gdv_device vulkan = copy->vulkan;
+    if (vulkan.callbacks != NULL)
+        vulkan.callbacks = &copy->callbacks;
+    return vulkan;
+}
+
+GD_INLINE gd_status gdv_create_pool_inside(void *user, const gd_pool_info *pool_info,
+                                               uint64_t *pool) GD_NOEXCEPT {
+    gdv_device vulkan = gdv_inside(user);
+    return gdv_create_pool(&vulkan, pool_info, pool);
+}
+
+GD_INLINE void gdv_destroy_pool_inside(void *user, uint64_t pool) GD_NOEXCEPT {
+    gdv_device vulkan = gdv_inside(user);
+    gdv_destroy_pool(&vulkan, pool);
+}
+
 /*
  * Creates an allocator for a VkDevice. 'limit' is the device's maxUpdateAfterBindDescriptorsInAllPools;
- * without update-after-bind layouts it doesn't matter. 'flags' are those of gd_create_with_flags. 'vulkan'
- * must stay where it is until gd_destroy.
+ * without update-after-bind layouts it doesn't matter. 'flags' are those of gd_create_with_flags. 'vulkan' and
+ * its callbacks are copied.
  *
  * GD_NULL_POINTER, also if a function of 'vulkan' is NULL; GD_BAD_FLAGS, GD_OUT_OF_HOST_MEMORY,
  * GD_BAD_VERSION.
  */
-static inline gd_status gdv_create_with_flags(gdv_device *vulkan, uint32_t limit, uint32_t flags,
+GD_INLINE gd_status gdv_create_with_flags(const gdv_device *vulkan, uint32_t limit, uint32_t flags,
                                               gd_allocator *allocator) {
+    gdv_copy copy;
+    memset(&copy, 0, sizeof copy);
     if (allocator != NULL)
         memset(allocator, 0, sizeof *allocator);
     if (vulkan == NULL || vulkan->create_pool == NULL || vulkan->destroy_pool == NULL ||
         vulkan->allocate_sets == NULL || vulkan->free_sets == NULL)
         return GD_NULL_POINTER;
-    gd_device device = gdv_functions(vulkan);
-    return gd_create_with_flags(&device, limit, flags, allocator);
+    copy.vulkan = *vulkan;
+    if (vulkan->callbacks != NULL)
+        copy.callbacks = *vulkan->callbacks;
+    gd_device device;
+    device.user = &copy;
+    device.create_pool = gdv_create_pool_inside;
+    device.destroy_pool = gdv_destroy_pool_inside;
+    device.allocate_sets = gdv_allocate_sets; /* a gdv_copy begins with a gdv_device */
+    device.free_sets = gdv_free_sets;
+    return gd_create_with_copy(&device, sizeof copy, limit, flags, allocator);
 }
 
 /* The same without flags. */
-static inline gd_status gdv_create(gdv_device *vulkan, uint32_t limit, gd_allocator *allocator) {
+GD_INLINE gd_status gdv_create(const gdv_device *vulkan, uint32_t limit, gd_allocator *allocator) {
     return gdv_create_with_flags(vulkan, limit, 0, allocator);
 }
 
 /* Whether a binding has a variable count. */
-static inline int gdv_is_variable(const VkDescriptorSetLayoutCreateInfo *info) {
-    const VkBaseInStructure *next = (const VkBaseInStructure *)info->pNext;
+GD_INLINE int gdv_is_variable(const VkDescriptorSetLayoutCreateInfo *info) {
+    const VkBaseInStructure *next = GDV_CAST(const VkBaseInStructure *, info->pNext);
     for (; next != NULL; next = next->pNext) {
         if (next->sType != VK_STRUCTURE_TYPE_DESCRIPTOR_SET_LAYOUT_BINDING_FLAGS_CREATE_INFO)
             continue;
-        const VkDescriptorSetLayoutBindingFlagsCreateInfo *flags =
-            (const VkDescriptorSetLayoutBindingFlagsCreateInfo *)(const void *)next;
+        const VkDescriptorSetLayoutBindingFlagsCreateInfo *flags = GDV_CAST(
+            const VkDescriptorSetLayoutBindingFlagsCreateInfo *, GDV_CAST(const void *, next));
         for (uint32_t number = 0; number < flags->bindingCount; number++)
             if (flags->pBindingFlags[number] & VK_DESCRIPTOR_BINDING_VARIABLE_DESCRIPTOR_COUNT_BIT)
                 return 1;
@@ -267,7 +345,7 @@ static inline int gdv_is_variable(const VkDescriptorSetLayoutCreateInfo *info) {
  * GD_BAD_COUNTS for a type that has no kind, a count past 32 bits, a binding with a variable count, and
  * other flags than update-after-bind: push descriptors, descriptor buffers, host-only layouts.
  */
-static inline gd_status gdv_count(const VkDescriptorSetLayoutCreateInfo *info,
+GD_INLINE gd_status gdv_count(const VkDescriptorSetLayoutCreateInfo *info,
                                   uint32_t counts[GD_KINDS], uint32_t *flags) {
     memset(counts, 0, GD_KINDS * sizeof *counts);
     *flags = info->flags & VK_DESCRIPTOR_SET_LAYOUT_CREATE_UPDATE_AFTER_BIND_POOL_BIT;
@@ -288,7 +366,7 @@ static inline gd_status gdv_count(const VkDescriptorSetLayoutCreateInfo *info,
 }
 
 /* gdv_count and gd_add_layout, with the statuses of both. */
-static inline gd_status gdv_add_layout(gd_allocator allocator, VkDescriptorSetLayout layout,
+GD_INLINE gd_status gdv_add_layout(gd_allocator allocator, VkDescriptorSetLayout layout,
                                        const VkDescriptorSetLayoutCreateInfo *info,
                                        gd_layout *known) {
     uint32_t counts[GD_KINDS];

@@ -16,6 +16,10 @@ use std_alloc::vec::Vec;
 /// created, and no later call of the pool allocates.
 pub struct HostDevice {
     user: *mut c_void,
+
+    /// What `user` leads to, if it is copied.
+    #[allow(dead_code)]
+    copied: Vec<u64>,
     create_pool: CreatePool,
     destroy_pool: DestroyPool,
     allocate_sets: AllocateSets,
@@ -45,6 +49,7 @@ impl HostDevice {
     pub fn new(device: &GdDevice) -> Option<Self> {
         Some(HostDevice {
             user: device.user,
+            copied: Vec::new(),
             create_pool: device.create_pool?,
             destroy_pool: device.destroy_pool?,
             allocate_sets: device.allocate_sets?,
@@ -56,6 +61,24 @@ impl HostDevice {
             pools: Cell::new(0),
             cause: Cell::new(GdStatus::OK),
         })
+    }
+
+    /// Copies so many bytes that `user` leads to, aligned as 64 bits are.
+    ///
+    /// # Safety
+    ///
+    /// There are so many bytes.
+    pub unsafe fn copy_user(&mut self, size: usize) -> Result<(), AllocError> {
+        let words = size.div_ceil(size_of::<u64>());
+        self.copied
+            .try_reserve_exact(words)
+            .map_err(|_| AllocError)?;
+        self.copied.resize(words, 0);
+        let copy = self.copied.as_mut_ptr().cast();
+        // SAFETY: the copy has no fewer bytes, and is new.
+        unsafe { core::ptr::copy_nonoverlapping(self.user.cast::<u8>(), copy, size) };
+        self.user = copy.cast();
+        Ok(())
     }
 
     /// Reserves memory for the handles of so many sets.

@@ -54,6 +54,7 @@ pub extern "C" fn gd_status_name(status: GdStatus) -> *const c_char {
 pub unsafe extern "C" fn gd_create_checked(
     header: u64,
     device: *const GdDevice,
+    user_size: usize,
     limit: u32,
     flags: u32,
     allocator: *mut GdAllocator,
@@ -70,11 +71,15 @@ pub unsafe extern "C" fn gd_create_checked(
         return GdStatus::NULL_POINTER;
     }
     // SAFETY: the header's.
-    let Some(device) = HostDevice::new(unsafe { &*device }) else {
+    let Some(mut device) = HostDevice::new(unsafe { &*device }) else {
         return GdStatus::NULL_POINTER;
     };
     if flags & !EXTERNALLY_SYNCHRONIZED != 0 {
         return GdStatus::BAD_FLAGS;
+    }
+    // SAFETY: the header's.
+    if user_size > 0 && unsafe { device.copy_user(user_size) }.is_err() {
+        return GdStatus::OUT_OF_HOST_MEMORY;
     }
     let waits = flags & EXTERNALLY_SYNCHRONIZED == 0;
     match slot::create(waits, |id| Allocator::new(id, device, limit)) {

@@ -1,0 +1,283 @@
+// The owners of gpu_descriptor.hpp over a device that counts: each way in which they end, are moved and fail.
+#include "gpu_descriptor.hpp"
+
+#include <cstdio>
+#include <cstdlib>
+#include <thread>
+#include <vector>
+
+#define CHECK(fact) ((fact) ? void() : fail(__LINE__, #fact))
+
+namespace {
+
+[[noreturn]] void fail(int line, const char *what) {
+    std::printf("owners.cpp:%d: failed: %s\n", line, what);
+    std::exit(1);
+}
+
+struct world {
+    uint64_t handles = 0, pools = 0, sets = 0, calls_of_free = 0;
+    bool is_full = false, gives_zero = false;
+    gd::set *back = nullptr; // ended in the next call
+};
+
+world &world_of(void *user) {
+    return *static_cast<world *>(user);
+}
+
+gd_status create_pool(void *user, const gd_pool_info *, uint64_t *pool) noexcept {
+    if (world_of(user).is_full)
+        return GD_OUT_OF_DEVICE_MEMORY;
+    world_of(user).pools++;
+    *pool = ++world_of(user).handles;
+    return GD_OK;
+}
+
+void destroy_pool(void *user, uint64_t) noexcept {
+    world_of(user).pools--;
+}
+
+gd_status allocate_sets(void *user, uint64_t, uint32_t count, const uint64_t *, uint64_t *sets) noexcept {
+    world &it = world_of(user);
+    if (it.back != nullptr) {
+        CHECK(it.back->free() == GD_BUSY && *it.back);
+        CHECK(it.back->free_after(1) == GD_BUSY && *it.back);
+        it.back = nullptr;
+    }
+    if (it.is_full)
+        return GD_OUT_OF_DEVICE_MEMORY;
+    it.sets += count;
+    for (uint32_t index = 0; index < count; index++)
+        sets[index] = it.gives_zero ? 0 : ++it.handles;
+    return GD_OK;
+}
+
+void free_sets(void *user, uint64_t, uint32_t count, const uint64_t *) noexcept {
+    world_of(user).sets -= count;
+    world_of(user).calls_of_free++;
+}
+
+gd_device device_of(world &it) {
+    return {&it, create_pool, destroy_pool, allocate_sets, free_sets};
+}
+
+// An allocator that keeps no set, and a layout.
+struct room {
+    world device;
+    gd::allocator allocator;
+    gd_layout layout{};
+
+    room() {
+        const uint32_t kinds[GD_KINDS] = {1};
+        CHECK(allocator.create(device_of(device), 100) == GD_OK);
+        CHECK(gd_keep(allocator.raw(), 0) == GD_OK);
+        CHECK(gd_add_layout(allocator.raw(), 7, kinds, 0, &layout) == GD_OK);
+    }
+
+    uint64_t waiting() const {
+        uint64_t sets = 0;
+        CHECK(gd_waiting(allocator.raw(), &sets) == GD_OK);
+        return sets;
+    }
+
+    gd::set one() {
+        gd::set made;
+        CHECK(allocator.allocate(layout, made) == GD_OK && made);
+        return made;
+    }
+};
+
+void end_sets() {
+    room it;
+    { gd::set made = it.one(); }
+    CHECK(it.device.sets == 0);
+    {
+        gd::set made = it.one();
+        made.used_in(5);
+        made.used_in(3); // the highest counts
+    }
+    CHECK(it.device.sets == 1 && it.waiting() == 1);
+    CHECK(gd_frame_done(it.allocator.raw(), 4) == GD_OK && it.waiting() == 1);
+    CHECK(gd_frame_done(it.allocator.raw(), 5) == GD_OK && it.device.sets == 0);
+    gd::set made = it.one();
+    made.used_in(9);
+    CHECK(made.free() == GD_OK && !made && it.device.sets == 0 && it.waiting() == 0);
+    made = it.one(); // the frame was the old one's
+    CHECK(made.reset() == GD_OK && it.device.sets == 0 && made.reset() == GD_OK);
+    made = it.one();
+    CHECK(made.free_after(2) == GD_OK && !made && it.waiting() == 1 && made.free_after(3) == GD_OK);
+    made.used_in(7); // without a set
+    made = it.one();
+    CHECK(made.reset() == GD_OK && it.waiting() == 1);
+}
+
+void move_sets() {
+    room it;
+    gd::set first = it.one(), second = it.one();
+    const uint64_t kept = second.handle();
+    first = std::move(second);
+    CHECK(it.device.sets == 1 && first.handle() == kept && !second); // NOLINT: a moved owner is empty
+    gd::set &same = first;
+    first = std::move(same);
+    CHECK(it.device.sets == 1 && first.handle() == kept);
+    first.used_in(4);
+    gd::set third = std::move(first);
+    CHECK(!first && third.handle() == kept); // NOLINT
+    third = gd::set();
+    CHECK(it.waiting() == 1 && it.device.sets == 1);
+    gd::set fourth = it.one();
+    const gd_set raw = fourth.release();
+    CHECK(!fourth && gd_free(it.allocator.raw(), &raw, 1) == GD_OK);
+}
+
+// What fails keeps its set, and a failed allocation keeps the old one.
+void fail_sets() {
+    room it;
+    gd::set old = it.one(), inside = it.one();
+    const uint64_t handle = old.handle();
+    it.device.is_full = true;
+    for (int count = 0; count < 62; count++) {
+        it.device.is_full = false;
+        (void)it.one().release();
+    }
+    it.device.is_full = true;
+    CHECK(it.allocator.allocate(it.layout, old) == GD_OUT_OF_DEVICE_MEMORY && old.handle() == handle);
+    gd::sets many;
+    CHECK(it.allocator.allocate(it.layout, 5, many) == GD_OUT_OF_DEVICE_MEMORY && many.size() == 0);
+    it.device.is_full = false;
+    it.device.back = &inside;
+    (void)it.one().release();
+    CHECK(it.device.back == nullptr && inside);
+    CHECK(gd_free_all(it.allocator.raw()) == GD_OK);
+    CHECK(inside.free_after(3) == GD_BAD_SET && inside && inside.free() == GD_BAD_SET && inside);
+    CHECK(old.free() == GD_BAD_SET && old);
+}
+
+// A driver may give the handle 0: it is a set nevertheless.
+void own_a_handle_of_zero() {
+    room it;
+    it.device.gives_zero = true;
+    {
+        gd::set made = it.one();
+        CHECK(made.handle() == 0 && made && made.vk() == gd::vk_descriptor_set());
+    }
+    CHECK(it.device.sets == 0);
+}
+
+void own_batches() {
+    room it;
+    gd::sets many, other;
+    CHECK(it.allocator.allocate(it.layout, 10, many) == GD_OK && many.size() == 10 && it.device.sets == 10);
+    uint32_t place = 0;
+    for (const gd_set &each : many)
+        CHECK(each.name == many[place].name && many.vk(place++) == gd::vk(each) && each.handle != 0);
+    CHECK(place == 10);
+    CHECK(it.allocator.allocate(it.layout, 3, other) == GD_OK && it.device.sets == 13);
+    it.device.calls_of_free = 0;
+    many = std::move(other);
+    CHECK(many.size() == 3 && other.size() == 0 && it.device.sets == 3); // NOLINT: a moved owner is empty
+    CHECK(it.device.calls_of_free == 1);
+    gd::sets &same = many;
+    many = std::move(same);
+    CHECK(many.size() == 3 && it.device.sets == 3);
+    many.used_in(6);
+    { gd::sets moved = std::move(many); }
+    CHECK(it.waiting() == 3 && many.reset() == GD_OK); // NOLINT
+    CHECK(it.allocator.allocate(it.layout, 2, many) == GD_OK && many.free() == GD_OK && many.size() == 0);
+    CHECK(it.device.sets == 3 && it.allocator.allocate(it.layout, 2, many) == GD_OK);
+    CHECK(many.free_after(6) == GD_OK && it.waiting() == 5);
+    CHECK(it.allocator.allocate(it.layout, 4, many) == GD_OK);
+    CHECK(gd_free_all(it.allocator.raw()) == GD_OK && many.free() == GD_BAD_SET && many.size() == 4);
+    CHECK(many.free_after(8) == GD_BAD_SET && many.size() == 4);
+}
+
+void draw_frames() {
+    room it;
+    gd_set drawn[40];
+    {
+        gd::frame frame(it.allocator, 3);
+        CHECK(frame.allocate(it.layout, drawn[0]) == GD_OK && drawn[0].handle != 0);
+        CHECK(frame.allocate(it.layout, 39, drawn + 1) == GD_OK && frame.size() == 40);
+        gd::frame moved = std::move(frame);
+        CHECK(frame.size() == 0 && moved.size() == 40 && it.waiting() == 0); // NOLINT
+    }
+    CHECK(it.waiting() == 40 && gd_free(it.allocator.raw(), drawn, 1) == GD_BAD_SET);
+    CHECK(gd_frame_done(it.allocator.raw(), 2) == GD_OK && it.device.sets == 40);
+    CHECK(gd_frame_done(it.allocator.raw(), 3) == GD_OK && it.device.sets == 0);
+    gd::frame frame(it.allocator, 4);
+    CHECK(frame.allocate(it.layout, 2, drawn) == GD_OK && frame.begin(5) == GD_OK && frame.number() == 5);
+    CHECK(frame.allocate(it.layout, 3, drawn) == GD_OK);
+    CHECK(gd_frame_done(it.allocator.raw(), 4) == GD_OK && it.device.sets == 3 && frame.size() == 3);
+    frame = gd::frame(it.allocator, 6);
+    CHECK(it.waiting() == 3 && frame.number() == 6);
+    it.device.is_full = true;
+    CHECK(frame.allocate(it.layout, 40, drawn) == GD_OUT_OF_DEVICE_MEMORY && frame.size() == 0);
+    it.device.is_full = false;
+    CHECK(frame.allocate(it.layout, 1, drawn) == GD_OK && gd_free_all(it.allocator.raw()) == GD_OK);
+    CHECK(frame.begin(7) == GD_BAD_SET && frame.number() == 6 && frame.size() == 1);
+}
+
+void own_allocators() {
+    world first, second;
+    gd::set late;
+    {
+        const uint32_t kinds[GD_KINDS] = {1};
+        gd_layout layout{};
+        gd::allocator it;
+        CHECK(!it && it.destroy() == GD_OK && it.create(device_of(first), 0) == GD_OK);
+        CHECK(gd_add_layout(it.raw(), 7, kinds, 0, &layout) == GD_OK);
+        CHECK(it.allocate(layout, late) == GD_OK && first.pools == 1);
+        // put() over an allocator that it has
+        const gd_device other = device_of(second);
+        CHECK(gd_create(&other, 0, it.put()) == GD_OK && first.pools == 0 && first.sets == 0);
+        CHECK(gd_add_layout(it.raw(), 7, kinds, 0, &layout) == GD_OK);
+        CHECK(it.allocate(layout, late) == GD_OK && second.sets == 1);
+        gd::allocator &same = it;
+        it = std::move(same);
+        CHECK(it && second.sets == 1);
+        gd::allocator moved;
+        CHECK(moved.create(device_of(first), 0, GD_EXTERNALLY_SYNCHRONIZED) == GD_OK);
+        moved = std::move(it);
+        CHECK(!it && second.sets == 1); // NOLINT
+        const gd_allocator raw = moved.release();
+        CHECK(!moved && gd_pool_count(raw, &second.handles) == GD_OK);
+        gd::allocator again(raw), last(std::move(again));
+        CHECK(!again && last.raw().id == raw.id); // NOLINT
+    }
+    CHECK(second.pools == 0 && second.sets == 0 && first.pools == 0);
+    CHECK(late && late.free() == GD_BAD_ALLOCATOR); // it does nothing
+    gd::allocator wrong;
+    CHECK(wrong.create(device_of(first), 0, 2) == GD_BAD_FLAGS && !wrong);
+}
+
+// Owners end in several threads, and none loses its set.
+void end_in_threads() {
+    room it;
+    std::vector<std::thread> threads;
+    for (int thread = 0; thread < 4; thread++)
+        threads.emplace_back([&it] {
+            for (int turn = 0; turn < 2000; turn++) {
+                gd::set made;
+                CHECK(it.allocator.allocate(it.layout, made) == GD_OK);
+            }
+        });
+    for (std::thread &each : threads)
+        each.join();
+    CHECK(it.device.sets == 0);
+}
+
+} // namespace
+
+int main(int words, char **) {
+    end_sets();
+    move_sets();
+    fail_sets();
+    own_a_handle_of_zero();
+    own_batches();
+    draw_frames();
+    own_allocators();
+    if (words < 2) // with a word: the library is one in which no call waits
+        end_in_threads();
+    std::printf("each owner frees its sets once\n");
+    return 0;
+}

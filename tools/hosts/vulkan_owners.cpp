@@ -1,0 +1,145 @@
+// Owners over gpu_descriptor_vulkan.h, over functions of its own: a renderer that is moved, the types of
+// Vulkan, and the functions of a device by their names and by vkGetDeviceProcAddr. There are no prototypes, but
+// pointers with their names, as volk has them.
+#define VK_NO_PROTOTYPES
+#include <vulkan/vulkan.h>
+
+extern PFN_vkCreateDescriptorPool vkCreateDescriptorPool;
+extern PFN_vkDestroyDescriptorPool vkDestroyDescriptorPool;
+extern PFN_vkAllocateDescriptorSets vkAllocateDescriptorSets;
+extern PFN_vkFreeDescriptorSets vkFreeDescriptorSets;
+
+#include "gpu_descriptor.hpp"
+#include "gpu_descriptor_vulkan.h"
+
+#include <cstdio>
+#include <cstdlib>
+#include <cstring>
+#include <memory>
+#include <type_traits>
+
+#define CHECK(fact) ((fact) ? void() : fail(__LINE__, #fact))
+
+static_assert(std::is_same<decltype(gd::set().vk()), VkDescriptorSet>::value, "it is Vulkan's");
+
+namespace {
+
+[[noreturn]] void fail(int line, const char *what) {
+    std::printf("vulkan_owners.cpp:%d: failed: %s\n", line, what);
+    std::exit(1);
+}
+
+uint64_t next_handle, pools, sets_alive, blocks;
+const char *missing = "";
+
+VKAPI_ATTR VkResult VKAPI_CALL create_pool(VkDevice, const VkDescriptorPoolCreateInfo *,
+                                           const VkAllocationCallbacks *callbacks, VkDescriptorPool *pool) {
+    if (callbacks != nullptr)
+        CHECK(callbacks->pUserData == &blocks);
+    blocks += callbacks != nullptr;
+    pools++;
+    *pool = GDV_HANDLE(VkDescriptorPool, ++next_handle);
+    return VK_SUCCESS;
+}
+
+VKAPI_ATTR void VKAPI_CALL destroy_pool(VkDevice, VkDescriptorPool, const VkAllocationCallbacks *callbacks) {
+    if (callbacks != nullptr)
+        CHECK(callbacks->pUserData == &blocks);
+    blocks -= callbacks != nullptr;
+    pools--;
+}
+
+VKAPI_ATTR VkResult VKAPI_CALL allocate_sets(VkDevice, const VkDescriptorSetAllocateInfo *info, VkDescriptorSet *sets) {
+    for (uint32_t at = 0; at < info->descriptorSetCount; at++)
+        sets[at] = GDV_HANDLE(VkDescriptorSet, ++next_handle);
+    sets_alive += info->descriptorSetCount;
+    return VK_SUCCESS;
+}
+
+VKAPI_ATTR VkResult VKAPI_CALL free_sets(VkDevice, VkDescriptorPool, uint32_t count, const VkDescriptorSet *) {
+    sets_alive -= count;
+    return VK_SUCCESS;
+}
+
+template <class Function> PFN_vkVoidFunction any(Function function) {
+    return reinterpret_cast<PFN_vkVoidFunction>(function);
+}
+
+VKAPI_ATTR PFN_vkVoidFunction VKAPI_CALL load(VkDevice, const char *name) {
+    if (std::strcmp(name, missing) == 0)
+        return nullptr;
+    if (std::strcmp(name, "vkCreateDescriptorPool") == 0)
+        return any(create_pool);
+    if (std::strcmp(name, "vkDestroyDescriptorPool") == 0)
+        return any(destroy_pool);
+    if (std::strcmp(name, "vkAllocateDescriptorSets") == 0)
+        return any(allocate_sets);
+    return std::strcmp(name, "vkFreeDescriptorSets") == 0 ? any(free_sets) : nullptr;
+}
+
+struct renderer {
+    VkAllocationCallbacks callbacks{};
+    gdv_device vulkan{};
+    gd::allocator allocator;
+    gd_layout layout{};
+};
+
+void fill(renderer &it) {
+    const uint32_t kinds[GD_KINDS] = {1};
+    it.callbacks.pUserData = &blocks;
+    CHECK(gdv_load(&it.vulkan, nullptr, &it.callbacks, load) == GD_OK);
+    CHECK(gdv_create(&it.vulkan, 0, it.allocator.put()) == GD_OK);
+    CHECK(gd_add_layout(it.allocator.raw(), 7, kinds, 0, &it.layout) == GD_OK);
+}
+
+// The device and the callbacks of its pools are inside of the allocator.
+void move_a_renderer() {
+    auto first = std::make_unique<renderer>();
+    fill(*first);
+    auto second = std::make_unique<renderer>(std::move(*first));
+    std::memset(static_cast<void *>(&first->vulkan), 0xff, sizeof first->vulkan);
+    std::memset(static_cast<void *>(&first->callbacks), 0xff, sizeof first->callbacks);
+    first.reset();
+    gd::set made;
+    CHECK(second->allocator.allocate(second->layout, made) == GD_OK && pools == 1 && blocks == 1);
+    CHECK(made.vk() == gdv_handle(made.raw()) && made.vk() != VK_NULL_HANDLE);
+    second.reset();
+    CHECK(pools == 0 && blocks == 0 && sets_alive == 0);
+}
+
+void take_functions() {
+    gdv_device vulkan{};
+    gd_allocator allocator{};
+    const char *names[] = {"vkCreateDescriptorPool", "vkDestroyDescriptorPool", "vkAllocateDescriptorSets",
+                           "vkFreeDescriptorSets"};
+    for (const char *name : names) {
+        missing = name;
+        CHECK(gdv_load(&vulkan, nullptr, nullptr, load) == GD_NULL_POINTER);
+        allocator.id = 77;
+        CHECK(gdv_create(&vulkan, 0, &allocator) == GD_NULL_POINTER && allocator.id == 0);
+    }
+    missing = "";
+    CHECK(gdv_load(&vulkan, nullptr, nullptr, nullptr) == GD_NULL_POINTER);
+    CHECK(gdv_load(nullptr, nullptr, nullptr, load) == GD_NULL_POINTER);
+    CHECK(gdv_create(nullptr, 0, &allocator) == GD_NULL_POINTER);
+    gdv_init(&vulkan, nullptr, nullptr);
+    CHECK(vulkan.create_pool == create_pool && vulkan.destroy_pool == destroy_pool);
+    CHECK(vulkan.allocate_sets == allocate_sets && vulkan.free_sets == free_sets);
+    CHECK(gdv_create(&vulkan, 0, nullptr) == GD_NULL_POINTER);
+    CHECK(gdv_create_with_flags(&vulkan, 0, 2, &allocator) == GD_BAD_FLAGS);
+    CHECK(gdv_create(&vulkan, 0, &allocator) == GD_OK && gd_destroy(allocator) == GD_OK);
+}
+
+} // namespace
+
+PFN_vkCreateDescriptorPool vkCreateDescriptorPool = create_pool;
+PFN_vkDestroyDescriptorPool vkDestroyDescriptorPool = destroy_pool;
+PFN_vkAllocateDescriptorSets vkAllocateDescriptorSets = allocate_sets;
+PFN_vkFreeDescriptorSets vkFreeDescriptorSets = free_sets;
+
+int main() {
+    move_a_renderer();
+    take_functions();
+    std::printf("a renderer is moved\n");
+    return 0;
+}
