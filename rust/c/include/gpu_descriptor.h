@@ -200,6 +200,16 @@ typedef struct gd_set {
     uint64_t owner;
 } gd_set;
 
+/* Numbers of an allocator. */
+typedef struct gd_statistics {
+    uint64_t outstanding; /* sets, those that wait for a frame included */
+    uint64_t waiting;     /* sets that wait for a frame */
+    uint64_t kept;        /* sets that are kept, of all layouts */
+    uint64_t pools;       /* pools that exist */
+    uint64_t layouts;
+    uint64_t most_pool_descriptors; /* as gd_set_most_pool_descriptors was given it */
+} gd_statistics;
+
 /* The version of the library, by GD_MAKE_VERSION. */
 uint32_t gd_version(void);
 
@@ -208,7 +218,8 @@ const char *gd_status_name(gd_status status);
 
 /* The ABI's number and the sizes of structs, which gd_create compares with the library's. */
 #define GD_HEADER                                                                                       \
-    (GD_ABI * (UINT64_C(1) << 40) + sizeof(gd_device) * (UINT64_C(1) << 32) +                           \
+    (GD_ABI * (UINT64_C(1) << 48) + sizeof(gd_statistics) * (UINT64_C(1) << 40) +                       \
+     sizeof(gd_device) * (UINT64_C(1) << 32) +                           \
      sizeof(gd_pool_info) * (UINT64_C(1) << 24) + sizeof(gd_allocator) * (UINT64_C(1) << 16) +          \
      sizeof(gd_layout) * (UINT64_C(1) << 8) + sizeof(gd_set))
 
@@ -363,6 +374,23 @@ gd_status gd_cleanup(gd_allocator allocator);
 gd_status gd_outstanding(gd_allocator allocator, uint64_t *sets);
 gd_status gd_waiting(gd_allocator allocator, uint64_t *sets);
 gd_status gd_pool_count(gd_allocator allocator, uint64_t *pools);
+
+/*
+ * All numbers at once, and how many sets of a layout are kept. The times are as above.
+ *
+ * GD_NULL_POINTER, GD_BAD_LAYOUT, GD_BAD_ALLOCATOR, GD_BUSY, GD_INTERNAL_ERROR.
+ */
+gd_status gd_get_statistics(gd_allocator allocator, gd_statistics *statistics);
+gd_status gd_kept(gd_allocator allocator, gd_layout layout, uint64_t *sets);
+
+/*
+ * Writes the numbers as JSON, also by layout: at most 'room' bytes, of which the last is a zero, as snprintf does.
+ * 'length' is how long the text is without it: if that isn't less than 'room', the text was cut. 'text' may be
+ * NULL if 'room' is 0. It allocates nothing.
+ *
+ * GD_NULL_POINTER, GD_BAD_ALLOCATOR, GD_BUSY, GD_INTERNAL_ERROR.
+ */
+gd_status gd_write_statistics(gd_allocator allocator, char *text, size_t room, size_t *length);
 
 #ifdef __cplusplus
 }

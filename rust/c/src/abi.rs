@@ -7,7 +7,8 @@ use core::ffi::{CStr, c_void};
 pub const ABI: u64 = 1;
 
 /// `GD_HEADER`.
-pub const HEADER: u64 = ABI << 40
+pub const HEADER: u64 = ABI << 48
+    | (size_of::<GdStatistics>() as u64) << 40
     | (size_of::<GdDevice>() as u64) << 32
     | (size_of::<GdPoolInfo>() as u64) << 24
     | (size_of::<GdAllocator>() as u64) << 16
@@ -115,11 +116,24 @@ impl GdSet {
     };
 }
 
+/// `gd_statistics`.
+#[repr(C)]
+#[derive(Clone, Copy)]
+pub struct GdStatistics {
+    pub outstanding: u64,
+    pub waiting: u64,
+    pub kept: u64,
+    pub pools: u64,
+    pub layouts: u64,
+    pub most_pool_descriptors: u64,
+}
+
 /// The sizes that C gives them.
 const _: () = {
     assert!(size_of::<GdPoolInfo>() == 64);
     assert!(size_of::<GdDevice>() == 5 * size_of::<usize>());
     assert!(size_of::<GdLayout>() == 16 && size_of::<GdSet>() == 24);
+    assert!(size_of::<GdStatistics>() == 48);
 };
 
 #[cfg(test)]

@@ -16,6 +16,8 @@ use crate::known::Known;
 
 type HostRenderer = Renderer<u64, u64, u64, HostDevice>;
 
+mod statistics;
+
 pub struct Allocator {
     id: u64,
     renderer: HostRenderer,

@@ -4,7 +4,9 @@
 //! header says: valid, as long as its count, and not in use elsewhere.
 #![allow(clippy::missing_safety_doc)]
 
-use crate::abi::{EXTERNALLY_SYNCHRONIZED, GdDevice, GdLayout, GdSet, GdStatus, HEADER};
+use crate::abi::{
+    EXTERNALLY_SYNCHRONIZED, GdDevice, GdLayout, GdSet, GdStatistics, GdStatus, HEADER,
+};
 use crate::allocator::Allocator;
 use crate::device::HostDevice;
 use crate::slot::{self, GdAllocator};
@@ -245,6 +247,95 @@ pub unsafe extern "C" fn gd_cleanup(allocator: GdAllocator) -> GdStatus {
     unsafe {
         slot::enter(allocator, |it| {
             it.cleanup();
+            GdStatus::OK
+        })
+    }
+}
+
+#[unsafe(no_mangle)]
+pub unsafe extern "C" fn gd_get_statistics(
+    allocator: GdAllocator,
+    statistics: *mut GdStatistics,
+) -> GdStatus {
+    if statistics.is_null() {
+        return GdStatus::NULL_POINTER;
+    }
+    // SAFETY: the header's.
+    unsafe {
+        slot::enter(allocator, |it| {
+            statistics.write(it.statistics());
+            GdStatus::OK
+        })
+    }
+}
+
+#[unsafe(no_mangle)]
+pub unsafe extern "C" fn gd_kept(
+    allocator: GdAllocator,
+    layout: GdLayout,
+    sets: *mut u64,
+) -> GdStatus {
+    if sets.is_null() {
+        return GdStatus::NULL_POINTER;
+    }
+    // SAFETY: the header's.
+    unsafe {
+        slot::enter(allocator, |it| match it.kept(layout) {
+            Ok(kept) => {
+                sets.write(kept);
+                GdStatus::OK
+            }
+            Err(status) => status,
+        })
+    }
+}
+
+/// A buffer of the host's, and how long the text would be that was written to it.
+struct Text {
+    start: *mut u8,
+    room: usize,
+    length: usize,
+}
+
+impl core::fmt::Write for Text {
+    fn write_str(&mut self, part: &str) -> core::fmt::Result {
+        for byte in part.bytes() {
+            if self.length + 1 < self.room {
+                // SAFETY: the header's: there are `room` bytes.
+                unsafe { self.start.add(self.length).write(byte) };
+            }
+            self.length += 1;
+        }
+        Ok(())
+    }
+}
+
+#[unsafe(no_mangle)]
+pub unsafe extern "C" fn gd_write_statistics(
+    allocator: GdAllocator,
+    text: *mut c_char,
+    room: usize,
+    length: *mut usize,
+) -> GdStatus {
+    if length.is_null() || (text.is_null() && room > 0) {
+        return GdStatus::NULL_POINTER;
+    }
+    let start = text.cast::<u8>();
+    // SAFETY: the header's.
+    unsafe {
+        slot::enter(allocator, |it| {
+            let mut text = Text {
+                start,
+                room,
+                length: 0,
+            };
+            if it.write_statistics(&mut text).is_err() {
+                return GdStatus::INTERNAL_ERROR;
+            }
+            if room > 0 {
+                start.add(text.length.min(room - 1)).write(0);
+            }
+            length.write(text.length);
             GdStatus::OK
         })
     }

@@ -1,0 +1,92 @@
+//! Numbers of an allocator, and the same as JSON. They are what the renderer's readers return, and how many
+//! pools the device has.
+
+use super::Allocator;
+use crate::abi::{GdLayout, GdStatistics, GdStatus};
+use crate::descriptor_renderer::LayoutHandle;
+use crate::gpu_descriptor::DescriptorSetLayoutCreateFlags;
+use core::fmt::{Result, Write};
+
+/// The kinds in the order of the header.
+const KINDS: [&str; 14] = [
+    "sampler",
+    "combined_image_sampler",
+    "sampled_image",
+    "storage_image",
+    "uniform_texel_buffer",
+    "storage_texel_buffer",
+    "uniform_buffer",
+    "storage_buffer",
+    "uniform_buffer_dynamic",
+    "storage_buffer_dynamic",
+    "input_attachment",
+    "acceleration_structure",
+    "inline_uniform_block_bytes",
+    "inline_uniform_block_bindings",
+];
+
+impl Allocator {
+    pub fn statistics(&self) -> GdStatistics {
+        GdStatistics {
+            outstanding: self.outstanding(),
+            waiting: self.waiting(),
+            kept: self.renderer.counts().kept,
+            pools: self.pools(),
+            layouts: self.renderer.layouts().len() as u64,
+            most_pool_descriptors: self.renderer.most_pool_descriptors().unwrap_or(u64::MAX),
+        }
+    }
+
+    /// How many sets of a layout are kept.
+    pub fn kept(&self, layout: GdLayout) -> core::result::Result<u64, GdStatus> {
+        let place = u32::try_from(layout.index).map_err(|_| GdStatus::BAD_LAYOUT)?;
+        let registry = layout.owner;
+        let layout = LayoutHandle { registry, place };
+        match self.renderer.layout(layout) {
+            Some(_) => Ok(u64::from(self.renderer.kept_count(layout))),
+            None => Err(GdStatus::BAD_LAYOUT),
+        }
+    }
+
+    /// Writes the numbers as JSON.
+    pub fn write_statistics(&self, text: &mut impl Write) -> Result {
+        let numbers = self.statistics();
+        write!(text, "{{\"version\": \"{}\"", env!("CARGO_PKG_VERSION"))?;
+        write!(text, ", \"outstanding\": {}", numbers.outstanding)?;
+        write!(text, ", \"waiting\": {}", numbers.waiting)?;
+        write!(text, ", \"kept\": {}", numbers.kept)?;
+        write!(text, ", \"pools\": {}", numbers.pools)?;
+        match self.renderer.most_pool_descriptors() {
+            Some(most) => write!(text, ", \"most_pool_descriptors\": {most}")?,
+            None => text.write_str(", \"most_pool_descriptors\": null")?,
+        }
+        text.write_str(", \"layouts\": [")?;
+        for place in 0..self.renderer.layouts().len() {
+            text.write_str(if place == 0 { "" } else { ", " })?;
+            self.write_layout(place, text)?;
+        }
+        text.write_str("]}")
+    }
+
+    /// Writes a layout. A handle has 64 bits, and a number of JSON may have fewer: so it is a text.
+    fn write_layout(&self, place: usize, text: &mut impl Write) -> Result {
+        let layout = &self.renderer.layouts()[place];
+        let is_marked = layout.flags.contains(DescriptorSetLayoutCreateFlags::UPDATE_AFTER_BIND);
+        let handle = LayoutHandle {
+            registry: self.id,
+            place: place as u32,
+        };
+        write!(text, "{{\"handle\": \"{:#x}\"", layout.layout)?;
+        write!(text, ", \"update_after_bind\": {is_marked}")?;
+        write!(text, ", \"kept\": {}", self.renderer.kept_count(handle))?;
+        text.write_str(", \"descriptors\": {")?;
+        let mut separator = "";
+        for (kind, count) in KINDS.iter().zip(layout.counts.to_array()) {
+            if count > 0 {
+                write!(text, "{separator}\"{kind}\": {count}")?;
+                separator = ", ";
+            }
+        }
+        text.write_str("}}")
+    }
+}
