@@ -53,7 +53,7 @@ static void expect_text(gd_allocator allocator, const char *wanted) {
 
 // All kinds in their order, and the two layouts' numbers.
 static const char ALL[] =
-    "{\"version\": \"0.1.0\", \"outstanding\": 6, \"waiting\": 2, \"kept\": 4, \"pools\": 2, "
+    "{\"version\": \"0.1.0\", \"outstanding\": 7, \"waiting\": 2, \"kept\": 4, \"pools\": 2, "
     "\"most_pool_descriptors\": 65536, \"layouts\": ["
     "{\"handle\": \"0xffffffffffffffff\", \"update_after_bind\": false, \"kept\": 3, \"descriptors\": "
     "{\"sampler\": 1, \"combined_image_sampler\": 2, \"sampled_image\": 3, \"storage_image\": 4, "
@@ -66,7 +66,7 @@ static const char ALL[] =
 static void count_and_write(void) {
     gd_allocator allocator;
     gd_layout layouts[3];
-    gd_set sets[10];
+    gd_set sets[11];
     uint64_t kept = 77;
     uint32_t all[GD_KINDS], one[GD_KINDS] = {[GD_SAMPLED_IMAGE] = 4294967}, none[GD_KINDS] = {0};
     for (uint32_t kind = 0; kind < GD_KINDS; kind++)
@@ -76,11 +76,11 @@ static void count_and_write(void) {
     CHECK(gd_add_layout(allocator, UINT64_MAX, all, 0, &layouts[0]) == GD_OK);
     CHECK(gd_add_layout(allocator, 2, one, GD_UPDATE_AFTER_BIND, &layouts[1]) == GD_OK);
     CHECK(gd_add_layout(allocator, 0, none, 0, &layouts[2]) == GD_OK);
-    CHECK(gd_allocate(allocator, layouts[0], 8, sets) == GD_OK);
-    CHECK(gd_allocate(allocator, layouts[1], 2, sets + 8) == GD_OK);
-    CHECK(gd_free(allocator, sets, 3) == GD_OK && gd_free(allocator, sets + 9, 1) == GD_OK);
+    CHECK(gd_allocate(allocator, layouts[0], 9, sets) == GD_OK);
+    CHECK(gd_allocate(allocator, layouts[1], 2, sets + 9) == GD_OK);
+    CHECK(gd_free(allocator, sets, 3) == GD_OK && gd_free(allocator, sets + 10, 1) == GD_OK);
     CHECK(gd_free_after(allocator, sets + 3, 2, 1) == GD_OK);
-    expect_numbers(allocator, (gd_statistics){6, 2, 4, 2, 3, 65536});
+    expect_numbers(allocator, (gd_statistics){7, 2, 4, 2, 3, 65536});
     CHECK(gd_kept(allocator, layouts[0], &kept) == GD_OK && kept == 3);
     CHECK(gd_kept(allocator, layouts[2], &kept) == GD_OK && kept == 0);
     expect_text(allocator, ALL);

@@ -19,7 +19,7 @@
 
 #include "gpu_descriptor_vulkan.h"
 
-enum { MOST_BINDINGS = 5, MOST_SETS = 200, MOST_FREED = 300, ROUND = 300 };
+enum { MOST_BINDINGS = 5, MOST_SETS = 200, MOST_FREED = 300, ROUND = 300, MANY = 1500 };
 
 // How rarely the driver and the memory refuse.
 enum { DRIVER_ONE_IN = 12, MEMORY_ONE_IN = 50, MEMORY_AT_OPEN_ONE_IN = 4 };
@@ -310,6 +310,31 @@ static void allocate(void) {
     }
 }
 
+// Gives sets back, for which no memory is asked.
+static gd_status free_now(const gd_set *sets, uint32_t count) {
+    uint64_t requests_before = memory_requests;
+    gd_status status = LIBRARY(gd_free(allocator, sets, count));
+    CHECK(memory_requests == requests_before);
+    return status;
+}
+
+// A request of more sets than others have in sum, which are all written and freed at once.
+static void allocate_many(void) {
+    static gd_set many[MANY];
+    gd_status status;
+    asked_layout = &layouts[0];
+    do
+        status = LIBRARY(gd_allocate(allocator, asked_layout->known, MANY, many));
+    while (status != GD_OK);
+    for (uint32_t place = 0; place < MANY; place++) {
+        names_give(&names, many[place].name);
+        write_sampler(gdv_handle(many[place]));
+    }
+    CHECK(free_now(many, MANY) == GD_OK);
+    for (uint32_t place = 0; place < MANY; place++)
+        names_free(&names, many[place].name);
+}
+
 // Some sets that are held, the last ones or any, leave the list.
 static uint32_t draw(gd_set *sets) {
     uint32_t count = 1 + random_below(one_in(5) ? MOST_FREED : 12);
@@ -323,14 +348,6 @@ static uint32_t draw(gd_set *sets) {
         held[at] = held[--held_count];
     }
     return count;
-}
-
-// Gives sets back, for which no memory is asked.
-static gd_status free_now(const gd_set *sets, uint32_t count) {
-    uint64_t requests_before = memory_requests;
-    gd_status status = LIBRARY(gd_free(allocator, sets, count));
-    CHECK(memory_requests == requests_before);
-    return status;
 }
 
 // Gives sets back. They can't be given back again, nor can one that was freed before, whose place
@@ -462,6 +479,7 @@ int main(int words, char **word) {
     open_device(is_old);
     while (operation < operations) {
         open_allocator(is_old);
+        allocate_many();
         for (int left = ROUND; left > 0 && operation < operations; left--, operation++)
             act();
         close_allocator();

@@ -300,7 +300,7 @@ struct Text {
 impl core::fmt::Write for Text {
     fn write_str(&mut self, part: &str) -> core::fmt::Result {
         for byte in part.bytes() {
-            if self.length + 1 < self.room {
+            if self.length < self.room {
                 // SAFETY: the header's: there are `room` bytes.
                 unsafe { self.start.add(self.length).write(byte) };
             }

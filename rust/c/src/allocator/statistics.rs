@@ -71,7 +71,9 @@ impl Allocator {
     /// Writes a layout. A handle has 64 bits, and a number of JSON may have fewer: so it is a text.
     fn write_layout(&self, place: usize, text: &mut impl Write) -> Result {
         let layout = &self.renderer.layouts()[place];
-        let is_marked = layout.flags.contains(DescriptorSetLayoutCreateFlags::UPDATE_AFTER_BIND);
+        let is_marked = layout
+            .flags
+            .contains(DescriptorSetLayoutCreateFlags::UPDATE_AFTER_BIND);
         let handle = LayoutHandle {
             registry: self.id,
             place: place as u32,
