@@ -55,19 +55,26 @@ static gd_layout added(gd_allocator allocator, uint64_t handle, uint32_t count, 
     return layout;
 }
 
-// The same layout again has the same index. With other counts or flags, or another handle, it is another one,
-// also if a driver gives a handle twice.
+// A layout that is known, by handle, counts and flags, has the same index again. With other counts or flags, or
+// another handle, it is another one, also if a driver gives a handle twice.
 static void add_layouts_again(void) {
+    enum { COUNT = 5 };
     gd_allocator allocator = created(100);
-    uint32_t later[GD_KINDS] = {[GD_SAMPLER] = 1, [GD_STORAGE_IMAGE] = 1, [GD_INLINE_UNIFORM_BLOCK_BINDINGS] = 1};
-    gd_layout last;
+    gd_layout layouts[COUNT];
     for (int turn = 0; turn < 2; turn++) {
-        CHECK(added(allocator, 7, 1, 0).index == 0);
-        CHECK(added(allocator, 7, 2, 0).index == 1);
-        CHECK(added(allocator, 7, 1, GD_UPDATE_AFTER_BIND).index == 2);
-        CHECK(added(allocator, 8, 1, 0).index == 3);
-        CHECK(added(allocator, 7 + (UINT64_C(1) << 40), 1, 0).index == 4);
-        CHECK(gd_add_layout(allocator, 7, later, 0, &last) == GD_OK && last.index == 5);
+        gd_layout again[COUNT] = {
+            added(allocator, 7, 1, 0),
+            added(allocator, 7, 2, 0),
+            added(allocator, 7, 1, GD_UPDATE_AFTER_BIND),
+            added(allocator, 8, 1, 0),
+            added(allocator, 7 + (UINT64_C(1) << 40), 1, 0),
+        };
+        for (int at = 0; at < COUNT; at++) {
+            CHECK(turn == 0 || again[at].index == layouts[at].index);
+            for (int other = 0; other < at; other++)
+                CHECK(again[at].index != again[other].index);
+            layouts[at] = again[at];
+        }
     }
     CHECK(gd_destroy(allocator) == GD_OK);
 }

@@ -51,21 +51,46 @@ static void expect_text(gd_allocator allocator, const char *wanted) {
     }
 }
 
-// All kinds in their order, and the two layouts' numbers.
+// A layout of all kinds.
 static const char ALL[] =
-    "{\"version\": \"0.1.0\", \"outstanding\": 7, \"waiting\": 2, \"kept\": 4, \"pools\": 2, "
+    "{\"version\": \"0.1.0\", \"outstanding\": 6, \"waiting\": 2, \"kept\": 3, \"pools\": 1, "
     "\"most_pool_descriptors\": 65536, \"layouts\": ["
     "{\"handle\": \"0xffffffffffffffff\", \"update_after_bind\": false, \"kept\": 3, \"descriptors\": "
     "{\"sampler\": 1, \"combined_image_sampler\": 2, \"sampled_image\": 3, \"storage_image\": 4, "
     "\"uniform_texel_buffer\": 5, \"storage_texel_buffer\": 6, \"uniform_buffer\": 7, \"storage_buffer\": 8, "
     "\"uniform_buffer_dynamic\": 9, \"storage_buffer_dynamic\": 10, \"input_attachment\": 11, "
-    "\"acceleration_structure\": 12, \"inline_uniform_block_bytes\": 13, \"inline_uniform_block_bindings\": 14}}, "
-    "{\"handle\": \"0x2\", \"update_after_bind\": true, \"kept\": 1, \"descriptors\": {\"sampled_image\": 4294967}}, "
-    "{\"handle\": \"0x0\", \"update_after_bind\": false, \"kept\": 0, \"descriptors\": {}}]}";
+    "\"acceleration_structure\": 12, \"inline_uniform_block_bytes\": 13, "
+    "\"inline_uniform_block_bindings\": 14}}]}";
+
+// Two other layouts, in any order.
+static const char *const OTHERS[] = {
+    "{\"handle\": \"0x2\", \"update_after_bind\": true, \"kept\": 1, \"descriptors\": "
+    "{\"sampled_image\": 4294967}}",
+    "{\"handle\": \"0x0\", \"update_after_bind\": false, \"kept\": 0, \"descriptors\": {}}",
+};
+
+static gd_layout added(gd_allocator allocator, uint64_t handle, const uint32_t *counts, uint32_t flags) {
+    gd_layout layout;
+    CHECK(gd_add_layout(allocator, handle, counts, flags, &layout) == GD_OK);
+    return layout;
+}
+
+static void expect_no_layout(gd_allocator allocator, gd_layout layout) {
+    uint64_t kept = 77;
+    CHECK(gd_kept(allocator, layout, &kept) == GD_BAD_LAYOUT && kept == 77);
+}
+
+static void expect_others(gd_allocator allocator) {
+    char text[2048];
+    size_t length;
+    CHECK(gd_write_statistics(allocator, text, sizeof text, &length) == GD_OK && length < sizeof text);
+    for (int at = 0; at < 2; at++)
+        CHECK(strstr(text, OTHERS[at]) != NULL);
+    CHECK(length == strlen(ALL) + strlen(OTHERS[0]) + strlen(OTHERS[1]) + 2 * strlen(", "));
+}
 
 static void count_and_write(void) {
     gd_allocator allocator;
-    gd_layout layouts[3];
     gd_set sets[11];
     uint64_t kept = 77;
     uint32_t all[GD_KINDS], one[GD_KINDS] = {[GD_SAMPLED_IMAGE] = 4294967}, none[GD_KINDS] = {0};
@@ -73,25 +98,21 @@ static void count_and_write(void) {
         all[kind] = kind + 1;
     CHECK(gd_create(&DEVICE, UINT32_MAX, &allocator) == GD_OK);
     expect_numbers(allocator, (gd_statistics){0, 0, 0, 0, 0, 65536});
-    CHECK(gd_add_layout(allocator, UINT64_MAX, all, 0, &layouts[0]) == GD_OK);
-    CHECK(gd_add_layout(allocator, 2, one, GD_UPDATE_AFTER_BIND, &layouts[1]) == GD_OK);
-    CHECK(gd_add_layout(allocator, 0, none, 0, &layouts[2]) == GD_OK);
-    CHECK(gd_allocate(allocator, layouts[0], 9, sets) == GD_OK);
-    CHECK(gd_allocate(allocator, layouts[1], 2, sets + 9) == GD_OK);
-    CHECK(gd_free(allocator, sets, 3) == GD_OK && gd_free(allocator, sets + 10, 1) == GD_OK);
+    gd_layout first = added(allocator, UINT64_MAX, all, 0);
+    CHECK(gd_allocate(allocator, first, 9, sets) == GD_OK && gd_free(allocator, sets, 3) == GD_OK);
     CHECK(gd_free_after(allocator, sets + 3, 2, 1) == GD_OK);
-    expect_numbers(allocator, (gd_statistics){7, 2, 4, 2, 3, 65536});
-    CHECK(gd_kept(allocator, layouts[0], &kept) == GD_OK && kept == 3);
-    CHECK(gd_kept(allocator, layouts[2], &kept) == GD_OK && kept == 0);
+    expect_numbers(allocator, (gd_statistics){6, 2, 3, 1, 1, 65536});
     expect_text(allocator, ALL);
-    gd_layout wrong = layouts[0];
-    wrong.index = 3;
-    CHECK(gd_kept(allocator, wrong, &kept) == GD_BAD_LAYOUT);
-    wrong.index = UINT64_C(1) << 32;
-    CHECK(gd_kept(allocator, wrong, &kept) == GD_BAD_LAYOUT);
-    wrong = layouts[0];
-    wrong.owner++;
-    CHECK(gd_kept(allocator, wrong, &kept) == GD_BAD_LAYOUT && kept == 0);
+    gd_layout second = added(allocator, 2, one, GD_UPDATE_AFTER_BIND), third = added(allocator, 0, none, 0);
+    CHECK(gd_allocate(allocator, second, 2, sets + 9) == GD_OK && gd_free(allocator, sets + 10, 1) == GD_OK);
+    expect_numbers(allocator, (gd_statistics){7, 2, 4, 2, 3, 65536});
+    expect_others(allocator);
+    CHECK(gd_kept(allocator, first, &kept) == GD_OK && kept == 3);
+    CHECK(gd_kept(allocator, second, &kept) == GD_OK && kept == 1);
+    CHECK(gd_kept(allocator, third, &kept) == GD_OK && kept == 0);
+    expect_no_layout(allocator, (gd_layout){first.index + 77, first.owner});
+    expect_no_layout(allocator, (gd_layout){first.index ^ UINT64_C(1) << 40, first.owner});
+    expect_no_layout(allocator, (gd_layout){first.index, first.owner + 1});
     CHECK(gd_free_all(allocator) == GD_OK && gd_destroy(allocator) == GD_OK);
 }
 

@@ -281,11 +281,11 @@ pub unsafe extern "C" fn gd_kept(
     // SAFETY: the header's.
     unsafe {
         slot::enter(allocator, |it| match it.kept(layout) {
-            Ok(kept) => {
+            Some(kept) => {
                 sets.write(kept);
                 GdStatus::OK
             }
-            Err(status) => status,
+            None => GdStatus::BAD_LAYOUT,
         })
     }
 }

@@ -2,7 +2,7 @@
 //! pools the device has.
 
 use super::Allocator;
-use crate::abi::{GdLayout, GdStatistics, GdStatus};
+use crate::abi::{GdLayout, GdStatistics};
 use crate::descriptor_renderer::LayoutHandle;
 use crate::gpu_descriptor::DescriptorSetLayoutCreateFlags;
 use core::fmt::{Result, Write};
@@ -25,27 +25,37 @@ const KINDS: [&str; 14] = [
     "inline_uniform_block_bindings",
 ];
 
+/// The handle of a host's layout.
+fn handle_of_layout(layout: GdLayout) -> Option<LayoutHandle> {
+    let place = u32::try_from(layout.index).ok()?;
+    let registry = layout.owner;
+    Some(LayoutHandle { registry, place })
+}
+
 impl Allocator {
+    /// The handles of all layouts.
+    fn layouts(&self) -> impl Iterator<Item = LayoutHandle> {
+        let registry = self.id;
+        let places = 0..self.renderer.layouts().len() as u32;
+        places.map(move |place| LayoutHandle { registry, place })
+    }
+
     pub fn statistics(&self) -> GdStatistics {
         GdStatistics {
             outstanding: self.outstanding(),
             waiting: self.waiting(),
             kept: self.renderer.counts().kept,
             pools: self.pools(),
-            layouts: self.renderer.layouts().len() as u64,
+            layouts: self.layouts().count() as u64,
             most_pool_descriptors: self.renderer.most_pool_descriptors().unwrap_or(u64::MAX),
         }
     }
 
-    /// How many sets of a layout are kept.
-    pub fn kept(&self, layout: GdLayout) -> core::result::Result<u64, GdStatus> {
-        let place = u32::try_from(layout.index).map_err(|_| GdStatus::BAD_LAYOUT)?;
-        let registry = layout.owner;
-        let layout = LayoutHandle { registry, place };
-        match self.renderer.layout(layout) {
-            Some(_) => Ok(u64::from(self.renderer.kept_count(layout))),
-            None => Err(GdStatus::BAD_LAYOUT),
-        }
+    /// How many sets of a layout are kept; `None` if it isn't one of this allocator.
+    pub fn kept(&self, layout: GdLayout) -> Option<u64> {
+        let layout = handle_of_layout(layout)?;
+        self.renderer.layout(layout)?;
+        Some(u64::from(self.renderer.kept_count(layout)))
     }
 
     /// Writes the numbers as JSON.
@@ -61,23 +71,21 @@ impl Allocator {
             None => text.write_str(", \"most_pool_descriptors\": null")?,
         }
         text.write_str(", \"layouts\": [")?;
-        for place in 0..self.renderer.layouts().len() {
-            text.write_str(if place == 0 { "" } else { ", " })?;
-            self.write_layout(place, text)?;
+        let mut separator = "";
+        for layout in self.layouts() {
+            text.write_str(separator)?;
+            self.write_layout(layout, text)?;
+            separator = ", ";
         }
         text.write_str("]}")
     }
 
     /// Writes a layout. A handle has 64 bits, and a number of JSON may have fewer: so it is a text.
-    fn write_layout(&self, place: usize, text: &mut impl Write) -> Result {
-        let layout = &self.renderer.layouts()[place];
+    fn write_layout(&self, handle: LayoutHandle, text: &mut impl Write) -> Result {
+        let layout = self.renderer.layout(handle).ok_or(core::fmt::Error)?;
         let is_marked = layout
             .flags
             .contains(DescriptorSetLayoutCreateFlags::UPDATE_AFTER_BIND);
-        let handle = LayoutHandle {
-            registry: self.id,
-            place: place as u32,
-        };
         write!(text, "{{\"handle\": \"{:#x}\"", layout.layout)?;
         write!(text, ", \"update_after_bind\": {is_marked}")?;
         write!(text, ", \"kept\": {}", self.renderer.kept_count(handle))?;
