@@ -1,7 +1,7 @@
 //! Numbers of an allocator, and the same as JSON. They are what the renderer's readers return, and how many
 //! pools the device has.
 
-use super::Allocator;
+use super::{Allocator, handle_of};
 use crate::abi::{GdLayout, GdStatistics};
 use crate::descriptor_renderer::LayoutHandle;
 use crate::gpu_descriptor::DescriptorSetLayoutCreateFlags;
@@ -25,19 +25,11 @@ const KINDS: [&str; 14] = [
     "inline_uniform_block_bindings",
 ];
 
-/// The handle of a host's layout.
-fn handle_of_layout(layout: GdLayout) -> Option<LayoutHandle> {
-    let place = u32::try_from(layout.index).ok()?;
-    let registry = layout.owner;
-    Some(LayoutHandle { registry, place })
-}
-
 impl Allocator {
     /// The handles of all layouts.
     fn layouts(&self) -> impl Iterator<Item = LayoutHandle> {
-        let registry = self.id;
-        let places = 0..self.renderer.layouts().len() as u32;
-        places.map(move |place| LayoutHandle { registry, place })
+        let slots = self.known.names().map(|name| handle_of(self.id, name));
+        slots.map(|slot| LayoutHandle { slot })
     }
 
     pub fn statistics(&self) -> GdStatistics {
@@ -53,7 +45,8 @@ impl Allocator {
 
     /// How many sets of a layout are kept; `None` if it isn't one of this allocator.
     pub fn kept(&self, layout: GdLayout) -> Option<u64> {
-        let layout = handle_of_layout(layout)?;
+        let slot = handle_of(layout.owner, layout.index);
+        let layout = LayoutHandle { slot };
         self.renderer.layout(layout)?;
         Some(u64::from(self.renderer.kept_count(layout)))
     }
