@@ -126,6 +126,9 @@ void take_functions() {
     CHECK(vulkan.create_pool == create_pool && vulkan.destroy_pool == destroy_pool);
     CHECK(vulkan.allocate_sets == allocate_sets && vulkan.free_sets == free_sets);
     CHECK(gdv_create(&vulkan, 0, nullptr) == GD_NULL_POINTER);
+    gd_device nothing = gdv_functions(&vulkan);
+    nothing.user = nullptr;
+    CHECK(gd_create_with_copy(&nothing, 8, 0, 0, &allocator) == GD_NULL_POINTER && allocator.id == 0);
     CHECK(gdv_create_with_flags(&vulkan, 0, 2, &allocator) == GD_BAD_FLAGS);
     CHECK(gdv_create(&vulkan, 0, &allocator) == GD_OK && gd_destroy(allocator) == GD_OK);
 }

@@ -59,7 +59,10 @@
 #define GD_MAKE_VERSION(major, minor, patch) ((major) * 0x400000u + (minor) * 0x1000u + (patch))
 #define GD_VERSION GD_MAKE_VERSION(GD_VERSION_MAJOR, GD_VERSION_MINOR, GD_VERSION_PATCH)
 
-/* The number of the binary interface. It changes with a struct, a number or a function of this header. */
+/*
+ * The number of the binary interface. It changes if a program of the header before would do something else
+ * with the library: with a struct, a number, or what a function takes.
+ */
 #define GD_ABI 1u
 
 #ifdef __cplusplus
@@ -232,7 +235,8 @@ gd_status gd_create_checked(uint64_t header, const gd_device *device, size_t use
 
 /*
  * Creates an allocator. The device is copied, and so are the first 'user_size' bytes that 'user' points to:
- * then your functions get a pointer to the copy, which is aligned as a uint64_t.
+ * then your functions get a pointer to the copy, which is aligned as a uint64_t. With 0 they get 'user' itself.
+ *
  * All pools for update-after-bind layouts together have at most 'limit' descriptors: in Vulkan this is
  * maxUpdateAfterBindDescriptorsInAllPools; with a greater one the pools may exceed what the driver
  * allows. 'flags' is 0 or GD_EXTERNALLY_SYNCHRONIZED. If it fails, 'allocator' is zeroed.

@@ -105,7 +105,7 @@ class set : public last_use {
         return end(gd_free(allocator_, &raw_, 1));
     }
 
-    /* gd_free_after. It does nothing if there is no set, and keeps the set if it fails. */
+    /* used_in and reset: gd_free_after with the highest frame that it was used in. */
     [[nodiscard]] gd_status free_after(uint64_t frame) noexcept {
         used_in(frame);
         return reset();

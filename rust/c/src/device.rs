@@ -63,6 +63,10 @@ impl HostDevice {
         })
     }
 
+    pub fn has_no_user(&self) -> bool {
+        self.user.is_null()
+    }
+
     /// Copies so many bytes that `user` leads to, aligned as 64 bits are.
     ///
     /// # Safety

@@ -79,9 +79,14 @@ pub unsafe extern "C" fn gd_create_checked(
     if flags & !EXTERNALLY_SYNCHRONIZED != 0 {
         return GdStatus::BAD_FLAGS;
     }
-    // SAFETY: the header's.
-    if user_size > 0 && unsafe { device.copy_user(user_size) }.is_err() {
-        return GdStatus::OUT_OF_HOST_MEMORY;
+    if user_size > 0 {
+        if device.has_no_user() {
+            return GdStatus::NULL_POINTER;
+        }
+        // SAFETY: the header's.
+        if unsafe { device.copy_user(user_size) }.is_err() {
+            return GdStatus::OUT_OF_HOST_MEMORY;
+        }
     }
     let waits = flags & EXTERNALLY_SYNCHRONIZED == 0;
     match slot::create(waits, |id| Allocator::new(id, device, limit)) {
