@@ -87,14 +87,14 @@ int main() {
         require(gd_frame_done(allocator.raw(), 10) == GD_OK, "gd_frame_done");
 
         gd::sets batch;
-        require(allocator.allocate(layout, 8, batch) == GD_OK && batch.size() == 8, "a batch");
+        require(allocator.allocate(layout, 2, batch) == GD_OK && batch.size() == 2, "a batch");
         for (int count = 0; count < 50; count++) {
             gd::set set;
             require(allocator.allocate(layout, set) == GD_OK, "allocate");
             kept.push_back(std::move(set));
         }
         kept.erase(kept.begin(), kept.begin() + 10); // moves the others
-        require(outstanding(allocator) == 48, "ten of fifty sets are freed");
+        require(outstanding(allocator) == 42, "ten of fifty sets are freed");
 
         gd::set other;
         require(allocator.remove_layout(layout) == GD_OK, "remove_layout");
