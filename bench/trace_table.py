@@ -38,12 +38,13 @@ def build_columns(allocator):
         cargo_build(BUILD, "--profile", "release", "--target-dir", target, RUSTFLAGS="")
         columns["original"] = [f"{target}/release/original", "trace"]
     os.makedirs(BUILD, exist_ok=True)
-    words = ["cc", "-O2", "-fPIC", f"-I{PREFIX}/include", "-c", f"{TRACES}/by_c.c", "-o", f"{BUILD}/by_c.o"]
+    # A shared library, as cargo doesn't see whether what it links has changed.
+    words = ["cc", "-O2", "-shared", "-fPIC", f"-I{PREFIX}/include", f"{TRACES}/by_c.c", "-o", f"{BUILD}/libby_c.so",
+             f"{PREFIX}/lib/libgpu_descriptor_c.a", "-Wl,--exclude-libs,ALL", "-lpthread", "-ldl", "-lm"]
     for command in ([f"{TOP}/rust/c/install", PREFIX], words):
         if subprocess.run(command, stdout=subprocess.DEVNULL).returncode:
             refuse(f"{command[0]} failed", 1)
-    flags = (f"-C link-arg={BUILD}/by_c.o -L native={PREFIX}/lib -l dylib=gpu_descriptor_c "
-             f"-C link-arg=-Wl,-rpath,{PREFIX}/lib")
+    flags = f"-L native={BUILD} -l dylib=by_c -C link-arg=-Wl,-rpath,{BUILD}"
     cargo_build(TRACES, "--target-dir", f"{BUILD}/target/traces", RUSTFLAGS=flags)
     return columns | {name: [f"{BUILD}/target/traces/release/traces", name] for name in COLUMNS}
 

@@ -2,7 +2,7 @@
 
 use crate::allocator::{DescriptorAllocator, DescriptorSet, DescriptorSetLayoutCreateFlags};
 use crate::device::CountingDevice;
-use crate::play::{Player, KINDS};
+use crate::play::{KINDS, Player};
 use crate::types::DescriptorTotalCount;
 
 pub struct Allocator {

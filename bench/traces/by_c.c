@@ -65,3 +65,10 @@ void c_free(const gd_set *sets, uint32_t count);
 void c_free(const gd_set *sets, uint32_t count) {
     require(gd_free(allocator, sets, count));
 }
+
+uint64_t c_outstanding(void);
+uint64_t c_outstanding(void) {
+    uint64_t sets;
+    require(gd_outstanding(allocator, &sets));
+    return sets;
+}

@@ -1,6 +1,6 @@
 //! A trace by the library for C, through the calls of `by_c.c`.
 
-use crate::play::{Player, KINDS};
+use crate::play::{KINDS, Player};
 
 #[repr(C)]
 #[derive(Clone, Copy)]
@@ -16,6 +16,7 @@ unsafe extern "C" {
     fn c_remove_layout();
     fn c_take(layout: Layout, count: u32, sets: *mut Set);
     fn c_free(sets: *const Set, count: u32);
+    fn c_outstanding() -> u64;
 }
 
 pub struct Library {
@@ -28,7 +29,9 @@ impl Player for Library {
     fn new() -> Self {
         // SAFETY: there is one allocator, and one player.
         unsafe { c_create() };
-        Library { layouts: Vec::new() }
+        Library {
+            layouts: Vec::new(),
+        }
     }
 
     fn add_layout(&mut self, layout: usize, counts: &[u32; KINDS]) {
@@ -53,5 +56,10 @@ impl Player for Library {
         // SAFETY: the sets are of the allocator, and each goes back once.
         unsafe { c_free(sets.as_ptr(), sets.len() as u32) };
         sets.clear();
+    }
+
+    fn outstanding(&self) -> Option<u64> {
+        // SAFETY: it has no condition.
+        Some(unsafe { c_outstanding() })
     }
 }

@@ -5,7 +5,7 @@
 
 use crate::by_allocator::total_count;
 use crate::device::CountingDevice;
-use crate::play::{Player, KINDS};
+use crate::play::{KINDS, Player};
 use gpu_descriptor::{DescriptorDevice, DescriptorPoolCreateFlags as Flags, DescriptorTotalCount};
 
 /// The sets of a layout's first pool.
@@ -80,7 +80,10 @@ impl Player for Lists {
         self.places.truncate(layout);
         self.places.push(self.layouts.len() as u32);
         let counts = total_count(counts);
-        self.layouts.push(Layout { counts, ..Default::default() });
+        self.layouts.push(Layout {
+            counts,
+            ..Default::default()
+        });
     }
 
     fn remove_layout(&mut self, layout: usize) {
@@ -108,5 +111,9 @@ impl Player for Lists {
             layout.out -= 1;
             layout.end(&self.device);
         }
+    }
+
+    fn outstanding(&self) -> Option<u64> {
+        Some(self.layouts.iter().map(|it| u64::from(it.out)).sum())
     }
 }

@@ -2,10 +2,8 @@
 //! one at the device. It is what a program does that knows the sizes of its pools beforehand.
 
 use crate::device::CountingDevice;
-use crate::play::{Player, KINDS};
-use gpu_descriptor::{
-    DescriptorDevice, DescriptorPoolCreateFlags as Flags, DescriptorTotalCount,
-};
+use crate::play::{KINDS, Player};
+use gpu_descriptor::{DescriptorDevice, DescriptorPoolCreateFlags as Flags, DescriptorTotalCount};
 
 pub struct Pools {
     device: CountingDevice,
@@ -30,7 +28,10 @@ impl Player for Pools {
     fn add_pool(&mut self, pool: usize) {
         let counts = DescriptorTotalCount::default();
         // SAFETY: the device only counts.
-        let made = unsafe { self.device.create_descriptor_pool(&counts, 1, Flags::empty()) };
+        let made = unsafe {
+            self.device
+                .create_descriptor_pool(&counts, 1, Flags::empty())
+        };
         self.pools.truncate(pool);
         self.pools.push(made.unwrap());
     }
@@ -39,7 +40,11 @@ impl Player for Pools {
         let layouts = [(); 1024];
         let layouts = layouts[..count as usize].iter();
         // SAFETY: the device only counts.
-        unsafe { self.device.alloc_descriptor_sets(&mut self.pools[pool], layouts, sets) }.unwrap();
+        unsafe {
+            self.device
+                .alloc_descriptor_sets(&mut self.pools[pool], layouts, sets)
+        }
+        .unwrap();
     }
 
     fn free(&mut self, pool: usize, sets: &mut Vec<u64>) {

@@ -2,7 +2,7 @@
 
 use crate::by_allocator::total_count;
 use crate::device::CountingDevice;
-use crate::play::{Player, KINDS};
+use crate::play::{KINDS, Player};
 use gpu_descriptor::renderer::{LayoutHandle, Renderer, SetHandle};
 use gpu_descriptor::{DescriptorSetLayoutCreateFlags, SetLayout};
 
@@ -35,7 +35,8 @@ impl Player for Keeping {
         };
         self.layouts.truncate(layout);
         // SAFETY: the device only counts.
-        self.layouts.push(unsafe { self.renderer.add_layout(added) }.unwrap());
+        self.layouts
+            .push(unsafe { self.renderer.add_layout(added) }.unwrap());
     }
 
     /// No set of it may be kept: the device would have another layout under its handle.
@@ -44,7 +45,10 @@ impl Player for Keeping {
     }
 
     fn take(&mut self, _pool: usize, layout: usize, count: u32, sets: &mut Vec<SetHandle>) {
-        let mut taken = self.renderer.create_sets(self.layouts[layout], count).unwrap();
+        let mut taken = self
+            .renderer
+            .create_sets(self.layouts[layout], count)
+            .unwrap();
         sets.append(&mut taken);
     }
 
@@ -52,5 +56,9 @@ impl Player for Keeping {
         // SAFETY: the device only counts.
         unsafe { self.renderer.free_sets(sets) }.unwrap();
         sets.clear();
+    }
+
+    fn outstanding(&self) -> Option<u64> {
+        Some(self.renderer.outstanding())
     }
 }

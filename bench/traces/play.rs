@@ -32,6 +32,11 @@ pub trait Player {
     fn empty(&mut self, pool: usize, sets: &mut Vec<Self::Set>, _is_destroyed: bool) {
         self.free(pool, sets);
     }
+
+    /// How many sets are out, if it counts them.
+    fn outstanding(&self) -> Option<u64> {
+        None
+    }
 }
 
 enum Call {
@@ -76,7 +81,11 @@ fn requests(words: &[&str], held: &mut Held, calls: &mut Vec<Call>) {
     let pool = number(pool);
     held[pool].extend((number(first)..).take(number(count)));
     for stretch in rest.chunk_by(|one, next| one == next) {
-        calls.push(Call::Request(pool, number(stretch[0]), stretch.len() as u32));
+        calls.push(Call::Request(
+            pool,
+            number(stretch[0]),
+            stretch.len() as u32,
+        ));
     }
 }
 
@@ -140,7 +149,11 @@ impl Trace {
                 }
             }
         }
-        [allocated, freed, pools.iter().map(|sets| sets.len() as u64).sum()]
+        [
+            allocated,
+            freed,
+            pools.iter().map(|sets| sets.len() as u64).sum(),
+        ]
     }
 }
 
@@ -155,6 +168,7 @@ pub fn run<P: Player>(file: &str, times: u32) {
         let start = Instant::now();
         let pass = trace.play(&mut player, &mut pools);
         time += start.elapsed();
+        assert_eq!(player.outstanding().unwrap_or(pass[2]), pass[2]);
         for (pool, sets) in pools.iter_mut().enumerate() {
             player.free(pool, sets);
         }
