@@ -5,7 +5,6 @@
 #include <atomic>
 #include <cstdlib>
 #include <cstring>
-#include <vector>
 #include <vulkan/vk_layer.h>
 
 namespace layer {
@@ -145,6 +144,12 @@ VkResult submit(VkQueue queue, uint32_t count, const VkSubmitInfo *infos, VkFenc
     return NEXT(traced("submit\n", queue), vkQueueSubmit)(queue, count, infos, fence);
 }
 
+VkResult submit2(VkQueue queue, uint32_t count, const VkSubmitInfo2 *infos, VkFence fence) {
+    device &it = traced("submit\n", queue);
+    const auto next = NEXT(it, vkQueueSubmit2) ? NEXT(it, vkQueueSubmit2) : NEXT(it, vkQueueSubmit2KHR);
+    return next(queue, count, infos, fence);
+}
+
 VkResult present(VkQueue queue, const VkPresentInfoKHR *info) {
     return NEXT(traced("present\n", queue), vkQueuePresentKHR)(queue, info);
 }
@@ -176,6 +181,8 @@ const entry entries[] = {
     ENTRY(vkAllocateDescriptorSets, allocate_sets),
     ENTRY(vkFreeDescriptorSets, free_sets),
     ENTRY(vkQueueSubmit, submit),
+    ENTRY(vkQueueSubmit2, submit2),
+    ENTRY(vkQueueSubmit2KHR, submit2),
     ENTRY(vkQueuePresentKHR, present),
 };
 

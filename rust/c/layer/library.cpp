@@ -1,6 +1,8 @@
 // The library: its allocator over the driver, whose calls are counted and timed, and its layouts.
 #include "device.hpp"
 
+#include <cstdlib>
+
 namespace layer {
 namespace {
 
@@ -46,7 +48,7 @@ void create_allocator(device &it, uint32_t limit) {
     const gd_device functions = {&it, make_pool, end_pool, make_sets, end_sets};
     it.faults += gd_create(&functions, limit, &it.allocator) != GD_OK;
     if (const char *most = setting("GPU_DESCRIPTOR_LAYER_KEEP"))
-        it.faults += gd_keep(it.allocator, uint32_t(std::stoul(most))) != GD_OK;
+        it.faults += gd_keep(it.allocator, uint32_t(std::strtoul(most, nullptr, 10))) != GD_OK;
 }
 
 void destroy_allocator(device &it) {

@@ -27,7 +27,7 @@ gd_status from_library(device &it, const VkDescriptorSetAllocateInfo &info, gd_s
 VkResult serve(device &it, const VkDescriptorSetAllocateInfo &info, std::vector<gd_set> &taken,
                VkDescriptorSet *sets) {
     const bool asks = it.allocator.slot != nullptr;
-    const gd_status status = asks ? from_library(it, info, taken.data()) : GD_BAD_ALLOCATOR;
+    const gd_status status = asks ? from_library(it, info, taken.data()) : gd_status(GD_BAD_ALLOCATOR);
     if (status == GD_OK) {
         std::transform(taken.begin(), taken.end(), sets, gdv_handle);
         it.library.sets.add(taken.size());
