@@ -1,12 +1,14 @@
 // Calls on sets that the programs of tools/real-programs don't make: sets freed one by one, requests of
-// several layouts, layouts that the library doesn't serve, and pools that are destroyed with their sets.
+// several layouts, layouts that the library doesn't serve, pools that are destroyed with their sets, and threads
+// with a pool each.
 // Each set is written, so that the validation layer sees whether it is of its layout.
 //
 // It prints 'done'. The exit code is 3 if there is no layer or no driver.
 #include "host.h"
 #include "layer.h"
+#include <pthread.h>
 
-enum { FEW = 4, MANY = 40, ROUNDS = 50 };
+enum { FEW = 4, MANY = 40, ROUNDS = 50, THREAD_ROUNDS = 2000 };
 
 static VkSampler sampler;
 
@@ -132,6 +134,31 @@ static void short_lived(void) {
     vkDestroyDescriptorPool(layer.device, pool, NULL);
 }
 
+static void *use_a_pool(void *of) {
+    VkDescriptorPool pool = make_pool(MANY);
+    VkDescriptorSetLayout *layout = of;
+    VkDescriptorSetLayout layouts[FEW] = {*layout, *layout, *layout, *layout};
+    VkDescriptorSet sets[FEW];
+    for (uint32_t round = 0; round < THREAD_ROUNDS; round++) {
+        request(pool, FEW, layouts, sets);
+        write(sets[round % FEW], 0);
+        if (round % 3 == 0)
+            CHECK(vkResetDescriptorPool(layer.device, pool, 0) == VK_SUCCESS);
+        else
+            CHECK(vkFreeDescriptorSets(layer.device, pool, FEW, sets) == VK_SUCCESS);
+    }
+    vkDestroyDescriptorPool(layer.device, pool, NULL);
+    return NULL;
+}
+
+static void at_once(VkDescriptorSetLayout layout) {
+    pthread_t threads[FEW];
+    for (uint32_t place = 0; place < FEW; place++)
+        CHECK(pthread_create(&threads[place], NULL, use_a_pool, &layout) == 0);
+    for (uint32_t place = 0; place < FEW; place++)
+        CHECK(pthread_join(threads[place], NULL) == 0);
+}
+
 int main(void) {
     layer_open(VK_API_VERSION_1_3);
     VkSamplerCreateInfo info = {.sType = VK_STRUCTURE_TYPE_SAMPLER_CREATE_INFO, .maxLod = 1};
@@ -145,6 +172,7 @@ int main(void) {
     one_by_one(layouts[0], layouts[1], layouts[2]);
     not_served(layouts[0], layouts[3]);
     short_lived();
+    at_once(layouts[0]);
     for (uint32_t place = 0; place < FEW; place++)
         vkDestroyDescriptorSetLayout(layer.device, layouts[place], NULL);
     vkDestroySampler(layer.device, sampler, NULL);
