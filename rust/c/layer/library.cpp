@@ -52,6 +52,7 @@ void create_allocator(device &it, uint32_t limit) {
 }
 
 void destroy_allocator(device &it) {
+    const stopwatch time{it.library.free_ns};
     uint64_t outstanding = 0;
     it.faults += gd_outstanding(it.allocator, &outstanding) != GD_OK;
     it.faults += outstanding != it.library.sets.now;
@@ -86,6 +87,7 @@ void destroy_layout(VkDevice handle, VkDescriptorSetLayout ended, const VkAlloca
     if (found != it.layouts.end()) {
         it.trace << "unlayout " << found->second.number << '\n';
         /* No set of it may be kept: the driver may give its handle to another layout. */
+        const stopwatch time{it.library.free_ns};
         if (found->second.known.owner != 0)
             it.faults += gd_cleanup(it.allocator) != GD_OK;
         it.layouts.erase(found);
