@@ -105,6 +105,24 @@ def cargo_build(folder, *words, **environment):
         refuse(f"cargo could not build {os.path.relpath(folder, TOP)}")
 
 
+def account_of(trace):
+    """What the text of a program's calls (rust/c/layer) says: sets that were allocated, that were out at most,
+    and that are left. Its sets have numbers in order."""
+    pools, allocated, peak, misnumbered = {}, 0, 0, 0
+    for word, *words in map(str.split, trace.splitlines()):
+        if word == "alloc" and words[-2] == "=":
+            first, count = int(words[-1]), int(words[1])
+            misnumbered += first != allocated
+            pools.setdefault(words[0], set()).update(range(first, first + count))
+            allocated += count
+            peak = max(peak, sum(map(len, pools.values())))
+        elif word == "free":
+            pools[words[0]] -= set(map(int, words[2:]))
+        elif word in ("reset", "destroy"):
+            pools.pop(words[0], None)
+    return {"allocated": allocated, "peak": peak, "left": sum(map(len, pools.values())), "misnumbered": misnumbered}
+
+
 # The escape of a byte in a line of a golden test.
 ESCAPE = re.compile(rb"\\(?:([tr\\])|x([0-9a-fA-F]{2}))")
 BYTES = {b"t": b"\t", b"r": b"\r", b"\\": b"\\"}

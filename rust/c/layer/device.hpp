@@ -1,0 +1,108 @@
+// What the layer knows of a device: its layouts, pools and sets, and what they took.
+#ifndef GPU_DESCRIPTOR_LAYER_DEVICE_HPP
+#define GPU_DESCRIPTOR_LAYER_DEVICE_HPP
+
+#define VK_NO_PROTOTYPES
+#include "gpu_descriptor_vulkan.h"
+
+#include <algorithm>
+#include <chrono>
+#include <fstream>
+#include <map>
+#include <memory>
+#include <mutex>
+#include <string>
+#include <unordered_map>
+
+namespace layer {
+
+/* A number that rises and falls. */
+struct level {
+    uint64_t now = 0, peak = 0, total = 0; // total: all that was ever added
+    void add(uint64_t more) {
+        now += more;
+        total += more;
+        peak = std::max(peak, now);
+    }
+};
+
+/* What pools and their sets took. Times have the pools that were created and destroyed for the
+ * sets. */
+struct account {
+    level pools, capacity, sets;                 // capacity: the sets that the pools may have
+    uint64_t allocate_calls = 0, free_calls = 0; // of the driver; a reset frees
+    uint64_t allocate_ns = 0, free_ns = 0, driver_ns = 0;
+};
+
+/* Adds the nanoseconds of its life to a sum. */
+struct stopwatch {
+    uint64_t &sum;
+    std::chrono::steady_clock::time_point start = std::chrono::steady_clock::now();
+    ~stopwatch() {
+        sum += uint64_t((std::chrono::steady_clock::now() - start).count());
+    }
+};
+
+struct layout {
+    uint64_t number; // in the trace
+    gd_layout known; // zeroed if the library doesn't serve it
+};
+
+struct held_set {
+    gd_set set; // zeroed if it is of the program's own pool
+    uint64_t number;
+};
+
+/* A pool of the program. The driver has it too, for sets that the library doesn't serve. */
+struct pool {
+    uint64_t number = 0;
+    uint32_t max_sets = 0;
+    std::map<uint64_t, held_set> sets; // by handle
+};
+
+struct device {
+    VkDevice handle = VK_NULL_HANDLE;
+    PFN_vkGetDeviceProcAddr get = nullptr;
+    std::string name;
+    gdv_device driver = {};
+    gd_allocator allocator = {}; // zeroed if the program has its own pools
+    std::mutex mutex;            // for all that follows
+    std::ofstream trace;
+    std::unordered_map<uint64_t, layout> layouts; // by handle
+    std::unordered_map<uint64_t, pool> pools;
+    std::unordered_map<uint64_t, uint32_t> library_pools; // the sets that each may have
+    account library, own;
+    uint64_t layout_count = 0, set_count = 0;
+    std::map<gd_status, uint64_t> fell_back; // sets of the own pools, by the library's status
+    uint64_t faults = 0;                     // statuses that the layer should not get
+
+    /* Writes what was taken as a table to standard error, and as JSON after it or to a file. A device
+     * ends in vkDestroyDevice, or with a program that doesn't call it. */
+    ~device();
+};
+
+/* The device of its own handle, or of a queue's. */
+std::unique_ptr<device> &device_of(void *handle);
+
+/* The next function of a name, below the layer. */
+#define NEXT(it, name) reinterpret_cast<PFN_##name>((it).get((it).handle, #name))
+
+/* The calls of the program that the layer has in place of the driver's. */
+template <class Pointer> using call = std::remove_pointer_t<Pointer>;
+call<PFN_vkCreateDescriptorSetLayout> create_layout;
+call<PFN_vkDestroyDescriptorSetLayout> destroy_layout;
+call<PFN_vkCreateDescriptorPool> create_pool;
+call<PFN_vkDestroyDescriptorPool> destroy_pool;
+call<PFN_vkResetDescriptorPool> reset_pool;
+call<PFN_vkAllocateDescriptorSets> allocate_sets;
+call<PFN_vkFreeDescriptorSets> free_sets;
+
+void create_allocator(device &it, uint32_t limit);
+void destroy_allocator(device &it);
+
+/* A word of the environment, NULL if there is none. */
+const char *setting(const char *name);
+
+} // namespace layer
+
+#endif

@@ -1,0 +1,225 @@
+// What the loader asks: instances, devices, and the functions that the layer has in place of
+// others.
+#include "device.hpp"
+
+#include <atomic>
+#include <cstdlib>
+#include <cstring>
+#include <vulkan/vk_layer.h>
+
+namespace layer {
+namespace {
+
+/* The loader names the next function of an instance only while it is created: later it names the first. */
+struct instance {
+    VkInstance handle;
+    PFN_vkGetInstanceProcAddr get;
+    bool is_newer; // than Vulkan 1.0
+    PFN_vkDestroyInstance destroy = NEXT(*this, vkDestroyInstance);
+    PFN_vkCreateDevice create_device = NEXT(*this, vkCreateDevice);
+    PFN_vkGetPhysicalDeviceProperties properties = NEXT(*this, vkGetPhysicalDeviceProperties);
+    PFN_vkGetPhysicalDeviceProperties2 properties2 = NEXT(*this, vkGetPhysicalDeviceProperties2);
+    PFN_vkEnumerateDeviceExtensionProperties extensions = NEXT(*this, vkEnumerateDeviceExtensionProperties);
+};
+
+/* Instances or devices, by the pointer at which the loader has each of their handles begin. */
+template <class Value> struct table {
+    std::mutex mutex;
+    std::unordered_map<void *, std::unique_ptr<Value>> values;
+    std::unique_ptr<Value> &at(void *handle) {
+        std::lock_guard lock(mutex);
+        return values[*static_cast<void **>(handle)];
+    }
+};
+
+table<instance> instances;
+table<device> devices;
+
+/* What the loader says of the next layer. Each layer moves it on. */
+template <class Link> auto *take_link(const void *chain, VkStructureType type) {
+    auto *link = static_cast<Link *>(const_cast<void *>(chain));
+    while (link->sType != type || link->function != VK_LAYER_LINK_INFO)
+        link = static_cast<Link *>(const_cast<void *>(link->pNext));
+    auto *next = link->u.pLayerInfo;
+    link->u.pLayerInfo = next->pNext;
+    return next;
+}
+
+VkResult create_instance(const VkInstanceCreateInfo *info, const VkAllocationCallbacks *callbacks,
+                         VkInstance *made) {
+    const auto type = VK_STRUCTURE_TYPE_LOADER_INSTANCE_CREATE_INFO;
+    const auto get = take_link<VkLayerInstanceCreateInfo>(info->pNext, type)->pfnNextGetInstanceProcAddr;
+    const auto create = reinterpret_cast<PFN_vkCreateInstance>(get(nullptr, "vkCreateInstance"));
+    const VkResult result = create(info, callbacks, made);
+    const auto *about = info->pApplicationInfo;
+    const bool is_newer = about != nullptr && about->apiVersion >= VK_API_VERSION_1_1;
+    if (result == VK_SUCCESS)
+        instances.at(*made) = std::make_unique<instance>(instance{*made, get, is_newer});
+    return result;
+}
+
+void destroy_instance(VkInstance handle, const VkAllocationCallbacks *callbacks) {
+    const auto ended = std::move(instances.at(handle));
+    ended->destroy(handle, callbacks);
+}
+
+/* maxUpdateAfterBindDescriptorsInAllPools, or 0 if the instance can't be asked. */
+uint32_t limit_of(const instance &of, VkPhysicalDevice physical) {
+    VkPhysicalDeviceDescriptorIndexingProperties indexing = {};
+    indexing.sType = VK_STRUCTURE_TYPE_PHYSICAL_DEVICE_DESCRIPTOR_INDEXING_PROPERTIES;
+    VkPhysicalDeviceProperties2 properties = {};
+    properties.sType = VK_STRUCTURE_TYPE_PHYSICAL_DEVICE_PROPERTIES_2;
+    properties.pNext = &indexing;
+    if (of.is_newer)
+        of.properties2(physical, &properties);
+    return indexing.maxUpdateAfterBindDescriptorsInAllPools;
+}
+
+/* A second device has its trace in a file of its own. */
+void open_trace(device &it, uint32_t limit) {
+    static std::atomic<int> count = 0;
+    const int number = count++;
+    if (const char *file = setting("GPU_DESCRIPTOR_LAYER_TRACE"))
+        it.trace.open(number == 0 ? file : file + ("." + std::to_string(number)));
+    it.trace << "# device " << it.name << " limit " << limit << '\n';
+}
+
+VkResult create_device(VkPhysicalDevice physical, const VkDeviceCreateInfo *info,
+                       const VkAllocationCallbacks *callbacks, VkDevice *made) {
+    const instance &of = *instances.at(physical);
+    const auto type = VK_STRUCTURE_TYPE_LOADER_DEVICE_CREATE_INFO;
+    const auto get = take_link<VkLayerDeviceCreateInfo>(info->pNext, type)->pfnNextGetDeviceProcAddr;
+    const VkResult result = of.create_device(physical, info, callbacks, made);
+    if (result != VK_SUCCESS)
+        return result;
+    auto it = std::make_unique<device>();
+    it->handle = *made;
+    it->get = get;
+    it->driver = {*made,
+                  nullptr,
+                  NEXT(*it, vkCreateDescriptorPool),
+                  NEXT(*it, vkDestroyDescriptorPool),
+                  NEXT(*it, vkAllocateDescriptorSets),
+                  NEXT(*it, vkFreeDescriptorSets)};
+    VkPhysicalDeviceProperties properties;
+    of.properties(physical, &properties);
+    it->name = properties.deviceName;
+    const uint32_t limit = limit_of(of, physical);
+    open_trace(*it, limit);
+    if (setting("GPU_DESCRIPTOR_LAYER_OWN_POOLS") == nullptr)
+        create_allocator(*it, limit);
+    devices.at(*made) = std::move(it);
+    return result;
+}
+
+void destroy_device(VkDevice handle, const VkAllocationCallbacks *callbacks) {
+    const auto ended = std::move(devices.at(handle));
+    if (ended->allocator.slot != nullptr)
+        destroy_allocator(*ended);
+    NEXT(*ended, vkDestroyDevice)(handle, callbacks);
+}
+
+/* Without push descriptors programs ask for more sets. */
+VkResult enumerate_extensions(VkPhysicalDevice physical, const char *of_layer, uint32_t *count,
+                              VkExtensionProperties *extensions) {
+    const VkResult result = instances.at(physical)->extensions(physical, of_layer, count, extensions);
+    if (extensions == nullptr || setting("GPU_DESCRIPTOR_LAYER_HIDE_PUSH") == nullptr)
+        return result;
+    const auto *end = std::remove_if(extensions, extensions + *count, [](const auto &it) {
+        return std::strcmp(it.extensionName, VK_KHR_PUSH_DESCRIPTOR_EXTENSION_NAME) == 0;
+    });
+    *count = uint32_t(end - extensions);
+    return result;
+}
+
+/* A call of a queue, with its word in the trace. */
+device &traced(const char *word, VkQueue queue) {
+    device &it = *device_of(queue);
+    std::lock_guard lock(it.mutex);
+    it.trace << word;
+    return it;
+}
+
+VkResult submit(VkQueue queue, uint32_t count, const VkSubmitInfo *infos, VkFence fence) {
+    return NEXT(traced("submit\n", queue), vkQueueSubmit)(queue, count, infos, fence);
+}
+
+VkResult submit2(VkQueue queue, uint32_t count, const VkSubmitInfo2 *infos, VkFence fence) {
+    device &it = traced("submit\n", queue);
+    const auto next = NEXT(it, vkQueueSubmit2) ? NEXT(it, vkQueueSubmit2) : NEXT(it, vkQueueSubmit2KHR);
+    return next(queue, count, infos, fence);
+}
+
+VkResult present(VkQueue queue, const VkPresentInfoKHR *info) {
+    return NEXT(traced("present\n", queue), vkQueuePresentKHR)(queue, info);
+}
+
+struct entry {
+    const char *name;
+    PFN_vkVoidFunction function;
+};
+
+#define ENTRY(name, function)                                                                                \
+    { #name, reinterpret_cast < PFN_vkVoidFunction>(static_cast <PFN_##name>(function)) }
+
+PFN_vkVoidFunction device_function(VkDevice handle, const char *name);
+PFN_vkVoidFunction instance_function(VkInstance handle, const char *name);
+
+const entry entries[] = {
+    ENTRY(vkGetInstanceProcAddr, instance_function),
+    ENTRY(vkCreateInstance, create_instance),
+    ENTRY(vkDestroyInstance, destroy_instance),
+    ENTRY(vkCreateDevice, create_device),
+    ENTRY(vkEnumerateDeviceExtensionProperties, enumerate_extensions),
+    ENTRY(vkGetDeviceProcAddr, device_function),
+    ENTRY(vkDestroyDevice, destroy_device),
+    ENTRY(vkCreateDescriptorSetLayout, create_layout),
+    ENTRY(vkDestroyDescriptorSetLayout, destroy_layout),
+    ENTRY(vkCreateDescriptorPool, create_pool),
+    ENTRY(vkDestroyDescriptorPool, destroy_pool),
+    ENTRY(vkResetDescriptorPool, reset_pool),
+    ENTRY(vkAllocateDescriptorSets, allocate_sets),
+    ENTRY(vkFreeDescriptorSets, free_sets),
+    ENTRY(vkQueueSubmit, submit),
+    ENTRY(vkQueueSubmit2, submit2),
+    ENTRY(vkQueueSubmit2KHR, submit2),
+    ENTRY(vkQueuePresentKHR, present),
+};
+
+PFN_vkVoidFunction function_of(const char *name, PFN_vkVoidFunction next, bool always) {
+    for (const entry &ours : entries)
+        if (std::strcmp(ours.name, name) == 0 && (always || next != nullptr))
+            return ours.function;
+    return next;
+}
+
+PFN_vkVoidFunction device_function(VkDevice handle, const char *name) {
+    return function_of(name, device_of(handle)->get(handle, name), false);
+}
+
+PFN_vkVoidFunction instance_function(VkInstance handle, const char *name) {
+    const auto next = handle == nullptr ? nullptr : instances.at(handle)->get(handle, name);
+    return function_of(name, next, handle == nullptr);
+}
+
+} // namespace
+
+std::unique_ptr<device> &device_of(void *handle) {
+    return devices.at(handle);
+}
+
+const char *setting(const char *name) {
+    const char *text = std::getenv(name);
+    return text != nullptr && *text != 0 ? text : nullptr;
+}
+
+} // namespace layer
+
+extern "C" VK_LAYER_EXPORT VkResult
+vkNegotiateLoaderLayerInterfaceVersion(VkNegotiateLayerInterface *interface) {
+    interface->loaderLayerInterfaceVersion = std::min(interface->loaderLayerInterfaceVersion, 2U);
+    interface->pfnGetInstanceProcAddr = layer::instance_function;
+    interface->pfnGetDeviceProcAddr = layer::device_function;
+    interface->pfnGetPhysicalDeviceProcAddr = nullptr;
+    return VK_SUCCESS;
+}
