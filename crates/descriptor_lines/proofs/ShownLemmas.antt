@@ -1,12 +1,11 @@
 -- The pools of a layout that `show` says, one by one.
-use Rattle.std.proofs.Common.{◌≡◌, ℕ, zero, suc, ◌+◌, ◌<◌, ◌≤◌, true, false, List, [], ◌∷◌, ◌++◌, append_assoc, filter, length, map, take, get_or, slice_get, Option, None, Some, option_map, String, Global, refl, ap, sym, ◌∙◌, arith}
-use Rattle.std.specs.List.{enumerate_from, flat_map}
+use Rattle.std.proofs.Common.{◌≡◌, ℕ, ◌+◌, ◌<◌, ◌≤◌, true, false, List, [], ◌∷◌, ◌++◌, append_assoc, filter, length, map, take, get_or, slice_get, None, Some, String, Global, refl, ap, sym, ◌∙◌, arith}
+use Rattle.std.specs.List.{flat_map}
 use Rattle.std.proofs.lemmas.List.{flat_map_more, length-map, take_all, take_more}
-use Rattle.std.proofs.lemmas.List.FromFn.{length-enumerate_from}
 use Rattle.std.proofs.lemmas.Option.{get_or_from_slice_get, slice_get-get_or, slice_get-map, slice_get_within}
 use Rattle.gpu_descriptor.specs.Caller.States.{marked_load_of}
 use Rattle.gpu_descriptor.specs.Caller.Views.{view_in}
-use Rattle.gpu_descriptor.specs.Model.Books.{BucketOf, EntryOf, Key, books_of}
+use Rattle.gpu_descriptor.specs.Model.Books.{BucketOf, Key, books_of}
 use Rattle.gpu_descriptor.specs.declared.view.PoolView.{PoolView}
 use Rattle.descriptor_script.specs.Sessions.Session.{allocator_of, sets_of}
 use Rattle.descriptor_script.specs.Sessions.Tickets.{held_sets}
@@ -18,24 +17,12 @@ use Rattle.descriptor_lines.specs.Shown.{calls_answer, pools_answer, show_answer
 use Rattle.descriptor_lines.specs.declared.layouts.Entry.{Entry}
 use Rattle.descriptor_lines.specs.declared.layouts.Layout.{Layout}
 
-slice_get-enumerate_from : {X : Type 0} (n : ℕ) (xs : List X) (i : ℕ) → slice_get (enumerate_from n xs) i ≡ option_map (λ x. (n + i, x)) (slice_get xs i)
-slice_get-enumerate_from n [] i = refl
-slice_get-enumerate_from n (x ∷ xs) zero = ap (λ k. Some (k, x)) (omega arith)
-slice_get-enumerate_from n (x ∷ xs) (suc i) =
-    slice_get-enumerate_from (n + 1) xs i ∙ ap (λ k. option_map (λ y. (k, y)) (slice_get xs i)) (omega arith)
-
-seen_at : (first i : ℕ) (pool : Option (EntryOf RawPool)) → option_map view_of (option_map (λ p. (first + i, p)) pool) ≡ option_map (λ p. record { number = first + i; allocated = p.allocated; available = p.available }) pool
-seen_at first i None = refl
-seen_at first i (Some pool) = refl
-
 -- the pools are as the readers see them
 views_are_seen : (rows : List (Key × BucketOf RawPool)) (key : Key) (i : ℕ) → slice_get (views_of rows key) i ≡ view_in (books_of rows key) i
-views_are_seen rows key i =
-    slice_get-map view_of (enumerate_from (books_of rows key).offset (books_of rows key).pools) i ∙ ap (option_map view_of) (slice_get-enumerate_from (books_of rows key).offset (books_of rows key).pools i) ∙ seen_at (books_of rows key).offset i (slice_get (books_of rows key).pools i)
+views_are_seen rows key i = slice_get-map view_of (books_of rows key).pools i
 
 length_of_views : (rows : List (Key × BucketOf RawPool)) (key : Key) → length (views_of rows key) ≡ length (books_of rows key).pools
-length_of_views rows key =
-    length-map (enumerate_from (books_of rows key).offset (books_of rows key).pools) view_of ∙ length-enumerate_from (books_of rows key).offset (books_of rows key).pools
+length_of_views rows key = length-map (books_of rows key).pools view_of
 
 -- the lines of the first n pools for a layout's sets
 unfoldable pub pools_so_far : ℕ → List (Key × BucketOf RawPool) → List ℕ × Layout → List ℕ

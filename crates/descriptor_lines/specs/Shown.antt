@@ -1,6 +1,6 @@
 -- What `show` prints.
 use Rattle.std.specs.Prelude.{ℕ, ◌-◌, ◌^◌, List, ◌++◌, length, map, min}
-use Rattle.std.specs.List.{enumerate_from, flat_map}
+use Rattle.std.specs.List.{flat_map}
 use Rattle.gpu_descriptor_types.specs.Ledger.{Counters}
 use Rattle.gpu_descriptor.specs.Caller.States.{marked_load_of}
 use Rattle.gpu_descriptor.specs.Model.Books.{BucketOf, EntryOf, Key, books_of}
@@ -14,13 +14,13 @@ use Rattle.descriptor_lines.specs.LayoutTable.{layouts_in}
 use Rattle.descriptor_lines.specs.LineStates.{LineState}
 use Rattle.descriptor_lines.specs.declared.layouts.Layout.{Layout}
 
--- a pool with its number, as readers see it
-abbrev pub view_of : ℕ × EntryOf RawPool → PoolView
-view_of (number, pool) = record { number = number; allocated = pool.allocated; available = pool.available }
+-- a pool, as readers see it
+abbrev pub view_of : EntryOf RawPool → PoolView
+view_of pool = record { number = pool.number; allocated = pool.allocated; available = pool.available }
 
 -- the pools of a key, oldest first
 abbrev pub views_of : List (Key × BucketOf RawPool) → Key → List PoolView
-views_of rows key = map view_of (enumerate_from (books_of rows key).offset (books_of rows key).pools)
+views_of rows key = map view_of (books_of rows key).pools
 
 -- the lines of the pools for a layout's sets, under the layout's name
 unfoldable pub pools_answer : List (Key × BucketOf RawPool) → List ℕ × Layout → List ℕ

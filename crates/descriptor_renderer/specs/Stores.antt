@@ -7,7 +7,7 @@ use Rattle.gpu_descriptor_types.specs.Meaning.{IsOfLayout, Meaning}
 use Rattle.gpu_descriptor_types.specs.Side.{Side, side}
 use Rattle.gpu_descriptor_types.specs.declared.device.DescriptorDevice.{Ghosts}
 use Rattle.gpu_descriptor.specs.Caller.Call.{layout_key}
-use Rattle.gpu_descriptor.specs.Caller.CleansUp.{CleansUp}
+use Rattle.gpu_descriptor.specs.Caller.CleansUp.{TrimsPools}
 use Rattle.gpu_descriptor.specs.Caller.Frees.{Returns}
 use Rattle.gpu_descriptor.specs.Caller.HandsOut.{HandsOut}
 use Rattle.gpu_descriptor.specs.Caller.Sets.{AreOfLayout, items_of}
@@ -183,19 +183,19 @@ module _ {L P S D : Type 0} {d : Ghosts D L P S} where
     pub returns : Returns d.meaning sets (side_of old) (side_of new)
     pub turns : Turns test Vacates (slots_in old) (slots_in new)
 
-  -- sets were given back, and then empty pools went
+  -- sets were given back, and then all empty pools went
   pub record Cleans (old new : Store L P S D d) : Type 0 where
     pub sets : List (DescriptorSet S)
     pub mid : Side (Allocations P)
     pub returns : Returns d.meaning sets (side_of old) mid
-    pub cleans : CleansUp d.meaning mid (side_of new)
+    pub cleans : TrimsPools d.meaning mid (side_of new)
 
   -- the allocator refused so many sets, or an allocation of the table's own failed before it was asked. All slots are as they were
   pub record IsRefused (layout : L) (many : ℕ) (error : AllocationError) (old new : Store L P S D d) : Type 0 where
     pub slots : slots_in new ≡ slots_in old
     pub why : HandsOut d.meaning (layout_key d.meaning layout) many (Err error) (side_of old) (side_of new) ⊎ ((error ≡ OutOfHostMemory) × (side_of new ≡ side_of old))
 
-  -- so many sets were refused, and then all kept sets were given back, and empty pools went
+  -- so many sets were refused, and then all kept sets were given back, and all empty pools went
   pub record IsCleared (layout : L) (many : ℕ) (old new : Store L P S D d) : Type 0 where
     pub refused : Store L P S D d
     pub error : AllocationError

@@ -2,6 +2,7 @@
 ghost use Rattle.std.specs.Prelude.{◌≡◌, ◌≢◌, ◌≤◌, ◌↔◌, [], length};
 ghost use Rattle.std.specs.Prelude.{IfErr, IfOk, IsErrOf, IsSome, None, OnErr, OnOk, Some, false, true};
 ghost use Rattle.std.specs.Option.{option_copied};
+ghost use Rattle.gpu_descriptor.specs.Caller.CleansUp.{TrimsPools};
 ghost use Rattle.gpu_descriptor.specs.Caller.SetLayouts.{IsMeant};
 ghost use Rattle.descriptor_table.specs.Sets.{KeepNames};
 ghost use Rattle.descriptor_table.specs.Tables.{Grows, count, holds, is_kept, waits};
@@ -174,9 +175,8 @@ impl<L: Drop, P: Drop, S: Drop, D: DescriptorDevice<L, P, S>> Renderer<L, P, S, 
         }
     }
 
-    /// Gives all kept sets back, and destroys the oldest pools of each key up to the first that has a
-    /// set, the last pool too. Sets that are in use aren't kept when they come back. Call it between
-    /// levels, or when memory is short.
+    /// Gives all kept sets back, and destroys all pools that then have no set. Sets that are in use
+    /// aren't kept when they come back. Call it between levels, or when memory is short.
     pub fn cleanup(&mut self)
         ensures emptied { count holds (slots_of self.old) ≡ 0 → count waits (slots_of self.old) ≡ 0
             → pools_in self.new ≡ pools_besides self.old }
@@ -187,6 +187,15 @@ impl<L: Drop, P: Drop, S: Drop, D: DescriptorDevice<L, P, S>> Renderer<L, P, S, 
         ensures rest { seen self.new ≡ record (seen self.old) { slots = slots_of self.new } }
     {
         self.store.cleanup();
+    }
+
+    /// Destroys all pools that have no set, wherever they stand. Sets that are kept stay, and so do
+    /// their pools; `cleanup` gives them back first. It goes over every pool, and allocates nothing.
+    pub fn trim(&mut self)
+        ensures trims { TrimsPools D.meaning (side_of self.old) (side_of self.new) }
+        ensures rest { seen self.new ≡ seen self.old }
+    {
+        self.store.trim();
     }
 
     /// Keeps at most so many sets of a layout from now on. Those above are given back.

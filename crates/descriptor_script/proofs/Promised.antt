@@ -1,6 +1,6 @@
 -- The parts of the headline hold at each step of a run.
 use Rattle.std.proofs.Common.{ℕ, List, [], ◌∷◌, sym, ap, subst, ◌∙◌}
-use Rattle.std.specs.Prelude.{◌<◌, Option, Some}
+use Rattle.std.specs.Prelude.{◌<◌, slice_get, Option, Some}
 use Rattle.std.specs.Option.{option_map_or}
 use Rattle.gpu_descriptor_types.specs.Ledger.{Counters, Pool}
 use Rattle.gpu_descriptor_types.specs.Meaning.{Meaning}
@@ -12,7 +12,7 @@ use Rattle.gpu_descriptor.proofs.sums.TableSums.{adds_up, marked_load_of-table, 
 use Rattle.gpu_descriptor.specs.Caller.Call.{layout_key}
 use Rattle.gpu_descriptor.specs.Caller.Causes.{IsBecause}
 use Rattle.gpu_descriptor.specs.Model.Agreement.{live_in}
-use Rattle.gpu_descriptor.specs.Model.Books.{Entry, Key, entry_at}
+use Rattle.gpu_descriptor.specs.Model.Books.{Entry, Key}
 use Rattle.gpu_descriptor.specs.Caller.Sets.{items_of}
 use Rattle.gpu_descriptor.specs.Caller.States.{state_of}
 use Rattle.gpu_descriptor.specs.declared.errors.AllocationError.{AllocationError}
@@ -40,8 +40,8 @@ module _ {L P S : Type 0} (means : Meaning L P S) where
   held_load s ready = load_is_descriptors (state_on means s) _ ready.agree.books (adds_up means.pool_name (allocator_of s.value) descriptors_out ready.agree.rows (marked_load_of-table means.pool_name (allocator_of s.value))) (held_items means s) (λ t. sym (ready.held t))
 
   -- a set that lives in a pool of the books has the counts of the pool's key
-  nothing_else : (s : Side (Session L P S)) → IsReady means s → (k : Key) (n : ℕ) (e : Entry) (x : LiveSet) → entry_at ((state_on means s).books k) n ≡ Some e → 0 < live_in s.ledger.pools e.pool x → x.counts ≡ k.counts
-  nothing_else s ready k n e x at lives = (let b = ready.agree.books.booked k n e at in b.2.sets x (subst (λ (o : Option Pool). 0 < option_map_or (λ (p : Pool). p.live x) o 0) b.1 lives))
+  nothing_else : (s : Side (Session L P S)) → IsReady means s → (k : Key) (i : ℕ) (e : Entry) (x : LiveSet) → slice_get ((state_on means s).books k).pools i ≡ Some e → 0 < live_in s.ledger.pools e.pool x → x.counts ≡ k.counts
+  nothing_else s ready k i e x at lives = (let b = ready.agree.books.booked k i e at in b.2.sets x (subst (λ (o : Option Pool). 0 < option_map_or (λ (p : Pool). p.live x) o 0) b.1 lives))
 
   module _ (old new : Side (Session L P S)) (ready : IsReady means old) where
     gone_back : (tickets : List ℕ) (many : ℕ) → GivesUp means tickets old new many → GoBack means tickets many old new

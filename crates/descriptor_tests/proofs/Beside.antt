@@ -1,15 +1,15 @@
 -- Two sessions on one device: what a step of one leaves of the other.
-use Rattle.std.proofs.Common.{◌≡◌, ℕ, List, [], Option, None, Some, refl, sym, ap, ◌∙◌}
+use Rattle.std.proofs.Common.{◌≡◌, ℕ, List, [], slice_get, Option, None, Some, refl, sym, ap, ◌∙◌}
 use Rattle.gpu_descriptor_types.specs.Ledger.{Ledger}
 use Rattle.gpu_descriptor.specs.Model.Promises.{IsUntouched}
 use Rattle.gpu_descriptor.specs.Model.Agreement.{count_of, outstanding}
-use Rattle.gpu_descriptor.specs.Model.Books.{Key, Entry, entry_at}
+use Rattle.gpu_descriptor.specs.Model.Books.{Key, Entry}
 use Rattle.gpu_descriptor.specs.Model.Foreign.{IsForeign, KeepsForeign}
 use Rattle.gpu_descriptor.specs.Caller.Sets.{items_of}
 use Rattle.gpu_descriptor.specs.Caller.States.{state_of}
 use Rattle.gpu_descriptor.specs.Caller.Values.{Allocations}
 use Rattle.gpu_descriptor.specs.declared.set.DescriptorSet.{DescriptorSet}
-use Rattle.gpu_descriptor.proofs.foreign.NoneLost.{none_at}
+use Rattle.gpu_descriptor.proofs.foreign.NoneLost.{nothing_at}
 use Rattle.gpu_descriptor.proofs.foreign.Others.{own_agrees, own_outstanding}
 use Rattle.gpu_descriptor.proofs.callers.NewAllocators.{new_agrees}
 use Rattle.gpu_descriptor.proofs.release.Places.{none_out}
@@ -28,7 +28,7 @@ Held = Session ScriptLayout RawPool RawSet
 
 -- what stands in one's books is foreign to the other
 module _ (x x' y : Held) (l m : Ledger) (foreign : KeepsForeign (session_state x l) (session_state x' m)) (pair : ArePaired x y l) where
-  not_touched : (k : Key) (n : ℕ) (e : Entry) → entry_at ((session_state y l).books k) n ≡ Some e → (m.pools e.pool ≡ l.pools e.pool) × IsForeign (session_state x' m) e.pool
+  not_touched : (k : Key) (i : ℕ) (e : Entry) → slice_get ((session_state y l).books k).pools i ≡ Some e → (m.pools e.pool ≡ l.pools e.pool) × IsForeign (session_state x' m) e.pool
   not_touched k n e at =
       let b = pair.other.agree.books.booked k n e at in
       let after = foreign e.pool b.0 (λ j i d there. pair.apart j k i n d e there at) b.1 in
@@ -59,7 +59,7 @@ turned x y l pair = record {
 -- an allocator without keys shares no pool
 pub none_shared : (x y : Held) (l : Ledger) (limit : ℕ) → allocator_of x ≡ record { limit = limit; most = None; table = []; looks = 0; comparisons = 0 } → AreApart (session_state x l) (session_state y l)
 none_shared x y l limit empty k j m n d e there at same =
-    none_at ((session_state x l).books k) m d (ap (λ (a : Allocations RawPool). ((state_of pool_id a l).books k).pools) empty) there
+    nothing_at ((session_state x l).books k) m d (ap (λ (a : Allocations RawPool). ((state_of pool_id a l).books k).pools) empty) there
 
 -- a session without keys and sets can make a step on any device
 pub new_ready : (s : Held) (l : Ledger) → IsNewSession s → IsReady script_meaning (side s l)

@@ -1,11 +1,11 @@
 -- Sessions that can make a step on a device, alone and two on one device.
-use Rattle.std.specs.Prelude.{◌≡◌, ◌≢◌, ℕ, All, [], Some}
+use Rattle.std.specs.Prelude.{◌≡◌, ◌≢◌, ℕ, All, [], slice_get, Some}
 use Rattle.std.proofs.Props.{props}
 use Rattle.gpu_descriptor.proofs.callers.OneAgreement.{Agrees-prop}
 use Rattle.gpu_descriptor_types.specs.Ledger.{Ledger}
 use Rattle.gpu_descriptor.specs.Caller.Values.{without_keys}
 use Rattle.gpu_descriptor.specs.Model.Agreement.{State}
-use Rattle.gpu_descriptor.specs.Model.Books.{Key, Entry, entry_at}
+use Rattle.gpu_descriptor.specs.Model.Books.{Key, Entry}
 use Rattle.gpu_descriptor.specs.Caller.SetLayouts.{IsMeant}
 use Rattle.gpu_descriptor.specs.Caller.States.{state_of}
 use Rattle.descriptor_script.specs.Scripted.Raw.{pool_id, script_meaning}
@@ -29,7 +29,7 @@ pub record IsNewSession (s : Session ScriptLayout RawPool RawSet) : Type 0 where
 
 -- no pool of the device is in both books
 abbrev pub AreApart : State → State → Type 0
-AreApart s t = (k l : Key) (m n : ℕ) (d e : Entry) → entry_at (s.books k) m ≡ Some d → entry_at (t.books l) n ≡ Some e → d.pool ≢ e.pool
+AreApart s t = (k l : Key) (i j : ℕ) (d e : Entry) → slice_get (s.books k).pools i ≡ Some d → slice_get (t.books l).pools j ≡ Some e → d.pool ≢ e.pool
 
 -- each of two sessions on one device can make a step
 pub record ArePaired (x y : Session ScriptLayout RawPool RawSet) (l : Ledger) : Type 0 where

@@ -1,4 +1,6 @@
 pub mod Cleaning
+pub mod Splitting
+pub mod Rotation
 pub mod Counted
 pub mod KeyOrder
 pub mod RowsCleaned

@@ -2,5 +2,7 @@ pub mod AtPlaces
 pub mod Appended
 pub mod OpenList
 pub mod OpenNumbers
+pub mod Numbers
 pub mod Searching
+pub mod Ordinals
 pub mod Yielded

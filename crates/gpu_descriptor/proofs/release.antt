@@ -1,5 +1,6 @@
 pub mod BucketRun
 pub mod Comparisons
+pub mod StoredNumbers
 pub mod Digits
 pub mod Freed
 pub mod FreedOne

@@ -1,5 +1,6 @@
 pub mod Asks
 pub mod Causes
+pub mod FreshNumbers
 pub mod Growing
 pub mod HandedOut
 pub mod InTable

@@ -1,8 +1,10 @@
 //! The pools of one key.
-ghost use Rattle.std.specs.Prelude.{◌≡◌, ◌+◌, ◌<◌, ◌≤◌, ◌^◌, length, nat_lt, sum_by};
+ghost use Rattle.std.specs.Prelude.{◌≡◌, ◌+◌, ◌<◌, ◌≤◌, ◌^◌, length, nat_lt, sum_by, true};
 ghost use Rattle.std.specs.VecDeque.{deque_capacity};
 ghost use Rattle.gpu_descriptor_types.specs.Bounds.{greatest_u64};
-ghost use Rattle.gpu_descriptor.specs.Inner.OpenNumbers.{free_in, open_numbers};
+ghost use Rattle.gpu_descriptor.specs.Inner.OpenNumbers.{first_ordinal, free_in, open_numbers};
+ghost use Rattle.gpu_descriptor.specs.Inner.OpenNumbers.{stored_numbers};
+ghost use Rattle.gpu_descriptor.specs.Model.Books.{number_after, rises};
 
 mod existing;
 mod front;
@@ -15,6 +17,7 @@ pub(crate) mod request_sink;
 mod run;
 mod search;
 pub(crate) mod stop;
+mod trim;
 
 use std::collections::VecDeque;
 
@@ -22,6 +25,9 @@ use std::collections::VecDeque;
 #[derive(Debug, Drop)]
 pub(crate) struct DescriptorPool<P> {
     pub(crate) raw: P,
+
+    /// Its number, which is greater than that of each older pool of its key.
+    pub(crate) number: u64,
 
     /// Number of sets that the pool was created for.
     pub(crate) capacity: u32,
@@ -39,21 +45,62 @@ pub(crate) struct DescriptorBucket<P> {
     /// The id of the key.
     pub(crate) id: u64,
 
-    /// The number of the first pool.
-    pub(crate) offset: u64,
+    /// The ordinal of the first pool, or 0.
+    pub(crate) first: u64,
 
     pub(crate) pools: VecDeque<DescriptorPool<P>>,
 
-    /// The numbers of the pools with known free places, rising. There is capacity for those of all
-    /// pools.
+    /// The ordinals of the pools with known free places, rising. There is capacity for those of all
+    /// pools. The newest pool's ordinal is its number, and each older one's is one less than that of
+    /// the pool after it: so it stays while pools go from the front and come at the back, and tells
+    /// the place.
     pub(crate) listed: VecDeque<u64>,
 
     /// Number of sets allocated from these pools.
     pub(crate) total: u64,
-    ghost numbered: { offset + length pools.items < 2 ^ 64 },
+    ghost ordinal: { first ≡ first_ordinal pools.items },
+    ghost numbered: { number_after (stored_numbers pools.items) < 2 ^ 64 },
+    ghost rising: { rises (stored_numbers pools.items) ≡ true },
     ghost counted: { total ≡ sum_by (λ p. p.allocated) pools.items },
-    ghost open: { listed.items ≡ open_numbers offset (free_in pools.items) },
+    ghost open: { listed.items ≡ open_numbers (first_ordinal pools.items) (free_in pools.items) },
     ghost capacity: { length pools.items ≤ deque_capacity listed },
+}
+
+impl<P> DescriptorBucket<P> {
+    /// The number of the next pool.
+    pub(crate) fn next_number(&self) -> u64
+        ensures { result ≡ number_after (stored_numbers self.now.pools.items) }
+    {
+        self.first + self.pools.len() as u64
+    }
+
+    /// The ordinal of the first pool.
+    pub(crate) fn first_ordinal(&self) -> u64
+        ensures first { result ≡ first_ordinal self.now.pools.items }
+        ensures fits { result + length self.now.pools.items
+            ≡ number_after (stored_numbers self.now.pools.items) }
+    {
+        self.first
+    }
+}
+
+fn next_number_of<P>(pools: &VecDeque<DescriptorPool<P>>) -> u64
+    requires { number_after (stored_numbers pools.now.items) < 2 ^ 64 }
+    ensures { result ≡ number_after (stored_numbers pools.now.items) }
+{
+    match pools.back() {
+        Some(newest) => newest.number + 1,
+        None => 0,
+    }
+}
+
+fn first_ordinal_of<P>(pools: &VecDeque<DescriptorPool<P>>) -> u64
+    requires numbered { number_after (stored_numbers pools.now.items) < 2 ^ 64 }
+    requires rising { rises (stored_numbers pools.now.items) ≡ true }
+    ensures first { result ≡ first_ordinal pools.now.items }
+    ensures fits { result + length pools.now.items ≡ number_after (stored_numbers pools.now.items) }
+{
+    next_number_of(pools) - pools.len() as u64
 }
 
 /// Whether a number and so many more would exceed 64 bits.

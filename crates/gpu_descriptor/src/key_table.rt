@@ -214,7 +214,7 @@ impl<P: Drop> KeyTable<P> {
         }
         let mut bucket = DescriptorBucket {
             id: self.next_id,
-            offset: 0,
+            first: 0,
             pools: VecDeque::new(request.alloc),
             listed: VecDeque::new(request.alloc),
             total: 0,

@@ -1,7 +1,7 @@
 //! Laws of giving sets back and of cleaning up, over the books of an allocator and the ledger of a
 //! device, and of the types, which their derives keep. The functions do nothing: their contracts
 //! are the laws.
-ghost use Rattle.std.specs.Prelude.{◌≡◌, ◌↔◌, ℕ, [], IsTrue, List, None, Some, false};
+ghost use Rattle.std.specs.Prelude.{◌≡◌, ◌↔◌, ℕ, Bool, [], IsTrue, List, None, Some, false, slice_get};
 ghost use Rattle.std.specs.Prelude.{flat_map, length, sum, true, ◌++◌, ◌+◌, ◌<◌, ◌≤◌, ◌⊎◌};
 ghost use Rattle.gpu_descriptor.specs.Caller.Flags.{layout_bits};
 ghost use Rattle.gpu_descriptor.specs.Caller.Frees.{marked_descriptors};
@@ -14,8 +14,8 @@ ghost use Rattle.gpu_descriptor.specs.Model.Agreement.{Item, item_eq, Agree, Are
 ghost use Rattle.gpu_descriptor.specs.Model.Agreement.{HasNoKeys, HasNoPools, IsAsBooked};
 ghost use Rattle.gpu_descriptor.specs.Model.Agreement.{State, count_of, outstanding};
 ghost use Rattle.gpu_descriptor.specs.Model.Books.{HasDistinctKeys, Key, key_eq, AddsUp, Bucket};
-ghost use Rattle.gpu_descriptor.specs.Model.Books.{Entry, books_of, entry_at, no_pools, sum_over};
-ghost use Rattle.gpu_descriptor.specs.Model.Cleanup.{IsCleaned, pools_cleaned};
+ghost use Rattle.gpu_descriptor.specs.Model.Books.{Entry, books_of, no_pools, sum_over};
+ghost use Rattle.gpu_descriptor.specs.Model.Cleanup.{IsCleaned, LosesEmpty, pools_lost};
 ghost use Rattle.gpu_descriptor.specs.Model.Foreign.{IsForeign, IsNamed, KeepsForeign, LosesNone};
 ghost use Rattle.gpu_descriptor.specs.Model.Load.{pool_descriptors, sets_out, descriptors_out, bucket_load};
 ghost use Rattle.gpu_descriptor.specs.Model.Load.{descriptors_created};
@@ -62,22 +62,26 @@ pub fn release_parts()
         (λ t. key_eq t.key k) m ≡ false → IsUntouched k s (released m s) }
 {}
 
-/// Cleaning up what was cleaned up changes nothing and destroys no pool. With nothing outstanding
-/// no pool is left, in the books and in the ledger.
+/// Cleaning up what was cleaned up, and trimming what was trimmed, changes nothing and destroys no
+/// pool. With nothing outstanding no pool is left, in the books and in the ledger.
 pub fn clean_again()
-    ensures again { (s t u : State) → IsCleaned s t → IsCleaned t u → u ≡ t }
-    ensures again_none { (keys : List Key) (s t : State) → IsCleaned s t → pools_cleaned keys t
-        ≡ 0 }
-    ensures all { (s t : State) → Agree s → ((i : Item) → outstanding s i ≡ 0) → IsCleaned s t
-        → HasNoKeys t }
-    ensures all_gone { (s t : State) → Agree s → ((i : Item) → outstanding s i ≡ 0) → IsCleaned s t
-        → (k : Key) (n : ℕ) (e : Entry) → entry_at (s.books k) n ≡ Some e → t.ledger e.pool ≡ None }
-    ensures one_result { (keys : List Key) (s t u : State) → ((k : Key) → list_any (λ l. key_eq l k)
-        keys ≡ false → (s.books k).pools ≡ []) → IsCleaned s t → IsCleaned s u → t ≡ u }
+    ensures again { (everywhere : Bool) (s t u : State) → LosesEmpty everywhere s t → LosesEmpty
+        everywhere t u → u ≡ t }
+    ensures again_none { (everywhere : Bool) (keys : List Key) (s t : State) → LosesEmpty everywhere
+        s t → pools_lost everywhere keys t ≡ 0 }
+    ensures all { (everywhere : Bool) (s t : State) → Agree s → ((i : Item) → outstanding s i ≡ 0)
+        → LosesEmpty everywhere s t → HasNoKeys t }
+    ensures all_gone { (everywhere : Bool) (s t : State) → Agree s → ((i : Item) → outstanding s i
+        ≡ 0) → LosesEmpty everywhere s t → (k : Key) (i : ℕ) (e : Entry) → slice_get
+        (s.books k).pools i ≡ Some e → t.ledger e.pool ≡ None }
+    ensures one_result { (everywhere : Bool) (keys : List Key) (s t u : State)
+        → ((k : Key) → list_any (λ l. key_eq l k) keys ≡ false → (s.books k).pools ≡ [])
+        → LosesEmpty everywhere s t → LosesEmpty everywhere s u → t ≡ u }
 
-    ensures agrees { (s t : State) → Agree s → IsCleaned s t → Agree t }
-    ensures outstanding { (s t : State) → Agree s → IsCleaned s t → (i : Item) → outstanding t i
-        ≡ outstanding s i }
+    ensures agrees { (everywhere : Bool) (s t : State) → Agree s → LosesEmpty everywhere s t → Agree
+        t }
+    ensures outstanding { (everywhere : Bool) (s t : State) → Agree s → LosesEmpty everywhere s t
+        → (i : Item) → outstanding t i ≡ outstanding s i }
 {}
 
 /// No pool is lost over calls one after another, if each loses none. So an allocator that has no
@@ -137,9 +141,9 @@ pub fn rows_add_up<P>()
 /// pool are those that the device created it with. So they add up to what it created all pools of
 /// marked keys with, and no more descriptors of marked sets are out.
 pub fn pools_have_their_load()
-    ensures each { (s : State) (k : Key) (n : ℕ) (e : Entry) (pool : Pool) → Agree s → length
-        k.counts ≡ 14 → k.marked ≡ true → entry_at (s.books k) n ≡ Some e → s.ledger e.pool ≡ Some
-        pool → sum pool.counts ≡ pool_descriptors k e.capacity }
+    ensures each { (s : State) (k : Key) (i : ℕ) (e : Entry) (pool : Pool) → Agree s → length
+        k.counts ≡ 14 → k.marked ≡ true → slice_get (s.books k).pools i ≡ Some e → s.ledger e.pool
+        ≡ Some pool → sum pool.counts ≡ pool_descriptors k e.capacity }
     ensures created { (s : State) (n : ℕ) → Agree s → ((k : Key) → 0 < length (s.books k).pools
         → length k.counts ≡ 14) → AddsUp bucket_load s.books n ↔ AddsUp
         (descriptors_created s.ledger) s.books n }

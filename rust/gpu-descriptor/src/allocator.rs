@@ -15,8 +15,8 @@ use std_alloc::vec::Vec;
 /// Allocates descriptor sets of any layouts, from pools that it creates, sizes and destroys.
 ///
 /// If a device, or an iterator of sets, panics in a call, nobody knows what the device did. The
-/// allocator is poisoned from then on: `allocate` panics, and `free` and `cleanup` panic too, or do
-/// nothing while the thread still unwinds. So no set is handed out twice. The sets of the request that
+/// allocator is poisoned from then on: `allocate` panics, and `free`, `cleanup` and `trim` panic too, or
+/// do nothing while the thread still unwinds. So no set is handed out twice. The sets of the request that
 /// panicked are dropped, and their pools stay with the device.
 ///
 /// A drop destroys no pools: see [At a drop](crate#at-a-drop).
@@ -36,7 +36,7 @@ impl<P, S> DescriptorAllocator<P, S> {
     /// sets are out or not. A new pool is created for at least 64 sets, or for as many as the limit still
     /// allows, so one set can use up the limit: if that is 500,000, the first set of a layout with 10,000
     /// descriptors comes from a pool of 50 sets. Requests for update-after-bind layouts with other counts
-    /// then fail with `Fragmentation`, and `cleanup` can't destroy that pool while one of its sets is out.
+    /// then fail with `Fragmentation`, and no call destroys that pool while one of its sets is out.
     /// Allocate sets of the small layouts first, give each of two allocators a part of the limit, or bound
     /// the pools by [`set_most_pool_descriptors`](Self::set_most_pool_descriptors).
     /// [`update_after_bind_capacity`](Self::update_after_bind_capacity) returns how much is used.
@@ -71,8 +71,8 @@ impl<P, S> DescriptorAllocator<P, S> {
     /// `Fragmentation` has three causes in practice:
     ///
     /// * The limit leaves no room, for update-after-bind layouts alone. Free sets of such layouts, call
-    ///   [`cleanup`](Self::cleanup), and ask again. [`new`](Self::new) says how the limit is used up.
-    /// * The device refused to create a pool, as its memory is fragmented. Free sets and call `cleanup`, or
+    ///   [`trim`](Self::trim), and ask again. [`new`](Self::new) says how the limit is used up.
+    /// * The device refused to create a pool, as its memory is fragmented. Free sets and call `trim`, or
     ///   destroy other resources of the device, and ask again.
     /// * A new pool returned `FragmentedPool` or `OutOfPoolMemory`. It was destroyed, and asking again
     ///   creates another one. If that fails too, compare the counts and flags with those of the layout.
@@ -216,6 +216,7 @@ impl<P, S> DescriptorAllocator<P, S> {
     }
 
     /// Destroys the oldest pools of each [key](crate), up to the first that has a set. It allocates nothing.
+    /// An empty pool after that one stays, as in the original; [`trim`](Self::trim) destroys it.
     ///
     /// # Safety
     ///
@@ -228,6 +229,23 @@ impl<P, S> DescriptorAllocator<P, S> {
     pub unsafe fn cleanup<L>(&mut self, device: &impl DescriptorDevice<L, P, S>) {
         let device = &mut Adapter { device };
         self.inner.call_in_drop(|inner| inner.cleanup(device));
+    }
+
+    /// Destroys all pools that have no set, wherever they stand. It goes over every pool, and allocates
+    /// nothing. Call it when many sets were freed that don't come again soon. The original has no such
+    /// call.
+    ///
+    /// # Safety
+    ///
+    /// Every call of this allocator gets the same device.
+    ///
+    /// # Panics
+    ///
+    /// The allocator is poisoned. While the thread unwinds it does nothing instead; without std it panics
+    /// even then, which ends the program.
+    pub unsafe fn trim<L>(&mut self, device: &impl DescriptorDevice<L, P, S>) {
+        let device = &mut Adapter { device };
+        self.inner.call_in_drop(|inner| inner.trim(device));
     }
 
     /// Bounds new pools from now on: each has at most `most` descriptors, of all kinds together, unless the

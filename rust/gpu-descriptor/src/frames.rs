@@ -45,7 +45,7 @@ use std_alloc::vec::Vec;
 ///
 /// A panic in a device or in an iterator of sets has the same consequences as in
 /// [`DescriptorAllocator`](crate::DescriptorAllocator): from then on calls with a device panic, but
-/// `finish`, `free` and `cleanup` do nothing while the thread unwinds.
+/// `finish`, `free`, `cleanup` and `trim` do nothing while the thread unwinds.
 ///
 /// A drop destroys no pools: see [At a drop](crate#at-a-drop).
 #[derive(Debug)]
@@ -311,7 +311,8 @@ impl<P, S> FrameManager<P, S> {
     }
 
     /// Destroys the oldest pools of each [key](crate), up to the first that has a set,
-    /// retired or not. It allocates nothing.
+    /// retired or not. It allocates nothing. An empty pool after that one stays; [`trim`](Self::trim)
+    /// destroys it.
     ///
     /// # Safety
     ///
@@ -324,6 +325,22 @@ impl<P, S> FrameManager<P, S> {
     pub unsafe fn cleanup<L>(&mut self, device: &impl DescriptorDevice<L, P, S>) {
         let device = &mut Adapter { device };
         self.inner.call_in_drop(|inner| inner.cleanup(device));
+    }
+
+    /// Destroys all pools that have no set, retired or not, wherever they stand. It goes over every pool,
+    /// and allocates nothing.
+    ///
+    /// # Safety
+    ///
+    /// Every call of this manager gets the same device.
+    ///
+    /// # Panics
+    ///
+    /// The manager is poisoned. While the thread unwinds it does nothing instead; without std it panics
+    /// even then, which ends the program.
+    pub unsafe fn trim<L>(&mut self, device: &impl DescriptorDevice<L, P, S>) {
+        let device = &mut Adapter { device };
+        self.inner.call_in_drop(|inner| inner.trim(device));
     }
 
     /// Bounds the descriptors of each new pool from now on, as

@@ -152,7 +152,7 @@ static RENDERERS: AtomicU32 = AtomicU32::new(0);
 /// If the device panics in a call, or does what it may not (see
 /// [`DescriptorAllocator::allocate`](crate::DescriptorAllocator::allocate)), the renderer is poisoned:
 /// each call that would change something panics. So no set is handed out twice. The calls that a `Drop`
-/// of yours may make don't panic while the thread unwinds: `end_frame`, `gpu_done`, `cleanup`,
+/// of yours may make don't panic while the thread unwinds: `end_frame`, `gpu_done`, `cleanup`, `trim`,
 /// `free_sets`, `free_all`, `destroy_set` and `destroy_sets` do nothing, and `shutdown` is `into_device`.
 /// Without std nobody sees that a thread unwinds, so there they panic, which ends the program.
 ///
@@ -287,9 +287,9 @@ impl<L, P, S, D: DescriptorDevice<L, P, S>> Renderer<L, P, S, D> {
         self.inner.call_in_drop(|inner| inner.gpu_done(frame));
     }
 
-    /// Frees all kept sets, and destroys the oldest pools of each [key](crate) up to the first that has a set,
-    /// the last pool too. Call it between levels, or when memory is short. The sets that are out aren't
-    /// kept when they come back, so that their pools become empty. Sets that come later are kept again.
+    /// Frees all kept sets, and destroys all pools that then have no set, wherever they stand. Call it
+    /// between levels, or when memory is short. The sets that are out aren't kept when they come back, so
+    /// that their pools become empty. Sets that come later are kept again.
     ///
     /// # Panics
     ///
@@ -297,6 +297,17 @@ impl<L, P, S, D: DescriptorDevice<L, P, S>> Renderer<L, P, S, D> {
     /// it panics even then, which ends the program.
     pub fn cleanup(&mut self) {
         self.inner.call_in_drop(|inner| inner.cleanup());
+    }
+
+    /// Destroys all pools that have no set, wherever they stand. Kept sets stay, and so do their pools;
+    /// [`cleanup`](Self::cleanup) frees those first. It goes over every pool, and allocates nothing.
+    ///
+    /// # Panics
+    ///
+    /// The renderer is poisoned. While the thread unwinds the call then does nothing instead; without std
+    /// it panics even then, which ends the program.
+    pub fn trim(&mut self) {
+        self.inner.call_in_drop(|inner| inner.trim());
     }
 
     /// From now on keeps at most `most` sets of each layout; the device frees those above. At first it

@@ -511,6 +511,27 @@ fn a_cleanup_while_sets_are_out() {
     shutdown(it);
 }
 
+/// A trim leaves kept sets and their pools, and takes each pool that has none, wherever it stands.
+#[test]
+fn a_trim_beside_kept_sets() {
+    let gpu = Gpu::default();
+    let (mut it, layouts) = renderer(&gpu, 4);
+    let sets: Vec<SetHandle> = (0..2000)
+        .map(|_| it.create_set(layouts[0]).unwrap())
+        .collect();
+    assert!(gpu.pools.borrow().len() > 6);
+    free(&mut it, &sets[1..1999]);
+    let counted = it.counts();
+    it.trim();
+    // What is kept may lie in as many pools as sets are kept.
+    assert_eq!((it.counts(), gpu.live()), (counted, 6));
+    assert!(gpu.pools.borrow().len() <= 6);
+    free(&mut it, &[sets[0], sets[1999]]);
+    it.cleanup();
+    assert!(gpu.is_empty());
+    shutdown(it);
+}
+
 #[test]
 fn fewer_are_kept_from_now_on() {
     let gpu = Gpu::default();

@@ -177,6 +177,7 @@ fn calls_of_an_allocator() -> Vec<Call<Allocating>> {
         Panics (on.it).allocate_one(&on.device, &on.layout);
         PanicsButInADrop (on.it).free(&on.device, on.sets.drain(..));
         PanicsButInADrop (on.it).cleanup(&on.device);
+        PanicsButInADrop (on.it).trim(&on.device);
         Panics (on.it).set_most_pool_descriptors(None);
         Answers (on.it).most_pool_descriptors();
         Answers (on.it).outstanding();
@@ -240,6 +241,7 @@ fn calls_of_a_manager() -> Vec<Call<Managing>> {
         PanicsButInADrop (on.it).finish(&on.device, 1);
         PanicsButInADrop (on.it).free(&on.device, on.sets.drain(..));
         PanicsButInADrop (on.it).cleanup(&on.device);
+        PanicsButInADrop (on.it).trim(&on.device);
         Answers (on.it).set_most_pool_descriptors(None);
         Answers (on.it).most_pool_descriptors();
         Answers (on.it).reserve(1);
@@ -317,6 +319,7 @@ fn calls_of_a_renderer() -> Vec<Call<Rendering>> {
         PanicsButInADrop (on.it.as_mut().unwrap()).end_frame();
         PanicsButInADrop (on.it.as_mut().unwrap()).gpu_done(9);
         PanicsButInADrop (on.it.as_mut().unwrap()).cleanup();
+        PanicsButInADrop (on.it.as_mut().unwrap()).trim();
         PanicsButInADrop (on.it.as_mut().unwrap()).free_sets(&[on.held]).unwrap();
         PanicsButInADrop (on.it.as_mut().unwrap()).destroy_set(on.held, 1).unwrap();
         PanicsButInADrop (on.it.as_mut().unwrap()).destroy_sets(&[on.held], 1).unwrap();

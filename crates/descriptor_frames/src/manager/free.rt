@@ -7,7 +7,7 @@ ghost use Rattle.gpu_descriptor.specs.Caller.Sets.{items_of};
 ghost use Rattle.gpu_descriptor.specs.Caller.States.{Agrees};
 ghost use Rattle.std.specs.Prelude.{◌≡◌, ◌+◌, ◌≤◌, [], length};
 ghost use Rattle.descriptor_frames.specs.Retired.{later};
-ghost use Rattle.gpu_descriptor.specs.Caller.CleansUp.{CleansUp};
+ghost use Rattle.gpu_descriptor.specs.Caller.CleansUp.{CleansUp, TrimsPools};
 
 use super::FrameManager;
 use crate::due::Due;
@@ -135,5 +135,22 @@ impl<P: Drop, S> FrameManager<P, S> {
             (D.ledger device.old) (D.ledger device.new) }
     {
         self.allocator.cleanup(device);
+    }
+
+    /// Destroys all pools without sets, as `DescriptorAllocator::trim` does. A pool of a retired set
+    /// stays.
+    pub fn trim<L, D: DescriptorDevice<L, P, S>>(&mut self, device: &mut D)
+        requires agree { Agrees D.meaning.pool_name (allocator_of self.old) (D.ledger device.old) }
+        ensures trims { TrimsPools D.meaning (side (allocator_of self.old) (D.ledger device.old))
+            (side (allocator_of self.new) (D.ledger device.new)) }
+        ensures keeps { Keeps D.meaning (side (allocator_of self.old) (D.ledger device.old))
+            (side (allocator_of self.new) (D.ledger device.new)) }
+
+        ensures retired { KeepsRetired D.meaning.pool_name D.meaning.set_name self.old self.new
+            (D.ledger device.old) (D.ledger device.new) }
+        ensures in_use { KeepsInUse D.meaning.pool_name D.meaning.set_name self.old self.new
+            (D.ledger device.old) (D.ledger device.new) }
+    {
+        self.allocator.trim(device);
     }
 }

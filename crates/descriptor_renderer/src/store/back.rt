@@ -1,5 +1,6 @@
 //! Sets that come back: they are kept, or go back to their pools.
 ghost use Rattle.std.specs.Prelude.{◌≡◌, ℕ, ◌+◌, ◌≤◌, ◌↔◌, length, false, IsFalse, IsTrue};
+ghost use Rattle.gpu_descriptor.specs.Caller.CleansUp.{TrimsPools};
 ghost use Rattle.gpu_descriptor.specs.Caller.Keeps.{Keeps};
 
 use super::Store;
@@ -61,7 +62,7 @@ impl<L: Drop, P: Drop, S: Drop, D: DescriptorDevice<L, P, S>> Store<L, P, S, D> 
         giving.end();
     }
 
-    /// Gives all kept sets back, and destroys empty pools. Sets that are in use aren't kept later.
+    /// Gives all kept sets back, and destroys all empty pools. Sets that are in use aren't kept later.
     #[cold]
     pub(crate) fn cleanup(&mut self)
         requires rest { IsAtRest self.old }
@@ -76,7 +77,18 @@ impl<L: Drop, P: Drop, S: Drop, D: DescriptorDevice<L, P, S>> Store<L, P, S, D> 
         self.table.age();
         self.table.trim(0);
         self.give();
-        self.allocator.cleanup(&mut self.device);
+        self.allocator.trim(&mut self.device);
+    }
+
+    /// Destroys all empty pools. Sets that are kept stay.
+    pub(crate) fn trim(&mut self)
+        requires rest { IsAtRest self.old }
+        ensures trims { TrimsPools D.meaning (side_of self.old) (side_of self.new) }
+        ensures slots { slots_in self.new ≡ slots_in self.old }
+        ensures settles { Settles NoneComes 0 self.old self.new }
+        ensures stays { StoreStays (most_of self.old) self.old self.new }
+    {
+        self.allocator.trim(&mut self.device);
     }
 
     /// The sets that wait for a frame up to this one are kept, or go back to their pools.

@@ -10,7 +10,7 @@ use Rattle.gpu_descriptor.specs.Caller.Others.{others_of}
 use Rattle.gpu_descriptor.specs.Caller.Sets.{AreOfLayout, items_of}
 use Rattle.gpu_descriptor.specs.Caller.States.{pool_load_of}
 use Rattle.gpu_descriptor.specs.Model.Agreement.{Item, count_of, live_in, outstanding}
-use Rattle.gpu_descriptor.specs.Model.Books.{Entry, Key, entry_at}
+use Rattle.gpu_descriptor.specs.Model.Books.{Entry, Key}
 use Rattle.gpu_descriptor.specs.Model.OneByOne.{freed_each}
 use Rattle.gpu_descriptor.specs.Model.Runs.{runs}
 use Rattle.gpu_descriptor.specs.declared.errors.AllocationError.{AllocationError}
@@ -86,7 +86,7 @@ module _ {L P S : Type 0} (means : Meaning L P S) where
     -- the pools hold exactly the sets that are held: each is outstanding as often as it is held
     pub exactly : (t : Item) → outstanding (state_on means new) t ≡ count_of t (held_items new)
     -- and no set of other counts lives in them, which `outstanding` doesn't see
-    pub nothing_else : (k : Key) (n : ℕ) (e : Entry) (x : LiveSet) → entry_at ((state_on means new).books k) n ≡ Some e → 0 < live_in new.ledger.pools e.pool x → x.counts ≡ k.counts
+    pub nothing_else : (k : Key) (i : ℕ) (e : Entry) (x : LiveSet) → slice_get ((state_on means new).books k).pools i ≡ Some e → 0 < live_in new.ledger.pools e.pool x → x.counts ≡ k.counts
     -- and these are the sets that were handed out and not returned
     pub handed_out : HoldsWhatIsOut command reply old new
     -- neither the held marked sets nor the marked pools have more descriptors than the limit, which stays

@@ -1,75 +1,18 @@
--- Cleaning up, row by row.
-use Rattle.gpu_descriptor.proofs.Common.{◌≡◌, ℕ, zero, suc, ◌+◌, ◌-◌, ◌<◌, ◌≤◌, Bool, true, false, not, ◌==◌, List, [], ◌∷◌, ◌++◌, length, map, filter, set, take, drop, sum_by, slice_get, Option, Some, None, option_map, inl, inr, refl, sym, ap, subst, ◌∙◌, arith, length-drop, if◌then◌else◌, fun_ext, list_any, cases_Bool, false_from_ne_true, append-nil, drop_all, length-map, take_all, sum_by-cons, sum_by_more, get_or_from_slice_get, slice_get-map, slice_get_within, Pool, Ledger, BucketKey, DescriptorPool, DescriptorBucket, State, Agree, Key, key_eq, Bucket, entry_at, no_pools, books_of, HasDistinctKeys, key_of, Allocations, common_steps, list_any_more, AreBookedIn, has_pools, trimmed_bucket, trimmed_ledger, more_destroyed, empty_front, in_front, cleaned_bucket, IsCleaned, pools_cleaned, named_row, state_of, row_of, bucket_of, IsConsistent}
+-- Cleaning up and trimming, row by row.
+use Rattle.gpu_descriptor.proofs.Common.{◌≡◌, ℕ, zero, suc, ◌+◌, ◌<◌, ◌≤◌, Bool, true, false, not, ◌==◌, List, [], ◌∷◌, ◌++◌, length, map, filter, set, take, drop, sum_by, slice_get, Option, Some, None, option_map, inl, inr, refl, sym, ap, subst, ◌∙◌, arith, eq-eqb, ne_eqb, if◌then◌else◌, fun_ext, list_any, cases_Bool, false_from_ne_true, append-nil, drop_all, length-map, take_all, sum_by-cons, sum_by_more, get_or_from_slice_get, slice_get-map, slice_get_within, Pool, Ledger, BucketKey, DescriptorPool, DescriptorBucket, State, Agree, Key, key_eq, Bucket, Entry, no_pools, books_of, HasDistinctKeys, key_of, Allocations, common_steps, list_any_more, AreBookedIn, has_pools, ledger_but, more_destroyed, LosesEmpty, are_named, gone_of, left_of, pools_lost, with_pools, named_row, state_of, row_of, bucket_of, IsConsistent}
 use Rattle.indexmap.specs.Layout.{set_value_at}
 use Rattle.gpu_descriptor.specs.Caller.States.{keys_of}
 use Rattle.gpu_descriptor.proofs.lists.AtPlaces.{found_before, none_at}
 use Rattle.gpu_descriptor.proofs.table.Exact.{key_exact}
-use Rattle.gpu_descriptor.proofs.release.Fronts.{whole_front, entry_at-from}
-use Rattle.gpu_descriptor.proofs.release.ReleaseAgrees.{front_found}
+use Rattle.gpu_descriptor.proofs.cleanup.Splitting.{gone_at, named_at, no_pools_left, split}
 use Rattle.gpu_descriptor.proofs.foreign.LedgerPools.{destroyed_both}
 use Rattle.gpu_descriptor.proofs.sums.Loads.{set_descriptors-none, rows_load, rows_out, rows_pool_load, stored_load_in, sum_put}
 use Rattle.gpu_descriptor.proofs.table.TableBooks.{rows_in, rows_are, keys_are}
-use Rattle.gpu_descriptor.proofs.table.Tables.{key_eq_symm, absent}
+use Rattle.gpu_descriptor.proofs.table.Tables.{key_eq_symm, none_behind}
 use Rattle.gpu_descriptor.proofs.request.StateAgrees.{booked_of}
 
 abbrev pub Rows : Type 0
 Rows = List (Key × Bucket)
-
--- whether a pool is in the empty front
-abbrev pub front : Bucket → ℕ → Bool
-front b p = in_front (empty_front b) b p
-
-abbrev pub cleared_row : Key × Bucket → Key × Bucket
-cleared_row r = (r.0, trimmed_bucket 0 r.1)
-
--- the first n rows are cleared
-abbrev pub cleared : ℕ → Rows → Rows
-cleared n rows = map cleared_row (take n rows) ++ drop n rows
-
--- whether a pool goes with these rows
-abbrev pub gone : Rows → ℕ → Bool
-gone rows p = list_any (λ r. front r.1 p) rows
-
-abbrev pub pools_less : Rows → (ℕ → Option Pool) → ℕ → Option Pool
-pools_less rows pools p = if gone rows p then None else pools p
-
--- the ledger after the empty fronts of these rows were destroyed
-abbrev pub ledger_less : Rows → Ledger → Ledger
-ledger_less rows l = record { pools = pools_less rows l.pools; counters = more_destroyed (sum_by (λ r. empty_front r.1) rows) l.counters }
-
--- ---- one row more
-
-cleared_at : (rows : Rows) (i : ℕ) → slice_get (cleared i rows) i ≡ slice_get rows i
-cleared_at [] zero = refl
-cleared_at [] (suc i) = refl
-cleared_at (x ∷ rows) zero = refl
-cleared_at (x ∷ rows) (suc i) = cleared_at rows i
-
-cleared_set : (rows : Rows) (i : ℕ) (r : Key × Bucket) → slice_get rows i ≡ Some r → set (cleared i rows) i (cleared_row r) ≡ cleared (suc i) rows
-cleared_set [] i r at = absurd (let bad : ◌≡◌ {A = Option (Key × Bucket)} None (Some r) = at in cc)
-cleared_set (x ∷ rows) zero r at = (let same : Some x ≡ Some r = at in let eq : x ≡ r = cc in ap (λ (y : Key × Bucket). cleared_row y ∷ rows) (sym eq))
-cleared_set (x ∷ rows) (suc i) r at = ap (λ (l : Rows). cleared_row x ∷ l) (cleared_set rows i r at)
-
-module _ {P : Type 0} (name : P → ℕ) where
-  rows_set : (es : List (BucketKey × DescriptorBucket P)) (i : ℕ) (k : BucketKey) (v w : DescriptorBucket P) → slice_get es i ≡ Some (k, v) → rows_in name (set_value_at es i w) ≡ set (rows_in name es) i (key_of k, bucket_of name w)
-  rows_set [] i k v w at = absurd (let bad : ◌≡◌ {A = Option (BucketKey × DescriptorBucket P)} None (Some (k, v)) = at in cc)
-  rows_set (e ∷ es) zero k v w at = (let same : Some e ≡ Some (k, v) = at in let eq : e ≡ (k, v) = cc in ap (λ (x : BucketKey × DescriptorBucket P). (key_of x.0, bucket_of name w) ∷ rows_in name es) eq)
-  rows_set (e ∷ es) (suc i) k v w at = ap (λ (l : Rows). (key_of e.0, bucket_of name e.1) ∷ l) (rows_set es i k v w at)
-
-  -- the row that is next stands there as it did
-  pub next : (i : ℕ) (es : List (BucketKey × DescriptorBucket P)) (rows : Rows) (k : BucketKey) (v : DescriptorBucket P) → rows_in name es ≡ cleared i rows → slice_get es i ≡ Some (k, v) → slice_get rows i ≡ Some (key_of k, bucket_of name v)
-  next i es rows k v h at = sym (cleared_at rows i) ∙ ap (λ (l : Rows). slice_get l i) (sym h) ∙ slice_get-map (λ (e : BucketKey × DescriptorBucket P). (key_of e.0, bucket_of name e.1)) es i ∙ ap (option_map (λ (e : BucketKey × DescriptorBucket P). (key_of e.0, bucket_of name e.1))) at
-
-  pub step_rows : (i : ℕ) (es : List (BucketKey × DescriptorBucket P)) (rows : Rows) (k : BucketKey) (v w : DescriptorBucket P) → rows_in name es ≡ cleared i rows → slice_get es i ≡ Some (k, v) → bucket_of name w ≡ trimmed_bucket 0 (bucket_of name v) → rows_in name (set_value_at es i w) ≡ cleared (suc i) rows
-  step_rows i es rows k v w h at new =
-      rows_set es i k v w at ∙ ap (λ (b : Bucket). set (rows_in name es) i (key_of k, b)) new
-      ∙ ap (λ (l : Rows). set l i (cleared_row (key_of k, bucket_of name v))) h ∙ cleared_set rows i (key_of k, bucket_of name v) (next i es rows k v h at)
-
-pub step_less : (i : ℕ) (rows : Rows) (r : Key × Bucket) (l now after : Ledger) → slice_get rows i ≡ Some r → now ≡ ledger_less (take i rows) l → after ≡ trimmed_ledger 0 r.1 now → after ≡ ledger_less (take (i + 1) rows) l
-step_less i rows r l now after at was done =
-    let within = slice_get_within rows i r at in
-    let read = get_or_from_slice_get rows i r r at in
-    grind (arith, common_steps, destroyed_both, fun_ext, list_any_more, sum_by_more, whole_front)
 
 -- ---- rows with distinct keys
 
@@ -84,126 +27,198 @@ row_books [] i r h at = absurd (let bad : ◌≡◌ {A = Option (Key × Bucket)}
 row_books (x ∷ rows) zero r h at = (let is : Some x ≡ Some r = at in let eq : x ≡ r = cc in subst (λ (y : Key × Bucket). books_of (x ∷ rows) y.0 ≡ y.1) eq (rw (key_exact.self x.0) refl))
 row_books (x ∷ rows) (suc i) r h at = grind (arith, key_eq_symm, none_at, (row_books rows i r h.1 at))
 
--- the next row stands in the ledger still
-pub next_stored : (rows : Rows) (pools : ℕ → Option Pool) (i : ℕ) (r : Key × Bucket) → HasDistinctKeys rows → Agree (record { books = books_of rows; ledger = pools }) → slice_get rows i ≡ Some r → AreBookedIn r.0 (pools_less (take i rows) pools) r.1.pools
-next_stored rows pools i r distinct agree at =
-    let s : State = record { books = books_of rows; ledger = pools } in
-    let own : books_of rows r.0 ≡ r.1 = row_books rows i r distinct at in
-    let was : AreBookedIn r.0 pools r.1.pools = subst (λ (b : Bucket). AreBookedIn r.0 pools b.pools) own (booked_of s r.0 agree) in
-    record {
-      distinct = was.distinct;
-      each = λ j e here.
-          let booked = was.each j e here in
-          let stays : gone (take i rows) e.pool ≡ false = false_from_ne_true (gone (take i rows) e.pool) (λ h.
-          let found = found_before (λ (x : Key × Bucket). front x.1 e.pool) rows i h in
-          let q = found.1 in
-          let other : books_of rows q.0 ≡ q.1 = row_books rows found.0 q distinct found.3 in
-          let inside = front_found q.1.pools (empty_front q.1) e.pool found.4 in
-          let a : q.1.offset + inside.0 - q.1.offset ≡ inside.0 = omega arith in
-          let b : r.1.offset + j - r.1.offset ≡ j = omega arith in
-          let there : entry_at q.1 (q.1.offset + inside.0) ≡ Some inside.1 = entry_at-from q.1 (q.1.offset + inside.0) inside.1 (omega arith) (rw a inside.3) in
-          let mine : entry_at r.1 (r.1.offset + j) ≡ Some e = entry_at-from r.1 (r.1.offset + j) e (omega arith) (rw b here) in
-          let same = (agree.distinct q.0 r.0 (q.1.offset + inside.0) (r.1.offset + j) inside.1 e (ap (λ (x : Bucket). entry_at x (q.1.offset + inside.0)) other ∙ there) (ap (λ (x : Bucket). entry_at x (r.1.offset + j)) own ∙ mine) inside.4).0 in
-          apart rows found.0 i q r distinct found.2 found.3 at same) in
-          grind (arith, common_steps);
-    }
-
-any_gone : (rows : Rows) (k : Key) (p : ℕ) → front (books_of rows k) p ≡ true → gone rows p ≡ true
-any_gone [] k p h = absurd (let bad : true ≡ false = sym h in cc)
-any_gone (r ∷ rows) k p h = grind (arith, (any_gone rows k p))
-
--- what is left of a bucket that is cleared
-left_some : (b : Bucket) → (length (trimmed_bucket 0 b).pools == 0) ≡ false → trimmed_bucket 0 b ≡ cleaned_bucket b
-left_some b more = grind (arith, length-drop)
-
-left_none : (b : Bucket) → (length (trimmed_bucket 0 b).pools == 0) ≡ true → cleaned_bucket b ≡ no_pools
-left_none b none = grind (arith, length-drop, whole_front)
-
--- ---- all rows
+-- a row's key has no other
+absent_row : (r : Key × Bucket) (rows : Rows) (k : Key) → HasDistinctKeys (r ∷ rows) → key_eq r.0 k ≡ true → books_of rows k ≡ no_pools
+absent_row r rows k d at = none_behind r rows d k at
 
 -- the row has pools
 abbrev pub has_row : Key × Bucket → Bool
 has_row r = not (length r.1.pools == 0)
 
-pub all_cleared : (n : ℕ) (rows : Rows) → length rows ≤ n → cleared n rows ≡ map cleared_row rows
-all_cleared n rows le = ap (λ (l : Rows). map cleared_row (take n rows) ++ l) (drop_all n rows le) ∙ append-nil (map cleared_row (take n rows)) ∙ ap (map cleared_row) (take_all n rows le)
+pub rows_left : {P : Type 0} (name : P → ℕ) (es : List (BucketKey × DescriptorBucket P)) → rows_in name (filter (λ e. has_pools e.1) es) ≡ filter has_row (rows_in name es)
+rows_left name [] = refl
+rows_left name (e ∷ es) = grind (arith, length-map, (rows_left name es))
 
--- the rows that are left
-left_books : (rows : Rows) (k : Key) → HasDistinctKeys rows → books_of (filter has_row (map cleared_row rows)) k ≡ cleaned_bucket (books_of rows k)
-left_books [] k d = refl
-left_books (r ∷ rows) k d = elim (cases_Bool (length (trimmed_bucket 0 r.1).pools == 0)) [
-  | inl none ↦ rw none (left_books rows k d.1 ∙ elim (cases_Bool (key_eq r.0 k)) [
-    | inl at ↦ (
-        grind (arith, common_steps, absent, key_exact, left_none))
-    | inr other ↦ rw other refl
-  ])
-  | inr some ↦ rw some (elim (cases_Bool (key_eq r.0 k)) [
-    | inl at ↦ rw at (left_some r.1 some)
-    | inr other ↦ rw other (left_books rows k d.1)
-  ])
-]
+module _ (everywhere : Bool) where
+  -- whether a pool goes
+  abbrev pub goes : Bucket → ℕ → Bool
+  goes b p = are_named (gone_of everywhere b.pools) p
 
-module _ {P : Type 0} (name : P → ℕ) where
-  pub rows_left : (es : List (BucketKey × DescriptorBucket P)) → rows_in name (filter (λ e. has_pools e.1) es) ≡ filter has_row (rows_in name es)
-  rows_left [] = refl
-  rows_left (e ∷ es) = grind (arith, length-map, (rows_left es))
+  -- the bucket without the pools that go
+  abbrev pub less : Bucket → Bucket
+  less b = record b { pools = left_of everywhere b.pools }
 
-  pub is_cleaned : (es : List (BucketKey × DescriptorBucket P)) (rows : Rows) (pools : ℕ → Option Pool) → HasDistinctKeys rows → rows_in name es ≡ map cleared_row rows
-      → IsCleaned (record { books = books_of rows; ledger = pools }) (record { books = books_of (rows_in name (filter (λ e. has_pools e.1) es)); ledger = pools_less rows pools })
-  is_cleaned es rows pools d h = record {
-    books = λ k. ap (λ (l : Rows). books_of l k) (rows_left es ∙ ap (filter has_row) h) ∙ left_books rows k d;
-    gone = λ k p here. rw (any_gone rows k p here) refl;
-    kept = λ p no_key. (
-        let stays : gone rows p ≡ false = false_from_ne_true (gone rows p) (λ hit.
-        let found = found_before (λ (x : Key × Bucket). front x.1 p) rows (length rows) (ap (λ (l : Rows). gone l p) (take_all (length rows) rows (omega arith)) ∙ hit) in
-        let own = row_books rows found.0 found.1 d found.3 in
-        let bad : true ≡ false = sym (ap (λ (b : Bucket). front b p) own ∙ found.4) ∙ no_key found.1.0 in cc) in
-        rw stays refl);
-  }
+  abbrev pub cleared_row : Key × Bucket → Key × Bucket
+  cleared_row r = (r.0, less r.1)
 
--- ---- how many pools go
+  -- the first n rows are cleared
+  abbrev pub cleared : ℕ → Rows → Rows
+  cleared n rows = map cleared_row (take n rows) ++ drop n rows
 
--- a row that comes before is of another key
-skip_row : (r : Key × Bucket) (rows qs : Rows) → list_any (λ other. key_eq other.0 r.0) qs ≡ false → sum_by (λ k. empty_front (books_of (r ∷ rows) k)) (map (λ q. q.0) qs) ≡ sum_by (λ k. empty_front (books_of rows k)) (map (λ q. q.0) qs)
-skip_row r rows [] none = refl
-skip_row r rows (q ∷ qs) none = grind (arith, common_steps, key_eq_symm, (skip_row r rows qs))
+  -- whether a pool goes with these rows
+  abbrev pub gone : Rows → ℕ → Bool
+  gone rows p = list_any (λ r. goes r.1 p) rows
 
-by_keys : (rows : Rows) → HasDistinctKeys rows → sum_by (λ k. empty_front (books_of rows k)) (map (λ r. r.0) rows) ≡ sum_by (λ r. empty_front r.1) rows
-by_keys [] d = refl
-by_keys (r ∷ rows) d =
-    let skip = skip_row r rows rows d.0 in
-    grind (arith, common_steps, key_exact, sum_by-cons, (by_keys rows d.1))
+  abbrev pub pools_less : Rows → (ℕ → Option Pool) → ℕ → Option Pool
+  pools_less rows pools p = if gone rows p then None else pools p
 
-module _ {P : Type 0} (name : P → ℕ) where
-  state_is : (a : Allocations P) (l : Ledger) (es : List (BucketKey × DescriptorBucket P)) → a.table ≡ map row_of es → state_of name a l ≡ record { books = books_of (rows_in name es); ledger = l.pools }
-  state_is a l es is = (let rows = ap (map (named_row name)) is ∙ rows_are name es in λ i. record { books = books_of (rows i); ledger = l.pools })
+  -- the ledger after these rows' pools that go were destroyed
+  abbrev pub ledger_less : Rows → Ledger → Ledger
+  ledger_less rows l = record { pools = pools_less rows l.pools; counters = more_destroyed (sum_by (λ r. length (gone_of everywhere r.1.pools)) rows) l.counters }
 
-  pub agree_is : (a : Allocations P) (l : Ledger) (es : List (BucketKey × DescriptorBucket P)) → a.table ≡ map row_of es → Agree (state_of name a l) → Agree (record { books = books_of (rows_in name es); ledger = l.pools })
-  agree_is a l es is agree = subst Agree (state_is a l es is) agree
+  -- ---- one row more
 
-  pub whole_clean : (a : Allocations P) (l k : Ledger) (es now fs : List (BucketKey × DescriptorBucket P)) (limit : ℕ) → a.table ≡ map row_of es → HasDistinctKeys (rows_in name es) → rows_in name now ≡ map cleared_row (rows_in name es) → k ≡ ledger_less (rows_in name es) l → fs ≡ filter (λ e. has_pools e.1) now
-      → IsCleaned (state_of name a l) (state_of name (record { limit = limit; most = None; table = map row_of fs; looks = 0; comparisons = 0 }) k)
-  whole_clean a l k es now fs limit is distinct rows pools kept =
-      let new : Allocations P = record { limit = limit; most = None; table = map row_of fs; looks = 0; comparisons = 0 } in
-      let new_is : state_of name new k ≡ record { books = books_of (rows_in name (filter (λ e. has_pools e.1) now)); ledger = pools_less (rows_in name es) l.pools } =
-      state_is new k fs refl ∙ (λ i. record { books = books_of (rows_in name (kept i)); ledger = (pools i).pools }) in
-      subst (λ t. IsCleaned (state_of name a l) t) (sym new_is) (subst (λ s. IsCleaned s (record { books = books_of (rows_in name (filter (λ e. has_pools e.1) now)); ledger = pools_less (rows_in name es) l.pools })) (sym (state_is a l es is)) (is_cleaned name now (rows_in name es) l.pools distinct rows))
+  cleared_at : (rows : Rows) (i : ℕ) → slice_get (cleared i rows) i ≡ slice_get rows i
+  cleared_at [] zero = refl
+  cleared_at [] (suc i) = refl
+  cleared_at (x ∷ rows) zero = refl
+  cleared_at (x ∷ rows) (suc i) = cleared_at rows i
 
-  pub first_keys : (es : List (BucketKey × DescriptorBucket P)) → map (λ (r : Key × Bucket). r.0) (rows_in name es) ≡ map (λ e. key_of e.0) es
-  first_keys [] = refl
-  first_keys (e ∷ es) = ap (λ (l : List Key). key_of e.0 ∷ l) (first_keys es)
+  cleared_set : (rows : Rows) (i : ℕ) (r : Key × Bucket) → slice_get rows i ≡ Some r → set (cleared i rows) i (cleared_row r) ≡ cleared (suc i) rows
+  cleared_set [] i r at = absurd (let bad : ◌≡◌ {A = Option (Key × Bucket)} None (Some r) = at in cc)
+  cleared_set (x ∷ rows) zero r at = (let same : Some x ≡ Some r = at in let eq : x ≡ r = cc in ap (λ (y : Key × Bucket). cleared_row y ∷ rows) (sym eq))
+  cleared_set (x ∷ rows) (suc i) r at = ap (λ (l : Rows). cleared_row x ∷ l) (cleared_set rows i r at)
 
-  pub whole_count : (a : Allocations P) (l k : Ledger) (es : List (BucketKey × DescriptorBucket P)) → a.table ≡ map row_of es → HasDistinctKeys (rows_in name es) → k ≡ ledger_less (rows_in name es) l
-      → k.counters ≡ more_destroyed (pools_cleaned (keys_of a) (state_of name a l)) l.counters
-  whole_count a l k es is distinct all =
-      let keys : keys_of a ≡ map (λ (r : Key × Bucket). r.0) (rows_in name es) = keys_are a es is ∙ sym (first_keys es) in
-      let sum = (λ i. pools_cleaned (keys i) (state_is a l es is i)) ∙ by_keys (rows_in name es) distinct in
-      ap (λ (m : Ledger). m.counters) all ∙ ap (λ (m : ℕ). more_destroyed m l.counters) (sym sum)
+  module _ {P : Type 0} (name : P → ℕ) where
+    rows_set : (es : List (BucketKey × DescriptorBucket P)) (i : ℕ) (k : BucketKey) (v w : DescriptorBucket P) → slice_get es i ≡ Some (k, v) → rows_in name (set_value_at es i w) ≡ set (rows_in name es) i (key_of k, bucket_of name w)
+    rows_set [] i k v w at = absurd (let bad : ◌≡◌ {A = Option (BucketKey × DescriptorBucket P)} None (Some (k, v)) = at in cc)
+    rows_set (e ∷ es) zero k v w at = (let same : Some e ≡ Some (k, v) = at in let eq : e ≡ (k, v) = cc in ap (λ (x : BucketKey × DescriptorBucket P). (key_of x.0, bucket_of name w) ∷ rows_in name es) eq)
+    rows_set (e ∷ es) (suc i) k v w at = ap (λ (l : Rows). (key_of e.0, bucket_of name e.1) ∷ l) (rows_set es i k v w at)
+
+    -- the row that is next stands there as it did
+    pub next : (i : ℕ) (es : List (BucketKey × DescriptorBucket P)) (rows : Rows) (k : BucketKey) (v : DescriptorBucket P) → rows_in name es ≡ cleared i rows → slice_get es i ≡ Some (k, v) → slice_get rows i ≡ Some (key_of k, bucket_of name v)
+    next i es rows k v h at = sym (cleared_at rows i) ∙ ap (λ (l : Rows). slice_get l i) (sym h) ∙ slice_get-map (λ (e : BucketKey × DescriptorBucket P). (key_of e.0, bucket_of name e.1)) es i ∙ ap (option_map (λ (e : BucketKey × DescriptorBucket P). (key_of e.0, bucket_of name e.1))) at
+
+    pub step_rows : (i : ℕ) (es : List (BucketKey × DescriptorBucket P)) (rows : Rows) (k : BucketKey) (v w : DescriptorBucket P) → rows_in name es ≡ cleared i rows → slice_get es i ≡ Some (k, v) → bucket_of name w ≡ less (bucket_of name v) → rows_in name (set_value_at es i w) ≡ cleared (suc i) rows
+    step_rows i es rows k v w h at new =
+        rows_set es i k v w at ∙ ap (λ (b : Bucket). set (rows_in name es) i (key_of k, b)) new
+        ∙ ap (λ (l : Rows). set l i (cleared_row (key_of k, bucket_of name v))) h ∙ cleared_set rows i (key_of k, bucket_of name v) (next i es rows k v h at)
+
+  pub step_less : (i : ℕ) (rows : Rows) (r : Key × Bucket) (l now after : Ledger) → slice_get rows i ≡ Some r → now ≡ ledger_less (take i rows) l → after ≡ ledger_but (gone_of everywhere r.1.pools) now → after ≡ ledger_less (take (i + 1) rows) l
+  step_less i rows r l now after at was done =
+      let within = slice_get_within rows i r at in
+      let read = get_or_from_slice_get rows i r r at in
+      grind (arith, common_steps, destroyed_both, fun_ext, list_any_more, sum_by_more)
+
+  -- the next row stands in the ledger still
+  pub next_stored : (rows : Rows) (pools : ℕ → Option Pool) (i : ℕ) (r : Key × Bucket) → HasDistinctKeys rows → Agree (record { books = books_of rows; ledger = pools }) → slice_get rows i ≡ Some r → AreBookedIn r.0 (pools_less (take i rows) pools) r.1.pools
+  next_stored rows pools i r distinct agree at =
+      let s : State = record { books = books_of rows; ledger = pools } in
+      let own : books_of rows r.0 ≡ r.1 = row_books rows i r distinct at in
+      let was : AreBookedIn r.0 pools r.1.pools = subst (λ (b : Bucket). AreBookedIn r.0 pools b.pools) own (booked_of s r.0 agree) in
+      record {
+        distinct = was.distinct;
+        each = λ j e here.
+            let booked = was.each j e here in
+            let stays : gone (take i rows) e.pool ≡ false = false_from_ne_true (gone (take i rows) e.pool) (λ h.
+            let found = found_before (λ (x : Key × Bucket). goes x.1 e.pool) rows i h in
+            let q = found.1 in
+            let other : books_of rows q.0 ≡ q.1 = row_books rows found.0 q distinct found.3 in
+            let inside = named_at (gone_of everywhere q.1.pools) e.pool found.4 in
+            let there = gone_at q.1.pools (left_of everywhere q.1.pools) (gone_of everywhere q.1.pools) (split everywhere q.1.pools) inside.0 inside.1 inside.2 in
+            let same = (agree.distinct q.0 r.0 there.0 j inside.1 e (ap (λ (x : Bucket). slice_get x.pools there.0) other ∙ there.1) (ap (λ (x : Bucket). slice_get x.pools j) own ∙ here) inside.3).0 in
+            apart rows found.0 i q r distinct found.2 found.3 at same) in
+            grind (arith, common_steps);
+      }
+
+  nothing_goes : (p : ℕ) → goes no_pools p ≡ false
+  nothing_goes p = none_named everywhere p
+    where
+      none_named : (everywhere : Bool) (p : ℕ) → are_named (gone_of everywhere []) p ≡ false
+      none_named true p = refl
+      none_named false p = refl
+
+  any_gone : (rows : Rows) (k : Key) (p : ℕ) → goes (books_of rows k) p ≡ true → gone rows p ≡ true
+  any_gone [] k p h = absurd (let bad : true ≡ false = sym h ∙ nothing_goes p in cc)
+  any_gone (r ∷ rows) k p h = grind (arith, (any_gone rows k p))
+
+  -- what is left of a bucket that is cleared
+  left_some : (b : Bucket) (es : List Entry) → (length es == 0) ≡ false → ◌≡◌ {A = Bucket} (record b { pools = es }) (with_pools b es)
+  left_some b [] more = absurd (let bad : true ≡ false = sym (eq-eqb 0 0 refl) ∙ more in cc)
+  left_some b (e ∷ es) more = refl
+
+  left_none : (b : Bucket) (es : List Entry) → (length es == 0) ≡ true → with_pools b es ≡ no_pools
+  left_none b [] none = refl
+  left_none b (e ∷ es) none = absurd (let bad : true ≡ false = sym none ∙ ne_eqb (length (e ∷ es)) 0 (λ z. omega arith) in cc)
+
+  -- ---- all rows
+
+  pub all_cleared : (n : ℕ) (rows : Rows) → length rows ≤ n → cleared n rows ≡ map cleared_row rows
+  all_cleared n rows le = ap (λ (l : Rows). map cleared_row (take n rows) ++ l) (drop_all n rows le) ∙ append-nil (map cleared_row (take n rows)) ∙ ap (map cleared_row) (take_all n rows le)
+
+  -- the rows that are left
+  left_books : (rows : Rows) (k : Key) → HasDistinctKeys rows → books_of (filter has_row (map cleared_row rows)) k ≡ with_pools (books_of rows k) (left_of everywhere (books_of rows k).pools)
+  left_books [] k d = sym (ap (with_pools no_pools) (no_pools_left everywhere))
+  left_books (r ∷ rows) k d = elim (cases_Bool (length (left_of everywhere r.1.pools) == 0)) [
+    | inl none ↦ rw none (left_books rows k d.1 ∙ elim (cases_Bool (key_eq r.0 k)) [
+      | inl at ↦ (
+          let gone_row : books_of rows k ≡ no_pools = absent_row r rows k d at in
+          rw at (ap (λ (b : Bucket). with_pools b (left_of everywhere b.pools)) gone_row ∙ ap (with_pools no_pools) (no_pools_left everywhere) ∙ sym (left_none r.1 (left_of everywhere r.1.pools) none)))
+      | inr other ↦ rw other refl
+    ])
+    | inr some ↦ rw some (elim (cases_Bool (key_eq r.0 k)) [
+      | inl at ↦ rw at (left_some r.1 (left_of everywhere r.1.pools) some)
+      | inr other ↦ rw other (left_books rows k d.1)
+    ])
+  ]
+
+  module _ {P : Type 0} (name : P → ℕ) where
+    pub is_cleaned : (es : List (BucketKey × DescriptorBucket P)) (rows : Rows) (pools : ℕ → Option Pool) → HasDistinctKeys rows → rows_in name es ≡ map cleared_row rows
+        → LosesEmpty everywhere (record { books = books_of rows; ledger = pools }) (record { books = books_of (rows_in name (filter (λ e. has_pools e.1) es)); ledger = pools_less rows pools })
+    is_cleaned es rows pools d h = record {
+      books = λ k. ap (λ (l : Rows). books_of l k) (rows_left name es ∙ ap (filter has_row) h) ∙ left_books rows k d;
+      gone = λ k p here. rw (any_gone rows k p here) refl;
+      kept = λ p no_key. (
+          let stays : gone rows p ≡ false = false_from_ne_true (gone rows p) (λ hit.
+          let found = found_before (λ (x : Key × Bucket). goes x.1 p) rows (length rows) (ap (λ (l : Rows). gone l p) (take_all (length rows) rows (omega arith)) ∙ hit) in
+          let own = row_books rows found.0 found.1 d found.3 in
+          let bad : true ≡ false = sym (ap (λ (b : Bucket). goes b p) own ∙ found.4) ∙ no_key found.1.0 in cc) in
+          rw stays refl);
+    }
+
+  -- ---- how many pools go
+
+  -- a row that comes before is of another key
+  skip_row : (r : Key × Bucket) (rows qs : Rows) → list_any (λ other. key_eq other.0 r.0) qs ≡ false → sum_by (λ k. length (gone_of everywhere (books_of (r ∷ rows) k).pools)) (map (λ q. q.0) qs) ≡ sum_by (λ k. length (gone_of everywhere (books_of rows k).pools)) (map (λ q. q.0) qs)
+  skip_row r rows [] none = refl
+  skip_row r rows (q ∷ qs) none = grind (arith, common_steps, key_eq_symm, (skip_row r rows qs))
+
+  by_keys : (rows : Rows) → HasDistinctKeys rows → sum_by (λ k. length (gone_of everywhere (books_of rows k).pools)) (map (λ r. r.0) rows) ≡ sum_by (λ r. length (gone_of everywhere r.1.pools)) rows
+  by_keys [] d = refl
+  by_keys (r ∷ rows) d =
+      let skip = skip_row r rows rows d.0 in
+      grind (arith, common_steps, key_exact, sum_by-cons, (by_keys rows d.1))
+
+  module _ {P : Type 0} (name : P → ℕ) where
+    state_is : (a : Allocations P) (l : Ledger) (es : List (BucketKey × DescriptorBucket P)) → a.table ≡ map row_of es → state_of name a l ≡ record { books = books_of (rows_in name es); ledger = l.pools }
+    state_is a l es is = (let rows = ap (map (named_row name)) is ∙ rows_are name es in λ i. record { books = books_of (rows i); ledger = l.pools })
+
+    pub agree_is : (a : Allocations P) (l : Ledger) (es : List (BucketKey × DescriptorBucket P)) → a.table ≡ map row_of es → Agree (state_of name a l) → Agree (record { books = books_of (rows_in name es); ledger = l.pools })
+    agree_is a l es is agree = subst Agree (state_is a l es is) agree
+
+    pub whole_clean : (a : Allocations P) (l k : Ledger) (es now fs : List (BucketKey × DescriptorBucket P)) (limit : ℕ) → a.table ≡ map row_of es → HasDistinctKeys (rows_in name es) → rows_in name now ≡ map cleared_row (rows_in name es) → k ≡ ledger_less (rows_in name es) l → fs ≡ filter (λ e. has_pools e.1) now
+        → LosesEmpty everywhere (state_of name a l) (state_of name (record { limit = limit; most = None; table = map row_of fs; looks = 0; comparisons = 0 }) k)
+    whole_clean a l k es now fs limit is distinct rows pools kept =
+        let new : Allocations P = record { limit = limit; most = None; table = map row_of fs; looks = 0; comparisons = 0 } in
+        let new_is : state_of name new k ≡ record { books = books_of (rows_in name (filter (λ e. has_pools e.1) now)); ledger = pools_less (rows_in name es) l.pools } =
+        state_is new k fs refl ∙ (λ i. record { books = books_of (rows_in name (kept i)); ledger = (pools i).pools }) in
+        subst (λ t. LosesEmpty everywhere (state_of name a l) t) (sym new_is) (subst (λ s. LosesEmpty everywhere s (record { books = books_of (rows_in name (filter (λ e. has_pools e.1) now)); ledger = pools_less (rows_in name es) l.pools })) (sym (state_is a l es is)) (is_cleaned name now (rows_in name es) l.pools distinct rows))
+
+    pub first_keys : (es : List (BucketKey × DescriptorBucket P)) → map (λ (r : Key × Bucket). r.0) (rows_in name es) ≡ map (λ e. key_of e.0) es
+    first_keys [] = refl
+    first_keys (e ∷ es) = ap (λ (l : List Key). key_of e.0 ∷ l) (first_keys es)
+
+    pub whole_count : (a : Allocations P) (l k : Ledger) (es : List (BucketKey × DescriptorBucket P)) → a.table ≡ map row_of es → HasDistinctKeys (rows_in name es) → k ≡ ledger_less (rows_in name es) l
+        → k.counters ≡ more_destroyed (pools_lost everywhere (keys_of a) (state_of name a l)) l.counters
+    whole_count a l k es is distinct all =
+        let keys : keys_of a ≡ map (λ (r : Key × Bucket). r.0) (rows_in name es) = keys_are a es is ∙ sym (first_keys es) in
+        let sum = (λ i. pools_lost everywhere (keys i) (state_is a l es is i)) ∙ by_keys (rows_in name es) distinct in
+        ap (λ (m : Ledger). m.counters) all ∙ ap (λ (m : ℕ). more_destroyed m l.counters) (sym sum)
 
 -- ---- the running totals stay
 
 -- a sum over those that count
-sum_filter : {A : Type 0} (f : A → ℕ) (p : A → Bool) → ((x : A) → p x ≡ false → f x ≡ 0) → (xs : List A) → sum_by f (filter p xs) ≡ sum_by f xs
+pub sum_filter : {A : Type 0} (f : A → ℕ) (p : A → Bool) → ((x : A) → p x ≡ false → f x ≡ 0) → (xs : List A) → sum_by f (filter p xs) ≡ sum_by f xs
 sum_filter f p nothing [] = refl
 sum_filter f p nothing (x ∷ xs) = grind (arith, sum_by-cons, (sum_filter f p nothing xs))
 

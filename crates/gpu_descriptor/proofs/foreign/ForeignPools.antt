@@ -1,10 +1,11 @@
 -- What requests, frees and cleaning up leave of pools that aren't the allocator's.
-use Rattle.gpu_descriptor.proofs.Common.{◌≡◌, ℕ, zero, suc, ◌+◌, ◌-◌, ◌<◌, ◌==◌, ◌&&◌, Bool, true, false, List, [], ◌∷◌, take, count_by, Option, Some, None, option_map, slice_get, inl, inr, refl, sym, ap, ◌∙◌, subst, arith, fun_ext, cases_Bool, cases_lt, or_from, or_right, false_from_ne_true, slice_get_within, list_any, if◌then◌else◌, side, Meaning, Pool, Ledger, LiveSet, set_eq, State, Item, set_of, Key, Entry, Bucket, entry_at, DescriptorSet, Allocations, IsForeign, KeepsForeign, LosesNone, IsCleaned, given_back, released, bucket_less, entry_less, empty_front, spent_front, in_front, without_front, lies_in, pool_less, GivesBack, items_of, state_of}
-use Rattle.gpu_descriptor.proofs.release.Fronts.{entry_at-found, entry_at-from}
+use Rattle.gpu_descriptor.proofs.Common.{◌≡◌, ℕ, zero, suc, ◌+◌, ◌-◌, ◌<◌, ◌==◌, ◌&&◌, Bool, true, false, List, [], ◌∷◌, take, count_by, Option, Some, None, option_map, slice_get, inl, inr, refl, sym, ap, ◌∙◌, subst, arith, fun_ext, cases_Bool, cases_lt, or_from, or_right, false_from_ne_true, list_any, slice_get-map, if◌then◌else◌, side, Meaning, Pool, Ledger, LiveSet, set_eq, State, Item, set_of, Key, Entry, Bucket, DescriptorSet, Allocations, IsForeign, KeepsForeign, LosesNone, LosesEmpty, are_named, gone_of, left_of, given_back, released, bucket_less, entry_less, spent_front, in_front, lies_in, pool_less, GivesBack, items_of, state_of}
+use Rattle.gpu_descriptor.proofs.lists.Numbers.{entry_at-found}
 use Rattle.gpu_descriptor.proofs.release.ReleaseAgrees.{front_found, none_back}
-use Rattle.gpu_descriptor.proofs.cleanup.Cleaning.{cleaned_cases, was_kept}
+use Rattle.gpu_descriptor.proofs.cleanup.Cleaning.{pools_left, was_kept}
+use Rattle.gpu_descriptor.proofs.cleanup.Splitting.{gone_at, is_named_at, left_or_gone, named_at, split}
 use Rattle.gpu_descriptor.proofs.release.Parts.{names_key, key_any}
-use Rattle.gpu_descriptor.proofs.release.Places.{back, front_of, lies_in-found, entry_at-less, released_books, some_before, was_there}
+use Rattle.gpu_descriptor.proofs.release.Places.{back, front_of, lies_in-found, released_books, some_before, was_there}
 use Rattle.gpu_descriptor.proofs.lists.AtPlaces.{get_drop}
 
 none_of : {A : Type 0} (m : List A) → count_by (λ t. false) m ≡ 0
@@ -24,15 +25,14 @@ among_front (x ∷ es) (suc f) (suc i) e at lt = or_right (x.pool == e.pool) (li
 -- giving sets back leaves them as they are
 released_same : (m : List Item) (s : State) (name : ℕ) → IsForeign s name → (released m s).ledger name ≡ s.ledger name
 released_same m s name foreign =
-    let elsewhere : (t : Item) → lies_in s.books name t ≡ false = λ t. false_from_ne_true (lies_in s.books name t) (λ lies. (let f = lies_in-found s.books name t lies in foreign t.key t.number f.0 f.1 f.2)) in
+    let elsewhere : (t : Item) → lies_in s.books name t ≡ false = λ t. false_from_ne_true (lies_in s.books name t) (λ lies. (let f = lies_in-found s.books name t lies in let there = entry_at-found (s.books t.key) t.number f.0 f.1 in foreign t.key there.0 f.0 there.1 f.2)) in
     let kept : (λ (x : LiveSet). count_by (λ t. lies_in s.books name t && set_eq (set_of t) x) m) ≡ (λ x. 0) = fun_ext (λ x.
     ap (λ (f : Item → Bool). count_by f m) (fun_ext (λ t. ap (λ (b : Bool). b && set_eq (set_of t) x) (elsewhere t))) ∙ none_of m) in
     let appended : (t : Item) → (let b = (given_back m s).books t.key in in_front (spent_front b) b name) ≡ false = λ t. false_from_ne_true _ (λ front.
     let b = (given_back m s).books t.key in
     let f = front_found b.pools (spent_front b) name front in
-    let at : entry_at b (b.offset + f.0) ≡ Some f.1 = entry_at-from b (b.offset + f.0) f.1 (omega arith) (ap (slice_get b.pools) (let n : b.offset + f.0 - b.offset ≡ f.0 = omega arith in n) ∙ f.3) in
-    let d = some_before _ (entry_at (s.books t.key) (b.offset + f.0)) f.1 (sym (entry_at-less (back m s) (s.books t.key) (b.offset + f.0)) ∙ at) in
-    foreign t.key (b.offset + f.0) d.0 d.1 (ap (λ (e : Entry). e.pool) d.2 ∙ f.4)) in
+    let d = some_before _ (slice_get (s.books t.key).pools f.0) f.1 (sym (slice_get-map (λ (x : Entry). entry_less (back m s x.pool) x) (s.books t.key).pools f.0) ∙ f.3) in
+    foreign t.key f.0 d.0 d.1 (ap (λ (e : Entry). e.pool) d.2 ∙ f.4)) in
     ap (λ (b : Bool). if b then None else (given_back m s).ledger name) (any_none _ appended m)
     ∙ ap (λ (f : LiveSet → ℕ). option_map (pool_less f) (s.ledger name)) kept
     ∙ ap (λ (w : State). w.ledger name) (none_back s)
@@ -46,12 +46,11 @@ released_named : (m : List Item) (s : State) (name : ℕ) (pool : Pool) → IsFo
 released_named m s name pool foreign live k n e at same =
     let c = bucket_less (back m s) (s.books k) in
     let less : Entry = entry_less (back m s e.pool) e in
-    let there : entry_at c n ≡ Some less = entry_at-less (back m s) (s.books k) n ∙ ap (option_map (λ (d : Entry). entry_less (back m s d.pool) d)) at in
-    let found = entry_at-found c n less there in
-    elim (cases_lt (n - c.offset) (front_of m s k)) [
+    let there : slice_get c.pools n ≡ Some less = slice_get-map (λ (d : Entry). entry_less (back m s d.pool) d) (s.books k).pools n ∙ ap (option_map (λ (d : Entry). entry_less (back m s d.pool) d)) at in
+    elim (cases_lt n (front_of m s k)) [
       | inl lt ↦ (
-          let f = front_named m s k (n - c.offset) lt in
-          let front : in_front (spent_front c) c less.pool ≡ true = among_front c.pools (spent_front c) (n - c.offset) less found.1 f.1 in
+          let f = front_named m s k n lt in
+          let front : in_front (spent_front c) c less.pool ≡ true = among_front c.pools (spent_front c) n less there f.1 in
           let named : in_front (spent_front c) c name ≡ true = ap (in_front (spent_front c) c) (sym same) ∙ front in
           let any : list_any (λ t. let b = (given_back m s).books t.key in in_front (spent_front b) b name) m ≡ true =
           key_any (λ l. let b = (given_back m s).books l in in_front (spent_front b) b name) m k (rw (f.0, named) refl) in
@@ -59,9 +58,8 @@ released_named m s name pool foreign live k n e at same =
           let bad : ◌≡◌ {A = Option Pool} None (Some pool) = sym gone ∙ live in cc)
       | inr ge ↦ (
           let f = front_of m s k in
-          let place : f + (n - (c.offset + f)) ≡ n - c.offset = omega (arith, found.0, ge) in
-          let kept : entry_at (without_front f c) n ≡ Some less = entry_at-from (without_front f c) n less (omega (arith, found.0, ge)) (get_drop c.pools f (n - (c.offset + f)) ∙ rw place found.1) in
-          foreign k n less (ap (λ (b : Bucket). entry_at b n) (released_books m s k) ∙ kept) same)
+          let place : f + (n - f) ≡ n = omega arith in
+          foreign k (n - f) less (ap (λ (b : Bucket). slice_get b.pools (n - f)) (released_books m s k) ∙ get_drop c.pools f (n - f) ∙ ap (slice_get c.pools) place ∙ there) same)
     ]
   where
     -- the front of an unnamed key stays
@@ -74,38 +72,34 @@ released_named m s name pool foreign live k n e at same =
 pub released_loses : (m : List Item) (s : State) → LosesNone s (released m s)
 released_loses m s name pool foreign live = (let was = released_named m s name pool foreign live in (sym (released_same m s name was) ∙ live, was))
 
--- no front has a foreign pool
-outside_front : (s : State) (name : ℕ) → IsForeign s name → (k : Key) → in_front (empty_front (s.books k)) (s.books k) name ≡ false
-outside_front s name foreign k = false_from_ne_true _ (λ front.
-    let b = s.books k in
-    let f = front_found b.pools (empty_front b) name front in
-    foreign k (b.offset + f.0) f.1 (entry_at-from b (b.offset + f.0) f.1 (omega arith) (ap (slice_get b.pools) (let n : b.offset + f.0 - b.offset ≡ f.0 = omega arith in n) ∙ f.3)) f.4)
+module _ (everywhere : Bool) where
+  -- none that goes is foreign
+  outside_gone : (s : State) (name : ℕ) → IsForeign s name → (k : Key) → are_named (gone_of everywhere (s.books k).pools) name ≡ false
+  outside_gone s name foreign k = false_from_ne_true _ (λ named.
+      let es = (s.books k).pools in
+      let g = named_at (gone_of everywhere es) name named in
+      let there = gone_at es (left_of everywhere es) (gone_of everywhere es) (split everywhere es) g.0 g.1 g.2 in
+      foreign k there.0 g.1 there.1 g.3)
 
--- cleaning up leaves them
-pub cleaned_foreign : (s t : State) → IsCleaned s t → KeepsForeign s t
-cleaned_foreign s t clean name pool foreign live = grind (arith, outside_front, was_kept)
+  -- cleaning up leaves them
+  pub cleaned_foreign : (s t : State) → LosesEmpty everywhere s t → KeepsForeign s t
+  cleaned_foreign s t less name pool foreign live = (
+    less.kept name (outside_gone s name foreign) ∙ live,
+    λ k i e at same. (let was = was_kept everywhere s t less k i e at in foreign k was.0 e was.1 same),
+  )
 
-cleaned_named : (s t : State) → IsCleaned s t → (name : ℕ) (pool : Pool) → IsForeign t name → t.ledger name ≡ Some pool → IsForeign s name
-cleaned_named s t clean name pool foreign live k n e at same =
-    let b = s.books k in
-    let f = empty_front b in
-    let found = entry_at-found b n e at in
-    let is_gone : n - b.offset < f → ⊥ = λ lt.
-    let gone = clean.gone k name (ap (in_front f b) (sym same) ∙ among_front b.pools f (n - b.offset) e found.1 lt) in
-    let bad : ◌≡◌ {A = Option Pool} None (Some pool) = sym gone ∙ live in cc in
-    elim (cases_lt (n - b.offset) f) [
-      | inl lt ↦ is_gone lt
-      | inr ge ↦ elim (cleaned_cases b) [
-        | inl all ↦ (let within = slice_get_within b.pools (n - b.offset) e found.1 in let whole = all.0 in is_gone (omega arith))
-        | inr some ↦ (
-            let place : f + (n - (b.offset + f)) ≡ n - b.offset = omega (arith, found.0, ge) in
-            let kept : entry_at (without_front f b) n ≡ Some e = entry_at-from (without_front f b) n e (omega (arith, found.0, ge)) (get_drop b.pools f (n - (b.offset + f)) ∙ rw place found.1) in
-            foreign k n e (ap (λ (x : Bucket). entry_at x n) (clean.books k ∙ some.1) ∙ kept) same)
+  cleaned_named : (s t : State) → LosesEmpty everywhere s t → (name : ℕ) (pool : Pool) → IsForeign t name → t.ledger name ≡ Some pool → IsForeign s name
+  cleaned_named s t less name pool foreign live k n e at same =
+      let es = (s.books k).pools in
+      elim (left_or_gone es (left_of everywhere es) (gone_of everywhere es) (split everywhere es) n e at) [
+        | inl l ↦ foreign k l.0 e (ap (λ ds. slice_get ds l.0) (pools_left everywhere s t less k) ∙ l.1) same
+        | inr g ↦ (
+            let gone = less.gone k e.pool (is_named_at (gone_of everywhere es) g.0 e g.1) in
+            let bad : ◌≡◌ {A = Option Pool} None (Some pool) = sym gone ∙ ap t.ledger same ∙ live in cc)
       ]
-    ]
 
-pub cleaned_loses : (s t : State) → IsCleaned s t → LosesNone s t
-cleaned_loses s t clean name pool foreign live = (let was = cleaned_named s t clean name pool foreign live in (sym (clean.kept name (outside_front s name was)) ∙ live, was))
+  pub cleaned_loses : (s t : State) → LosesEmpty everywhere s t → LosesNone s t
+  cleaned_loses s t less name pool foreign live = (let was = cleaned_named s t less name pool foreign live in (sym (less.kept name (outside_gone s name was)) ∙ live, was))
 
 -- and so does what changes nothing
 pub foreign_same : (s t : State) → t ≡ s → KeepsForeign s t

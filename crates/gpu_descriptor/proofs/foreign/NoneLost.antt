@@ -1,24 +1,27 @@
 -- What an allocator leaves of the ledger when it is done: nothing of its own.
-use Rattle.gpu_descriptor.proofs.Common.{Allocations, ◌≡◌, ◌≢◌, ◌⊎◌, ℕ, zero, suc, ◌+◌, ◌-◌, ◌==◌, true, false, List, [], ◌∷◌, slice_get, Option, Some, None, inl, inr, refl, sym, ap, ◌∙◌, arith, eqb-true, fun_ext, list_any, cases_Bool, or_cases, Pool, Ledger, State, Item, outstanding, Agree, HasNoPools, Key, key_eq, Entry, Bucket, HasDistinctKeys, books_of, entry_at, no_pools, common_steps, IsCleaned, IsForeign, IsNamed, LosesNone, KeepsForeign, table_of, state_of}
+use Rattle.gpu_descriptor.proofs.Common.{Allocations, ◌≡◌, ◌≢◌, ◌⊎◌, ℕ, zero, suc, ◌==◌, true, false, List, [], ◌∷◌, slice_get, Option, Some, None, inl, inr, refl, sym, ap, ◌∙◌, arith, eqb-true, fun_ext, list_any, cases_Bool, or_cases, Pool, Ledger, State, Item, outstanding, Agree, HasNoPools, Key, key_eq, Entry, Bucket, HasDistinctKeys, books_of, entry_at, no_pools, common_steps, IsCleaned, IsForeign, IsNamed, LosesNone, KeepsForeign, table_of, state_of}
 use Rattle.gpu_descriptor.proofs.cleanup.Cleaning.{no_pool_left}
 use Rattle.gpu_descriptor.proofs.foreign.ForeignPools.{cleaned_foreign, cleaned_loses, foreign_through, loses_through}
-use Rattle.gpu_descriptor.proofs.release.Fronts.{entry_at-found, entry_at-from}
+use Rattle.gpu_descriptor.proofs.lists.Numbers.{entry_at-found}
 use Rattle.gpu_descriptor.proofs.table.Tables.{first_books, none_behind}
 
 -- ---- nothing is left
 
 -- without pools no number has one
 pub none_at : (b : Bucket) (n : ℕ) (e : Entry) → b.pools ≡ [] → entry_at b n ≡ Some e → ⊥
-none_at b n e empty at = (let found = entry_at-found b n e at in let bad : ◌≡◌ {A = Option Entry} None (Some e) = ap (λ es. slice_get es (n - b.offset)) (sym empty) ∙ found.1 in cc)
+none_at b n e empty at = (let found = entry_at-found b n e at in let bad : ◌≡◌ {A = Option Entry} None (Some e) = ap (λ es. slice_get es found.0) (sym empty) ∙ found.1 in cc)
+
+pub nothing_at : (b : Bucket) (i : ℕ) (e : Entry) → b.pools ≡ [] → slice_get b.pools i ≡ Some e → ⊥
+nothing_at b i e empty at = (let bad : ◌≡◌ {A = Option Entry} None (Some e) = ap (λ es. slice_get es i) (sym empty) ∙ at in cc)
 
 pub all_foreign : (s : State) → HasNoPools s → (name : ℕ) → IsForeign s name
-all_foreign s empty name k n e at same = none_at (s.books k) n e (empty k) at
+all_foreign s empty name k n e at same = nothing_at (s.books k) n e (empty k) at
 
 pub restores : (s t u : State) → HasNoPools s → KeepsForeign s t → LosesNone s t → Agree t → ((i : Item) → outstanding t i ≡ 0) → IsCleaned t u → u.ledger ≡ s.ledger
 restores s t u began keeps loses agree nothing clean =
-    let kept = foreign_through s t u keeps (cleaned_foreign t u clean) in
-    let lost_none = loses_through s t u loses (cleaned_loses t u clean) in
-    fun_ext (λ name. same name (s.ledger name) (u.ledger name) refl refl (λ pool live. (kept name pool (all_foreign s began name) live).0) (λ pool live. (lost_none name pool (all_foreign u (no_pool_left t u agree nothing clean) name) live).0))
+    let kept = foreign_through s t u keeps (cleaned_foreign false t u clean) in
+    let lost_none = loses_through s t u loses (cleaned_loses false t u clean) in
+    fun_ext (λ name. same name (s.ledger name) (u.ledger name) refl refl (λ pool live. (kept name pool (all_foreign s began name) live).0) (λ pool live. (lost_none name pool (all_foreign u (no_pool_left false t u agree nothing clean) name) live).0))
   where
     same : (name : ℕ) (before after : Option Pool) → s.ledger name ≡ before → u.ledger name ≡ after → ((pool : Pool) → s.ledger name ≡ Some pool → u.ledger name ≡ Some pool) → ((pool : Pool) → u.ledger name ≡ Some pool → s.ledger name ≡ Some pool) → u.ledger name ≡ s.ledger name
     same name (Some pool) after was is to from = to pool was ∙ sym was
@@ -40,21 +43,21 @@ none_in (x ∷ es) name none zero e at same = grind arith
 none_in (x ∷ es) name none (suc i) e at same = grind (arith, (none_in es name))
 
 in_table : (l : ℕ → Option Pool) (rows : List (Key × Bucket)) → HasDistinctKeys rows → (name : ℕ) → IsNamed (record { books = books_of rows; ledger = l }) name ⊎ IsForeign (record { books = books_of rows; ledger = l }) name
-in_table l [] distinct name = inr (λ k n e at same. none_at no_pools n e refl at)
+in_table l [] distinct name = inr (λ k n e at same. nothing_at no_pools n e refl at)
 in_table l (row ∷ rows) distinct name = elim (cases_Bool (list_any (λ e. e.pool == name) row.1.pools)) [
   | inl own ↦ (
       let f = found_in row.1.pools name own in
       let b = row.1 in
-      inl (row.0, b.offset + f.0, f.1, ap (λ (x : Bucket). entry_at x (b.offset + f.0)) (first_books row rows) ∙ entry_at-from b (b.offset + f.0) f.1 (omega arith) (ap (slice_get b.pools) (let n : b.offset + f.0 - b.offset ≡ f.0 = omega arith in n) ∙ f.2), f.3))
+      inl (row.0, f.0, f.1, ap (λ (x : Bucket). slice_get x.pools f.0) (first_books row rows) ∙ f.2, f.3))
   | inr none ↦ elim (in_table l rows distinct.1 name) [
     | inl later ↦ elim (cases_Bool (key_eq row.0 later.0)) [
-      | inl at ↦ absurd (none_at no_pools later.1 later.2 refl (ap (λ (x : Bucket). entry_at x later.1) (sym (none_behind row rows distinct later.0 at)) ∙ later.3))
+      | inl at ↦ absurd (nothing_at no_pools later.1 later.2 refl (ap (λ (x : Bucket). slice_get x.pools later.1) (sym (none_behind row rows distinct later.0 at)) ∙ later.3))
       | inr other ↦ (
           grind (arith, common_steps))
     ]
     | inr foreign ↦ inr (λ k n e at. elim (cases_Bool (key_eq row.0 k)) [
       | inl own ↦ (
-          grind (arith, common_steps, entry_at-found, none_in))
+          grind (arith, common_steps, none_in))
       | inr other ↦ (
           grind (arith, common_steps))
     ])

@@ -1,10 +1,9 @@
 -- The pools that are none of the allocator's are a function of books and ledger, and each call leaves it.
-use Rattle.gpu_descriptor.proofs.Common.{◌≡◌, ℕ, ◌+◌, ◌-◌, ◌==◌, Bool, true, false, List, [], ◌∷◌, slice_get, Option, Some, None, inl, inr, refl, sym, ap, ◌∙◌, arith, fun_ext, list_any, cases_Bool, nil_from_length, ∥∥₁_elim, props, Pool, Ledger, State, Item, Agree, HasNoPools, count_of, outstanding, Key, Bucket, HasDistinctKeys, books_of, Allocations, IsCleaned, IsForeign, IsNamed, KeepsForeign, LosesNone, is_named, outstanding_of, state_of, table_of}
+use Rattle.gpu_descriptor.proofs.Common.{◌≡◌, ℕ, ◌==◌, Bool, true, false, List, [], ◌∷◌, Option, Some, None, inl, inr, refl, sym, ap, ◌∙◌, arith, fun_ext, list_any, cases_Bool, nil_from_length, ∥∥₁_elim, props, Pool, Ledger, State, Item, Agree, HasNoPools, count_of, outstanding, Key, Bucket, HasDistinctKeys, books_of, Allocations, LosesEmpty, IsForeign, IsNamed, KeepsForeign, LosesNone, is_named, outstanding_of, state_of, table_of}
 use Rattle.gpu_descriptor.specs.Caller.Others.{others_of}
 use Rattle.gpu_descriptor.proofs.cleanup.Cleaning.{no_pool_left}
 use Rattle.gpu_descriptor.proofs.table.Exact.{key_exact}
 use Rattle.gpu_descriptor.proofs.foreign.ForeignPools.{cleaned_foreign, cleaned_loses}
-use Rattle.gpu_descriptor.proofs.release.Fronts.{entry_at-from}
 use Rattle.gpu_descriptor.proofs.foreign.NoneLost.{all_foreign, found_in, none_in}
 use Rattle.gpu_descriptor.proofs.sums.OutSets.{out_is_size}
 use Rattle.gpu_descriptor.proofs.table.Tables.{absent}
@@ -20,8 +19,7 @@ module _ (table : List (Key × Bucket)) (l : ℕ → Option Pool) (pool : ℕ) w
       let row = found_row (λ row. list_any (λ e. e.pool == pool) (books_of table row.0).pools) table any in
       let b : Bucket = books_of table row.0.0 in
       let f = found_in b.pools pool row.1 in
-      let at : slice_get b.pools (b.offset + f.0 - b.offset) ≡ Some f.1 = ap (slice_get b.pools) (let n : b.offset + f.0 - b.offset ≡ f.0 = omega arith in n) ∙ f.2 in
-      (row.0.0, b.offset + f.0, f.1, entry_at-from b (b.offset + f.0) f.1 (omega arith) at, f.3)
+      (row.0.0, f.0, f.1, f.2, f.3)
 
   pub unnamed : is_named table pool ≡ false → IsForeign (record { books = books_of table; ledger = l }) pool
   unnamed none k n e at same = grind (arith, absent, found_row, key_exact, none_in)
@@ -62,10 +60,10 @@ module _ {P : Type 0} (name : P → ℕ) where
   ])
 
   -- an allocator whose sets are all back, cleaned up, leaves only the pools of others
-  pub emptied : (a b : Allocations P) (l m : Ledger) → HasDistinctKeys (table_of name a) → Agree (state_of name a l) → IsCleaned (state_of name a l) (state_of name b m) → outstanding_of a ≡ 0 → m.pools ≡ others_of name a l
-  emptied a b l m distinct agree clean back =
+  pub emptied : (everywhere : Bool) (a b : Allocations P) (l m : Ledger) → HasDistinctKeys (table_of name a) → Agree (state_of name a l) → LosesEmpty everywhere (state_of name a l) (state_of name b m) → outstanding_of a ≡ 0 → m.pools ≡ others_of name a l
+  emptied everywhere a b l m distinct agree clean back =
       let s : State = state_of name a l in
       let t : State = state_of name b m in
       let sets = out_is_size s (outstanding_of a) agree (record { table = table_of name a; distinct = distinct; keeps = λ k. refl; total = sym (outstanding_of-table name a) }) in
       let nothing : (i : Item) → outstanding s i ≡ 0 = λ i. ∥∥₁_elim sets (search props) (λ all. sym (all.2 i) ∙ ap (count_of i) (nil_from_length all.0 (all.1 ∙ back))) in
-      sym (all_others b m (no_pool_left s t agree nothing clean)) ∙ others_stay a b l m (cleaned_foreign s t clean) (cleaned_loses s t clean)
+      sym (all_others b m (no_pool_left everywhere s t agree nothing clean)) ∙ others_stay a b l m (cleaned_foreign everywhere s t clean) (cleaned_loses everywhere s t clean)

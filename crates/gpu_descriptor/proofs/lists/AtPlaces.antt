@@ -1,6 +1,6 @@
 -- What stands at the places of a list.
-use Rattle.gpu_descriptor.proofs.Common.{◌≡◌, ◌≢◌, ℕ, zero, suc, ◌<◌, inl, inr, List, [], ◌∷◌, ◌++◌, length, take, slice_set, Bool, true, false, Some, None, refl, sym, ap, ◌∙◌, arith, drop, ◌+◌, or_cases, or_left, or_right, slice_get, list_any, ◌⊎◌, get_or_from_slice_get, slice_get_within, length-take-le, set-get_or, ◌≤◌, count_by, count_by_no, count_by_yes, Option, cases_Bool, or_from}
-use Rattle.std.proofs.Math.Seq.{take-suc}
+use Rattle.gpu_descriptor.proofs.Common.{◌≡◌, ◌≢◌, ℕ, zero, suc, ◌-◌, ◌<◌, length-append, slice_index, inl, inr, List, [], ◌∷◌, ◌++◌, length, take, slice_set, Bool, true, false, Some, None, refl, sym, ap, ◌∙◌, arith, drop, ◌+◌, or_cases, or_left, or_right, slice_get, list_any, ◌⊎◌, get_or_from_slice_get, slice_get_within, length-take-le, set-get_or, ◌≤◌, count_by, count_by_no, count_by_yes, Option, cases_Bool, or_from}
+use Rattle.std.proofs.Math.Seq.{get_or-append_seam, take-suc}
 
 pub cases_option : {A : Type 0} (o : Option A) → (o ≡ None) ⊎ ((x : A) × (o ≡ Some x))
 cases_option None = inl refl
@@ -68,3 +68,15 @@ take_get xs i x h = take-suc xs i x (slice_get_within xs i x h) ∙ ap (λ y. ta
 -- what stands there, written again
 pub set_same : {A : Type 0} (xs : List A) (i : ℕ) (x : A) → slice_get xs i ≡ Some x → slice_set xs i x ≡ xs
 set_same xs i x h = ap (slice_set xs i) (sym (get_or_from_slice_get xs i x x h)) ∙ set-get_or xs i x
+
+pub get_some : {A : Type 0} (xs : List A) (i : ℕ) → i < length xs → (x : A) × (slice_get xs i ≡ Some x)
+get_some [] i lt = absurd (omega arith)
+get_some (x ∷ xs) zero lt = (x, refl)
+get_some (x ∷ xs) (suc i) lt = get_some xs i (omega arith)
+
+-- the last of some numbers
+pub last_index : (xs front : List ℕ) (n : ℕ) → xs ≡ front ++ n ∷ [] → slice_index xs (length xs - 1) ≡ n
+last_index xs front n is =
+    let long = length-append front (n ∷ []) in
+    let last : length (front ++ n ∷ []) - 1 ≡ length front = omega arith in
+    ap (λ (ys : List ℕ). slice_index ys (length ys - 1)) is ∙ ap (slice_index (front ++ n ∷ [])) last ∙ get_or-append_seam front n [] 0

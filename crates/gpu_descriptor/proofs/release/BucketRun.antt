@@ -1,8 +1,6 @@
 -- Giving one run back to a stored bucket.
-use Rattle.gpu_descriptor.proofs.Common.{greatest_pool_size, ◌≡◌, ℕ, zero, suc, ◌+◌, ◌-◌, ◌<◌, ◌≤◌, List, [], ◌∷◌, length, map, sum_by, set, get_or, slice_get, Option, Some, option_map, inl, inr, refl, sym, ap, ◌∙◌, arith, IfSome, slice_get_within, slice_get-map, slice_get_read, length-map, sum_by-cons, CanFree, Pool, live_sets, LiveSet, times, AreIn, DescriptorPool, live_in, flags_of, IsAsBooked, Key, Entry, Bucket, ∥∥₁_elim, ∥∥₁_map, props, common_steps, AreBookedIn, IsTakenAt, entry_less, pool_less, entry_of}
+use Rattle.gpu_descriptor.proofs.Common.{entry_at, greatest_pool_size, ◌≡◌, ℕ, zero, suc, ◌+◌, ◌-◌, ◌<◌, ◌≤◌, List, [], ◌∷◌, length, map, sum_by, set, get_or, slice_get, Option, Some, option_map, inl, inr, refl, sym, ap, ◌∙◌, arith, IfSome, slice_get-map, slice_get_read, length-map, sum_by-cons, CanFree, Pool, live_sets, LiveSet, times, AreIn, DescriptorPool, live_in, flags_of, IsAsBooked, Key, Entry, Bucket, ∥∥₁_elim, ∥∥₁_map, props, common_steps, AreBookedIn, IsTakenAt, entry_less, pool_less, entry_of}
 use Rattle.gpu_descriptor.proofs.foreign.LedgerPools.{taken_from, with_pool_same, with_pool_other, size_minus, only_these}
-use Rattle.gpu_descriptor.proofs.table.Exact.{bucket}
-use Rattle.gpu_descriptor.proofs.release.Fronts.{entry_at-found}
 use Rattle.gpu_descriptor.proofs.lists.AtPlaces.{set_got}
 
 -- a place that was read
@@ -11,9 +9,9 @@ read_at name items i q lt is = slice_get-map (entry_of name) items i ∙ ap (opt
 
 -- the place after the counts moved
 pub changed_at : {P : Type 0} (name : P → ℕ) (items : List (DescriptorPool P)) (i : ℕ) (q : DescriptorPool P) (raw : P) (m n : ℕ) → name raw ≡ name q.raw → m ≡ n
-    → map (entry_of name) (set items i (record { raw = raw; capacity = q.capacity; allocated = q.allocated - m; available = q.available + m })) ≡ set (map (entry_of name) items) i (entry_less n (entry_of name q))
+    → map (entry_of name) (set items i (record { raw = raw; number = q.number; capacity = q.capacity; allocated = q.allocated - m; available = q.available + m })) ≡ set (map (entry_of name) items) i (entry_less n (entry_of name q))
 changed_at name [] i q raw m n same e = refl
-changed_at name (x ∷ items) zero q raw m n same e = λ j. record { pool = same j; capacity = q.capacity; allocated = q.allocated - e j; available = q.available + e j } ∷ map (entry_of name) items
+changed_at name (x ∷ items) zero q raw m n same e = λ j. record { number = q.number; pool = same j; capacity = q.capacity; allocated = q.allocated - e j; available = q.available + e j } ∷ map (entry_of name) items
 changed_at name (x ∷ items) (suc i) q raw m n same e = ap (λ (l : List Entry). entry_of name x ∷ l) (changed_at name items i q raw m n same e)
 
 -- what a run may take of the place
@@ -21,11 +19,8 @@ pub record CanTake (k : Key) (names : List ℕ) (pools : ℕ → Option Pool) (e
   pub fits : length names ≤ e.allocated
   pub live : (x : LiveSet) → times (live_sets k.counts names) x ≤ live_in pools e.pool x
 
-pub can_take : (k : Key) (number : ℕ) (names : List ℕ) (b : Bucket) (pools : ℕ → Option Pool) (e : Entry) → IsTakenAt k number names b pools → slice_get b.pools (number - b.offset) ≡ Some e → CanTake k names pools e
+pub can_take : (k : Key) (number : ℕ) (names : List ℕ) (b : Bucket) (pools : ℕ → Option Pool) (e : Entry) → IsTakenAt k number names b pools → entry_at b number ≡ Some e → CanTake k names pools e
 can_take k number names b pools e t at = grind arith
-
-pub is_within : {P : Type 0} (name : P → ℕ) (k : Key) (number : ℕ) (names : List ℕ) (id first : ℕ) (items : List (DescriptorPool P)) (pools : ℕ → Option Pool) → IsTakenAt k number names (bucket id first (map (entry_of name) items)) pools → number - first < length items
-is_within name k number names id first items pools t = grind (arith, entry_at-found, slice_get_within, length-map)
 
 -- ls are sets of these names, each live as often as it stands there
 pub record AreTaken (names : List ℕ) (live : LiveSet → ℕ) (ls : List LiveSet) : Type 0 where
@@ -50,8 +45,8 @@ took_these k b pools i e names ls stored at are = only_these k names ls are.are 
     grind (arith, common_steps))
 
 -- the bucket and the ledger after one run keep agreement
-pub stored_after : (k : Key) (first : ℕ) (es : List Entry) (pools : ℕ → Option Pool) (i : ℕ) (e : Entry) (ls : List LiveSet) → AreBookedIn k pools es → slice_get es i ≡ Some e → ((x : LiveSet) → times ls x ≤ live_in pools e.pool x) → AreBookedIn k (taken_from pools e.pool ls) (set es i (entry_less (length ls) e))
-stored_after k first es pools i e ls stored at within =
+pub stored_after : (k : Key) (es : List Entry) (pools : ℕ → Option Pool) (i : ℕ) (e : Entry) (ls : List LiveSet) → AreBookedIn k pools es → slice_get es i ≡ Some e → ((x : LiveSet) → times ls x ≤ live_in pools e.pool x) → AreBookedIn k (taken_from pools e.pool ls) (set es i (entry_less (length ls) e))
+stored_after k es pools i e ls stored at within =
     let y = entry_less (length ls) e in
     let was : (j : ℕ) (d : Entry) → slice_get (set es i y) j ≡ Some d → (c : Entry) × (slice_get es j ≡ Some c) × (c.pool ≡ d.pool) = λ j d h. elim (set_got es i y j d h) [
       | inl same ↦ (e, (ap (slice_get es) same.0 ∙ at), ap (λ (x : Entry). x.pool) (sym same.1))
@@ -92,9 +87,6 @@ stored_after k first es pools i e ls stored at within =
       ];
     }
 
-pub read_first : {P : Type 0} (name : P → ℕ) (k : Key) (number : ℕ) (names : List ℕ) (id first : ℕ) (items : List (DescriptorPool P)) (pools : ℕ → Option Pool) (q : DescriptorPool P) → IsTakenAt k number names (bucket id first (map (entry_of name) items)) pools → q ≡ get_or items (number - first) q → slice_get (map (entry_of name) items) (number - first) ≡ Some (entry_of name q)
-read_first name k number names id first items pools q t is = read_at name items (number - first) q (is_within name k number names id first items pools t) is
-
 pub place_fits : (k : Key) (b : Bucket) (pools : ℕ → Option Pool) (i : ℕ) (e : Entry) → AreBookedIn k pools b.pools → slice_get b.pools i ≡ Some e → e.allocated + e.available ≤ greatest_pool_size
 place_fits k b pools i e stored at =
     let booked = (stored.each i e at).booked in
@@ -108,7 +100,7 @@ allocated_from pools = sum_by (λ p. p.allocated) pools
 
 -- the sets that go back are no longer counted
 pub total_less : {P : Type 0} (items : List (DescriptorPool P)) (i : ℕ) (q : DescriptorPool P) (raw : P) (m : ℕ) → i < length items → q ≡ get_or items i q → m ≤ q.allocated
-    → (m ≤ allocated_from items) × (allocated_from (set items i (record { raw = raw; capacity = q.capacity; allocated = q.allocated - m; available = q.available + m })) + m ≡ allocated_from items)
+    → (m ≤ allocated_from items) × (allocated_from (set items i (record { raw = raw; number = q.number; capacity = q.capacity; allocated = q.allocated - m; available = q.available + m })) + m ≡ allocated_from items)
 total_less [] i q raw m lt is fits = absurd (omega arith)
 total_less {P = P} (x ∷ items) zero q raw m lt is fits =
     let e : q.allocated ≡ x.allocated = ap (λ (p : DescriptorPool P). p.allocated) is in

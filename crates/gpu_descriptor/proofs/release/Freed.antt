@@ -1,5 +1,5 @@
 -- What the loop over the runs keeps.
-use Rattle.gpu_descriptor.proofs.Common.{◌≡◌, ◌≤◌, ℕ, ◌+◌, ◌<◌, true, false, ◌&&◌, ◌==◌, List, [], ◌∷◌, ◌++◌, sum_by, refl, sym, ap, subst, ◌∙◌, arith, append_assoc, append-nil, length-append, eq-eqb, Option, Some, None, MatchOption, OnSome, IfSome, eqb-true, Count, HoldsAlong, IsFinite, IsNearerEnd, MakesProgress, size, Yields, YieldsThen, and_parts, and_from, map-append, sum_by-append, side, Meaning, Counters, Ledger, bool_iff, DescriptorSet, State, Item, AreOutstanding, Agree, count_of, Key, key_eq, Allocations, common_steps, set_descriptors, more_released, more_destroyed, released, given_back, pools_gone, open_pools, run_digits, binary_digits, GivesBack, Frees, FreesRun, runs, item_of, items_of, AllPass, state_of}
+use Rattle.gpu_descriptor.proofs.Common.{search_digits, ◌≡◌, ◌≤◌, ℕ, ◌+◌, ◌<◌, true, false, ◌&&◌, ◌==◌, List, [], ◌∷◌, ◌++◌, sum_by, refl, sym, ap, subst, ◌∙◌, arith, append_assoc, append-nil, length-append, eq-eqb, Option, Some, None, MatchOption, OnSome, IfSome, eqb-true, Count, HoldsAlong, IsFinite, IsNearerEnd, MakesProgress, size, Yields, YieldsThen, and_parts, and_from, map-append, sum_by-append, side, Meaning, Counters, Ledger, bool_iff, DescriptorSet, State, Item, AreOutstanding, Agree, count_of, Key, key_eq, Allocations, common_steps, set_descriptors, more_released, more_destroyed, released, given_back, pools_gone, run_digits, GivesBack, Frees, FreesRun, runs, item_of, items_of, AllPass, state_of}
 use Rattle.std.proofs.iter.Next.{Yields-more}
 use Rattle.gpu_descriptor.specs.Inner.RunSteps.{lies_at}
 use Rattle.gpu_descriptor.specs.Caller.States.{keys_of}
@@ -141,7 +141,7 @@ module _ {L P S : Type 0} (means : Meaning L P S) where
           grind (arith, common_steps, all_out, count_of-append))
 
       pub freed_more : (new : Allocations P) (after : Ledger) (a : Option (DescriptorSet S)) (t : T) → FreesRun steps means x rest a t (side now mid) (side new after) → keys_of new ≡ keys_of now → OnSome a (IsNearerEnd can left rest t)
-          → now.comparisons ≤ new.comparisons → new.comparisons ≤ now.comparisons + binary_digits (open_pools ((state_of means.pool_name now mid).books x.key.is)) → Freed first old before new after a t
+          → now.comparisons ≤ new.comparisons → new.comparisons ≤ now.comparisons + search_digits ((state_of means.pool_name now mid).books x.key.is) → Freed first old before new after a t
       freed_more new after a t run same n more few = record {
         sets = r.sets ++ x ∷ xs;
         back = subst (λ (m : ℕ). GivesBack means (r.sets ++ x ∷ xs) m (side old before) (side new after)) (sym count) (gives_both r.sets (x ∷ xs) (runs (items r.sets)) 1 old now new before mid after agree (all_out xs run.came.1.0 run.came.1.1) r.keys r.back run.back);
@@ -166,12 +166,12 @@ module _ {L P S : Type 0} (means : Meaning L P S) where
           count = r.comes.1 xs ∙ ap (λ n. runs (items r.sets) + n) alone
 
           -- the digits that this run adds
-          cost : run_digits (state_of means.pool_name old before) (items (r.sets ++ x ∷ xs)) ≡ run_digits (state_of means.pool_name old before) (items r.sets) + binary_digits (open_pools ((state_of means.pool_name now mid).books x.key.is))
+          cost : run_digits (state_of means.pool_name old before) (items (r.sets ++ x ∷ xs)) ≡ run_digits (state_of means.pool_name old before) (items r.sets) + search_digits ((state_of means.pool_name now mid).books x.key.is)
           cost =
               let s = state_of means.pool_name old before in
               let whole = items-append r.sets (x ∷ xs) in
               ap (run_digits s) whole ∙ run_digits_more s (items r.sets) (item_of means.set_name x) (items xs) (ap runs (sym whole) ∙ count) alone
-              ∙ ap (λ (t : State). run_digits s (items r.sets) + binary_digits (open_pools (t.books x.key.is))) (sym r.back.state)
+              ∙ ap (λ (t : State). run_digits s (items r.sets) + search_digits (t.books x.key.is)) (sym r.back.state)
 
           came : Yields steps first (r.sets ++ x ∷ xs) run.came.1.0
           came = appended first r.sets x xs rest run.came.1.0 r.comes.0 run.came.1.1

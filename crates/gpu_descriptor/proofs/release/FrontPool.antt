@@ -1,18 +1,18 @@
 -- One pool leaves the front.
-use Rattle.gpu_descriptor.proofs.Common.{◌≡◌, ◌≢◌, ℕ, suc, ◌+◌, ◌<◌, ◌≤◌, true, List, [], ◌∷◌, length, map, drop, get_or, Option, None, inl, inr, refl, sym, ap, ◌∙◌, arith, eq-eqb, cases_eq, length-map, Pool, Ledger, HasNoSets, after_destroy, DescriptorPool, Key, Entry, Bucket, AreBookedIn, front_but, trimmed_bucket, trimmed_ledger, ledger_without, is_empty, entry_of}
+use Rattle.gpu_descriptor.proofs.Common.{◌≡◌, ◌≢◌, ℕ, suc, ◌<◌, ◌≤◌, true, List, [], ◌∷◌, length, map, drop, get_or, Option, None, inl, inr, refl, sym, ap, ◌∙◌, arith, eq-eqb, cases_eq, length-map, Pool, Ledger, HasNoSets, after_destroy, DescriptorPool, Key, Entry, Bucket, AreBookedIn, front_but, trimmed_bucket, trimmed_ledger, ledger_without, is_empty, entry_of}
 use Rattle.gpu_descriptor.proofs.table.Exact.{bucket}
 use Rattle.gpu_descriptor.proofs.release.Fronts.{trim_yes, trim_short}
 use Rattle.gpu_descriptor.proofs.release.Places.{size_pos}
 use Rattle.gpu_descriptor.proofs.foreign.LedgerPools.{with_pool, with_pool_other}
 
-pub step_books : (keep id first : ℕ) (x : Entry) (es : List Entry) → keep ≤ length es → is_empty x ≡ true → trimmed_bucket keep (bucket id (first + 1) es) ≡ trimmed_bucket keep (bucket id first (x ∷ es))
-step_books keep id first x es le empty = grind (arith, trim_yes)
+pub step_books : (keep id : ℕ) (x : Entry) (es : List Entry) → keep ≤ length es → is_empty x ≡ true → trimmed_bucket keep (bucket id es) ≡ trimmed_bucket keep (bucket id (x ∷ es))
+step_books keep id x es le empty = grind (arith, trim_yes)
 
-pub step_ledger : (keep id first : ℕ) (x : Entry) (es : List Entry) (l : Ledger) → keep ≤ length es → is_empty x ≡ true → trimmed_ledger keep (bucket id (first + 1) es) (after_destroy x.pool l) ≡ trimmed_ledger keep (bucket id first (x ∷ es)) l
-step_ledger keep id first x es l le empty = grind (arith, trim_yes)
+pub step_ledger : (keep id : ℕ) (x : Entry) (es : List Entry) (l : Ledger) → keep ≤ length es → is_empty x ≡ true → trimmed_ledger keep (bucket id es) (after_destroy x.pool l) ≡ trimmed_ledger keep (bucket id (x ∷ es)) l
+step_ledger keep id x es l le empty = grind (arith, trim_yes)
 
-pub front_unused : (k : Key) (first : ℕ) (x : Entry) (es : List Entry) (l : Ledger) → AreBookedIn k l.pools (x ∷ es) → x.allocated ≡ 0 → HasNoSets x.pool l
-front_unused k first x es l stored none =
+pub front_unused : (k : Key) (x : Entry) (es : List Entry) (l : Ledger) → AreBookedIn k l.pools (x ∷ es) → x.allocated ≡ 0 → HasNoSets x.pool l
+front_unused k x es l stored none =
     let found = stored.each 0 x refl in
     record {
       pool = found.pool;
@@ -23,8 +23,8 @@ front_unused k first x es l stored none =
       ];
     }
 
-pub step_stored : (k : Key) (first : ℕ) (x : Entry) (es : List Entry) (pools : ℕ → Option Pool) → AreBookedIn k pools (x ∷ es) → AreBookedIn k (with_pool pools x.pool None) es
-step_stored k first x es pools stored = record {
+pub step_stored : (k : Key) (x : Entry) (es : List Entry) (pools : ℕ → Option Pool) → AreBookedIn k pools (x ∷ es) → AreBookedIn k (with_pool pools x.pool None) es
+step_stored k x es pools stored = record {
   distinct = λ i j d e at at' same. let both : suc i ≡ suc j = stored.distinct (suc i) (suc j) d e at at' same in let one : i ≡ j = omega arith in one;
   each = λ i e at.
       let had = stored.each (suc i) e at in
@@ -47,22 +47,22 @@ module _ {P : Type 0} (name : P → ℕ) (keep : ℕ) where
   is_front [] p q long is other empty = absurd (omega arith)
   is_front (x ∷ items) p q long is other empty = record { long = long; is = is; empty = ap (λ (y : DescriptorPool P). y.allocated) (is ∙ sym other) ∙ empty }
 
-  abbrev pub stored : Key → ℕ → List (DescriptorPool P) → (ℕ → Option Pool) → Type 0
-  stored k first items pools = AreBookedIn k pools (map (entry_of name) items)
+  abbrev pub stored : Key → List (DescriptorPool P) → (ℕ → Option Pool) → Type 0
+  stored k items pools = AreBookedIn k pools (map (entry_of name) items)
 
-  pub turn_unused : (k : Key) (first : ℕ) (items : List (DescriptorPool P)) (p : DescriptorPool P) (l : Ledger) → IsFront items p → stored k first items l.pools → HasNoSets (name p.raw) l
-  turn_unused k first [] p l front agree = (let bad = front.long in absurd (omega arith))
-  turn_unused k first (x ∷ items) p l front agree = grind (arith, front_unused)
+  pub turn_unused : (k : Key) (items : List (DescriptorPool P)) (p : DescriptorPool P) (l : Ledger) → IsFront items p → stored k items l.pools → HasNoSets (name p.raw) l
+  turn_unused k [] p l front agree = (let bad = front.long in absurd (omega arith))
+  turn_unused k (x ∷ items) p l front agree = grind (arith, front_unused)
 
   -- what the turn leaves
-  pub record Turned (k : Key) (id first : ℕ) (items news : List (DescriptorPool P)) (before after : Ledger) : Type 0 where
-    pub agree : stored k (first + 1) news after.pools
-    pub books : trimmed_bucket keep (bucket id (first + 1) (map (entry_of name) news)) ≡ trimmed_bucket keep (bucket id first (map (entry_of name) items))
-    pub ledger : trimmed_ledger keep (bucket id (first + 1) (map (entry_of name) news)) after ≡ trimmed_ledger keep (bucket id first (map (entry_of name) items)) before
+  pub record Turned (k : Key) (id : ℕ) (items news : List (DescriptorPool P)) (before after : Ledger) : Type 0 where
+    pub agree : stored k news after.pools
+    pub books : trimmed_bucket keep (bucket id (map (entry_of name) news)) ≡ trimmed_bucket keep (bucket id (map (entry_of name) items))
+    pub ledger : trimmed_ledger keep (bucket id (map (entry_of name) news)) after ≡ trimmed_ledger keep (bucket id (map (entry_of name) items)) before
 
-  pub turn : (k : Key) (id first : ℕ) (items news : List (DescriptorPool P)) (p : DescriptorPool P) (l after : Ledger) → IsFront items p → news ≡ drop 1 items → after ≡ after_destroy (name p.raw) l → stored k first items l.pools → Turned k id first items news l after
-  turn k id first [] news p l after front new taken agree = (let bad = front.long in absurd (omega arith))
-  turn k id first (x ∷ items) news p l after front new taken agree =
+  pub turn : (k : Key) (id : ℕ) (items news : List (DescriptorPool P)) (p : DescriptorPool P) (l after : Ledger) → IsFront items p → news ≡ drop 1 items → after ≡ after_destroy (name p.raw) l → stored k items l.pools → Turned k id items news l after
+  turn k id [] news p l after front new taken agree = (let bad = front.long in absurd (omega arith))
+  turn k id (x ∷ items) news p l after front new taken agree =
       let is : p ≡ x = front.is in
       let long : keep < suc (length items) = front.long in
       let same = length-map items (entry_of name) in
@@ -70,15 +70,15 @@ module _ {P : Type 0} (name : P → ℕ) (keep : ℕ) where
       let gone : after ≡ after_destroy (name x.raw) l = taken ∙ ap (λ (z : DescriptorPool P). after_destroy (name z.raw) l) is in
       let empty : is_empty (entry_of name x) ≡ true = eq-eqb x.allocated 0 (ap (λ (z : DescriptorPool P). z.allocated) (sym is) ∙ front.empty) in
       rw (new, gone) (record {
-        agree = step_stored k first (entry_of name x) (map (entry_of name) items) l.pools agree;
-        books = step_books keep id first (entry_of name x) (map (entry_of name) items) le empty;
-        ledger = step_ledger keep id first (entry_of name x) (map (entry_of name) items) l le empty;
+        agree = step_stored k (entry_of name x) (map (entry_of name) items) l.pools agree;
+        books = step_books keep id (entry_of name x) (map (entry_of name) items) le empty;
+        ledger = step_ledger keep id (entry_of name x) (map (entry_of name) items) l le empty;
       })
 
   -- a front with sets stays, and so do the last pools that are kept
-  pub stop_full : (id first : ℕ) (items : List (DescriptorPool P)) (q : DescriptorPool P) → keep < length items → q ≡ get_or items 0 q → (q.allocated ≡ 0 → ⊥) → front_but keep (bucket id first (map (entry_of name) items)) ≡ 0
-  stop_full id first [] q long is full = absurd (omega arith)
-  stop_full id first (x ∷ items) q long is full = grind arith
+  pub stop_full : (id : ℕ) (items : List (DescriptorPool P)) (q : DescriptorPool P) → keep < length items → q ≡ get_or items 0 q → (q.allocated ≡ 0 → ⊥) → front_but keep (bucket id (map (entry_of name) items)) ≡ 0
+  stop_full id [] q long is full = absurd (omega arith)
+  stop_full id (x ∷ items) q long is full = grind arith
 
-  pub stop_short : (id first : ℕ) (items : List (DescriptorPool P)) → length items ≤ keep → front_but keep (bucket id first (map (entry_of name) items)) ≡ 0
-  stop_short id first items short = trim_short keep (map (entry_of name) items) (let same = length-map items (entry_of name) in omega arith)
+  pub stop_short : (id : ℕ) (items : List (DescriptorPool P)) → length items ≤ keep → front_but keep (bucket id (map (entry_of name) items)) ≡ 0
+  stop_short id items short = trim_short keep (map (entry_of name) items) (let same = length-map items (entry_of name) in omega arith)

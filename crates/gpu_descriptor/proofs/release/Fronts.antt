@@ -1,6 +1,7 @@
 -- The front of a bucket: what giving back does to it, and which places keep their pools when it goes.
-use Rattle.gpu_descriptor.proofs.Common.{◌≡◌, ℕ, zero, suc, ◌+◌, ◌-◌, ◌<◌, ◌≤◌, true, false, min, List, [], ◌∷◌, length, map, drop, slice_get, Some, inl, inr, refl, sym, ap, ◌∙◌, arith, le-ltb, drop-drop, prefix_len, cases_Bool, drop-map, prefix_len-le-length, Entry, Bucket, entry_at, common_steps, front_but, trimmed_bucket, entry_less, bucket_less, is_empty, empty_front, spent_front, without_front}
+use Rattle.gpu_descriptor.proofs.Common.{◌≡◌, ℕ, zero, suc, ◌+◌, ◌-◌, ◌<◌, ◌≤◌, true, false, min, List, [], ◌∷◌, length, map, drop, slice_get, Some, inl, inr, refl, sym, ap, ◌∙◌, arith, drop-drop, prefix_len, cases_Bool, cases_lt, drop-map, prefix_len-le-length, Entry, Bucket, entry_at, rises, numbers_of, common_steps, front_but, trimmed_bucket, entry_less, bucket_less, is_empty, empty_front, spent_front, without_front}
 use Rattle.gpu_descriptor.proofs.lists.AtPlaces.{get_drop}
+use Rattle.gpu_descriptor.proofs.lists.Numbers.{entry_at-found, entry_at-named, numbers_drop, rises_drop}
 
 -- how many pools go from the front of a list, if so many are to stay
 abbrev pub trim : ℕ → List Entry → ℕ
@@ -38,20 +39,23 @@ front_empty [] i e at lt = absurd (omega arith)
 front_empty (x ∷ es) zero e at lt = grind arith
 front_empty (x ∷ es) (suc i) e at lt = grind (arith, (front_empty es i e at))
 
--- a place of the books, by its number
-pub entry_at-found : (b : Bucket) (n : ℕ) (e : Entry) → entry_at b n ≡ Some e → (b.offset ≤ n) × (slice_get b.pools (n - b.offset) ≡ Some e)
-entry_at-found b n e h = grind arith
-
-pub entry_at-from : (b : Bucket) (n : ℕ) (e : Entry) → b.offset ≤ n → slice_get b.pools (n - b.offset) ≡ Some e → entry_at b n ≡ Some e
-entry_at-from b n e le h = rw (le-ltb n b.offset le) h
-
 -- what has a number after the front is gone had it before
-pub entry_at-without : (f : ℕ) (b : Bucket) (n : ℕ) (e : Entry) → entry_at (without_front f b) n ≡ Some e → (b.offset + f ≤ n) × (entry_at b n ≡ Some e)
-entry_at-without f b n e h = grind (arith, get_drop)
+pub entry_at-without : (f : ℕ) (b : Bucket) (n : ℕ) (e : Entry) → rises (numbers_of b.pools) ≡ true → entry_at (without_front f b) n ≡ Some e → entry_at b n ≡ Some e
+entry_at-without f b n e rising h =
+    let found = entry_at-found (without_front f b) n e h in
+    entry_at-named b (f + found.0) n e rising (sym (get_drop b.pools f found.0) ∙ found.1) found.2
 
 -- a pool with sets keeps its number when the front goes
-pub entry_at-kept : (b : Bucket) (f n : ℕ) (e : Entry) → f ≤ empty_front b → entry_at b n ≡ Some e → is_empty e ≡ false → entry_at (without_front f b) n ≡ Some e
-entry_at-kept b f n e le h full = grind (arith, front_empty, get_drop)
+pub entry_at-kept : (b : Bucket) (f n : ℕ) (e : Entry) → rises (numbers_of b.pools) ≡ true → f ≤ empty_front b → entry_at b n ≡ Some e → is_empty e ≡ false → entry_at (without_front f b) n ≡ Some e
+entry_at-kept b f n e rising le h full =
+    let found = entry_at-found b n e h in
+    let rest : rises (numbers_of (drop f b.pools)) ≡ true = ap rises (numbers_drop b.pools f) ∙ rises_drop (numbers_of b.pools) f rising in
+    elim (cases_lt found.0 f) [
+      | inl lt ↦ absurd (let empty = front_empty b.pools found.0 e found.1 (omega arith) in let bad : true ≡ false = sym empty ∙ full in cc)
+      | inr ge ↦ (
+          let place : f + (found.0 - f) ≡ found.0 = omega arith in
+          entry_at-named (without_front f b) (found.0 - f) n e rest (get_drop b.pools f (found.0 - f) ∙ ap (slice_get b.pools) place ∙ found.1) found.2)
+    ]
 
 pub entry_less-less : (a c : ℕ) (e : Entry) → entry_less c (entry_less a e) ≡ entry_less (a + c) e
 entry_less-less a c e = grind arith
@@ -64,7 +68,7 @@ less-less f g b = λ i. record b { pools = each b.pools i }
     each (e ∷ es) = λ i. entry_less-less (f e.pool) (g e.pool) e i ∷ each es i
 
 pub less-without : (g : ℕ → ℕ) (n : ℕ) (b : Bucket) → bucket_less g (without_front n b) ≡ without_front n (bucket_less g b)
-less-without g n b = λ i. record b { offset = b.offset + n; pools = sym (drop-map (λ (e : Entry). entry_less (g e.pool) e) n b.pools) i }
+less-without g n b = λ i. record b { pools = sym (drop-map (λ (e : Entry). entry_less (g e.pool) e) n b.pools) i }
 
 pub without-without : (m n : ℕ) (b : Bucket) → without_front n (without_front m b) ≡ without_front (m + n) b
 without-without m n b = grind (arith, drop-drop)

@@ -1,5 +1,5 @@
 -- One run through a row that the table lends.
-use Rattle.gpu_descriptor.proofs.Common.{◌≡◌, ℕ, Bool, List, ◌∷◌, map, count_by, Option, None, Some, IsSome, length, refl, sym, ap, subst, ◌∙◌, fun_ext, lookup, set_value, option_map_or, Ledger, after_release, live_sets, BucketKey, DescriptorSet, DescriptorBucket, Agree, AreOutstanding, Key, key_eq, Bucket, no_pools, books_of, HasDistinctKeys, key_of, Allocations, AreBookedIn, IsTakenAt, Releases, names_of, bucket_back, trimmed_bucket, trimmed_ledger, more_destroyed, more_released, released, pools_gone, open_pools, items_of, named_row, state_of, AllPass, books_in, row_of, bucket_of}
+use Rattle.gpu_descriptor.proofs.Common.{◌≡◌, ℕ, Bool, List, ◌∷◌, map, count_by, Option, None, Some, IsSome, length, refl, sym, ap, subst, ◌∙◌, fun_ext, lookup, set_value, option_map_or, Ledger, after_release, live_sets, BucketKey, DescriptorSet, DescriptorBucket, Agree, AreOutstanding, Key, key_eq, Bucket, no_pools, books_of, HasDistinctKeys, key_of, Allocations, AreBookedIn, IsTakenAt, Releases, names_of, bucket_back, trimmed_bucket, trimmed_ledger, more_destroyed, more_released, released, pools_gone, search_digits, items_of, named_row, state_of, AllPass, books_in, row_of, bucket_of}
 use Rattle.gpu_descriptor.specs.Caller.States.{keys_of}
 use Rattle.gpu_descriptor.specs.Inner.RunSteps.{lies_at}
 use Rattle.gpu_descriptor.proofs.foreign.LedgerPools.{taken_from, release_pools}
@@ -19,8 +19,8 @@ module _ {P S : Type 0} (name : P → ℕ) (set_name : S → ℕ) (a : Allocatio
     pub row_stored : AreBookedIn x.key.is l.pools (bucket_of name bucket).pools
     row_stored = subst (λ (b : Bucket). AreBookedIn x.key.is l.pools b.pools) (at_key (Some bucket) found) (booked_of (state_of name a l) x.key.is agree)
 
-    pub row_open : open_pools ((state_of name a l).books x.key.is) ≡ open_pools (bucket_of name bucket)
-    row_open = ap open_pools (at_key (Some bucket) found)
+    pub row_open : search_digits ((state_of name a l).books x.key.is) ≡ search_digits (bucket_of name bucket)
+    row_open = ap search_digits (at_key (Some bucket) found)
 
     pub row_taken : (xs : List (DescriptorSet S)) → AllPass (lies_at x.key.is x.number) xs → AreOutstanding (items_of set_name (x ∷ xs)) (state_of name a l) → IsTakenAt x.key.is x.number (names_of set_name (x ∷ xs)) (bucket_of name bucket) l.pools
     row_taken xs have out = subst (λ b. IsTakenAt x.key.is x.number (names_of set_name (x ∷ xs)) b l.pools) (at_key (Some bucket) found) (taken_of set_name (state_of name a l) agree x xs have out)
@@ -32,7 +32,7 @@ module _ {P S : Type 0} (name : P → ℕ) (set_name : S → ℕ) (a : Allocatio
       here = subst (λ b. Releases x.key.is x.number (names_of set_name (x ∷ xs)) b l between during) (sym (at_key (Some bucket) found)) back
 
       -- the ledger in one step
-      ledger : after ≡ trimmed_ledger 1 (bucket_back ((state_of name a l).books x.key.is) x.number (length (names_of set_name (x ∷ xs))) here.entry) (after_release here.entry.pool (live_sets x.key.is.counts (names_of set_name (x ∷ xs))) l)
+      ledger : after ≡ trimmed_ledger 1 (bucket_back ((state_of name a l).books x.key.is) here.place (length (names_of set_name (x ∷ xs))) here.entry) (after_release here.entry.pool (live_sets x.key.is.counts (names_of set_name (x ∷ xs))) l)
       ledger = gone ∙ (λ i. trimmed_ledger 1 (here.books i) (here.ledger i))
 
       pub row_ran : (limit : ℕ) (fs : List (BucketKey × DescriptorBucket P)) → fs ≡ set_value test es w → state_of name (record { limit = limit; most = None; table = map row_of fs; looks = 0; comparisons = 0 }) after ≡ released (items_of set_name (x ∷ xs)) (state_of name a l)
@@ -42,13 +42,13 @@ module _ {P S : Type 0} (name : P → ℕ) (set_name : S → ℕ) (a : Allocatio
           let k = x.key.is in
           let some : IsSome (lookup test es) = rw found refl in
           let books : (state_of name new after).books ≡ put_books s.books k (bucket_of name w) = ap (λ (x : List (BucketKey × DescriptorBucket P)). books_in name (map row_of x)) wrote ∙ fun_ext (written name test k same es w some) ∙ ap (λ (f : Key → Bucket). put_books f k (bucket_of name w)) (sym books_are) in
-          let b = bucket_back (s.books k) x.number (length (names_of set_name (x ∷ xs))) here.entry in
+          let b = bucket_back (s.books k) here.place (length (names_of set_name (x ∷ xs))) here.entry in
           let pools : after.pools ≡ trimmed_pools b (taken_from l.pools here.entry.pool (live_sets k.counts (names_of set_name (x ∷ xs)))) = ap (λ (m : Ledger). m.pools) ledger ∙ ap (trimmed_pools b) (release_pools here.entry.pool (live_sets k.counts (names_of set_name (x ∷ xs))) l) in
           let left : state_of name new after ≡ record { books = put_books s.books k (bucket_of name w); ledger = after.pools } = λ i. record { books = books i; ledger = after.pools } in
-          left ∙ whole_run set_name s agree x xs have here.entry here.at (bucket_of name w) after.pools (front ∙ ap (trimmed_bucket 1) here.books) pools
+          left ∙ whole_run set_name s agree x xs have here.place here.entry here.at here.named (bucket_of name w) after.pools (front ∙ ap (trimmed_bucket 1) here.books) pools
 
       pub row_counted : HasDistinctKeys (rows_in name es) → after.counters ≡ more_destroyed (pools_gone (keys_of a) (items_of set_name (x ∷ xs)) (state_of name a l)) (more_released 1 l.counters)
       row_counted distinct =
           let there : count_by (key_eq x.key.is) (keys_of a) ≡ 1 = ap (count_by (key_eq x.key.is)) (keys_are a es is) ∙ key_once name test x.key.is same es bucket distinct found in
-          let gone = gone_run set_name (state_of name a l) agree x xs have here.entry here.at (keys_of a) there in
+          let gone = gone_run set_name (state_of name a l) agree x xs have here.place here.entry here.at here.named (keys_of a) there in
           ap (λ (m : Ledger). m.counters) ledger ∙ ap (λ (n : ℕ). more_destroyed n (more_released 1 l.counters)) (sym gone)

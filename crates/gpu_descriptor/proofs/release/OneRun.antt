@@ -1,5 +1,5 @@
 -- One run: what the device may take of the caller's iterator, and what it took.
-use Rattle.gpu_descriptor.proofs.Common.{greatest_pool_size, ◌≡◌, ℕ, ◌+◌, ◌-◌, ◌≤◌, true, List, [], ◌∷◌, length, map, slice_get, refl, sym, ap, subst, ◌∙◌, arith, eq-eqb, Option, Some, None, OnSome, Count, HoldsAlong, IsFinite, IsNearerEnd, Yields, YieldsThen, and_from, length-map, Pool, Ledger, AreLive, live_sets, CanFree, LiveSet, DescriptorSet, live_in, Key, Entry, Bucket, Run, AreBookedIn, IsTakenAt, names_of, RunStep, CountsFrom, EndsRun, AllPass}
+use Rattle.gpu_descriptor.proofs.Common.{entry_at, greatest_pool_size, ◌≡◌, ℕ, ◌+◌, ◌≤◌, true, List, [], ◌∷◌, length, map, slice_get, refl, sym, ap, subst, ◌∙◌, arith, eq-eqb, Option, Some, None, OnSome, Count, HoldsAlong, IsFinite, IsNearerEnd, Yields, YieldsThen, and_from, length-map, Pool, Ledger, AreLive, live_sets, CanFree, LiveSet, DescriptorSet, live_in, Key, Entry, Bucket, Run, AreBookedIn, IsTakenAt, names_of, RunStep, CountsFrom, EndsRun, AllPass}
 use Rattle.gpu_descriptor.specs.Inner.RunSteps.{at_place}
 use Rattle.gpu_descriptor.proofs.release.BucketRun.{AreTaken, can_free, can_take, took_these, length_names}
 use Rattle.gpu_descriptor.proofs.release.RunTaken.{Whole, whole, front}
@@ -17,14 +17,14 @@ module _ {T S : Type 0} (steps : T → Option (DescriptorSet S) → T → Type 0
   abbrev pub Takes : T → DescriptorSet S → Bucket → (ℕ → Option Pool) → Type 0
   Takes rest x b pools = HoldsAlong steps rest (λ xs. AllPass (at_place x.id x.number) xs → IsTakenAt x.key.is x.number (names_of name (x ∷ xs)) b pools)
 
-  pub run_counts : (rest : T) (x : DescriptorSet S) (b : Bucket) (pools : ℕ → Option Pool) (e : Entry) → slice_get b.pools (x.number - b.offset) ≡ Some e → e.allocated ≤ greatest_pool_size → Takes rest x b pools → CountsFrom steps x.id x.number rest (0 + 1)
+  pub run_counts : (rest : T) (x : DescriptorSet S) (b : Bucket) (pools : ℕ → Option Pool) (e : Entry) → entry_at b x.number ≡ Some e → e.allocated ≤ greatest_pool_size → Takes rest x b pools → CountsFrom steps x.id x.number rest (0 + 1)
   run_counts rest x b pools e at small h = grind (arith, length-map)
 
   -- all that a run gives is live in the place
-  pub run_live : (b : Bucket) (l : Ledger) (x : DescriptorSet S) (e : Entry) (s : Run T S) → s.ahead.now ≡ Some x → x.id ≡ s.id → x.number ≡ s.number → AreBookedIn x.key.is l.pools b.pools → slice_get b.pools (x.number - b.offset) ≡ Some e → Takes s.source.now x b l.pools
+  pub run_live : (b : Bucket) (l : Ledger) (x : DescriptorSet S) (p : ℕ) (e : Entry) (s : Run T S) → s.ahead.now ≡ Some x → x.id ≡ s.id → x.number ≡ s.number → AreBookedIn x.key.is l.pools b.pools → slice_get b.pools p ≡ Some e → entry_at b x.number ≡ Some e → Takes s.source.now x b l.pools
       → HoldsAlong (RunStep steps can left) s (λ ys. AreLive e.pool (map name ys) l)
-  run_live b l x e s a k i stored at h ys t z =
-      let booked = stored.each (x.number - b.offset) e at in
+  run_live b l x p e s a k i stored at there h ys t z =
+      let booked = stored.each p e at in
       let free = subst CanFree (sym booked.booked.flags) (can_free x.key.is) in
       let gone = live_names ys t z in
       record {
@@ -46,7 +46,7 @@ module _ {T S : Type 0} (steps : T → Option (DescriptorSet S) → T → Type 0
           let f = front steps can left s x v vs t a z in
           let m : names_of name (x ∷ f.xs) ≡ map name (v ∷ vs) = sym (names name (x ∷ f.xs)) ∙ ap (λ ws. map name ws) f.raws in
           let have : AllPass (at_place x.id x.number) f.xs = subst (λ l. AllPass (at_place l x.number) f.xs) (sym k) (subst (λ j. AllPass (at_place s.id j) f.xs) (sym i) f.keys) in
-          let take = can_take x.key.is x.number (names_of name (x ∷ f.xs)) b l.pools e (h f.xs f.source f.came have) at in
+          let take = can_take x.key.is x.number (names_of name (x ∷ f.xs)) b l.pools e (h f.xs f.source f.came have) there in
           subst (λ ns. (ls : List LiveSet) × AreTaken ns (live_in l.pools e.pool) ls) m (live_sets x.key.is.counts (names_of name (x ∷ f.xs)), record { are = of_names x.key.is (names_of name (x ∷ f.xs)); within = take.live })
 
   pub run_names : (x : DescriptorSet S) (s u : Run T S) (ys : List S) (w : Whole steps can left s x ys u) → map name ys ≡ names_of name (x ∷ w.xs)
@@ -70,13 +70,13 @@ module _ {T S : Type 0} (steps : T → Option (DescriptorSet S) → T → Type 0
     pub sets : ls ≡ live_sets x.key.is.counts (names_of name (x ∷ run.xs))
     pub long : length ls ≡ length (names_of name (x ∷ run.xs))
 
-  pub done : (s : Run T S) (x : DescriptorSet S) (b : Bucket) (pools : ℕ → Option Pool) (e : Entry) (u : Run T S) (ys : List S) (ls : List LiveSet) → s.ahead.now ≡ Some x → s.id ≡ x.id → s.number ≡ x.number → s.count ≡ 0
-      → AreBookedIn x.key.is pools b.pools → slice_get b.pools (x.number - b.offset) ≡ Some e → Takes s.source.now x b pools
+  pub done : (s : Run T S) (x : DescriptorSet S) (b : Bucket) (pools : ℕ → Option Pool) (p : ℕ) (e : Entry) (u : Run T S) (ys : List S) (ls : List LiveSet) → s.ahead.now ≡ Some x → s.id ≡ x.id → s.number ≡ x.number → s.count ≡ 0
+      → AreBookedIn x.key.is pools b.pools → slice_get b.pools p ≡ Some e → entry_at b x.number ≡ Some e → Takes s.source.now x b pools
       → YieldsThen (RunStep steps can left) s ys None u → AreTaken (map name ys) (live_in pools e.pool) ls → Done s x b pools e u ys ls
-  done s x b pools e u ys ls ahead k i zero_count stored at h gives are =
+  done s x b pools p e u ys ls ahead k i zero_count stored at there h gives are =
       let own : at_place s.id s.number x ≡ true = rw (k, i) (at_own x) in
       let w = whole steps can left s x ys u ahead own gives in
       let have : AllPass (at_place x.id x.number) w.xs = subst (λ l. AllPass (at_place l x.number) w.xs) k (subst (λ j. AllPass (at_place s.id j) w.xs) i w.keys) in
-      let take = can_take x.key.is x.number (names_of name (x ∷ w.xs)) b pools e (h w.xs w.source w.came have) at in
-      let sets : ls ≡ live_sets x.key.is.counts (names_of name (x ∷ w.xs)) = took_these x.key.is b pools (x.number - b.offset) e (names_of name (x ∷ w.xs)) ls stored at (subst (λ ns. AreTaken ns (live_in pools e.pool) ls) (run_names x s u ys w) are) in
+      let take = can_take x.key.is x.number (names_of name (x ∷ w.xs)) b pools e (h w.xs w.source w.came have) there in
+      let sets : ls ≡ live_sets x.key.is.counts (names_of name (x ∷ w.xs)) = took_these x.key.is b pools p e (names_of name (x ∷ w.xs)) ls stored at (subst (λ ns. AreTaken ns (live_in pools e.pool) ls) (run_names x s u ys w) are) in
       record { run = w; have = have; fits = take.fits; count = run_long x s u ys w zero_count; sets = sets; long = ap (λ (l : List LiveSet). length l) sets ∙ length_names x.key.is (names_of name (x ∷ w.xs)) }

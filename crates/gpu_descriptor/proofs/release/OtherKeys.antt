@@ -1,9 +1,9 @@
 -- Giving sets back leaves the keys of which none of them is.
-use Rattle.gpu_descriptor.proofs.Common.{◌≡◌, ℕ, ◌+◌, ◌-◌, ◌&&◌, Bool, true, false, List, [], ◌∷◌, count_by, Some, None, option_map, slice_get, refl, sym, ap, ◌∙◌, arith, fun_ext, and_parts, false_from_ne_true, list_any, if◌then◌else◌, LiveSet, set_eq, State, Item, Agree, set_of, Key, key_eq, Bucket, Entry, entry_at, IsUntouched, given_back, released, spent_front, in_front, lies_in, pool_less}
+use Rattle.gpu_descriptor.proofs.Common.{◌≡◌, ℕ, ◌&&◌, Bool, true, false, List, [], ◌∷◌, count_by, Some, None, option_map, slice_get, slice_get-map, entry_less, refl, sym, ap, ◌∙◌, arith, fun_ext, and_parts, false_from_ne_true, list_any, if◌then◌else◌, LiveSet, set_eq, State, Item, Agree, set_of, Key, key_eq, Bucket, Entry, IsUntouched, given_back, released, spent_front, in_front, lies_in, pool_less}
 use Rattle.gpu_descriptor.proofs.table.Exact.{key_exact}
-use Rattle.gpu_descriptor.proofs.release.Fronts.{entry_at-from}
+use Rattle.gpu_descriptor.proofs.lists.Numbers.{entry_at-found}
 use Rattle.gpu_descriptor.proofs.release.ReleaseAgrees.{front_found, none_back}
-use Rattle.gpu_descriptor.proofs.release.Places.{back, lies_in-found, entry_at-less, some_before}
+use Rattle.gpu_descriptor.proofs.release.Places.{back, lies_in-found, some_before}
 use Rattle.gpu_descriptor.proofs.request.Rollback.{other_key}
 
 module _ {A : Type 0} (f g : A → Bool) (le : (t : A) → f t ≡ true → g t ≡ true) where
@@ -19,17 +19,16 @@ module _ {A : Type 0} (f g : A → Bool) (le : (t : A) → f t ≡ true → g t 
   count_off (t ∷ m) none = grind (arith, (count_off m))
 
 -- a pool in the books of a key that the sets don't name stays on the device
-other_pool : (m : List Item) (s : State) → Agree s → (k : Key) → list_any (λ t. key_eq t.key k) m ≡ false → (n : ℕ) (e : Entry) → entry_at (s.books k) n ≡ Some e → (released m s).ledger e.pool ≡ s.ledger e.pool
+other_pool : (m : List Item) (s : State) → Agree s → (k : Key) → list_any (λ t. key_eq t.key k) m ≡ false → (n : ℕ) (e : Entry) → slice_get (s.books k).pools n ≡ Some e → (released m s).ledger e.pool ≡ s.ledger e.pool
 other_pool m s agree k none n e at =
-    let own : (l : Key) (i : ℕ) (d : Entry) → entry_at (s.books l) i ≡ Some d → d.pool ≡ e.pool → key_eq l k ≡ true = λ l i d there same. ap (λ (j : Key). key_eq j k) (agree.distinct l k i n d e there at same).0 ∙ key_exact.self k in
+    let own : (l : Key) (i : ℕ) (d : Entry) → slice_get (s.books l).pools i ≡ Some d → d.pool ≡ e.pool → key_eq l k ≡ true = λ l i d there same. ap (λ (j : Key). key_eq j k) (agree.distinct l k i n d e there at same).0 ∙ key_exact.self k in
     let lies : (x : LiveSet) (t : Item) → (lies_in s.books e.pool t && set_eq (set_of t) x) ≡ true → key_eq t.key k ≡ true = λ x t on.
-    (let f = lies_in-found s.books e.pool t (and_parts (lies_in s.books e.pool t) (set_eq (set_of t) x) on).0 in own t.key t.number f.0 f.1 f.2) in
+    (let f = lies_in-found s.books e.pool t (and_parts (lies_in s.books e.pool t) (set_eq (set_of t) x) on).0 in let there = entry_at-found (s.books t.key) t.number f.0 f.1 in own t.key there.0 f.0 there.1 f.2) in
     let front : (t : Item) → (let b = (given_back m s).books t.key in in_front (spent_front b) b e.pool) ≡ true → key_eq t.key k ≡ true = λ t on.
     let b : Bucket = (given_back m s).books t.key in
     let f = front_found b.pools (spent_front b) e.pool on in
-    let here : entry_at b (b.offset + f.0) ≡ Some f.1 = entry_at-from b (b.offset + f.0) f.1 (omega arith) (ap (slice_get b.pools) (let i : b.offset + f.0 - b.offset ≡ f.0 = omega arith in i) ∙ f.3) in
-    let d = some_before _ (entry_at (s.books t.key) (b.offset + f.0)) f.1 (sym (entry_at-less (back m s) (s.books t.key) (b.offset + f.0)) ∙ here) in
-    own t.key (b.offset + f.0) d.0 d.1 (ap (λ (x : Entry). x.pool) d.2 ∙ f.4) in
+    let d = some_before _ (slice_get (s.books t.key).pools f.0) f.1 (sym (slice_get-map (λ (x : Entry). entry_less (back m s x.pool) x) (s.books t.key).pools f.0) ∙ f.3) in
+    own t.key f.0 d.0 d.1 (ap (λ (x : Entry). x.pool) d.2 ∙ f.4) in
     let kept : (λ (x : LiveSet). count_by (λ t. lies_in s.books e.pool t && set_eq (set_of t) x) m) ≡ (λ x. 0) = fun_ext (λ x. count_off (λ t. lies_in s.books e.pool t && set_eq (set_of t) x) (λ t. key_eq t.key k) (lies x) m none) in
     ap (λ (b : Bool). if b then None else (given_back m s).ledger e.pool) (any_off (λ t. let b = (given_back m s).books t.key in in_front (spent_front b) b e.pool) (λ t. key_eq t.key k) front m none)
     ∙ ap (λ (f : LiveSet → ℕ). option_map (pool_less f) (s.ledger e.pool)) kept

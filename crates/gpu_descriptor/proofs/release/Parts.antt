@@ -1,6 +1,7 @@
 -- Giving back in two parts is giving back at once.
-use Rattle.gpu_descriptor.proofs.Common.{◌≡◌, ℕ, suc, ◌+◌, ◌-◌, ◌<◌, Bool, true, false, ◌&&◌, ◌||◌, ◌==◌, List, [], ◌∷◌, ◌++◌, map, take, drop, slice_get, Option, Some, None, option_map, refl, sym, ap, ◌∙◌, arith, take-add, if◌then◌else◌, fun_ext, list_any, and_parts, and_from, false_from_ne_true, take-map, set_of, State, Item, item_eq, count_of, AreOutstanding, Agree, Key, key_eq, Entry, Bucket, entry_at, Pool, LiveSet, set_eq, count_by-append, count_by_alike, count_by_none, any_from, any_found, list_any-append, trimmed_bucket, lies_in, entry_less, bucket_less, pool_less, spent_front, without_front, in_front, released}
-use Rattle.gpu_descriptor.proofs.release.Fronts.{less-less, less-without, one_key, spent_front-less, entry_at-from}
+use Rattle.gpu_descriptor.proofs.Common.{◌≡◌, ℕ, suc, ◌+◌, ◌<◌, Bool, true, false, ◌&&◌, ◌||◌, ◌==◌, List, [], ◌∷◌, ◌++◌, map, take, drop, slice_get, Option, Some, None, option_map, refl, sym, ap, ◌∙◌, arith, take-add, if◌then◌else◌, fun_ext, list_any, and_parts, and_from, false_from_ne_true, take-map, set_of, State, Item, item_eq, count_of, AreOutstanding, Agree, Key, key_eq, Entry, Bucket, Pool, LiveSet, set_eq, count_by-append, count_by_alike, count_by_none, any_from, any_found, list_any-append, trimmed_bucket, lies_in, entry_less, bucket_less, pool_less, spent_front, without_front, in_front, released}
+use Rattle.gpu_descriptor.proofs.lists.Numbers.{entry_at-found}
+use Rattle.gpu_descriptor.proofs.release.Fronts.{less-less, less-without, one_key, spent_front-less}
 use Rattle.gpu_descriptor.proofs.table.Exact.{key_exact, item_exact}
 use Rattle.gpu_descriptor.proofs.release.Places.{back, back_named, lies_in-at, lies_in-found, kept}
 
@@ -88,10 +89,11 @@ each_alike f g [] h = refl
 each_alike f g (e ∷ es) h = λ i. h 0 e refl i ∷ each_alike f g es (λ j. h (suc j)) i
 
 -- a list that doesn't name a key takes nothing from the key's pools
-pub untouched : (n : List Item) (s : State) → Agree s → (k : Key) → names_key n k ≡ false → (i : ℕ) (e : Entry) → entry_at (s.books k) i ≡ Some e → back n s e.pool ≡ 0
+pub untouched : (n : List Item) (s : State) → Agree s → (k : Key) → names_key n k ≡ false → (i : ℕ) (e : Entry) → slice_get (s.books k).pools i ≡ Some e → back n s e.pool ≡ 0
 untouched n s agree k none i e at = count_by_none item_exact (lies_in s.books e.pool) n (λ t in_n. false_from_ne_true (lies_in s.books e.pool t) (λ lies.
     let found = lies_in-found s.books e.pool t lies in
-    let same = agree.distinct t.key k t.number i found.0 e found.1 at found.2 in
+    let there = entry_at-found (s.books t.key) t.number found.0 found.1 in
+    let same = agree.distinct t.key k there.0 i found.0 e there.1 at found.2 in
     let named : names_key n k ≡ true = any_from item_exact (λ u. key_eq u.key k) n t in_n (rw same.0 (key_exact.self k)) in
     let bad : true ≡ false = sym named ∙ none in cc))
 
@@ -100,9 +102,7 @@ quiet_key m n s agree k none =
     let b = s.books k in
     let pools : map (λ e. entry_less (back m s e.pool + back n s e.pool) e) b.pools ≡ map (λ e. entry_less (back m s e.pool) e) b.pools =
     each_alike (λ e. entry_less (back m s e.pool + back n s e.pool) e) (λ e. entry_less (back m s e.pool) e) b.pools (λ i e at.
-    let place : b.offset + i - b.offset ≡ i = omega arith in
-    let here : entry_at b (b.offset + i) ≡ Some e = entry_at-from b (b.offset + i) e (omega arith) (rw place at) in
-    let zero_more : back n s e.pool ≡ 0 = untouched n s agree k none (b.offset + i) e here in
+    let zero_more : back n s e.pool ≡ 0 = untouched n s agree k none i e at in
     let same : back m s e.pool + back n s e.pool ≡ back m s e.pool = omega arith in
     ap (λ (x : ℕ). entry_less x e) same) in
     λ i. record b { pools = pools i }

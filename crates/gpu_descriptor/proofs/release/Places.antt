@@ -1,6 +1,9 @@
 -- Which places of the books keep their pools when sets go back: those that still have a set out.
-use Rattle.gpu_descriptor.proofs.Common.{◌≡◌, ℕ, ◌+◌, ◌-◌, ◌<◌, ◌≤◌, Bool, true, false, cond, ◌&&◌, ◌==◌, List, [], ◌∷◌, length, map, filter, count_by, Option, Some, None, option_map, inl, inr, refl, sym, ap, ◌∙◌, arith, eqb-true, eq-eqb, ne_eqb, option_map_or, list_any, cases_Bool, false_from_ne_true, and_parts, and_from, length-map, length-filter, count_by-le-length, slice_get-map, set_of, State, Item, item_eq, count_of, live_in, outstanding, AreOutstanding, HasSize, Agree, live_at, Key, key_eq, Entry, Bucket, entry_at, no_pools, Pool, LiveSet, set_eq, bool_iff, count_by_alike, count_by_none, set_exact, all_taken_out, ∥∥₁_elim, ∥∥₁_map, props, common_steps, lies_in, entry_less, bucket_less, is_empty, empty_front, spent_front, without_front, released}
+use Rattle.gpu_descriptor.proofs.Common.{◌≡◌, ℕ, ◌+◌, ◌-◌, ◌<◌, ◌≤◌, Bool, true, false, cond, ◌&&◌, ◌==◌, List, [], ◌∷◌, length, map, filter, count_by, Option, Some, None, option_map, inl, inr, refl, sym, ap, ◌∙◌, arith, eqb-true, eq-eqb, ne_eqb, option_map_or, list_any, cases_Bool, false_from_ne_true, and_parts, and_from, length-map, length-filter, count_by-le-length, slice_get, slice_get-map, rises, numbers_of, set_of, State, Item, item_eq, count_of, live_in, outstanding, AreOutstanding, HasSize, Agree, live_at, Key, key_eq, Entry, Bucket, entry_at, no_pools, Pool, LiveSet, set_eq, bool_iff, count_by_alike, count_by_none, set_exact, all_taken_out, ∥∥₁_elim, ∥∥₁_map, props, common_steps, lies_in, entry_less, bucket_less, is_empty, empty_front, spent_front, without_front, released}
+use Rattle.gpu_descriptor.proofs.lists.Numbers.{find_map, numbers_map}
+use Rattle.gpu_descriptor.proofs.lists.AtPlaces.{get_drop}
 use Rattle.gpu_descriptor.proofs.release.Fronts.{entry_at-without, entry_at-kept}
+use Rattle.gpu_descriptor.proofs.request.StateAgrees.{booked_at, distinct_at}
 use Rattle.gpu_descriptor.proofs.table.Exact.{item_exact, item_parts, item_from}
 
 -- how many sets go back to a pool, and how many of a name
@@ -64,7 +67,7 @@ back_named-is m s agree out k i e at name =
     let u : Item = record { key = k; id = (s.books k).id; number = i; name = name } in
     count_by_alike item_exact (λ t. lies_in s.books e.pool t && set_eq (set_of t) x) (λ t. item_eq t u) m (λ t in_m. bool_iff (lies_in s.books e.pool t && set_eq (set_of t) x) (item_eq t u)
     (λ h.
-    grind (arith, common_steps, and_parts, item_from, lies_in-found, own_id, set_exact))
+    grind (arith, common_steps, and_parts, distinct_at, item_from, lies_in-found, own_id, set_exact))
     (λ h.
     let same = item_parts t u h in
     grind (arith, common_steps, and_from, eq-eqb, lies_in-at, set_exact)))
@@ -74,7 +77,7 @@ back_other : (m : List Item) (s : State) → Agree s → (k : Key) (i : ℕ) (e 
 back_other m s agree k i e at x other = count_by_none item_exact (λ t. lies_in s.books e.pool t && set_eq (set_of t) x) m (λ t in_m. false_from_ne_true (lies_in s.books e.pool t && set_eq (set_of t) x) (λ h.
     let both = and_parts (lies_in s.books e.pool t) (set_eq (set_of t) x) h in
     let one : set_of t ≡ x = set_exact.same (set_of t) x both.1 in
-    grind (arith, common_steps, lies_in-found, set_exact)))
+    grind (arith, common_steps, distinct_at, lies_in-found, set_exact)))
 
 pub live_there_at : (s : State) (t : Item) (e : Entry) (pool : Pool) → entry_at (s.books t.key) t.number ≡ Some e → s.ledger e.pool ≡ Some pool → live_at s.ledger (s.books t.key) t ≡ pool.live (set_of t)
 live_there_at s t e pool at found = rw at (rw found refl)
@@ -107,7 +110,11 @@ pub none_out : (s : State) (t : Item) → s.books t.key ≡ no_pools → outstan
 none_out s t none = grind arith
 
 pub entry_at-less : (g : ℕ → ℕ) (b : Bucket) (n : ℕ) → entry_at (bucket_less g b) n ≡ option_map (λ e. entry_less (g e.pool) e) (entry_at b n)
-entry_at-less g b n = grind (arith, slice_get-map)
+entry_at-less g b n = find_map n (λ e. entry_less (g e.pool) e) (λ e. refl) b.pools
+
+-- giving back leaves the numbers
+pub numbers_less : (g : ℕ → ℕ) (b : Bucket) → numbers_of (bucket_less g b).pools ≡ numbers_of b.pools
+numbers_less g b = numbers_map (λ e. entry_less (g e.pool) e) (λ e. refl) b.pools
 
 pub some_before : (f : Entry → Entry) (o : Option Entry) (e : Entry) → option_map f o ≡ Some e → (d : Entry) × (o ≡ Some d) × (f d ≡ e)
 some_before f None e h = absurd (let bad : ◌≡◌ {A = Option Entry} None (Some e) = h in cc)
@@ -123,20 +130,27 @@ released_books m s k = grind arith
 pub front_of-le : (m : List Item) (s : State) (k : Key) → front_of m s k ≤ empty_front (bucket_less (back m s) (s.books k))
 front_of-le m s k = grind arith
 
--- what has a number afterwards had it before, in the same pool
-pub was_there : (m : List Item) (s : State) (k : Key) (i : ℕ) (e : Entry) → entry_at ((released m s).books k) i ≡ Some e → (d : Entry) × (entry_at (s.books k) i ≡ Some d) × (entry_less (back m s d.pool) d ≡ e) × ((s.books k).offset + front_of m s k ≤ i)
+-- what stands at a place afterwards stood before it, in the same pool
+pub was_there : (m : List Item) (s : State) (k : Key) (i : ℕ) (e : Entry) → slice_get ((released m s).books k).pools i ≡ Some e → (d : Entry) × (slice_get (s.books k).pools (front_of m s k + i) ≡ Some d) × (entry_less (back m s d.pool) d ≡ e)
 was_there m s k i e h =
-    let same = released_books m s k in
-    let here : entry_at (without_front (front_of m s k) (bucket_less (back m s) (s.books k))) i ≡ Some e = ap (λ (b : Bucket). entry_at b i) (sym same) ∙ h in
-    let whole = entry_at-without (front_of m s k) (bucket_less (back m s) (s.books k)) i e here in
-    grind (arith, common_steps, entry_at-less, some_before)
+    let c = bucket_less (back m s) (s.books k) in
+    let here : slice_get c.pools (front_of m s k + i) ≡ Some e = sym (get_drop c.pools (front_of m s k) i) ∙ ap (λ (b : Bucket). slice_get b.pools i) (sym (released_books m s k)) ∙ h in
+    some_before (λ d. entry_less (back m s d.pool) d) (slice_get (s.books k).pools (front_of m s k + i)) e (sym (slice_get-map (λ (d : Entry). entry_less (back m s d.pool) d) (s.books k).pools (front_of m s k + i)) ∙ here)
+
+-- and so what has a number
+pub was_at : (m : List Item) (s : State) → Agree s → (k : Key) (n : ℕ) (e : Entry) → entry_at ((released m s).books k) n ≡ Some e → (d : Entry) × (entry_at (s.books k) n ≡ Some d) × (entry_less (back m s d.pool) d ≡ e)
+was_at m s agree k n e h =
+    let c = bucket_less (back m s) (s.books k) in
+    let here : entry_at (without_front (front_of m s k) c) n ≡ Some e = ap (λ (b : Bucket). entry_at b n) (sym (released_books m s k)) ∙ h in
+    let whole = entry_at-without (front_of m s k) c n e (ap rises (numbers_less (back m s) (s.books k)) ∙ agree.rising k) here in
+    some_before (λ d. entry_less (back m s d.pool) d) (entry_at (s.books k) n) e (sym (entry_at-less (back m s) (s.books k) n) ∙ whole)
 
 -- THE CRUX: the place of a set that is still out keeps its pool and its number
 pub kept : (m : List Item) (s : State) → Agree s → AreOutstanding m s → (t : Item) → count_of t m < outstanding s t → (e : Entry) × (entry_at (s.books t.key) t.number ≡ Some e) × (entry_at ((released m s).books t.key) t.number ≡ Some (entry_less (back m s e.pool) e))
 kept m s agree out t more =
     let here = outstanding_found s t (count_of t m) more in
     let e = here.0 in
-    let booked = agree.booked t.key t.number e here.1 in
+    let booked = booked_at s agree t.key t.number e here.1 in
     let pool = booked.0 in
     let live : live_in s.ledger e.pool (set_of t) ≡ pool.live (set_of t) = rw booked.1 refl in
     let left = size_less pool.live e.allocated (lies_in s.books e.pool) m booked.2.allocated (part_fits m s agree out t.key t.number e pool here.1 booked.1) in
@@ -148,7 +162,7 @@ kept m s agree out t more =
       e,
       here.1,
       ap (λ (b : Bucket). entry_at b t.number) (released_books m s t.key)
-          ∙ entry_at-kept (bucket_less (back m s) (s.books t.key)) (front_of m s t.key) t.number (entry_less (back m s e.pool) e) (front_of-le m s t.key) there full,
+          ∙ entry_at-kept (bucket_less (back m s) (s.books t.key)) (front_of m s t.key) t.number (entry_less (back m s e.pool) e) (ap rises (numbers_less (back m s) (s.books t.key)) ∙ agree.rising t.key) (front_of-le m s t.key) there full,
     )
 
 -- an allocator without keys agrees with every ledger

@@ -1,8 +1,8 @@
 -- Giving one run back, over the books of all keys.
-use Rattle.gpu_descriptor.proofs.Common.{◌≡◌, ℕ, suc, ◌+◌, ◌-◌, ◌<◌, ◌≤◌, Bool, true, false, ◌==◌, List, [], ◌∷◌, length, map, count_by, sum_by, Option, Some, None, option_map, inl, inr, refl, sym, ap, ◌∙◌, arith, eq-eqb, ne_eqb, if◌then◌else◌, fun_ext, list_any, cases_Bool, cases_eq, and_parts, and_from, false_from_ne_true, length-map, sum_by-cons, Pool, live_sets, LiveSet, set_eq, times, bool_iff, any_found, any_from, count_by_yes, count_by_no, DescriptorSet, set_of, State, Item, item_eq, count_of, live_in, AreOutstanding, Agree, Key, key_eq, Entry, Bucket, entry_at, common_steps, IsTakenAt, names_of, bucket_back, trimmed_bucket, entry_less, pool_less, given_back, fronts_gone, released, spent_front, pools_gone, in_front, item_of, items_of, AllPass}
+use Rattle.gpu_descriptor.proofs.Common.{slice_get, ◌≡◌, ℕ, suc, ◌<◌, ◌≤◌, Bool, true, false, ◌==◌, List, [], ◌∷◌, length, map, count_by, sum_by, Option, Some, None, option_map, inl, inr, refl, sym, ap, ◌∙◌, arith, eq-eqb, ne_eqb, if◌then◌else◌, fun_ext, list_any, cases_Bool, cases_eq, and_parts, and_from, false_from_ne_true, length-map, sum_by-cons, Pool, live_sets, LiveSet, set_eq, times, bool_iff, any_found, any_from, count_by_yes, count_by_no, DescriptorSet, set_of, State, Item, item_eq, count_of, live_in, AreOutstanding, Agree, Key, key_eq, Entry, Bucket, entry_at, common_steps, IsTakenAt, names_of, bucket_back, trimmed_bucket, entry_less, pool_less, given_back, fronts_gone, released, spent_front, pools_gone, in_front, item_of, items_of, AllPass}
 use Rattle.gpu_descriptor.specs.Inner.RunSteps.{lies_at}
 use Rattle.gpu_descriptor.proofs.table.Exact.{key_exact, item_exact}
-use Rattle.gpu_descriptor.proofs.release.Fronts.{entry_at-found, entry_at-from}
+use Rattle.gpu_descriptor.proofs.lists.Numbers.{entry_at-named}
 use Rattle.gpu_descriptor.proofs.release.ReleaseAgrees.{has_place}
 use Rattle.gpu_descriptor.proofs.foreign.LedgerPools.{taken_from, with_pool_same, with_pool_other}
 use Rattle.gpu_descriptor.proofs.release.Parts.{names_key, any_key, key_any, goes}
@@ -86,34 +86,32 @@ module _ {S : Type 0} (name : S → ℕ) where
   pool_none (Some p) = grind arith
 
   -- THE STATE AFTER ONE RUN, before the front goes
-  pub given_run : (s : State) → Agree s → (x : DescriptorSet S) (xs : List (DescriptorSet S)) → AllPass (lies_at x.key.is x.number) xs → (e : Entry) → entry_at (s.books x.key.is) x.number ≡ Some e
+  pub given_run : (s : State) → Agree s → (x : DescriptorSet S) (xs : List (DescriptorSet S)) → AllPass (lies_at x.key.is x.number) xs → (i : ℕ) (e : Entry) → slice_get (s.books x.key.is).pools i ≡ Some e → e.number ≡ x.number
       → given_back (items_of name (x ∷ xs)) s ≡ record {
-        books = put_books s.books x.key.is (bucket_back (s.books x.key.is) x.number (length (names_of name (x ∷ xs))) e);
+        books = put_books s.books x.key.is (bucket_back (s.books x.key.is) i (length (names_of name (x ∷ xs))) e);
         ledger = taken_from s.ledger e.pool (live_sets x.key.is.counts (names_of name (x ∷ xs)));
       }
-  given_run s agree x xs have e at =
+  given_run s agree x xs have i e place named_so =
       let k = x.key.is in
       let n = x.number in
       let m = items_of name (x ∷ xs) in
       let b = s.books k in
       let ls = live_sets k.counts (names_of name (x ∷ xs)) in
       let run = is_run x.key.is n (x ∷ xs) (all_have x xs have) in
-      let place = (entry_at-found b n e at).1 in
+      let at : entry_at b n ≡ Some e = entry_at-named b i n e (agree.rising k) place named_so in
       let long : length m ≡ length (names_of name (x ∷ xs)) = same_length (x ∷ xs) in
-      let c = bucket_back b n (length (names_of name (x ∷ xs))) e in
-      let one : (given_back m s).books k ≡ c = run_books k n m s e agree run at place ∙ ap (λ (l : ℕ). bucket_back b n l e) long in
+      let c = bucket_back b i (length (names_of name (x ∷ xs))) e in
+      let one : (given_back m s).books k ≡ c = run_books k n i m s e agree run at place ∙ ap (λ (l : ℕ). bucket_back b i l e) long in
       let books : (given_back m s).books ≡ put_books s.books k c = fun_ext (λ l. elim (cases_Bool (key_eq k l)) [
         | inl is ↦ (let here : put_books s.books k c l ≡ c = rw is refl in ap (given_back m s).books (sym (key_exact.same k l is)) ∙ one ∙ sym here)
         | inr other ↦ (
             let here : put_books s.books k c l ≡ s.books l = rw other refl in
             let pools : map (λ d. entry_less (back m s d.pool) d) (s.books l).pools ≡ (s.books l).pools =
             ap (λ (f : ℕ → ℕ). map (λ (d : Entry). entry_less (f d.pool) d) (s.books l).pools) (fun_ext (run_back k n m s e run at))
-            ∙ untouched_rest (length m) e.pool (s.books l).pools (λ i d got same.
-            let bl = s.books l in
-            let spot : bl.offset + i - bl.offset ≡ i = omega arith in
-            let keys = (agree.distinct k l n (bl.offset + i) e d at (entry_at-from bl (bl.offset + i) d (omega arith) (rw spot got)) same).0 in
+            ∙ untouched_rest (length m) e.pool (s.books l).pools (λ j d got same.
+            let keys = (agree.distinct k l i j e d place got same).0 in
             let bad : true ≡ false = sym (ap (key_eq k) (sym keys) ∙ key_exact.self k) ∙ other in cc) in
-            let whole : (given_back m s).books l ≡ s.books l = λ i. record (s.books l) { pools = pools i } in
+            let whole : (given_back m s).books l ≡ s.books l = λ z. record (s.books l) { pools = pools z } in
             whole ∙ sym here)
       ]) in
       let ledger : (given_back m s).ledger ≡ taken_from s.ledger e.pool ls = fun_ext (λ p. elim (cases_eq p e.pool) [
@@ -125,7 +123,7 @@ module _ {S : Type 0} (name : S → ℕ) where
             let named : back_named m s p ≡ (λ y. 0) = fun_ext (λ y. run_named k n m s e run at p y ∙ (let apart : (e.pool == p) ≡ false = ne_eqb e.pool p (λ h. other (sym h)) in rw apart refl)) in
             ap (λ (f : LiveSet → ℕ). option_map (pool_less f) (s.ledger p)) named ∙ pool_none (s.ledger p) ∙ sym (with_pool_other s.ledger e.pool p (option_map (pool_less (times ls)) (s.ledger e.pool)) other))
       ]) in
-      λ i. record { books = books i; ledger = ledger i }
+      λ z. record { books = books z; ledger = ledger z }
 
   -- THE FRONT OF THE RUN'S KEY
   pub front_run : (x : DescriptorSet S) (xs : List (DescriptorSet S)) → AllPass (lies_at x.key.is x.number) xs → (books : Key → Bucket) (b : Bucket) (pools : ℕ → Option Pool)
@@ -158,18 +156,18 @@ module _ {S : Type 0} (name : S → ℕ) where
       ap (λ (c : Bucket). goes c p) (sym own) ∙ ap (λ (l : Key). goes (s.books l) p) (only at.0 both.0) ∙ both.1)
       (λ h. key_any (λ l. goes (s.books l) p) m k (and_from (names_key m k) (goes (s.books k) p) named (ap (λ (c : Bucket). goes c p) own ∙ h))) in
       ap (λ (y : Bool). if y then None else pools p) gone) in
-      λ i. record { books = books_are i; ledger = ledger i }
+      λ z. record { books = books_are z; ledger = ledger z }
 
   -- THE STATE AFTER ONE RUN
-  pub whole_run : (s : State) → Agree s → (x : DescriptorSet S) (xs : List (DescriptorSet S)) → AllPass (lies_at x.key.is x.number) xs → (e : Entry) → entry_at (s.books x.key.is) x.number ≡ Some e
-      → (c : Bucket) (pools : ℕ → Option Pool) → c ≡ trimmed_bucket 1 (bucket_back (s.books x.key.is) x.number (length (names_of name (x ∷ xs))) e) → pools ≡ trimmed_pools (bucket_back (s.books x.key.is) x.number (length (names_of name (x ∷ xs))) e) (taken_from s.ledger e.pool (live_sets x.key.is.counts (names_of name (x ∷ xs))))
+  pub whole_run : (s : State) → Agree s → (x : DescriptorSet S) (xs : List (DescriptorSet S)) → AllPass (lies_at x.key.is x.number) xs → (i : ℕ) (e : Entry) → slice_get (s.books x.key.is).pools i ≡ Some e → e.number ≡ x.number
+      → (c : Bucket) (pools : ℕ → Option Pool) → c ≡ trimmed_bucket 1 (bucket_back (s.books x.key.is) i (length (names_of name (x ∷ xs))) e) → pools ≡ trimmed_pools (bucket_back (s.books x.key.is) i (length (names_of name (x ∷ xs))) e) (taken_from s.ledger e.pool (live_sets x.key.is.counts (names_of name (x ∷ xs))))
       → ◌≡◌ {A = State} (record { books = put_books s.books x.key.is c; ledger = pools }) (released (items_of name (x ∷ xs)) s)
-  whole_run s agree x xs have e at c pools is are =
+  whole_run s agree x xs have i e at named c pools is are =
       let k = x.key.is in
-      let b = bucket_back (s.books k) x.number (length (names_of name (x ∷ xs))) e in
+      let b = bucket_back (s.books k) i (length (names_of name (x ∷ xs))) e in
       let after = taken_from s.ledger e.pool (live_sets k.counts (names_of name (x ∷ xs))) in
-      let left : ◌≡◌ {A = State} (record { books = put_books s.books k c; ledger = pools }) (record { books = put_books s.books k (trimmed_bucket 1 b); ledger = trimmed_pools b after }) = λ i. record { books = put_books s.books k (is i); ledger = are i } in
-      left ∙ sym (front_run x xs have s.books b after) ∙ ap (fronts_gone (items_of name (x ∷ xs))) (sym (given_run s agree x xs have e at))
+      let left : ◌≡◌ {A = State} (record { books = put_books s.books k c; ledger = pools }) (record { books = put_books s.books k (trimmed_bucket 1 b); ledger = trimmed_pools b after }) = λ z. record { books = put_books s.books k (is z); ledger = are z } in
+      left ∙ sym (front_run x xs have s.books b after) ∙ ap (fronts_gone (items_of name (x ∷ xs))) (sym (given_run s agree x xs have i e at named))
 
   -- what is 0 at all other keys adds up to what it is at one that is there once
   sum_none : (k : Key) (f : Key → ℕ) → ((l : Key) → key_eq k l ≡ false → f l ≡ 0) → (keys : List Key) → count_by (key_eq k) keys ≡ 0 → sum_by f keys ≡ 0
@@ -184,12 +182,12 @@ module _ {S : Type 0} (name : S → ℕ) where
   ]
 
   -- THE POOLS THAT GO are those of the run's key
-  pub gone_run : (s : State) → Agree s → (x : DescriptorSet S) (xs : List (DescriptorSet S)) → AllPass (lies_at x.key.is x.number) xs → (e : Entry) → entry_at (s.books x.key.is) x.number ≡ Some e
-      → (keys : List Key) → count_by (key_eq x.key.is) keys ≡ 1 → pools_gone keys (items_of name (x ∷ xs)) s ≡ spent_front (bucket_back (s.books x.key.is) x.number (length (names_of name (x ∷ xs))) e)
-  gone_run s agree x xs have e at keys there =
+  pub gone_run : (s : State) → Agree s → (x : DescriptorSet S) (xs : List (DescriptorSet S)) → AllPass (lies_at x.key.is x.number) xs → (i : ℕ) (e : Entry) → slice_get (s.books x.key.is).pools i ≡ Some e → e.number ≡ x.number
+      → (keys : List Key) → count_by (key_eq x.key.is) keys ≡ 1 → pools_gone keys (items_of name (x ∷ xs)) s ≡ spent_front (bucket_back (s.books x.key.is) i (length (names_of name (x ∷ xs))) e)
+  gone_run s agree x xs have i e at named_so keys there =
       let k = x.key.is in
       let m = items_of name (x ∷ xs) in
-      let b = bucket_back (s.books k) x.number (length (names_of name (x ∷ xs))) e in
+      let b = bucket_back (s.books k) i (length (names_of name (x ∷ xs))) e in
       let run = is_run x.key.is x.number (x ∷ xs) (all_have x xs have) in
       let f : Key → ℕ = λ l. if names_key m l then spent_front ((given_back m s).books l) else 0 in
       let named : names_key m k ≡ true = any_from item_exact (λ u. key_eq u.key k) m (item_of name x) (first_of x xs) (key_exact.self k) in
@@ -199,6 +197,6 @@ module _ {S : Type 0} (name : S → ℕ) where
       let same : k ≡ l = sym (run who.0 who.1).0 ∙ key_exact.same who.0.key l who.2 in
       let bad : true ≡ false = sym (ap (key_eq k) (sym same) ∙ key_exact.self k) ∙ other in cc) in
       rw unnamed refl in
-      let given : (given_back m s).books k ≡ b = ap (λ (t : State). t.books k) (given_run s agree x xs have e at) ∙ (let own : put_books s.books k b k ≡ b = rw (key_exact.self k) refl in own) in
+      let given : (given_back m s).books k ≡ b = ap (λ (t : State). t.books k) (given_run s agree x xs have i e at named_so) ∙ (let own : put_books s.books k b k ≡ b = rw (key_exact.self k) refl in own) in
       let here : f k ≡ spent_front ((given_back m s).books k) = rw named refl in
       sum_once k f only keys there ∙ here ∙ ap spent_front given

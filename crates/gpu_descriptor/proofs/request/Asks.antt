@@ -1,8 +1,8 @@
 -- What asking one pool does, from what the device did.
 use Rattle.gpu_descriptor.proofs.Common.{◌≡◌, ℕ, ◌+◌, ◌-◌, ◌<◌, min, List, [], length, Bool, true, false, cond, ◌&&◌, Option, Some, None, nat_eq, nat_lt, refl, sym, ap, ◌∙◌, arith, lt-ltb, eqb-true, fun_ext, and_from, Key, Entry, Pool, Ledger, Counters, live_sets, on_pool, option_map, after_alloc, after_no_alloc, alloc_refused, pool_refusals, no_rise, LiveSet, DeviceAllocationError, pool_with, risen, IsAsked, IsNoMemory}
 
-pub same_entry : (a b : Entry) → a.pool ≡ b.pool → a.capacity ≡ b.capacity → a.allocated ≡ b.allocated → a.available ≡ b.available → a ≡ b
-same_entry a b pool capacity allocated free = λ i. record { pool = pool i; capacity = capacity i; allocated = allocated i; available = free i }
+pub same_entry : (a b : Entry) → a.number ≡ b.number → a.pool ≡ b.pool → a.capacity ≡ b.capacity → a.allocated ≡ b.allocated → a.available ≡ b.available → a ≡ b
+same_entry a b number pool capacity allocated free = λ i. record { number = number i; pool = pool i; capacity = capacity i; allocated = allocated i; available = free i }
 
 pub same_counters : (a b : Counters) → a.created ≡ b.created → a.destroyed ≡ b.destroyed → a.asked ≡ b.asked → a.released ≡ b.released → a.device_memory ≡ b.device_memory → a.host_memory ≡ b.host_memory → a.fragmentation ≡ b.fragmentation → a.pool_refused ≡ b.pool_refused → a ≡ b
 same_counters a b e1 e2 e3 e4 e5 e6 e7 e8 = λ i. record { created = e1 i; destroyed = e2 i; asked = e3 i; released = e4 i; device_memory = e5 i; host_memory = e6 i; fragmentation = e7 i; pool_refused = e8 i }
@@ -45,7 +45,7 @@ skipped k wanted e l h = record {
   refused = false;
   refusing = λ r. absurd (cc);
   many = omega arith;
-  entry = same_entry _ _ refl refl (let a : e.allocated ≡ e.allocated + 0 = omega arith in a) (let a : e.available ≡ e.available - 0 = omega arith in a);
+  entry = same_entry _ _ refl refl refl (let a : e.allocated ≡ e.allocated + 0 = omega arith in a) (let a : e.available ≡ e.available - 0 = omega arith in a);
   pools = sym (on_id e.pool l.pools (pool_with [] false) pool_same);
   counters = (let t = asks_none e.available wanted h in rw t (let n = l.counters in same_counters _ _ (omega arith) (omega arith) (omega arith) (omega arith) (omega arith) (omega arith) (omega arith) (omega arith)));
 }
@@ -55,7 +55,7 @@ given k wanted names e l m some many is = record {
   refused = false;
   refusing = λ r. absurd (cc);
   many = omega arith;
-  entry = same_entry _ _ refl refl (omega arith) (omega arith);
+  entry = same_entry _ _ refl refl refl (omega arith) (omega arith);
   pools = ap (λ (x : Ledger). x.pools) is;
   counters = ap (λ (x : Ledger). x.counters) is ∙ (let t = asks_some e.available wanted some in rw t (same_counters _ _ (omega arith) (omega arith) (omega arith) (omega arith) (omega arith) (omega arith) (omega arith) (omega arith)));
 }
@@ -68,7 +68,7 @@ refuses k wanted error e l m some pool_error is = record {
   refused = true;
   refusing = λ r. asks_some e.available wanted some;
   many = omega arith;
-  entry = same_entry _ _ refl refl (let a : e.allocated ≡ e.allocated + 0 = omega arith in a) (let a : 0 ≡ 0 - 0 = omega arith in a);
+  entry = same_entry _ _ refl refl refl (let a : e.allocated ≡ e.allocated + 0 = omega arith in a) (let a : 0 ≡ 0 - 0 = omega arith in a);
   pools = ap (λ (x : Ledger). x.pools) is ∙ ap (λ (f : Pool → Pool). on_pool e.pool f l.pools) (fun_ext (λ (p : Pool). λ i. record p { live = fun_ext (λ (x : LiveSet). (let a : p.live x ≡ p.live x + 0 = omega arith in a)) i; refusals = (let a : p.refusals + pool_refusals error ≡ p.refusals + 1 = omega arith in a) i }));
   counters = ap (λ (x : Ledger). x.counters) is ∙ (let t = asks_some e.available wanted some in rw t (refused_counters error l.counters pool_error));
 }

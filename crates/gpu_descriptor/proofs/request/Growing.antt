@@ -1,21 +1,22 @@
 -- The new pools of a request, as far as it has come.
-use Rattle.gpu_descriptor.proofs.Common.{◌≡◌, ℕ, zero, suc, take, drop, ◌+◌, ◌-◌, ◌<◌, inl, inr, List, [], ◌∷◌, ◌++◌, length, map, Bool, true, false, cond, ◌==◌, nat_eq, Option, Some, None, Ok, Err, refl, sym, ap, ◌∙◌, subst, arith, eqb-true, eq-eqb, append_assoc, length-append, fun_ext, ne_eqb, nil_from_length, eqb-false, map-append, append-nil, length-map, sum_by-cons, sum_by-append, list_any, update, if◌then◌else◌, option_map, Item, flags_of, Key, Entry, Bucket, Pool, Ledger, live_sets, on_pool, no_rise, cases_Bool, or_from, or_parts, pool_counts, Stop, list_any-append, Fresh, fresh_portions, fresh_entry, given_by, IsNextSize, room_after, AreSized, AreFull, AreNew, IsFreshPrefix, IsFreshList, Grant, Part, items_at, portion_of, came, pool_with, ledger_with, fresh_or, IsGrown, IsTaken, IsRefused, allocated_in, pool_descriptors, risen, grant_rise, StopsAtNew, StopsAt, offer, rest, shared, all_shared, Portion, portions_of, AreBookedIn, HasTaken, IsWalked}
+use Rattle.gpu_descriptor.proofs.Common.{◌≡◌, ℕ, zero, suc, take, drop, ◌+◌, ◌-◌, ◌<◌, inl, inr, List, [], ◌∷◌, ◌++◌, length, map, Bool, true, false, cond, ◌==◌, nat_eq, Option, Some, None, Ok, Err, refl, sym, ap, ◌∙◌, subst, arith, eqb-true, eq-eqb, append_assoc, length-append, fun_ext, ne_eqb, nil_from_length, eqb-false, map-append, append-nil, sum_by-cons, sum_by-append, list_any, update, if◌then◌else◌, option_map, Item, flags_of, Key, Entry, Bucket, Pool, Ledger, live_sets, on_pool, no_rise, cases_Bool, or_from, or_parts, pool_counts, Stop, list_any-append, Fresh, fresh_portions, fresh_entries, fresh_entry, number_after, numbers_of, given_by, IsNextSize, room_after, AreSized, AreFull, AreNew, IsFreshPrefix, IsFreshList, Grant, Part, items_at, portion_of, came, pool_with, ledger_with, fresh_or, IsGrown, IsTaken, IsRefused, allocated_in, pool_descriptors, risen, grant_rise, StopsAtNew, StopsAt, offer, rest, shared, all_shared, Portion, portions_of, AreBookedIn, HasTaken, IsWalked}
 use Rattle.gpu_descriptor.proofs.sums.PoolsLoad.{pools_load}
 use Rattle.gpu_descriptor.specs.declared.bucket.stop.Stop.TheVariants as stop
 use Rattle.gpu_descriptor_types.specs.Ledger as ledgers
 use Rattle.gpu_descriptor.specs.Model.FreshPools as grants
+use Rattle.gpu_descriptor.proofs.request.FreshNumbers.{fresh_entries_more, next_taken}
 use Rattle.gpu_descriptor.proofs.request.NextSize.{room_more}
 use Rattle.gpu_descriptor.proofs.request.Promises.{length_items, shares_sum, sum_given}
 use Rattle.gpu_descriptor.proofs.table.Exact.{bucket}
 use Rattle.gpu_descriptor.proofs.request.Asks.{none_with, same_counters}
 use Rattle.gpu_descriptor.proofs.request.Shares.{IsApart, apart_from, not_refused}
 use Rattle.gpu_descriptor.proofs.request.WalkStep.{grant_of, items_more, ledger_more, part}
-use Rattle.gpu_descriptor.proofs.request.TakenPlaces.{came_long, fresh_or_past, given_at, length_taken, no_fresh, no_share}
+use Rattle.gpu_descriptor.proofs.request.TakenPlaces.{came_long, fresh_or_past, given_at, no_fresh, no_share}
 
 abbrev pub all_so_far : ℕ → (ℕ → Bool) → List Fresh → List Part → Grant
 all_so_far id refused fresh parts = grant_of id 0 refused fresh parts
 
-pub record Growing (most : Option ℕ) (k : Key) (start n id first room total wanting : ℕ) (items : List Item) (old new : List Entry) (l m : Ledger) : Type 0 where
+pub record Growing (most : Option ℕ) (k : Key) (start n id room total wanting : ℕ) (items : List Item) (old new : List Entry) (l m : Ledger) : Type 0 where
   pub refused : ℕ → Bool
   pub parts : List Part
   pub fresh : List Fresh
@@ -25,16 +26,7 @@ pub record Growing (most : Option ℕ) (k : Key) (start n id first room total wa
   pub room_now : room ≡ room_after k start fresh
   pub full : 0 < wanting → AreFull fresh
   pub list : wanting ≡ 0 → IsFreshList most k start (allocated_in (all_shared refused n old)) (rest refused n old) fresh
-  pub taken : HasTaken k n (all_so_far id refused fresh parts) items (bucket id first old) (bucket id first new) l m
-
--- there is one pool more for each new one
-pub taken_long : (k : Key) (n : ℕ) (g : Grant) (items : List Item) (old new : Bucket) (l m : Ledger) → HasTaken k n g items old new l m → length new.pools ≡ length old.pools + length g.fresh
-taken_long k n g items old new l m taken =
-    let is = ap (λ (b : Bucket). length b.pools) taken.bucket in
-    let all = length-append (take g.skipped old.pools ++ all_shared g.refused n (drop g.skipped old.pools)) (map fresh_entry g.fresh) in
-    let had = length_taken g.refused n g.skipped old.pools in
-    let made = length-map g.fresh fresh_entry in
-    omega arith
+  pub taken : HasTaken k n (all_so_far id refused fresh parts) items (bucket id old) (bucket id new) l m
 
 -- what is out rises by what was given
 pub allocated_shared : (refused : ℕ → Bool) (n : ℕ) (es : List Entry) → allocated_in (all_shared refused n es) + rest refused n es ≡ allocated_in es + n
@@ -86,8 +78,8 @@ full_more : (fs : List Fresh) (f : Fresh) → AreFull fs → f.given ≡ f.size 
 full_more [] f all one = (one, tt)
 full_more (h ∷ fs) f all one = (all.0, full_more fs f all.1 one)
 
-module _ {most : Option ℕ} {k : Key} {start n id first room left total wanting : ℕ} {items : List Item} {old new new' : List Entry} {l m m' : Ledger} {more : List ℕ}
-    (booked : AreBookedIn k l.pools old) (s : Growing most k start n id first room total wanting items old new l m) (a : IsGrown most k room left total wanting more new new' m m') where
+module _ {most : Option ℕ} {k : Key} {start n id room left total wanting : ℕ} {items : List Item} {old new new' : List Entry} {l m m' : Ledger} {more : List ℕ}
+    (booked : AreBookedIn k l.pools old) (s : Growing most k start n id room total wanting items old new l m) (a : IsGrown most k room left total wanting more new new' m m') where
   abbrev f : Fresh
   f = a.pool
 
@@ -97,8 +89,12 @@ module _ {most : Option ℕ} {k : Key} {start n id first room left total wanting
   abbrev fresh_now : List Fresh
   fresh_now = s.fresh ++ f ∷ []
 
+  -- the first new pool's number
+  abbrev next : ℕ
+  next = number_after (numbers_of old)
+
   abbrev part_now : Part
-  part_now = part (first + length old + length s.fresh) q more
+  part_now = part (next + length s.fresh) q more
 
   abbrev parts_now : List Part
   parts_now = s.parts ++ part_now ∷ []
@@ -114,9 +110,9 @@ module _ {most : Option ℕ} {k : Key} {start n id first room left total wanting
 
   none_came : came s.parts q ≡ []
   none_came =
-      let many = came_long q s.parts ∙ ap (given_at q) s.taken.grant.parts ∙ sum_by-append _ (portions_of s.refused n (first + 0) old) (fresh_portions (first + length old) s.fresh) in
-      let old_none = no_share s.refused n q (first + 0) old apart in
-      let fresh_none = no_fresh q (first + length old) s.fresh none_before.0 in
+      let many = came_long q s.parts ∙ ap (given_at q) s.taken.grant.parts ∙ sum_by-append _ (portions_of s.refused n old) (fresh_portions (next) s.fresh) in
+      let old_none = no_share s.refused n q old apart in
+      let fresh_none = no_fresh q (next) s.fresh none_before.0 in
       nil_from_length (came s.parts q) (omega arith)
 
   many : length more ≡ f.given
@@ -126,26 +122,30 @@ module _ {most : Option ℕ} {k : Key} {start n id first room left total wanting
   made = ledgers.fresh (pool_counts k.counts f.size) f.size (flags_of k)
 
   pools_now : m'.pools ≡ ledger_with k (all_so_far id s.refused fresh_now parts_now) l.pools
-  pools_now = a.pools ∙ ap (on_pool q (pool_with (live_sets k.counts more) false)) (ap (λ x. update nat_eq x q (Some made)) s.taken.pools ∙ fun_ext (λ r. at (nat_eq q r) r refl)) ∙ ledger_more k s.refused fresh_now s.parts false (first + length old + length s.fresh) q more l.pools id 0 0 not_yet
+  pools_now = a.pools ∙ ap (on_pool q (pool_with (live_sets k.counts more) false)) (ap (λ x. update nat_eq x q (Some made)) s.taken.pools ∙ fun_ext (λ r. at (nat_eq q r) r refl)) ∙ ledger_more k s.refused fresh_now s.parts false (next + length s.fresh) q more l.pools id 0 0 not_yet
     where
       -- the pool was created
       at : (b : Bool) (r : ℕ) → nat_eq q r ≡ b → cond b (Some made) (ledger_with k (all_so_far id s.refused s.fresh s.parts) l.pools r) ≡ ledger_with k (all_so_far id s.refused fresh_now s.parts) l.pools r
       at true r h = rw (← eqb-true q r h, none_came, not_yet, fresh_or_more k q s.fresh f (l.pools q), fresh_or_past k q s.fresh (fresh_or k (f ∷ []) q (l.pools q)) none_before.0, eq-eqb q q refl) (sym (none_with (Some made)))
       at false r h = rw (fresh_or_more k r s.fresh f (l.pools r), h) refl
 
-  rows_now : map portion_of parts_now ≡ portions_of s.refused n (first + 0) old ++ fresh_portions (first + length old) fresh_now
+  rows_now : map portion_of parts_now ≡ portions_of s.refused n old ++ fresh_portions (next) fresh_now
   rows_now =
       map-append portion_of s.parts (part_now ∷ [])
       ∙ ap (λ x. x ++ portion_of part_now ∷ []) s.taken.grant.parts
-      ∙ append_assoc (portions_of s.refused n (first + 0) old) (fresh_portions (first + length old) s.fresh) (portion_of part_now ∷ [])
-      ∙ ap (λ x. portions_of s.refused n (first + 0) old ++ x) (ap (λ g. fresh_portions (first + length old) s.fresh ++ record { number = first + length old + length s.fresh; pool = q; given = g } ∷ []) many ∙ sym (fresh_rows_more (first + length old) s.fresh f))
+      ∙ append_assoc (portions_of s.refused n old) (fresh_portions (next) s.fresh) (portion_of part_now ∷ [])
+      ∙ ap (λ x. portions_of s.refused n old ++ x) (ap (λ g. fresh_portions (next) s.fresh ++ record { number = next + length s.fresh; pool = q; given = g } ∷ []) many ∙ sym (fresh_rows_more (next) s.fresh f))
 
-  entries_now : new' ≡ take (all_so_far id s.refused fresh_now parts_now).skipped old ++ all_shared (all_so_far id s.refused fresh_now parts_now).refused n (drop (all_so_far id s.refused fresh_now parts_now).skipped old) ++ map fresh_entry (all_so_far id s.refused fresh_now parts_now).fresh
+  -- its number is the next
+  number_is : number_after (numbers_of new) ≡ next + length s.fresh
+  number_is = next_taken k n _ _ _ _ _ _ s.taken
+
+  entries_now : new' ≡ take (all_so_far id s.refused fresh_now parts_now).skipped old ++ all_shared (all_so_far id s.refused fresh_now parts_now).refused n (drop (all_so_far id s.refused fresh_now parts_now).skipped old) ++ fresh_entries next (all_so_far id s.refused fresh_now parts_now).fresh
   entries_now =
       a.entries
-      ∙ ap (λ (b : Bucket). b.pools ++ fresh_entry f ∷ []) s.taken.bucket
-      ∙ append_assoc (all_shared s.refused n old) (map fresh_entry s.fresh) (fresh_entry f ∷ [])
-      ∙ ap (λ x. all_shared s.refused n old ++ x) (sym (map-append fresh_entry s.fresh (f ∷ [])))
+      ∙ (λ j. (s.taken.bucket j).pools ++ fresh_entry (number_is j) f ∷ [])
+      ∙ append_assoc (all_shared s.refused n old) (fresh_entries next s.fresh) (fresh_entry (next + length s.fresh) f ∷ [])
+      ∙ ap (λ x. all_shared s.refused n old ++ x) (sym (fresh_entries_more next s.fresh f))
 
   counters_now : m'.counters ≡ risen (grant_rise n (all_so_far id s.refused fresh_now parts_now) old) l.counters
   counters_now =
@@ -156,12 +156,11 @@ module _ {most : Option ℕ} {k : Key} {start n id first room left total wanting
   sized_now : AreSized most k start (allocated_in (all_shared s.refused n old)) (rest s.refused n old) fresh_now
   sized_now = (let w = s.wants in sized_more most k start _ _ s.fresh f room total wanting s.sized s.room_now s.totals (omega arith) a.size)
 
-  pub grow_more : {total' wanting' number : ℕ} {put : List Item} → 0 < wanting → total' ≡ total + length more → wanting' + length more ≡ wanting → number ≡ first + length new → put ≡ items ++ items_at k id number more → Growing most k start n id first left total' wanting' put old new' l m'
-  grow_more some totals' less number_is put_is =
+  pub grow_more : {total' wanting' number : ℕ} {put : List Item} → 0 < wanting → total' ≡ total + length more → wanting' + length more ≡ wanting → number ≡ number_after (numbers_of new) → put ≡ items ++ items_at k id number more → Growing most k start n id left total' wanting' put old new' l m'
+  grow_more some totals' less named put_is =
       let all = given_more s.fresh f in
       let g = a.given in
-      let long = taken_long k n _ _ _ _ _ _ s.taken in
-      let place : first + length old + length s.fresh ≡ _ = (omega arith) ∙ sym number_is in
+      let place : next + length s.fresh ≡ _ = sym (named ∙ number_is) in
       record {
         refused = s.refused;
         parts = parts_now;
@@ -174,17 +173,18 @@ module _ {most : Option ℕ} {k : Key} {start n id first room left total wanting
         list = λ none. grants.some s.fresh f refl (record { sized = s.sized; full = s.full some; short = (let w = s.wants in omega arith) }) sized_now (omega arith) (let w = s.wants in let y = many in omega arith);
         taken = record {
           grant = record { id = λ some. refl; refusing = s.taken.grant.refusing; parts = rows_now; new = new_more l.pools s.fresh f s.taken.grant.new none_before.0 none_before.1 };
-          came = items_more k id (first + length old + length s.fresh) q more s.parts ∙ (λ j. s.taken.came j ++ items_at k id (place j) more) ∙ sym put_is;
-          bucket = ap (bucket id first) entries_now;
+          came = items_more k id (next + length s.fresh) q more s.parts ∙ (λ j. s.taken.came j ++ items_at k id (place j) more) ∙ sym put_is;
+          bucket = ap (bucket id) entries_now;
           pools = pools_now;
           counters = counters_now;
         };
       }
 
 -- a walk goes before
-pub grow_start : {most : Option ℕ} {k : Key} {start n id first own place total wanting : ℕ} {items : List Item} {old new : List Entry} {l m : Ledger} → IsWalked k n wanting items (bucket id first old) (bucket own place new) l m → own ≡ id → place ≡ first → total + wanting ≡ allocated_in old + n → Growing most k start n id first start total wanting items old new l m
-grow_start {most} {k} {n = n} {id = id} {first = first} {items = items} {old = old} {new = new} {l = l} {m = m} walked ids places totals =
-    let w : IsWalked k n _ items (bucket id first old) (bucket id first new) l m = rw (ids, places) at walked in
+pub grow_start : {most : Option ℕ} {k : Key} {start n id own total wanting : ℕ} {items : List Item} {old new : List Entry} {l m : Ledger}
+    → IsWalked k n wanting items (bucket id old) (bucket own new) l m → own ≡ id → total + wanting ≡ allocated_in old + n → Growing most k start n id start total wanting items old new l m
+grow_start {most} {k} {n = n} {id = id} {items = items} {old = old} {new = new} {l = l} {m = m} walked ids totals =
+    let w : IsWalked k n _ items (bucket id old) (bucket id new) l m = rw (ids) at walked in
     let g = w.grant in
     let wants = w.wants in
     let named : id ≡ g.id = ap (λ (b : Bucket). b.id) w.taken.bucket in
@@ -200,14 +200,16 @@ grow_start {most} {k} {n = n} {id = id} {first = first} {items = items} {old = o
       room_now = refl;
       full = λ some. tt;
       list = λ over. grants.none (omega arith) refl;
-      taken = subst (λ (g : Grant). HasTaken k n g items (bucket id first old) (bucket id first new) l m) grant w.taken;
+      taken = subst (λ (g : Grant). HasTaken k n g items (bucket id old) (bucket id new) l m) grant w.taken;
     }
 
-pub grow_end : {most : Option ℕ} {k : Key} {start n id first own place room total wanting : ℕ} {items : List Item} {old new : List Entry} {l m : Ledger} → Growing most k start n id first room total wanting items old new l m → wanting ≡ 0 → own ≡ id → place ≡ first → (done : Unit {0}) → IsTaken (Ok done) most k start n items (bucket id first old) (bucket own place new) l m
-grow_end s end ids places done = rw (ids, places) (all_so_far _ s.refused s.fresh s.parts, s.taken, refl, s.list end)
+pub grow_end : {most : Option ℕ} {k : Key} {start n id own room total wanting : ℕ} {items : List Item} {old new : List Entry} {l m : Ledger}
+    → Growing most k start n id room total wanting items old new l m → wanting ≡ 0 → own ≡ id → (done : Unit {0}) → IsTaken (Ok done) most k start n items (bucket id old) (bucket own new) l m
+grow_end s end ids done = rw (ids) (all_so_far _ s.refused s.fresh s.parts, s.taken, refl, s.list end)
 
-pub grow_stop : (why : Stop) {most : Option ℕ} {k : Key} {start n id first own place room total wanting : ℕ} {items put : List Item} {old new newer : List Entry} {l m m' : Ledger} → 0 < wanting → Growing most k start n id first room total wanting items old new l m → put ≡ items → newer ≡ new → own ≡ id → place ≡ first → IsRefused why m m' → StopsAtNew why k room → IsTaken (Err why) most k start n put (bucket id first old) (bucket own place newer) l m'
-grow_stop why {most} {k} {start} {n} {id} {old = old} {m = m} some s same_sets same_pools ids places refused in_room = rw (same_sets, same_pools, ids, places) (
+pub grow_stop : (why : Stop) {most : Option ℕ} {k : Key} {start n id own room total wanting : ℕ} {items put : List Item} {old new newer : List Entry} {l m m' : Ledger}
+    → 0 < wanting → Growing most k start n id room total wanting items old new l m → put ≡ items → newer ≡ new → own ≡ id → IsRefused why m m' → StopsAtNew why k room → IsTaken (Err why) most k start n put (bucket id old) (bucket own newer) l m'
+grow_stop why {most} {k} {start} {n} {id} {old = old} {m = m} some s same_sets same_pools ids refused in_room = rw (same_sets, same_pools, ids) (
   all_so_far _ s.refused s.fresh s.parts,
   m,
   s.taken,
@@ -221,8 +223,8 @@ grow_stop why {most} {k} {start} {n} {id} {old = old} {m = m} some s same_sets s
 
 -- ---- the descriptors of a key's pools, as a request goes on
 
-pub load_more : (k : Key) (es : List Entry) (f : Fresh) → pools_load k (es ++ fresh_entry f ∷ []) ≡ pools_load k es + pool_descriptors k f.size
-load_more k es f = sum_by-append (λ (e : Entry). pool_descriptors k e.capacity) es (fresh_entry f ∷ []) ∙ (let one : pools_load k (fresh_entry f ∷ []) ≡ pool_descriptors k f.size = omega arith in omega arith)
+pub load_more : (k : Key) (number : ℕ) (es : List Entry) (f : Fresh) → pools_load k (es ++ fresh_entry number f ∷ []) ≡ pools_load k es + pool_descriptors k f.size
+load_more k number es f = sum_by-append (λ (e : Entry). pool_descriptors k e.capacity) es (fresh_entry number f ∷ []) ∙ (let one : pools_load k (fresh_entry number f ∷ []) ≡ pool_descriptors k f.size = omega arith in omega arith)
 
 load_split : (k : Key) (refused : ℕ → Bool) (n i : ℕ) (es : List Entry) → pools_load k (take i es ++ all_shared refused n (drop i es)) ≡ pools_load k es
 load_split k refused n zero [] = refl
@@ -247,19 +249,19 @@ pub load_walked : (k : Key) (n : ℕ) (g : Grant) (old new : Bucket) (l m : Ledg
 load_walked k n g old new l m items taken none = ap (pools_load k) (walked_entries k n g old new l m items taken none) ∙ load_split k g.refused n g.skipped old.pools
 
 -- and as many more are allocated as came
-allocated_split : (refused : ℕ → Bool) (n number i : ℕ) (es : List Entry) → allocated_in (take i es ++ all_shared refused n (drop i es)) ≡ allocated_in es + sum_given (portions_of refused n number (drop i es))
-allocated_split refused n number zero es = (let a = allocated_shared refused n es in let b = shares_sum refused n number es in omega arith)
-allocated_split refused n number (suc i) [] = refl
-allocated_split refused n number (suc i) (e ∷ es) =
+allocated_split : (refused : ℕ → Bool) (n i : ℕ) (es : List Entry) → allocated_in (take i es ++ all_shared refused n (drop i es)) ≡ allocated_in es + sum_given (portions_of refused n (drop i es))
+allocated_split refused n zero es = (let a = allocated_shared refused n es in let b = shares_sum refused n es in omega arith)
+allocated_split refused n (suc i) [] = refl
+allocated_split refused n (suc i) (e ∷ es) =
     let a = sum_by-cons (λ (x : Entry). x.allocated) e (take i es ++ all_shared refused n (drop i es)) in
     let b = sum_by-cons (λ (x : Entry). x.allocated) e es in
-    let ih = allocated_split refused n number i es in
+    let ih = allocated_split refused n i es in
     omega arith
 
 pub allocated_walked : (k : Key) (n : ℕ) (g : Grant) (old new : Bucket) (l m : Ledger) (items : List Item) → HasTaken k n g items old new l m → g.fresh ≡ [] → allocated_in new.pools ≡ allocated_in old.pools + length items
 allocated_walked k n g old new l m items taken none =
-    let rows : List Portion = portions_of g.refused n (old.offset + g.skipped) (drop g.skipped old.pools) in
+    let rows : List Portion = portions_of g.refused n (drop g.skipped old.pools) in
     let came : map portion_of g.parts ≡ rows = taken.grant.parts ∙ rw none (append-nil rows) in
     let long = ap length (sym taken.came) ∙ length_items k g.id g.parts ∙ ap sum_given came in
-    let same = ap allocated_in (walked_entries k n g old new l m items taken none) ∙ allocated_split g.refused n (old.offset + g.skipped) g.skipped old.pools in
+    let same = ap allocated_in (walked_entries k n g old new l m items taken none) ∙ allocated_split g.refused n g.skipped old.pools in
     omega arith

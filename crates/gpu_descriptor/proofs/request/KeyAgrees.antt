@@ -1,6 +1,6 @@
 -- What a request takes of a key's pools leaves books and ledger of the key in agreement.
-use Rattle.gpu_descriptor.proofs.Common.{◌≡◌, ◌≢◌, ℕ, suc, ◌+◌, ◌-◌, ◌<◌, ◌≤◌, inl, inr, List, [], ◌∷◌, ◌++◌, length, Bool, true, false, Option, refl, sym, ap, ◌∙◌, arith, length-append, cases_Bool, cases_lt, length-map, slice_get, if◌then◌else◌, Pool, live_sets, LiveSet, set_eq, times, bool_iff, subst, count_by_yes, count_by_no, set_exact, times-append, Key, Entry, Item, item_eq, set_of, count_of, IsAsBooked, ∥∥₁_map, live_in, live_at, option_map_or, lt-ltb, le-ltb, count_by-append, items_at, pool_with}
-use Rattle.gpu_descriptor.proofs.table.Exact.{bucket, item_exact, item_from}
+use Rattle.gpu_descriptor.proofs.Common.{◌≡◌, ◌≢◌, ℕ, suc, ◌+◌, ◌<◌, ◌≤◌, inl, inr, List, [], ◌∷◌, ◌++◌, length, Bool, true, false, Option, refl, sym, ap, ◌∙◌, arith, length-append, cases_Bool, cases_lt, length-map, if◌then◌else◌, Pool, live_sets, LiveSet, set_eq, times, bool_iff, subst, count_by_yes, count_by_no, set_exact, times-append, Key, Entry, Item, item_eq, set_of, count_of, IsAsBooked, ∥∥₁_map, live_in, option_map_or, count_by-append, items_at, pool_with}
+use Rattle.gpu_descriptor.proofs.table.Exact.{item_exact, item_from}
 
 -- a set that stands among sets of these counts has them
 pub counts_of_live : (counts names : List ℕ) (x : LiveSet) → 0 < times (live_sets counts names) x → x.counts ≡ counts
@@ -14,6 +14,7 @@ counts_of_live counts (n ∷ names) x some =
 
 -- an entry gave so many sets, and it may have refused
 pub record Became (given : ℕ) (refused : Bool) (e f : Entry) : Type 0 where
+  pub number : f.number ≡ e.number
   pub pool : f.pool ≡ e.pool
   pub capacity : f.capacity ≡ e.capacity
   pub allocated : f.allocated ≡ e.allocated + given
@@ -44,17 +45,9 @@ pool_booked k pool e f names refused b became = record {
   ];
 }
 
--- ---- what is live in the pool with a number
-
 -- how often a set is live in an entry's pool, if there is an entry
 abbrev pub live_of : (ℕ → Option Pool) → Option Entry → LiveSet → ℕ
 live_of pools o x = option_map_or (λ e. live_in pools e.pool x) o 0
-
-pub live_below : (pools : ℕ → Option Pool) (id first : ℕ) (es : List Entry) (t : Item) → t.number < first → live_at pools (bucket id first es) t ≡ 0
-live_below pools id first es t lt = rw (lt-ltb t.number first lt) refl
-
-pub live_from : (pools : ℕ → Option Pool) (id first : ℕ) (es : List Entry) (t : Item) → first ≤ t.number → live_at pools (bucket id first es) t ≡ live_of pools (slice_get es (t.number - first)) (set_of t)
-live_from pools id first es t le = rw (le-ltb t.number first le) refl
 
 -- ---- the sets of one pool
 

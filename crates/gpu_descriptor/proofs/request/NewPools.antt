@@ -1,7 +1,8 @@
 -- The new pools of a request: their sizes, their numbers, and what the pools before them have left.
-use Rattle.gpu_descriptor.proofs.Common.{◌≡◌, ℕ, ◌+◌, ◌-◌, ◌<◌, Bool, List, [], ◌∷◌, ◌++◌, map, length, take, refl, sym, ap, ◌∙◌, arith, append_assoc, length-append, All, map-append, take_at, All-nil, All-cons, All-append, All-same, sum_by-cons, Option, State, Key, Entry, Fresh, AreSized, AreFull, IsFreshList, given_by, fresh_entry, Grant, granted, pool_descriptors, Call, IsDone, out_then, wanting, AreBelowTwice, offer, rest, shared, all_shared}
+use Rattle.gpu_descriptor.proofs.Common.{◌≡◌, ℕ, ◌+◌, ◌-◌, ◌<◌, Bool, List, [], ◌∷◌, ◌++◌, length, take, refl, sym, ap, ◌∙◌, arith, append_assoc, length-append, All, take_at, All-nil, All-cons, All-append, All-same, sum_by-cons, Option, State, Key, Entry, Fresh, AreSized, AreFull, IsFreshList, given_by, fresh_entries, fresh_entry, next_number, Grant, granted, pool_descriptors, Call, IsDone, out_then, wanting, AreBelowTwice, offer, rest, shared, all_shared}
 use Rattle.gpu_descriptor.specs.Model.FreshPools.IsFreshList.{none as no_fresh, some as some_fresh}
 use Rattle.gpu_descriptor.proofs.table.Exact.{key_exact}
+use Rattle.gpu_descriptor.proofs.request.FreshNumbers.{fresh_entries_more}
 use Rattle.gpu_descriptor.proofs.request.NextSize.{next_below}
 
 -- ---- sizes
@@ -28,18 +29,18 @@ shares_used refused n (e ∷ newer) some =
     let here : (shared refused n newer e).available ≡ 0 = omega arith in
     All-cons (λ (x : Entry). x.available ≡ 0) (shared refused n newer e) (all_shared refused n newer) here (shares_used refused n newer (omega arith))
 
-full_used : (pools : List Fresh) → AreFull pools → All (λ e. e.available ≡ 0) (map fresh_entry pools)
-full_used [] full = All-nil (λ (e : Entry). e.available ≡ 0)
-full_used (f ∷ pools) full =
+full_used : (number : ℕ) (pools : List Fresh) → AreFull pools → All (λ e. e.available ≡ 0) (fresh_entries number pools)
+full_used number [] full = All-nil (λ (e : Entry). e.available ≡ 0)
+full_used number (f ∷ pools) full =
     let is = full.0 in
-    let here : (fresh_entry f).available ≡ 0 = omega arith in
-    All-cons (λ (e : Entry). e.available ≡ 0) (fresh_entry f) (map fresh_entry pools) here (full_used pools full.1)
+    let here : (fresh_entry number f).available ≡ 0 = omega arith in
+    All-cons (λ (e : Entry). e.available ≡ 0) (fresh_entry number f) (fresh_entries (number + 1) pools) here (full_used (number + 1) pools full.1)
 
 -- all but the last entry
 but_last : (es : List Entry) (e : Entry) → take (length (es ++ e ∷ []) - 1) (es ++ e ∷ []) ≡ es
 but_last es e = (let long = length-append es (e ∷ []) in take_at es (e ∷ []) (length (es ++ e ∷ []) - 1) (omega arith))
 
-granted_entries : (k : Key) (n : ℕ) (g : Grant) (s : State) → g.skipped ≡ 0 → ((granted k n g s).books k).pools ≡ all_shared g.refused n (s.books k).pools ++ map fresh_entry g.fresh
+granted_entries : (k : Key) (n : ℕ) (g : Grant) (s : State) → g.skipped ≡ 0 → ((granted k n g s).books k).pools ≡ all_shared g.refused n (s.books k).pools ++ fresh_entries (next_number (s.books k)) g.fresh
 granted_entries k n g s all = rw (key_exact.self k, all) refl
 
 -- ---- a request that was met
@@ -59,10 +60,11 @@ module _ (c : Call) (d : IsDone c) where
       by_list (no_fresh zero_wanted empty) = (let e = ap length empty in absurd (omega arith))
       by_list (some_fresh front last is short sized le given) =
           let shares : List Entry = all_shared d.grant.refused c.count (c.old.books k).pools in
-          let entries : (c.new.books k).pools ≡ (shares ++ map fresh_entry front) ++ fresh_entry last ∷ [] =
+          let number : ℕ = next_number (c.old.books k) in
+          let entries : (c.new.books k).pools ≡ (shares ++ fresh_entries number front) ++ fresh_entry (number + length front) last ∷ [] =
           ap (λ (w : State). (w.books k).pools) d.state
           ∙ granted_entries k c.count d.grant c.old d.all
-          ∙ rw (is, map-append fresh_entry front (last ∷ [])) (sym (append_assoc shares (map fresh_entry front) (fresh_entry last ∷ []))) in
+          ∙ rw (is, fresh_entries_more number front last) (sym (append_assoc shares (fresh_entries number front) (fresh_entry (number + length front) last ∷ []))) in
           let few = short.short in
-          let used = All-append (λ (e : Entry). e.available ≡ 0) shares (map fresh_entry front) (shares_used d.grant.refused c.count (c.old.books k).pools (omega arith)) (full_used front short.full) in
-          All-same (λ (e : Entry). e.available ≡ 0) _ (shares ++ map fresh_entry front) (ap (λ (es : List Entry). take (length es - 1) es) entries ∙ but_last (shares ++ map fresh_entry front) (fresh_entry last)) used
+          let used = All-append (λ (e : Entry). e.available ≡ 0) shares (fresh_entries number front) (shares_used d.grant.refused c.count (c.old.books k).pools (omega arith)) (full_used number front short.full) in
+          All-same (λ (e : Entry). e.available ≡ 0) _ (shares ++ fresh_entries number front) (ap (λ (es : List Entry). take (length es - 1) es) entries ∙ but_last (shares ++ fresh_entries number front) (fresh_entry (number + length front) last)) used

@@ -15,7 +15,7 @@ pub record OpenWalk {P : Type 0} (name : P → ℕ) (k : Key) (n id first wantin
   pub left : ℕ
   pub within : left ≤ length old
   pub closed : (j : ℕ) (e : Entry) → left ≤ j → slice_get (map (entry_of name) items) j ≡ Some e → min wanting e.available ≡ 0
-  pub walking : Walking k n id first left wanting out old (map (entry_of name) items) l m
+  pub walking : Walking k n id left wanting out old (map (entry_of name) items) l m
 
 module _ {P : Type 0} {name : P → ℕ} {k : Key} {n id first wanting : ℕ} {out : List Item} {old : List Entry} {items : List (DescriptorPool P)} {numbers : List ℕ} {l m : Ledger}
     (booked : AreBookedIn k l.pools old) (s : OpenWalk name k n id first wanting out old items numbers l m) where
@@ -23,57 +23,57 @@ module _ {P : Type 0} {name : P → ℕ} {k : Key} {n id first wanting : ℕ} {o
   free_get j e at = ap (λ (free : List ℕ). slice_get free j) (sym (map-map (λ (d : Entry). d.available) (entry_of name) items)) ∙ slice_get-map (λ (d : Entry). d.available) (map (entry_of name) items) j ∙ ap (option_map (λ (d : Entry). d.available)) at
 
   -- where nothing is wanting the older pools are left
-  pub walk_sated : wanting ≡ 0 → Walking k n id first 0 wanting out old (map (entry_of name) items) l m
-  walk_sated none = walk_gap k n id first wanting out old (map (entry_of name) items) l m booked s.left 0 s.left (omega arith) s.within (λ j e le lt at. omega arith) s.walking
+  pub walk_sated : wanting ≡ 0 → Walking k n id 0 wanting out old (map (entry_of name) items) l m
+  walk_sated none = walk_gap k n id wanting out old (map (entry_of name) items) l m booked s.left 0 s.left (omega arith) s.within (λ j e le lt at. omega arith) s.walking
 
   -- where no pool is open they have nothing
-  pub walk_empty : numbers ≡ [] → Walking k n id first 0 wanting out old (map (entry_of name) items) l m
-  walk_empty none = walk_gap k n id first wanting out old (map (entry_of name) items) l m booked s.left 0 s.left (omega arith) s.within (λ j e le lt at. (let z = open_all_none first (free_in items) (sym s.listed ∙ none) j e.available (free_get j e at) in omega arith)) s.walking
+  pub walk_empty : numbers ≡ [] → Walking k n id 0 wanting out old (map (entry_of name) items) l m
+  walk_empty none = walk_gap k n id wanting out old (map (entry_of name) items) l m booked s.left 0 s.left (omega arith) s.within (λ j e le lt at. (let z = open_all_none first (free_in items) (sym s.listed ∙ none) j e.available (free_get j e at) in omega arith)) s.walking
 
-  module _ (some : 0 < wanting) (front : List ℕ) (number : ℕ) (last : numbers ≡ front ++ number ∷ []) where
-    newest : IsNewestOpen first (free_in items) front number
-    newest = newest_open first (free_in items) front number (sym s.listed ∙ last)
+  module _ (some : 0 < wanting) (front : List ℕ) (place : ℕ) (last : numbers ≡ front ++ (first + place) ∷ []) where
+    newest : IsNewestOpen first (free_in items) front (first + place)
+    newest = newest_open first (free_in items) front (first + place) (sym s.listed ∙ last)
 
-    place_is : newest.place ≡ number - first
+    place_is : newest.place ≡ place
     place_is = (let e = newest.is in omega arith)
 
-    pub inside : number - first < length items
+    pub inside : place < length items
     inside = (let a = slice_get_within (free_in items) newest.place newest.free newest.at in let b = length-map items (λ p. p.available) in let c = place_is in omega arith)
 
-    newer : (j i : ℕ) → number - first < j → slice_get (free_in items) j ≡ Some i → i ≡ 0
+    newer : (j i : ℕ) → place < j → slice_get (free_in items) j ≡ Some i → i ≡ 0
     newer j i lt at = newest.newer j i (let c = place_is in omega arith) at
 
     -- the pool that is asked
-    module _ (p : DescriptorPool P) (at : slice_get items (number - first) ≡ Some p) where
-      entry_at_place : slice_get (map (entry_of name) items) (number - first) ≡ Some (entry_of name p)
-      entry_at_place = slice_get-map (entry_of name) items (number - first) ∙ ap (option_map (entry_of name)) at
+    module _ (p : DescriptorPool P) (at : slice_get items place ≡ Some p) where
+      entry_at_place : slice_get (map (entry_of name) items) place ≡ Some (entry_of name p)
+      entry_at_place = slice_get-map (entry_of name) items place ∙ ap (option_map (entry_of name)) at
 
       pub has_free : 0 < p.available
       has_free =
-          let same : Some p.available ≡ Some newest.free = sym (free_get (number - first) (entry_of name p) entry_at_place) ∙ ap (slice_get (free_in items)) (sym place_is) ∙ newest.at in
+          let same : Some p.available ≡ Some newest.free = sym (free_get place (entry_of name p) entry_at_place) ∙ ap (slice_get (free_in items)) (sym place_is) ∙ newest.at in
           let free : p.available ≡ newest.free = cc in
           let some = newest.some in
           omega arith
 
-      pub walk_reaches : Walking k n id first (suc (number - first)) wanting out old (map (entry_of name) items) l m
+      pub walk_reaches : Walking k n id (suc place) wanting out old (map (entry_of name) items) l m
       walk_reaches =
-          let to : suc (number - first) ≤ s.left = elim (cases_lt (number - first) s.left) [ inl lt ↦ omega arith | inr le ↦ (let a = s.closed (number - first) (entry_of name p) le entry_at_place in let b = has_free in absurd (omega arith)) ] in
-          walk_gap k n id first wanting out old (map (entry_of name) items) l m booked (s.left - suc (number - first)) (suc (number - first)) s.left (omega arith) s.within (λ j e le lt there. (let z = newer j e.available (omega arith) (free_get j e there) in omega arith)) s.walking
+          let to : suc place ≤ s.left = elim (cases_lt place s.left) [ inl lt ↦ omega arith | inr le ↦ (let a = s.closed place (entry_of name p) le entry_at_place in let b = has_free in absurd (omega arith)) ] in
+          walk_gap k n id wanting out old (map (entry_of name) items) l m booked (s.left - suc place) (suc place) s.left (omega arith) s.within (λ j e le lt there. (let z = newer j e.available (omega arith) (free_get j e there) in omega arith)) s.walking
 
-      was : slice_get old (number - first) ≡ Some (entry_of name p)
-      was = sym (next_was k n id first (number - first) wanting out old (map (entry_of name) items) l m booked walk_reaches (let a = inside in let b = s.long in omega arith)) ∙ entry_at_place
+      was : slice_get old place ≡ Some (entry_of name p)
+      was = sym (next_was k n id place wanting out old (map (entry_of name) items) l m booked walk_reaches (let a = inside in let b = s.long in omega arith)) ∙ entry_at_place
 
       -- what stands in the books and the list once it was asked
       module _ (q : DescriptorPool P) where
-        pub listed_now_closed : q.available ≡ 0 → front ≡ open_numbers first (free_in (slice_set items (number - first) q))
-        listed_now_closed none = listed_closes first items numbers s.listed front number newest q none ∙ ap (λ (i : ℕ). open_numbers first (free_in (slice_set items i q))) place_is
+        pub listed_now_closed : q.available ≡ 0 → front ≡ open_numbers first (free_in (slice_set items place q))
+        listed_now_closed none = listed_closes first items numbers s.listed front (first + place) newest q none ∙ ap (λ (i : ℕ). open_numbers first (free_in (slice_set items i q))) place_is
 
-        pub listed_now_open : 0 < q.available → numbers ≡ open_numbers first (free_in (slice_set items (number - first) q))
-        listed_now_open has = listed_stays first items numbers s.listed (number - first) p q at has_free has
+        pub listed_now_open : 0 < q.available → numbers ≡ open_numbers first (free_in (slice_set items place q))
+        listed_now_open has = listed_stays first items numbers s.listed place p q at has_free has
 
         pub closed_now : (names : List ℕ) (m' : Ledger) (wanting' : ℕ) → IsAsked k wanting names (entry_of name p) (entry_of name q) m m' → wanting' + length names ≡ wanting
-            → (j : ℕ) (e : Entry) → number - first ≤ j → slice_get (map (entry_of name) (slice_set items (number - first) q)) j ≡ Some e → min wanting' e.available ≡ 0
-        closed_now names m' wanting' asked less j e le there = elim (set_got (map (entry_of name) items) (number - first) (entry_of name q) j e (ap (λ (x : List Entry). slice_get x j) (sym (map-set (entry_of name) items (number - first) q)) ∙ there)) [
+            → (j : ℕ) (e : Entry) → place ≤ j → slice_get (map (entry_of name) (slice_set items place q)) j ≡ Some e → min wanting' e.available ≡ 0
+        closed_now names m' wanting' asked less j e le there = elim (set_got (map (entry_of name) items) place (entry_of name q) j e (ap (λ (x : List Entry). slice_get x j) (sym (map-set (entry_of name) items place q)) ∙ there)) [
           | inl here ↦ (
               let free : e.available ≡ q.available = ap (λ (d : Entry). d.available) here.1 in
               let left_over : q.available ≡ (if asked.refused then 0 else p.available) - length names = ap (λ (d : Entry). d.available) asked.entry in
@@ -86,30 +86,29 @@ module _ {P : Type 0} {name : P → ℕ} {k : Key} {n id first wanting : ℕ} {o
         pub one_asked : (names : List ℕ) (m' : Ledger) → IsAsked k wanting names (entry_of name p) (entry_of name q) m m' → m'.counters.asked ≡ m.counters.asked + 1
         one_asked names m' asked = ap (λ (x : Counters). x.asked) asked.counters ∙ rw (lt-ltb 0 p.available has_free, lt-ltb 0 wanting some) refl
 
-        pub open_walk_more : {put : List Item} {items' : List (DescriptorPool P)} {numbers' : List ℕ} {own start wanting' : ℕ} {names : List ℕ} {m' : Ledger} → own ≡ id → start ≡ first → put ≡ out ++ items_at k id number names → items' ≡ slice_set items (number - first) q → numbers' ≡ open_numbers first (free_in (slice_set items (number - first) q))
+        pub open_walk_more : {put : List Item} {items' : List (DescriptorPool P)} {numbers' : List ℕ} {own start wanting' : ℕ} {names : List ℕ} {m' : Ledger}
+            → own ≡ id → start ≡ first → put ≡ out ++ items_at k id p.number names → items' ≡ slice_set items place q → numbers' ≡ open_numbers first (free_in (slice_set items place q))
             → IsAsked k wanting names (entry_of name p) (entry_of name q) m m' → wanting' + length names ≡ wanting → OpenWalk name k n own start wanting' put old items' numbers' l m'
         open_walk_more {put} {wanting' = wanting'} {names = names} {m' = m'} ids starts put_is items_is listed' asked less =
-            let i : ℕ = number - first in
-            let next = walk_more k n id first i wanting out old (map (entry_of name) items) l m booked walk_reaches (entry_of name p) (entry_of name q) names m' wanting' was asked less in
-            let named : number ≡ first + i = (let e = newest.is in omega arith) in
-            let now : put ≡ out ++ items_at k id (first + i) names = put_is ∙ ap (λ (j : ℕ). out ++ items_at k id j names) named in
+            let next = walk_more k n id place wanting out old (map (entry_of name) items) l m booked walk_reaches (entry_of name p) (entry_of name q) names m' wanting' was asked less in
             rw (ids, starts, items_is) (record {
-              long = length-set items i q ∙ s.long;
+              long = length-set items place q ∙ s.long;
               listed = listed';
-              left = i;
+              left = place;
               within = (let a = inside in let b = s.long in omega arith);
               closed = closed_now names m' wanting' asked less;
-              walking = rw (now, map-set (entry_of name) items i q) next;
+              walking = rw (put_is, map-set (entry_of name) items place q) next;
             })
 
-        pub open_walk_stop : {own start : ℕ} (room : ℕ) (error : DeviceAllocationError) (m' : Ledger) → id ≡ own → first ≡ start → entry_of name q ≡ entry_of name p → IsNoMemory wanting (entry_of name p) error m m' → IsTaken (Err (ExistingPoolRefused error)) None k room n out (bucket own start old) (bucket id first (map (entry_of name) (slice_set items (number - first) q))) l m'
-        open_walk_stop room error m' ids starts same none = rw (sym ids, sym starts, map-set (entry_of name) items (number - first) q) (walk_stop k room n id first (number - first) wanting out old (map (entry_of name) items) l m m' (entry_of name p) (entry_of name q) error walk_reaches was entry_at_place same none)
+        pub open_walk_stop : {own : ℕ} (room : ℕ) (error : DeviceAllocationError) (m' : Ledger) → id ≡ own → entry_of name q ≡ entry_of name p → IsNoMemory wanting (entry_of name p) error m m'
+            → IsTaken (Err (ExistingPoolRefused error)) None k room n out (bucket own old) (bucket id (map (entry_of name) (slice_set items place q))) l m'
+        open_walk_stop room error m' ids same none = rw (sym ids, map-set (entry_of name) items place q) (walk_stop k room n id place wanting out old (map (entry_of name) items) l m m' (entry_of name p) (entry_of name q) error walk_reaches was entry_at_place same none)
 
-        pub listed_now_same : entry_of name q ≡ entry_of name p → numbers ≡ open_numbers first (free_in (slice_set items (number - first) q))
+        pub listed_now_same : entry_of name q ≡ entry_of name p → numbers ≡ open_numbers first (free_in (slice_set items place q))
         listed_now_same same = listed_now_open (let a : q.available ≡ p.available = ap (λ (d : Entry). d.available) same in let b = has_free in omega arith)
 
       pub next_is_booked : IsBookedIn k m.pools (entry_of name p)
-      next_is_booked = next_booked k n id first (number - first) wanting out old (map (entry_of name) items) l m booked walk_reaches (entry_of name p) was
+      next_is_booked = next_booked k n id place wanting out old (map (entry_of name) items) l m booked walk_reaches (entry_of name p) was
 
 pub open_walk_start : {P : Type 0} (name : P → ℕ) (k : Key) (n id first : ℕ) (items : List (DescriptorPool P)) (numbers : List ℕ) (l : Ledger) → numbers ≡ open_numbers first (free_in items) → OpenWalk name k n id first n [] (map (entry_of name) items) items numbers l l
 open_walk_start name k n id first items numbers l listed = record {
@@ -118,5 +117,5 @@ open_walk_start name k n id first items numbers l listed = record {
   left = length (map (entry_of name) items);
   within = omega arith;
   closed = λ j e le at. (let a = slice_get_within (map (entry_of name) items) j e at in absurd (omega arith));
-  walking = walk_start k n id first (map (entry_of name) items) l;
+  walking = walk_start k n id (map (entry_of name) items) l;
 }

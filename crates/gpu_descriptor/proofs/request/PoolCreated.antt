@@ -1,5 +1,5 @@
 -- What a new pool does to the ledger.
-use Rattle.gpu_descriptor.proofs.Common.{◌↔◌, ◌≡◌, ◌≢◌, ◌<◌, ℕ, ◌+◌, ◌-◌, ◌≤◌, min, List, [], ◌∷◌, ◌++◌, length, Bool, true, false, cond, nat_eq, Option, Some, None, slice_index, refl, sym, ap, ◌∙◌, arith, eqb-true, mul-le-mul_right, fun_ext, update, flags_of, Key, Entry, Pool, Ledger, Counters, CanGive, HasNoSets, live_sets, fresh, after_create, after_no_create, after_alloc, after_no_alloc, after_destroy, create_refused, alloc_refused, pool_refusals, no_rise, CreatePoolError, pool_counts, DeviceAllocationError, Stop, update_here, IsNextSize, pool_descriptors, IsGrown, IsRefused, risen, stop_rise, option_map}
+use Rattle.gpu_descriptor.proofs.Common.{◌↔◌, ◌≡◌, ◌≢◌, ◌<◌, ℕ, ◌+◌, ◌-◌, ◌≤◌, min, List, [], ◌∷◌, ◌++◌, length, Bool, true, false, cond, nat_eq, Option, Some, None, slice_index, refl, sym, ap, ◌∙◌, arith, eqb-true, mul-le-mul_right, fun_ext, update, flags_of, Key, Entry, Pool, Ledger, Counters, CanGive, HasNoSets, live_sets, fresh, after_create, after_no_create, after_alloc, after_no_alloc, after_destroy, create_refused, alloc_refused, pool_refusals, no_rise, CreatePoolError, pool_counts, DeviceAllocationError, Stop, update_here, IsNextSize, pool_descriptors, IsGrown, IsRefused, risen, stop_rise, option_map, fresh_entry, number_after, numbers_of}
 use Rattle.gpu_descriptor.specs.declared.bucket.stop.Stop.TheVariants as stop
 use Rattle.gpu_descriptor_types.proofs.Counting.{none_spelled}
 use Rattle.gpu_descriptor.proofs.request.Asks.{same_counters}
@@ -27,15 +27,18 @@ no_sets k size name error m m' at is =
       empty = λ x. refl;
     }
 
-pub grown : (most : Option ℕ) (k : Key) (room left total wanted size name : ℕ) (names : List ℕ) (old new : List Entry) (l m m' : Ledger) → IsNextSize most k room total wanted size → left + pool_descriptors k size ≡ room → length names ≡ min size wanted → l.pools name ≡ None → m ≡ after_create (pool_counts k.counts size) size (flags_of k) name l → m' ≡ after_alloc name (live_sets k.counts names) m → new ≡ old ++ record { pool = name; capacity = size; allocated = min size wanted; available = size - min size wanted } ∷ [] → IsGrown most k room left total wanted names old new l m'
-grown most k room left total wanted size name names old new l m m' sized less many none made is now = record {
+pub grown : (most : Option ℕ) (k : Key) (room left total wanted size name number : ℕ) (names : List ℕ) (old new : List Entry) (l m m' : Ledger)
+    → IsNextSize most k room total wanted size → left + pool_descriptors k size ≡ room → length names ≡ min size wanted → l.pools name ≡ None
+    → m ≡ after_create (pool_counts k.counts size) size (flags_of k) name l → m' ≡ after_alloc name (live_sets k.counts names) m → number ≡ number_after (numbers_of old)
+    → new ≡ old ++ record { number = number; pool = name; capacity = size; allocated = min size wanted; available = size - min size wanted } ∷ [] → IsGrown most k room left total wanted names old new l m'
+grown most k room left total wanted size name number names old new l m m' sized less many none made is numbered now = record {
   pool = record { pool = name; size = size; given = min size wanted };
   size = sized;
   less = less;
   given = refl;
   many = many;
   is_new = none;
-  entries = now;
+  entries = now ∙ ap (λ (i : ℕ). old ++ fresh_entry i (record { pool = name; size = size; given = min size wanted }) ∷ []) numbered;
   pools = ap (λ (x : Ledger). x.pools) (is ∙ ap (after_alloc name (live_sets k.counts names)) made);
   counters = ap (λ (x : Ledger). x.counters) (is ∙ ap (after_alloc name (live_sets k.counts names)) made) ∙ same_counters _ _ (omega arith) (omega arith) (omega arith) (omega arith) (omega arith) (omega arith) (omega arith) (omega arith);
 }

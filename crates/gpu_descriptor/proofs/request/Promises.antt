@@ -21,14 +21,14 @@ length_items k id (p ∷ parts) =
     let more = length_items k id parts in
     omega arith
 
-pub shares_sum : (refused : ℕ → Bool) (n number : ℕ) (pools : List Entry) → sum_given (portions_of refused n number pools) + rest refused n pools ≡ n
-shares_sum refused n number [] = omega arith
-shares_sum refused n number (e ∷ newer) =
-    let last : Portion = record { number = number; pool = e.pool; given = min (offer refused e) (rest refused n newer) } in
-    let a = sum_by-append (λ (q : Portion). q.given) (portions_of refused n (number + 1) newer) (last ∷ []) in
+pub shares_sum : (refused : ℕ → Bool) (n : ℕ) (pools : List Entry) → sum_given (portions_of refused n pools) + rest refused n pools ≡ n
+shares_sum refused n [] = omega arith
+shares_sum refused n (e ∷ newer) =
+    let last : Portion = record { number = e.number; pool = e.pool; given = min (offer refused e) (rest refused n newer) } in
+    let a = sum_by-append (λ (q : Portion). q.given) (portions_of refused n newer) (last ∷ []) in
     let one : sum_given (last ∷ []) ≡ last.given = omega arith in
     let b = sum_by-cons (offer refused) e newer in
-    let more = shares_sum refused n (number + 1) newer in
+    let more = shares_sum refused n newer in
     omega arith
 
 -- ---- pools are created only where the existing ones fall short

@@ -23,11 +23,11 @@ pub record AreSame (now refused : ℕ → Bool) (n : ℕ) (es : List Entry) : Ty
   pub all : all_shared now n es ≡ all_shared refused n es
   pub asked : asked_count now n es ≡ asked_count refused n es
   pub count : refused_count now es ≡ refused_count refused es
-  pub rows : (number : ℕ) → portions_of now n number es ≡ portions_of refused n number es
+  pub rows : portions_of now n es ≡ portions_of refused n es
   pub asks : (q : ℕ) → asks now n es q ≡ asks refused n es q
 
 pub all_same : (r : Bool) (name : ℕ) (refused : ℕ → Bool) (n : ℕ) (es : List Entry) → IsApart name es → AreSame (or_at r name refused) refused n es
-all_same r name refused n [] h = record { sum = refl; rest = refl; all = refl; asked = refl; count = refl; rows = λ number. refl; asks = λ q. refl }
+all_same r name refused n [] h = record { sum = refl; rest = refl; all = refl; asked = refl; count = refl; rows = refl; asks = λ q. refl }
 all_same r name refused n (e ∷ es) h =
     let now : ℕ → Bool = or_at r name refused in
     let later = all_same r name refused n es h.1 in
@@ -44,7 +44,7 @@ all_same r name refused n (e ∷ es) h =
       all = (let one : shared now n es e ≡ shared refused n es e = (λ i. record e { allocated = e.allocated + gives i; available = offers i - gives i }) in let all = later.all in cc);
       asked = (λ i. (if asked i then 1 else 0) + later.asked i);
       count = sum_by-cons (λ (e : Entry). if now e.pool then 1 else 0) e es ∙ (λ i. (if same i then 1 else 0) + later.count i) ∙ sym (sum_by-cons (λ (e : Entry). if refused e.pool then 1 else 0) e es);
-      rows = λ number i. later.rows (number + 1) i ++ record { number = number; pool = e.pool; given = gives i } ∷ [];
+      rows = λ i. later.rows i ++ record { number = e.number; pool = e.pool; given = gives i } ∷ [];
       asks = λ q i. ((e.pool == q) && asked i) || later.asks q i;
     }
 

@@ -1,17 +1,24 @@
--- One key's part of the agreement of books and ledger.
-use Rattle.gpu_descriptor.proofs.Common.{◌≡◌, ℕ, ◌+◌, ◌-◌, Some, ap, ◌∙◌, arith, slice_get, Key, Entry, Bucket, entry_at, State, Agree, AreBookedIn}
-use Rattle.gpu_descriptor.proofs.release.Fronts.{entry_at-from}
-
-pub at_place : (b : Bucket) (i : ℕ) (e : Entry) → slice_get b.pools i ≡ Some e → entry_at b (b.offset + i) ≡ Some e
-at_place b i e there = entry_at-from b (b.offset + i) e (omega arith) (ap (slice_get b.pools) (let n : b.offset + i - b.offset ≡ i = omega arith in n) ∙ there)
+-- Agreement of books and ledger: at one key, and by numbers.
+use Rattle.gpu_descriptor.proofs.Common.{◌≡◌, ℕ, Some, sym, ap, ◌∙◌, subst, slice_get, Key, Entry, entry_at, State, Agree, AreBookedIn, IsAsBooked, Pool}
+use Rattle.gpu_descriptor.proofs.lists.Numbers.{entry_at-found}
 
 -- the key's part of the agreement
 pub booked_of : (s : State) (k : Key) → Agree s → AreBookedIn k s.ledger (s.books k).pools
 booked_of s k agree = record {
-  distinct = λ i j d e at_i at_j same. (
-      let b = s.books k in
-      let both = agree.distinct k k (b.offset + i) (b.offset + j) d e (at_place b i d at_i) (at_place b j e at_j) same in
-      let number = both.1 in
-      omega arith);
-  each = λ i e at_i. (let b = s.books k in let found = agree.booked k (b.offset + i) e (at_place b i e at_i) in record { pool = found.0; is_live = found.1; booked = found.2 });
+  distinct = λ i j d e at_i at_j same. (agree.distinct k k i j d e at_i at_j same).1;
+  each = λ i e at_i. (let found = agree.booked k i e at_i in record { pool = found.0; is_live = found.1; booked = found.2 });
 }
+
+-- the pool that has a number is in the ledger as the books say
+pub booked_at : (s : State) → Agree s → (k : Key) (n : ℕ) (e : Entry) → entry_at (s.books k) n ≡ Some e → (pool : Pool) × (s.ledger e.pool ≡ Some pool) × IsAsBooked k pool e
+booked_at s agree k n e at = (let found = entry_at-found (s.books k) n e at in agree.booked k found.0 e found.1)
+
+-- no two numbers name one pool
+pub distinct_at : (s : State) → Agree s → (k l : Key) (m n : ℕ) (d e : Entry) → entry_at (s.books k) m ≡ Some d → entry_at (s.books l) n ≡ Some e → d.pool ≡ e.pool → (k ≡ l) × (m ≡ n)
+distinct_at s agree k l m n d e at at' same =
+    let p = entry_at-found (s.books k) m d at in
+    let q = entry_at-found (s.books l) n e at' in
+    let both = agree.distinct k l p.0 q.0 d e p.1 q.1 same in
+    let there : slice_get (s.books l).pools q.0 ≡ Some d = subst (λ (x : Key). slice_get (s.books x).pools q.0 ≡ Some d) both.0 (subst (λ (i : ℕ). slice_get (s.books k).pools i ≡ Some d) both.1 p.1) in
+    let is : d ≡ e = cc in
+    (both.0, sym p.2 ∙ ap (λ (x : Entry). x.number) is ∙ q.2)

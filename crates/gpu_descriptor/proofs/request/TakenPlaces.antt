@@ -1,5 +1,5 @@
 -- What stands at the places of a key's pools once a request took sets of them: an old pool with what it gave, or a new one.
-use Rattle.gpu_descriptor.proofs.Common.{greatest_pool_size, ◌≡◌, ◌≢◌, ℕ, zero, suc, take, drop, ◌+◌, ◌≤◌, ◌⊎◌, inl, inr, List, [], ◌∷◌, ◌++◌, length, map, Bool, false, ◌==◌, Option, Some, None, refl, sym, ap, ◌∙◌, subst, arith, cases_Bool, eq-eqb, ne_eqb, eqb-false, or_parts, or_from, length-append, sum_by, sum_by-cons, sum_by-append, slice_get, list_any, if◌then◌else◌, flags_of, Key, Entry, Pool, pool_counts, Fresh, AreNew, AreSized, AreFull, IsFreshList, fresh_entry, fresh_portions, Part, portion_of, came, fresh_or, Portion, offer, share, shared, all_shared, portions_of}
+use Rattle.gpu_descriptor.proofs.Common.{greatest_pool_size, ◌≡◌, ◌≢◌, ℕ, zero, suc, take, drop, ◌+◌, ◌≤◌, ◌⊎◌, inl, inr, List, [], ◌∷◌, ◌++◌, length, map, Bool, false, ◌==◌, Option, Some, None, refl, sym, ap, ◌∙◌, subst, arith, cases_Bool, eq-eqb, ne_eqb, eqb-false, or_parts, or_from, length-append, sum_by, sum_by-cons, sum_by-append, slice_get, list_any, if◌then◌else◌, flags_of, Key, Entry, Pool, pool_counts, Fresh, AreNew, AreSized, AreFull, IsFreshList, fresh_entries, fresh_entry, fresh_portions, Part, portion_of, came, fresh_or, Portion, offer, share, shared, all_shared, portions_of}
 use Rattle.gpu_descriptor.specs.Model.FreshPools.IsFreshList.{none as none_fresh, some as some_fresh}
 use Rattle.gpu_descriptor_types.specs.Ledger as ledgers
 use Rattle.gpu_descriptor.proofs.lists.AtPlaces.{none_at}
@@ -25,11 +25,11 @@ came_long q (p ∷ parts) =
     omega arith
 
 -- none from one that isn't among the pools
-pub no_share : (refused : ℕ → Bool) (n q number : ℕ) (es : List Entry) → IsApart q es → given_at q (portions_of refused n number es) ≡ 0
-no_share refused n q number [] apart = refl
-no_share refused n q number (e ∷ newer) apart =
-    let a = sum_by-append (gave q) (portions_of refused n (number + 1) newer) (record { number = number; pool = e.pool; given = share refused n newer e } ∷ []) in
-    let b = no_share refused n q (number + 1) newer apart.1 in
+pub no_share : (refused : ℕ → Bool) (n q : ℕ) (es : List Entry) → IsApart q es → given_at q (portions_of refused n es) ≡ 0
+no_share refused n q [] apart = refl
+no_share refused n q (e ∷ newer) apart =
+    let a = sum_by-append (gave q) (portions_of refused n newer) (record { number = e.number; pool = e.pool; given = share refused n newer e } ∷ []) in
+    let b = no_share refused n q newer apart.1 in
     let c : ◌≡◌ {A = ℕ} (if e.pool == q then share refused n newer e else 0) 0 = rw (ne_eqb e.pool q apart.0) refl in
     omega arith
 
@@ -46,6 +46,7 @@ no_fresh q number (f ∷ fs) none =
 
 became_shared : (refused : ℕ → Bool) (n : ℕ) (newer : List Entry) (e : Entry) → Became (share refused n newer e) (refused e.pool) e (shared refused n newer e)
 became_shared refused n newer e = record {
+  number = refl;
   pool = refl;
   capacity = refl;
   allocated = refl;
@@ -77,37 +78,37 @@ apart_at q (x ∷ es) (suc i) e apart at = apart_at q es i e apart.1 at
 abbrev Stands : (ℕ → Bool) → List Portion → List Entry → List Entry → ℕ → Entry → Type 0
 Stands refused rows es fs i f = ((e : Entry) × (slice_get es i ≡ Some e) × Became (given_at e.pool rows) (refused e.pool) e f) ⊎ ((j : ℕ) × (i ≡ length es + j) × (slice_get fs j ≡ Some f))
 
-shared_stands : (refused : ℕ → Bool) (n number : ℕ) (es fs : List Entry) → AreApart es → (i : ℕ) (f : Entry) → slice_get (all_shared refused n es ++ fs) i ≡ Some f → Stands refused (portions_of refused n number es) es fs i f
-shared_stands refused n number [] fs apart i f at = inr (i, (omega arith), at)
-shared_stands refused n number (e ∷ newer) fs apart zero f at =
-    let last : Portion = record { number = number; pool = e.pool; given = share refused n newer e } in
+shared_stands : (refused : ℕ → Bool) (n : ℕ) (es fs : List Entry) → AreApart es → (i : ℕ) (f : Entry) → slice_get (all_shared refused n es ++ fs) i ≡ Some f → Stands refused (portions_of refused n es) es fs i f
+shared_stands refused n [] fs apart i f at = inr (i, (omega arith), at)
+shared_stands refused n (e ∷ newer) fs apart zero f at =
+    let last : Portion = record { number = e.number; pool = e.pool; given = share refused n newer e } in
     let is : shared refused n newer e ≡ f = cc in
-    let a = sum_by-append (gave e.pool) (portions_of refused n (number + 1) newer) (last ∷ []) in
-    let b = no_share refused n e.pool (number + 1) newer (first_apart e newer apart) in
+    let a = sum_by-append (gave e.pool) (portions_of refused n newer) (last ∷ []) in
+    let b = no_share refused n e.pool newer (first_apart e newer apart) in
     let c : gave e.pool last ≡ share refused n newer e = rw (eq-eqb e.pool e.pool refl) refl in
-    let all : share refused n newer e ≡ given_at e.pool (portions_of refused n number (e ∷ newer)) = omega arith in
+    let all : share refused n newer e ≡ given_at e.pool (portions_of refused n (e ∷ newer)) = omega arith in
     inl (e, refl, subst (λ (m : ℕ). Became m (refused e.pool) e f) all (subst (Became (share refused n newer e) (refused e.pool) e) is (became_shared refused n newer e)))
-shared_stands refused n number (e ∷ newer) fs apart (suc i) f at = elim (shared_stands refused n (number + 1) newer fs (later_apart e newer apart) i f at) [
+shared_stands refused n (e ∷ newer) fs apart (suc i) f at = elim (shared_stands refused n newer fs (later_apart e newer apart) i f at) [
   | inl old ↦ (
-      let last : Portion = record { number = number; pool = e.pool; given = share refused n newer e } in
-      let a = sum_by-append (gave old.0.pool) (portions_of refused n (number + 1) newer) (last ∷ []) in
+      let last : Portion = record { number = e.number; pool = e.pool; given = share refused n newer e } in
+      let a = sum_by-append (gave old.0.pool) (portions_of refused n newer) (last ∷ []) in
       let ne : e.pool ≢ old.0.pool = λ same. apart_at e.pool newer i old.0 (first_apart e newer apart) old.1 (sym same) in
       let c : gave old.0.pool last ≡ 0 = rw (ne_eqb e.pool old.0.pool ne) refl in
-      let all : given_at old.0.pool (portions_of refused n (number + 1) newer) ≡ given_at old.0.pool (portions_of refused n number (e ∷ newer)) = omega arith in
+      let all : given_at old.0.pool (portions_of refused n newer) ≡ given_at old.0.pool (portions_of refused n (e ∷ newer)) = omega arith in
       inl (old.0, old.1, subst (λ (m : ℕ). Became m (refused old.0.pool) old.0 f) all old.2))
   | inr new ↦ (let place = new.1 in inr (new.0, (omega arith), new.2))
 ]
 
 -- the oldest are left alone
-pub taken_stands : (refused : ℕ → Bool) (n number left : ℕ) (es fs : List Entry) → AreApart es → (i : ℕ) (f : Entry) → slice_get (take left es ++ all_shared refused n (drop left es) ++ fs) i ≡ Some f → Stands refused (portions_of refused n number (drop left es)) es fs i f
-taken_stands refused n number zero es fs apart i f at = shared_stands refused n number es fs apart i f at
-taken_stands refused n number (suc left) [] fs apart i f at = inr (i, (omega arith), at)
-taken_stands refused n number (suc left) (e ∷ es) fs apart zero f at =
+pub taken_stands : (refused : ℕ → Bool) (n left : ℕ) (es fs : List Entry) → AreApart es → (i : ℕ) (f : Entry) → slice_get (take left es ++ all_shared refused n (drop left es) ++ fs) i ≡ Some f → Stands refused (portions_of refused n (drop left es)) es fs i f
+taken_stands refused n zero es fs apart i f at = shared_stands refused n es fs apart i f at
+taken_stands refused n (suc left) [] fs apart i f at = inr (i, (omega arith), at)
+taken_stands refused n (suc left) (e ∷ es) fs apart zero f at =
     let is : e ≡ f = cc in
-    let none = no_share refused n e.pool number (drop left es) (apart_drop e.pool left es (first_apart e es apart)) in
-    let same : Became (given_at e.pool (portions_of refused n number (drop left es))) (refused e.pool) e e = record { pool = refl; capacity = refl; allocated = omega arith; fits = omega arith; whole = λ off. refl } in
-    inl (e, refl, subst (Became (given_at e.pool (portions_of refused n number (drop left es))) (refused e.pool) e) is same)
-taken_stands refused n number (suc left) (e ∷ es) fs apart (suc i) f at = elim (taken_stands refused n number left es fs (later_apart e es apart) i f at) [
+    let none = no_share refused n e.pool (drop left es) (apart_drop e.pool left es (first_apart e es apart)) in
+    let same : Became (given_at e.pool (portions_of refused n (drop left es))) (refused e.pool) e e = record { number = refl; pool = refl; capacity = refl; allocated = omega arith; fits = omega arith; whole = λ off. refl } in
+    inl (e, refl, subst (Became (given_at e.pool (portions_of refused n (drop left es))) (refused e.pool) e) is same)
+taken_stands refused n (suc left) (e ∷ es) fs apart (suc i) f at = elim (taken_stands refused n left es fs (later_apart e es apart) i f at) [
   | inl old ↦ inl old
   | inr new ↦ (let place = new.1 in inr (new.0, (omega arith), new.2))
 ]
@@ -119,16 +120,16 @@ length_taken refused n zero (e ∷ es) = ap suc (length_taken refused n zero es)
 length_taken refused n (suc left) [] = refl
 length_taken refused n (suc left) (e ∷ es) = ap suc (length_taken refused n left es)
 
--- an old pool keeps its place and its name
-shared_named : (refused : ℕ → Bool) (n : ℕ) (es fs : List Entry) (i : ℕ) (e : Entry) → slice_get es i ≡ Some e → (d : Entry) × (slice_get (all_shared refused n es ++ fs) i ≡ Some d) × (d.pool ≡ e.pool)
+-- an old pool keeps its place, its name and its number
+shared_named : (refused : ℕ → Bool) (n : ℕ) (es fs : List Entry) (i : ℕ) (e : Entry) → slice_get es i ≡ Some e → (d : Entry) × (slice_get (all_shared refused n es ++ fs) i ≡ Some d) × (d.pool ≡ e.pool) × (d.number ≡ e.number)
 shared_named refused n [] fs i e at = absurd (cc)
-shared_named refused n (x ∷ es) fs zero e at = (let is : x ≡ e = cc in (shared refused n es x, refl, ap (λ (d : Entry). d.pool) is))
+shared_named refused n (x ∷ es) fs zero e at = (let is : x ≡ e = cc in (shared refused n es x, refl, ap (λ (d : Entry). d.pool) is, ap (λ (d : Entry). d.number) is))
 shared_named refused n (x ∷ es) fs (suc i) e at = shared_named refused n es fs i e at
 
-pub taken_named : (left n : ℕ) (refused : ℕ → Bool) (es fs : List Entry) (i : ℕ) (e : Entry) → slice_get es i ≡ Some e → (d : Entry) × (slice_get (take left es ++ all_shared refused n (drop left es) ++ fs) i ≡ Some d) × (d.pool ≡ e.pool)
+pub taken_named : (left n : ℕ) (refused : ℕ → Bool) (es fs : List Entry) (i : ℕ) (e : Entry) → slice_get es i ≡ Some e → (d : Entry) × (slice_get (take left es ++ all_shared refused n (drop left es) ++ fs) i ≡ Some d) × (d.pool ≡ e.pool) × (d.number ≡ e.number)
 taken_named zero n refused es fs i e at = shared_named refused n es fs i e at
 taken_named (suc left) n refused [] fs i e at = absurd (cc)
-taken_named (suc left) n refused (x ∷ es) fs zero e at = (e, at, refl)
+taken_named (suc left) n refused (x ∷ es) fs zero e at = (e, at, refl, refl)
 taken_named (suc left) n refused (x ∷ es) fs (suc i) e at = taken_named left n refused es fs i e at
 
 -- ---- the new pools
@@ -162,28 +163,28 @@ fresh_or_past k q (f ∷ fs) o none = (let both = or_parts (f.pool == q) (list_a
 -- one of them, and what it was created with and gave
 pub record IsNew (k : Key) (ledger : ℕ → Option Pool) (number : ℕ) (fs : List Fresh) (j : ℕ) (e : Entry) : Type 0 where
   pub fresh : Fresh
-  pub is : e ≡ fresh_entry fresh
+  pub is : e ≡ fresh_entry (number + j) fresh
   pub at : slice_get fs j ≡ Some fresh
   pub none : ledger fresh.pool ≡ None
   pub given : given_at fresh.pool (fresh_portions number fs) ≡ fresh.given
   pub there : (o : Option Pool) → fresh_or k fs fresh.pool o ≡ Some (ledgers.fresh (pool_counts k.counts fresh.size) fresh.size (flags_of k))
   pub made : (1 ≤ fresh.size) × (fresh.size ≤ greatest_pool_size) × (fresh.given ≤ fresh.size)
 
-pub new_stands : (k : Key) (ledger : ℕ → Option Pool) (number : ℕ) (fs : List Fresh) → AreNew ledger fs → AreMade fs → (j : ℕ) (e : Entry) → slice_get (map fresh_entry fs) j ≡ Some e → IsNew k ledger number fs j e
+pub new_stands : (k : Key) (ledger : ℕ → Option Pool) (number : ℕ) (fs : List Fresh) → AreNew ledger fs → AreMade fs → (j : ℕ) (e : Entry) → slice_get (fresh_entries number fs) j ≡ Some e → IsNew k ledger number fs j e
 new_stands k ledger number [] new made j e at = absurd (cc)
 new_stands k ledger number (f ∷ fs) new made zero e at =
     let here = eq-eqb f.pool f.pool refl in
     let a = sum_by-cons (gave f.pool) (record { number = number; pool = f.pool; given = f.given }) (fresh_portions (number + 1) fs) in
     let b = no_fresh f.pool (number + 1) fs new.1 in
     let c : ◌≡◌ {A = ℕ} (if f.pool == f.pool then f.given else 0) f.given = rw here refl in
-    record { fresh = f; is = (let is : fresh_entry f ≡ e = cc in sym is); at = refl; none = new.0; given = omega arith; there = λ o. rw here refl; made = (made.0, made.1, made.2) }
+    record { fresh = f; is = (let is : fresh_entry number f ≡ e = cc in sym is ∙ ap (λ (m : ℕ). fresh_entry m f) (let same : number ≡ number + 0 = omega arith in same)); at = refl; none = new.0; given = omega arith; there = λ o. rw here refl; made = (made.0, made.1, made.2) }
 new_stands k ledger number (f ∷ fs) new made (suc j) e at =
     let x = new_stands k ledger (number + 1) fs new.2 made.3 j e at in
     let apart : (f.pool == x.fresh.pool) ≡ false = ne_eqb f.pool x.fresh.pool (λ same. eqb-false x.fresh.pool f.pool (none_at (λ (h : Fresh). h.pool == f.pool) fs j x.fresh new.1 x.at) (sym same)) in
     let a = sum_by-cons (gave x.fresh.pool) (record { number = number; pool = f.pool; given = f.given }) (fresh_portions (number + 1) fs) in
     let b = x.given in
     let c : ◌≡◌ {A = ℕ} (if f.pool == x.fresh.pool then f.given else 0) 0 = rw apart refl in
-    record { fresh = x.fresh; is = x.is; at = x.at; none = x.none; given = omega arith; there = λ o. rw apart (x.there o); made = x.made }
+    record { fresh = x.fresh; is = x.is ∙ ap (λ (m : ℕ). fresh_entry m x.fresh) (let same : number + 1 + j ≡ number + suc j = omega arith in same); at = x.at; none = x.none; given = omega arith; there = λ o. rw apart (x.there o); made = x.made }
 
 -- no two have one name
 pub new_apart : (ledger : ℕ → Option Pool) (fs : List Fresh) → AreNew ledger fs → (i j : ℕ) (d e : Fresh) → slice_get fs i ≡ Some d → slice_get fs j ≡ Some e → d.pool ≡ e.pool → i ≡ j

@@ -47,7 +47,7 @@ ledger_more k refused fs parts r number name names pools id left left' not_yet =
     at true q h = rw (← eqb-true name q h, or_at_here r name refused not_yet, came_more parts (part number name names) name, eq-eqb name name refl, not_yet) (here (fresh_or k fs name (pools name)))
     at false q h = rw (or_at_apart r name refused q (λ e. eqb-false name q h (sym e)), came_more parts (part number name names) q, h, append-nil (came parts q)) refl
 
-module _ (id n first i : ℕ) (refused : ℕ → Bool) (parts : List Part) (old : List Entry) (e f : Entry) (names : List ℕ) (k : Key) (l m : Ledger)
+module _ (id n i : ℕ) (refused : ℕ → Bool) (parts : List Part) (old : List Entry) (e f : Entry) (names : List ℕ) (k : Key) (l m : Ledger)
     (apart : IsApart e.pool (drop (suc i) old))
     (tail : drop i old ≡ e ∷ drop (suc i) old)
     (not_yet : refused e.pool ≡ false)
@@ -59,7 +59,7 @@ module _ (id n first i : ℕ) (refused : ℕ → Bool) (parts : List Part) (old 
   now = or_at a.refused e.pool refused
 
   abbrev part_now : Part
-  part_now = part (first + i) e.pool names
+  part_now = part e.number e.pool names
 
   same : AreSame now refused n newer
   same = all_same a.refused e.pool refused n newer apart
@@ -83,8 +83,8 @@ module _ (id n first i : ℕ) (refused : ℕ → Bool) (parts : List Part) (old 
     | inr before ↦ or_right _ _ (same.asks name ∙ was name before)
   ]
 
-  rows_now : (number : ℕ) → portions_of now n number (e ∷ newer) ≡ portions_of refused n (number + 1) newer ++ record { number = number; pool = e.pool; given = length names } ∷ []
-  rows_now number = (let r = same.rows (number + 1) in let s = share_now in cc)
+  rows_now : portions_of now n (e ∷ newer) ≡ portions_of refused n newer ++ record { number = e.number; pool = e.pool; given = length names } ∷ []
+  rows_now = (let r = same.rows in let s = share_now in cc)
 
   shared_now : all_shared now n (e ∷ newer) ≡ f ∷ all_shared refused n newer
   shared_now =
@@ -104,12 +104,11 @@ module _ (id n first i : ℕ) (refused : ℕ → Bool) (parts : List Part) (old 
       let up = ap (risen (record no_rise { asked = if nat_lt 0 e.available && nat_lt 0 (rest refused n newer) then 1 else 0; pool_refused = if a.refused then 1 else 0 })) was in
       a.counters ∙ up ∙ same_counters _ _ (omega arith) (omega arith) (omega arith) (omega arith) (omega arith) (omega arith) (omega arith) (omega arith)
 
-  parts_now : map portion_of parts ≡ portions_of refused n (first + suc i) newer ++ [] → map portion_of (parts ++ part_now ∷ []) ≡ portions_of now n (first + i) (drop i old) ++ []
+  parts_now : map portion_of parts ≡ portions_of refused n newer ++ [] → map portion_of (parts ++ part_now ∷ []) ≡ portions_of now n (drop i old) ++ []
   parts_now was =
-      let number : first + suc i ≡ first + i + 1 = omega arith in
       map-append portion_of parts (part_now ∷ [])
-      ∙ ap (λ x. x ++ portion_of part_now ∷ []) (was ∙ append-nil (portions_of refused n (first + suc i) newer) ∙ ap (λ m. portions_of refused n m newer) number)
-      ∙ sym (append-nil (portions_of now n (first + i) (drop i old)) ∙ ap (portions_of now n (first + i)) tail ∙ rows_now (first + i))
+      ∙ ap (λ x. x ++ portion_of part_now ∷ []) (was ∙ append-nil (portions_of refused n newer))
+      ∙ sym (append-nil (portions_of now n (drop i old)) ∙ ap (portions_of now n) tail ∙ rows_now)
 
   entries_now : length (take i old) ≡ i → take (suc i) old ≡ take i old ++ e ∷ [] → slice_set (take (suc i) old ++ all_shared refused n newer ++ []) i f ≡ take i old ++ all_shared now n (drop i old) ++ []
   entries_now long more =
@@ -119,14 +118,14 @@ module _ (id n first i : ℕ) (refused : ℕ → Bool) (parts : List Part) (old 
       ∙ sym (append-nil (take i old ++ all_shared now n (drop i old)) ∙ ap (λ x. take i old ++ x) (ap (all_shared now n) tail ∙ shared_now))
 
   pools_now : (before : Ledger) → l.pools ≡ ledger_with k (so_far id (suc i) refused parts) before.pools → m.pools ≡ ledger_with k (so_far id i now (parts ++ part_now ∷ [])) before.pools
-  pools_now before was = a.pools ∙ ap (on_pool e.pool (pool_with (live_sets k.counts names) a.refused)) was ∙ ledger_more k refused [] parts a.refused (first + i) e.pool names before.pools id (suc i) i not_yet
+  pools_now before was = a.pools ∙ ap (on_pool e.pool (pool_with (live_sets k.counts names) a.refused)) was ∙ ledger_more k refused [] parts a.refused e.number e.pool names before.pools id (suc i) i not_yet
 
-  pub taken_more : (before : Ledger) (entries : List Entry) (items given : List Item) → length (take i old) ≡ i → take (suc i) old ≡ take i old ++ e ∷ [] → HasTaken k n (so_far id (suc i) refused parts) items (bucket id first old) (bucket id first entries) before l
-      → items_in k id (parts ++ part_now ∷ []) ≡ given → HasTaken k n (so_far id i now (parts ++ part_now ∷ [])) given (bucket id first old) (bucket id first (slice_set entries i f)) before m
+  pub taken_more : (before : Ledger) (entries : List Entry) (items given : List Item) → length (take i old) ≡ i → take (suc i) old ≡ take i old ++ e ∷ [] → HasTaken k n (so_far id (suc i) refused parts) items (bucket id old) (bucket id entries) before l
+      → items_in k id (parts ++ part_now ∷ []) ≡ given → HasTaken k n (so_far id i now (parts ++ part_now ∷ [])) given (bucket id old) (bucket id (slice_set entries i f)) before m
   taken_more before entries items given long more was came = record {
     grant = record { id = λ some. refl; refusing = subst (λ (es : List Entry). OnlyAskedRefuse now n es) (sym tail) (refusing_now was.grant.refusing); parts = parts_now was.grant.parts; new = tt };
     came = came;
-    bucket = ap (bucket id first) (ap (λ (b : Bucket). slice_set b.pools i f) was.bucket ∙ entries_now long more);
+    bucket = ap (bucket id) (ap (λ (b : Bucket). slice_set b.pools i f) was.bucket ∙ entries_now long more);
     pools = pools_now before was.pools;
     counters = counters_now before.counters was.counters;
   }

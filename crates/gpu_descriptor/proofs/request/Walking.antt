@@ -8,11 +8,11 @@ use Rattle.gpu_descriptor.proofs.request.Shares.{IsApart, apart_from, not_refuse
 use Rattle.gpu_descriptor.proofs.request.WalkStep.{items_more, part, so_far, taken_more, rest_now}
 use Rattle.gpu_descriptor.proofs.lists.AtPlaces.{drop_at, get_drop, long_take, set_same, split_at, take_get}
 
-pub record Walking (k : Key) (n id first left wanting : ℕ) (items : List Item) (old new : List Entry) (l m : Ledger) : Type 0 where
+pub record Walking (k : Key) (n id left wanting : ℕ) (items : List Item) (old new : List Entry) (l m : Ledger) : Type 0 where
   pub refused : ℕ → Bool
   pub parts : List Part
   pub wants : wanting ≡ rest refused n (drop left old)
-  pub taken : HasTaken k n (so_far id left refused parts) items (bucket id first old) (bucket id first new) l m
+  pub taken : HasTaken k n (so_far id left refused parts) items (bucket id old) (bucket id new) l m
   pub untouched : (j : ℕ) (e : Entry) → j < left → slice_get old j ≡ Some e → m.pools e.pool ≡ l.pools e.pool
 
 get_take : {A : Type 0} (xs ys : List A) (i : ℕ) → i < length xs → slice_get (take (suc i) xs ++ ys) i ≡ slice_get xs i
@@ -20,7 +20,7 @@ get_take [] ys i h = absurd (omega arith)
 get_take (x ∷ xs) ys zero h = refl
 get_take (x ∷ xs) ys (suc i) h = get_take xs ys i (omega arith)
 
-module _ (k : Key) (n id first i wanting : ℕ) (items : List Item) (old new : List Entry) (l m : Ledger) (booked : AreBookedIn k l.pools old) (s : Walking k n id first (suc i) wanting items old new l m) where
+module _ (k : Key) (n id i wanting : ℕ) (items : List Item) (old new : List Entry) (l m : Ledger) (booked : AreBookedIn k l.pools old) (s : Walking k n id (suc i) wanting items old new l m) where
   -- the next pool is as it was
   pub next_was : i < length old → slice_get new i ≡ slice_get old i
   next_was here =
@@ -35,16 +35,17 @@ module _ (k : Key) (n id first i wanting : ℕ) (items : List Item) (old new : L
   apart : (e : Entry) → slice_get old i ≡ Some e → IsApart e.pool (drop (suc i) old)
   apart e at = apart_from e.pool (drop (suc i) old) (λ j d there same. (let place = booked.distinct (suc i + j) i d e (sym (get_drop old (suc i) j) ∙ there) at same in absurd (omega arith)))
 
-  pub walk_more : (e f : Entry) (more : List ℕ) (m' : Ledger) (wanting' : ℕ) → slice_get old i ≡ Some e → IsAsked k wanting more e f m m' → wanting' + length more ≡ wanting → Walking k n id first i wanting' (items ++ items_at k id (first + i) more) old (slice_set new i f) l m'
+  pub walk_more : (e f : Entry) (more : List ℕ) (m' : Ledger) (wanting' : ℕ) → slice_get old i ≡ Some e → IsAsked k wanting more e f m m' → wanting' + length more ≡ wanting → Walking k n id i wanting' (items ++ items_at k id e.number more) old (slice_set new i f) l m'
   walk_more e f more m' wanting' at asked less =
       let a : IsAsked k (rest s.refused n (drop (suc i) old)) more e f m m' = subst (λ (w : ℕ). IsAsked k w more e f m m') s.wants asked in
       let not_yet = not_refused s.refused n e.pool (drop (suc i) old) (apart e at) s.taken.grant.refusing in
       let tail = drop_at old i e at in
       record {
         refused = or_at a.refused e.pool s.refused;
-        parts = s.parts ++ part (first + i) e.pool more ∷ [];
-        wants = (let r = rest_now id n first i s.refused s.parts old e f more k m m' (apart e at) tail not_yet a in let w = s.wants in omega arith);
-        taken = taken_more id n first i s.refused s.parts old e f more k m m' (apart e at) tail not_yet a l new items (items ++ items_at k id (first + i) more) (long_take old i e at) (take_get old i e at) s.taken (items_more k id (first + i) e.pool more s.parts ∙ ap (λ x. x ++ items_at k id (first + i) more) s.taken.came);
+        parts = s.parts ++ part e.number e.pool more ∷ [];
+        wants = (let r = rest_now id n i s.refused s.parts old e f more k m m' (apart e at) tail not_yet a in let w = s.wants in omega arith);
+        taken = taken_more id n i s.refused s.parts old e f more k m m' (apart e at) tail not_yet a l new items (items ++ items_at k id e.number more)
+            (long_take old i e at) (take_get old i e at) s.taken (items_more k id e.number e.pool more s.parts ∙ ap (λ x. x ++ items_at k id e.number more) s.taken.came);
         untouched = λ j d lt there.
             let ne : d.pool ≢ e.pool = λ same. (let place = booked.distinct j i d e there at same in absurd (omega arith)) in
             ap (λ (f : ℕ → Option Pool). f d.pool) asked.pools
@@ -55,8 +56,8 @@ module _ (k : Key) (n id first i wanting : ℕ) (items : List Item) (old new : L
 ledger_none : (k : Key) (id left : ℕ) (pools : ℕ → Option Pool) → pools ≡ ledger_with k (so_far id left (λ _. false) []) pools
 ledger_none k id left pools = fun_ext (λ q. sym (none_with (pools q)))
 
-pub walk_start : (k : Key) (n id first : ℕ) (old : List Entry) (l : Ledger) → Walking k n id first (length old) n [] old old l l
-walk_start k n id first old l =
+pub walk_start : (k : Key) (n id : ℕ) (old : List Entry) (l : Ledger) → Walking k n id (length old) n [] old old l l
+walk_start k n id old l =
     let none : drop (length old) old ≡ [] = drop_all (length old) old (omega arith) in
     let none_refuse : ℕ → Bool = λ _. false in
     record {
@@ -66,21 +67,23 @@ walk_start k n id first old l =
       taken = record {
         grant = record { id = λ some. refl; refusing = λ name h. absurd (cc); parts = rw none refl; new = tt };
         came = refl;
-        bucket = ap (bucket id first) (sym (ap (λ es. take (length old) old ++ all_shared none_refuse n es ++ []) none ∙ append-nil (take (length old) old ++ []) ∙ append-nil (take (length old) old) ∙ take-length old));
+        bucket = ap (bucket id) (sym (ap (λ es. take (length old) old ++ all_shared none_refuse n es ++ []) none ∙ append-nil (take (length old) old ++ []) ∙ append-nil (take (length old) old) ∙ take-length old));
         pools = ledger_none k id (length old) l.pools;
         counters = rw none (same_counters _ _ (omega arith) (omega arith) (omega arith) (omega arith) (omega arith) (omega arith) (omega arith) (omega arith));
       };
       untouched = λ j e lt at. refl;
     }
 
-pub walk_end : {k : Key} {n id first own place wanting : ℕ} {items : List Item} {old new : List Entry} {l m : Ledger} → id ≡ own → first ≡ place → Walking k n id first 0 wanting items old new l m → IsWalked k n wanting items (bucket own place old) (bucket id first new) l m
-walk_end ids places s = rw (sym ids, sym places) (record { grant = so_far _ 0 s.refused s.parts; all = refl; no_fresh = refl; wants = s.wants; taken = s.taken })
+pub walk_end : {k : Key} {n id own wanting : ℕ} {items : List Item} {old new : List Entry} {l m : Ledger} → id ≡ own → Walking k n id 0 wanting items old new l m → IsWalked k n wanting items (bucket own old) (bucket id new) l m
+walk_end ids s = rw (sym ids) (record { grant = so_far _ 0 s.refused s.parts; all = refl; no_fresh = refl; wants = s.wants; taken = s.taken })
 
-pub walk_stop : (k : Key) (room n id first i wanting : ℕ) (items : List Item) (old new : List Entry) (l m m' : Ledger) (e f : Entry) (error : DeviceAllocationError) → Walking k n id first (suc i) wanting items old new l m → slice_get old i ≡ Some e → slice_get new i ≡ Some e → f ≡ e → IsNoMemory wanting e error m m' → IsTaken (Err (ExistingPoolRefused error)) None k room n items (bucket id first old) (bucket id first (slice_set new i f)) l m'
-walk_stop k room n id first i wanting items old new l m m' e f error s was is same none = (
+pub walk_stop : (k : Key) (room n id i wanting : ℕ) (items : List Item) (old new : List Entry) (l m m' : Ledger) (e f : Entry) (error : DeviceAllocationError)
+    → Walking k n id (suc i) wanting items old new l m → slice_get old i ≡ Some e → slice_get new i ≡ Some e → f ≡ e → IsNoMemory wanting e error m m'
+    → IsTaken (Err (ExistingPoolRefused error)) None k room n items (bucket id old) (bucket id (slice_set new i f)) l m'
+walk_stop k room n id i wanting items old new l m m' e f error s was is same none = (
   so_far id (suc i) s.refused s.parts,
   m,
-  subst (λ (es : List Entry). HasTaken k n (so_far id (suc i) s.refused s.parts) items (bucket id first old) (bucket id first es) l m) (sym (ap (slice_set new i) same ∙ set_same new i e is)) s.taken,
+  subst (λ (es : List Entry). HasTaken k n (so_far id (suc i) s.refused s.parts) items (bucket id old) (bucket id es) l m) (sym (ap (slice_set new i) same ∙ set_same new i e is)) s.taken,
   record {
     older = take i old;
     pool = e;
@@ -100,17 +103,18 @@ get_at (x ∷ xs) zero h = (x, refl)
 get_at (x ∷ xs) (suc i) h = get_at xs i (omega arith)
 
 -- older pools that have nothing, or of which nothing is wanted, are left as they are
-pub walk_gap : (k : Key) (n id first wanting : ℕ) (items : List Item) (old new : List Entry) (l m : Ledger) → AreBookedIn k l.pools old → (gap i left : ℕ) → left ≡ gap + i → left ≤ length old → ((j : ℕ) (e : Entry) → i ≤ j → j < left → slice_get new j ≡ Some e → min wanting e.available ≡ 0) → Walking k n id first left wanting items old new l m → Walking k n id first i wanting items old new l m
-walk_gap k n id first wanting items old new l m booked zero i left is here none s = subst (λ (j : ℕ). Walking k n id first j wanting items old new l m) (let e : left ≡ i = omega arith in e) s
-walk_gap k n id first wanting items old new l m booked (suc gap) i left is here none s =
+pub walk_gap : (k : Key) (n id wanting : ℕ) (items : List Item) (old new : List Entry) (l m : Ledger) → AreBookedIn k l.pools old
+    → (gap i left : ℕ) → left ≡ gap + i → left ≤ length old → ((j : ℕ) (e : Entry) → i ≤ j → j < left → slice_get new j ≡ Some e → min wanting e.available ≡ 0) → Walking k n id left wanting items old new l m → Walking k n id i wanting items old new l m
+walk_gap k n id wanting items old new l m booked zero i left is here none s = subst (λ (j : ℕ). Walking k n id j wanting items old new l m) (let e : left ≡ i = omega arith in e) s
+walk_gap k n id wanting items old new l m booked (suc gap) i left is here none s =
     let one : left ≡ suc (gap + i) = omega arith in
     let at = get_at old (gap + i) (omega arith) in
     let e : Entry = at.0 in
-    let from : Walking k n id first (suc (gap + i)) wanting items old new l m = subst (λ (j : ℕ). Walking k n id first j wanting items old new l m) one s in
-    let there : slice_get new (gap + i) ≡ Some e = next_was k n id first (gap + i) wanting items old new l m booked from (omega arith) ∙ at.1 in
+    let from : Walking k n id (suc (gap + i)) wanting items old new l m = subst (λ (j : ℕ). Walking k n id j wanting items old new l m) one s in
+    let there : slice_get new (gap + i) ≡ Some e = next_was k n id (gap + i) wanting items old new l m booked from (omega arith) ∙ at.1 in
     let nothing = none (gap + i) e (omega arith) (omega arith) there in
-    let next : Walking k n id first (gap + i) wanting (items ++ []) old (slice_set new (gap + i) e) l m = walk_more k n id first (gap + i) wanting items old new l m booked from e e [] m wanting at.1 (skipped k wanting e m nothing) (omega arith) in
-    walk_gap k n id first wanting items old new l m booked gap i (gap + i) refl (omega arith) (λ j d le lt there. none j d le (omega arith) there)
+    let next : Walking k n id (gap + i) wanting (items ++ []) old (slice_set new (gap + i) e) l m = walk_more k n id (gap + i) wanting items old new l m booked from e e [] m wanting at.1 (skipped k wanting e m nothing) (omega arith) in
+    walk_gap k n id wanting items old new l m booked gap i (gap + i) refl (omega arith) (λ j d le lt there. none j d le (omega arith) there)
     (rw (append-nil items, set_same new (gap + i) e there) at next)
 
 -- sets of one pool, as the books see them

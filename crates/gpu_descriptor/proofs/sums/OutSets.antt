@@ -1,8 +1,9 @@
 -- As many sets are out as are outstanding.
-use Rattle.gpu_descriptor.proofs.Common.{◌≡◌, ℕ, suc, ◌+◌, ◌-◌, ◌<◌, ◌≤◌, ◌==◌, true, false, List, [], ◌∷◌, ◌++◌, length, map, sum_by, slice_get, Option, Some, None, inl, inr, refl, sym, ap, ◌∙◌, arith, length-append, option_map_or, if◌then◌else◌, cases_Bool, cases_eq, cases_lt, length-map, sum_by-append, sum_by-cons, Pool, live_sets, LiveSet, set_eq, times, count_by_yes, count_by_no, counts_alike, set_exact, State, Agree, Item, item_eq, set_of, count_of, live_at, outstanding, Key, key_eq, Entry, Bucket, no_pools, books_of, HasDistinctKeys, sum_over, AddsUp, ∥∥₁_elim, ∥∥₁_map, ∥∥₁_prop, props, common_steps, items_at, marked_descriptors, set_descriptors, descriptors_out, allocated_in, sets_out, IsBookedIn}
+use Rattle.std.specs.List.{find}
+use Rattle.gpu_descriptor.proofs.Common.{list_all, nat_lt, and_parts, ltb-true, ne_eqb, eqb-true, eqb-false, rises, numbers_of, ◌≡◌, ℕ, suc, ◌+◌, ◌<◌, ◌≤◌, ◌==◌, true, false, List, [], ◌∷◌, ◌++◌, length, map, sum_by, slice_get, Option, Some, None, inl, inr, refl, sym, ap, ◌∙◌, arith, length-append, if◌then◌else◌, cases_Bool, cases_lt, length-map, sum_by-append, sum_by-cons, Pool, live_sets, LiveSet, set_eq, times, count_by_yes, count_by_no, counts_alike, set_exact, State, Agree, Item, item_eq, set_of, count_of, live_at, outstanding, Key, key_eq, Entry, Bucket, no_pools, books_of, HasDistinctKeys, sum_over, AddsUp, ∥∥₁_elim, ∥∥₁_map, ∥∥₁_prop, props, common_steps, items_at, marked_descriptors, set_descriptors, descriptors_out, allocated_in, sets_out, IsBookedIn}
 use Rattle.gpu_descriptor.proofs.table.Exact.{bucket, item_exact, key_exact}
 use Rattle.gpu_descriptor.proofs.callers.HeldSets.{count_of-append}
-use Rattle.gpu_descriptor.proofs.request.KeyAgrees.{place_of_items, count_append, count_of_items, count_elsewhere, live_of, live_below, live_from}
+use Rattle.gpu_descriptor.proofs.request.KeyAgrees.{place_of_items, count_append, count_of_items, count_elsewhere}
 use Rattle.gpu_descriptor.proofs.request.StateAgrees.{booked_of}
 use Rattle.gpu_descriptor.proofs.request.Rollback.{load_of_items}
 use Rattle.gpu_descriptor.proofs.table.Tables.{first_books, none_behind}
@@ -33,15 +34,25 @@ record OutOf (k : Key) (b : Bucket) (ledger : ℕ → Option Pool) : Type 0 wher
   of_key : (t : Item) → 0 < count_of t items → (t.key ≡ k) × (t.id ≡ b.id)
   each : (t : Item) → t.key ≡ k → t.id ≡ b.id → count_of t items ≡ live_at ledger b t
 
-none_out : (ledger : ℕ → Option Pool) (id first : ℕ) (t : Item) → live_at ledger (bucket id first []) t ≡ 0
-none_out ledger id first t = grind arith
+none_out : (ledger : ℕ → Option Pool) (id : ℕ) (t : Item) → live_at ledger (bucket id []) t ≡ 0
+none_out ledger id t = refl
 
-key_out : (k : Key) (id first : ℕ) (es : List Entry) (ledger : ℕ → Option Pool) → ((i : ℕ) (e : Entry) → slice_get es i ≡ Some e → IsBookedIn k ledger e) → ∥ OutOf k (bucket id first es) ledger ∥₁
+-- a number below all others is at no later place
+absent_behind : (es : List Entry) (n : ℕ) → list_all (nat_lt n) (numbers_of es) ≡ true → find (λ e. e.number == n) es ≡ None
+absent_behind [] n h = refl
+absent_behind (e ∷ es) n h =
+    let both = and_parts (nat_lt n e.number) (list_all (nat_lt n) (numbers_of es)) h in
+    let above = ltb-true n e.number both.0 in
+    rw (ne_eqb e.number n (λ same. omega arith)) (absent_behind es n both.1)
+
+key_out : (k : Key) (id : ℕ) (es : List Entry) (ledger : ℕ → Option Pool) → rises (numbers_of es) ≡ true → ((i : ℕ) (e : Entry) → slice_get es i ≡ Some e → IsBookedIn k ledger e) → ∥ OutOf k (bucket id es) ledger ∥₁
 unfolding names_in
-key_out k id first [] ledger booked = ∣ record { items = []; many = refl; of_key = λ t some. absurd (omega arith); each = λ t key own_id. sym (none_out ledger id first t) } ∣₁
-key_out k id first (e ∷ es) ledger booked =
+key_out k id [] ledger rising booked = ∣ record { items = []; many = refl; of_key = λ t some. absurd (omega arith); each = λ t key own_id. sym (none_out ledger id t) } ∣₁
+key_out k id (e ∷ es) ledger rising booked =
     let own = booked 0 e refl in
-    ∥∥₁_elim own.booked.allocated ∥∥₁_prop (λ size. ∥∥₁_map (key_out k id (first + 1) es ledger (λ i. booked (suc i))) (λ rest.
+    let rise = and_parts (list_all (nat_lt e.number) (numbers_of es)) (rises (numbers_of es)) rising in
+    let first : ℕ = e.number in
+    ∥∥₁_elim own.booked.allocated ∥∥₁_prop (λ size. ∥∥₁_map (key_out k id es ledger rise.1 (λ i. booked (suc i))) (λ rest.
     let names = names_in size.0 in
     let same = by_name k.counts size.0 (λ x some. own.booked.sets x (let is = size.2 x in omega arith)) in
     record {
@@ -59,27 +70,18 @@ key_out k id first (e ∷ es) ledger booked =
       each = λ t key own_id.
           let sum = count_append t (items_at k id first names) rest.items in
           let later = rest.each t key own_id in
-          elim (cases_lt t.number first) [
-            | inl below ↦ (
-                let none = count_elsewhere k id first names t (λ bad. omega arith) in
-                let left = live_below ledger id (first + 1) es t (omega arith) in
-                let right = live_below ledger id first (e ∷ es) t below in
+          elim (cases_Bool (first == t.number)) [
+            | inl hit ↦ (
+                let here : t.number ≡ first = sym (eqb-true first t.number hit) in
+                let counted = count_of_items k id first names t key here own_id in
+                let spelled : times (live_sets k.counts names) (set_of t) ≡ own.pool.live (set_of t) = ap (λ (l : List LiveSet). times l (set_of t)) same ∙ size.2 (set_of t) in
+                let left : live_at ledger (bucket id es) t ≡ 0 = rw (ap (λ (n : ℕ). find (λ e. e.number == n) es) here ∙ absent_behind es first rise.0) refl in
+                let right : live_at ledger (bucket id (e ∷ es)) t ≡ own.pool.live (set_of t) = rw (hit, own.is_live) refl in
                 omega arith)
-            | inr above ↦ (elim (cases_eq t.number first) [
-              | inl here ↦ (
-                  let counted = count_of_items k id first names t key here own_id in
-                  let spelled : times (live_sets k.counts names) (set_of t) ≡ own.pool.live (set_of t) = ap (λ (l : List LiveSet). times l (set_of t)) same ∙ size.2 (set_of t) in
-                  let place : t.number - first ≡ 0 = omega arith in
-                  let left = live_below ledger id (first + 1) es t (omega arith) in
-                  let right : live_at ledger (bucket id first (e ∷ es)) t ≡ own.pool.live (set_of t) = live_from ledger id first (e ∷ es) t above ∙ ap (λ (n : ℕ). live_of ledger (slice_get (e ∷ es) n) (set_of t)) place ∙ ap (λ (o : Option Pool). option_map_or (λ (p : Pool). p.live (set_of t)) o 0) own.is_live in
-                  omega arith)
-              | inr there ↦ (
-                  let none = count_elsewhere k id first names t there in
-                  let place : t.number - first ≡ suc (t.number - (first + 1)) = omega arith in
-                  let left = live_from ledger id (first + 1) es t (omega arith) in
-                  let right : live_at ledger (bucket id first (e ∷ es)) t ≡ live_of ledger (slice_get es (t.number - (first + 1))) (set_of t) = live_from ledger id first (e ∷ es) t above ∙ ap (λ (n : ℕ). live_of ledger (slice_get (e ∷ es) n) (set_of t)) place in
-                  omega arith)
-            ])
+            | inr miss ↦ (
+                let none = count_elsewhere k id first names t (λ same. eqb-false first t.number miss (sym same)) in
+                let right : live_at ledger (bucket id (e ∷ es)) t ≡ live_at ledger (bucket id es) t = rw miss refl in
+                omega arith)
           ];
     }))
 
@@ -88,7 +90,7 @@ abbrev out_at : (ℕ → Option Pool) → Bucket → Item → ℕ
 out_at ledger b t = if b.id == t.id then live_at ledger b t else 0
 
 out_of_none : (ledger : ℕ → Option Pool) (t : Item) → out_at ledger no_pools t ≡ 0
-out_of_none ledger t = elim (cases_Bool (0 == t.id)) [ inl same ↦ rw same (none_out ledger 0 0 t) | inr other ↦ rw other refl ]
+out_of_none ledger t = elim (cases_Bool (0 == t.id)) [ inl same ↦ rw same (none_out ledger 0 t) | inr other ↦ rw other refl ]
 
 each_out : (k : Key) (b : Bucket) (ledger : ℕ → Option Pool) (out : OutOf k b ledger) (t : Item) → t.key ≡ k → count_of t out.items ≡ out_at ledger b t
 each_out k b ledger out t key = grind arith
@@ -97,11 +99,11 @@ each_out k b ledger out t key = grind arith
 abbrev OutOfAll : (ℕ → Option Pool) → List (Key × Bucket) → Type 0
 OutOfAll ledger table = (items : List Item) × (length items ≡ sum_over sets_out table) × ((t : Item) → count_of t items ≡ out_at ledger (books_of table t.key) t) × (marked_descriptors items ≡ sum_over descriptors_out table)
 
-table_out : (ledger : ℕ → Option Pool) (table : List (Key × Bucket)) → HasDistinctKeys table → ((k : Key) (i : ℕ) (e : Entry) → slice_get (books_of table k).pools i ≡ Some e → IsBookedIn k ledger e) → ∥ OutOfAll ledger table ∥₁
-table_out ledger [] distinct booked = ∣ ([], refl, (λ t. sym (out_of_none ledger t)), refl) ∣₁
-table_out ledger (row ∷ table) distinct booked =
-    ∥∥₁_elim (key_out row.0 row.1.id row.1.offset row.1.pools ledger (λ i e at. booked row.0 i e (ap (λ (b : Bucket). slice_get b.pools i) (first_books row table) ∙ at))) ∥∥₁_prop (λ here.
-    ∥∥₁_map (table_out ledger table distinct.1 (λ k i e at. booked k i e (appended k i e at))) (λ rest. (
+table_out : (ledger : ℕ → Option Pool) (table : List (Key × Bucket)) → HasDistinctKeys table → ((k : Key) → rises (numbers_of (books_of table k).pools) ≡ true) → ((k : Key) (i : ℕ) (e : Entry) → slice_get (books_of table k).pools i ≡ Some e → IsBookedIn k ledger e) → ∥ OutOfAll ledger table ∥₁
+table_out ledger [] distinct rising booked = ∣ ([], refl, (λ t. sym (out_of_none ledger t)), refl) ∣₁
+table_out ledger (row ∷ table) distinct rising booked =
+    ∥∥₁_elim (key_out row.0 row.1.id row.1.pools ledger (ap (λ (b : Bucket). rises (numbers_of b.pools)) (sym (first_books row table)) ∙ rising row.0) (λ i e at. booked row.0 i e (ap (λ (b : Bucket). slice_get b.pools i) (first_books row table) ∙ at))) ∥∥₁_prop (λ here.
+    ∥∥₁_map (table_out ledger table distinct.1 rise (λ k i e at. booked k i e (appended k i e at))) (λ rest. (
       here.items ++ rest.0,
       (let both = length-append here.items rest.0 in let whole = sum_by-cons (λ (r : Key × Bucket). sets_out r.0 r.1) row table in omega arith),
       (λ t.
@@ -126,6 +128,12 @@ table_out ledger (row ∷ table) distinct booked =
           omega arith),
     )))
   where
+    rise : (k : Key) → rises (numbers_of (books_of table k).pools) ≡ true
+    rise k = elim (cases_Bool (key_eq row.0 k)) [
+      | inl same ↦ ap (λ (b : Bucket). rises (numbers_of b.pools)) (none_behind row table distinct k same)
+      | inr other ↦ (let here = rising k in rw other at here)
+    ]
+
     appended : (k : Key) (i : ℕ) (e : Entry) → slice_get (books_of table k).pools i ≡ Some e → slice_get (books_of (row ∷ table) k).pools i ≡ Some e
     appended k i e at = elim (cases_Bool (key_eq row.0 k)) [
       | inl same ↦ absurd (let bad : ◌≡◌ {A = Option Entry} None (Some e) = ap (λ (b : Bucket). slice_get b.pools i) (sym (none_behind row table distinct k same)) ∙ at in cc)
@@ -134,7 +142,7 @@ table_out ledger (row ∷ table) distinct booked =
 
 -- the sets that are out of a table which keeps the books
 all_out : (s : State) (f : Key → Bucket → ℕ) (n : ℕ) → Agree s → (out : AddsUp f s.books n) → ∥ OutOfAll s.ledger out.table ∥₁
-all_out s f n agree out = table_out s.ledger out.table out.distinct (λ k i e at. (booked_of s k agree).each i e (ap (λ (b : Bucket). slice_get b.pools i) (sym (out.keeps k)) ∙ at))
+all_out s f n agree out = table_out s.ledger out.table out.distinct (λ k. ap (λ (b : Bucket). rises (numbers_of b.pools)) (out.keeps k) ∙ agree.rising k) (λ k i e at. (booked_of s k agree).each i e (ap (λ (b : Bucket). slice_get b.pools i) (sym (out.keeps k)) ∙ at))
 
 pub out_is_size : (s : State) (n : ℕ) → Agree s → AddsUp sets_out s.books n → ∥ ((items : List Item) × (length items ≡ n) × ((t : Item) → count_of t items ≡ outstanding s t)) ∥₁
 out_is_size s n agree out = ∥∥₁_map (all_out s sets_out n agree out) (λ all. (all.0, all.1 ∙ out.total, λ t. all.2 t ∙ ap (λ (b : Bucket). out_at s.ledger b t) (out.keeps t.key)))

@@ -33,6 +33,6 @@ item_exact = record {
   self = λ s. item_from s s refl refl refl refl;
 }
 
--- the pools of a key, with its id and the number of the first
-abbrev pub bucket : ℕ → ℕ → List Entry → Bucket
-bucket id first es = record { id = id; offset = first; pools = es }
+-- the pools of a key, with its id
+abbrev pub bucket : ℕ → List Entry → Bucket
+bucket id es = record { id = id; pools = es }

@@ -29,7 +29,7 @@ module _ {P : Type 0} (name : P → ℕ) where
   rows_in es = map (λ e. (key_of e.0, bucket_of name e.1)) es
 
   pub row_bucket : (r : BucketKey × DescriptorBucket P) → (named_row name (row_of r)).1 ≡ bucket_of name r.1
-  row_bucket r = λ i. record { id = r.1.id; offset = r.1.offset; pools = entries r.1.pools.items i }
+  row_bucket r = λ i. record { id = r.1.id; pools = entries r.1.pools.items i }
 
   -- a look-up in the map is what the books have
   pub looked_up : (test : BucketKey → Bool) (k : Key) → ((l : BucketKey) → test l ≡ key_eq k (key_of l)) → (es : List (BucketKey × DescriptorBucket P)) → books_in name (map row_of es) k ≡ option_map_or (bucket_of name) (lookup test es) no_pools

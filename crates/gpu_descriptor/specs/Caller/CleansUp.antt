@@ -1,8 +1,8 @@
--- What cleaning up leaves of an allocator and of the ledger.
-use Rattle.std.specs.Prelude.{◌≡◌}
+-- What cleaning up and trimming leave of an allocator and of the ledger.
+use Rattle.std.specs.Prelude.{◌≡◌, Bool, true, false}
 use Rattle.gpu_descriptor_types.specs.Meaning.{Meaning}
 use Rattle.gpu_descriptor_types.specs.Side.{Side}
-use Rattle.gpu_descriptor.specs.Model.Cleanup.{IsCleaned, pools_cleaned}
+use Rattle.gpu_descriptor.specs.Model.Cleanup.{LosesEmpty, pools_lost}
 use Rattle.gpu_descriptor.specs.Model.Promises.{KeepsOutstanding}
 use Rattle.gpu_descriptor.specs.Model.Release.{more_destroyed}
 use Rattle.gpu_descriptor.specs.Caller.Keys.{keys_with_pools}
@@ -10,11 +10,11 @@ use Rattle.gpu_descriptor.specs.Caller.Others.{others_of}
 use Rattle.gpu_descriptor.specs.Caller.States.{keys_of, marked_load_of, outstanding_of, state_of}
 use Rattle.gpu_descriptor.specs.Caller.Values.{Allocations}
 
-pub record CleansUp {L P S : Type 0} (means : Meaning L P S) (old new : Side (Allocations P)) : Type 0 where
-  -- each key loses the empty pools at its front, the last pool too
-  pub cleaned : IsCleaned (state_of means.pool_name old.value old.ledger) (state_of means.pool_name new.value new.ledger)
+pub record Sweeps (everywhere : Bool) {L P S : Type 0} (means : Meaning L P S) (old new : Side (Allocations P)) : Type 0 where
+  -- each key loses its empty pools, or those at its front, the last pool too
+  pub cleaned : LosesEmpty everywhere (state_of means.pool_name old.value old.ledger) (state_of means.pool_name new.value new.ledger)
   -- all other counters stay
-  pub destroyed : new.ledger.counters ≡ more_destroyed (pools_cleaned (keys_of old.value) (state_of means.pool_name old.value old.ledger)) old.ledger.counters
+  pub destroyed : new.ledger.counters ≡ more_destroyed (pools_lost everywhere (keys_of old.value) (state_of means.pool_name old.value old.ledger)) old.ledger.counters
   -- those that still have pools, in their order
   pub keys : keys_of new.value ≡ keys_with_pools (state_of means.pool_name new.value new.ledger) (keys_of old.value)
   -- the same sets are outstanding as before
@@ -25,3 +25,11 @@ pub record CleansUp {L P S : Type 0} (means : Meaning L P S) (old new : Side (Al
   pub emptied : outstanding_of old.value ≡ 0 → new.ledger.pools ≡ others_of means.pool_name old.value old.ledger
   -- no pool is looked at, and nothing is compared
   pub counts_stay : (new.value.looks ≡ old.value.looks) × (new.value.comparisons ≡ old.value.comparisons)
+
+-- the empty pools at the front of each key go
+abbrev pub CleansUp : {L P S : Type 0} → Meaning L P S → (old new : Side (Allocations P)) → Type 0
+CleansUp means old new = Sweeps false means old new
+
+-- all empty pools go
+abbrev pub TrimsPools : {L P S : Type 0} → Meaning L P S → (old new : Side (Allocations P)) → Type 0
+TrimsPools means old new = Sweeps true means old new

@@ -41,7 +41,7 @@ module _ {L P S : Type 0} (means : Meaning L P S) where
     pub keys : keys_of new.value ≡ keys_of old.value
     -- no pool is looked at
     pub looks_stay : new.value.looks ≡ old.value.looks
-    -- for each run at most as many as the number of its key's open pools has binary digits, once the runs before it are freed
+    -- for each run at most as many as the number of its key's open pools has binary digits, once the runs before it are freed. If the numbers of its pools then have gaps, the digits of how many these are come to that
     pub comparisons : new.value.comparisons ≤ old.value.comparisons + run_digits (state_of means.pool_name old.value old.ledger) (items_of means.set_name sets)
     -- the number of comparisons never falls
     pub compared : old.value.comparisons ≤ new.value.comparisons

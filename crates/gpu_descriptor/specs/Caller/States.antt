@@ -9,11 +9,11 @@ use Rattle.gpu_descriptor.specs.Caller.Values.{Allocations}
 module _ {P : Type 0} (name : P → ℕ) where
   -- a pool in the books, under the name that the device gives it
   abbrev pub named : EntryOf P → Entry
-  named e = record { pool = name e.pool; capacity = e.capacity; allocated = e.allocated; available = e.available }
+  named e = record { number = e.number; pool = name e.pool; capacity = e.capacity; allocated = e.allocated; available = e.available }
 
   -- and a bucket, and a row
   abbrev pub named_bucket : BucketOf P → Bucket
-  named_bucket b = record { id = b.id; offset = b.offset; pools = map named b.pools }
+  named_bucket b = record { id = b.id; pools = map named b.pools }
 
   abbrev pub named_row : Key × BucketOf P → Key × Bucket
   named_row r = (r.0, named_bucket r.1)

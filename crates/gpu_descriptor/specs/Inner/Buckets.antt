@@ -4,6 +4,7 @@ use Rattle.gpu_descriptor_types.specs.Ledger.{Pool, Ledger}
 use Rattle.gpu_descriptor.specs.declared.bucket.DescriptorBucket.{DescriptorBucket}
 use Rattle.gpu_descriptor.specs.Model.Agreement.{IsAsBooked}
 use Rattle.gpu_descriptor.specs.Model.Books.{Key, Entry, Bucket}
+use Rattle.gpu_descriptor.specs.Model.Cleanup.{are_named}
 use Rattle.gpu_descriptor.specs.Model.Release.{empty_front, without_front, in_front, more_destroyed}
 
 -- an entry has its pool in the ledger
@@ -33,6 +34,10 @@ ledger_without n b l = record { pools = λ p. if in_front n b p then None else l
 -- the ledger after the pools were destroyed that a trimmed bucket lost
 abbrev pub trimmed_ledger : ℕ → Bucket → Ledger → Ledger
 trimmed_ledger keep b l = ledger_without (front_but keep b) b l
+
+-- the ledger after these pools were destroyed
+abbrev pub ledger_but : List Entry → Ledger → Ledger
+ledger_but gone l = record { pools = λ p. if are_named gone p then None else l.pools p; counters = more_destroyed (length gone) l.counters }
 
 module _ {P : Type 0} where
   -- the key has pools

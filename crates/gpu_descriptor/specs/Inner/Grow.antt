@@ -5,7 +5,7 @@ use Rattle.gpu_descriptor_types.specs.Ledger.{Ledger, live_sets, on_pool, fresh,
 use Rattle.gpu_descriptor_types.specs.PoolSize.{pool_counts}
 use Rattle.gpu_descriptor.specs.declared.bucket.stop.Stop.{Stop}
 use Rattle.gpu_descriptor.specs.Model.Outcomes.{risen, StopsAt}
-use Rattle.gpu_descriptor.specs.Model.Books.{Key, Entry, Bucket}
+use Rattle.gpu_descriptor.specs.Model.Books.{Key, Entry, Bucket, number_after, numbers_of}
 use Rattle.gpu_descriptor.specs.Model.Agreement.{Item, flags_of}
 use Rattle.gpu_descriptor.specs.Model.Load.{allocated_in, pool_descriptors}
 use Rattle.gpu_descriptor.specs.Model.Shares.{rest, all_shared}
@@ -21,7 +21,7 @@ pub record IsGrown (most : Option ℕ) (k : Key) (room left total wanted : ℕ) 
   pub given : pool.given ≡ min pool.size wanted
   pub many : length names ≡ pool.given
   pub is_new : before.pools pool.pool ≡ None
-  pub entries : new ≡ old ++ fresh_entry pool ∷ []
+  pub entries : new ≡ old ++ fresh_entry (number_after (numbers_of old)) pool ∷ []
   pub pools : after.pools ≡ on_pool pool.pool (pool_with (live_sets k.counts names) false) (update nat_eq before.pools pool.pool (Some (fresh (pool_counts k.counts pool.size) pool.size (flags_of k))))
   pub counters : after.counters ≡ risen (record no_rise { created = 1; asked = 1 }) before.counters
 

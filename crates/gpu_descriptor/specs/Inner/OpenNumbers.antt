@@ -1,13 +1,22 @@
--- Which pools of a key are open: have known free places.
-use Rattle.std.specs.Prelude.{◌≡◌, ◌≤◌, ◌<◌, ℕ, zero, suc, List, [], ◌∷◌, map, length, insert}
+-- Which pools of a key are open, have known free places; and their ordinals.
+use Rattle.gpu_descriptor.specs.Model.Books.{number_after}
+use Rattle.std.specs.Prelude.{◌≡◌, ◌-◌, ◌≤◌, ◌<◌, ℕ, zero, suc, List, [], ◌∷◌, map, length, insert}
 use Rattle.std.specs.List.Sorted.{IsPartitionPoint}
 use Rattle.gpu_descriptor.specs.declared.bucket.DescriptorPool.{DescriptorPool}
 
--- the numbers of the open pools, rising. The first pool has the number first, and free says of each pool how many places it is known to have
+-- the ordinals of the open pools, rising. The first pool has the ordinal first, and free says of each pool how many places it is known to have
 abbrev pub open_numbers : ℕ → List ℕ → List ℕ
 open_numbers first [] = []
 open_numbers first (zero ∷ free) = open_numbers (suc first) free
 open_numbers first (suc n ∷ free) = first ∷ open_numbers (suc first) free
+
+-- the numbers of a bucket's pools
+abbrev pub stored_numbers : {P : Type 0} → List (DescriptorPool P) → List ℕ
+stored_numbers pools = map (λ p. p.number) pools
+
+-- the ordinal of the first pool: so that the last pool's ordinal is its number
+abbrev pub first_ordinal : {P : Type 0} → List (DescriptorPool P) → ℕ
+first_ordinal pools = number_after (stored_numbers pools) - length pools
 
 abbrev pub free_in : {P : Type 0} → List (DescriptorPool P) → List ℕ
 free_in pools = map (λ p. p.available) pools

@@ -1,6 +1,6 @@
 -- A key's pools, as the walk of a request sees them.
 use Rattle.gpu_descriptor.specs.Inner.Stored.{entry_of}
-use Rattle.std.specs.Prelude.{◌≡◌, ℕ, ◌+◌, [], Option, map}
+use Rattle.std.specs.Prelude.{◌≡◌, ℕ, ◌+◌, ◌-◌, [], Option, length, map, slice_index}
 use Rattle.std.specs.VecDeque.{deque_with_item}
 use Rattle.std.specs.Borrow.{LendsIf, MutBor, Fml, RattleType}
 use mir.Syntax.{named}
@@ -23,11 +23,15 @@ module _ {P : Type 0} where
 
   -- the key's pools, as the view has them
   abbrev pub bucket_in : (P → ℕ) → OpenPools P → Bucket
-  bucket_in name v = record { id = v.id; offset = v.offset; pools = map (entry_of name) v.pools.now.items }
+  bucket_in name v = record { id = v.id; pools = map (entry_of name) v.pools.now.items }
 
-  -- the numbers start where they did, and the view is over the same values
+  -- the ordinals start where they did, and the view is over the same values
   abbrev pub KeepsView : OpenPools P → OpenPools P → Type 0
   KeepsView old new = (new.offset ≡ old.offset) × (new.pools.ghost_name ≡ old.pools.ghost_name) × (new.listed.ghost_name ≡ old.listed.ghost_name) × (new.looks.ghost_name ≡ old.looks.ghost_name) × (new.id ≡ old.id)
+
+  -- the place of the newest pool in the list
+  abbrev pub newest_place : OpenPools P → ℕ
+  newest_place v = slice_index v.listed.now.items (length v.listed.now.items - 1) - v.offset
 
   -- the view after a pool was looked at and left so
   abbrev pub looked_at : OpenPools P → ℕ → DescriptorPool P → OpenPools P

@@ -1,5 +1,5 @@
 -- How one run is freed: at its key's pools, and at the allocator.
-use Rattle.std.specs.Prelude.{◌≡◌, ℕ, List, ◌∷◌, length, Option, ◌-◌, ◌≤◌, map, set, Some}
+use Rattle.std.specs.Prelude.{◌≡◌, ℕ, List, ◌∷◌, length, Option, ◌≤◌, map, set, slice_get, Some}
 use Rattle.gpu_descriptor_types.specs.Ledger.{Ledger, Pool, after_release, live_sets}
 use Rattle.gpu_descriptor.specs.declared.set.DescriptorSet.{DescriptorSet}
 use Rattle.gpu_descriptor.specs.Model.Agreement.{live_in}
@@ -19,15 +19,17 @@ pub record IsTakenAt (k : Key) (number : ℕ) (names : List ℕ) (b : Bucket) (p
   pub fits : length names ≤ entry.allocated
   pub live : (x : LiveSet) → times (live_sets k.counts names) x ≤ live_in pools entry.pool x
 
--- the bucket once n sets of the pool with the number are freed
+-- the bucket once n sets of the pool at a place are freed
 abbrev pub bucket_back : Bucket → ℕ → ℕ → Entry → Bucket
-bucket_back b number n e = record b { pools = set b.pools (number - b.offset) (entry_less n e) }
+bucket_back b place n e = record b { pools = set b.pools place (entry_less n e) }
 
 -- sets of these names are freed: the entry of their pool has as many fewer, and the ledger's pool lacks them
 pub record Releases (k : Key) (number : ℕ) (names : List ℕ) (old : Bucket) (before : Ledger) (new : Bucket) (after : Ledger) : Type 0 where
+  pub place : ℕ
   pub entry : Entry
-  pub at : entry_at old number ≡ Some entry
-  pub books : new ≡ bucket_back old number (length names) entry
+  pub at : slice_get old.pools place ≡ Some entry
+  pub named : entry.number ≡ number
+  pub books : new ≡ bucket_back old place (length names) entry
   pub ledger : after ≡ after_release entry.pool (live_sets k.counts names) before
 
 -- the names of the raw sets

@@ -1,5 +1,5 @@
 -- The table of keys, as the code has it.
-use Rattle.std.specs.Prelude.{◌≡◌, ℕ, ◌+◌, ◌≤◌, List, map, sum_by}
+use Rattle.std.specs.Prelude.{◌≡◌, ℕ, ◌+◌, ◌≤◌, Bool, nat_lt, List, map, sum_by}
 use Rattle.gpu_descriptor.specs.declared.key.BucketKey.{BucketKey}
 use Rattle.gpu_descriptor.specs.declared.bucket.DescriptorPool.{DescriptorPool}
 use Rattle.gpu_descriptor.specs.declared.bucket.DescriptorBucket.{DescriptorBucket}
@@ -10,10 +10,10 @@ use Rattle.gpu_descriptor.specs.Inner.KeyOf.{key_of}
 
 module _ {P : Type 0} where
   abbrev pub kept_of : DescriptorPool P → EntryOf P
-  kept_of p = record { pool = p.raw; capacity = p.capacity; allocated = p.allocated; available = p.available }
+  kept_of p = record { number = p.number; pool = p.raw; capacity = p.capacity; allocated = p.allocated; available = p.available }
 
   abbrev pub kept_in : DescriptorBucket P → BucketOf P
-  kept_in b = record { id = b.id; offset = b.offset; pools = map kept_of b.pools.items }
+  kept_in b = record { id = b.id; pools = map kept_of b.pools.items }
 
   abbrev pub row_of : BucketKey × DescriptorBucket P → Key × BucketOf P
   row_of r = (key_of r.0, kept_in r.1)
@@ -22,10 +22,9 @@ module _ {P : Type 0} where
   abbrev pub stored_keys : List (BucketKey × DescriptorBucket P) → List Key
   stored_keys es = map (λ r. key_of r.0) es
 
-  -- they are pools of the same key, and have the same numbers
-  pub record KeepsNumbers (old new : DescriptorBucket P) : Type 0 where
-    pub id : new.id ≡ old.id
-    pub offset : new.offset ≡ old.offset
+  -- whether a set is allocated from the pool
+  abbrev pub has_sets : DescriptorPool P → Bool
+  has_sets p = nat_lt 0 p.allocated
 
   -- the descriptors of these pools of a key, if it is marked
   abbrev pub stored_load : Key → List (DescriptorPool P) → ℕ
@@ -48,7 +47,7 @@ module _ {P : Type 0} where
     entry_of p = named name (kept_of p)
 
     abbrev pub bucket_of : DescriptorBucket P → Bucket
-    bucket_of b = record { id = b.id; offset = b.offset; pools = map entry_of b.pools.items }
+    bucket_of b = record { id = b.id; pools = map entry_of b.pools.items }
 
 -- the books of a table, under the names of its pools
 abbrev pub books_in : {P : Type 0} → (P → ℕ) → List (Key × BucketOf P) → Key → Bucket

@@ -1,11 +1,11 @@
 -- Books and ledger side by side: how the two agree, and which sets are outstanding.
-use Rattle.std.specs.Prelude.{◌<◌, ◌≡◌, ℕ, ◌+◌, ◌≤◌, Bool, ◌==◌, ◌&&◌, if◌then◌else◌, List, [], count_by, Option, Some}
+use Rattle.std.specs.Prelude.{◌<◌, ◌≡◌, ℕ, ◌+◌, ◌≤◌, Bool, true, ◌==◌, ◌&&◌, if◌then◌else◌, List, [], count_by, slice_get, Option, Some}
 use Rattle.std.specs.Option.{option_map_or}
 use Rattle.gpu_descriptor_types.specs.Ledger.{Pool}
 use Rattle.gpu_descriptor_types.specs.Multiset.{HasSize, LiveSet}
 use Rattle.gpu_descriptor_types.specs.Flags.{pool_flags}
 use Rattle.gpu_descriptor_types.specs.PoolSize.{greatest_pool_size, pool_counts}
-use Rattle.gpu_descriptor.specs.Model.Books.{Key, key_eq, Entry, Bucket, entry_at, no_pools}
+use Rattle.gpu_descriptor.specs.Model.Books.{Key, key_eq, Entry, Bucket, entry_at, no_pools, numbers_of, rises}
 
 -- the books by key, and the ledger's pools by name: of the ledger no counters
 pub record State : Type 0 where
@@ -79,7 +79,7 @@ pub record IsAsBooked (k : Key) (pool : Pool) (e : Entry) : Type 0 where
 -- books and ledger agree
 pub record Agree (s : State) : Type 0 where
   -- no two places of the books name one pool
-  pub distinct : (k l : Key) (m n : ℕ) (d e : Entry) → entry_at (s.books k) m ≡ Some d → entry_at (s.books l) n ≡ Some e → d.pool ≡ e.pool → (k ≡ l) × (m ≡ n)
-  pub booked : (k : Key) (n : ℕ) (e : Entry) → entry_at (s.books k) n ≡ Some e → (pool : Pool) × (s.ledger e.pool ≡ Some pool) × IsAsBooked k pool e
-  -- a key without pools has the first number 0
-  pub absent : (k : Key) → (s.books k).pools ≡ [] → (s.books k).offset ≡ 0
+  pub distinct : (k l : Key) (i j : ℕ) (d e : Entry) → slice_get (s.books k).pools i ≡ Some d → slice_get (s.books l).pools j ≡ Some e → d.pool ≡ e.pool → (k ≡ l) × (i ≡ j)
+  pub booked : (k : Key) (i : ℕ) (e : Entry) → slice_get (s.books k).pools i ≡ Some e → (pool : Pool) × (s.ledger e.pool ≡ Some pool) × IsAsBooked k pool e
+  -- a pool's number is greater than that of each older one of its key
+  pub rising : (k : Key) → rises (numbers_of (s.books k).pools) ≡ true

@@ -1,6 +1,6 @@
 -- What the allocator keeps of its pools: for each key a list of pools, and sums over all keys.
-use Rattle.std.specs.Prelude.{◌≡◌, ℕ, ◌+◌, ◌-◌, Bool, false, ◌&&◌, nat_eq, nat_lt, if◌then◌else◌, List, [], ◌∷◌, length, slice_get, sum_by, Option, None}
-use Rattle.std.specs.List.{list_any}
+use Rattle.std.specs.Prelude.{◌≡◌, ℕ, ◌+◌, Bool, true, false, ◌==◌, ◌&&◌, nat_eq, nat_lt, if◌then◌else◌, List, [], ◌∷◌, map, sum_by, Option}
+use Rattle.std.specs.List.{find, list_all, list_any}
 use lib.Pointwise.{pointwise}
 use mathlib.Core.Bool.{beq}
 
@@ -12,17 +12,17 @@ pub record Key : Type 0 where
 abbrev pub key_eq : Key → Key → Bool
 key_eq k l = pointwise nat_eq k.counts l.counts && beq k.marked l.marked
 
--- a pool in the books: its capacity in sets, how many sets are allocated, how many free places are known
+-- a pool in the books: its number among those of its key, its capacity in sets, how many sets are allocated, how many free places are known
 pub record EntryOf (X : Type 0) : Type 0 where
+  pub number : ℕ
   pub pool : X
   pub capacity : ℕ
   pub allocated : ℕ
   pub available : ℕ
 
--- the pools of a key, oldest first. The one at place i has the number offset + i. Sets of the key have its id
+-- the pools of a key, oldest first. Sets of the key have its id
 pub record BucketOf (X : Type 0) : Type 0 where
   pub id : ℕ
-  pub offset : ℕ
   pub pools : List (EntryOf X)
 
 -- with the names that the device gives to pools
@@ -34,18 +34,34 @@ Bucket = BucketOf ℕ
 
 -- the pool that has the number
 abbrev pub entry_at : Bucket → ℕ → Option Entry
-entry_at b n = if nat_lt n b.offset then None else slice_get b.pools (n - b.offset)
+entry_at b n = find (λ e. e.number == n) b.pools
 
--- the number of the key's next pool
-abbrev pub next_number : Bucket → ℕ
-next_number b = b.offset + length b.pools
+-- whether each number is below all after it
+abbrev pub rises : List ℕ → Bool
+rises [] = true
+rises (n ∷ later) = list_all (nat_lt n) later && rises later
+
+-- one more than the last of the numbers, or 0
+abbrev pub number_after : List ℕ → ℕ
+number_after [] = 0
+number_after (n ∷ []) = n + 1
+number_after (n ∷ m ∷ later) = number_after (m ∷ later)
+
+module _ {X : Type 0} where
+  -- the numbers of these pools
+  abbrev pub numbers_of : List (EntryOf X) → List ℕ
+  numbers_of pools = map (λ e. e.number) pools
+
+  -- the number of the key's next pool: one more than the newest's
+  abbrev pub next_number : BucketOf X → ℕ
+  next_number b = number_after (map (λ e. e.number) b.pools)
 
 -- ---- the books of all keys, and a table that keeps them in some order
 
 module _ {X : Type 0} where
   -- what a key has that never came
   abbrev pub no_pools : BucketOf X
-  no_pools = record { id = 0; offset = 0; pools = [] }
+  no_pools = record { id = 0; pools = [] }
 
   -- the books that a table keeps, whatever its order
   abbrev pub books_of : List (Key × BucketOf X) → Key → BucketOf X

@@ -1,19 +1,44 @@
--- What cleaning up leaves: each key loses the empty pools at its front, the last pool too.
-use Rattle.std.specs.Prelude.{◌≡◌, ℕ, true, false, ◌==◌, if◌then◌else◌, List, length, sum_by, None}
-use Rattle.gpu_descriptor.specs.Model.Books.{Key, Bucket, no_pools}
+-- What cleaning up and trimming leave: each key loses the empty pools at its front, or all empty ones.
+use Rattle.std.specs.Prelude.{◌≡◌, ℕ, Bool, true, false, nat_lt, ◌==◌, if◌then◌else◌, List, [], ◌∷◌, drop, filter, length, sum_by, take, None}
+use Rattle.std.specs.List.{list_any, prefix_len}
+use Rattle.gpu_descriptor.specs.Model.Books.{Key, Entry, Bucket, no_pools}
 use Rattle.gpu_descriptor.specs.Model.Agreement.{State}
-use Rattle.gpu_descriptor.specs.Model.Release.{empty_front, without_front, in_front}
+use Rattle.gpu_descriptor.specs.Model.Release.{is_empty}
 
--- the bucket without its empty front. With no pool left it is as one that never came
-abbrev pub cleaned_bucket : Bucket → Bucket
-cleaned_bucket b = if empty_front b == length b.pools then no_pools else without_front (empty_front b) b
+-- whether one of the pools has the name
+abbrev pub are_named : List Entry → ℕ → Bool
+are_named pools pool = list_any (λ e. e.pool == pool) pools
 
--- Each key loses its empty front. A pool in such a front is gone, and every other stays
-pub record IsCleaned (old new : State) : Type 0 where
-  pub books : (k : Key) → new.books k ≡ cleaned_bucket (old.books k)
-  pub gone : (k : Key) (pool : ℕ) → in_front (empty_front (old.books k)) (old.books k) pool ≡ true → new.ledger pool ≡ None
-  pub kept : (pool : ℕ) → ((k : Key) → in_front (empty_front (old.books k)) (old.books k) pool ≡ false) → new.ledger pool ≡ old.ledger pool
+-- everywhere: all empty pools go. Else those at the front do, the last pool too
+module _ (everywhere : Bool) where
+  abbrev pub gone_of : List Entry → List Entry
+  gone_of pools = if everywhere then filter is_empty pools else take (prefix_len is_empty pools) pools
+
+  abbrev pub left_of : List Entry → List Entry
+  left_of pools = if everywhere then filter (λ e. nat_lt 0 e.allocated) pools else drop (prefix_len is_empty pools) pools
+
+-- the bucket with these of its pools. Without one it is as one that never came
+abbrev pub with_pools : Bucket → List Entry → Bucket
+with_pools b [] = no_pools
+with_pools b (e ∷ pools) = record b { pools = e ∷ pools }
+
+-- Each key keeps its other pools. A pool that goes is gone from the ledger, and every other stays
+pub record LosesEmpty (everywhere : Bool) (old new : State) : Type 0 where
+  pub books : (k : Key) → new.books k ≡ with_pools (old.books k) (left_of everywhere (old.books k).pools)
+  pub gone : (k : Key) (pool : ℕ) → are_named (gone_of everywhere (old.books k).pools) pool ≡ true → new.ledger pool ≡ None
+  pub kept : (pool : ℕ) → ((k : Key) → are_named (gone_of everywhere (old.books k).pools) pool ≡ false) → new.ledger pool ≡ old.ledger pool
+
+-- each key loses the empty pools at its front
+abbrev pub IsCleaned : State → State → Type 0
+IsCleaned old new = LosesEmpty false old new
+
+-- each key loses its empty pools
+abbrev pub IsTrimmed : State → State → Type 0
+IsTrimmed old new = LosesEmpty true old new
 
 -- how many pools of these keys are destroyed
+abbrev pub pools_lost : Bool → List Key → State → ℕ
+pools_lost everywhere keys s = sum_by (λ k. length (gone_of everywhere (s.books k).pools)) keys
+
 abbrev pub pools_cleaned : List Key → State → ℕ
-pools_cleaned keys s = sum_by (λ k. empty_front (s.books k)) keys
+pools_cleaned keys s = pools_lost false keys s

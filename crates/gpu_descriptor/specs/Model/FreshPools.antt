@@ -59,6 +59,11 @@ abbrev pub fresh_portions : ℕ → List Fresh → List Portion
 fresh_portions number [] = []
 fresh_portions number (f ∷ pools) = record { number = number; pool = f.pool; given = f.given } ∷ fresh_portions (number + 1) pools
 
--- the entry of a new pool
-abbrev pub fresh_entry : Fresh → Entry
-fresh_entry f = record { pool = f.pool; capacity = f.size; allocated = f.given; available = f.size - f.given }
+-- the entry of a new pool that has the number
+abbrev pub fresh_entry : ℕ → Fresh → Entry
+fresh_entry number f = record { number = number; pool = f.pool; capacity = f.size; allocated = f.given; available = f.size - f.given }
+
+-- the entries of new pools in order
+abbrev pub fresh_entries : ℕ → List Fresh → List Entry
+fresh_entries number [] = []
+fresh_entries number (f ∷ pools) = fresh_entry number f ∷ fresh_entries (number + 1) pools

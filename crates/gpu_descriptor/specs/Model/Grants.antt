@@ -6,7 +6,7 @@ use Rattle.gpu_descriptor_types.specs.PoolSize.{pool_counts}
 use Rattle.gpu_descriptor.specs.Model.Books.{Key, Bucket, key_eq, next_number}
 use Rattle.gpu_descriptor.specs.Model.Agreement.{State, Item, flags_of}
 use Rattle.gpu_descriptor.specs.Model.Shares.{all_shared, Portion, OnlyAskedRefuse, portions_of}
-use Rattle.gpu_descriptor.specs.Model.FreshPools.{Fresh, fresh_entry, AreNew, fresh_portions}
+use Rattle.gpu_descriptor.specs.Model.FreshPools.{Fresh, fresh_entries, AreNew, fresh_portions}
 
 -- sets that came from one pool
 pub record Part : Type 0 where
@@ -31,7 +31,7 @@ pub record IsGrantOf (n : ℕ) (b : Bucket) (ledger : ℕ → Option Pool) (g : 
   -- a key that has pools keeps its id
   pub id : 0 < length b.pools → g.id ≡ b.id
   pub refusing : OnlyAskedRefuse g.refused n (drop g.skipped b.pools)
-  pub parts : map portion_of g.parts ≡ portions_of g.refused n (b.offset + g.skipped) (drop g.skipped b.pools) ++ fresh_portions (next_number b) g.fresh
+  pub parts : map portion_of g.parts ≡ portions_of g.refused n (drop g.skipped b.pools) ++ fresh_portions (next_number b) g.fresh
   pub new : AreNew ledger g.fresh
 
 -- sets of a key's pool under these names
@@ -48,7 +48,7 @@ came parts pool = flat_map (λ p. if p.pool == pool then p.names else []) parts
 
 -- the pools of the key: the oldest left alone, the others with their shares given, the new ones last
 abbrev pub bucket_with : ℕ → Grant → Bucket → Bucket
-bucket_with n g b = record b { id = g.id; pools = take g.skipped b.pools ++ all_shared g.refused n (drop g.skipped b.pools) ++ map fresh_entry g.fresh }
+bucket_with n g b = record b { id = g.id; pools = take g.skipped b.pools ++ all_shared g.refused n (drop g.skipped b.pools) ++ fresh_entries (next_number b) g.fresh }
 
 -- the ledger's pool of this name, with the new ones
 abbrev pub fresh_or : Key → List Fresh → ℕ → Option Pool → Option Pool

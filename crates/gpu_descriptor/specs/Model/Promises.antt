@@ -1,9 +1,9 @@
 -- What a caller may read off a request without its outcomes.
 use Rattle.gpu_descriptor.specs.Model.Grants.{Grant}
 use Rattle.gpu_descriptor.specs.Model.FreshPools.{Fresh}
-use Rattle.std.specs.Prelude.{◌≡◌, ℕ, ◌+◌, ◌-◌, ◌*◌, ◌<◌, List, [], ◌∷◌, length, take, sum_by, All, Some, OnOk, false}
+use Rattle.std.specs.Prelude.{◌≡◌, ℕ, ◌+◌, ◌-◌, ◌*◌, ◌<◌, List, [], ◌∷◌, length, slice_get, take, sum_by, All, Some, OnOk, false}
 use Rattle.gpu_descriptor_types.specs.PoolSize.{pool_size_floor, start_size}
-use Rattle.gpu_descriptor.specs.Model.Books.{Key, Entry, entry_at, key_eq}
+use Rattle.gpu_descriptor.specs.Model.Books.{Key, Entry, key_eq}
 use Rattle.gpu_descriptor.specs.Model.Agreement.{State, Item, count_of, outstanding}
 use Rattle.gpu_descriptor.specs.Model.Outcomes.{Call, taken_by, out_then, wanting, Allocates}
 use Rattle.gpu_descriptor.specs.Model.Shares.{offer, all_shared}
@@ -44,7 +44,7 @@ CreatesOnlyWhereShort {c} outcome = c.before.created < c.after.created → (g : 
 -- the key's pools are as they were, in the books and on the device
 pub record IsUntouched (k : Key) (old new : State) : Type 0 where
   pub books : new.books k ≡ old.books k
-  pub pools : (n : ℕ) (e : Entry) → entry_at (old.books k) n ≡ Some e → new.ledger e.pool ≡ old.ledger e.pool
+  pub pools : (i : ℕ) (e : Entry) → slice_get (old.books k).pools i ≡ Some e → new.ledger e.pool ≡ old.ledger e.pool
 
 -- all other keys are untouched
 abbrev pub KeepsOtherKeys : Key → State → State → Type 0

@@ -42,9 +42,9 @@ empty_front b = prefix_len is_empty b.pools
 abbrev pub spent_front : Bucket → ℕ
 spent_front b = min (empty_front b) (length b.pools - 1)
 
--- the bucket without its first n pools. The others keep their numbers
+-- the bucket without its first n pools
 abbrev pub without_front : ℕ → Bucket → Bucket
-without_front n b = record b { offset = b.offset + n; pools = drop n b.pools }
+without_front n b = record b { pools = drop n b.pools }
 
 -- whether a pool is among the first n
 abbrev pub in_front : ℕ → Bucket → ℕ → Bool

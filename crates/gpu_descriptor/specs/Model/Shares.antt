@@ -53,7 +53,7 @@ module _ (refused : ℕ → Bool) where
     abbrev pub OnlyAskedRefuse : List Entry → Type 0
     OnlyAskedRefuse pools = (name : ℕ) → refused name ≡ true → asks pools name ≡ true
 
-    -- what the pools give, in the order in which they are asked: the newest first. The oldest has the given number
-    abbrev pub portions_of : ℕ → List Entry → List Portion
-    portions_of number [] = []
-    portions_of number (e ∷ newer) = portions_of (number + 1) newer ++ record { number = number; pool = e.pool; given = share newer e } ∷ []
+    -- what the pools give, in the order in which they are asked: the newest first
+    abbrev pub portions_of : List Entry → List Portion
+    portions_of [] = []
+    portions_of (e ∷ newer) = portions_of newer ++ record { number = e.number; pool = e.pool; given = share newer e } ∷ []

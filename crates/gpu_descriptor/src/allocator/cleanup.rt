@@ -1,8 +1,8 @@
-//! Cleaning up: the empty pools at the front of each key are destroyed.
+//! Cleaning up and trimming: empty pools are destroyed.
 ghost use Rattle.std.specs.Prelude.{◌≡◌};
 ghost use Rattle.gpu_descriptor_types.specs.Side.{side};
 ghost use Rattle.gpu_descriptor.specs.Inner.Buckets.{has_pools};
-ghost use Rattle.gpu_descriptor.specs.Caller.CleansUp.{CleansUp};
+ghost use Rattle.gpu_descriptor.specs.Caller.CleansUp.{CleansUp, Sweeps, TrimsPools};
 ghost use Rattle.gpu_descriptor.specs.Caller.Keeps.{Keeps};
 ghost use Rattle.gpu_descriptor.specs.Caller.States.{Agrees};
 
@@ -24,9 +24,35 @@ impl<P: Drop, S> DescriptorAllocator<P, S> {
         ensures keeps { Keeps D.meaning (side self.old (D.ledger device.old))
             (side self.new (D.ledger device.new)) }
     {
+        self.sweep(device, false);
+    }
+
+    /// Destroys all pools that have no set, wherever they stand, and forgets the keys that then have
+    /// none. It allocates nothing and can't fail.
+    ///
+    /// It goes over every pool, where `cleanup` stops at the first of a key that has a set. The
+    /// original has no such call. `device` must be that of all other calls.
+    pub fn trim<L, D: DescriptorDevice<L, P, S>>(&mut self, device: &mut D)
+        requires agree { Agrees D.meaning.pool_name self.old (D.ledger device.old) }
+        ensures trims { TrimsPools D.meaning (side self.old (D.ledger device.old))
+            (side self.new (D.ledger device.new)) }
+        ensures keeps { Keeps D.meaning (side self.old (D.ledger device.old))
+            (side self.new (D.ledger device.new)) }
+    {
+        self.sweep(device, true);
+    }
+
+    /// Destroys the empty pools everywhere, or at the front of each key.
+    fn sweep<L, D: DescriptorDevice<L, P, S>>(&mut self, device: &mut D, everywhere: bool)
+        requires agree { Agrees D.meaning.pool_name self.old (D.ledger device.old) }
+        ensures sweeps { Sweeps everywhere D.meaning (side self.old (D.ledger device.old))
+            (side self.new (D.ledger device.new)) }
+        ensures keeps { Keeps D.meaning (side self.old (D.ledger device.old))
+            (side self.new (D.ledger device.new)) }
+    {
         for place in 0..self.table.buckets.len() {
             let (key, bucket) = self.table.buckets.pair_mut(place);
-            bucket.destroy_empty_front(device, key, &mut self.budget.room, 0);
+            bucket.destroy_empty(device, key, &mut self.budget.room, everywhere);
         }
         self.table.buckets.retain(
             |_key: &BucketKey, bucket: &mut DescriptorBucket<P>| -> bool

@@ -3,7 +3,7 @@ ghost use Rattle.std.specs.Prelude.{◌≡◌, ◌+◌, ◌<◌, ◌≤◌, ◌�
 ghost use Rattle.std.specs.Iterator.{HoldsAlong, IsFinite, IsNearerEnd};
 ghost use Rattle.gpu_descriptor_types.specs.Side.{side};
 ghost use Rattle.gpu_descriptor.specs.Model.Agreement.{Agree, AreOutstanding};
-ghost use Rattle.gpu_descriptor.specs.Caller.Comparisons.{open_pools, binary_digits};
+ghost use Rattle.gpu_descriptor.specs.Caller.Comparisons.{search_digits};
 ghost use Rattle.gpu_descriptor.specs.Caller.Keeps.{Keeps};
 ghost use Rattle.gpu_descriptor.specs.Caller.Frees.{Frees, Returns};
 ghost use Rattle.gpu_descriptor.specs.Inner.Releases.{FreesRun};
@@ -100,8 +100,8 @@ impl<P, S> DescriptorAllocator<P, S> {
         ensures most { self.new.most ≡ self.old.most }
         ensures looks_stay { self.new.looks ≡ self.old.looks }
         ensures rises { self.old.comparisons ≤ self.new.comparisons }
-        ensures few { self.new.comparisons ≤ self.old.comparisons + binary_digits (open_pools
-            ((state_of D.meaning.pool_name self.old (D.ledger device.old)).books first.key.is)) }
+        ensures few { self.new.comparisons ≤ self.old.comparisons + search_digits
+            ((state_of D.meaning.pool_name self.old (D.ledger device.old)).books first.key.is) }
     {
         let place = self.table.place_of_id(first.id);
         self.table.last = place;

@@ -11,7 +11,8 @@ ghost use Rattle.gpu_descriptor.specs.Inner.Grow.{IsTaken};
 ghost use Rattle.gpu_descriptor.specs.Inner.KeyOf.{key_of};
 ghost use Rattle.gpu_descriptor.specs.Inner.OpenPools.{CountsLooks, IsListed, KeepsView, bucket_in};
 ghost use Rattle.gpu_descriptor.specs.Inner.SetAt.{set_at};
-ghost use Rattle.gpu_descriptor.specs.Inner.Stored.{KeepsNumbers, bucket_of, entry_of};
+ghost use Rattle.gpu_descriptor.specs.Inner.OpenNumbers.{stored_numbers};
+ghost use Rattle.gpu_descriptor.specs.Inner.Stored.{bucket_of, entry_of};
 ghost use Rattle.gpu_descriptor.specs.Inner.Walk.{IsAsked, IsNoMemory, IsWalked};
 
 use crate::bucket::open_pools::OpenPools;
@@ -140,7 +141,9 @@ impl<P> DescriptorBucket<P> {
             (D.ledger device.old) (D.ledger device.new)) }
         ensures own { PutsOfLayout D.meaning request.now.layout.now (K.items sink.old.sets)
             (K.items sink.new.sets) }
-        ensures numbers_stay { KeepsNumbers self.old self.new }
+        ensures id_stays { self.new.id ≡ self.old.id }
+        ensures numbers_stay { stored_numbers self.new.pools.items
+            ≡ stored_numbers self.old.pools.items }
         ensures front { K.items sink.new.sets ≡ K.items sink.old.sets
             ++ appended (K.items sink.old.sets) (K.items sink.new.sets) }
         ensures total { self.new.total ≡ self.old.total
@@ -152,7 +155,7 @@ impl<P> DescriptorBucket<P> {
     {
         let mut view = OpenPools::new(
             self.id,
-            self.offset,
+            self.first_ordinal(),
             &mut self.pools,
             &mut self.listed,
             looks,

@@ -1,13 +1,27 @@
 //! The front of a bucket: its oldest pools, which go when they have no sets.
-ghost use Rattle.std.specs.Prelude.{◌≡◌, ◌+◌, ◌<◌, ◌^◌};
+ghost use Rattle.std.specs.Prelude.{◌≡◌, ◌+◌, ◌<◌, ◌^◌, drop, false, true};
+ghost use Rattle.std.specs.VecDeque.{deque_capacity};
 ghost use Rattle.gpu_descriptor.specs.Model.Books.{Key};
 ghost use Rattle.gpu_descriptor.specs.Inner.Buckets.{AreBookedIn, trimmed_bucket, trimmed_ledger};
 ghost use Rattle.gpu_descriptor.specs.Inner.KeyOf.{key_of};
 ghost use Rattle.gpu_descriptor.specs.Inner.Stored.{bucket_of, stored_load};
 
-use super::DescriptorBucket;
+use crate::bucket::{DescriptorBucket, first_ordinal_of};
 use crate::key::BucketKey;
 use gpu_descriptor_types::DescriptorDevice;
+use std::collections::VecDeque;
+
+/// Takes the first ordinal out if the test holds.
+#[inline]
+fn pop_if(listed: &mut VecDeque<u64>, is_listed: bool)
+    ensures popped { is_listed ≡ true → listed.new.items ≡ drop 1 listed.old.items }
+    ensures stays { is_listed ≡ false → listed.new.items ≡ listed.old.items }
+    ensures capacity { deque_capacity listed.new ≡ deque_capacity listed.old }
+{
+    if is_listed {
+        let _ordinal = listed.pop_front();
+    }
+}
 
 impl<P> DescriptorBucket<P> {
     /// Destroys the pools without sets at the front, but never the last `keep` pools. Their
@@ -33,10 +47,8 @@ impl<P> DescriptorBucket<P> {
     {
         while self.pools.len() > keep && self.pools[0].allocated == 0 {
             let front = self.pools.pop_front().unwrap();
-            if front.available > 0 {
-                let _number = self.listed.pop_front();
-            }
-            self.offset += 1;
+            pop_if(&mut self.listed, front.available > 0);
+            self.first = first_ordinal_of(&self.pools);
             *room += key.marked_descriptors_of_pool(front.capacity);
             device.destroy_descriptor_pool(front.raw);
         }

@@ -10,7 +10,9 @@ ghost use Rattle.gpu_descriptor.specs.Inner.Grow.{IsGrown};
 ghost use Rattle.gpu_descriptor.specs.Inner.KeyOf.{key_of};
 ghost use Rattle.gpu_descriptor.specs.Inner.OpenPools.{CountsLooks};
 ghost use Rattle.gpu_descriptor.specs.Inner.SetAt.{set_at};
-ghost use Rattle.gpu_descriptor.specs.Inner.Stored.{KeepsNumbers, bucket_of};
+ghost use Rattle.gpu_descriptor.specs.Inner.OpenNumbers.{stored_numbers};
+ghost use Rattle.gpu_descriptor.specs.Inner.Stored.{bucket_of};
+ghost use Rattle.gpu_descriptor.specs.Model.Books.{next_number, number_after};
 ghost use Rattle.gpu_descriptor.specs.Inner.Walk.{IsRefused};
 ghost use Rattle.gpu_descriptor.specs.Model.FreshPools.{IsNextSize};
 ghost use Rattle.gpu_descriptor.specs.Model.Load.{pool_descriptors};
@@ -102,11 +104,11 @@ impl<P> DescriptorBucket<P> {
         sink: &mut RequestSink<'k, S, K>,
     ) -> Result<(), Stop>
         requires some { 0 < sink.old.left }
-        requires numbers { self.old.offset + length self.old.pools.items + sink.old.left < 2 ^ 64 }
+        requires numbers { number_after (stored_numbers self.old.pools.items) + sink.old.left < 2 ^ 64 }
         requires bound { self.old.total + sink.old.left < 2 ^ 64 }
         ensures grown { OnOk result ((put : List S) ×
             (K.items sink.new.sets ≡ K.items sink.old.sets ++ map (set_at (key_of request.now.key)
-            self.old.id (self.old.offset + length self.old.pools.items)) put) ×
+            self.old.id (number_after (stored_numbers self.old.pools.items))) put) ×
             (sink.new.left + length put ≡ sink.old.left) ×
             (self.new.total ≡ self.old.total + length put) ×
             IsGrown budget.old.most (key_of request.now.key) budget.old.room budget.new.room
@@ -123,7 +125,7 @@ impl<P> DescriptorBucket<P> {
             × (budget.new.room ≡ budget.old.room)
             × IsRefused stop (D.ledger device.old) (D.ledger device.new)
             × StopsAtNew stop (key_of request.now.key) budget.old.room) }
-        ensures numbers_stay { KeepsNumbers self.old self.new }
+        ensures id_stays { self.new.id ≡ self.old.id }
         ensures most { budget.new.most ≡ budget.old.most }
         ensures looks { CountsLooks budget.old.looks.count budget.new.looks.count
             (D.ledger device.old) (D.ledger device.new) }
@@ -142,12 +144,14 @@ impl<P> DescriptorBucket<P> {
             Err(error) => return Err(Stop::PoolNotCreated(error)),
         };
         let given = size.min(sink.left);
-        sink.aim(key, self.id, self.next_number());
+        let number = self.next_number();
+        sink.aim(key, self.id, number);
         budget.looks = Tally::next(&budget.looks);
         match device.alloc_descriptor_sets(&mut raw, Layouts::new(request.layout, given), sink) {
             Ok(()) => {
                 self.push(DescriptorPool {
                     raw,
+                    number,
                     capacity: size,
                     allocated: given,
                     available: size - given,
@@ -162,18 +166,11 @@ impl<P> DescriptorBucket<P> {
         }
     }
 
-    /// The number of the next pool.
-    pub(crate) fn next_number(&self) -> u64
-        ensures { result ≡ self.now.offset + length self.now.pools.items }
-    {
-        self.offset + self.pools.len() as u64
-    }
-
-    /// Takes memory for the books of one more pool, and for its number. Where that is refused, nothing
+    /// Takes memory for the books of one more pool, and for its ordinal. Where that is refused, nothing
     /// changes but capacities.
     fn reserve_pool(&mut self) -> Result<(), AllocError>
         ensures pools { self.new.pools.items ≡ self.old.pools.items }
-        ensures numbers_stay { KeepsNumbers self.old self.new }
+        ensures id_stays { self.new.id ≡ self.old.id }
         ensures total { self.new.total ≡ self.old.total }
         ensures capacity { OnOk result (length self.new.pools.items < deque_capacity self.new.pools) }
         ensures listed { OnOk result (length self.new.pools.items
@@ -188,20 +185,21 @@ impl<P> DescriptorBucket<P> {
 
     /// Appends a new pool.
     fn push(&mut self, pool: DescriptorPool<P>)
-        requires numbers { self.old.offset + length self.old.pools.items + 1 < 2 ^ 64 }
+        requires number { pool.number ≡ number_after (stored_numbers self.old.pools.items) }
+        requires numbers { pool.number + 1 < 2 ^ 64 }
         requires bound { self.old.total + pool.allocated < 2 ^ 64 }
         requires capacity { length self.old.pools.items < deque_capacity self.old.pools }
         requires listed { length self.old.pools.items < deque_capacity self.old.listed }
         ensures pools { self.new.pools.items ≡ self.old.pools.items ++ pool ∷ [] }
-        ensures numbers_stay { KeepsNumbers self.old self.new }
+        ensures id_stays { self.new.id ≡ self.old.id }
         ensures total { self.new.total ≡ self.old.total + pool.allocated }
     {
-        let number = self.next_number();
+        let ordinal = pool.number;
         let is_open = pool.available > 0;
         self.total += u64::from(pool.allocated);
         self.pools.push_back_reserved(pool);
         if is_open {
-            self.listed.push_back_reserved(number);
+            self.listed.push_back_reserved(ordinal);
         }
     }
 }

@@ -1,21 +1,61 @@
 //! A view of numbers that are read one at a time.
-ghost use Rattle.std.specs.Prelude.{◌≡◌, ◌+◌, ◌<◌, length, nat_lt, slice_index};
+ghost use Rattle.std.specs.Prelude.{◌≡◌, ◌+◌, ◌<◌, ℕ, List, length, nat_lt, slice_index};
+ghost use Rattle.gpu_descriptor.specs.Inner.OpenNumbers.{stored_numbers};
 
+use crate::bucket::DescriptorPool;
 use gpu_descriptor_types::Tally;
 use std::collections::VecDeque;
 
+/// A list with a number at each place.
+pub(crate) trait Numbered {
+    ghost numbers: { Self → List ℕ };
+
+    /// How many numbers there are.
+    fn count(&self) -> usize
+        ensures { result ≡ length (numbers self.now) };
+
+    fn number(&self, place: usize) -> u64
+        requires { place < length (numbers self.now) }
+        ensures { result ≡ slice_index (numbers self.now) place };
+}
+
+impl Numbered for VecDeque<u64> {
+    ghost numbers = { λ ordinals. ordinals.items };
+
+    fn count(&self) -> usize {
+        self.len()
+    }
+
+    fn number(&self, place: usize) -> u64 {
+        self[place]
+    }
+}
+
+/// The numbers of pools.
+impl<P> Numbered for VecDeque<DescriptorPool<P>> {
+    ghost numbers = { λ pools. stored_numbers pools.items };
+
+    fn count(&self) -> usize {
+        self.len()
+    }
+
+    fn number(&self, place: usize) -> u64 {
+        self[place].number
+    }
+}
+
 /// Numbers that are read one at a time.
 #[derive(Drop)]
-pub(crate) struct Numbers<'a, 'b> {
-    numbers: &'a VecDeque<u64>,
+pub(crate) struct Numbers<'a, 'b, N> {
+    numbers: &'a N,
 
     /// Each read counts as a comparison.
     comparisons: &'b mut Tally,
 }
 
-impl<'a, 'b> Numbers<'a, 'b> {
-    pub(crate) fn new(numbers: &'a VecDeque<u64>, comparisons: &'b mut Tally) -> Self
-        ensures numbers { result.numbers.now.items ≡ numbers.now.items }
+impl<'a, 'b, N: Numbered> Numbers<'a, 'b, N> {
+    pub(crate) fn new(numbers: &'a N, comparisons: &'b mut Tally) -> Self
+        ensures numbers { result.numbers.now ≡ numbers.now }
         ensures same_reference { result.comparisons.ghost_name ≡ comparisons.entry.ghost_name }
         ensures count { result.comparisons.now.count ≡ comparisons.old.count }
     {
@@ -27,20 +67,21 @@ impl<'a, 'b> Numbers<'a, 'b> {
 
     /// How many numbers there are.
     pub(crate) fn len(&self) -> usize
-        ensures { result ≡ length self.now.numbers.now.items }
+        ensures { result ≡ length (N.numbers self.now.numbers.now) }
     {
-        self.numbers.len()
+        self.numbers.count()
     }
 
     /// Compares the number at a place with another.
     pub(crate) fn is_below(&mut self, place: usize, number: u64) -> bool
-        requires { place < length self.old.numbers.now.items }
-        ensures answer { result ≡ nat_lt (slice_index self.old.numbers.now.items place) number }
+        requires { place < length (N.numbers self.old.numbers.now) }
+        ensures answer { result ≡ nat_lt (slice_index (N.numbers self.old.numbers.now) place)
+            number }
         ensures count { self.new.comparisons.now.count ≡ self.old.comparisons.now.count + 1 }
         ensures numbers { self.new.numbers ≡ self.old.numbers }
         ensures same_reference { self.new.comparisons.ghost_name ≡ self.old.comparisons.ghost_name }
     {
         *self.comparisons = Tally::next(self.comparisons);
-        self.numbers[place] < number
+        self.numbers.number(place) < number
     }
 }

@@ -1,5 +1,5 @@
 //! A view of a key's pools and of the list of those with known free places.
-ghost use Rattle.std.specs.Prelude.{◌≡◌, ◌-◌, ◌++◌, ◌∷◌, [], length, take, slice_get};
+ghost use Rattle.std.specs.Prelude.{◌≡◌, ◌+◌, ◌-◌, ◌++◌, ◌∷◌, [], length, take, slice_get};
 ghost use Rattle.std.specs.Prelude.{IfSome, IfNone, OnSome, Some};
 ghost use Rattle.std.specs.VecDeque.{deque_capacity};
 ghost use Rattle.std.specs.Borrow.{sem};
@@ -11,13 +11,13 @@ use crate::places::SetPlaces;
 use gpu_descriptor_types::Tally;
 use std::collections::VecDeque;
 
-/// Pools, oldest first, and the numbers of those with known free places, rising.
+/// Pools, oldest first, and the ordinals of those with known free places, rising.
 #[derive(Drop)]
 pub(crate) struct OpenPools<'a, 'b, 'c, P> {
     /// The id of the key.
     id: u64,
 
-    /// The number of the first pool.
+    /// The ordinal of the first pool.
     offset: u64,
     pools: &'a mut VecDeque<DescriptorPool<P>>,
     listed: &'b mut VecDeque<u64>,
@@ -27,7 +27,7 @@ pub(crate) struct OpenPools<'a, 'b, 'c, P> {
 }
 
 impl<'a, 'b, 'c, P> OpenPools<'a, 'b, 'c, P> {
-    ghost use Rattle.gpu_descriptor.specs.Inner.OpenPools.{IsListed, KeepsView, LendsNewest};
+    ghost use Rattle.gpu_descriptor.specs.Inner.OpenPools.{IsListed, KeepsView, LendsNewest, newest_place};
 
     pub(crate) fn new(
         id: u64,
@@ -61,25 +61,25 @@ impl<'a, 'b, 'c, P> OpenPools<'a, 'b, 'c, P> {
         sink: &mut RequestSink<'k, S, K>,
     ) -> Option<&mut DescriptorPool<P>>
         requires listed { IsListed self.old }
-        ensures* lends { sem 𝓛 (LendsNewest P.row self.entry (sink.new.number - self.old.offset)
-            result) }
+        ensures* lends { sem 𝓛 (LendsNewest P.row self.entry (newest_place self.old) result) }
         ensures none { IfNone result (self.old.listed.now.items ≡ []) }
         ensures last { OnSome result (self.old.listed.now.items
             ≡ take (length self.old.listed.now.items - 1) self.old.listed.now.items
-            ++ sink.new.number ∷ []) }
+            ++ (self.old.offset + newest_place self.old) ∷ []) }
         ensures value { IfSome result (λ pool. slice_get self.old.pools.now.items
-            (sink.new.number - self.old.offset) ≡ Some pool.now) }
+            (newest_place self.old) ≡ Some pool.now) }
+        ensures number { IfSome result (λ pool. sink.new.number ≡ pool.now.number) }
         ensures key { OnSome result (sink.new.key.now ≡ key.now) }
         ensures id { OnSome result (sink.new.id ≡ self.old.id) }
         ensures sets { K.items sink.new.sets ≡ K.items sink.old.sets }
         ensures left { sink.new.left ≡ sink.old.left }
     {
-        let Some(number) = last_of(self.listed) else {
+        let Some(ordinal) = last_of(self.listed) else {
             return None;
         };
         *self.looks = Tally::next(self.looks);
-        sink.aim(key, self.id, number);
-        let place = (number - self.offset) as usize;
+        let place = (ordinal - self.offset) as usize;
+        sink.aim(key, self.id, self.pools[place].number);
         Some(&mut self.pools[place])
     }
 
@@ -96,7 +96,7 @@ impl<'a, 'b, 'c, P> OpenPools<'a, 'b, 'c, P> {
     }
 }
 
-/// The last of these numbers.
+/// The last of these ordinals.
 fn last_of(numbers: &VecDeque<u64>) -> Option<u64>
     ensures none { IfNone result (numbers.now.items ≡ []) }
     ensures last { IfSome result (λ n. numbers.now.items

@@ -1,8 +1,9 @@
 //! Giving the sets of a run back to their pool.
-ghost use Rattle.std.specs.Prelude.{◌≡◌, ◌+◌, ◌≤◌, ◌∷◌, List, length, OnSome};
+ghost use Rattle.std.specs.Prelude.{◌≡◌, ◌+◌, ◌≤◌, ◌∷◌, ℕ, List, length, slice_get, IsTrue, OnSome, Some, false};
 ghost use Rattle.std.specs.Iterator.{HoldsAlong, IsFinite, IsNearerEnd};
-ghost use Rattle.gpu_descriptor.specs.Caller.Comparisons.{open_pools, binary_digits};
+ghost use Rattle.gpu_descriptor.specs.Caller.Comparisons.{gap_digits, search_digits};
 ghost use Rattle.gpu_descriptor.specs.Inner.Buckets.{AreBookedIn};
+ghost use Rattle.gpu_descriptor.specs.Inner.OpenNumbers.{stored_numbers};
 ghost use Rattle.gpu_descriptor.specs.Inner.Releases.{IsTakenAt, Releases, names_of};
 ghost use Rattle.gpu_descriptor.specs.Inner.RunSteps.{AllPass, EndsRun, at_place};
 ghost use Rattle.gpu_descriptor.specs.Inner.Stored.{bucket_of, stored_load};
@@ -10,7 +11,7 @@ ghost use Rattle.gpu_descriptor.specs.Model.Books.{Key};
 
 use crate::bucket::DescriptorBucket;
 use crate::bucket::run::Run;
-use crate::bucket::search::enter_new;
+use crate::bucket::search::{enter_new, search_pools};
 use crate::set::DescriptorSet;
 use gpu_descriptor_types::{DescriptorDevice, Tally};
 
@@ -51,12 +52,13 @@ impl<P> DescriptorBucket<P> {
             ≡ stored_load k self.old.pools.items }
         ensures goes { OnSome result (IsNearerEnd I.can_next I.remaining sets.old sets.new) }
         ensures rises { comparisons.old.count ≤ comparisons.new.count }
-        ensures few { comparisons.new.count ≤ comparisons.old.count + binary_digits
-            (open_pools (bucket_of D.meaning.pool_name self.old)) }
+        ensures few { comparisons.new.count ≤ comparisons.old.count + search_digits
+            (bucket_of D.meaning.pool_name self.old) }
     {
         let id = first.id;
         let number = first.number;
-        let place = (number - self.offset) as usize;
+        let place = self.place_of_pool(number, comparisons);
+        let ordinal = self.first_ordinal() + place as u64;
         let mut ahead = Some(first);
         let pool = &mut self.pools[place];
         let was_closed = pool.available == 0;
@@ -72,7 +74,39 @@ impl<P> DescriptorBucket<P> {
         pool.allocated -= count;
         pool.available += count;
         self.total -= u64::from(count);
-        enter_new(&mut self.listed, was_closed, number, comparisons);
+        enter_new(&mut self.listed, was_closed, ordinal, comparisons);
         ahead
+    }
+
+    /// The place of the pool with a number. Where no number is missing behind the pool, the number
+    /// tells it; else it is searched for.
+    #[inline]
+    fn place_of_pool(&self, number: u64, comparisons: &mut Tally) -> usize
+        requires there { (i : ℕ) × (slice_get (stored_numbers self.now.pools.items) i
+            ≡ Some number) }
+        ensures place { slice_get (stored_numbers self.now.pools.items) result ≡ Some number }
+        ensures rises { comparisons.old.count ≤ comparisons.new.count }
+        ensures few { comparisons.new.count ≤ comparisons.old.count
+            + gap_digits (stored_numbers self.now.pools.items) }
+    {
+        let likely = number.wrapping_sub(self.first_ordinal()) as usize;
+        if self.has_number(likely, number) {
+            return likely;
+        }
+        search_pools(&self.pools, number, comparisons)
+    }
+
+    /// Whether the pool at this place has this number.
+    #[inline]
+    fn has_number(&self, place: usize, number: u64) -> bool
+        ensures yes { IsTrue result → slice_get (stored_numbers self.now.pools.items) place
+            ≡ Some number }
+        ensures no { result ≡ false → slice_get (stored_numbers self.now.pools.items) place
+            ≡ Some number → ⊥ }
+    {
+        match self.pools.get(place) {
+            Some(pool) => pool.number == number,
+            None => false,
+        }
     }
 }

@@ -9,7 +9,7 @@ ghost use Rattle.gpu_descriptor.specs.Inner.Grow.{IsTaken};
 ghost use Rattle.gpu_descriptor.specs.Inner.KeyOf.{key_of};
 ghost use Rattle.gpu_descriptor.specs.Inner.OpenPools.{CountsLooks};
 ghost use Rattle.gpu_descriptor.specs.Inner.Serves.{IsServed, IsUnserved};
-ghost use Rattle.gpu_descriptor.specs.Inner.Stored.{KeepsNumbers, bucket_of, stored_load};
+ghost use Rattle.gpu_descriptor.specs.Inner.Stored.{bucket_of, stored_load};
 ghost use Rattle.gpu_descriptor.specs.Model.Books.{next_number};
 
 use crate::bucket::request_sink::RequestSink;
@@ -63,7 +63,7 @@ impl<P: Drop> DescriptorBucket<P> {
         ensures own { OnOk result (PutsOfLayout D.meaning request.now.layout.now
             (K.items sink.old.sets) (K.items sink.new.sets)) }
         ensures sets { OnErr result (K.items sink.new.sets ≡ K.items sink.old.sets) }
-        ensures numbers_stay { KeepsNumbers self.old self.new }
+        ensures id_stays { self.new.id ≡ self.old.id }
         ensures refused { IfErr result (λ e. IsUnserved request.now.count e
             (bucket_of D.meaning.pool_name self.old)) }
         ensures most { budget.new.most ≡ budget.old.most }
@@ -107,7 +107,7 @@ impl<P: Drop> DescriptorBucket<P> {
             (D.ledger device.old) (D.ledger device.new) }
         ensures own { PutsOfLayout D.meaning request.now.layout.now (K.items sink.old.sets)
             (K.items sink.new.sets) }
-        ensures numbers_stay { KeepsNumbers self.old self.new }
+        ensures id_stays { self.new.id ≡ self.old.id }
         ensures front { K.items sink.new.sets ≡ K.items sink.old.sets
             ++ appended (K.items sink.old.sets) (K.items sink.new.sets) }
         ensures total { self.new.total ≡ self.old.total

@@ -1,23 +1,26 @@
-//! The place of a number in the list of the pools with known free places.
-ghost use Rattle.std.specs.Prelude.{◌≡◌, ◌+◌, ◌<◌, ◌≤◌, length, true, false};
+//! Searches by halves: the place of an ordinal in the list of the pools with known free places, and
+//! that of a pool with a number.
+ghost use Rattle.std.specs.Prelude.{◌≡◌, ◌+◌, ◌<◌, ◌≤◌, ℕ, Some, length, slice_get, true, false};
 ghost use Rattle.std.specs.VecDeque.{deque_capacity};
 ghost use Rattle.std.specs.List.Sorted.{IsNonDecreasing, IsPartitionPoint};
 ghost use Rattle.gpu_descriptor.specs.Caller.Comparisons.{binary_digits};
-ghost use Rattle.gpu_descriptor.specs.Inner.OpenNumbers.{IsEntered};
+ghost use Rattle.gpu_descriptor.specs.Inner.OpenNumbers.{IsEntered, stored_numbers};
+ghost use Rattle.gpu_descriptor.specs.Model.Books.{rises};
 
-use crate::bucket::numbers::Numbers;
+use crate::bucket::DescriptorPool;
+use crate::bucket::numbers::{Numbered, Numbers};
 use gpu_descriptor_types::Tally;
 use std::collections::VecDeque;
 
 /// The place of a number among others that rise: how many are below it.
-pub(crate) fn place_of(view: &mut Numbers<'_, '_>, number: u64) -> usize
-    requires { IsNonDecreasing view.old.numbers.now.items }
-    ensures within { result ≤ length view.old.numbers.now.items }
-    ensures place { IsPartitionPoint (λ x. x < number) (λ x. number ≤ x) view.old.numbers.now.items
-        result }
+pub(crate) fn place_of<N: Numbered>(view: &mut Numbers<'_, '_, N>, number: u64) -> usize
+    requires { IsNonDecreasing (N.numbers view.old.numbers.now) }
+    ensures within { result ≤ length (N.numbers view.old.numbers.now) }
+    ensures place { IsPartitionPoint (λ x. x < number) (λ x. number ≤ x)
+        (N.numbers view.old.numbers.now) result }
     ensures rises { view.old.comparisons.now.count ≤ view.new.comparisons.now.count }
     ensures few { view.new.comparisons.now.count ≤ view.old.comparisons.now.count + binary_digits
-        (length view.old.numbers.now.items) }
+        (length (N.numbers view.old.numbers.now)) }
     ensures same_reference { view.new.comparisons.ghost_name ≡ view.old.comparisons.ghost_name }
 {
     let mut low = 0;
@@ -34,7 +37,26 @@ pub(crate) fn place_of(view: &mut Numbers<'_, '_>, number: u64) -> usize
     low
 }
 
-/// Puts a number in at its place. There is capacity for it.
+/// The place of the pool with a number. It is out of line, because only where pools behind a pool
+/// were trimmed it is searched for.
+#[inline(never)]
+pub(crate) fn search_pools<P>(
+    pools: &VecDeque<DescriptorPool<P>>,
+    number: u64,
+    comparisons: &mut Tally,
+) -> usize
+    requires rising { rises (stored_numbers pools.now.items) ≡ true }
+    requires there { (i : ℕ) × (slice_get (stored_numbers pools.now.items) i ≡ Some number) }
+    ensures place { slice_get (stored_numbers pools.now.items) result ≡ Some number }
+    ensures rises { comparisons.old.count ≤ comparisons.new.count }
+    ensures few { comparisons.new.count ≤ comparisons.old.count + binary_digits
+        (length pools.now.items) }
+{
+    let mut view = Numbers::new(pools, comparisons);
+    place_of(&mut view, number)
+}
+
+/// Puts an ordinal in at its place. There is capacity for it.
 #[inline(never)]
 fn enter(listed: &mut VecDeque<u64>, number: u64, comparisons: &mut Tally)
     requires rising { IsNonDecreasing listed.old.items }
@@ -53,7 +75,7 @@ fn enter(listed: &mut VecDeque<u64>, number: u64, comparisons: &mut Tally)
     }
 }
 
-/// Puts a number in at its place if it is new. An empty list needs no search.
+/// Puts an ordinal in at its place if it is new. An empty list needs no search.
 #[inline]
 pub(crate) fn enter_new(
     listed: &mut VecDeque<u64>,

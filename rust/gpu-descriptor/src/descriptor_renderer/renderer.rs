@@ -107,12 +107,18 @@ impl<L, P, S, D: DescriptorDevice<L, P, S>> Renderer<L, P, S, D> {
         }
     }
 
-    /// Gives all kept sets back, and destroys the oldest pools of each key up to the first that has a
-    /// set, the last pool too. Sets that are in use aren't kept when they come back. Call it between
-    /// levels, or when memory is short.
+    /// Gives all kept sets back, and destroys all pools that then have no set. Sets that are in use
+    /// aren't kept when they come back. Call it between levels, or when memory is short.
     pub fn cleanup(&mut self)
     {
         self.store.cleanup();
+    }
+
+    /// Destroys all pools that have no set, wherever they stand. Sets that are kept stay, and so do
+    /// their pools; `cleanup` gives them back first. It goes over every pool, and allocates nothing.
+    pub fn trim(&mut self)
+    {
+        self.store.trim();
     }
 
     /// Keeps at most so many sets of a layout from now on. Those above are given back.

@@ -12,6 +12,7 @@ pub(crate) mod request_sink;
 mod run;
 mod search;
 pub(crate) mod stop;
+mod trim;
 
 use crate::kit::collections::VecDeque;
 
@@ -19,6 +20,9 @@ use crate::kit::collections::VecDeque;
 #[derive(Debug)]
 pub(crate) struct DescriptorPool<P> {
     pub(crate) raw: P,
+
+    /// Its number, which is greater than that of each older pool of its key.
+    pub(crate) number: u64,
 
     /// Number of sets that the pool was created for.
     pub(crate) capacity: u32,
@@ -36,17 +40,46 @@ pub(crate) struct DescriptorBucket<P> {
     /// The id of the key.
     pub(crate) id: u64,
 
-    /// The number of the first pool.
-    pub(crate) offset: u64,
+    /// The ordinal of the first pool, or 0.
+    pub(crate) first: u64,
 
     pub(crate) pools: VecDeque<DescriptorPool<P>>,
 
-    /// The numbers of the pools with known free places, rising. There is capacity for those of all
-    /// pools.
+    /// The ordinals of the pools with known free places, rising. There is capacity for those of all
+    /// pools. The newest pool's ordinal is its number, and each older one's is one less than that of
+    /// the pool after it: so it stays while pools go from the front and come at the back, and tells
+    /// the place.
     pub(crate) listed: VecDeque<u64>,
 
     /// Number of sets allocated from these pools.
     pub(crate) total: u64,
+}
+
+impl<P> DescriptorBucket<P> {
+    /// The number of the next pool.
+    pub(crate) fn next_number(&self) -> u64
+    {
+        self.first + self.pools.len() as u64
+    }
+
+    /// The ordinal of the first pool.
+    pub(crate) fn first_ordinal(&self) -> u64
+    {
+        self.first
+    }
+}
+
+fn next_number_of<P>(pools: &VecDeque<DescriptorPool<P>>) -> u64
+{
+    match pools.back() {
+        Some(newest) => newest.number + 1,
+        None => 0,
+    }
+}
+
+fn first_ordinal_of<P>(pools: &VecDeque<DescriptorPool<P>>) -> u64
+{
+    next_number_of(pools) - pools.len() as u64
 }
 
 /// Whether a number and so many more would exceed 64 bits.

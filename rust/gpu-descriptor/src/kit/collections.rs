@@ -29,6 +29,11 @@ impl<T> VecDeque<T> {
         self.0.is_empty()
     }
 
+    /// `items`: none is left. `capacity` stays.
+    pub fn clear(&mut self) {
+        self.0.clear();
+    }
+
     /// `value`: the item at the place, if there is one.
     #[inline]
     pub fn get(&self, index: usize) -> Option<&T> {

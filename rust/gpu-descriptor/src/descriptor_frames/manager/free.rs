@@ -41,4 +41,11 @@ impl<P, S> FrameManager<P, S> {
     {
         self.allocator.cleanup(device);
     }
+
+    /// Destroys all pools without sets, as `DescriptorAllocator::trim` does. A pool of a retired set
+    /// stays.
+    pub fn trim<L, D: DescriptorDevice<L, P, S>>(&mut self, device: &mut D)
+    {
+        self.allocator.trim(device);
+    }
 }

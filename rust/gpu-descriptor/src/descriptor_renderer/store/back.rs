@@ -37,14 +37,20 @@ impl<L, P, S, D: DescriptorDevice<L, P, S>> Store<L, P, S, D> {
         giving.end();
     }
 
-    /// Gives all kept sets back, and destroys empty pools. Sets that are in use aren't kept later.
+    /// Gives all kept sets back, and destroys all empty pools. Sets that are in use aren't kept later.
     #[cold]
     pub(crate) fn cleanup(&mut self)
     {
         self.table.age();
         self.table.trim(0);
         self.give();
-        self.allocator.cleanup(&mut self.device);
+        self.allocator.trim(&mut self.device);
+    }
+
+    /// Destroys all empty pools. Sets that are kept stay.
+    pub(crate) fn trim(&mut self)
+    {
+        self.allocator.trim(&mut self.device);
     }
 
     /// The sets that wait for a frame up to this one are kept, or go back to their pools.

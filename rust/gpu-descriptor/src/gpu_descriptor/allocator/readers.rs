@@ -64,7 +64,7 @@ impl<P, S> DescriptorAllocator<P, S> {
         let bucket = self.table.buckets.get(&key)?;
         let pool = bucket.pools.get(index)?;
         Some(PoolView {
-            number: bucket.offset + index as u64,
+            number: pool.number,
             allocated: pool.allocated,
             available: pool.available,
         })

@@ -74,7 +74,7 @@ impl<P> DescriptorBucket<P> {
     {
         let mut view = OpenPools::new(
             self.id,
-            self.offset,
+            self.first_ordinal(),
             &mut self.pools,
             &mut self.listed,
         );

@@ -83,11 +83,13 @@ impl<P> DescriptorBucket<P> {
             Err(error) => return Err(Stop::PoolNotCreated(error)),
         };
         let given = size.min(sink.left);
-        sink.aim(key, self.id, self.next_number());
+        let number = self.next_number();
+        sink.aim(key, self.id, number);
         match device.alloc_descriptor_sets(&mut raw, Layouts::new(request.layout, given), sink) {
             Ok(()) => {
                 self.push(DescriptorPool {
                     raw,
+                    number,
                     capacity: size,
                     allocated: given,
                     available: size - given,
@@ -102,13 +104,7 @@ impl<P> DescriptorBucket<P> {
         }
     }
 
-    /// The number of the next pool.
-    pub(crate) fn next_number(&self) -> u64
-    {
-        self.offset + self.pools.len() as u64
-    }
-
-    /// Takes memory for the books of one more pool, and for its number. Where that is refused, nothing
+    /// Takes memory for the books of one more pool, and for its ordinal. Where that is refused, nothing
     /// changes but capacities.
     fn reserve_pool(&mut self) -> Result<(), AllocError>
     {
@@ -122,12 +118,12 @@ impl<P> DescriptorBucket<P> {
     /// Appends a new pool.
     fn push(&mut self, pool: DescriptorPool<P>)
     {
-        let number = self.next_number();
+        let ordinal = pool.number;
         let is_open = pool.available > 0;
         self.total += u64::from(pool.allocated);
         self.pools.push_back_reserved(pool);
         if is_open {
-            self.listed.push_back_reserved(number);
+            self.listed.push_back_reserved(ordinal);
         }
     }
 }

@@ -7,12 +7,12 @@ use crate::gpu_descriptor::key::BucketKey;
 use crate::gpu_descriptor::places::SetPlaces;
 use crate::kit::collections::VecDeque;
 
-/// Pools, oldest first, and the numbers of those with known free places, rising.
+/// Pools, oldest first, and the ordinals of those with known free places, rising.
 pub(crate) struct OpenPools<'a, 'b, P> {
     /// The id of the key.
     id: u64,
 
-    /// The number of the first pool.
+    /// The ordinal of the first pool.
     offset: u64,
     pools: &'a mut VecDeque<DescriptorPool<P>>,
     listed: &'b mut VecDeque<u64>,
@@ -41,11 +41,11 @@ impl<'a, 'b, P> OpenPools<'a, 'b, P> {
         sink: &mut RequestSink<'k, S, K>,
     ) -> Option<&mut DescriptorPool<P>>
     {
-        let Some(number) = last_of(self.listed) else {
+        let Some(ordinal) = last_of(self.listed) else {
             return None;
         };
-        sink.aim(key, self.id, number);
-        let place = (number - self.offset) as usize;
+        let place = (ordinal - self.offset) as usize;
+        sink.aim(key, self.id, self.pools[place].number);
         Some(&mut self.pools[place])
     }
 
@@ -56,7 +56,7 @@ impl<'a, 'b, P> OpenPools<'a, 'b, P> {
     }
 }
 
-/// The last of these numbers.
+/// The last of these ordinals.
 fn last_of(numbers: &VecDeque<u64>) -> Option<u64>
 {
     numbers.back().copied()

@@ -3,7 +3,7 @@
 
 use crate::gpu_descriptor::bucket::DescriptorBucket;
 use crate::gpu_descriptor::bucket::run::Run;
-use crate::gpu_descriptor::bucket::search::enter_new;
+use crate::gpu_descriptor::bucket::search::{enter_new, search_pools};
 use crate::gpu_descriptor::set::DescriptorSet;
 use crate::gpu_descriptor_types::DescriptorDevice;
 
@@ -26,7 +26,8 @@ impl<P> DescriptorBucket<P> {
     {
         let id = first.id;
         let number = first.number;
-        let place = (number - self.offset) as usize;
+        let place = self.place_of_pool(number);
+        let ordinal = self.first_ordinal() + place as u64;
         let mut ahead = Some(first);
         let pool = &mut self.pools[place];
         let was_closed = pool.available == 0;
@@ -42,7 +43,29 @@ impl<P> DescriptorBucket<P> {
         pool.allocated -= count;
         pool.available += count;
         self.total -= u64::from(count);
-        enter_new(&mut self.listed, was_closed, number);
+        enter_new(&mut self.listed, was_closed, ordinal);
         ahead
+    }
+
+    /// The place of the pool with a number. Where no number is missing behind the pool, the number
+    /// tells it; else it is searched for.
+    #[inline]
+    fn place_of_pool(&self, number: u64) -> usize
+    {
+        let likely = number.wrapping_sub(self.first_ordinal()) as usize;
+        if self.has_number(likely, number) {
+            return likely;
+        }
+        search_pools(&self.pools, number)
+    }
+
+    /// Whether the pool at this place has this number.
+    #[inline]
+    fn has_number(&self, place: usize, number: u64) -> bool
+    {
+        match self.pools.get(place) {
+            Some(pool) => pool.number == number,
+            None => false,
+        }
     }
 }

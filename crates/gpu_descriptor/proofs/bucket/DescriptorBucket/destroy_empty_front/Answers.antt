@@ -1,5 +1,6 @@
 use Rattle.gpu_descriptor.proofs.Common.{◌≡◌, ◌+◌, drop, ◌<◌, ◌≤◌, ◌∙◌, sym, ap, arith, length, get_or, Some, key_of, front_but, pool_descriptors, bucket_of, stored_load}
 use Rattle.gpu_descriptor.proofs.sums.PoolLoads.{stored_first}
+use Rattle.gpu_descriptor.proofs.release.StoredNumbers.{popped_numbers, popped_open}
 use Rattle.gpu_descriptor.proofs.release.FrontPool.{IsFront, is_front, turn_unused, turn, stop_full, stop_short, still}
 use Rattle.gpu_descriptor.proofs.bucket.DescriptorBucket.destroy_empty_front.Goals.{After-unwrap-front}
 use Rattle.gpu_descriptor.proofs.bucket.DescriptorBucket.destroy_empty_front.Goals as goal
@@ -31,12 +32,12 @@ overflow_add-room g c =
 pub destroy_descriptor_pool-requires : goal.destroy_descriptor_pool-requires
 destroy_descriptor_pool-requires g c =
     let d = (goal.at.destroy_descriptor_pool-requires g c).After-unwrap-front in
-    turn_unused g.D.DescriptorDevice.meaning.pool_name c.args.keep c.loop-self.invariant.stored.0 c.loop-self.self.offset c.loop-self.self.pools.items c.unwrap-front.result (g.D.DescriptorDevice.ledger c.loop-self.device) (front g d) c.loop-self.invariant.stored.1
+    turn_unused g.D.DescriptorDevice.meaning.pool_name c.args.keep c.loop-self.invariant.stored.0 c.loop-self.self.pools.items c.unwrap-front.result (g.D.DescriptorDevice.ledger c.loop-self.device) (front g d) c.loop-self.invariant.stored.1
 
 pub loop-self-preserved : goal.loop-self-preserved
 loop-self-preserved g c =
     let d = (goal.at.loop-self-preserved g c).After-unwrap-front in
-    let done = turn g.D.DescriptorDevice.meaning.pool_name c.args.keep c.loop-self.invariant.stored.0 c.loop-self.self.id c.loop-self.self.offset c.loop-self.self.pools.items c.pop_front.new.self.items c.unwrap-front.result (g.D.DescriptorDevice.ledger c.loop-self.device) (g.D.DescriptorDevice.ledger c.destroy_descriptor_pool.new.self)
+    let done = turn g.D.DescriptorDevice.meaning.pool_name c.args.keep c.loop-self.invariant.stored.0 c.loop-self.self.id c.loop-self.self.pools.items c.pop_front.new.self.items c.unwrap-front.result (g.D.DescriptorDevice.ledger c.loop-self.device) (g.D.DescriptorDevice.ledger c.destroy_descriptor_pool.new.self)
     (front g d) c.pop_front.ensures.rest c.destroy_descriptor_pool.ensures c.loop-self.invariant.stored.1 in
     record {
       stored = (c.loop-self.invariant.stored.0, done.agree);
@@ -54,7 +55,7 @@ returns-else-index-eq0-clause-ledger g c =
     let name = g.D.DescriptorDevice.meaning.pool_name in
     let items = c.loop-self.self.pools.items in
     let many : c.args.keep < length items = omega (arith, c.loop-self.self.pools.ok.0) in
-    let none = stop_full name c.args.keep c.loop-self.self.id c.loop-self.self.offset items c.index.result.now many c.index.ensures c.if-index-eq0.false in
+    let none = stop_full name c.args.keep c.loop-self.self.id items c.index.result.now many c.index.ensures c.if-index-eq0.false in
     sym (still (front_but c.args.keep (bucket_of name c.loop-self.self)) none (bucket_of name c.loop-self.self) (g.D.DescriptorDevice.ledger c.loop-self.device)) ∙ c.loop-self.invariant.ledger
 
 pub returns-after-loop-self-clause-ledger : goal.returns-after-loop-self-clause-ledger
@@ -62,5 +63,20 @@ returns-after-loop-self-clause-ledger g c =
     let name = g.D.DescriptorDevice.meaning.pool_name in
     let items = c.loop-self.self.pools.items in
     let short : length items ≤ c.args.keep = omega (arith, c.loop-self.self.pools.ok.0) in
-    let none = stop_short name c.args.keep c.loop-self.self.id c.loop-self.self.offset items short in
+    let none = stop_short name c.args.keep c.loop-self.self.id items short in
     sym (still (front_but c.args.keep (bucket_of name c.loop-self.self)) none (bucket_of name c.loop-self.self) (g.D.DescriptorDevice.ledger c.loop-self.device)) ∙ c.loop-self.invariant.ledger
+
+pub invariant_of-self-clause-numbered : goal.invariant_of-self-clause-numbered
+invariant_of-self-clause-numbered g c = (let less = (popped_numbers c.loop-self.self.pools.items c.pop_front.new.self.items c.pop_front.ensures.rest c.loop-self.self.rising).0 in let was = c.loop-self.self.numbered in omega arith)
+
+pub invariant_of-self-clause-rising : goal.invariant_of-self-clause-rising
+invariant_of-self-clause-rising g c = (popped_numbers c.loop-self.self.pools.items c.pop_front.new.self.items c.pop_front.ensures.rest c.loop-self.self.rising).1
+
+pub invariant_of-self-clause-open : goal.invariant_of-self-clause-open
+invariant_of-self-clause-open g c =
+    let f = front g (goal.at.invariant_of-self-clause-open g c).After-unwrap-front in
+    let some = f.long in
+    popped_open c.unwrap-front.result c.loop-self.self.pools.items c.pop_front.new.self.items c.loop-self.self.listed.items c.pop_if.new.listed.items (omega arith) f.is c.pop_front.ensures.rest c.loop-self.self.rising c.loop-self.self.«open» c.pop_if.ensures.popped c.pop_if.ensures.stays
+
+pub first_ordinal_of-self-requires-clause-rising : goal.first_ordinal_of-self-requires-clause-rising
+first_ordinal_of-self-requires-clause-rising g c = (popped_numbers c.loop-self.self.pools.items c.pop_front.new.self.items c.pop_front.ensures.rest c.loop-self.self.rising).1

@@ -1,11 +1,13 @@
-use Rattle.gpu_descriptor.proofs.Common.{◌≡◌, ◌++◌, ◌∷◌, [], ◌+◌, length, length-append, sum_by, arith, ap, sym, ◌∙◌, sum_by-append, DescriptorPool, free_in, open_numbers}
+use Rattle.gpu_descriptor.proofs.Common.{◌≡◌, ℕ, ◌++◌, ◌∷◌, [], ◌+◌, length, length-append, sum_by, arith, ap, sym, ◌∙◌, sum_by-append, DescriptorPool, first_ordinal, free_in, number_after, open_numbers, rises, stored_numbers}
+use Rattle.gpu_descriptor.proofs.lists.Numbers.{next_push, rises_push}
 use Rattle.gpu_descriptor.proofs.lists.OpenList.{few_listed, listed_push_open, listed_push_closed}
+use Rattle.gpu_descriptor.proofs.lists.Ordinals.{first_fits, first_push, stored_push}
 use Rattle.gpu_descriptor.proofs.bucket.DescriptorBucket.push.Goals.{After-push_back_reserved}
 use Rattle.gpu_descriptor.proofs.bucket.DescriptorBucket.push.Goals as goal
 
 pub push_back_reserved-requires-then-is_open : goal.push_back_reserved-requires-then-is_open
 push_back_reserved-requires-then-is_open g c =
-    let few = few_listed c.args.self.now.offset c.args.self.now.pools.items c.args.self.now.listed.items c.args.self.now.«open» in
+    let few = few_listed (first_ordinal c.args.self.now.pools.items) c.args.self.now.pools.items c.args.self.now.listed.items c.args.self.now.«open» in
     omega (arith, c.requires.listed)
 
 -- the pools with the new one
@@ -18,16 +20,35 @@ module _ (g : _) (c : After-push_back_reserved g) where
       let all = ap (sum_by (λ (p : DescriptorPool g.row.P.Denot). p.allocated)) c.push_back_reserved.ensures.items ∙ sum_by-append (λ (p : DescriptorPool g.row.P.Denot). p.allocated) c.args.self.now.pools.items (c.args.pool ∷ []) in
       omega arith
 
+  numbers : stored_numbers c.push_back_reserved.new.self.items ≡ stored_numbers c.args.self.now.pools.items ++ c.args.pool.number ∷ []
+  numbers = ap stored_numbers c.push_back_reserved.ensures.items ∙ stored_push c.args.self.now.pools.items c.args.pool
+
+  next : number_after (stored_numbers c.push_back_reserved.new.self.items) ≡ c.args.pool.number + 1
+  next = ap number_after numbers ∙ next_push (stored_numbers c.args.self.now.pools.items) c.args.pool.number
+
+  first : first_ordinal c.push_back_reserved.new.self.items ≡ first_ordinal c.args.self.now.pools.items
+  first = ap first_ordinal c.push_back_reserved.ensures.items ∙ first_push c.args.self.now.pools.items c.args.pool c.requires.number
+
+  -- the ordinals stay
+  ordinals : open_numbers (first_ordinal c.push_back_reserved.new.self.items) (free_in c.push_back_reserved.new.self.items) ≡ open_numbers (first_ordinal c.args.self.now.pools.items) (free_in (c.args.self.now.pools.items ++ c.args.pool ∷ []))
+  ordinals =
+      let is = c.push_back_reserved.ensures.items in
+      λ i. open_numbers (first i) (free_in (is i))
+
 pub invariant_of-self : goal.invariant_of-self
 invariant_of-self g c =
     let at = (goal.at.invariant_of-self g c).After-push_back_reserved in
     let long = long g at in
     let counted = counted g at in
-    let pools = ap (λ ps. open_numbers c.args.self.now.offset (free_in ps)) c.push_back_reserved.ensures.items in
     record {
-      numbered = (omega arith);
+      ordinal = c.args.self.now.ordinal ∙ sym (first g at);
+      numbered = (let next = next g at in omega arith);
+      rising = ap rises (numbers g at) ∙ rises_push (stored_numbers c.args.self.now.pools.items) c.args.pool.number c.args.self.now.rising (let is = c.requires.number in omega arith);
       counted = (omega arith);
-      «open» = c.push_back_reserved-then-is_open.ensures.items ∙ ap (λ n. c.args.self.now.listed.items ++ n ∷ []) c.next_number-number.ensures ∙ listed_push_open c.args.self.now.offset c.args.self.now.pools.items c.args.self.now.listed.items c.args.self.now.«open» c.args.pool c.if-is_open.true ∙ sym pools;
+      «open» =
+          c.push_back_reserved-then-is_open.ensures.items
+          ∙ ap (λ (n : ℕ). c.args.self.now.listed.items ++ n ∷ []) (c.requires.number ∙ sym (first_fits c.args.self.now.pools.items c.args.self.now.rising))
+          ∙ listed_push_open (first_ordinal c.args.self.now.pools.items) c.args.self.now.pools.items c.args.self.now.listed.items c.args.self.now.«open» c.args.pool c.if-is_open.true ∙ sym (ordinals g at);
       capacity = (omega arith);
     }
 
@@ -36,10 +57,11 @@ invariant_of-self-else-is_open g c =
     let at = (goal.at.invariant_of-self-else-is_open g c).After-push_back_reserved in
     let long = long g at in
     let counted = counted g at in
-    let pools = ap (λ ps. open_numbers c.args.self.now.offset (free_in ps)) c.push_back_reserved.ensures.items in
     record {
-      numbered = (omega arith);
+      ordinal = c.args.self.now.ordinal ∙ sym (first g at);
+      numbered = (let next = next g at in omega arith);
+      rising = ap rises (numbers g at) ∙ rises_push (stored_numbers c.args.self.now.pools.items) c.args.pool.number c.args.self.now.rising (let is = c.requires.number in omega arith);
       counted = (omega arith);
-      «open» = listed_push_closed c.args.self.now.offset c.args.self.now.pools.items c.args.self.now.listed.items c.args.self.now.«open» c.args.pool c.if-is_open.false ∙ sym pools;
+      «open» = listed_push_closed (first_ordinal c.args.self.now.pools.items) c.args.self.now.pools.items c.args.self.now.listed.items c.args.self.now.«open» c.args.pool c.if-is_open.false ∙ sym (ordinals g at);
       capacity = (omega arith);
     }

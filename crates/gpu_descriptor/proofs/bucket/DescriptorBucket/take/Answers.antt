@@ -1,24 +1,26 @@
-use Rattle.gpu_descriptor.proofs.Common.{◌≡◌, ℕ, ◌+◌, ◌≤◌, ◌++◌, List, length, map, sym, ap, ◌∙◌, arith, Result, Ok, OnOk, IfErr, true, false, length-append, [], ◌∷◌, None, Err, length-map, map-append, Ledger, DeviceAllocationError, DescriptorPool, DescriptorSet, Item, Entry, Key, key_of, set_at, fresh_entry, items_at, items_of, IsTaken, entry_of, stored_load, IsWalked}
+use Rattle.gpu_descriptor.proofs.Common.{◌≡◌, ℕ, ◌+◌, ◌≤◌, ◌++◌, List, length, map, sym, ap, ◌∙◌, arith, Result, Ok, OnOk, IfErr, true, false, length-append, [], ◌∷◌, None, Err, length-map, map-append, Ledger, DeviceAllocationError, DescriptorPool, DescriptorSet, Item, Entry, Key, key_of, set_at, fresh_entry, items_at, items_of, IsTaken, entry_of, number_after, numbers_of, stored_load, stored_numbers, IsWalked}
 use Rattle.std.specs.Result.{is_ok}
 use mathlib.Core.Bool.{true≢false}
 use Rattle.gpu_descriptor.proofs.sums.PoolsLoad.{pools_load}
 use Rattle.gpu_descriptor.specs.declared.bucket.stop.Stop.TheVariants.{ExistingPoolRefused}
 use Rattle.gpu_descriptor.proofs.lists.Appended.{appended_more, front_more}
+use Rattle.gpu_descriptor.proofs.lists.Numbers.{next_push}
+use Rattle.gpu_descriptor.proofs.release.StoredNumbers.{numbers_stored}
 use Rattle.gpu_descriptor.specs.Caller.SetLists.{appended}
 use Rattle.gpu_descriptor.proofs.table.Exact.{bucket}
-use Rattle.gpu_descriptor.proofs.request.Growing.{grow_start, grow_more, grow_end, grow_stop, taken_long, load_more, load_walked}
+use Rattle.gpu_descriptor.proofs.request.Growing.{grow_start, grow_more, grow_end, grow_stop, load_more, load_walked}
 use Rattle.gpu_descriptor.proofs.sums.StoredPools.{allocated_entries, load_entries}
 use Rattle.gpu_descriptor.proofs.request.Passed.{passed}
 use Rattle.gpu_descriptor.proofs.request.Walking.{items_of-sets_at}
 use Rattle.gpu_descriptor.proofs.bucket.DescriptorBucket.take.Goals as goal
 
--- a walk leaves the load of the key's pools, and how many there are
-module _ {P : Type 0} (name : P → ℕ) {k : Key} {n id first own start : ℕ} {items : List Item} (old new : List (DescriptorPool P)) {l m : Ledger} where
-  walked_load : {wanting : ℕ} → IsWalked k n wanting items (bucket id first (map (entry_of name) old)) (bucket own start (map (entry_of name) new)) l m → stored_load k new ≡ stored_load k old
-  walked_load w = (let a = load_entries name k old in let b = load_entries name k new in let same = load_walked k n w.grant (bucket id first (map (entry_of name) old)) (bucket own start (map (entry_of name) new)) l m items w.taken w.no_fresh in omega arith)
+-- a walk leaves the load of the key's pools
+module _ {P : Type 0} (name : P → ℕ) {k : Key} {n id own : ℕ} {items : List Item} (old new : List (DescriptorPool P)) {l m : Ledger} where
+  walked_load : {wanting : ℕ} → IsWalked k n wanting items (bucket id (map (entry_of name) old)) (bucket own (map (entry_of name) new)) l m → stored_load k new ≡ stored_load k old
+  walked_load w = (let a = load_entries name k old in let b = load_entries name k new in let same = load_walked k n w.grant (bucket id (map (entry_of name) old)) (bucket own (map (entry_of name) new)) l m items w.taken w.no_fresh in omega arith)
 
-  stopped_load : {error : DeviceAllocationError} → IsTaken (Err (ExistingPoolRefused error)) None k 0 n items (bucket id first (map (entry_of name) old)) (bucket own start (map (entry_of name) new)) l m → stored_load k new ≡ stored_load k old
-  stopped_load t = (let a = load_entries name k old in let b = load_entries name k new in let same = load_walked k n t.0 (bucket id first (map (entry_of name) old)) (bucket own start (map (entry_of name) new)) l t.1 items t.2 t.3.no_fresh in omega arith)
+  stopped_load : {error : DeviceAllocationError} → IsTaken (Err (ExistingPoolRefused error)) None k 0 n items (bucket id (map (entry_of name) old)) (bucket own (map (entry_of name) new)) l m → stored_load k new ≡ stored_load k old
+  stopped_load t = (let a = load_entries name k old in let b = load_entries name k new in let same = load_walked k n t.0 (bucket id (map (entry_of name) old)) (bucket own (map (entry_of name) new)) l t.1 items t.2 t.3.no_fresh in omega arith)
 
 -- what is known of an Ok, and of an Err
 on_ok : {T E X : Type 0} (r : Result T E) → OnOk r X → is_ok r ≡ true → X
@@ -38,29 +40,32 @@ loop-sink-init g c =
       given = c.take_from_existing.ensures.left;
       total = total;
       front = c.take_from_existing.ensures.front;
-      numbers_stay = c.take_from_existing.ensures.numbers_stay;
-      pools = (
-          let long = taken_long (key_of c.args.request.now.key) _ known.grant _ _ _ _ _ known.taken in
-          let none = ap length known.no_fresh in
-          let was = length-map c.args.self.now.pools.items (entry_of name) in
-          let is = length-map c.take_from_existing.new.self.pools.items (entry_of name) in
-          let all = c.take_from_existing.ensures.left in
-          omega arith);
-      growing = grow_start known c.take_from_existing.ensures.numbers_stay.id c.take_from_existing.ensures.numbers_stay.offset (let out = allocated_entries name c.args.self.now.pools.items in let counted = c.args.self.now.counted in let all = c.take_from_existing.ensures.left in omega arith);
+      id_stays = c.take_from_existing.ensures.id_stays;
+      numbers = (let same = ap number_after c.take_from_existing.ensures.numbers_stay in let all = c.take_from_existing.ensures.left in omega arith);
+      growing = grow_start known c.take_from_existing.ensures.id_stays (let out = allocated_entries name c.args.self.now.pools.items in let counted = c.args.self.now.counted in let all = c.take_from_existing.ensures.left in omega arith);
       load = ap (λ n. c.args.budget.now.room + n) (walked_load name c.args.self.now.pools.items c.take_from_existing.new.self.pools.items known);
       own = c.take_from_existing.ensures.own;
       most = λ i. c.args.budget.now.most;
       looks = c.take_from_existing.ensures.looks;
     }
 
+pub take_from_new-requires-clause-numbers : goal.take_from_new-requires-clause-numbers
+take_from_new-requires-clause-numbers g c =
+    let is = ap number_after (numbers_stored g.D.DescriptorDevice.meaning.pool_name c.args.self.now.pools.items) in
+    let few = c.loop-sink.invariant.numbers in
+    let fits = c.requires.numbers in
+    omega arith
+
 pub returns-clause-taken : goal.returns-clause-taken
-returns-clause-taken g c = (let inv = c.loop-sink.invariant in grow_end inv.growing (let end : c.loop-sink.sink.left ≡ 0 = omega arith in end) inv.numbers_stay.id inv.numbers_stay.offset tt)
+returns-clause-taken g c = (let inv = c.loop-sink.invariant in grow_end inv.growing (let end : c.loop-sink.sink.left ≡ 0 = omega arith in end) inv.id_stays tt)
 
 pub returns-in_err-take_from_new-clause-taken : goal.returns-in_err-take_from_new-clause-taken
 returns-in_err-take_from_new-clause-taken g c =
     let inv = c.loop-sink.invariant in
     let err = c.in_err-take_from_new.ensures.err in
-    rw (passed c.from_residual-in_err-take_from_new.result c.in_err-take_from_new.field-0.0 c.from_residual-in_err-take_from_new.ensures.1) (grow_stop c.in_err-take_from_new.field-0.0 c.loop-sink-test.true inv.growing (ap (λ (xs : List (DescriptorSet g.row.S.Denot)). items_of g.D.DescriptorDevice.meaning.set_name (appended (g.K.SetPlaces.items c.args.sink.now.sets) xs)) err.0) (ap (map (entry_of g.D.DescriptorDevice.meaning.pool_name)) err.2) (c.in_err-take_from_new.ensures.numbers_stay.id ∙ inv.numbers_stay.id) (c.in_err-take_from_new.ensures.numbers_stay.offset ∙ inv.numbers_stay.offset) err.5 err.6)
+    let put = ap (λ (xs : List (DescriptorSet g.row.S.Denot)). items_of g.D.DescriptorDevice.meaning.set_name (appended (g.K.SetPlaces.items c.args.sink.now.sets) xs)) err.0 in
+    rw (passed c.from_residual-in_err-take_from_new.result c.in_err-take_from_new.field-0.0 c.from_residual-in_err-take_from_new.ensures.1)
+    (grow_stop c.in_err-take_from_new.field-0.0 c.loop-sink-test.true inv.growing put (ap (map (entry_of g.D.DescriptorDevice.meaning.pool_name)) err.2) (c.in_err-take_from_new.ensures.id_stays ∙ inv.id_stays) err.5 err.6)
 
 pub loop-sink-preserved : goal.loop-sink-preserved
 loop-sink-preserved g c =
@@ -77,31 +82,31 @@ loop-sink-preserved g c =
     let more : List ℕ = map g.D.DescriptorDevice.meaning.set_name got.0 in
     let given : length got.0 ≡ length more = sym (length-map got.0 g.D.DescriptorDevice.meaning.set_name) in
     let few : length more ≤ c.loop-sink.sink.left = (let a = grown.many in let b = grown.given in omega arith) in
-    let number : ℕ = c.loop-sink.self.offset + length items in
+    let number : ℕ = number_after (stored_numbers items) in
     let fresh : List (DescriptorSet g.row.S.Denot) = map (set_at key c.loop-sink.self.id number) got.0 in
     let came : appended was (g.K.SetPlaces.items c.take_from_new.new.sink.sets) ≡ sets ++ fresh = appended_more was (g.K.SetPlaces.items c.loop-sink.sink.sets) fresh inv.front got.1 in
     let seen : items_of g.D.DescriptorDevice.meaning.set_name (appended was (g.K.SetPlaces.items c.take_from_new.new.sink.sets)) ≡ put ++ items_at key c.args.self.now.id number more =
-    ap (items_of g.D.DescriptorDevice.meaning.set_name) came ∙ map-append _ sets fresh ∙ ap (λ x. put ++ x) (items_of-sets_at g.D.DescriptorDevice.meaning.set_name key c.loop-sink.self.id number got.0 ∙ ap (λ i. items_at key i number more) inv.numbers_stay.id) in
+    ap (items_of g.D.DescriptorDevice.meaning.set_name) came ∙ map-append _ sets fresh ∙ ap (λ x. put ++ x) (items_of-sets_at g.D.DescriptorDevice.meaning.set_name key c.loop-sink.self.id number got.0 ∙ ap (λ i. items_at key i number more) inv.id_stays) in
     let long = ap length came ∙ length-append sets fresh in
     let raws = length-map got.0 (λ raw. set_at key c.loop-sink.self.id number raw) in
-    let was_long = length-map items (entry_of g.D.DescriptorDevice.meaning.pool_name) in
+    let numbered : number_after (numbers_of new) ≡ number = ap number_after (numbers_stored g.D.DescriptorDevice.meaning.pool_name items) in
     record {
       given = (let a = inv.given in let b = got.2 in omega arith);
       total = (let a = inv.total in let b = got.3 in omega arith);
       front = front_more was (g.K.SetPlaces.items c.loop-sink.sink.sets) fresh inv.front got.1;
-      numbers_stay = record { id = c.in_ok-take_from_new.ensures.numbers_stay.id ∙ inv.numbers_stay.id; offset = c.in_ok-take_from_new.ensures.numbers_stay.offset ∙ inv.numbers_stay.offset };
-      pools = (
-          let a = inv.pools in
-          let d = length-map c.take_from_new.new.self.pools.items (entry_of g.D.DescriptorDevice.meaning.pool_name) in
-          let one : length new' ≡ length new + 1 = ap length grown.entries ∙ length-append new (fresh_entry grown.pool ∷ []) in
+      id_stays = c.in_ok-take_from_new.ensures.id_stays ∙ inv.id_stays;
+      numbers = (
+          let a = inv.numbers in
+          let is : number_after (numbers_of new') ≡ number_after (stored_numbers c.take_from_new.new.self.pools.items) = ap number_after (numbers_stored g.D.DescriptorDevice.meaning.pool_name c.take_from_new.new.self.pools.items) in
+          let one = ap (λ (es : List Entry). number_after (numbers_of es)) grown.entries ∙ ap number_after (map-append _ new (fresh_entry (number_after (numbers_of new)) grown.pool ∷ [])) ∙ next_push (numbers_of new) (number_after (numbers_of new)) in
           let gave = grown.given in
           let size = grown.size.some in
           let all = grown.many in
           omega arith);
-      growing = grow_more c.requires.booked inv.growing grown c.loop-sink-test.true (got.3 ∙ ap (λ n. c.loop-sink.self.total + n) given) (let less = got.2 in omega arith) (let first = inv.numbers_stay.offset in let e : number ≡ c.args.self.now.offset + length new = omega arith in e) seen;
+      growing = grow_more c.requires.booked inv.growing grown c.loop-sink-test.true (got.3 ∙ ap (λ n. c.loop-sink.self.total + n) given) (let less = got.2 in omega arith) (sym numbered) seen;
       load = (
           let a = inv.load in
-          let b = ap (pools_load key) grown.entries ∙ load_more key new grown.pool in
+          let b = ap (pools_load key) grown.entries ∙ load_more key (number_after (numbers_of new)) new grown.pool in
           let was = load_entries g.D.DescriptorDevice.meaning.pool_name key items in
           let is = load_entries g.D.DescriptorDevice.meaning.pool_name key c.take_from_new.new.self.pools.items in
           let less = grown.less in

@@ -1,5 +1,5 @@
 -- So many sets are still wanting, and the new pools gave what the others lacked.
-use Rattle.gpu_descriptor.proofs.Common.{◌≡◌, ◌+◌, ◌++◌, ◌≤◌, length, map, key_of, items_of, CountsLooks, stored_load, entry_of, KeepsNumbers}
+use Rattle.gpu_descriptor.proofs.Common.{◌≡◌, ◌+◌, ◌++◌, ◌≤◌, length, map, key_of, items_of, CountsLooks, stored_load, entry_of, number_after, stored_numbers}
 use Rattle.gpu_descriptor.specs.Caller.SetLists.{appended}
 use Rattle.gpu_descriptor.specs.Caller.Sets.{PutsOfLayout}
 use Rattle.gpu_descriptor.proofs.request.Growing.{Growing}
@@ -10,9 +10,11 @@ invariant-loop-sink g l = record {
   given : length (appended (g.K.SetPlaces.items l.fn.sink.sets) (g.K.SetPlaces.items l.sink.sets)) + l.sink.left ≡ l.fn.request.count;
   total : l.self.total ≡ l.fn.self.total + length (appended (g.K.SetPlaces.items l.fn.sink.sets) (g.K.SetPlaces.items l.sink.sets));
   front : g.K.SetPlaces.items l.sink.sets ≡ g.K.SetPlaces.items l.fn.sink.sets ++ appended (g.K.SetPlaces.items l.fn.sink.sets) (g.K.SetPlaces.items l.sink.sets);
-  numbers_stay : KeepsNumbers l.fn.self l.self;
-  pools : length l.self.pools.items + l.sink.left ≤ length l.fn.self.pools.items + l.fn.request.count;
-  growing : Growing l.fn.budget.most (key_of l.fn.request.key) l.fn.budget.room l.fn.request.count l.fn.self.id l.fn.self.offset l.budget.room l.self.total l.sink.left (items_of g.D.DescriptorDevice.meaning.set_name (appended (g.K.SetPlaces.items l.fn.sink.sets) (g.K.SetPlaces.items l.sink.sets))) (map (entry_of g.D.DescriptorDevice.meaning.pool_name) l.fn.self.pools.items) (map (entry_of g.D.DescriptorDevice.meaning.pool_name) l.self.pools.items) (g.D.DescriptorDevice.ledger l.fn.device) (g.D.DescriptorDevice.ledger l.device);
+  id_stays : l.self.id ≡ l.fn.self.id;
+  numbers : number_after (stored_numbers l.self.pools.items) + l.sink.left ≤ number_after (stored_numbers l.fn.self.pools.items) + l.fn.request.count;
+  growing : Growing l.fn.budget.most (key_of l.fn.request.key) l.fn.budget.room l.fn.request.count l.fn.self.id l.budget.room l.self.total l.sink.left
+      (items_of g.D.DescriptorDevice.meaning.set_name (appended (g.K.SetPlaces.items l.fn.sink.sets) (g.K.SetPlaces.items l.sink.sets)))
+      (map (entry_of g.D.DescriptorDevice.meaning.pool_name) l.fn.self.pools.items) (map (entry_of g.D.DescriptorDevice.meaning.pool_name) l.self.pools.items) (g.D.DescriptorDevice.ledger l.fn.device) (g.D.DescriptorDevice.ledger l.device);
   load : l.budget.room + stored_load (key_of l.fn.request.key) l.self.pools.items ≡ l.fn.budget.room + stored_load (key_of l.fn.request.key) l.fn.self.pools.items;
   own : PutsOfLayout g.D.DescriptorDevice.meaning l.fn.request.layout.now (g.K.SetPlaces.items l.fn.sink.sets) (g.K.SetPlaces.items l.sink.sets);
   most : l.budget.most ≡ l.fn.budget.most;

@@ -1,4 +1,4 @@
-use Rattle.gpu_descriptor.proofs.Common.{◌≡◌, ℕ, ◌+◌, ◌-◌, ◌++◌, List, [], length, map, slice_get, slice_set, Some, refl, sym, ap, ◌∙◌, arith, append_assoc, length-append, length-map, append-nil, map-append, length-set, BucketKey, DescriptorSet, Key, key_of, set_at, items_at, items_of, entry_of, IsAsked}
+use Rattle.gpu_descriptor.proofs.Common.{◌≡◌, ℕ, ◌+◌, ◌++◌, List, [], length, map, slice_get, slice_set, Some, refl, sym, ap, ◌∙◌, arith, append_assoc, length-append, length-map, append-nil, map-append, length-set, BucketKey, DescriptorSet, Key, key_of, set_at, items_at, items_of, entry_of, newest_place, IsAsked}
 use Rattle.gpu_descriptor.proofs.request.OpenWalk.{open_walk_start, open_walk_more, open_walk_stop, walk_sated, walk_empty, next_is_booked, listed_now_closed, listed_now_open, listed_now_same, one_asked}
 use Rattle.gpu_descriptor.proofs.request.OwnLayout.{none_own}
 use Rattle.gpu_descriptor.proofs.request.Passed.{passed}
@@ -30,12 +30,12 @@ loop-sink-init g c = record {
 pub returns-in_default-clause-walked : goal.returns-in_default-clause-walked
 returns-in_default-clause-walked g c =
     let inv = c.loop-sink.invariant in
-    (inv.put, c.newest.ensures.sets ∙ inv.sets, (let given = inv.given in let left = c.newest.ensures.left in omega arith), rw c.newest.ensures.left (walk_end inv.kept.4 inv.kept.0 (walk_empty c.requires.booked inv.walk c.in_default.ensures.none)))
+    (inv.put, c.newest.ensures.sets ∙ inv.sets, (let given = inv.given in let left = c.newest.ensures.left in omega arith), rw c.newest.ensures.left (walk_end inv.kept.4 (walk_empty c.requires.booked inv.walk c.in_default.ensures.none)))
 
 pub returns-clause-walked : goal.returns-clause-walked
 returns-clause-walked g c =
     let inv = c.loop-sink.invariant in
-    let over = walk_end inv.kept.4 inv.kept.0 (walk_sated c.requires.booked inv.walk (let none = c.loop-sink-test.false in omega arith)) in
+    let over = walk_end inv.kept.4 (walk_sated c.requires.booked inv.walk (let none = c.loop-sink-test.false in omega arith)) in
     (inv.put, inv.sets, inv.given, over)
 
 pub ask-requires : goal.ask-requires
@@ -46,7 +46,9 @@ pub returns-in_err-ask-clause-stopped : goal.returns-in_err-ask-clause-stopped
 returns-in_err-ask-clause-stopped g c =
     let inv = c.loop-sink.invariant in
     let err = c.in_err-ask.ensures.err in
-    rw (passed c.from_residual.result c.in_err-ask.field-0.0 c.from_residual.ensures.1) (inv.put, err.0 ∙ c.newest.ensures.sets ∙ inv.sets, (let given = inv.given in let left = c.newest.ensures.left in let still = err.1 in omega arith), open_walk_stop c.requires.booked inv.walk c.loop-sink-test.true _ _ c.in-Some.ensures.last _ c.in-Some.ensures.value c.ask.new.pool 0 c.in_err-ask.field-0.0 _ inv.kept.4 inv.kept.0 err.2 (rw c.newest.ensures.left at err.3))
+    let many : length inv.put + c.ask.new.sink.left ≡ c.args.request.now.count = (let given = inv.given in let left = c.newest.ensures.left in let still = err.1 in omega arith) in
+    rw (passed c.from_residual.result c.in_err-ask.field-0.0 c.from_residual.ensures.1)
+    (inv.put, err.0 ∙ c.newest.ensures.sets ∙ inv.sets, many, open_walk_stop c.requires.booked inv.walk c.loop-sink-test.true _ _ c.in-Some.ensures.last _ c.in-Some.ensures.value c.ask.new.pool 0 c.in_err-ask.field-0.0 _ inv.kept.4 err.2 (rw c.newest.ensures.left at err.3))
 
 pub returns-in_err-ask-clause-listed : goal.returns-in_err-ask-clause-listed
 returns-in_err-ask-clause-listed g c =
@@ -63,7 +65,7 @@ module _ (g : _) (c : In_ok-ask g) where
   abbrev names : List ℕ
   names = map g.D.DescriptorDevice.meaning.set_name raws
 
-  at : slice_get c.loop-sink.view.pools.now.items (c.newest.new.sink.number - c.loop-sink.view.offset) ≡ Some c.in-Some.pool.now
+  at : slice_get c.loop-sink.view.pools.now.items (newest_place c.loop-sink.view) ≡ Some c.in-Some.pool.now
   at = c.in-Some.ensures.value
 
   asked : IsAsked (key_of c.args.request.now.key) c.loop-sink.sink.left names (entry_of g.D.DescriptorDevice.meaning.pool_name c.in-Some.pool.now) (entry_of g.D.DescriptorDevice.meaning.pool_name c.ask.new.pool) (g.D.DescriptorDevice.ledger c.loop-sink.device) (g.D.DescriptorDevice.ledger c.ask.new.device)
@@ -75,6 +77,12 @@ module _ (g : _) (c : In_ok-ask g) where
   sets : (g.K.SetPlaces.items c.ask.new.sink.sets) ≡ (g.K.SetPlaces.items c.args.sink.now.sets) ++ put
   sets =
       c.in_ok-ask.ensures.asked.1 ∙ ap (λ x. (g.K.SetPlaces.items c.newest.new.sink.sets) ++ x) (aimed_at c.newest.new.sink.number raws c.in-Some.ensures.key c.in-Some.ensures.id) ∙ ap (λ x. x ++ map (set_at (key_of c.args.request.now.key) c.loop-sink.view.id c.newest.new.sink.number) raws) (c.newest.ensures.sets ∙ c.loop-sink.invariant.sets) ∙ append_assoc (g.K.SetPlaces.items c.args.sink.now.sets) c.loop-sink.invariant.put _
+
+  -- under the pool's own number
+  seen : items_of g.D.DescriptorDevice.meaning.set_name put ≡ items_of g.D.DescriptorDevice.meaning.set_name c.loop-sink.invariant.put ++ items_at (key_of c.args.request.now.key) c.loop-sink.view.id c.in-Some.pool.now.number names
+  seen =
+      gave_more g.D.DescriptorDevice.meaning.set_name (key_of c.args.request.now.key) c.loop-sink.view.id c.newest.new.sink.number c.loop-sink.invariant.put raws
+      ∙ ap (λ (i : ℕ). items_of g.D.DescriptorDevice.meaning.set_name c.loop-sink.invariant.put ++ items_at (key_of c.args.request.now.key) c.loop-sink.view.id i names) c.in-Some.ensures.number
 
   given : length put + c.ask.new.sink.left ≡ c.args.request.now.count
   given =
@@ -93,13 +101,13 @@ loop-sink-preserved g c =
     let q = c.ask.new.pool in
     let open_still = listed_now_open c.requires.booked inv.walk c.loop-sink-test.true _ _ last _ (at g r) q (let a = c.if-pool-eq0.false in omega arith) in
     let asked_one = one_asked c.requires.booked inv.walk c.loop-sink-test.true _ _ last _ (at g r) q _ _ (asked g r) in
-    let many = length-set c.loop-sink.view.pools.now.items (c.newest.new.sink.number - c.loop-sink.view.offset) q in
+    let many = length-set c.loop-sink.view.pools.now.items (newest_place c.loop-sink.view) q in
     record {
       put = put g r;
       sets = sets g r;
       given = given g r;
       long = many ∙ inv.long;
-      walk = open_walk_more c.requires.booked inv.walk c.loop-sink-test.true _ _ last _ (at g r) q refl refl (gave_more g.D.DescriptorDevice.meaning.set_name (key_of c.args.request.now.key) c.loop-sink.view.id c.newest.new.sink.number inv.put (raws g r)) refl open_still (asked g r) (less g r);
+      walk = open_walk_more c.requires.booked inv.walk c.loop-sink-test.true _ _ last _ (at g r) q refl refl (seen g r) refl open_still (asked g r) (less g r);
       space = inv.space;
       kept = inv.kept;
       own = λ first before. c.in_ok-ask.ensures.own first (none_own g.D.DescriptorDevice.meaning c.args.request.now.layout.now c.newest.ensures.sets first (inv.own first before));
@@ -115,15 +123,15 @@ loop-sink-preserved-then-pool-eq0 g c =
     let closed = listed_now_closed c.requires.booked inv.walk c.loop-sink-test.true _ _ last _ (at g r) q c.if-pool-eq0.true in
     let asked_one = one_asked c.requires.booked inv.walk c.loop-sink-test.true _ _ last _ (at g r) q _ _ (asked g r) in
     let now = c.close_newest.ensures in
-    let pools : c.close_newest.new.self.pools.now.items ≡ slice_set c.loop-sink.view.pools.now.items (c.newest.new.sink.number - c.loop-sink.view.offset) q = ap (λ x. x.now.items) now.pools in
-    let many : length c.close_newest.new.self.pools.now.items ≡ length c.loop-sink.view.pools.now.items = ap length pools ∙ length-set c.loop-sink.view.pools.now.items (c.newest.new.sink.number - c.loop-sink.view.offset) q in
+    let pools : c.close_newest.new.self.pools.now.items ≡ slice_set c.loop-sink.view.pools.now.items (newest_place c.loop-sink.view) q = ap (λ x. x.now.items) now.pools in
+    let many : length c.close_newest.new.self.pools.now.items ≡ length c.loop-sink.view.pools.now.items = ap length pools ∙ length-set c.loop-sink.view.pools.now.items (newest_place c.loop-sink.view) q in
     let looked : c.close_newest.new.self.looks.now.count ≡ c.loop-sink.view.looks.now.count + 1 = ap (λ x. x.now.count) now.looks in
     record {
       put = put g r;
       sets = sets g r;
       given = given g r;
       long = many ∙ inv.long;
-      walk = open_walk_more c.requires.booked inv.walk c.loop-sink-test.true _ _ last _ (at g r) q now.kept.4 now.kept.0 (gave_more g.D.DescriptorDevice.meaning.set_name (key_of c.args.request.now.key) c.loop-sink.view.id c.newest.new.sink.number inv.put (raws g r)) pools (now.listed ∙ closed) (asked g r) (less g r);
+      walk = open_walk_more c.requires.booked inv.walk c.loop-sink-test.true _ _ last _ (at g r) q now.kept.4 now.kept.0 (seen g r) pools (now.listed ∙ closed) (asked g r) (less g r);
       space = now.capacity ∙ inv.space;
       kept = (now.kept.0 ∙ inv.kept.0, now.kept.1 ∙ inv.kept.1, now.kept.2 ∙ inv.kept.2, now.kept.3 ∙ inv.kept.3, now.kept.4 ∙ inv.kept.4);
       own = λ first before. c.in_ok-ask.ensures.own first (none_own g.D.DescriptorDevice.meaning c.args.request.now.layout.now c.newest.ensures.sets first (inv.own first before));

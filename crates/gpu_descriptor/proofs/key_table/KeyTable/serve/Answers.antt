@@ -57,7 +57,7 @@ returns-in-Some-clause-keys g c = on_ok c.serve.result (keys_at c.args.self.now.
 pub invariant_of-self : goal.invariant_of-self
 invariant_of-self g c =
     let es = c.args.self.now.buckets.entries in
-    let same = ids_put es c.in-Some.place _ c.serve.new.self c.index_mut.ensures.value c.serve.ensures.numbers_stay.id in
+    let same = ids_put es c.in-Some.place _ c.serve.new.self c.index_mut.ensures.value c.serve.ensures.id_stays in
     record {
       rising = ap (λ (ids : List ℕ). rise_below c.args.self.now.next_id ids) same ∙ c.args.self.now.rising;
       distinct = subst (IsDistinct key_eq) (sym (keys_at es c.in-Some.place c.serve.new.self)) c.args.self.now.distinct;

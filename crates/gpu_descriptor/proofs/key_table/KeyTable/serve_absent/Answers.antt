@@ -32,7 +32,7 @@ pub returns-in_err-served-clause-refused : goal.returns-in_err-served-clause-ref
 returns-in_err-served-clause-refused g c =
     let is = absent g (goal.at.returns-in_err-served-clause-refused g c).Start in
     let given : Bucket → Bucket = λ b. record b { id = c.args.self.now.next_id } in
-    let empty : given no_pools ≡ record { id = c.args.self.now.next_id; offset = 0; pools = map (entry_of g.D.DescriptorDevice.meaning.pool_name) c.new.result.items } = λ i. record { id = c.args.self.now.next_id; offset = 0; pools = map (entry_of g.D.DescriptorDevice.meaning.pool_name) (sym c.new.ensures.items i) } in
+    let empty : given no_pools ≡ record { id = c.args.self.now.next_id; pools = map (entry_of g.D.DescriptorDevice.meaning.pool_name) c.new.result.items } = λ i. record { id = c.args.self.now.next_id; pools = map (entry_of g.D.DescriptorDevice.meaning.pool_name) (sym c.new.ensures.items i) } in
     rw (passed c.from_residual.result c.in_err-served.field-0.0 c.from_residual.ensures.1) (subst (λ (b : Bucket). IsUnserved c.args.request.now.count c.in_err-served.field-0.0 b) (sym (ap given is ∙ empty)) c.in_err-served.ensures.refused)
 
 -- the new key goes last
@@ -43,7 +43,8 @@ put g c =
 
 pub returns-clause-served : goal.returns-clause-served
 returns-clause-served g c =
-    serves_new c.args.request.now.key c.serve.new.self c.in_ok-served.ensures.served.0 c.in_ok-served.ensures.served.1 c.args.self.now.buckets.entries (is_of (key_of c.args.request.now.key)) (λ k. search rules) (c.requires.absent) (put g (goal.at.returns-clause-served g c).In-Ok) (λ i. record { id = c.args.self.now.next_id; offset = 0; pools = map (entry_of g.D.DescriptorDevice.meaning.pool_name) (c.new.ensures.items i) }) refl
+    serves_new c.args.request.now.key c.serve.new.self c.in_ok-served.ensures.served.0 c.in_ok-served.ensures.served.1 c.args.self.now.buckets.entries
+    (is_of (key_of c.args.request.now.key)) (λ k. search rules) (c.requires.absent) (put g (goal.at.returns-clause-served g c).In-Ok) (λ i. record { id = c.args.self.now.next_id; pools = map (entry_of g.D.DescriptorDevice.meaning.pool_name) (c.new.ensures.items i) }) refl
 
 pub returns-clause-room : goal.returns-clause-room
 returns-clause-room g c =
@@ -59,7 +60,7 @@ invariant_of-self-in-Ok g c =
     let next = c.args.self.now.next_id in
     let es = c.args.self.now.buckets.entries in
     let ids : stored_ids c.insert.new.self.entries ≡ stored_ids es ++ next ∷ [] =
-    ap stored_ids (put g (goal.at.invariant_of-self-in-Ok g c).In-Ok) ∙ map-append _ es _ ∙ ap (λ (n : ℕ). stored_ids es ++ n ∷ []) c.serve.ensures.numbers_stay.id in
+    ap stored_ids (put g (goal.at.invariant_of-self-in-Ok g c).In-Ok) ∙ map-append _ es _ ∙ ap (λ (n : ℕ). stored_ids es ++ n ∷ []) c.serve.ensures.id_stays in
     record {
       rising = ap (rise_below (next + 1)) ids ∙ one_more next (next + 1) (stored_ids es) refl c.args.self.now.rising;
       distinct = distinct_stored _ (λ k l. search rules) c.insert.new.self.entries c.insert.ensures.unique;

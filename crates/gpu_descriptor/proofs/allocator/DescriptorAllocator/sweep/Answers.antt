@@ -11,32 +11,32 @@ use Rattle.gpu_descriptor.proofs.cleanup.RowsCleaned.{all_cleared, agree_is, cle
 use Rattle.gpu_descriptor.proofs.foreign.OthersStay.{emptied, others_stay}
 use Rattle.gpu_descriptor.proofs.request.Requested.{rows_distinct}
 use Rattle.gpu_descriptor.proofs.table.TableBooks.{rows_in, distinct_rows, distinct_stored}
-use Rattle.gpu_descriptor.proofs.allocator.DescriptorAllocator.cleanup.Goals as goal
+use Rattle.gpu_descriptor.proofs.allocator.DescriptorAllocator.sweep.Goals as goal
 
-pub destroy_empty_front-requires-clause-stored : goal.destroy_empty_front-requires-clause-stored
-destroy_empty_front-requires-clause-stored g c =
+pub destroy_empty-requires-clause-stored : goal.destroy_empty-requires-clause-stored
+destroy_empty-requires-clause-stored g c =
     let name = g.D.DescriptorDevice.meaning.pool_name in
     let ledger = g.D.DescriptorDevice.ledger in
     let h = c.loop-place.invariant in
     let es = c.self.inside.table.buckets.entries in
     let k = c.pair_mut-bucket.result.0.now in
-    let at = next name c.loop-place.place c.loop-place.self-inside.table.buckets.entries (rows_in name es) k c.pair_mut-bucket.result.1.now h.rows c.pair_mut-bucket.ensures.value in
-    let agree = agree_is name c.args.self.now (ledger c.args.device.now) es (ap (λ (a : Allocations _). a.table) (sym c.self.view_is)) c.requires.agree.books in
-    let there = next_stored (rows_in name es) (ledger c.args.device.now).pools c.loop-place.place (key_of k, bucket_of name c.pair_mut-bucket.result.1.now) (distinct_rows name es c.self.inside.table.distinct) agree at in
+    let at = next c.args.everywhere name c.loop-place.place c.loop-place.self-inside.table.buckets.entries (rows_in name es) k c.pair_mut-bucket.result.1.now h.rows c.pair_mut-bucket.ensures.value in
+    let agree = agree_is c.args.everywhere name c.args.self.now (ledger c.args.device.now) es (ap (λ (a : Allocations _). a.table) (sym c.self.view_is)) c.requires.agree.books in
+    let there = next_stored c.args.everywhere (rows_in name es) (ledger c.args.device.now).pools c.loop-place.place (key_of k, bucket_of name c.pair_mut-bucket.result.1.now) (distinct_rows name es c.self.inside.table.distinct) agree at in
     (key_of k, subst (λ (l : Ledger). AreBookedIn (key_of k) l.pools (bucket_of name c.pair_mut-bucket.result.1.now).pools) (sym h.ledger) there)
 
-pub destroy_empty_front-requires-clause-room : goal.destroy_empty_front-requires-clause-room
-destroy_empty_front-requires-clause-room g c =
+pub destroy_empty-requires-clause-room : goal.destroy_empty-requires-clause-room
+destroy_empty-requires-clause-room g c =
     let below = (sum_put stored_load_in c.loop-place.self-inside.table.buckets.entries c.loop-place.place c.pair_mut-bucket.result.0.now c.pair_mut-bucket.result.1.now c.pair_mut-bucket.result.1.now c.pair_mut-bucket.ensures.value).0 in
     let rows = rows_pool_load c.loop-place.self-inside.table.buckets.entries in
     omega arith
 
 pub invariant_of-self-inside : goal.invariant_of-self-inside
 invariant_of-self-inside g c =
-    let same = ids_put c.loop-place.self-inside.table.buckets.entries c.loop-place.place c.pair_mut-bucket.result.1.now c.destroy_empty_front.new.self (value_at c.loop-place.self-inside.table.buckets.entries c.loop-place.place _ _ c.pair_mut-bucket.ensures.value) (ap (λ (b : Bucket). b.id) c.destroy_empty_front.ensures.books) in
+    let same = ids_put c.loop-place.self-inside.table.buckets.entries c.loop-place.place c.pair_mut-bucket.result.1.now c.destroy_empty.new.self (value_at c.loop-place.self-inside.table.buckets.entries c.loop-place.place _ _ c.pair_mut-bucket.ensures.value) (ap (λ (b : Bucket). b.id) c.destroy_empty.ensures.books) in
     record {
       rising = ap (λ (ids : List ℕ). rise_below c.loop-place.self-inside.table.next_id ids) same ∙ c.loop-place.self-inside.table.rising;
-      distinct = subst (IsDistinct key_eq) (sym (keys_at c.loop-place.self-inside.table.buckets.entries c.loop-place.place c.destroy_empty_front.new.self)) c.loop-place.self-inside.table.distinct;
+      distinct = subst (IsDistinct key_eq) (sym (keys_at c.loop-place.self-inside.table.buckets.entries c.loop-place.place c.destroy_empty.new.self)) c.loop-place.self-inside.table.distinct;
     }
 
 pub loop-place-preserved : goal.loop-place-preserved
@@ -52,10 +52,10 @@ loop-place-preserved g c =
     let at = c.pair_mut-bucket.ensures.value in
     let more : suc i ≡ i + 1 = omega arith in
     record {
-      rows = step_rows name i now (rows_in name es) k v c.destroy_empty_front.new.self h.rows at c.destroy_empty_front.ensures.books ∙ ap (λ m. cleared m (rows_in name es)) more;
-      ledger = step_less i (rows_in name es) (key_of k, bucket_of name v) (ledger c.args.device.now) (ledger c.loop-place.device) (ledger c.destroy_empty_front.new.device) (next name i now (rows_in name es) k v h.rows at) h.ledger c.destroy_empty_front.ensures.ledger;
-      counted = counted_put _ _ _ _ _ now i k v c.destroy_empty_front.new.self at c.destroy_empty_front.ensures.total c.destroy_empty_front.ensures.room h.counted;
-      long = length-set_value_at now i c.destroy_empty_front.new.self ∙ h.long;
+      rows = step_rows c.args.everywhere name i now (rows_in name es) k v c.destroy_empty.new.self h.rows at c.destroy_empty.ensures.books ∙ ap (λ m. cleared c.args.everywhere m (rows_in name es)) more;
+      ledger = step_less c.args.everywhere i (rows_in name es) (key_of k, bucket_of name v) (ledger c.args.device.now) (ledger c.loop-place.device) (ledger c.destroy_empty.new.device) (next c.args.everywhere name i now (rows_in name es) k v h.rows at) h.ledger c.destroy_empty.ensures.ledger;
+      counted = counted_put _ _ _ _ _ now i k v c.destroy_empty.new.self at c.destroy_empty.ensures.total c.destroy_empty.ensures.room h.counted;
+      long = length-set_value_at now i c.destroy_empty.new.self ∙ h.long;
       out = h.out;
       marked = h.marked;
       limit = h.limit;
@@ -88,28 +88,28 @@ returns g c =
     let distinct = distinct_rows name es c.self.inside.table.distinct in
     let kept = filter-RetainsPairs _ (λ e. has_pools e.1) _ (λ k v b w f call. search rules) _ _ c.retain.ensures.filtered in
     let le : length (rows_in name es) ≤ c.loop-place.place = (let rows : length (rows_in name es) ≡ length es = length-map es (λ e. (key_of e.0, bucket_of name e.1)) in omega arith) in
-    let rows = h.rows ∙ all_cleared c.loop-place.place (rows_in name es) le in
-    let less = h.ledger ∙ ap (λ l. ledger_less l (ledger c.args.device.now)) (take_all c.loop-place.place (rows_in name es) le) in
+    let rows = h.rows ∙ all_cleared c.args.everywhere c.loop-place.place (rows_in name es) le in
+    let less = h.ledger ∙ ap (λ l. ledger_less c.args.everywhere l (ledger c.args.device.now)) (take_all c.loop-place.place (rows_in name es) le) in
     let counted = counted_filter _ _ _ _ _ _ kept h.counted in
     let now : Allocations _ = record { limit = c.loop-place.self-inside.max_update_after_bind_descriptors_in_all_pools; most = c.loop-place.self-inside.budget.most; table = map row_of c.retain.new.self.entries; looks = c.loop-place.self-inside.budget.looks.count; comparisons = c.loop-place.self-inside.comparisons.count } in
-    let clean = whole_clean name c.args.self.now (ledger c.args.device.now) (ledger c.loop-place.device) es c.loop-place.self-inside.table.buckets.entries _ c.loop-place.self-inside.max_update_after_bind_descriptors_in_all_pools was distinct rows less kept in
-    let foreign = cleaned_foreign _ _ clean in
-    let accounted = cleaned_loses _ _ clean in
+    let clean = whole_clean c.args.everywhere name c.args.self.now (ledger c.args.device.now) (ledger c.loop-place.device) es c.loop-place.self-inside.table.buckets.entries _ c.loop-place.self-inside.max_update_after_bind_descriptors_in_all_pools was distinct rows less kept in
+    let foreign = cleaned_foreign c.args.everywhere _ _ clean in
+    let accounted = cleaned_loses c.args.everywhere _ _ clean in
     record {
-      cleans_up = record {
+      sweeps = record {
         cleaned = clean;
-        destroyed = whole_count name c.args.self.now (ledger c.args.device.now) (ledger c.loop-place.device) es was distinct less;
-        keys = keys_cleaned name c.args.self.now now (ledger c.args.device.now) (ledger c.loop-place.device) es c.loop-place.self-inside.table.buckets.entries c.retain.new.self.entries was refl distinct rows kept clean;
-        outstanding_stay = takes_none _ _ c.requires.agree.books clean;
+        destroyed = whole_count c.args.everywhere name c.args.self.now (ledger c.args.device.now) (ledger c.loop-place.device) es was distinct less;
+        keys = keys_cleaned c.args.everywhere name c.args.self.now now (ledger c.args.device.now) (ledger c.loop-place.device) es c.loop-place.self-inside.table.buckets.entries c.retain.new.self.entries was refl distinct rows kept clean;
+        outstanding_stay = takes_none c.args.everywhere _ _ c.requires.agree.books clean;
         totals_stay = (
           sym counted.is_out ∙ h.out ∙ (opened c.self.invariant).is_out ∙ ap outstanding_of c.self.view_is,
           sym counted.is_load ∙ h.marked ∙ (opened c.self.invariant).is_load ∙ ap marked_load_of c.self.view_is,
         );
-        emptied = emptied name c.args.self.now now (ledger c.args.device.now) (ledger c.loop-place.device) c.requires.agree.rows c.requires.agree.books clean;
+        emptied = emptied name c.args.everywhere c.args.self.now now (ledger c.args.device.now) (ledger c.loop-place.device) c.requires.agree.rows c.requires.agree.books clean;
         counts_stay = (h.looks ∙ ap (λ (a : Allocations _). a.looks) c.self.view_is, h.comparisons ∙ ap (λ (a : Allocations _). a.comparisons) c.self.view_is);
       };
       keeps = record {
-        agree = record { rows = rows_distinct name c.retain.new.self.entries (distinct_stored _ (λ k l. search rules) _ c.retain.ensures.unique); books = clean_agrees _ _ c.requires.agree.books clean };
+        agree = record { rows = rows_distinct name c.retain.new.self.entries (distinct_stored _ (λ k l. search rules) _ c.retain.ensures.unique); books = clean_agrees c.args.everywhere _ _ c.requires.agree.books clean };
         limit = h.limit ∙ ap (λ (a : Allocations _). a.limit) c.self.view_is;
         most = h.most ∙ ap (λ (a : Allocations _). a.most) c.self.view_is;
         load = (omega arith);

@@ -1,0 +1,42 @@
+use Rattle.gpu_descriptor.proofs.Common.{sym, ap, ◌∙◌, arith, length, map, sum_by, DescriptorPool, has_sets, number_after, rises, stored_numbers}
+use Rattle.gpu_descriptor.proofs.cleanup.Rotation.{entries_left, length_left, sets_left}
+use Rattle.gpu_descriptor.proofs.release.StoredNumbers.{next_stored, rises_stored}
+use Rattle.gpu_descriptor.proofs.bucket.DescriptorBucket.destroy_all_empty.Goals as goal
+
+pub relist-requires : goal.relist-requires
+relist-requires g c =
+    let left = c.destroy_without_sets.ensures.left in
+    let items = c.args.self.now.pools.items in
+    record {
+      rising = ap (λ ps. rises (stored_numbers ps)) left ∙ rises_stored has_sets items c.args.self.now.rising;
+      numbered = (let less = next_stored has_sets items c.args.self.now.rising in let same = ap (λ ps. number_after (stored_numbers ps)) left in let was = c.args.self.now.numbered in omega arith);
+      capacity = (let fewer = length_left items in let same = ap length left in let was = c.args.self.now.capacity in omega arith);
+    }
+
+pub invariant_of-self : goal.invariant_of-self
+invariant_of-self g c =
+    let left = c.destroy_without_sets.ensures.left in
+    let items = c.args.self.now.pools.items in
+    record {
+      ordinal = c.first_ordinal_of-self.ensures.first;
+      numbered = (let less = next_stored has_sets items c.args.self.now.rising in let same = ap (λ ps. number_after (stored_numbers ps)) left in let was = c.args.self.now.numbered in omega arith);
+      rising = ap (λ ps. rises (stored_numbers ps)) left ∙ rises_stored has_sets items c.args.self.now.rising;
+      counted = c.args.self.now.counted ∙ sym (ap (sum_by (λ (p : DescriptorPool _). p.allocated)) left ∙ sets_left items);
+      «open» = c.relist.ensures.listed;
+      capacity = (let fewer = length_left items in let same = ap length left in let was = c.args.self.now.capacity in let stays = c.relist.ensures.capacity in omega arith);
+    }
+
+pub first_ordinal_of-self-requires : goal.first_ordinal_of-self-requires
+first_ordinal_of-self-requires g c =
+    let left = c.destroy_without_sets.ensures.left in
+    let items = c.args.self.now.pools.items in
+    record {
+      numbered = (let less = next_stored has_sets items c.args.self.now.rising in let same = ap (λ ps. number_after (stored_numbers ps)) left in let was = c.args.self.now.numbered in omega arith);
+      rising = ap (λ ps. rises (stored_numbers ps)) left ∙ rises_stored has_sets items c.args.self.now.rising;
+    }
+
+pub returns-clause-books : goal.returns-clause-books
+returns-clause-books g c =
+    let name = g.D.DescriptorDevice.meaning.pool_name in
+    let pools = ap (map _) c.destroy_without_sets.ensures.left ∙ entries_left name c.args.self.now.pools.items in
+    λ i. record { id = c.args.self.now.id; pools = pools i }

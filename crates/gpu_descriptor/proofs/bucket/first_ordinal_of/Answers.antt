@@ -1,0 +1,15 @@
+use Rattle.gpu_descriptor.proofs.Common.{arith, length-map, stored_numbers}
+use Rattle.gpu_descriptor.proofs.lists.Numbers.{few_numbers}
+use Rattle.gpu_descriptor.proofs.bucket.first_ordinal_of.Goals as goal
+
+pub overflow_sub-result : goal.overflow_sub-result
+overflow_sub-result g c =
+    let few = few_numbers (stored_numbers c.args.pools.now.items) c.requires.rising in
+    let long = length-map c.args.pools.now.items (λ p. p.number) in
+    let all = c.args.pools.now.ok.0 in
+    let next = c.next_number_of.ensures in
+    let many = c.len.ensures in
+    omega arith
+
+pub returns-clause-fits : goal.returns-clause-fits
+returns-clause-fits g c = (let fits = overflow_sub-result g c in let all = c.args.pools.now.ok.0 in let next = c.next_number_of.ensures in let many = c.len.ensures in omega arith)

@@ -1,0 +1,207 @@
+-- The numbers of a key's pools: they rise, so each number stands at one place.
+use Rattle.gpu_descriptor.proofs.Common.{◌≡◌, ℕ, zero, suc, ◌+◌, ◌-◌, ◌<◌, ◌≤◌, ◌==◌, Bool, true, false, nat_lt, List, [], ◌∷◌, ◌++◌, length, map, drop, filter, slice_get, slice_index, slice_index_or, IsNonDecreasing, IsPartitionPoint, Option, Some, None, option_map, inl, inr, refl, sym, ap, ◌∙◌, subst, arith, eq-eqb, eqb-true, ne_eqb, lt-ltb, ltb-false, and_parts, and_from, cases_Bool, cases_lt, list_all, slice_get_within, EntryOf, Entry, Bucket, entry_at, rises, number_after, numbers_of}
+use Rattle.std.specs.List.{find}
+
+-- a number that is below all of a list
+pub all_above : (n : ℕ) (xs : List ℕ) → list_all (nat_lt n) xs ≡ true → (i m : ℕ) → slice_get xs i ≡ Some m → n < m
+all_above n [] h i m at = absurd (let bad : ◌≡◌ {A = Option ℕ} None (Some m) = at in cc)
+all_above n (x ∷ xs) h zero m at = grind arith
+all_above n (x ∷ xs) h (suc i) m at = all_above n xs (and_parts (nat_lt n x) (list_all (nat_lt n) xs) h).1 i m at
+
+pub all_from : (n : ℕ) (xs : List ℕ) → ((i m : ℕ) → slice_get xs i ≡ Some m → n < m) → list_all (nat_lt n) xs ≡ true
+all_from n [] h = refl
+all_from n (x ∷ xs) h = and_from _ _ (lt-ltb n x (h 0 x refl)) (all_from n xs (λ i. h (suc i)))
+
+-- ---- what rises
+
+pub rises_at : (xs : List ℕ) → rises xs ≡ true → (i j m n : ℕ) → i < j → slice_get xs i ≡ Some m → slice_get xs j ≡ Some n → m < n
+rises_at [] h i j m n lt a b = absurd (let bad : ◌≡◌ {A = Option ℕ} None (Some m) = a in cc)
+rises_at (x ∷ xs) h i zero m n lt a b = absurd (omega arith)
+rises_at (x ∷ xs) h zero (suc j) m n lt a b =
+    let same : x ≡ m = cc in
+    subst (λ (y : ℕ). y < n) same (all_above x xs (and_parts (list_all (nat_lt x) xs) (rises xs) h).0 j n b)
+rises_at (x ∷ xs) h (suc i) (suc j) m n lt a b = rises_at xs (and_parts (list_all (nat_lt x) xs) (rises xs) h).1 i j m n (omega arith) a b
+
+pub rises_from : (xs : List ℕ) → ((i j m n : ℕ) → i < j → slice_get xs i ≡ Some m → slice_get xs j ≡ Some n → m < n) → rises xs ≡ true
+rises_from [] h = refl
+rises_from (x ∷ xs) h = and_from _ _ (all_from x xs (λ i m at. h 0 (suc i) x m (omega arith) refl at)) (rises_from xs (λ i j m n lt a b. h (suc i) (suc j) m n (omega arith) a b))
+
+-- the next number is above all
+pub below_next : (xs : List ℕ) → rises xs ≡ true → (i m : ℕ) → slice_get xs i ≡ Some m → m < number_after xs
+below_next [] h i m at = absurd (let bad : ◌≡◌ {A = Option ℕ} None (Some m) = at in cc)
+below_next (x ∷ []) h zero m at = (let same : x ≡ m = cc in omega arith)
+below_next (x ∷ []) h (suc i) m at = absurd (let bad : ◌≡◌ {A = Option ℕ} None (Some m) = at in cc)
+below_next (x ∷ y ∷ xs) h zero m at =
+    let same : x ≡ m = cc in
+    let first = all_above x (y ∷ xs) (and_parts (list_all (nat_lt x) (y ∷ xs)) (rises (y ∷ xs)) h).0 0 y refl in
+    let rest = below_next (y ∷ xs) (and_parts (list_all (nat_lt x) (y ∷ xs)) (rises (y ∷ xs)) h).1 0 y refl in
+    omega arith
+below_next (x ∷ y ∷ xs) h (suc i) m at = below_next (y ∷ xs) (and_parts (list_all (nat_lt x) (y ∷ xs)) (rises (y ∷ xs)) h).1 i m at
+
+-- a number that isn't below the next may come last
+pub rises_push : (xs : List ℕ) (n : ℕ) → rises xs ≡ true → number_after xs ≤ n → rises (xs ++ n ∷ []) ≡ true
+rises_push [] n h le = refl
+rises_push (x ∷ xs) n h le =
+    let both = and_parts (list_all (nat_lt x) xs) (rises xs) h in
+    let above = below_next (x ∷ xs) h 0 x refl in
+    and_from _ _ (all_push x xs both.0 (omega arith)) (rises_push xs n both.1 (later xs le))
+  where
+    all_push : (m : ℕ) (ys : List ℕ) → list_all (nat_lt m) ys ≡ true → m < n → list_all (nat_lt m) (ys ++ n ∷ []) ≡ true
+    all_push m [] h lt = and_from _ _ (lt-ltb m n lt) refl
+    all_push m (y ∷ ys) h lt = (let p = and_parts (nat_lt m y) (list_all (nat_lt m) ys) h in and_from _ _ p.0 (all_push m ys p.1 lt))
+
+    later : (ys : List ℕ) → number_after (x ∷ ys) ≤ n → number_after ys ≤ n
+    later [] le = omega arith
+    later (y ∷ ys) le = le
+
+pub next_push : (xs : List ℕ) (n : ℕ) → number_after (xs ++ n ∷ []) ≡ n + 1
+next_push [] n = refl
+next_push (x ∷ []) n = refl
+next_push (x ∷ y ∷ xs) n = next_push (y ∷ xs) n
+
+-- there are as many numbers below the next one at least
+pub few_numbers : (xs : List ℕ) → rises xs ≡ true → length xs ≤ number_after xs
+few_numbers xs h = at_least xs h 0 (λ i m at. omega arith)
+  where
+    at_least : (ys : List ℕ) → rises ys ≡ true → (low : ℕ) → ((i m : ℕ) → slice_get ys i ≡ Some m → low ≤ m) → length ys ≤ number_after ys
+    at_least ys h low each = (let far = reaches ys h low each in elim (cases_lt 0 (length ys)) [ inl some ↦ (let f = far some in omega arith) | inr none ↦ (omega arith) ])
+      where
+        reaches : (zs : List ℕ) → rises zs ≡ true → (low : ℕ) → ((i m : ℕ) → slice_get zs i ≡ Some m → low ≤ m) → 0 < length zs → low + length zs ≤ number_after zs
+        reaches [] h low each some = absurd (omega arith)
+        reaches (z ∷ []) h low each some = (let first = each 0 z refl in omega arith)
+        reaches (z ∷ y ∷ zs) h low each some =
+            let both = and_parts (list_all (nat_lt z) (y ∷ zs)) (rises (y ∷ zs)) h in
+            let first = each 0 z refl in
+            let rest = reaches (y ∷ zs) both.1 (suc low) (λ i m at. (let lt = all_above z (y ∷ zs) both.0 i m at in omega arith)) (omega arith) in
+            omega arith
+
+-- ---- where numbers stand
+
+-- each is as far above the first as it stands behind it, at least
+pub above_first : (xs : List ℕ) → rises xs ≡ true → (i n : ℕ) → slice_get xs i ≡ Some n → slice_index xs 0 + i ≤ n
+above_first [] h i n at = absurd (let bad : ◌≡◌ {A = Option ℕ} None (Some n) = at in cc)
+above_first (x ∷ xs) h zero n at = (let same : x ≡ n = cc in omega arith)
+above_first (x ∷ []) h (suc i) n at = absurd (let bad : ◌≡◌ {A = Option ℕ} None (Some n) = at in cc)
+above_first (x ∷ y ∷ xs) h (suc i) n at =
+    let both = and_parts (list_all (nat_lt x) (y ∷ xs)) (rises (y ∷ xs)) h in
+    let first = all_above x (y ∷ xs) both.0 0 y refl in
+    let rest = above_first (y ∷ xs) both.1 i n at in
+    omega arith
+
+-- and as far below the next one
+pub below_last : (xs : List ℕ) → rises xs ≡ true → (i n : ℕ) → slice_get xs i ≡ Some n → n + length xs ≤ number_after xs + i
+below_last [] h i n at = absurd (let bad : ◌≡◌ {A = Option ℕ} None (Some n) = at in cc)
+below_last (x ∷ []) h zero n at = (let same : x ≡ n = cc in omega arith)
+below_last (x ∷ []) h (suc i) n at = absurd (let bad : ◌≡◌ {A = Option ℕ} None (Some n) = at in cc)
+below_last (x ∷ y ∷ xs) h zero n at =
+    let same : x ≡ n = cc in
+    let both = and_parts (list_all (nat_lt x) (y ∷ xs)) (rises (y ∷ xs)) h in
+    let first = all_above x (y ∷ xs) both.0 0 y refl in
+    let rest = below_last (y ∷ xs) both.1 0 y refl in
+    omega arith
+below_last (x ∷ y ∷ xs) h (suc i) n at = (let rest = below_last (y ∷ xs) (and_parts (list_all (nat_lt x) (y ∷ xs)) (rises (y ∷ xs)) h).1 i n at in omega arith)
+
+-- without gaps each is told by its place
+pub no_gaps : (xs : List ℕ) → rises xs ≡ true → nat_lt (slice_index xs 0 + length xs) (number_after xs) ≡ false → (i n : ℕ) → slice_get xs i ≡ Some n → n ≡ number_after xs - length xs + i
+no_gaps xs h dense i n at =
+    let low = above_first xs h i n at in
+    let high = below_last xs h i n at in
+    let few = ltb-false (slice_index xs 0 + length xs) (number_after xs) dense in
+    let within = slice_get_within xs i n at in
+    omega arith
+
+read_at : (xs : List ℕ) (i d : ℕ) → i < length xs → slice_get xs i ≡ Some (slice_index_or xs i d)
+read_at [] i d lt = absurd (omega arith)
+read_at (x ∷ xs) zero d lt = refl
+read_at (x ∷ xs) (suc i) d lt = read_at xs i d (omega arith)
+
+-- they don't fall
+pub rises_sorted : (xs : List ℕ) → rises xs ≡ true → IsNonDecreasing xs
+rises_sorted xs h i j d le lt = elim (cases_lt i j) [
+  | inl less ↦ (let rest = rises_at xs h i j _ _ less (read_at xs i d (omega arith)) (read_at xs j d lt) in omega arith)
+  | inr same ↦ (let is : i ≡ j = omega arith in let e = ap (λ (k : ℕ). slice_index_or xs k d) is in omega arith)
+]
+
+-- a search for a number that is there ends where it stands
+pub search_ends : (xs : List ℕ) → rises xs ≡ true → (n r : ℕ) → IsPartitionPoint (λ x. x < n) (λ x. n ≤ x) xs r → (i : ℕ) → slice_get xs i ≡ Some n → slice_get xs r ≡ Some n
+search_ends xs h n r point i at =
+    let within = slice_get_within xs i n at in
+    elim (cases_lt r i) [
+      | inl before ↦ absurd (
+          let least = point.1 r 0 (omega arith) (omega arith) in
+          let below = rises_at xs h r i _ n before (read_at xs r 0 (omega arith)) at in
+          omega arith)
+      | inr least ↦ elim (cases_lt i r) [
+        | inl after ↦ absurd (
+            let less = point.0 i 0 (omega arith) after in
+            let same : Some n ≡ Some (slice_index_or xs i 0) = sym at ∙ read_at xs i 0 within in
+            let is : n ≡ slice_index_or xs i 0 = cc in
+            omega arith)
+        | inr above ↦ (let is : r ≡ i = omega arith in ap (slice_get xs) is ∙ at)
+      ]
+    ]
+
+pub rises_drop : (xs : List ℕ) (n : ℕ) → rises xs ≡ true → rises (drop n xs) ≡ true
+rises_drop xs zero h = h
+rises_drop [] (suc n) h = refl
+rises_drop (x ∷ xs) (suc n) h = rises_drop xs n (and_parts (list_all (nat_lt x) xs) (rises xs) h).1
+
+-- ---- pools
+
+module _ {X : Type 0} where
+  pub number_of : (es : List (EntryOf X)) (i : ℕ) (e : EntryOf X) → slice_get es i ≡ Some e → slice_get (numbers_of es) i ≡ Some e.number
+  number_of [] i e at = absurd (let bad : ◌≡◌ {A = Option (EntryOf X)} None (Some e) = at in cc)
+  number_of (x ∷ es) zero e at = (let same : x ≡ e = cc in ap (λ (y : EntryOf X). Some y.number) same)
+  number_of (x ∷ es) (suc i) e at = number_of es i e at
+
+  pub numbers_drop : (es : List (EntryOf X)) (n : ℕ) → numbers_of (drop n es) ≡ drop n (numbers_of es)
+  numbers_drop es zero = refl
+  numbers_drop [] (suc n) = refl
+  numbers_drop (e ∷ es) (suc n) = numbers_drop es n
+
+  -- a change of pools that leaves their numbers
+  pub numbers_map : (f : EntryOf X → EntryOf X) → ((e : EntryOf X) → (f e).number ≡ e.number) → (es : List (EntryOf X)) → numbers_of (map f es) ≡ numbers_of es
+  numbers_map f same [] = refl
+  numbers_map f same (e ∷ es) = λ i. same e i ∷ numbers_map f same es i
+
+  -- those of the pools that pass a test
+  all_filter : (p : EntryOf X → Bool) (n : ℕ) (es : List (EntryOf X)) → list_all (nat_lt n) (numbers_of es) ≡ true → list_all (nat_lt n) (numbers_of (filter p es)) ≡ true
+  all_filter p n [] h = refl
+  all_filter p n (e ∷ es) h = grind (arith, (all_filter p n es))
+
+  pub rises_filter : (p : EntryOf X → Bool) (es : List (EntryOf X)) → rises (numbers_of es) ≡ true → rises (numbers_of (filter p es)) ≡ true
+  rises_filter p [] h = refl
+  rises_filter p (e ∷ es) h = grind (arith, all_filter, (rises_filter p es))
+
+find_place : (es : List Entry) (n : ℕ) (e : Entry) → find (λ d. d.number == n) es ≡ Some e → (i : ℕ) × (slice_get es i ≡ Some e) × (e.number ≡ n)
+find_place [] n e h = absurd (let bad : ◌≡◌ {A = Option Entry} None (Some e) = h in cc)
+find_place (x ∷ es) n e h = elim (cases_Bool (x.number == n)) [
+  | inl hit ↦ (let same : Some x ≡ Some e = rw hit at h in let is : x ≡ e = cc in (0, same, ap (λ (y : Entry). y.number) (sym is) ∙ eqb-true x.number n hit))
+  | inr miss ↦ (let later = find_place es n e (rw miss at h) in (suc later.0, later.1, later.2))
+]
+
+place_find : (es : List Entry) (i : ℕ) (e : Entry) → rises (numbers_of es) ≡ true → slice_get es i ≡ Some e → find (λ d. d.number == e.number) es ≡ Some e
+place_find [] i e h at = absurd (let bad : ◌≡◌ {A = Option Entry} None (Some e) = at in cc)
+place_find (x ∷ es) zero e h at = (let same : x ≡ e = cc in rw (eq-eqb x.number e.number (ap (λ (y : Entry). y.number) same)) at)
+place_find (x ∷ es) (suc i) e h at =
+    let both = and_parts (list_all (nat_lt x.number) (numbers_of es)) (rises (numbers_of es)) h in
+    let lt = all_above x.number (numbers_of es) both.0 i e.number (number_of es i e at) in
+    rw (ne_eqb x.number e.number (λ same. omega arith)) (place_find es i e both.1 at)
+
+-- what has a number stands at a place
+pub entry_at-found : (b : Bucket) (n : ℕ) (e : Entry) → entry_at b n ≡ Some e → (i : ℕ) × (slice_get b.pools i ≡ Some e) × (e.number ≡ n)
+entry_at-found b n e h = find_place b.pools n e h
+
+-- and what stands at a place has its number
+pub entry_at-from : (b : Bucket) (i : ℕ) (e : Entry) → rises (numbers_of b.pools) ≡ true → slice_get b.pools i ≡ Some e → entry_at b e.number ≡ Some e
+entry_at-from b i e h at = place_find b.pools i e h at
+
+pub entry_at-named : (b : Bucket) (i n : ℕ) (e : Entry) → rises (numbers_of b.pools) ≡ true → slice_get b.pools i ≡ Some e → e.number ≡ n → entry_at b n ≡ Some e
+entry_at-named b i n e h at is = ap (entry_at b) (sym is) ∙ entry_at-from b i e h at
+
+pub find_map : (n : ℕ) (f : Entry → Entry) → ((e : Entry) → (f e).number ≡ e.number) → (es : List Entry) → find (λ e. e.number == n) (map f es) ≡ option_map f (find (λ e. e.number == n) es)
+find_map n f same [] = refl
+find_map n f same (e ∷ es) = elim (cases_Bool (e.number == n)) [
+  | inl hit ↦ rw (ap (λ (m : ℕ). m == n) (same e) ∙ hit, hit) refl
+  | inr miss ↦ rw (ap (λ (m : ℕ). m == n) (same e) ∙ miss, miss) (find_map n f same es)
+]

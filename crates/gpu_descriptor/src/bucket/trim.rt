@@ -1,0 +1,120 @@
+//! The empty pools of a bucket, which go when it is cleaned up or trimmed.
+ghost use Rattle.std.specs.Prelude.{◌≡◌, ◌+◌, ◌<◌, ◌≤◌, ◌^◌, filter, length, map, not, true};
+ghost use Rattle.std.specs.VecDeque.{deque_capacity};
+ghost use Rattle.gpu_descriptor.specs.Inner.Buckets.{AreBookedIn, ledger_but};
+ghost use Rattle.gpu_descriptor.specs.Inner.KeyOf.{key_of};
+ghost use Rattle.gpu_descriptor.specs.Inner.OpenNumbers.{first_ordinal, free_in, open_numbers};
+ghost use Rattle.gpu_descriptor.specs.Inner.OpenNumbers.{stored_numbers};
+ghost use Rattle.gpu_descriptor.specs.Inner.Stored.{bucket_of, entry_of, has_sets, stored_load};
+ghost use Rattle.gpu_descriptor.specs.Model.Books.{Key, number_after, rises};
+ghost use Rattle.gpu_descriptor.specs.Model.Cleanup.{gone_of, left_of};
+
+use crate::bucket::{DescriptorBucket, DescriptorPool, first_ordinal_of};
+use crate::key::BucketKey;
+use gpu_descriptor_types::DescriptorDevice;
+use std::collections::VecDeque;
+
+impl<P> DescriptorBucket<P> {
+    /// Destroys the pools without sets, everywhere or at the front. Their descriptors are room under
+    /// the limit again.
+    pub(crate) fn destroy_empty<L, S, D: DescriptorDevice<L, P, S>>(
+        &mut self,
+        device: &mut D,
+        key: &BucketKey,
+        room: &mut u32,
+        everywhere: bool,
+    )
+        requires room { room.old + stored_load (key_of key.now) self.old.pools.items < 2 ^ 32 }
+        requires stored { (k : Key) × AreBookedIn k (D.ledger device.old).pools
+            (bucket_of D.meaning.pool_name self.old).pools }
+        ensures books { bucket_of D.meaning.pool_name self.new
+            ≡ record (bucket_of D.meaning.pool_name self.old) {
+              pools = left_of everywhere
+                  (bucket_of D.meaning.pool_name self.old).pools;
+            } }
+        ensures ledger { D.ledger device.new ≡ ledger_but (gone_of everywhere
+            (bucket_of D.meaning.pool_name self.old).pools) (D.ledger device.old) }
+        ensures total { self.new.total ≡ self.old.total }
+        ensures room { room.new + stored_load (key_of key.now) self.new.pools.items
+            ≡ room.old + stored_load (key_of key.now) self.old.pools.items }
+    {
+        if everywhere {
+            self.destroy_all_empty(device, key, room);
+        } else {
+            self.destroy_empty_front(device, key, room, 0);
+        }
+    }
+
+    /// Destroys the pools without sets, wherever they stand.
+    fn destroy_all_empty<L, S, D: DescriptorDevice<L, P, S>>(
+        &mut self,
+        device: &mut D,
+        key: &BucketKey,
+        room: &mut u32,
+    )
+        requires room { room.old + stored_load (key_of key.now) self.old.pools.items < 2 ^ 32 }
+        requires stored { (k : Key) × AreBookedIn k (D.ledger device.old).pools
+            (bucket_of D.meaning.pool_name self.old).pools }
+        ensures books { bucket_of D.meaning.pool_name self.new
+            ≡ record (bucket_of D.meaning.pool_name self.old) {
+              pools = left_of true
+                  (bucket_of D.meaning.pool_name self.old).pools;
+            } }
+        ensures ledger { D.ledger device.new ≡ ledger_but (gone_of true
+            (bucket_of D.meaning.pool_name self.old).pools) (D.ledger device.old) }
+        ensures total { self.new.total ≡ self.old.total }
+        ensures room { room.new + stored_load (key_of key.now) self.new.pools.items
+            ≡ room.old + stored_load (key_of key.now) self.old.pools.items }
+    {
+        destroy_without_sets(&mut self.pools, device, key, room);
+        relist(&mut self.listed, &self.pools);
+        self.first = first_ordinal_of(&self.pools);
+    }
+}
+
+/// Destroys the pools without sets. Each pool is taken from the front, and those that stay go to the
+/// back in their order, where there is capacity for them.
+fn destroy_without_sets<L, P, S, D: DescriptorDevice<L, P, S>>(
+    pools: &mut VecDeque<DescriptorPool<P>>,
+    device: &mut D,
+    key: &BucketKey,
+    room: &mut u32,
+)
+    requires room { room.old + stored_load (key_of key.now) pools.old.items < 2 ^ 32 }
+    requires stored { (k : Key) × AreBookedIn k (D.ledger device.old).pools
+        (map (entry_of D.meaning.pool_name) pools.old.items) }
+    ensures left { pools.new.items ≡ filter has_sets pools.old.items }
+    ensures capacity { deque_capacity pools.new ≡ deque_capacity pools.old }
+    ensures ledger { D.ledger device.new ≡ ledger_but (gone_of true
+        (map (entry_of D.meaning.pool_name) pools.old.items)) (D.ledger device.old) }
+    ensures room { room.new + stored_load (key_of key.now) pools.new.items
+        ≡ room.old + stored_load (key_of key.now) pools.old.items }
+{
+    for _ in 0..pools.len() {
+        let pool = pools.pop_front().unwrap();
+        if pool.allocated > 0 {
+            pools.push_back_reserved(pool);
+        } else {
+            *room += key.marked_descriptors_of_pool(pool.capacity);
+            device.destroy_descriptor_pool(pool.raw);
+        }
+    }
+}
+
+/// Lists the pools with known free places anew.
+fn relist<P>(listed: &mut VecDeque<u64>, pools: &VecDeque<DescriptorPool<P>>)
+    requires rising { rises (stored_numbers pools.now.items) ≡ true }
+    requires numbered { number_after (stored_numbers pools.now.items) < 2 ^ 64 }
+    requires capacity { length pools.now.items ≤ deque_capacity listed.old }
+    ensures listed { listed.new.items ≡ open_numbers (first_ordinal pools.now.items)
+        (free_in pools.now.items) }
+    ensures capacity { deque_capacity listed.new ≡ deque_capacity listed.old }
+{
+    listed.clear();
+    let first = first_ordinal_of(pools);
+    for place in 0..pools.len() {
+        if pools[place].available > 0 {
+            listed.push_back_reserved(first + place as u64);
+        }
+    }
+}
