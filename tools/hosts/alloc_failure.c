@@ -80,6 +80,7 @@ static void run(void) {
     }
     for (uint32_t at = 0; at < LAYOUTS; at++)
         ALLOCATES_NOTHING(gd_free(allocator, sets[at], at * 20));
+    ALLOCATES_NOTHING(gd_trim(allocator));
     if (keep == 0)
         ALLOCATES_NOTHING(gd_cleanup(allocator));
     RETRY(gd_allocate(allocator, layouts[3], MOST, more));

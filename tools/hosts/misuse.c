@@ -37,7 +37,8 @@ static void expect_of_each(gd_status wanted, gd_allocator it, gd_layout known, g
     CHECK(gd_free(it, &any, 1) == wanted && gd_free(it, &any, 0) == wanted);
     CHECK(gd_free_after(it, &any, 1, 1) == wanted && gd_free_after(it, NULL, 0, 1) == wanted);
     CHECK(gd_free_all(it) == wanted && gd_frame_done(it, UINT64_MAX) == wanted);
-    CHECK(gd_cleanup(it) == wanted && gd_destroy(it) == wanted && gd_keep(it, 0) == wanted);
+    CHECK(gd_cleanup(it) == wanted && gd_trim(it) == wanted);
+    CHECK(gd_destroy(it) == wanted && gd_keep(it, 0) == wanted);
     CHECK(gd_set_most_pool_descriptors(it, 1) == wanted && gd_remove_layout(it, known) == wanted);
     CHECK(gd_add_layout(it, 1, counts, 0, &layout) == wanted);
     CHECK(layout.index == UNTOUCHED && layout.owner == UNTOUCHED);

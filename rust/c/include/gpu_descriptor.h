@@ -17,8 +17,9 @@
  *
  * Statuses: every function returns a gd_status. If it isn't GD_OK, the call changed no set that is
  * outstanding, and no count of these. A failed gd_allocate may have created pools, which are empty,
- * destroyed empty ones, or freed kept sets; any other failed call changed nothing of the allocator. Outputs may be zeroed, as their function
- * states. Of GD_INTERNAL_ERROR none of this holds. If several statuses apply, any of them may be returned.
+ * destroyed empty ones, or freed kept sets; any other failed call changed nothing of the allocator.
+ * Outputs may be zeroed, as their function states. Of GD_INTERNAL_ERROR none of this holds. If several
+ * statuses apply, any of them may be returned.
  *
  * Ownership: gd_destroy frees the library's memory of an allocator and destroys its pools. The values
  * gd_allocator, gd_layout and gd_set own nothing: copy them as you like. Layouts are yours. Before you
@@ -359,14 +360,21 @@ gd_status gd_keep(gd_allocator allocator, uint32_t most);
 gd_status gd_set_most_pool_descriptors(gd_allocator allocator, uint64_t most);
 
 /*
- * Gives kept sets back to the driver, and destroys empty pools: of the layouts that share pools the
- * oldest ones, up to the first that has sets. If no set is outstanding no pool is left. The sets that
- * are outstanding aren't kept when they are freed, so that their pools become empty; those that
- * gd_allocate returns later are kept again. It allocates nothing.
+ * Gives kept sets back to the driver, and destroys all pools that then have no set. If no set is
+ * outstanding no pool is left. The sets that are outstanding aren't kept when they are freed, so that
+ * their pools become empty; those that gd_allocate returns later are kept again. It allocates nothing.
  *
  * GD_BAD_ALLOCATOR, GD_BUSY, GD_INTERNAL_ERROR.
  */
 gd_status gd_cleanup(gd_allocator allocator);
+
+/*
+ * Destroys all pools that have no set. Kept sets stay, and so do their pools; gd_cleanup gives those back
+ * first. It goes over every pool, and allocates nothing.
+ *
+ * GD_BAD_ALLOCATOR, GD_BUSY, GD_INTERNAL_ERROR.
+ */
+gd_status gd_trim(gd_allocator allocator);
 
 /*
  * How many sets are outstanding, those that wait for a frame included, and kept ones not; how many of

@@ -233,13 +233,13 @@ class allocator {
         return status;
     }
 
+    /* Removes a layout. Sets of it stay valid until they are freed. */
+    gd_status remove_layout(gd_layout layout) noexcept { return gd_remove_layout(raw_, layout); }
+
     /* Allocates sets, which replace the old ones of `to`. If it fails, `to` is as before. */
     gd_status allocate(gd_layout layout, uint32_t count, sets &to) noexcept {
         return to.allocate(raw_, layout, count);
     }
-
-    /* Removes a layout. Sets of it stay valid until they are freed. */
-    gd_status remove_layout(gd_layout layout) noexcept { return gd_remove_layout(raw_, layout); }
 
     /* Frees all of its sets and destroys it. It does nothing if there is none. */
     gd_status destroy() noexcept {

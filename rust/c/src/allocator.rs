@@ -325,4 +325,9 @@ impl Allocator {
     pub fn cleanup(&mut self) {
         self.renderer.cleanup();
     }
+
+    /// Destroys all pools without sets. It allocates nothing.
+    pub fn trim(&mut self) {
+        self.renderer.trim();
+    }
 }

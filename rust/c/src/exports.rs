@@ -258,6 +258,17 @@ pub unsafe extern "C" fn gd_cleanup(allocator: GdAllocator) -> GdStatus {
 }
 
 #[unsafe(no_mangle)]
+pub unsafe extern "C" fn gd_trim(allocator: GdAllocator) -> GdStatus {
+    // SAFETY: the header's.
+    unsafe {
+        slot::enter(allocator, |it| {
+            it.trim();
+            GdStatus::OK
+        })
+    }
+}
+
+#[unsafe(no_mangle)]
 pub unsafe extern "C" fn gd_get_statistics(
     allocator: GdAllocator,
     statistics: *mut GdStatistics,

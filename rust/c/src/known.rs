@@ -51,11 +51,6 @@ impl Known {
         None
     }
 
-    /// All names, in no order.
-    pub fn names(&self) -> impl Iterator<Item = u64> {
-        self.cells.iter().copied().filter(|name| *name != 0)
-    }
-
     /// Makes room for one more name. On an error nothing changed.
     pub fn reserve(&mut self, handle_of: impl Fn(u64) -> u64) -> Result<(), AllocError> {
         if self.count < self.cells.len() / 2 {
@@ -78,6 +73,11 @@ impl Known {
             at = self.wrapped(at + 1);
         }
         self.cells.0[at] = name;
+    }
+
+    /// All names, in no order.
+    pub fn names(&self) -> impl Iterator<Item = u64> {
+        self.cells.iter().copied().filter(|name| *name != 0)
     }
 
     /// Puts a name in. There is room.

@@ -3,8 +3,8 @@
 //! Generated from proved sources are the modules `gpu_descriptor_types`, `gpu_descriptor`,
 //! `descriptor_table` and `descriptor_renderer`, which are the files of rust/gpu-descriptor, as is the
 //! `kit` that they use. By hand are `device`, which calls the host's functions, `allocator`, a
-//! renderer over it, `known`, which finds its layouts, `slot`, through which each call goes in its turn (`lock`),
-//! and `exports`.
+//! renderer over it, `known`, which finds its layouts, `slot`, through which each call goes in its turn
+//! (`lock`), and `exports`.
 #![cfg_attr(not(any(feature = "std", test)), no_std)]
 #![deny(unsafe_code)]
 

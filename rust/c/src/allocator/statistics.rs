@@ -26,7 +26,7 @@ const KINDS: [&str; 14] = [
 ];
 
 impl Allocator {
-    /// The handles of all layouts.
+    /// The handles of all layouts, in no order.
     fn layouts(&self) -> impl Iterator<Item = LayoutHandle> {
         let slots = self.known.names().map(|name| handle_of(self.id, name));
         slots.map(|slot| LayoutHandle { slot })
