@@ -50,10 +50,9 @@ gd_layout c_add_layout(const uint32_t *counts) {
     return layout;
 }
 
-// No set of a layout that goes may be kept.
-void c_remove_layout(void);
-void c_remove_layout(void) {
-    require(gd_cleanup(allocator));
+void c_remove_layout(gd_layout layout);
+void c_remove_layout(gd_layout layout) {
+    require(gd_remove_layout(allocator, layout));
 }
 
 void c_take(gd_layout layout, uint32_t count, gd_set *sets);

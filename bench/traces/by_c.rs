@@ -13,7 +13,7 @@ pub struct Set([u64; 3]);
 unsafe extern "C" {
     fn c_create();
     fn c_add_layout(counts: *const u32) -> Layout;
-    fn c_remove_layout();
+    fn c_remove_layout(layout: Layout);
     fn c_take(layout: Layout, count: u32, sets: *mut Set);
     fn c_free(sets: *const Set, count: u32);
     fn c_outstanding() -> u64;
@@ -40,9 +40,9 @@ impl Player for Library {
         self.layouts.push(unsafe { c_add_layout(counts.as_ptr()) });
     }
 
-    fn remove_layout(&mut self, _layout: usize) {
+    fn remove_layout(&mut self, layout: usize) {
         // SAFETY: it has no condition.
-        unsafe { c_remove_layout() };
+        unsafe { c_remove_layout(self.layouts[layout]) };
     }
 
     fn take(&mut self, _pool: usize, layout: usize, count: u32, sets: &mut Vec<Set>) {

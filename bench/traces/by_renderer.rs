@@ -39,9 +39,8 @@ impl Player for Keeping {
             .push(unsafe { self.renderer.add_layout(added) }.unwrap());
     }
 
-    /// No set of it may be kept: the device would have another layout under its handle.
-    fn remove_layout(&mut self, _layout: usize) {
-        self.renderer.cleanup();
+    fn remove_layout(&mut self, layout: usize) {
+        self.renderer.remove_layout(self.layouts[layout]).unwrap();
     }
 
     fn take(&mut self, _pool: usize, layout: usize, count: u32, sets: &mut Vec<SetHandle>) {

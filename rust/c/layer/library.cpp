@@ -86,10 +86,9 @@ void destroy_layout(VkDevice handle, VkDescriptorSetLayout ended, const VkAlloca
     const auto found = it.layouts.find(GDV_NUMBER(ended));
     if (found != it.layouts.end()) {
         it.trace << "unlayout " << found->second.number << '\n';
-        /* No set of it may be kept: the driver may give its handle to another layout. */
         const stopwatch time{it.library.free_ns};
         if (found->second.known.owner != 0)
-            it.faults += gd_cleanup(it.allocator) != GD_OK;
+            it.faults += gd_remove_layout(it.allocator, found->second.known) != GD_OK;
         it.layouts.erase(found);
     }
     lock.unlock();
