@@ -66,6 +66,32 @@ fn an_old_set_keeps_its_pool_alone() {
     assert_eq!(allocator.update_after_bind_capacity(), 0);
 }
 
+/// The layout that was asked for first is the first one.
+#[test]
+fn layouts_in_their_order_and_their_oldest_pools_first() {
+    let gpu = Gpu::new();
+    let mut allocator = Allocator::new(10_000);
+    let (mut sets, mut expected) = (Vec::new(), [Vec::new(), Vec::new()]);
+    for (number, count) in [(1, 2), (0, 64), (1, 4), (0, 100), (1, 2), (0, 200)] {
+        let taken = take(&mut allocator, &gpu, number, count);
+        expected[number as usize].extend(taken.iter().map(|set| set.raw().0));
+        sets.extend(taken);
+    }
+    for pools in &mut expected {
+        pools.dedup();
+        assert!(pools.len() > 2);
+    }
+    let [of_0, of_1] = expected;
+    let (stay, back) = sets
+        .into_iter()
+        .partition(|set| [of_0[0], of_1[0]].contains(&set.raw().0));
+    free(&mut allocator, &gpu, back);
+    trim(&mut allocator, &gpu);
+    let expected = [&of_1[1..], &of_0[1..]].concat();
+    assert_eq!(gpu.last_destroyed(expected.len()), expected);
+    free(&mut allocator, &gpu, stay);
+}
+
 /// An allocator of three layouts, and its sets that are out.
 struct Trial<'a> {
     gpu: &'a Gpu,

@@ -4,6 +4,7 @@
 
 use gpu_descriptor::*;
 use std::cell::{Cell, RefCell};
+use std::collections::VecDeque;
 
 /// A raw set is its pool and its place there.
 pub type Set = (usize, usize);
@@ -25,6 +26,9 @@ pub struct Gpu {
     live_sets: Cell<usize>,
     exists: RefCell<Vec<bool>>,
 
+    /// The pools that were destroyed last, as many as there may be.
+    destroyed: RefCell<VecDeque<usize>>,
+
     /// Which sets which frame reads.
     reads: RefCell<Vec<(u64, Set)>>,
 
@@ -44,6 +48,7 @@ impl Gpu {
             live: RefCell::new(vec![vec![false; PLACES]; POOLS]),
             live_sets: Cell::new(0),
             exists: RefCell::new(vec![false; POOLS]),
+            destroyed: RefCell::new(VecDeque::with_capacity(POOLS)),
             reads: RefCell::default(),
             calls: Cell::new(0),
             faulty: Cell::new(u64::MAX),
@@ -76,6 +81,12 @@ impl Gpu {
 
     pub fn pools(&self) -> usize {
         self.exists.borrow().iter().filter(|it| **it).count()
+    }
+
+    /// The pools that were destroyed last, in their order.
+    pub fn last_destroyed(&self, count: usize) -> Vec<usize> {
+        let destroyed = self.destroyed.borrow();
+        destroyed.range(destroyed.len() - count..).copied().collect()
     }
 
     pub fn is_empty(&self) -> bool {
@@ -126,6 +137,11 @@ impl DescriptorDevice<u32, usize, Set> for Gpu {
     unsafe fn destroy_descriptor_pool(&self, pool: usize) {
         assert!(self.exists.borrow_mut()[pool], "a pool is destroyed once");
         self.exists.borrow_mut()[pool] = false;
+        let mut destroyed = self.destroyed.borrow_mut();
+        if destroyed.len() == POOLS {
+            destroyed.pop_front();
+        }
+        destroyed.push_back(pool);
         let live = self.live.borrow();
         assert!(!live[pool].contains(&true), "it has no sets");
     }
