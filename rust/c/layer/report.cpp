@@ -63,7 +63,7 @@ device::~device() {
     all.add("layouts", layout_count);
     all.add("faults", faults);
     for (const auto &[status, sets] : fell_back)
-        all.add("sets fallen back, status " + std::to_string(status), sets);
+        all.add(std::string("sets fallen back, ") + gd_status_name(status), sets);
     all.json << "}\n";
     std::cerr << all.text.str();
     const char *file = setting("GPU_DESCRIPTOR_LAYER_JSON");
