@@ -68,6 +68,15 @@ END
   done
 }
 
+# The library as a CMake project of its own, which installs what rust/c/install does.
+as_a_project() {
+  local made=$room/as-project
+  rm -rf "$made"
+  cmake -S "$crate" -B "$made" -DGPU_DESCRIPTOR_SMALL=ON && cmake --build "$made" || return
+  [ -f "$made/lib/libgpu_descriptor_c.a" ] && cmake --install "$made" --prefix "$room/own-prefix" || return
+  diff <(cd "$room/own-prefix" && find . | sort) <(cd "$room/prefix-small" && find . | sort)
+}
+
 # A package is made under DESTDIR, and its files don't name it.
 under_destdir() {
   DESTDIR=$room/package "$crate/install" /usr/local && [ -f "$room/package/usr/local/lib/libgpu_descriptor_c.a" ] &&
@@ -96,6 +105,7 @@ try_builds() {
   step "install for a target" for_this_target
   ! has cmake "FetchContent" || step "FetchContent" by_fetch_content
   ! has cmake "FetchContent" || step "FetchContent without std" by_fetch_content -DGPU_DESCRIPTOR_SMALL=ON
+  ! has cmake "cmake --install" || step "cmake --install" as_a_project
   step "install for a target that isn't there" for_no_target
 }
 
