@@ -93,7 +93,7 @@ def write_original(path):
     with open(f"{TOP}/bench/original/types.rs", encoding="utf-8") as it:
         types = it.read()
     folder = f"{TOOLS}/out/gpu-descriptor"
-    write_package(f"{TOOLS}/original-crate", folder, {"allocator.rs": original_source(path), "types.rs": types})
+    write_package(f"{TOOLS}/original/crate", folder, {"allocator.rs": original_source(path), "types.rs": types})
     return folder
 
 
