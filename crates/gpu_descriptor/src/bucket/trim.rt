@@ -39,36 +39,12 @@ impl<P> DescriptorBucket<P> {
             ≡ room.old + stored_load (key_of key.now) self.old.pools.items }
     {
         if everywhere {
-            self.destroy_all_empty(device, key, room);
+            destroy_without_sets(&mut self.pools, device, key, room);
+            relist(&mut self.listed, &self.pools);
+            self.first = first_ordinal_of(&self.pools);
         } else {
             self.destroy_empty_front(device, key, room, 0);
         }
-    }
-
-    /// Destroys the pools without sets, wherever they stand.
-    fn destroy_all_empty<L, S, D: DescriptorDevice<L, P, S>>(
-        &mut self,
-        device: &mut D,
-        key: &BucketKey,
-        room: &mut u32,
-    )
-        requires room { room.old + stored_load (key_of key.now) self.old.pools.items < 2 ^ 32 }
-        requires stored { (k : Key) × AreBookedIn k (D.ledger device.old).pools
-            (bucket_of D.meaning.pool_name self.old).pools }
-        ensures books { bucket_of D.meaning.pool_name self.new
-            ≡ record (bucket_of D.meaning.pool_name self.old) {
-              pools = left_of true
-                  (bucket_of D.meaning.pool_name self.old).pools;
-            } }
-        ensures ledger { D.ledger device.new ≡ ledger_but (gone_of true
-            (bucket_of D.meaning.pool_name self.old).pools) (D.ledger device.old) }
-        ensures total { self.new.total ≡ self.old.total }
-        ensures room { room.new + stored_load (key_of key.now) self.new.pools.items
-            ≡ room.old + stored_load (key_of key.now) self.old.pools.items }
-    {
-        destroy_without_sets(&mut self.pools, device, key, room);
-        relist(&mut self.listed, &self.pools);
-        self.first = first_ordinal_of(&self.pools);
     }
 }
 

@@ -18,23 +18,12 @@ impl<P> DescriptorBucket<P> {
     )
     {
         if everywhere {
-            self.destroy_all_empty(device, key, room);
+            destroy_without_sets(&mut self.pools, device, key, room);
+            relist(&mut self.listed, &self.pools);
+            self.first = first_ordinal_of(&self.pools);
         } else {
             self.destroy_empty_front(device, key, room, 0);
         }
-    }
-
-    /// Destroys the pools without sets, wherever they stand.
-    fn destroy_all_empty<L, S, D: DescriptorDevice<L, P, S>>(
-        &mut self,
-        device: &mut D,
-        key: &BucketKey,
-        room: &mut u32,
-    )
-    {
-        destroy_without_sets(&mut self.pools, device, key, room);
-        relist(&mut self.listed, &self.pools);
-        self.first = first_ordinal_of(&self.pools);
     }
 }
 

@@ -1,7 +1,7 @@
-use Rattle.gpu_descriptor.proofs.Common.{sym, ap, ◌∙◌, arith, length, map, sum_by, DescriptorPool, has_sets, number_after, rises, stored_numbers}
+use Rattle.gpu_descriptor.proofs.Common.{sym, ap, ◌∙◌, arith, length, map, sum_by, DescriptorPool, entry_of, has_sets, left_of, number_after, rises, stored_numbers}
 use Rattle.gpu_descriptor.proofs.cleanup.Rotation.{entries_left, length_left, sets_left}
 use Rattle.gpu_descriptor.proofs.release.StoredNumbers.{next_stored, rises_stored}
-use Rattle.gpu_descriptor.proofs.bucket.DescriptorBucket.destroy_all_empty.Goals as goal
+use Rattle.gpu_descriptor.proofs.bucket.DescriptorBucket.destroy_empty.Goals as goal
 
 pub relist-requires : goal.relist-requires
 relist-requires g c =
@@ -35,8 +35,9 @@ first_ordinal_of-self-requires g c =
       rising = ap (λ ps. rises (stored_numbers ps)) left ∙ rises_stored has_sets items c.args.self.now.rising;
     }
 
-pub returns-clause-books : goal.returns-clause-books
-returns-clause-books g c =
+pub returns-then-everywhere-clause-books : goal.returns-then-everywhere-clause-books
+returns-then-everywhere-clause-books g c =
     let name = g.D.DescriptorDevice.meaning.pool_name in
-    let pools = ap (map _) c.destroy_without_sets.ensures.left ∙ entries_left name c.args.self.now.pools.items in
+    let left = ap (map _) c.destroy_without_sets.ensures.left ∙ entries_left name c.args.self.now.pools.items in
+    let pools = left ∙ sym (ap (λ b. left_of b (map (entry_of name) c.args.self.now.pools.items)) c.if-everywhere.true) in
     λ i. record { id = c.args.self.now.id; pools = pools i }
