@@ -50,6 +50,7 @@ pub fn cut_pool_size(
 
 /// A pool size of these counts, cut so that its sets have at most `most` descriptors together, unless
 /// the `wanted` sets have more; as it is with `None`. A set without descriptors counts as one.
+#[inline]
 pub fn bounded_pool_size(
     counts: &DescriptorTotalCount,
     size: (DescriptorTotalCount, u32),
