@@ -4,13 +4,15 @@ use Rattle.gpu_descriptor_types.specs.Ledger.{Ledger}
 use Rattle.gpu_descriptor.specs.Model.Promises.{IsUntouched}
 use Rattle.gpu_descriptor.specs.Model.Agreement.{count_of, outstanding}
 use Rattle.gpu_descriptor.specs.Model.Books.{Key, Entry}
-use Rattle.gpu_descriptor.specs.Model.Foreign.{IsForeign, KeepsForeign}
+use Rattle.gpu_descriptor.specs.Model.Foreign.{IsForeign}
+use Rattle.gpu_descriptor.specs.Caller.Others.{others_of}
 use Rattle.gpu_descriptor.specs.Caller.Sets.{items_of}
 use Rattle.gpu_descriptor.specs.Caller.States.{state_of}
 use Rattle.gpu_descriptor.specs.Caller.Values.{Allocations}
 use Rattle.gpu_descriptor.specs.declared.set.DescriptorSet.{DescriptorSet}
 use Rattle.gpu_descriptor.proofs.foreign.NoneLost.{nothing_at}
 use Rattle.gpu_descriptor.proofs.foreign.Others.{own_agrees, own_outstanding}
+use Rattle.gpu_descriptor.proofs.foreign.OthersStay.{from_others}
 use Rattle.gpu_descriptor.proofs.callers.NewAllocators.{new_agrees}
 use Rattle.gpu_descriptor.proofs.release.Places.{none_out}
 use Rattle.descriptor_script.specs.Scripted.Raw.{pool_id, script_meaning, set_id}
@@ -27,11 +29,11 @@ abbrev Held : Type 0
 Held = Session ScriptLayout RawPool RawSet
 
 -- what stands in one's books is foreign to the other
-module _ (x x' y : Held) (l m : Ledger) (foreign : KeepsForeign (session_state x l) (session_state x' m)) (pair : ArePaired x y l) where
+module _ (x x' y : Held) (l m : Ledger) (same : others_of pool_id (allocator_of x') m ≡ others_of pool_id (allocator_of x) l) (pair : ArePaired x y l) where
   not_touched : (k : Key) (i : ℕ) (e : Entry) → slice_get ((session_state y l).books k).pools i ≡ Some e → (m.pools e.pool ≡ l.pools e.pool) × IsForeign (session_state x' m) e.pool
   not_touched k n e at =
       let b = pair.other.agree.books.booked k n e at in
-      let after = foreign e.pool b.0 (λ j i d there. pair.apart j k i n d e there at) b.1 in
+      let after = from_others pool_id (allocator_of x) (allocator_of x') l m same e.pool b.0 (λ j i d there. pair.apart j k i n d e there at) b.1 in
       (after.0 ∙ sym b.1, after.1)
 
   keeps : (k : Key) → IsUntouched k (session_state y l) (session_state y m)

@@ -16,7 +16,7 @@ ghost use Rattle.gpu_descriptor.specs.Model.Agreement.{State, count_of, outstand
 ghost use Rattle.gpu_descriptor.specs.Model.Books.{HasDistinctKeys, Key, key_eq, AddsUp, Bucket};
 ghost use Rattle.gpu_descriptor.specs.Model.Books.{Entry, books_of, no_pools, sum_over};
 ghost use Rattle.gpu_descriptor.specs.Model.Cleanup.{IsCleaned, LosesEmpty, pools_lost};
-ghost use Rattle.gpu_descriptor.specs.Model.Foreign.{IsForeign, IsNamed, KeepsForeign, LosesNone};
+ghost use Rattle.gpu_descriptor.specs.Model.Foreign.{IsForeign, IsNamed, KeepsForeign};
 ghost use Rattle.gpu_descriptor.specs.Model.Load.{pool_descriptors, sets_out, descriptors_out, bucket_load};
 ghost use Rattle.gpu_descriptor.specs.Model.Load.{descriptors_created};
 ghost use Rattle.gpu_descriptor.specs.Model.Promises.{IsUntouched};
@@ -84,16 +84,17 @@ pub fn clean_again()
         → (i : Item) → outstanding t i ≡ outstanding s i }
 {}
 
-/// No pool is lost over calls one after another, if each loses none. So an allocator that has no
-/// pools, is used, and is cleaned up once all its sets are free leaves the ledger's pools exactly
-/// as they were. A new allocator has no pools; neither has one whose requests were refused before a
-/// pool came.
-///
-/// That none is lost says of each live pool that the books name it, or that it is another's, which
-/// is as it was: for the books of an allocator are always one or the other.
+/// If the pools of others are the same, by their names (`others_of`), each of them stays as it is and
+/// doesn't come into the books; and no pool is lost: a live pool that isn't in the books afterwards
+/// was another's before, and is as it was. So an allocator that has no pools, is used, and is cleaned
+/// up once all its sets are free leaves the ledger's pools exactly as they were. A new allocator has
+/// no pools; neither has one whose requests were refused before a pool came.
 pub fn no_pool_is_lost<P>()
-    ensures in_turn { (s t u : State) → LosesNone s t → LosesNone t u → LosesNone s u }
-    ensures restores { (s t u : State) → HasNoPools s → KeepsForeign s t → LosesNone s t → Agree t
+    ensures others { (name : P → ℕ) (a b : Allocations P) (l m : Ledger) → others_of name b m
+        ≡ others_of name a l → KeepsForeign (state_of name a l) (state_of name b m) }
+    ensures lost { (name : P → ℕ) (a b : Allocations P) (l m : Ledger) → others_of name b m
+        ≡ others_of name a l → KeepsForeign (state_of name b m) (state_of name a l) }
+    ensures restores { (s t u : State) → HasNoPools s → KeepsForeign s t → KeepsForeign t s → Agree t
         → ((i : Item) → outstanding t i ≡ 0) → IsCleaned t u → u.ledger ≡ s.ledger }
     ensures one_or_other { (name : P → ℕ) (a : Allocations P) (l : Ledger) → HasDistinctKeys
         (table_of name a) → (pool : ℕ) → IsNamed (state_of name a l) pool ⊎ IsForeign

@@ -1,8 +1,7 @@
 -- What calls keep where nothing changed, and one after another.
-use Rattle.gpu_descriptor.proofs.Common.{◌≡◌, ◌≤◌, sym, ap, subst, side, Meaning, Ledger, Allocations, arith, Agrees, marked_load_of, pool_load_of, state_of}
+use Rattle.gpu_descriptor.proofs.Common.{◌≡◌, ◌≤◌, sym, ap, ◌∙◌, subst, side, Meaning, Ledger, Allocations, arith, Agrees, marked_load_of, pool_load_of}
 use Rattle.gpu_descriptor.specs.Caller.Keeps.{Keeps}
 use Rattle.gpu_descriptor.specs.Caller.Others.{others_of}
-use Rattle.gpu_descriptor.proofs.foreign.ForeignPools.{foreign_same, foreign_through, loses_same, loses_through}
 
 -- nothing changed
 module _ {L P S : Type 0} {means : Meaning L P S} {old new : Allocations P} {before after : Ledger} (same : new ≡ old) (ledger : after ≡ before) where
@@ -13,10 +12,8 @@ module _ {L P S : Type 0} {means : Meaning L P S} {old new : Allocations P} {bef
     most = ap (λ (a : Allocations P). a.most) same;
     load = load;
     pool_load = pool_load;
-    foreign = foreign_same _ _ (λ i. state_of means.pool_name (same i) (ledger i));
-    accounted = loses_same _ _ (λ i. state_of means.pool_name (same i) (ledger i));
     others = λ i. others_of means.pool_name (same i) (ledger i);
   }
 
 pub keeps_through : {L P S : Type 0} {means : Meaning L P S} {a b c : Allocations P} {l m n : Ledger} → Keeps means (side a l) (side b m) → Keeps means (side b m) (side c n) → Keeps means (side a l) (side c n)
-keeps_through {L} {P} {S} {means} {a} {b} {c} {l} {m} {n} p q = search (arith, foreign_through, loses_through)
+keeps_through {L} {P} {S} {means} {a} {b} {c} {l} {m} {n} p q = search (arith, ◌∙◌)

@@ -1,5 +1,5 @@
 -- What requests, frees and cleaning up leave of pools that aren't the allocator's.
-use Rattle.gpu_descriptor.proofs.Common.{◌≡◌, ℕ, zero, suc, ◌+◌, ◌-◌, ◌<◌, ◌==◌, ◌&&◌, Bool, true, false, List, [], ◌∷◌, take, count_by, Option, Some, None, option_map, slice_get, inl, inr, refl, sym, ap, ◌∙◌, subst, arith, fun_ext, cases_Bool, cases_lt, or_from, or_right, false_from_ne_true, list_any, slice_get-map, if◌then◌else◌, side, Meaning, Pool, Ledger, LiveSet, set_eq, State, Item, set_of, Key, Entry, Bucket, DescriptorSet, Allocations, IsForeign, KeepsForeign, LosesNone, LosesEmpty, are_named, gone_of, left_of, given_back, released, bucket_less, entry_less, spent_front, in_front, lies_in, pool_less, GivesBack, items_of, state_of}
+use Rattle.gpu_descriptor.proofs.Common.{◌≡◌, ℕ, zero, suc, ◌+◌, ◌-◌, ◌<◌, ◌==◌, ◌&&◌, Bool, true, false, List, [], ◌∷◌, take, count_by, Option, Some, None, option_map, slice_get, inl, inr, refl, sym, ap, ◌∙◌, subst, arith, fun_ext, cases_Bool, cases_lt, or_from, or_right, false_from_ne_true, list_any, slice_get-map, if◌then◌else◌, side, Meaning, Pool, Ledger, LiveSet, set_eq, State, Item, set_of, Key, Entry, Bucket, DescriptorSet, Allocations, IsForeign, KeepsForeign, LosesEmpty, are_named, gone_of, left_of, given_back, released, bucket_less, entry_less, spent_front, in_front, lies_in, pool_less, GivesBack, items_of, state_of}
 use Rattle.gpu_descriptor.proofs.lists.Numbers.{entry_at-found}
 use Rattle.gpu_descriptor.proofs.release.ReleaseAgrees.{front_found, none_back}
 use Rattle.gpu_descriptor.proofs.cleanup.Cleaning.{pools_left, was_kept}
@@ -69,7 +69,7 @@ released_named m s name pool foreign live k n e at same =
       | inr h ↦ (let is : front_of m s k ≡ 0 = rw h refl in absurd (omega arith))
     ]
 
-pub released_loses : (m : List Item) (s : State) → LosesNone s (released m s)
+pub released_loses : (m : List Item) (s : State) → KeepsForeign (released m s) s
 released_loses m s name pool foreign live = (let was = released_named m s name pool foreign live in (sym (released_same m s name was) ∙ live, was))
 
 module _ (everywhere : Bool) where
@@ -98,27 +98,17 @@ module _ (everywhere : Bool) where
             let bad : ◌≡◌ {A = Option Pool} None (Some pool) = sym gone ∙ ap t.ledger same ∙ live in cc)
       ]
 
-  pub cleaned_loses : (s t : State) → LosesEmpty everywhere s t → LosesNone s t
+  pub cleaned_loses : (s t : State) → LosesEmpty everywhere s t → KeepsForeign t s
   cleaned_loses s t less name pool foreign live = (let was = cleaned_named s t less name pool foreign live in (sym (less.kept name (outside_gone s name was)) ∙ live, was))
-
--- and so does what changes nothing
-pub foreign_same : (s t : State) → t ≡ s → KeepsForeign s t
-foreign_same s t same = subst (KeepsForeign s) (sym same) (λ name pool foreign live. (live, foreign))
-
-pub loses_same : (s t : State) → t ≡ s → LosesNone s t
-loses_same s t same = foreign_same t s (sym same)
 
 -- one change after another
 pub foreign_through : (s t u : State) → KeepsForeign s t → KeepsForeign t u → KeepsForeign s u
 foreign_through s t u first second name pool foreign live = (let kept = first name pool foreign live in second name pool kept.1 kept.0)
-
-pub loses_through : (s t u : State) → LosesNone s t → LosesNone t u → LosesNone s u
-loses_through s t u first second = foreign_through u t s second first
 
 -- ---- as callers see it
 
 pub freed_foreign : {L P S : Type 0} (means : Meaning L P S) (sets : List (DescriptorSet S)) (calls : ℕ) (old new : Allocations P) (before after : Ledger) → GivesBack means sets calls (side old before) (side new after) → KeepsForeign (state_of means.pool_name old before) (state_of means.pool_name new after)
 freed_foreign means sets calls old new before after back = subst (KeepsForeign (state_of means.pool_name old before)) (sym back.state) (released_foreign (items_of means.set_name sets) (state_of means.pool_name old before))
 
-pub freed_loses : {L P S : Type 0} (means : Meaning L P S) (sets : List (DescriptorSet S)) (calls : ℕ) (old new : Allocations P) (before after : Ledger) → GivesBack means sets calls (side old before) (side new after) → LosesNone (state_of means.pool_name old before) (state_of means.pool_name new after)
-freed_loses means sets calls old new before after back = subst (LosesNone (state_of means.pool_name old before)) (sym back.state) (released_loses (items_of means.set_name sets) (state_of means.pool_name old before))
+pub freed_loses : {L P S : Type 0} (means : Meaning L P S) (sets : List (DescriptorSet S)) (calls : ℕ) (old new : Allocations P) (before after : Ledger) → GivesBack means sets calls (side old before) (side new after) → KeepsForeign (state_of means.pool_name new after) (state_of means.pool_name old before)
+freed_loses means sets calls old new before after back = subst (λ t. KeepsForeign t (state_of means.pool_name old before)) (sym back.state) (released_loses (items_of means.set_name sets) (state_of means.pool_name old before))

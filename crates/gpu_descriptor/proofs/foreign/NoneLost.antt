@@ -1,7 +1,7 @@
 -- What an allocator leaves of the ledger when it is done: nothing of its own.
-use Rattle.gpu_descriptor.proofs.Common.{Allocations, ◌≡◌, ◌≢◌, ◌⊎◌, ℕ, zero, suc, ◌==◌, true, false, List, [], ◌∷◌, slice_get, Option, Some, None, inl, inr, refl, sym, ap, ◌∙◌, arith, eqb-true, fun_ext, list_any, cases_Bool, or_cases, Pool, Ledger, State, Item, outstanding, Agree, HasNoPools, Key, key_eq, Entry, Bucket, HasDistinctKeys, books_of, entry_at, no_pools, common_steps, IsCleaned, IsForeign, IsNamed, LosesNone, KeepsForeign, table_of, state_of}
+use Rattle.gpu_descriptor.proofs.Common.{Allocations, ◌≡◌, ◌≢◌, ◌⊎◌, ℕ, zero, suc, ◌==◌, true, false, List, [], ◌∷◌, slice_get, Option, Some, None, inl, inr, refl, sym, ap, ◌∙◌, arith, eqb-true, fun_ext, list_any, cases_Bool, or_cases, Pool, Ledger, State, Item, outstanding, Agree, HasNoPools, Key, key_eq, Entry, Bucket, HasDistinctKeys, books_of, entry_at, no_pools, common_steps, IsCleaned, IsForeign, IsNamed, KeepsForeign, table_of, state_of}
 use Rattle.gpu_descriptor.proofs.cleanup.Cleaning.{no_pool_left}
-use Rattle.gpu_descriptor.proofs.foreign.ForeignPools.{cleaned_foreign, cleaned_loses, foreign_through, loses_through}
+use Rattle.gpu_descriptor.proofs.foreign.ForeignPools.{cleaned_foreign, cleaned_loses, foreign_through}
 use Rattle.gpu_descriptor.proofs.lists.Numbers.{entry_at-found}
 use Rattle.gpu_descriptor.proofs.table.Tables.{first_books, none_behind}
 
@@ -17,10 +17,10 @@ nothing_at b i e empty at = (let bad : ◌≡◌ {A = Option Entry} None (Some e
 pub all_foreign : (s : State) → HasNoPools s → (name : ℕ) → IsForeign s name
 all_foreign s empty name k n e at same = nothing_at (s.books k) n e (empty k) at
 
-pub restores : (s t u : State) → HasNoPools s → KeepsForeign s t → LosesNone s t → Agree t → ((i : Item) → outstanding t i ≡ 0) → IsCleaned t u → u.ledger ≡ s.ledger
+pub restores : (s t u : State) → HasNoPools s → KeepsForeign s t → KeepsForeign t s → Agree t → ((i : Item) → outstanding t i ≡ 0) → IsCleaned t u → u.ledger ≡ s.ledger
 restores s t u began keeps loses agree nothing clean =
     let kept = foreign_through s t u keeps (cleaned_foreign false t u clean) in
-    let lost_none = loses_through s t u loses (cleaned_loses false t u clean) in
+    let lost_none = foreign_through u t s (cleaned_loses false t u clean) loses in
     fun_ext (λ name. same name (s.ledger name) (u.ledger name) refl refl (λ pool live. (kept name pool (all_foreign s began name) live).0) (λ pool live. (lost_none name pool (all_foreign u (no_pool_left false t u agree nothing clean) name) live).0))
   where
     same : (name : ℕ) (before after : Option Pool) → s.ledger name ≡ before → u.ledger name ≡ after → ((pool : Pool) → s.ledger name ≡ Some pool → u.ledger name ≡ Some pool) → ((pool : Pool) → u.ledger name ≡ Some pool → s.ledger name ≡ Some pool) → u.ledger name ≡ s.ledger name

@@ -3,7 +3,7 @@ use Rattle.gpu_descriptor.proofs.Common.{◌≡◌, ◌≤◌, ℕ, ◌+◌, ◌
 use Rattle.gpu_descriptor.specs.Caller.HandsOut.{HandsOut}
 use Rattle.gpu_descriptor.specs.Caller.Keeps.{Keeps}
 use Rattle.gpu_descriptor.specs.Caller.States.{keys_of}
-use Rattle.gpu_descriptor.proofs.request.Outcomes.{taken_agree, taken_out, taken_own, taken_others, taken_leaves, taken_loses_none, taken_others_of, went_back, back_out, back_leaves, back_loses_none, back_others, back_others_of, back_totals, kept, kept_many, kept_totals}
+use Rattle.gpu_descriptor.proofs.request.Outcomes.{taken_agree, taken_out, taken_own, taken_others, taken_others_of, went_back, back_out, back_others, back_others_of, back_totals, kept, kept_many, kept_totals}
 use Rattle.gpu_descriptor.proofs.request.Causes.{has_cause}
 use Rattle.gpu_descriptor.proofs.request.Promises.{short}
 
@@ -17,8 +17,6 @@ module _ {L P S : Type 0} {means : Meaning L P S} {k : Key} {count : ℕ} {sets 
         most = most;
         load = load;
         pool_load = pool_load;
-        foreign = taken_leaves t agree;
-        accounted = taken_loses_none t agree;
         others = taken_others_of t agree;
       }
 
@@ -30,8 +28,6 @@ module _ {L P S : Type 0} {means : Meaning L P S} {k : Key} {count : ℕ} {sets 
         most = then.most ∙ most;
         load = then.load;
         pool_load = then.pool_load;
-        foreign = back_leaves t agree r.back;
-        accounted = back_loses_none t agree r.back;
         others = back_others_of t agree r.back;
       }
 

@@ -1,15 +1,14 @@
 -- A request that took sets is as the definitions say: kept whole, or given back.
 use Rattle.gpu_descriptor.proofs.request.Requested.{load_is, pool_load_is, out_is}
-use Rattle.gpu_descriptor.proofs.Common.{fun_ext, ◌≡◌, ℕ, ◌+◌, ◌-◌, ◌<◌, Some, is_some, true, List, [], ◌∷◌, length, arith, Result, Ok, Err, OnOk, refl, sym, ap, ◌∙◌, subst, length-map, side, Meaning, Ledger, no_rise, AllocationError, DescriptorSet, Stop, State, Item, Agree, AreOutstanding, Option, Pool, count_of, outstanding, key_eq, if◌then◌else◌, Key, Bucket, HasDistinctKeys, Allocations, KeepsForeign, LosesNone, GivesBack, Grant, IsGrantOf, bucket_with, items_in, granted, ledger_with, IsTaken, IsRefused, set_descriptors, Allocates, Call, Proceeds, taken_by, risen, rollback_rise, StopsAt, stop_error, stop_rise, IsUntouched, KeepsOtherKeys, AreOfKey, AreOutBesides, KeepsOutstanding, released, pools_gone, call_of, Takes, runs, item_of, items_of, state_of, table_of, outstanding_of, marked_load_of, pool_load_of, HasTaken}
+use Rattle.gpu_descriptor.proofs.Common.{fun_ext, ◌≡◌, ℕ, ◌+◌, ◌-◌, ◌<◌, Some, is_some, true, List, [], ◌∷◌, length, arith, Result, Ok, Err, OnOk, refl, sym, ap, ◌∙◌, subst, length-map, side, Meaning, Ledger, no_rise, AllocationError, DescriptorSet, Stop, State, Item, Agree, AreOutstanding, Option, Pool, count_of, outstanding, key_eq, if◌then◌else◌, Key, Bucket, HasDistinctKeys, Allocations, KeepsForeign, GivesBack, Grant, IsGrantOf, bucket_with, items_in, granted, ledger_with, IsTaken, IsRefused, set_descriptors, Allocates, Call, Proceeds, taken_by, risen, rollback_rise, StopsAt, stop_error, stop_rise, IsUntouched, KeepsOtherKeys, AreOfKey, AreOutBesides, KeepsOutstanding, released, pools_gone, call_of, Takes, runs, item_of, items_of, state_of, table_of, outstanding_of, marked_load_of, pool_load_of, HasTaken}
 use Rattle.gpu_descriptor.specs.Caller.Others.{others_of}
 use Rattle.gpu_descriptor.specs.Model.Outcomes.Allocates.{done, stopped}
 use Rattle.gpu_descriptor.specs.Caller.States.{keys_of}
 use Rattle.gpu_descriptor.proofs.request.TakenAgrees.{granted_agree, granted_foreign, granted_loses_none, granted_others, granted_outstanding, granted_own}
 use Rattle.gpu_descriptor.proofs.request.TakenPlaces.{AreMade, made_all, made_prefix}
 use Rattle.gpu_descriptor.specs.declared.bucket.stop.Stop.TheVariants as stop
-use Rattle.gpu_descriptor.proofs.foreign.ForeignPools.{freed_foreign, freed_loses, foreign_through, loses_through}
 use Rattle.gpu_descriptor.proofs.release.ReleaseAgrees.{takes}
-use Rattle.gpu_descriptor.proofs.foreign.OthersStay.{others_stay}
+use Rattle.gpu_descriptor.proofs.foreign.OthersStay.{freed_others, others_stay}
 use Rattle.gpu_descriptor.proofs.release.OtherKeys.{release_others, untouched_twice}
 use Rattle.gpu_descriptor.proofs.request.Rollback.{give_back_rise, only_key, keys_table, unnamed_key, load_of_items}
 
@@ -73,14 +72,11 @@ module _ {L P S : Type 0} {means : Meaning L P S} {k : Key} {count : ℕ} {sets 
   pub taken_others : KeepsOtherKeys k s (state_of means.pool_name new after)
   taken_others = subst (KeepsOtherKeys k s) as_granted (granted_others k count had.g s agree had.grant had.made)
 
-  pub taken_leaves : KeepsForeign s (state_of means.pool_name new after)
-  taken_leaves = subst (KeepsForeign s) as_granted (granted_foreign k count had.g s agree had.grant had.made)
-
-  pub taken_loses_none : LosesNone s (state_of means.pool_name new after)
-  taken_loses_none = subst (LosesNone s) as_granted (granted_loses_none k count had.g s agree had.grant had.made)
-
   pub taken_others_of : others_of means.pool_name new after ≡ others_of means.pool_name old before
-  taken_others_of = others_stay means.pool_name old new before after taken_leaves taken_loses_none
+  taken_others_of =
+      let keeps = subst (KeepsForeign s) as_granted (granted_foreign k count had.g s agree had.grant had.made) in
+      let lost = subst (λ t. KeepsForeign t s) as_granted (granted_loses_none k count had.g s agree had.grant had.made) in
+      others_stay means.pool_name old new before after keeps lost
 
   pub proceeds : HasDistinctKeys (table_of means.pool_name old) → 0 < count → (last : Allocations P) (final : Ledger) (answer : Result (List Item) AllocationError) → Proceeds (call_of means k count (side old before) (side last final) answer)
   proceeds distinct some last final answer = record {
@@ -164,14 +160,8 @@ module _ {L P S : Type 0} {means : Meaning L P S} {k : Key} {count : ℕ} {sets 
         let long = ap (set_descriptors k) (length-map sets (λ (x : DescriptorSet S). item_of means.set_name x)) in
         ((let e : outstanding_of last ≡ outstanding_of old = omega arith in e), (let e : marked_load_of last ≡ marked_load_of old = omega arith in e))
 
-    pub back_leaves : KeepsForeign s (state_of means.pool_name last final)
-    back_leaves = foreign_through s (state_of means.pool_name new after) (state_of means.pool_name last final) taken_leaves (freed_foreign means sets calls new last after final back)
-
-    pub back_loses_none : LosesNone s (state_of means.pool_name last final)
-    back_loses_none = loses_through s (state_of means.pool_name new after) (state_of means.pool_name last final) taken_loses_none (freed_loses means sets calls new last after final back)
-
     pub back_others_of : others_of means.pool_name last final ≡ others_of means.pool_name old before
-    back_others_of = others_stay means.pool_name old last before final back_leaves back_loses_none
+    back_others_of = freed_others means sets calls new last after final back ∙ taken_others_of
 
   -- ---- the sets are kept
 

@@ -2,9 +2,8 @@
 use Rattle.std.specs.Prelude.{◌≡◌, ◌≤◌}
 use Rattle.gpu_descriptor_types.specs.Meaning.{Meaning}
 use Rattle.gpu_descriptor_types.specs.Side.{Side}
-use Rattle.gpu_descriptor.specs.Model.Foreign.{KeepsForeign, LosesNone}
 use Rattle.gpu_descriptor.specs.Caller.Others.{others_of}
-use Rattle.gpu_descriptor.specs.Caller.States.{Agrees, marked_load_of, pool_load_of, state_of}
+use Rattle.gpu_descriptor.specs.Caller.States.{Agrees, marked_load_of, pool_load_of}
 use Rattle.gpu_descriptor.specs.Caller.Values.{Allocations}
 
 pub record Keeps {L P S : Type 0} (means : Meaning L P S) (old new : Side (Allocations P)) : Type 0 where
@@ -17,9 +16,5 @@ pub record Keeps {L P S : Type 0} (means : Meaning L P S) (old new : Side (Alloc
   -- the marked sets that are out, and the pools of marked keys, are within the limit
   pub load : marked_load_of new.value ≤ new.value.limit
   pub pool_load : pool_load_of new.value ≤ new.value.limit
-  -- the live pools of others stay as they are and don't come into the books, and no pool is lost
-  pub foreign : KeepsForeign (state_of means.pool_name old.value old.ledger) (state_of means.pool_name new.value new.ledger)
-  -- a live pool that is not in the books was live and foreign before, and is as it was
-  pub accounted : LosesNone (state_of means.pool_name old.value old.ledger) (state_of means.pool_name new.value new.ledger)
-  -- so the pools of others are the same, as one equation
+  -- the live pools of others are the same: none of theirs is touched, and no pool is lost
   pub others : others_of means.pool_name new.value new.ledger ≡ others_of means.pool_name old.value old.ledger

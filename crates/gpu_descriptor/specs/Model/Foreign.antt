@@ -15,7 +15,3 @@ IsForeign s pool = (k : Key) (i : ℕ) (e : Entry) → slice_get (s.books k).poo
 -- a live pool that isn't in the books stays as it is, and doesn't come into them
 abbrev pub KeepsForeign : State → State → Type 0
 KeepsForeign old new = (name : ℕ) (pool : Pool) → IsForeign old name → old.ledger name ≡ Some pool → (new.ledger name ≡ Some pool) × IsForeign new name
-
--- no pool is lost: a live pool that isn't in the books afterwards was live and foreign before, and is as it was
-abbrev pub LosesNone : State → State → Type 0
-LosesNone old new = (name : ℕ) (pool : Pool) → IsForeign new name → new.ledger name ≡ Some pool → (old.ledger name ≡ Some pool) × IsForeign old name

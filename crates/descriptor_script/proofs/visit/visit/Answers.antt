@@ -7,6 +7,7 @@ use Rattle.gpu_descriptor.specs.Caller.Sets.{items_of}
 use Rattle.gpu_descriptor.specs.Caller.States.{state_of}
 use Rattle.gpu_descriptor.proofs.cleanup.Cleaning.{nothing_left}
 use Rattle.gpu_descriptor.proofs.foreign.NoneLost.{restores}
+use Rattle.gpu_descriptor.proofs.foreign.OthersStay.{from_others}
 use Rattle.descriptor_script.specs.Sessions.Session.{allocator_of, sets_of}
 use Rattle.descriptor_script.specs.Sessions.Steps.{Cleans}
 use Rattle.descriptor_script.specs.Sessions.Tickets.{held_sets}
@@ -48,7 +49,8 @@ returns-clause-pools g c none =
     let t : State = state_of name (allocator_of c.run-replies.new.self) (ledger c.run-replies.new.device) in
     let u : State = state_of name (allocator_of c.cleanup.new.self) (ledger c.cleanup.new.device) in
     let at = (goal.at.returns-clause-pools g c).After-cleanup in
-    restores s t u c.requires.began c.run-replies.ensures.keeps.allocator.foreign c.run-replies.ensures.keeps.allocator.accounted c.run-replies.ensures.keeps.ready.agree.books (nothing g at none) at.cleanup.ensures.cleans.cleans_up.cleaned
+    let others = c.run-replies.ensures.keeps.allocator.others in
+    restores s t u c.requires.began (from_others name _ _ _ _ others) (from_others name _ _ _ _ (sym others)) c.run-replies.ensures.keeps.ready.agree.books (nothing g at none) at.cleanup.ensures.cleans.cleans_up.cleaned
 
 pub returns-clause-ended : goal.returns-clause-ended
 returns-clause-ended g c none =

@@ -7,6 +7,6 @@ invariant_of-self c =
     let old = c.args.self.now in
     record {
       paired =
-          stepped old.one c.step.new.self old.other (ledger_logged old.device) (ledger_logged c.step.new.device) c.step.ensures.keeps.allocator.foreign old.paired
+          stepped old.one c.step.new.self old.other (ledger_logged old.device) (ledger_logged c.step.new.device) c.step.ensures.keeps.allocator.others old.paired
           c.step.ensures.keeps.ready;
     }

@@ -8,6 +8,6 @@ invariant_of-self c =
     record {
       paired =
           turned c.step.new.self old.one (ledger_logged c.step.new.device)
-          (stepped old.other c.step.new.self old.one (ledger_logged old.device) (ledger_logged c.step.new.device) c.step.ensures.keeps.allocator.foreign (turned old.one old.other (ledger_logged old.device) old.paired)
+          (stepped old.other c.step.new.self old.one (ledger_logged old.device) (ledger_logged c.step.new.device) c.step.ensures.keeps.allocator.others (turned old.one old.other (ledger_logged old.device) old.paired)
           c.step.ensures.keeps.ready);
     }

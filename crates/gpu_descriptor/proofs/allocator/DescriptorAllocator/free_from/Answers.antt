@@ -1,8 +1,7 @@
 use Rattle.std.proofs.Common.{rules}
 use Rattle.gpu_descriptor.proofs.sums.Loads.{opened}
 use Rattle.gpu_descriptor.proofs.Common.{◌∙◌, Some}
-use Rattle.gpu_descriptor.proofs.foreign.OthersStay.{others_stay}
-use Rattle.gpu_descriptor.proofs.foreign.ForeignPools.{freed_foreign, freed_loses}
+use Rattle.gpu_descriptor.proofs.foreign.OthersStay.{freed_others}
 use Rattle.gpu_descriptor.proofs.request.Requested.{load_within, pool_load_within, rows_apart}
 use Rattle.gpu_descriptor.proofs.release.Freed.{Freed, freed_none, call_out, freed_more, freed_all, less}
 use Rattle.gpu_descriptor.proofs.allocator.DescriptorAllocator.free_from.Goals.{In-Some}
@@ -49,17 +48,13 @@ returns-clause-keeps g c =
     let name = g.D.DescriptorDevice.meaning.pool_name in
     let before = g.D.DescriptorDevice.ledger c.args.device.now in
     let after = g.D.DescriptorDevice.ledger c.loop-ahead.device in
-    let foreign = freed_foreign g.D.DescriptorDevice.meaning r.sets _ c.args.self.now c.loop-ahead.self before after r.back in
-    let accounted = freed_loses g.D.DescriptorDevice.meaning r.sets _ c.args.self.now c.loop-ahead.self before after r.back in
     record {
       agree = record { rows = rows_apart _ c.self.view_is name c.self.inside.table.distinct; books = r.agree };
       limit = c.loop-ahead.invariant.limit;
       most = c.loop-ahead.invariant.most;
       load = load_within _ c.self.view_is (opened c.self.invariant);
       pool_load = pool_load_within _ c.self.view_is (opened c.self.invariant);
-      foreign = foreign;
-      accounted = accounted;
-      others = others_stay name c.args.self.now c.loop-ahead.self before after foreign accounted;
+      others = freed_others g.D.DescriptorDevice.meaning r.sets _ c.args.self.now c.loop-ahead.self before after r.back;
     }
 
 pub prove-unreachable-requires : goal.prove-unreachable-requires

@@ -4,11 +4,10 @@ use Rattle.indexmap.specs.Layout.{length-set_value_at}
 use Rattle.gpu_descriptor.proofs.table.Rising.{ids_put, rise_left}
 use Rattle.gpu_descriptor.proofs.table.RowAt.{keys_at, value_at}
 use Rattle.gpu_descriptor.proofs.cleanup.Cleaning.{clean_agrees, takes_none}
-use Rattle.gpu_descriptor.proofs.foreign.ForeignPools.{cleaned_foreign, cleaned_loses}
 use Rattle.gpu_descriptor.proofs.sums.Loads.{rows_pool_load, stored_load_in, sum_put, opened, closed}
 use Rattle.gpu_descriptor.proofs.cleanup.KeyOrder.{keys_cleaned}
 use Rattle.gpu_descriptor.proofs.cleanup.RowsCleaned.{all_cleared, agree_is, cleared, counted_filter, counted_put, ledger_less, next, next_stored, step_less, step_rows, whole_clean, whole_count}
-use Rattle.gpu_descriptor.proofs.foreign.OthersStay.{emptied, others_stay}
+use Rattle.gpu_descriptor.proofs.foreign.OthersStay.{cleaned_others, emptied}
 use Rattle.gpu_descriptor.proofs.request.Requested.{rows_distinct}
 use Rattle.gpu_descriptor.proofs.table.TableBooks.{rows_in, distinct_rows, distinct_stored}
 use Rattle.gpu_descriptor.proofs.allocator.DescriptorAllocator.sweep.Goals as goal
@@ -93,8 +92,6 @@ returns g c =
     let counted = counted_filter _ _ _ _ _ _ kept h.counted in
     let now : Allocations _ = record { limit = c.loop-place.self-inside.max_update_after_bind_descriptors_in_all_pools; most = c.loop-place.self-inside.budget.most; table = map row_of c.retain.new.self.entries; looks = c.loop-place.self-inside.budget.looks.count; comparisons = c.loop-place.self-inside.comparisons.count } in
     let clean = whole_clean c.args.everywhere name c.args.self.now (ledger c.args.device.now) (ledger c.loop-place.device) es c.loop-place.self-inside.table.buckets.entries _ c.loop-place.self-inside.max_update_after_bind_descriptors_in_all_pools was distinct rows less kept in
-    let foreign = cleaned_foreign c.args.everywhere _ _ clean in
-    let accounted = cleaned_loses c.args.everywhere _ _ clean in
     record {
       sweeps = record {
         cleaned = clean;
@@ -114,9 +111,7 @@ returns g c =
         most = h.most ∙ ap (λ (a : Allocations _). a.most) c.self.view_is;
         load = (omega arith);
         pool_load = (omega arith);
-        foreign = foreign;
-        accounted = accounted;
-        others = others_stay name c.args.self.now now (ledger c.args.device.now) (ledger c.loop-place.device) foreign accounted;
+        others = cleaned_others name c.args.everywhere c.args.self.now now (ledger c.args.device.now) (ledger c.loop-place.device) clean;
       };
     }
 
