@@ -31,13 +31,24 @@ module _ {S : Type 0} (name : S → ℕ) (xs ys all : List (DescriptorSet S)) (i
   same_besides s t back u = (let a = count_whole u in let c = back u in omega arith)
 
   -- the second part joins the first: it was outstanding besides that
-  pub joins : (s : State) → AreOutstanding (items_of name xs) s → ((u : Item) → count_of u (items_of name ys) ≤ outstanding s u - count_of u (items_of name xs)) → (AreOutstanding (items_of name all) s) × ((u : Item) → outstanding s u - count_of u (items_of name all) + count_of u (items_of name ys) ≡ outstanding s u - count_of u (items_of name xs))
+  pub joins :
+      (s : State) → AreOutstanding (items_of name xs) s
+      → ((u : Item) → count_of u (items_of name ys) ≤ outstanding s u - count_of u (items_of name xs))
+      → (AreOutstanding (items_of name all) s)
+        × ((u : Item)
+           → outstanding s u - count_of u (items_of name all) + count_of u (items_of name ys)
+             ≡ outstanding s u - count_of u (items_of name xs))
   joins s out used =
       (λ u. (let a = count_whole u in let b = out u in let c = used u in omega arith), λ u. (let a = count_whole u in let b = out u in let c = used u in omega arith))
 
 -- ---- a manager that retires sets
 
-pub retires : {P S : Type 0} (pool_name : P → ℕ) (set_name : S → ℕ) (old new : FrameManager P S) (l : Ledger) (xs : List (DescriptorSet S)) → allocator_of new ≡ allocator_of old → retired_sets (retired_of new) ≡ retired_sets (retired_of old) ++ xs → AreRetiredOut pool_name set_name old l → AreInUse pool_name set_name (items_of set_name xs) old l → Retires pool_name set_name (items_of set_name xs) old new l
+pub retires :
+    {P S : Type 0} (pool_name : P → ℕ) (set_name : S → ℕ) (old new : FrameManager P S) (l : Ledger)
+      (xs : List (DescriptorSet S))
+    → allocator_of new ≡ allocator_of old → retired_sets (retired_of new) ≡ retired_sets (retired_of old) ++ xs
+    → AreRetiredOut pool_name set_name old l → AreInUse pool_name set_name (items_of set_name xs) old l
+    → Retires pool_name set_name (items_of set_name xs) old new l
 retires pool_name set_name old new l xs same is out used =
     let more = joins set_name (retired_sets (retired_of old)) xs (retired_sets (retired_of new)) is (state_in pool_name old l) out.out used.used in
     let as_before : (t : Item) → outstanding (state_in pool_name new l) t ≡ outstanding (state_in pool_name old l) t = λ t. ap (λ a. outstanding (state_of pool_name a l) t) same in
@@ -47,7 +58,15 @@ retires pool_name set_name old new l xs same is out used =
     }
 
 -- sets are retired, wherever they stand in the list
-pub retires_counted : {P S : Type 0} (pool_name : P → ℕ) (set_name : S → ℕ) (old new : FrameManager P S) (l : Ledger) (xs : List (DescriptorSet S)) → allocator_of new ≡ allocator_of old → ((t : Item) → count_of t (items_of set_name (retired_sets (retired_of new))) ≡ count_of t (items_of set_name (retired_sets (retired_of old))) + count_of t (items_of set_name xs)) → AreRetiredOut pool_name set_name old l → AreInUse pool_name set_name (items_of set_name xs) old l → Retires pool_name set_name (items_of set_name xs) old new l
+pub retires_counted :
+    {P S : Type 0} (pool_name : P → ℕ) (set_name : S → ℕ) (old new : FrameManager P S) (l : Ledger)
+      (xs : List (DescriptorSet S))
+    → allocator_of new ≡ allocator_of old
+    → ((t : Item)
+       → count_of t (items_of set_name (retired_sets (retired_of new)))
+         ≡ count_of t (items_of set_name (retired_sets (retired_of old))) + count_of t (items_of set_name xs))
+    → AreRetiredOut pool_name set_name old l → AreInUse pool_name set_name (items_of set_name xs) old l
+    → Retires pool_name set_name (items_of set_name xs) old new l
 retires_counted pool_name set_name old new l xs same more out used =
     let as_before : (t : Item) → outstanding (state_in pool_name new l) t ≡ outstanding (state_in pool_name old l) t = λ t. ap (λ a. outstanding (state_of pool_name a l) t) same in
     record {
@@ -56,14 +75,30 @@ retires_counted pool_name set_name old new l xs same more out used =
     }
 
 -- the one set is retired, wherever it stands in the list
-pub retires_one : {P S : Type 0} (pool_name : P → ℕ) (set_name : S → ℕ) (old new : FrameManager P S) (l : Ledger) (x : DescriptorSet S) → allocator_of new ≡ allocator_of old → HasBesides x (retired_sets (retired_of old)) (retired_sets (retired_of new)) → AreRetiredOut pool_name set_name old l → AreInUse pool_name set_name (item_of set_name x ∷ []) old l → Retires pool_name set_name (item_of set_name x ∷ []) old new l
+pub retires_one :
+    {P S : Type 0} (pool_name : P → ℕ) (set_name : S → ℕ) (old new : FrameManager P S) (l : Ledger)
+      (x : DescriptorSet S)
+    → allocator_of new ≡ allocator_of old → HasBesides x (retired_sets (retired_of old)) (retired_sets (retired_of new))
+    → AreRetiredOut pool_name set_name old l → AreInUse pool_name set_name (item_of set_name x ∷ []) old l
+    → Retires pool_name set_name (item_of set_name x ∷ []) old new l
 retires_one pool_name set_name old new l x same more = retires_counted pool_name set_name old new l (x ∷ []) same (count_besides set_name more)
 
 pub none_retired : {P S : Type 0} (pool_name : P → ℕ) (set_name : S → ℕ) (m : FrameManager P S) (l : Ledger) → retired_of m ≡ [] → AreRetiredOut pool_name set_name m l
 none_retired pool_name set_name m l is = record { out = λ t. (let none = ap (λ rs. count_of t (items_of set_name (retired_sets rs))) is in omega arith) }
 
 -- sets that come out join those in use
-pub together : {P S X : Type 0} (pool_name : P → ℕ) (set_name : S → ℕ) (sets_in : X → List (DescriptorSet S)) (r : Result X AllocationError) (old new : FrameManager P S) (before after : Ledger) → retired_of new ≡ retired_of old → IfOk (map_ok sets_in r) (λ sets. AreOutBesides (items_of set_name sets) (state_in pool_name old before) (state_in pool_name new after)) → AreRetiredOut pool_name set_name old before → IfOk r (λ x. (used all : List (DescriptorSet S)) → all ≡ used ++ sets_in x → AreInUse pool_name set_name (items_of set_name used) old before → AreInUse pool_name set_name (items_of set_name all) new after)
+pub together :
+    {P S X : Type 0} (pool_name : P → ℕ) (set_name : S → ℕ) (sets_in : X → List (DescriptorSet S))
+      (r : Result X AllocationError) (old new : FrameManager P S) (before after : Ledger)
+    → retired_of new ≡ retired_of old
+    → IfOk (map_ok sets_in r)
+        (λ sets. AreOutBesides (items_of set_name sets) (state_in pool_name old before) (state_in pool_name new after))
+    → AreRetiredOut pool_name set_name old before
+    → IfOk r
+        (λ x.
+           (used all : List (DescriptorSet S)) → all ≡ used ++ sets_in x
+           → AreInUse pool_name set_name (items_of set_name used) old before
+           → AreInUse pool_name set_name (items_of set_name all) new after)
 together pool_name set_name sets_in (Ok x) old new before after same more out = λ used all is are. record {
   used = λ t. (
       let both = count_whole set_name used (sets_in x) all is t in

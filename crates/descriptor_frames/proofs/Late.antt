@@ -37,11 +37,18 @@ module _ {S : Type 0} where
   pub late_besides : (frame : ℕ) (set : DescriptorSet S) (rs all : List (Retired S)) (i : ℕ) → all ≡ insert rs i (at_frame frame set) → HasBesides set (retired_sets rs) (retired_sets all)
   late_besides frame set rs all i is = record { place = i; is = ap retired_sets is ∙ map_insert rs i (at_frame frame set) }
 
-  pub late_in_order : (frame greatest more : ℕ) (set : DescriptorSet S) (rs all : List (Retired S)) (i : ℕ) → i ≤ length rs → IsPartitionPoint (λ r. r.frame ≤ frame) (λ r. frame < r.frame) rs i → all ≡ insert rs i (at_frame frame set) → more ≡ max greatest frame → AreInOrder rs greatest → AreInOrder all more
+  pub late_in_order :
+      (frame greatest more : ℕ) (set : DescriptorSet S) (rs all : List (Retired S)) (i : ℕ) → i ≤ length rs
+      → IsPartitionPoint (λ r. r.frame ≤ frame) (λ r. frame < r.frame) rs i → all ≡ insert rs i (at_frame frame set)
+      → more ≡ max greatest frame → AreInOrder rs greatest → AreInOrder all more
   late_in_order frame greatest more set rs all i within at is up o =
       let wide : All (λ (r : Retired S). r.frame ≤ more) rs = λ k d lt. (let below = o.within k d lt in omega arith) in
       let here : frame ≤ more = omega arith in
       rw is (record {
         rising = IsNonDecreasingBy-insert (λ r. r.frame) rs i (at_frame frame set) o.rising within (λ k d lt. at.0 k d (omega arith) lt) (λ k d low lt. let above = at.1 k d low lt in omega arith);
-        within = All-append (λ (r : Retired S). r.frame ≤ more) (take i rs) (at_frame frame set ∷ drop i rs) (All-take (λ (r : Retired S). r.frame ≤ more) i rs wide) (All-cons (λ (r : Retired S). r.frame ≤ more) (at_frame frame set) (drop i rs) here (All-drop (λ (r : Retired S). r.frame ≤ more) i rs wide));
+        within =
+            All-append (λ (r : Retired S). r.frame ≤ more) (take i rs) (at_frame frame set ∷ drop i rs)
+              (All-take (λ (r : Retired S). r.frame ≤ more) i rs wide)
+              (All-cons (λ (r : Retired S). r.frame ≤ more) (at_frame frame set) (drop i rs) here
+                 (All-drop (λ (r : Retired S). r.frame ≤ more) i rs wide));
       })

@@ -1,5 +1,8 @@
 -- How a run of lines ends.
-use Rattle.std.proofs.Common.{◌≡◌, if◌then◌else◌, ℕ, ◌+◌, ◌-◌, ◌<◌, ◌≤◌, ◌⊎◌, ◌||◌, inl, inr, Bool, true, false, IsTrue, IsFalse, not, List, [], ◌∷◌, ◌++◌, Option, None, Some, Result, Ok, Err, OnOk, OnErr, IfErr, drop, take, slice_range, length, length-take, append-nil, subst, refl, sym, ap, ◌∙◌, arith}
+use Rattle.std.proofs.Common.{◌≡◌, if◌then◌else◌, ℕ, ◌+◌, ◌-◌, ◌<◌, ◌≤◌, ◌⊎◌, ◌||◌, inl, inr, Bool, true, false, IsTrue}
+use Rattle.std.proofs.Common.{IsFalse, not, List, [], ◌∷◌, ◌++◌, Option, None, Some, Result, Ok, Err, OnOk, OnErr}
+use Rattle.std.proofs.Common.{IfErr, drop, take, slice_range, length, length-take, append-nil, subst, refl, sym, ap}
+use Rattle.std.proofs.Common.{◌∙◌, arith}
 use Rattle.std.specs.Bool.{⊤}
 use Rattle.std.specs.List.{position_or_len}
 use Rattle.std.specs.Io.BufRead.{strip_last}
@@ -44,7 +47,12 @@ has_begun : (was now silent : Bool) → now ≡ (was || not silent) → IsFalse 
 has_begun was now silent is speaks = grind (arith)
 
 -- what a line that was run is answered
-run_answer : (number : ℕ) (outcome : Result Unit Refusal) (line text : List ℕ) (old new : LineState) → IsNoFault outcome → length line ≤ 4096 → OnOk outcome (DoesLine (words_in line) text old new) → OnErr outcome (IsUnchanged old new) → new.has_begun ≡ (old.has_begun || not (is_silent (words_in line))) → OnErr outcome (IsFalse (is_silent (words_in line))) → IfErr outcome (IsReasonFor old (words_in line)) → CanRun new → IsAnswered line (said_of number outcome text) old new
+run_answer :
+    (number : ℕ) (outcome : Result Unit Refusal) (line text : List ℕ) (old new : LineState) → IsNoFault outcome
+    → length line ≤ 4096 → OnOk outcome (DoesLine (words_in line) text old new) → OnErr outcome (IsUnchanged old new)
+    → new.has_begun ≡ (old.has_begun || not (is_silent (words_in line)))
+    → OnErr outcome (IsFalse (is_silent (words_in line))) → IfErr outcome (IsReasonFor old (words_in line)) → CanRun new
+    → IsAnswered line (said_of number outcome text) old new
 run_answer number (Ok done) line text old new fine short does same started speaks own ready = record { short = short; answer = inl does; ready = ready }
 run_answer number (Err refusal.NoMemory) line text old new fine short does same started speaks own ready = record {
   short = short;
@@ -62,7 +70,15 @@ left_alone : (outcome : Result Unit Refusal) (old new : LineState) (fault : Faul
 left_alone outcome old new fault is stays = (let same : new ≡ begun old = rw is at stays in record { script = ap (λ (p : LineState). p.script) same; ledger = ap (λ (p : LineState). p.ledger) same })
 
 -- a line that was run
-pub takes_run : (number : ℕ) (left rest : Option (List ℕ)) (line : List ℕ) (outcome : Result Unit Refusal) (text : List ℕ) (old new : LineState) → IsFirstOf line left → LosesLine left rest → length line ≤ 4096 → OnOk outcome (DoesLine (words_in line) text old new) → OnErr outcome (IsUnchanged old new) → new.has_begun ≡ (old.has_begun || not (is_silent (words_in line))) → OnErr outcome (IsFalse (is_silent (words_in line))) → IfErr outcome (IsReasonFor old (words_in line)) → IfErr outcome (λ reason. IfFault reason (λ _. new ≡ begun old)) → CanRun new → Takes number left rest outcome text old new
+pub takes_run :
+    (number : ℕ) (left rest : Option (List ℕ)) (line : List ℕ) (outcome : Result Unit Refusal) (text : List ℕ)
+      (old new : LineState)
+    → IsFirstOf line left → LosesLine left rest → length line ≤ 4096
+    → OnOk outcome (DoesLine (words_in line) text old new) → OnErr outcome (IsUnchanged old new)
+    → new.has_begun ≡ (old.has_begun || not (is_silent (words_in line)))
+    → OnErr outcome (IsFalse (is_silent (words_in line))) → IfErr outcome (IsReasonFor old (words_in line))
+    → IfErr outcome (λ reason. IfFault reason (λ _. new ≡ begun old)) → CanRun new
+    → Takes number left rest outcome text old new
 takes_run number None rest line outcome text old new first loses short does same started speaks own stays ready = tt
 takes_run number (Some bytes) None line outcome text old new first loses short does same started speaks own stays ready = absurd loses
 takes_run number (Some bytes) (Some others) line outcome text old new first loses short does same started speaks own stays ready = (
@@ -78,7 +94,15 @@ takes_run number (Some bytes) (Some others) line outcome text old new first lose
 )
 
 -- a line at its place in the buffer, run
-pub takes_span : (number : ℕ) (buffer : LineBuffer) (span : Span) (left rest : Option (List ℕ)) (line : List ℕ) (outcome : Result Unit Refusal) (text : List ℕ) (old new : LineState) → IsFirstOf (bytes_at buffer span) left → LosesLine left rest → span.end - span.start ≤ 4096 → line ≡ strip_last 13 (bytes_at buffer span) → OnOk outcome (DoesLine (words line) text old new) → OnErr outcome (IsUnchanged old new) → new.has_begun ≡ (old.has_begun || not (is_silent (words line))) → OnErr outcome (IsFalse (is_silent (words line))) → IfErr outcome (IsReasonFor old (words line)) → IfErr outcome (λ reason. IfFault reason (λ _. new ≡ begun old)) → CanRun new → Takes number left rest outcome text old new
+pub takes_span :
+    (number : ℕ) (buffer : LineBuffer) (span : Span) (left rest : Option (List ℕ)) (line : List ℕ)
+      (outcome : Result Unit Refusal) (text : List ℕ) (old new : LineState)
+    → IsFirstOf (bytes_at buffer span) left → LosesLine left rest → span.end - span.start ≤ 4096
+    → line ≡ strip_last 13 (bytes_at buffer span) → OnOk outcome (DoesLine (words line) text old new)
+    → OnErr outcome (IsUnchanged old new) → new.has_begun ≡ (old.has_begun || not (is_silent (words line)))
+    → OnErr outcome (IsFalse (is_silent (words line))) → IfErr outcome (IsReasonFor old (words line))
+    → IfErr outcome (λ reason. IfFault reason (λ _. new ≡ begun old)) → CanRun new
+    → Takes number left rest outcome text old new
 takes_span number buffer span left rest line outcome text old new first loses short is does same started speaks own stays ready =
     let few : length (bytes_at buffer span) ≤ 4096 = omega (arith, length-take (span.end - span.start) (drop span.start buffer.bytes.items)) in
     takes_run number left rest (bytes_at buffer span) outcome text old new first loses few (rw is at does) same (rw is at started) (rw is at speaks) (rw is at own) stays ready
@@ -100,7 +124,11 @@ takes_long number (Some bytes) rest outcome text p is long = (
 
 -- ---- one line more
 
-pub stands_on : (known left rest : Option (List ℕ)) (start old new : LineState) (answers text : List ℕ) (number : ℕ) (outcome : Result Unit Refusal) → Stands known start answers number left old → Takes number left rest outcome text old new → IsNoFault outcome → Stands known start (answers ++ said_of number outcome text) (number + 1) rest new
+pub stands_on :
+    (known left rest : Option (List ℕ)) (start old new : LineState) (answers text : List ℕ) (number : ℕ)
+      (outcome : Result Unit Refusal)
+    → Stands known start answers number left old → Takes number left rest outcome text old new → IsNoFault outcome
+    → Stands known start (answers ++ said_of number outcome text) (number + 1) rest new
 stands_on None left rest start old new answers text number outcome at takes fine = tt
 stands_on (Some bytes) None rest start old new answers text number outcome at takes fine = absurd at
 stands_on (Some bytes) (Some left) rest start old new answers text number outcome at (line, taken) fine =
@@ -123,7 +151,11 @@ ends_unread (Some bytes) (Some left) start p answers number old new (before, all
     (answers, (before, lines_of left, all, at), grown)
 
 -- a run that has come to its next line, with what was said of it
-at_line : (Says : ℕ → List ℕ → List ℕ → LineState → Type 0) (bytes left line said : List ℕ) (start p : LineState) (answers : List ℕ) (number : ℕ) → Stands (Some bytes) start answers number (Some left) p → 0 < length left → line ≡ before_end left → Says number line said p → ComesTo Says (lines_of bytes) start (answers ++ said)
+at_line :
+    (Says : ℕ → List ℕ → List ℕ → LineState → Type 0) (bytes left line said : List ℕ) (start p : LineState)
+      (answers : List ℕ) (number : ℕ)
+    → Stands (Some bytes) start answers number (Some left) p → 0 < length left → line ≡ before_end left
+    → Says number line said p → ComesTo Says (lines_of bytes) start (answers ++ said)
 at_line Says bytes left line said start p answers number (before, all, next, at) some first says =
     let split : lines_of left ≡ line ∷ lines_of (after_end left) = lines_split left some ∙ ap (λ l. l ∷ lines_of (after_end left)) (sym first) in
     record {
@@ -139,7 +171,12 @@ at_line Says bytes left line said start p answers number (before, all, next, at)
       says = subst (λ n. Says n line said p) next says;
     }
 
-ends_refused : (known left rest : Option (List ℕ)) (start p now : LineState) (answers text : List ℕ) (number : ℕ) (outcome : Result Unit Refusal) (fault : Fault) (old mid new : Option (List ℕ)) → outcome ≡ Err (refusal.Fault fault) → Stands known start answers number left p → Takes number left rest outcome text p now → Appends old mid answers → Appends mid new (said_of number outcome text) → Writes known start BadLine old new now
+ends_refused :
+    (known left rest : Option (List ℕ)) (start p now : LineState) (answers text : List ℕ) (number : ℕ)
+      (outcome : Result Unit Refusal) (fault : Fault) (old mid new : Option (List ℕ))
+    → outcome ≡ Err (refusal.Fault fault) → Stands known start answers number left p
+    → Takes number left rest outcome text p now → Appends old mid answers
+    → Appends mid new (said_of number outcome text) → Writes known start BadLine old new now
 ends_refused None left rest start p now answers text number outcome fault old mid new is at takes before said = tt
 ends_refused (Some bytes) None rest start p now answers text number outcome fault old mid new is at takes before said = absurd at
 ends_refused (Some bytes) (Some left) rest start p now answers text number outcome fault old mid new is at (line, taken) before said =
@@ -155,28 +192,48 @@ is_fault (Err refusal.NoMemory) faulty = absurd (faulty refl)
 is_fault (Err (refusal.Fault fault)) faulty = (fault, refl)
 
 -- a faulty line was the last
-pub ends_at_fault : (known left rest : Option (List ℕ)) (start p now : LineState) (answers text : List ℕ) (number : ℕ) (outcome : Result Unit Refusal) (old mid new : Option (List ℕ)) → ¬ (IsNoFault outcome) → Stands known start answers number left p → Takes number left rest outcome text p now → Appends old mid answers → Appends mid new (said_of number outcome text) → Writes known start BadLine old new now
+pub ends_at_fault :
+    (known left rest : Option (List ℕ)) (start p now : LineState) (answers text : List ℕ) (number : ℕ)
+      (outcome : Result Unit Refusal) (old mid new : Option (List ℕ))
+    → ¬ (IsNoFault outcome) → Stands known start answers number left p → Takes number left rest outcome text p now
+    → Appends old mid answers → Appends mid new (said_of number outcome text) → Writes known start BadLine old new now
 ends_at_fault known left rest start p now answers text number outcome old mid new faulty at takes before said =
     let (fault, is) = is_fault outcome faulty in
     ends_refused known left rest start p now answers text number outcome fault old mid new is at takes before said
 
-is_said : (number : ℕ) (line bytes : List ℕ) (rest : Option (List ℕ)) (outcome : Result Unit Refusal) (text : List ℕ) (old new : LineState) → IsTaken number line bytes rest outcome text old new → IsAnswered line (said_of number outcome text) old new ⊎ IsRefused number line (said_of number outcome text) old new
+is_said :
+    (number : ℕ) (line bytes : List ℕ) (rest : Option (List ℕ)) (outcome : Result Unit Refusal) (text : List ℕ)
+      (old new : LineState)
+    → IsTaken number line bytes rest outcome text old new
+    → IsAnswered line (said_of number outcome text) old new
+      ⊎ IsRefused number line (said_of number outcome text) old new
 is_said number line bytes rest (Ok done) text old new taken = inl (taken.answered tt)
 is_said number line bytes rest (Err refusal.NoMemory) text old new taken = inl (taken.answered refl)
 is_said number line bytes rest (Err (refusal.Fault fault)) text old new taken = inr (record { fault = fault; wrong = taken.wrong fault refl; said = refl; device = taken.device fault refl })
 
 -- a write failed
-pub ends_unwritten : (known left rest : Option (List ℕ)) (start p now : LineState) (answers text : List ℕ) (number : ℕ) (outcome : Result Unit Refusal) (old mid new : Option (List ℕ)) → Stands known start answers number left p → Takes number left rest outcome text p now → Appends old mid answers → AppendsPrefix mid new (said_of number outcome text) → Writes known start WriteFault old new now
+pub ends_unwritten :
+    (known left rest : Option (List ℕ)) (start p now : LineState) (answers text : List ℕ) (number : ℕ)
+      (outcome : Result Unit Refusal) (old mid new : Option (List ℕ))
+    → Stands known start answers number left p → Takes number left rest outcome text p now → Appends old mid answers
+    → AppendsPrefix mid new (said_of number outcome text) → Writes known start WriteFault old new now
 ends_unwritten None left rest start p now answers text number outcome old mid new at takes before wrote = tt
 ends_unwritten (Some bytes) None rest start p now answers text number outcome old mid new at takes before wrote = absurd at
 ends_unwritten (Some bytes) (Some left) rest start p now answers text number outcome old mid new at (line, taken) before wrote = (
   answers ++ wrote.prefix,
-  at_line (λ n l t q. (unwritten : List ℕ) × (IsAnswered l (t ++ unwritten) q now ⊎ IsRefused n l (t ++ unwritten) q now)) bytes left line wrote.prefix start p answers number at taken.some taken.first (wrote.unwritten, subst (λ t. IsAnswered line t p now ⊎ IsRefused number line t p now) wrote.split (is_said number line left rest outcome text p now taken)),
+  at_line
+    (λ n l t q. (unwritten : List ℕ) × (IsAnswered l (t ++ unwritten) q now ⊎ IsRefused n l (t ++ unwritten) q now))
+    bytes left line wrote.prefix start p answers number at taken.some taken.first
+    (wrote.unwritten, subst (λ t. IsAnswered line t p now ⊎ IsRefused number line t p now) wrote.split
+       (is_said number line left rest outcome text p now taken)),
   Appends-trans old mid new answers _ before wrote.grown,
 )
 
 -- an answer ends a run early only at a fault or a failed write
-pub ends_early : (known : Option (List ℕ)) (start last : LineState) (exit : Exit) (old new : Option (List ℕ)) → (exit ≡ BadLine) ⊎ (exit ≡ WriteFault) → (exit ≡ BadLine → Writes known start BadLine old new last) → (exit ≡ WriteFault → Writes known start WriteFault old new last) → Writes known start exit old new last
+pub ends_early :
+    (known : Option (List ℕ)) (start last : LineState) (exit : Exit) (old new : Option (List ℕ))
+    → (exit ≡ BadLine) ⊎ (exit ≡ WriteFault) → (exit ≡ BadLine → Writes known start BadLine old new last)
+    → (exit ≡ WriteFault → Writes known start WriteFault old new last) → Writes known start exit old new last
 ends_early known start last exit old new (inl bad) faulty failed = rw bad (faulty bad)
 ends_early known start last exit old new (inr broken) faulty failed = rw broken (failed broken)
 

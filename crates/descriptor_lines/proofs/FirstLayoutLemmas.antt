@@ -77,7 +77,11 @@ first_of_more (m ∷ ls) l =
 pub tell_more : (es : List (String Global × Entry)) (e : String Global × Entry) → TellFirsts es → IsTrue e.1.is_first ↔ (¬ Contains (map (λ m. m.1) (map listed es)) e.1.layout) → TellFirsts (es ++ e ∷ [])
 tell_more es e told new =
     let is_first = told_by_any e.1.is_first (map listed es) (listed e) new in
-    ap (map listed) (filter-append _ es (e ∷ [])) ∙ map-append listed _ _ ∙ ap (λ firsts. firsts ++ map listed (filter (λ f. f.1.is_first) (e ∷ []))) told ∙ ap (λ last. first_layouts (map listed es) ++ last) (last_one e.1.is_first (any_same (map listed es) (listed e)) is_first) ∙ sym (first_of_more (map listed es) (listed e)) ∙ ap first_layouts (sym (map-append listed es (e ∷ [])))
+    ap (map listed) (filter-append _ es (e ∷ [])) ∙ map-append listed _ _
+    ∙ ap (λ firsts. firsts ++ map listed (filter (λ f. f.1.is_first) (e ∷ []))) told
+    ∙ ap (λ last. first_layouts (map listed es) ++ last)
+        (last_one e.1.is_first (any_same (map listed es) (listed e)) is_first)
+    ∙ sym (first_of_more (map listed es) (listed e)) ∙ ap first_layouts (sym (map-append listed es (e ∷ [])))
   where
     last_one : (flag any : Bool) → flag ≡ not any → map listed (cond flag (e ∷ []) []) ≡ cond any [] (listed e ∷ [])
     last_one true true is = absurd (false≢true (sym is))

@@ -1,5 +1,8 @@
 -- Lemmas on the lines that bytes begin with.
-use Rattle.std.proofs.Common.{◌≡◌, if◌then◌else◌, ℕ, ◌+◌, ◌-◌, ◌<◌, ◌≤◌, ◌⊎◌, inl, inr, subst, append_assoc, append-nil, length-take, Bool, true, false, IsTrue, List, [], ◌++◌, Option, None, Some, not, is_some, unwrap_or, length, length-take-le, take, drop, position, slice_range, length-append, take-append-drop, refl, sym, ap, ◌∙◌, arith, IfSome}
+use Rattle.std.proofs.Common.{◌≡◌, if◌then◌else◌, ℕ, ◌+◌, ◌-◌, ◌<◌, ◌≤◌, ◌⊎◌, inl, inr, subst, append_assoc, append-nil}
+use Rattle.std.proofs.Common.{length-take, Bool, true, false, IsTrue, List, [], ◌++◌, Option, None, Some, not, is_some}
+use Rattle.std.proofs.Common.{unwrap_or, length, length-take-le, take, drop, position, slice_range, length-append}
+use Rattle.std.proofs.Common.{take-append-drop, refl, sym, ap, ◌∙◌, arith, IfSome}
 use Rattle.std.specs.List.{position_or_len}
 use Rattle.std.specs.Io.KnownBytes.{Keeps, IsAtEnd, Consumes, prepend_known}
 use Rattle.std.proofs.lemmas.Bool.{cases_lt}
@@ -53,7 +56,12 @@ part_behind bytes got more a end n from fits few =
     let split : slice_range (take end bytes ++ (got ++ more)) a (end + n) ≡ slice_range (take end bytes ++ (got ++ more)) a end ++ slice_range (take end bytes ++ (got ++ more)) end (end + n) = parts_joined (take end bytes ++ (got ++ more)) a end (end + n) from (omega arith) in
     let count : end + n - end ≡ n = omega arith in
     let behind : drop end (take end bytes ++ (got ++ more)) ≡ got ++ more = drop_at (take end bytes) (got ++ more) end size in
-    split ∙ ap (λ l. l ++ slice_range (take end bytes ++ (got ++ more)) end (end + n)) (front_part bytes (got ++ more) a end end (omega arith) fits) ∙ ap (λ l. slice_range bytes a end ++ l) (ap (λ k. take k (drop end (take end bytes ++ (got ++ more)))) count ∙ ap (take n) behind ∙ take-append-le n got more few)
+    split
+    ∙ ap (λ l. l ++ slice_range (take end bytes ++ (got ++ more)) end (end + n))
+        (front_part bytes (got ++ more) a end end (omega arith) fits)
+    ∙ ap (λ l. slice_range bytes a end ++ l)
+        (ap (λ k. take k (drop end (take end bytes ++ (got ++ more)))) count ∙ ap (take n) behind
+         ∙ take-append-le n got more few)
 
 -- ---- the first end of a line
 
@@ -112,7 +120,14 @@ pub search_comes_to : (bytes shown : List ℕ) (start searched end count : ℕ) 
     → found ≡ position (is_byte 10) (slice_range shown searched end) → count ≡ unwrap_or found (length (slice_range shown searched end)) → ComesTo bytes start end (searched + count) found
 search_comes_to bytes shown start searched end count found same from to fits none place is =
     let found_is : found ≡ position (is_byte 10) (slice_range bytes searched end) = place ∙ ap (λ l. position (is_byte 10) (slice_range l searched end)) same in
-    let count_is : count ≡ unwrap_or (position (is_byte 10) (slice_range bytes searched end)) (length (slice_range bytes searched end)) = is ∙ ap (λ o. unwrap_or o (length (slice_range shown searched end))) found_is ∙ ap (λ l. unwrap_or (position (is_byte 10) (slice_range bytes searched end)) (length (slice_range l searched end))) same in
+    let count_is :
+        count
+        ≡ unwrap_or (position (is_byte 10) (slice_range bytes searched end)) (length (slice_range bytes searched end)) =
+        is ∙ ap (λ o. unwrap_or o (length (slice_range shown searched end))) found_is
+        ∙ ap
+            (λ l.
+               unwrap_or (position (is_byte 10) (slice_range bytes searched end)) (length (slice_range l searched end)))
+            same in
     rw (count_is, found_is) (comes_to bytes start searched end from to fits none)
 
 -- a line up to its end, and what is behind that
@@ -183,7 +198,10 @@ too_long false None bytes long = tt
 too_long false (Some more) bytes long = omega (arith, before_end-grows bytes more)
 
 -- a read put its bytes behind those at hand, and saw the end only where none was left
-pub read_kept : (was ended : Bool) (old new : Option (List ℕ)) (bytes front got all : List ℕ) → was ≡ false → front ≡ bytes → all ≡ front ++ got → Consumes old new got → (IsTrue ended → IsAtEnd new) → Keeps (if was then Some bytes else prepend_known bytes old) (if ended then Some all else prepend_known all new)
+pub read_kept :
+    (was ended : Bool) (old new : Option (List ℕ)) (bytes front got all : List ℕ) → was ≡ false → front ≡ bytes
+    → all ≡ front ++ got → Consumes old new got → (IsTrue ended → IsAtEnd new)
+    → Keeps (if was then Some bytes else prepend_known bytes old) (if ended then Some all else prepend_known all new)
 read_kept true ended old new bytes front got all unseen same is took end = absurd (cc)
 read_kept false ended None new bytes front got all unseen same is took end = tt
 read_kept false ended (Some xs) None bytes front got all unseen same is took end = absurd took

@@ -53,7 +53,12 @@ done_step : (number : ℕ) (line : List ℕ) (lines : List (List ℕ)) (old new 
 done_step number line lines old new text (answer, answers, p, answered, said, others) =
     inr (answer, answers, p, answered, said, (new, others))
 
-faulty_step : (number : ℕ) (line : List ℕ) (lines : List (List ℕ)) (old p new : LineState) (text : List ℕ) (before : List (List ℕ)) (faulty_line : List ℕ) (after : List (List ℕ)) (answers last : List ℕ) → line ∷ lines ≡ before ++ faulty_line ∷ after → AreAnswered before answers old p → IsRefused (length before + number) faulty_line last p new → text ≡ answers ++ last → Goes number line lines old BadLine text
+faulty_step :
+    (number : ℕ) (line : List ℕ) (lines : List (List ℕ)) (old p new : LineState) (text : List ℕ)
+      (before : List (List ℕ)) (faulty_line : List ℕ) (after : List (List ℕ)) (answers last : List ℕ)
+    → line ∷ lines ≡ before ++ faulty_line ∷ after → AreAnswered before answers old p
+    → IsRefused (length before + number) faulty_line last p new → text ≡ answers ++ last
+    → Goes number line lines old BadLine text
 faulty_step number line lines old p new text [] faulty_line after answers last split (nothing, same) refused said =
     let at : 0 + number ≡ number = omega arith in
     inl (refl, new, rw (said, nothing, head_same split, ← same) (subst (λ n. IsRefused n faulty_line last p new) at refused))
@@ -184,7 +189,11 @@ no_layout_command layouts name count command none (word, same, gives) =
     no_place layouts name count command none (subst (λ k. GiveCommand layouts k (name ∷ count ∷ []) command) alloc gives)
 
 -- a request for sets of a layout that is not there is that fault
-pub unknown_layout : (number : ℕ) (line : List ℕ) (lines : List (List ℕ)) (old : LineState) (exit : Exit) (text name count : List ℕ) → length line ≤ 4096 → words_in line ≡ codes "alloc" ∷ name ∷ count ∷ [] → IsName name → layout_named old.layouts name ≡ None → HadMemory text → Ends number (line ∷ lines) old exit text → (exit ≡ BadLine) × (text ≡ fault_line number NoSuchLayout)
+pub unknown_layout :
+    (number : ℕ) (line : List ℕ) (lines : List (List ℕ)) (old : LineState) (exit : Exit) (text name count : List ℕ)
+    → length line ≤ 4096 → words_in line ≡ codes "alloc" ∷ name ∷ count ∷ [] → IsName name
+    → layout_named old.layouts name ≡ None → HadMemory text → Ends number (line ∷ lines) old exit text
+    → (exit ≡ BadLine) × (text ≡ fault_line number NoSuchLayout)
 unknown_layout number line lines old exit text name count short words is none had ends = (passed (step_of number line lines old exit text ends))
   where
     passed : Goes number line lines old exit text → (exit ≡ BadLine) × (text ≡ fault_line number NoSuchLayout)

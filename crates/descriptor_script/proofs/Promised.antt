@@ -77,7 +77,14 @@ module _ {L P S : Type 0} (means : Meaning L P S) where
       known = h.known;
       at = h.at;
       some = wants_some _ h.outcome;
-      cause = subst (λ out. IsBecause means k count out marked (allocator_on old) (allocator_on new) error) (sym (held_count old ready)) (subst (λ load. IsBecause means k count (outstanding_of (allocator_of old.value)) load (allocator_on old) (allocator_on new) error) (sym (held_load old ready)) h.cause);
+      cause =
+          subst (λ out. IsBecause means k count out marked (allocator_on old) (allocator_on new) error)
+            (sym (held_count old ready))
+            (subst
+               (λ load.
+                  IsBecause means k count (outstanding_of (allocator_of old.value)) load (allocator_on old)
+                    (allocator_on new) error)
+               (sym (held_load old ready)) h.cause);
       sets = h.sets;
     }
 

@@ -11,7 +11,11 @@ use Rattle.descriptor_script.specs.declared.command.Reply.{Reply}
 use Rattle.descriptor_script.specs.declared.session.Session.{Session}
 
 module _ {L P S : Type 0} (means : Meaning L P S) where
-  pub runs_more : (commands : List Command) (replies : List Reply) (command : Command) (reply : Reply) (old mid new : Side (Session L P S)) → RunsTo means commands replies old mid → StepsTo means command reply mid new → KeepsSession means mid new → RunsTo means (commands ++ command ∷ []) (replies ++ reply ∷ []) old new
+  pub runs_more :
+      (commands : List Command) (replies : List Reply) (command : Command) (reply : Reply)
+        (old mid new : Side (Session L P S))
+      → RunsTo means commands replies old mid → StepsTo means command reply mid new → KeepsSession means mid new
+      → RunsTo means (commands ++ command ∷ []) (replies ++ reply ∷ []) old new
   runs_more [] [] command reply old mid new run step keeps = (new, (subst (λ s. StepsTo means command reply s new) run step, subst (λ s. KeepsSession means s new) run keeps), refl)
   runs_more (c ∷ cs) (r ∷ rs) command reply old mid new run step keeps = (run.0, run.1, runs_more cs rs command reply run.0 mid new run.2 step keeps)
   runs_more _ _ command reply old mid new run step keeps = absurd run

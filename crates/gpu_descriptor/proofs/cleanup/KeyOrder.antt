@@ -1,5 +1,10 @@
 -- In which order keys stay in the table.
-use Rattle.gpu_descriptor.proofs.Common.{◌≡◌, ℕ, zero, suc, ◌==◌, not, Bool, List, [], ◌∷◌, ◌++◌, length, map, filter, slice_get, Option, Some, None, true, false, inl, inr, refl, sym, ap, ◌∙◌, arith, list_any, lookup, cases_Bool, map-append, Ledger, BucketKey, DescriptorBucket, Key, Bucket, HasDistinctKeys, books_of, key_of, Allocations, keys_with_pools, common_steps, has_pools, LosesEmpty, left_of, with_pools, Entry, with_key, key_eq, is_of, named_row, state_of, row_of, stored_keys}
+use Rattle.gpu_descriptor.proofs.Common.{◌≡◌, ℕ, zero, suc, ◌==◌, not, Bool, List, [], ◌∷◌, ◌++◌, length, map, filter}
+use Rattle.gpu_descriptor.proofs.Common.{slice_get, Option, Some, None, true, false, inl, inr, refl, sym, ap, ◌∙◌}
+use Rattle.gpu_descriptor.proofs.Common.{arith, list_any, lookup, cases_Bool, map-append, Ledger, BucketKey}
+use Rattle.gpu_descriptor.proofs.Common.{DescriptorBucket, Key, Bucket, HasDistinctKeys, books_of, key_of, Allocations}
+use Rattle.gpu_descriptor.proofs.Common.{keys_with_pools, common_steps, has_pools, LosesEmpty, left_of, with_pools}
+use Rattle.gpu_descriptor.proofs.Common.{Entry, with_key, key_eq, is_of, named_row, state_of, row_of, stored_keys}
 use Rattle.gpu_descriptor.specs.Caller.States.{keys_of}
 use Rattle.gpu_descriptor.proofs.cleanup.Splitting.{pools_with}
 use Rattle.gpu_descriptor.proofs.cleanup.RowsCleaned.{Rows, cleared_row, first_keys, has_row, row_books, rows_left}
@@ -44,12 +49,21 @@ keys_left everywhere stays (r ∷ rows) says =
     grind (arith, common_steps)
 
 -- the keys that still have pools are left, in their order
-pub keys_cleaned : (everywhere : Bool) {P : Type 0} (name : P → ℕ) (a b : Allocations P) (l m : Ledger) (es now fs : List (BucketKey × DescriptorBucket P)) → a.table ≡ map row_of es → b.table ≡ map row_of fs → HasDistinctKeys (rows_in name es) → rows_in name now ≡ map (cleared_row everywhere) (rows_in name es) → fs ≡ filter (λ e. has_pools e.1) now
+pub keys_cleaned :
+    (everywhere : Bool) {P : Type 0} (name : P → ℕ) (a b : Allocations P) (l m : Ledger)
+      (es now fs : List (BucketKey × DescriptorBucket P))
+    → a.table ≡ map row_of es → b.table ≡ map row_of fs → HasDistinctKeys (rows_in name es)
+    → rows_in name now ≡ map (cleared_row everywhere) (rows_in name es) → fs ≡ filter (λ e. has_pools e.1) now
     → LosesEmpty everywhere (state_of name a l) (state_of name b m) → keys_of b ≡ keys_with_pools (state_of name b m) (keys_of a)
 keys_cleaned everywhere {P} name a b l m es now fs was is distinct rows kept clean =
     let t = state_of name b m in
     let stays : Key → Bool = λ k. not (length (t.books k).pools == 0) in
     let says : (i : ℕ) (r : Key × Bucket) → slice_get (rows_in name es) i ≡ Some r → stays r.0 ≡ has_row (cleared_row everywhere r) = λ i r at.
-    ap (λ (c : Bucket). not (length c.pools == 0)) (clean.books r.0 ∙ ap (λ (b : Bucket). with_pools b (left_of everywhere b.pools)) (ap (λ (x : Rows). books_of x r.0) (ap (map (named_row name)) was ∙ rows_are name es) ∙ row_books (rows_in name es) i r distinct at)) ∙ ap (λ (es : List Entry). not (length es == 0)) (pools_with r.1 (left_of everywhere r.1.pools)) in
+    ap (λ (c : Bucket). not (length c.pools == 0))
+      (clean.books r.0
+       ∙ ap (λ (b : Bucket). with_pools b (left_of everywhere b.pools))
+           (ap (λ (x : Rows). books_of x r.0) (ap (map (named_row name)) was ∙ rows_are name es)
+            ∙ row_books (rows_in name es) i r distinct at))
+    ∙ ap (λ (es : List Entry). not (length es == 0)) (pools_with r.1 (left_of everywhere r.1.pools)) in
     keys_are b fs is ∙ ap stored_keys kept ∙ sym (first_keys everywhere name (filter (λ e. has_pools e.1) now))
     ∙ ap (map (λ (r : Key × Bucket). r.0)) (rows_left name now ∙ ap (filter has_row) rows) ∙ keys_left everywhere stays (rows_in name es) says ∙ ap (filter stays) (first_keys everywhere name es ∙ sym (keys_are a es was))

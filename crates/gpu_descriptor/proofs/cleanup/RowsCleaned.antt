@@ -1,5 +1,15 @@
 -- Cleaning up and trimming, row by row.
-use Rattle.gpu_descriptor.proofs.Common.{◌≡◌, ℕ, zero, suc, ◌+◌, ◌<◌, ◌≤◌, Bool, true, false, not, ◌==◌, List, [], ◌∷◌, ◌++◌, length, map, filter, set, take, drop, sum_by, slice_get, Option, Some, None, option_map, inl, inr, refl, sym, ap, subst, ◌∙◌, arith, eq-eqb, ne_eqb, if◌then◌else◌, fun_ext, list_any, cases_Bool, false_from_ne_true, append-nil, drop_all, length-map, take_all, sum_by-cons, sum_by_more, get_or_from_slice_get, slice_get-map, slice_get_within, Pool, Ledger, BucketKey, DescriptorPool, DescriptorBucket, State, Agree, Key, key_eq, Bucket, Entry, no_pools, books_of, HasDistinctKeys, key_of, Allocations, common_steps, list_any_more, AreBookedIn, has_pools, ledger_but, more_destroyed, LosesEmpty, are_named, gone_of, left_of, pools_lost, with_pools, named_row, state_of, row_of, bucket_of, IsConsistent}
+use Rattle.gpu_descriptor.proofs.Common.{◌≡◌, ℕ, zero, suc, ◌+◌, ◌<◌, ◌≤◌, Bool, true, false, not, ◌==◌, List, [], ◌∷◌}
+use Rattle.gpu_descriptor.proofs.Common.{◌++◌, length, map, filter, set, take, drop, sum_by, slice_get, Option, Some}
+use Rattle.gpu_descriptor.proofs.Common.{None, option_map, inl, inr, refl, sym, ap, subst, ◌∙◌, arith, eq-eqb, ne_eqb}
+use Rattle.gpu_descriptor.proofs.Common.{if◌then◌else◌, fun_ext, list_any, cases_Bool, false_from_ne_true, append-nil}
+use Rattle.gpu_descriptor.proofs.Common.{drop_all, length-map, take_all, sum_by-cons, sum_by_more}
+use Rattle.gpu_descriptor.proofs.Common.{get_or_from_slice_get, slice_get-map, slice_get_within, Pool, Ledger}
+use Rattle.gpu_descriptor.proofs.Common.{BucketKey, DescriptorPool, DescriptorBucket, State, Agree, Key, key_eq, Bucket}
+use Rattle.gpu_descriptor.proofs.Common.{Entry, no_pools, books_of, HasDistinctKeys, key_of, Allocations, common_steps}
+use Rattle.gpu_descriptor.proofs.Common.{list_any_more, AreBookedIn, has_pools, ledger_but, more_destroyed, LosesEmpty}
+use Rattle.gpu_descriptor.proofs.Common.{are_named, gone_of, left_of, pools_lost, with_pools, named_row, state_of}
+use Rattle.gpu_descriptor.proofs.Common.{row_of, bucket_of, IsConsistent}
 use Rattle.indexmap.specs.Layout.{set_value_at}
 use Rattle.gpu_descriptor.specs.Caller.States.{keys_of}
 use Rattle.gpu_descriptor.proofs.lists.AtPlaces.{found_before, none_at}
@@ -196,13 +206,25 @@ module _ (everywhere : Bool) where
     pub agree_is : (a : Allocations P) (l : Ledger) (es : List (BucketKey × DescriptorBucket P)) → a.table ≡ map row_of es → Agree (state_of name a l) → Agree (record { books = books_of (rows_in name es); ledger = l.pools })
     agree_is a l es is agree = subst Agree (state_is a l es is) agree
 
-    pub whole_clean : (a : Allocations P) (l k : Ledger) (es now fs : List (BucketKey × DescriptorBucket P)) (limit : ℕ) → a.table ≡ map row_of es → HasDistinctKeys (rows_in name es) → rows_in name now ≡ map cleared_row (rows_in name es) → k ≡ ledger_less (rows_in name es) l → fs ≡ filter (λ e. has_pools e.1) now
+    pub whole_clean :
+        (a : Allocations P) (l k : Ledger) (es now fs : List (BucketKey × DescriptorBucket P)) (limit : ℕ)
+        → a.table ≡ map row_of es → HasDistinctKeys (rows_in name es)
+        → rows_in name now ≡ map cleared_row (rows_in name es) → k ≡ ledger_less (rows_in name es) l
+        → fs ≡ filter (λ e. has_pools e.1) now
         → LosesEmpty everywhere (state_of name a l) (state_of name (record { limit = limit; most = None; table = map row_of fs; looks = 0; comparisons = 0 }) k)
     whole_clean a l k es now fs limit is distinct rows pools kept =
         let new : Allocations P = record { limit = limit; most = None; table = map row_of fs; looks = 0; comparisons = 0 } in
         let new_is : state_of name new k ≡ record { books = books_of (rows_in name (filter (λ e. has_pools e.1) now)); ledger = pools_less (rows_in name es) l.pools } =
         state_is new k fs refl ∙ (λ i. record { books = books_of (rows_in name (kept i)); ledger = (pools i).pools }) in
-        subst (λ t. LosesEmpty everywhere (state_of name a l) t) (sym new_is) (subst (λ s. LosesEmpty everywhere s (record { books = books_of (rows_in name (filter (λ e. has_pools e.1) now)); ledger = pools_less (rows_in name es) l.pools })) (sym (state_is a l es is)) (is_cleaned name now (rows_in name es) l.pools distinct rows))
+        subst (λ t. LosesEmpty everywhere (state_of name a l) t) (sym new_is)
+          (subst
+             (λ s.
+                LosesEmpty everywhere s
+                  (record {
+                     books = books_of (rows_in name (filter (λ e. has_pools e.1) now));
+                     ledger = pools_less (rows_in name es) l.pools
+                   }))
+             (sym (state_is a l es is)) (is_cleaned name now (rows_in name es) l.pools distinct rows))
 
     pub first_keys : (es : List (BucketKey × DescriptorBucket P)) → map (λ (r : Key × Bucket). r.0) (rows_in name es) ≡ map (λ e. key_of e.0) es
     first_keys [] = refl
@@ -230,7 +252,11 @@ module _ {P : Type 0} where
   none_out : (b : DescriptorBucket P) → has_pools b ≡ false → b.total ≡ 0
   none_out b h = b.counted ∙ ap (sum_by (λ (p : DescriptorPool P). p.allocated)) (empty_bucket b h)
 
-  pub counted_put : (limit marked room left out : ℕ) (es : List (BucketKey × DescriptorBucket P)) (i : ℕ) (k : BucketKey) (v w : DescriptorBucket P) → slice_get es i ≡ Some (k, v) → w.total ≡ v.total → left + stored_load_in (k, w) ≡ room + stored_load_in (k, v) → IsConsistent limit marked room out es → IsConsistent limit marked left out (set_value_at es i w)
+  pub counted_put :
+      (limit marked room left out : ℕ) (es : List (BucketKey × DescriptorBucket P)) (i : ℕ) (k : BucketKey)
+        (v w : DescriptorBucket P)
+      → slice_get es i ≡ Some (k, v) → w.total ≡ v.total → left + stored_load_in (k, w) ≡ room + stored_load_in (k, v)
+      → IsConsistent limit marked room out es → IsConsistent limit marked left out (set_value_at es i w)
   counted_put limit marked room left out es i k v w at same moved counted = grind (arith, rows_load, rows_out, rows_pool_load, sum_put)
 
   pub counted_filter : (limit marked room out : ℕ) (es fs : List (BucketKey × DescriptorBucket P)) → fs ≡ filter (λ e. has_pools e.1) es → IsConsistent limit marked room out es → IsConsistent limit marked room out fs

@@ -1,5 +1,12 @@
 -- What requests, frees and cleaning up leave of pools that aren't the allocator's.
-use Rattle.gpu_descriptor.proofs.Common.{◌≡◌, ℕ, zero, suc, ◌+◌, ◌-◌, ◌<◌, ◌==◌, ◌&&◌, Bool, true, false, List, [], ◌∷◌, take, count_by, Option, Some, None, option_map, slice_get, inl, inr, refl, sym, ap, ◌∙◌, subst, arith, fun_ext, cases_Bool, cases_lt, or_from, or_right, false_from_ne_true, list_any, slice_get-map, if◌then◌else◌, side, Meaning, Pool, Ledger, LiveSet, set_eq, State, Item, set_of, Key, Entry, Bucket, DescriptorSet, Allocations, IsForeign, KeepsForeign, LosesEmpty, are_named, gone_of, left_of, given_back, released, bucket_less, entry_less, spent_front, in_front, lies_in, pool_less, GivesBack, items_of, state_of}
+use Rattle.gpu_descriptor.proofs.Common.{◌≡◌, ℕ, zero, suc, ◌+◌, ◌-◌, ◌<◌, ◌==◌, ◌&&◌, Bool, true, false, List, [], ◌∷◌}
+use Rattle.gpu_descriptor.proofs.Common.{take, count_by, Option, Some, None, option_map, slice_get, inl, inr, refl, sym}
+use Rattle.gpu_descriptor.proofs.Common.{ap, ◌∙◌, subst, arith, fun_ext, cases_Bool, cases_lt, or_from, or_right}
+use Rattle.gpu_descriptor.proofs.Common.{false_from_ne_true, list_any, slice_get-map, if◌then◌else◌, side, Meaning}
+use Rattle.gpu_descriptor.proofs.Common.{Pool, Ledger, LiveSet, set_eq, State, Item, set_of, Key, Entry, Bucket}
+use Rattle.gpu_descriptor.proofs.Common.{DescriptorSet, Allocations, IsForeign, KeepsForeign, LosesEmpty, are_named}
+use Rattle.gpu_descriptor.proofs.Common.{gone_of, left_of, given_back, released, bucket_less, entry_less, spent_front}
+use Rattle.gpu_descriptor.proofs.Common.{in_front, lies_in, pool_less, GivesBack, items_of, state_of}
 use Rattle.gpu_descriptor.proofs.lists.Numbers.{entry_at-found}
 use Rattle.gpu_descriptor.proofs.release.ReleaseAgrees.{front_found, none_back}
 use Rattle.gpu_descriptor.proofs.cleanup.Cleaning.{pools_left, was_kept}
@@ -107,8 +114,16 @@ foreign_through s t u first second name pool foreign live = (let kept = first na
 
 -- ---- as callers see it
 
-pub freed_foreign : {L P S : Type 0} (means : Meaning L P S) (sets : List (DescriptorSet S)) (calls : ℕ) (old new : Allocations P) (before after : Ledger) → GivesBack means sets calls (side old before) (side new after) → KeepsForeign (state_of means.pool_name old before) (state_of means.pool_name new after)
+pub freed_foreign :
+    {L P S : Type 0} (means : Meaning L P S) (sets : List (DescriptorSet S)) (calls : ℕ) (old new : Allocations P)
+      (before after : Ledger)
+    → GivesBack means sets calls (side old before) (side new after)
+    → KeepsForeign (state_of means.pool_name old before) (state_of means.pool_name new after)
 freed_foreign means sets calls old new before after back = subst (KeepsForeign (state_of means.pool_name old before)) (sym back.state) (released_foreign (items_of means.set_name sets) (state_of means.pool_name old before))
 
-pub freed_loses : {L P S : Type 0} (means : Meaning L P S) (sets : List (DescriptorSet S)) (calls : ℕ) (old new : Allocations P) (before after : Ledger) → GivesBack means sets calls (side old before) (side new after) → KeepsForeign (state_of means.pool_name new after) (state_of means.pool_name old before)
+pub freed_loses :
+    {L P S : Type 0} (means : Meaning L P S) (sets : List (DescriptorSet S)) (calls : ℕ) (old new : Allocations P)
+      (before after : Ledger)
+    → GivesBack means sets calls (side old before) (side new after)
+    → KeepsForeign (state_of means.pool_name new after) (state_of means.pool_name old before)
 freed_loses means sets calls old new before after back = subst (λ t. KeepsForeign t (state_of means.pool_name old before)) (sym back.state) (released_loses (items_of means.set_name sets) (state_of means.pool_name old before))

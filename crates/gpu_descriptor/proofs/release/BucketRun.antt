@@ -1,5 +1,11 @@
 -- Giving one run back to a stored bucket.
-use Rattle.gpu_descriptor.proofs.Common.{entry_at, greatest_pool_size, ◌≡◌, ℕ, zero, suc, ◌+◌, ◌-◌, ◌<◌, ◌≤◌, List, [], ◌∷◌, length, map, sum_by, set, get_or, slice_get, Option, Some, option_map, inl, inr, refl, sym, ap, ◌∙◌, arith, IfSome, slice_get-map, slice_get_read, length-map, sum_by-cons, CanFree, Pool, live_sets, LiveSet, times, AreIn, DescriptorPool, live_in, flags_of, IsAsBooked, Key, Entry, Bucket, ∥∥₁_elim, ∥∥₁_map, props, common_steps, AreBookedIn, IsTakenAt, entry_less, pool_less, entry_of}
+use Rattle.gpu_descriptor.proofs.Common.{entry_at, greatest_pool_size, ◌≡◌, ℕ, zero, suc, ◌+◌, ◌-◌, ◌<◌, ◌≤◌, List, []}
+use Rattle.gpu_descriptor.proofs.Common.{◌∷◌, length, map, sum_by, set, get_or, slice_get, Option, Some, option_map}
+use Rattle.gpu_descriptor.proofs.Common.{inl, inr, refl, sym, ap, ◌∙◌, arith, IfSome, slice_get-map, slice_get_read}
+use Rattle.gpu_descriptor.proofs.Common.{length-map, sum_by-cons, CanFree, Pool, live_sets, LiveSet, times, AreIn}
+use Rattle.gpu_descriptor.proofs.Common.{DescriptorPool, live_in, flags_of, IsAsBooked, Key, Entry, Bucket, ∥∥₁_elim}
+use Rattle.gpu_descriptor.proofs.Common.{∥∥₁_map, props, common_steps, AreBookedIn, IsTakenAt, entry_less, pool_less}
+use Rattle.gpu_descriptor.proofs.Common.{entry_of}
 use Rattle.gpu_descriptor.proofs.foreign.LedgerPools.{taken_from, with_pool_same, with_pool_other, size_minus, only_these}
 use Rattle.gpu_descriptor.proofs.lists.AtPlaces.{set_got}
 
@@ -28,7 +34,10 @@ pub record AreTaken (names : List ℕ) (live : LiveSet → ℕ) (ls : List LiveS
   pub within : (x : LiveSet) → times ls x ≤ live x
 
 -- the sets of which a release speaks, in a pool that is live
-pub are_taken : (k : Key) (b : Bucket) (pools : ℕ → Option Pool) (i : ℕ) (e : Entry) (names : List ℕ) (ls : List LiveSet) → AreBookedIn k pools b.pools → slice_get b.pools i ≡ Some e → map (λ x. x.name) ls ≡ names → IfSome (pools e.pool) (λ pool. AreIn ls pool.live) → AreTaken names (live_in pools e.pool) ls
+pub are_taken :
+    (k : Key) (b : Bucket) (pools : ℕ → Option Pool) (i : ℕ) (e : Entry) (names : List ℕ) (ls : List LiveSet)
+    → AreBookedIn k pools b.pools → slice_get b.pools i ≡ Some e → map (λ x. x.name) ls ≡ names
+    → IfSome (pools e.pool) (λ pool. AreIn ls pool.live) → AreTaken names (live_in pools e.pool) ls
 are_taken k b pools i e names ls stored at are live =
     let booked = stored.each i e at in
     grind (arith, common_steps)
@@ -45,7 +54,10 @@ took_these k b pools i e names ls stored at are = only_these k names ls are.are 
     grind (arith, common_steps))
 
 -- the bucket and the ledger after one run keep agreement
-pub stored_after : (k : Key) (es : List Entry) (pools : ℕ → Option Pool) (i : ℕ) (e : Entry) (ls : List LiveSet) → AreBookedIn k pools es → slice_get es i ≡ Some e → ((x : LiveSet) → times ls x ≤ live_in pools e.pool x) → AreBookedIn k (taken_from pools e.pool ls) (set es i (entry_less (length ls) e))
+pub stored_after :
+    (k : Key) (es : List Entry) (pools : ℕ → Option Pool) (i : ℕ) (e : Entry) (ls : List LiveSet)
+    → AreBookedIn k pools es → slice_get es i ≡ Some e → ((x : LiveSet) → times ls x ≤ live_in pools e.pool x)
+    → AreBookedIn k (taken_from pools e.pool ls) (set es i (entry_less (length ls) e))
 stored_after k es pools i e ls stored at within =
     let y = entry_less (length ls) e in
     let was : (j : ℕ) (d : Entry) → slice_get (set es i y) j ≡ Some d → (c : Entry) × (slice_get es j ≡ Some c) × (c.pool ≡ d.pool) = λ j d h. elim (set_got es i y j d h) [

@@ -1,5 +1,14 @@
 -- What the loop over the runs keeps.
-use Rattle.gpu_descriptor.proofs.Common.{search_digits, ◌≡◌, ◌≤◌, ℕ, ◌+◌, ◌<◌, true, false, ◌&&◌, ◌==◌, List, [], ◌∷◌, ◌++◌, sum_by, refl, sym, ap, subst, ◌∙◌, arith, append_assoc, append-nil, length-append, eq-eqb, Option, Some, None, MatchOption, OnSome, IfSome, eqb-true, Count, HoldsAlong, IsFinite, IsNearerEnd, MakesProgress, size, Yields, YieldsThen, and_parts, and_from, map-append, sum_by-append, side, Meaning, Counters, Ledger, bool_iff, DescriptorSet, State, Item, AreOutstanding, Agree, count_of, Key, key_eq, Allocations, common_steps, set_descriptors, more_released, more_destroyed, released, given_back, pools_gone, run_digits, GivesBack, Frees, FreesRun, runs, item_of, items_of, AllPass, state_of}
+use Rattle.gpu_descriptor.proofs.Common.{search_digits, ◌≡◌, ◌≤◌, ℕ, ◌+◌, ◌<◌, true, false, ◌&&◌, ◌==◌, List, [], ◌∷◌}
+use Rattle.gpu_descriptor.proofs.Common.{◌++◌, sum_by, refl, sym, ap, subst, ◌∙◌, arith, append_assoc, append-nil}
+use Rattle.gpu_descriptor.proofs.Common.{length-append, eq-eqb, Option, Some, None, MatchOption, OnSome, IfSome}
+use Rattle.gpu_descriptor.proofs.Common.{eqb-true, Count, HoldsAlong, IsFinite, IsNearerEnd, MakesProgress, size}
+use Rattle.gpu_descriptor.proofs.Common.{Yields, YieldsThen, and_parts, and_from, map-append, sum_by-append, side}
+use Rattle.gpu_descriptor.proofs.Common.{Meaning, Counters, Ledger, bool_iff, DescriptorSet, State, Item}
+use Rattle.gpu_descriptor.proofs.Common.{AreOutstanding, Agree, count_of, Key, key_eq, Allocations, common_steps}
+use Rattle.gpu_descriptor.proofs.Common.{set_descriptors, more_released, more_destroyed, released, given_back}
+use Rattle.gpu_descriptor.proofs.Common.{pools_gone, run_digits, GivesBack, Frees, FreesRun, runs, item_of, items_of}
+use Rattle.gpu_descriptor.proofs.Common.{AllPass, state_of}
 use Rattle.std.proofs.iter.Next.{Yields-more}
 use Rattle.gpu_descriptor.specs.Inner.RunSteps.{lies_at}
 use Rattle.gpu_descriptor.specs.Caller.States.{keys_of}
@@ -127,7 +136,10 @@ module _ {L P S : Type 0} (means : Meaning L P S) where
     appended : (first : T) (xs : List (DescriptorSet S)) (y : DescriptorSet S) (zs : List (DescriptorSet S)) (rest t : T) → Yields steps first (xs ++ y ∷ []) rest → Yields steps rest zs t → Yields steps first (xs ++ y ∷ zs) t
     appended first xs y zs rest t a b = subst (λ vs. Yields steps first vs t) (append_assoc xs (y ∷ []) zs) (both steps (xs ++ y ∷ []) zs first rest t a b)
 
-    module _ (first : T) (old : Allocations P) (before : Ledger) (now : Allocations P) (mid : Ledger) (x : DescriptorSet S) (rest : T) (agree : Agree (state_of means.pool_name old before)) (out : HoldsAlong steps first (λ xs. AreOutstanding (items xs) (state_of means.pool_name old before))) (r : Freed first old before now mid (Some x) rest) where
+    module _ (first : T) (old : Allocations P) (before : Ledger) (now : Allocations P) (mid : Ledger)
+      (x : DescriptorSet S) (rest : T) (agree : Agree (state_of means.pool_name old before))
+      (out : HoldsAlong steps first (λ xs. AreOutstanding (items xs) (state_of means.pool_name old before)))
+      (r : Freed first old before now mid (Some x) rest) where
       -- what is to come is outstanding together with what came
       all_out : (zs : List (DescriptorSet S)) (t : T) → Yields steps rest zs t → AreOutstanding (items r.sets ++ items (x ∷ zs)) (state_of means.pool_name old before)
       all_out zs t z = subst (λ m. AreOutstanding m (state_of means.pool_name old before)) (items-append r.sets (x ∷ zs)) (out (r.sets ++ x ∷ zs) t (appended first r.sets x zs rest t r.comes.0 z))

@@ -1,5 +1,12 @@
 -- One run through a row that the table lends.
-use Rattle.gpu_descriptor.proofs.Common.{◌≡◌, ℕ, Bool, List, ◌∷◌, map, count_by, Option, None, Some, IsSome, length, refl, sym, ap, subst, ◌∙◌, fun_ext, lookup, set_value, option_map_or, Ledger, after_release, live_sets, BucketKey, DescriptorSet, DescriptorBucket, Agree, AreOutstanding, Key, key_eq, Bucket, no_pools, books_of, HasDistinctKeys, key_of, Allocations, AreBookedIn, IsTakenAt, Releases, names_of, bucket_back, trimmed_bucket, trimmed_ledger, more_destroyed, more_released, released, pools_gone, search_digits, items_of, named_row, state_of, AllPass, books_in, row_of, bucket_of}
+use Rattle.gpu_descriptor.proofs.Common.{◌≡◌, ℕ, Bool, List, ◌∷◌, map, count_by, Option, None, Some, IsSome, length}
+use Rattle.gpu_descriptor.proofs.Common.{refl, sym, ap, subst, ◌∙◌, fun_ext, lookup, set_value, option_map_or, Ledger}
+use Rattle.gpu_descriptor.proofs.Common.{after_release, live_sets, BucketKey, DescriptorSet, DescriptorBucket, Agree}
+use Rattle.gpu_descriptor.proofs.Common.{AreOutstanding, Key, key_eq, Bucket, no_pools, books_of, HasDistinctKeys}
+use Rattle.gpu_descriptor.proofs.Common.{key_of, Allocations, AreBookedIn, IsTakenAt, Releases, names_of, bucket_back}
+use Rattle.gpu_descriptor.proofs.Common.{trimmed_bucket, trimmed_ledger, more_destroyed, more_released, released}
+use Rattle.gpu_descriptor.proofs.Common.{pools_gone, search_digits, items_of, named_row, state_of, AllPass, books_in}
+use Rattle.gpu_descriptor.proofs.Common.{row_of, bucket_of}
 use Rattle.gpu_descriptor.specs.Caller.States.{keys_of}
 use Rattle.gpu_descriptor.specs.Inner.RunSteps.{lies_at}
 use Rattle.gpu_descriptor.proofs.foreign.LedgerPools.{taken_from, release_pools}
@@ -41,7 +48,10 @@ module _ {P S : Type 0} (name : P → ℕ) (set_name : S → ℕ) (a : Allocatio
           let s = state_of name a l in
           let k = x.key.is in
           let some : IsSome (lookup test es) = rw found refl in
-          let books : (state_of name new after).books ≡ put_books s.books k (bucket_of name w) = ap (λ (x : List (BucketKey × DescriptorBucket P)). books_in name (map row_of x)) wrote ∙ fun_ext (written name test k same es w some) ∙ ap (λ (f : Key → Bucket). put_books f k (bucket_of name w)) (sym books_are) in
+          let books : (state_of name new after).books ≡ put_books s.books k (bucket_of name w) =
+              ap (λ (x : List (BucketKey × DescriptorBucket P)). books_in name (map row_of x)) wrote
+              ∙ fun_ext (written name test k same es w some)
+              ∙ ap (λ (f : Key → Bucket). put_books f k (bucket_of name w)) (sym books_are) in
           let b = bucket_back (s.books k) here.place (length (names_of set_name (x ∷ xs))) here.entry in
           let pools : after.pools ≡ trimmed_pools b (taken_from l.pools here.entry.pool (live_sets k.counts (names_of set_name (x ∷ xs)))) = ap (λ (m : Ledger). m.pools) ledger ∙ ap (trimmed_pools b) (release_pools here.entry.pool (live_sets k.counts (names_of set_name (x ∷ xs))) l) in
           let left : state_of name new after ≡ record { books = put_books s.books k (bucket_of name w); ledger = after.pools } = λ i. record { books = books i; ledger = after.pools } in

@@ -1,5 +1,11 @@
 -- The row of a set that is out: its key's, and the only one with its id.
-use Rattle.gpu_descriptor.proofs.Common.{◌≡◌, ◌⊎◌, ◌<◌, ℕ, suc, true, false, List, [], ◌∷◌, ◌++◌, slice_get, Option, Some, None, IfSome, inl, inr, refl, sym, ap, subst, ◌∙◌, arith, eq-eqb, eqb-true, map, nat_eq, lookup, option_map_or, HoldsAlong, cases_Bool, and_from, and_parts, false_from_ne_true, Ledger, count_by_yes, BucketKey, DescriptorSet, DescriptorBucket, AreOutstanding, Item, State, item_eq, outstanding, Bucket, Key, entry_at, no_pools, key_of, Allocations, common_steps, item_of, items_of, state_of, is_of, rise_below, stored_ids, EndsRun, AllPass, bucket_of, row_of}
+use Rattle.gpu_descriptor.proofs.Common.{◌≡◌, ◌⊎◌, ◌<◌, ℕ, suc, true, false, List, [], ◌∷◌, ◌++◌, slice_get, Option}
+use Rattle.gpu_descriptor.proofs.Common.{Some, None, IfSome, inl, inr, refl, sym, ap, subst, ◌∙◌, arith, eq-eqb}
+use Rattle.gpu_descriptor.proofs.Common.{eqb-true, map, nat_eq, lookup, option_map_or, HoldsAlong, cases_Bool, and_from}
+use Rattle.gpu_descriptor.proofs.Common.{and_parts, false_from_ne_true, Ledger, count_by_yes, BucketKey, DescriptorSet}
+use Rattle.gpu_descriptor.proofs.Common.{DescriptorBucket, AreOutstanding, Item, State, item_eq, outstanding, Bucket}
+use Rattle.gpu_descriptor.proofs.Common.{Key, entry_at, no_pools, key_of, Allocations, common_steps, item_of, items_of}
+use Rattle.gpu_descriptor.proofs.Common.{state_of, is_of, rise_below, stored_ids, EndsRun, AllPass, bucket_of, row_of}
 use Rattle.std.proofs.iter.Next.{Yields-more}
 use Rattle.gpu_descriptor.specs.Inner.RunSteps.{at_place, lies_at}
 use Rattle.gpu_descriptor.proofs.table.Exact.{item_exact, key_exact}
@@ -96,7 +102,11 @@ module _ {P S : Type 0} (name : P → ℕ) (set_name : S → ℕ) (a : Allocatio
         grind (arith, common_steps, at_parts, placed))
 
     -- so a run by the id is one by the key
-    pub ends_at : {T : Type 0} (steps : T → Option (DescriptorSet S) → T → Type 0) (x : DescriptorSet S) (given left : T) (xs : List (DescriptorSet S)) (ahead : Option (DescriptorSet S)) → HoldsAlong steps given (λ zs. AreOutstanding (items_of set_name (x ∷ zs)) s) → EndsRun steps (at_place id n) given xs ahead left → EndsRun steps (lies_at k n) given xs ahead left
+    pub ends_at :
+        {T : Type 0} (steps : T → Option (DescriptorSet S) → T → Type 0) (x : DescriptorSet S) (given left : T)
+          (xs : List (DescriptorSet S)) (ahead : Option (DescriptorSet S))
+        → HoldsAlong steps given (λ zs. AreOutstanding (items_of set_name (x ∷ zs)) s)
+        → EndsRun steps (at_place id n) given xs ahead left → EndsRun steps (lies_at k n) given xs ahead left
     ends_at steps x given left xs ahead out came = (
       lie_at xs (out_back set_name (x ∷ []) xs (x ∷ xs) s refl (out xs came.1.0 came.1.1)) came.0,
       came.1,

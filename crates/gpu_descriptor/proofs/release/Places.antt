@@ -1,5 +1,14 @@
 -- Which places of the books keep their pools when sets go back: those that still have a set out.
-use Rattle.gpu_descriptor.proofs.Common.{◌≡◌, ℕ, ◌+◌, ◌-◌, ◌<◌, ◌≤◌, Bool, true, false, cond, ◌&&◌, ◌==◌, List, [], ◌∷◌, length, map, filter, count_by, Option, Some, None, option_map, inl, inr, refl, sym, ap, ◌∙◌, arith, eqb-true, eq-eqb, ne_eqb, option_map_or, list_any, cases_Bool, false_from_ne_true, and_parts, and_from, length-map, length-filter, count_by-le-length, slice_get, slice_get-map, rises, numbers_of, set_of, State, Item, item_eq, count_of, live_in, outstanding, AreOutstanding, HasSize, Agree, live_at, Key, key_eq, Entry, Bucket, entry_at, no_pools, Pool, LiveSet, set_eq, bool_iff, count_by_alike, count_by_none, set_exact, all_taken_out, ∥∥₁_elim, ∥∥₁_map, props, common_steps, lies_in, entry_less, bucket_less, is_empty, empty_front, spent_front, without_front, released}
+use Rattle.gpu_descriptor.proofs.Common.{◌≡◌, ℕ, ◌+◌, ◌-◌, ◌<◌, ◌≤◌, Bool, true, false, cond, ◌&&◌, ◌==◌, List, [], ◌∷◌}
+use Rattle.gpu_descriptor.proofs.Common.{length, map, filter, count_by, Option, Some, None, option_map, inl, inr, refl}
+use Rattle.gpu_descriptor.proofs.Common.{sym, ap, ◌∙◌, arith, eqb-true, eq-eqb, ne_eqb, option_map_or, list_any}
+use Rattle.gpu_descriptor.proofs.Common.{cases_Bool, false_from_ne_true, and_parts, and_from, length-map, length-filter}
+use Rattle.gpu_descriptor.proofs.Common.{count_by-le-length, slice_get, slice_get-map, rises, numbers_of, set_of, State}
+use Rattle.gpu_descriptor.proofs.Common.{Item, item_eq, count_of, live_in, outstanding, AreOutstanding, HasSize, Agree}
+use Rattle.gpu_descriptor.proofs.Common.{live_at, Key, key_eq, Entry, Bucket, entry_at, no_pools, Pool, LiveSet, set_eq}
+use Rattle.gpu_descriptor.proofs.Common.{bool_iff, count_by_alike, count_by_none, set_exact, all_taken_out, ∥∥₁_elim}
+use Rattle.gpu_descriptor.proofs.Common.{∥∥₁_map, props, common_steps, lies_in, entry_less, bucket_less, is_empty}
+use Rattle.gpu_descriptor.proofs.Common.{empty_front, spent_front, without_front, released}
 use Rattle.gpu_descriptor.proofs.lists.Numbers.{find_map, numbers_map}
 use Rattle.gpu_descriptor.proofs.lists.AtPlaces.{get_drop}
 use Rattle.gpu_descriptor.proofs.release.Fronts.{entry_at-without, entry_at-kept}
@@ -19,7 +28,11 @@ names_of lies [] name = refl
 names_of lies (t ∷ m) name = grind (arith, common_steps, (names_of lies m name))
 
 -- a part that the pool has leaves the rest, as many fewer
-rest_less : (live : LiveSet → ℕ) (a : ℕ) (lies : Item → Bool) (m : List Item) → HasSize live a → ((name : LiveSet) → count_by (λ t. lies t && (set_eq (set_of t) name)) m ≤ live name) → (count_by lies m ≤ a) × HasSize (λ name. live name - count_by (λ t. lies t && (set_eq (set_of t) name)) m) (a - count_by lies m)
+rest_less :
+    (live : LiveSet → ℕ) (a : ℕ) (lies : Item → Bool) (m : List Item) → HasSize live a
+    → ((name : LiveSet) → count_by (λ t. lies t && (set_eq (set_of t) name)) m ≤ live name)
+    → (count_by lies m ≤ a)
+      × HasSize (λ name. live name - count_by (λ t. lies t && (set_eq (set_of t) name)) m) (a - count_by lies m)
 rest_less live a lies m size fits =
     let part : List LiveSet = map (λ (t : Item). set_of t) (filter lies m) in
     let long : length part ≡ count_by lies m = length-map (filter lies m) (λ (t : Item). set_of t) ∙ length-filter lies m in
@@ -38,7 +51,11 @@ rest_less live a lies m size fits =
       ),
     )
 
-pub size_less : (live : LiveSet → ℕ) (a : ℕ) (lies : Item → Bool) (m : List Item) → ∥ HasSize live a ∥₁ → ((name : LiveSet) → count_by (λ t. lies t && (set_eq (set_of t) name)) m ≤ live name) → (count_by lies m ≤ a) × ∥ HasSize (λ name. live name - count_by (λ t. lies t && (set_eq (set_of t) name)) m) (a - count_by lies m) ∥₁
+pub size_less :
+    (live : LiveSet → ℕ) (a : ℕ) (lies : Item → Bool) (m : List Item) → ∥ HasSize live a ∥₁
+    → ((name : LiveSet) → count_by (λ t. lies t && (set_eq (set_of t) name)) m ≤ live name)
+    → (count_by lies m ≤ a)
+      × ∥ HasSize (λ name. live name - count_by (λ t. lies t && (set_eq (set_of t) name)) m) (a - count_by lies m) ∥₁
 size_less live a lies m some fits = (∥∥₁_elim some (search props) (λ size. (rest_less live a lies m size fits).0), ∥∥₁_map some (λ size. (rest_less live a lies m size fits).1))
 
 -- where a name is left, a set is left
@@ -61,7 +78,11 @@ pub own_id : (m : List Item) (s : State) → AreOutstanding m s → (t : Item) �
 own_id m s out t some = grind arith
 
 -- the sets that lie in a pool are those of its key and number
-pub back_named-is : (m : List Item) (s : State) → Agree s → AreOutstanding m s → (k : Key) (i : ℕ) (e : Entry) → entry_at (s.books k) i ≡ Some e → (name : ℕ) → back_named m s e.pool (record { name = name; counts = k.counts }) ≡ count_of (record { key = k; id = (s.books k).id; number = i; name = name }) m
+pub back_named-is :
+    (m : List Item) (s : State) → Agree s → AreOutstanding m s → (k : Key) (i : ℕ) (e : Entry)
+    → entry_at (s.books k) i ≡ Some e → (name : ℕ)
+    → back_named m s e.pool (record { name = name; counts = k.counts })
+      ≡ count_of (record { key = k; id = (s.books k).id; number = i; name = name }) m
 back_named-is m s agree out k i e at name =
     let x : LiveSet = record { name = name; counts = k.counts } in
     let u : Item = record { key = k; id = (s.books k).id; number = i; name = name } in

@@ -1,5 +1,14 @@
 -- Giving one run back, over the books of all keys.
-use Rattle.gpu_descriptor.proofs.Common.{slice_get, ◌≡◌, ℕ, suc, ◌<◌, ◌≤◌, Bool, true, false, ◌==◌, List, [], ◌∷◌, length, map, count_by, sum_by, Option, Some, None, option_map, inl, inr, refl, sym, ap, ◌∙◌, arith, eq-eqb, ne_eqb, if◌then◌else◌, fun_ext, list_any, cases_Bool, cases_eq, and_parts, and_from, false_from_ne_true, length-map, sum_by-cons, Pool, live_sets, LiveSet, set_eq, times, bool_iff, any_found, any_from, count_by_yes, count_by_no, DescriptorSet, set_of, State, Item, item_eq, count_of, live_in, AreOutstanding, Agree, Key, key_eq, Entry, Bucket, entry_at, common_steps, IsTakenAt, names_of, bucket_back, trimmed_bucket, entry_less, pool_less, given_back, fronts_gone, released, spent_front, pools_gone, in_front, item_of, items_of, AllPass}
+use Rattle.gpu_descriptor.proofs.Common.{slice_get, ◌≡◌, ℕ, suc, ◌<◌, ◌≤◌, Bool, true, false, ◌==◌, List, [], ◌∷◌}
+use Rattle.gpu_descriptor.proofs.Common.{length, map, count_by, sum_by, Option, Some, None, option_map, inl, inr, refl}
+use Rattle.gpu_descriptor.proofs.Common.{sym, ap, ◌∙◌, arith, eq-eqb, ne_eqb, if◌then◌else◌, fun_ext, list_any}
+use Rattle.gpu_descriptor.proofs.Common.{cases_Bool, cases_eq, and_parts, and_from, false_from_ne_true, length-map}
+use Rattle.gpu_descriptor.proofs.Common.{sum_by-cons, Pool, live_sets, LiveSet, set_eq, times, bool_iff, any_found}
+use Rattle.gpu_descriptor.proofs.Common.{any_from, count_by_yes, count_by_no, DescriptorSet, set_of, State, Item}
+use Rattle.gpu_descriptor.proofs.Common.{item_eq, count_of, live_in, AreOutstanding, Agree, Key, key_eq, Entry, Bucket}
+use Rattle.gpu_descriptor.proofs.Common.{entry_at, common_steps, IsTakenAt, names_of, bucket_back, trimmed_bucket}
+use Rattle.gpu_descriptor.proofs.Common.{entry_less, pool_less, given_back, fronts_gone, released, spent_front}
+use Rattle.gpu_descriptor.proofs.Common.{pools_gone, in_front, item_of, items_of, AllPass}
 use Rattle.gpu_descriptor.specs.Inner.RunSteps.{lies_at}
 use Rattle.gpu_descriptor.proofs.table.Exact.{key_exact, item_exact}
 use Rattle.gpu_descriptor.proofs.lists.Numbers.{entry_at-named}
@@ -160,7 +169,11 @@ module _ {S : Type 0} (name : S → ℕ) where
 
   -- THE STATE AFTER ONE RUN
   pub whole_run : (s : State) → Agree s → (x : DescriptorSet S) (xs : List (DescriptorSet S)) → AllPass (lies_at x.key.is x.number) xs → (i : ℕ) (e : Entry) → slice_get (s.books x.key.is).pools i ≡ Some e → e.number ≡ x.number
-      → (c : Bucket) (pools : ℕ → Option Pool) → c ≡ trimmed_bucket 1 (bucket_back (s.books x.key.is) i (length (names_of name (x ∷ xs))) e) → pools ≡ trimmed_pools (bucket_back (s.books x.key.is) i (length (names_of name (x ∷ xs))) e) (taken_from s.ledger e.pool (live_sets x.key.is.counts (names_of name (x ∷ xs))))
+      → (c : Bucket) (pools : ℕ → Option Pool)
+      → c ≡ trimmed_bucket 1 (bucket_back (s.books x.key.is) i (length (names_of name (x ∷ xs))) e)
+      → pools
+        ≡ trimmed_pools (bucket_back (s.books x.key.is) i (length (names_of name (x ∷ xs))) e)
+            (taken_from s.ledger e.pool (live_sets x.key.is.counts (names_of name (x ∷ xs))))
       → ◌≡◌ {A = State} (record { books = put_books s.books x.key.is c; ledger = pools }) (released (items_of name (x ∷ xs)) s)
   whole_run s agree x xs have i e at named c pools is are =
       let k = x.key.is in

@@ -1,5 +1,9 @@
 -- What asking one pool does, from what the device did.
-use Rattle.gpu_descriptor.proofs.Common.{◌≡◌, ℕ, ◌+◌, ◌-◌, ◌<◌, min, List, [], length, Bool, true, false, cond, ◌&&◌, Option, Some, None, nat_eq, nat_lt, refl, sym, ap, ◌∙◌, arith, lt-ltb, eqb-true, fun_ext, and_from, Key, Entry, Pool, Ledger, Counters, live_sets, on_pool, option_map, after_alloc, after_no_alloc, alloc_refused, pool_refusals, no_rise, LiveSet, DeviceAllocationError, pool_with, risen, IsAsked, IsNoMemory}
+use Rattle.gpu_descriptor.proofs.Common.{◌≡◌, ℕ, ◌+◌, ◌-◌, ◌<◌, min, List, [], length, Bool, true, false, cond, ◌&&◌}
+use Rattle.gpu_descriptor.proofs.Common.{Option, Some, None, nat_eq, nat_lt, refl, sym, ap, ◌∙◌, arith, lt-ltb}
+use Rattle.gpu_descriptor.proofs.Common.{eqb-true, fun_ext, and_from, Key, Entry, Pool, Ledger, Counters, live_sets}
+use Rattle.gpu_descriptor.proofs.Common.{on_pool, option_map, after_alloc, after_no_alloc, alloc_refused, pool_refusals}
+use Rattle.gpu_descriptor.proofs.Common.{no_rise, LiveSet, DeviceAllocationError, pool_with, risen, IsAsked, IsNoMemory}
 
 pub same_entry : (a b : Entry) → a.number ≡ b.number → a.pool ≡ b.pool → a.capacity ≡ b.capacity → a.allocated ≡ b.allocated → a.available ≡ b.available → a ≡ b
 same_entry a b number pool capacity allocated free = λ i. record { number = number i; pool = pool i; capacity = capacity i; allocated = allocated i; available = free i }
@@ -50,7 +54,15 @@ skipped k wanted e l h = record {
   counters = (let t = asks_none e.available wanted h in rw t (let n = l.counters in same_counters _ _ (omega arith) (omega arith) (omega arith) (omega arith) (omega arith) (omega arith) (omega arith) (omega arith)));
 }
 
-pub given : (k : Key) (wanted : ℕ) (names : List ℕ) (e : Entry) (l m : Ledger) → 0 < min wanted e.available → length names ≡ min wanted e.available → m ≡ after_alloc e.pool (live_sets k.counts names) l → IsAsked k wanted names e (record e { allocated = e.allocated + min wanted e.available; available = e.available - min wanted e.available }) l m
+pub given :
+    (k : Key) (wanted : ℕ) (names : List ℕ) (e : Entry) (l m : Ledger) → 0 < min wanted e.available
+    → length names ≡ min wanted e.available → m ≡ after_alloc e.pool (live_sets k.counts names) l
+    → IsAsked k wanted names e
+        (record e {
+           allocated = e.allocated + min wanted e.available;
+           available = e.available - min wanted e.available
+         })
+        l m
 given k wanted names e l m some many is = record {
   refused = false;
   refusing = λ r. absurd (cc);
@@ -69,7 +81,16 @@ refuses k wanted error e l m some pool_error is = record {
   refusing = λ r. asks_some e.available wanted some;
   many = omega arith;
   entry = same_entry _ _ refl refl refl (let a : e.allocated ≡ e.allocated + 0 = omega arith in a) (let a : 0 ≡ 0 - 0 = omega arith in a);
-  pools = ap (λ (x : Ledger). x.pools) is ∙ ap (λ (f : Pool → Pool). on_pool e.pool f l.pools) (fun_ext (λ (p : Pool). λ i. record p { live = fun_ext (λ (x : LiveSet). (let a : p.live x ≡ p.live x + 0 = omega arith in a)) i; refusals = (let a : p.refusals + pool_refusals error ≡ p.refusals + 1 = omega arith in a) i }));
+  pools =
+      ap (λ (x : Ledger). x.pools) is
+      ∙ ap (λ (f : Pool → Pool). on_pool e.pool f l.pools)
+          (fun_ext
+             (λ (p : Pool).
+                λ i.
+                  record p {
+                    live = fun_ext (λ (x : LiveSet). (let a : p.live x ≡ p.live x + 0 = omega arith in a)) i;
+                    refusals = (let a : p.refusals + pool_refusals error ≡ p.refusals + 1 = omega arith in a) i
+                  }));
   counters = ap (λ (x : Ledger). x.counters) is ∙ (let t = asks_some e.available wanted some in rw t (refused_counters error l.counters pool_error));
 }
 

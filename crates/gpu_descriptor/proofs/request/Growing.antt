@@ -1,5 +1,17 @@
 -- The new pools of a request, as far as it has come.
-use Rattle.gpu_descriptor.proofs.Common.{◌≡◌, ℕ, zero, suc, take, drop, ◌+◌, ◌-◌, ◌<◌, inl, inr, List, [], ◌∷◌, ◌++◌, length, map, Bool, true, false, cond, ◌==◌, nat_eq, Option, Some, None, Ok, Err, refl, sym, ap, ◌∙◌, subst, arith, eqb-true, eq-eqb, append_assoc, length-append, fun_ext, ne_eqb, nil_from_length, eqb-false, map-append, append-nil, sum_by-cons, sum_by-append, list_any, update, if◌then◌else◌, option_map, Item, flags_of, Key, Entry, Bucket, Pool, Ledger, live_sets, on_pool, no_rise, cases_Bool, or_from, or_parts, pool_counts, Stop, list_any-append, Fresh, fresh_portions, fresh_entries, fresh_entry, number_after, numbers_of, given_by, IsNextSize, room_after, AreSized, AreFull, AreNew, IsFreshPrefix, IsFreshList, Grant, Part, items_at, portion_of, came, pool_with, ledger_with, fresh_or, IsGrown, IsTaken, IsRefused, allocated_in, pool_descriptors, risen, grant_rise, StopsAtNew, StopsAt, offer, rest, shared, all_shared, Portion, portions_of, AreBookedIn, HasTaken, IsWalked}
+use Rattle.gpu_descriptor.proofs.Common.{◌≡◌, ℕ, zero, suc, take, drop, ◌+◌, ◌-◌, ◌<◌, inl, inr, List, [], ◌∷◌, ◌++◌}
+use Rattle.gpu_descriptor.proofs.Common.{length, map, Bool, true, false, cond, ◌==◌, nat_eq, Option, Some, None, Ok}
+use Rattle.gpu_descriptor.proofs.Common.{Err, refl, sym, ap, ◌∙◌, subst, arith, eqb-true, eq-eqb, append_assoc}
+use Rattle.gpu_descriptor.proofs.Common.{length-append, fun_ext, ne_eqb, nil_from_length, eqb-false, map-append}
+use Rattle.gpu_descriptor.proofs.Common.{append-nil, sum_by-cons, sum_by-append, list_any, update, if◌then◌else◌}
+use Rattle.gpu_descriptor.proofs.Common.{option_map, Item, flags_of, Key, Entry, Bucket, Pool, Ledger, live_sets}
+use Rattle.gpu_descriptor.proofs.Common.{on_pool, no_rise, cases_Bool, or_from, or_parts, pool_counts, Stop}
+use Rattle.gpu_descriptor.proofs.Common.{list_any-append, Fresh, fresh_portions, fresh_entries, fresh_entry}
+use Rattle.gpu_descriptor.proofs.Common.{number_after, numbers_of, given_by, IsNextSize, room_after, AreSized, AreFull}
+use Rattle.gpu_descriptor.proofs.Common.{AreNew, IsFreshPrefix, IsFreshList, Grant, Part, items_at, portion_of, came}
+use Rattle.gpu_descriptor.proofs.Common.{pool_with, ledger_with, fresh_or, IsGrown, IsTaken, IsRefused, allocated_in}
+use Rattle.gpu_descriptor.proofs.Common.{pool_descriptors, risen, grant_rise, StopsAtNew, StopsAt, offer, rest, shared}
+use Rattle.gpu_descriptor.proofs.Common.{all_shared, Portion, portions_of, AreBookedIn, HasTaken, IsWalked}
 use Rattle.gpu_descriptor.proofs.sums.PoolsLoad.{pools_load}
 use Rattle.gpu_descriptor.specs.declared.bucket.stop.Stop.TheVariants as stop
 use Rattle.gpu_descriptor_types.specs.Ledger as ledgers
@@ -67,12 +79,18 @@ new_more pools (h ∷ fs) f new none at =
 given_more : (fs : List Fresh) (f : Fresh) → given_by (fs ++ f ∷ []) ≡ given_by fs + f.given
 given_more fs f = sum_by-append (λ (f : Fresh). f.given) fs (f ∷ []) ∙ (let one : given_by (f ∷ []) ≡ f.given = omega arith in omega arith)
 
-sized_more : (most : Option ℕ) (k : Key) (room t w : ℕ) (fs : List Fresh) (f : Fresh) (left total wanted : ℕ) → AreSized most k room t w fs → left ≡ room_after k room fs → total ≡ t + given_by fs → wanted ≡ w - given_by fs → IsNextSize most k left total wanted f.size → AreSized most k room t w (fs ++ f ∷ [])
+sized_more :
+    (most : Option ℕ) (k : Key) (room t w : ℕ) (fs : List Fresh) (f : Fresh) (left total wanted : ℕ)
+    → AreSized most k room t w fs → left ≡ room_after k room fs → total ≡ t + given_by fs → wanted ≡ w - given_by fs
+    → IsNextSize most k left total wanted f.size → AreSized most k room t w (fs ++ f ∷ [])
 sized_more most k room t w [] f left total wanted all room_is total_is wanted_is one =
     let a : total ≡ t = omega arith in
     let b : wanted ≡ w = omega arith in
     (rw (room_is, a, b) at one, tt)
-sized_more most k room t w (h ∷ fs) f left total wanted all room_is total_is wanted_is one = (let s = sum_by-cons (λ (f : Fresh). f.given) h fs in (all.0, sized_more most k (room - pool_descriptors k h.size) (t + h.given) (w - h.given) fs f left total wanted all.1 room_is (omega arith) (omega arith) one))
+sized_more most k room t w (h ∷ fs) f left total wanted all room_is total_is wanted_is one =
+  (let s = sum_by-cons (λ (f : Fresh). f.given) h fs in
+   (all.0, sized_more most k (room - pool_descriptors k h.size) (t + h.given) (w - h.given) fs f left total wanted all.1
+      room_is (omega arith) (omega arith) one))
 
 full_more : (fs : List Fresh) (f : Fresh) → AreFull fs → f.given ≡ f.size → AreFull (fs ++ f ∷ [])
 full_more [] f all one = (one, tt)

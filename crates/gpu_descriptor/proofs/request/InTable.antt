@@ -1,5 +1,11 @@
 -- What a request takes of one key, in the table of keys.
-use Rattle.gpu_descriptor.proofs.Common.{bool_iff, ltb-true, ◌≡◌, ℕ, ◌+◌, ◌≤◌, Bool, true, false, List, [], ◌∷◌, ◌++◌, length, Option, Some, None, is_some, Result, Ok, Err, inl, inr, refl, sym, ap, ◌∙◌, subst, arith, ◌-◌, ◌&&◌, lt-ltb, map, lookup, set_value, option_map_or, nat_lt, sum_by, if◌then◌else◌, cases_Bool, sum_by-append, Meaning, Ledger, Pool, BucketKey, DescriptorSet, DescriptorBucket, Stop, Key, key_eq, Bucket, no_pools, key_of, Item, set_descriptors, books_in, bucket_of, row_of, HasTaken, Grant, IsGrantOf, IsServed, ServesKey}
+use Rattle.gpu_descriptor.proofs.Common.{bool_iff, ltb-true, ◌≡◌, ℕ, ◌+◌, ◌≤◌, Bool, true, false, List, [], ◌∷◌, ◌++◌}
+use Rattle.gpu_descriptor.proofs.Common.{length, Option, Some, None, is_some, Result, Ok, Err, inl, inr, refl, sym, ap}
+use Rattle.gpu_descriptor.proofs.Common.{◌∙◌, subst, arith, ◌-◌, ◌&&◌, lt-ltb, map, lookup, set_value, option_map_or}
+use Rattle.gpu_descriptor.proofs.Common.{nat_lt, sum_by, if◌then◌else◌, cases_Bool, sum_by-append, Meaning, Ledger}
+use Rattle.gpu_descriptor.proofs.Common.{Pool, BucketKey, DescriptorSet, DescriptorBucket, Stop, Key, key_eq, Bucket}
+use Rattle.gpu_descriptor.proofs.Common.{no_pools, key_of, Item, set_descriptors, books_in, bucket_of, row_of, HasTaken}
+use Rattle.gpu_descriptor.proofs.Common.{Grant, IsGrantOf, IsServed, ServesKey}
 use Rattle.std.proofs.lemmas.Map.Steps.{set_value_same}
 use Rattle.gpu_descriptor.proofs.table.Exact.{key_exact}
 use Rattle.gpu_descriptor.proofs.sums.Loads.{IsRow, IsWritten, load_in, sum_set, set_descriptors-add, rows_out, rows_load}
@@ -41,7 +47,11 @@ grant_new h = record { id = λ some. absurd (omega arith); refusing = h.refusing
 taken_new : {k : Key} {n id : ℕ} {g : Grant} {items : List Item} {b : Bucket} {l m : Ledger} → HasTaken k n g items (record no_pools { id = id }) b l m → HasTaken k n g items no_pools b l m
 taken_new t = record { grant = grant_new t.grant; came = t.came; bucket = t.bucket; pools = t.pools; counters = t.counters }
 
-served_new : {L P S : Type 0} {means : Meaning L P S} {most : Option ℕ} {k : Key} {room count id : ℕ} {sets : List (DescriptorSet S)} {ended : Result (Unit {0}) Stop} {b : Bucket} {before after : Ledger} → IsServed means most k room count sets ended (record no_pools { id = id }) b before after → IsServed means most k room count sets ended no_pools b before after
+served_new :
+    {L P S : Type 0} {means : Meaning L P S} {most : Option ℕ} {k : Key} {room count id : ℕ}
+      {sets : List (DescriptorSet S)} {ended : Result (Unit {0}) Stop} {b : Bucket} {before after : Ledger}
+    → IsServed means most k room count sets ended (record no_pools { id = id }) b before after
+    → IsServed means most k room count sets ended no_pools b before after
 served_new {ended = Ok done} s = record { numbers = s.numbers; few = s.few; all = s.all; taken = (s.taken.0, taken_new s.taken.1, s.taken.2, s.taken.3) }
 served_new {ended = Err why} s = record { numbers = s.numbers; few = s.few; all = s.all; taken = (s.taken.0, s.taken.1, taken_new s.taken.2, s.taken.3, s.taken.4) }
 
@@ -64,7 +74,10 @@ module _ {L P S : Type 0} {means : Meaning L P S} (k : BucketKey) (w : Descripto
           load = (let a = load.2 in let b = load.3 in let was = rows_load es in let is = rows_load (set_value r.row.test es w) in omega arith);
         })
 
-    pub serves_new : (test : BucketKey → Bool) → ((l : BucketKey) → test l ≡ key_eq (key_of k) (key_of l)) → lookup test es ≡ None → fs ≡ es ++ (k, w) ∷ [] → old ≡ record no_pools { id = old.id } → had ≡ 0 → ServesKey means most (key_of k) room count sets ended (map row_of es) (map row_of fs) before after
+    pub serves_new :
+        (test : BucketKey → Bool) → ((l : BucketKey) → test l ≡ key_eq (key_of k) (key_of l)) → lookup test es ≡ None
+        → fs ≡ es ++ (k, w) ∷ [] → old ≡ record no_pools { id = old.id } → had ≡ 0
+        → ServesKey means most (key_of k) room count sets ended (map row_of es) (map row_of fs) before after
     serves_new test same at put empty none =
         let gone = missing means.pool_name (key_of k) es test same at in
         rw put (record {
@@ -72,7 +85,12 @@ module _ {L P S : Type 0} {means : Meaning L P S} (k : BucketKey) (w : Descripto
           served = subst (λ (b : Bucket). IsServed means most (key_of k) room count sets ended b (bucket_of means.pool_name w) before after) (sym gone) (served_new (subst (λ (b : Bucket). IsServed means most (key_of k) room count sets ended b (bucket_of means.pool_name w) before after) empty s));
           books = books_end means.pool_name k w test same es at;
           out = (let was = rows_out es in let is = rows_out (es ++ (k, w) ∷ []) in let a = sum_by-append (λ (r : BucketKey × DescriptorBucket P). r.1.total) es ((k, w) ∷ []) in let one : sum_by (λ (r : BucketKey × DescriptorBucket P). r.1.total) ((k, w) ∷ []) ≡ w.total = omega arith in omega arith);
-          load = (let was = rows_load es in let is = rows_load (es ++ (k, w) ∷ []) in let a = sum_by-append load_in es ((k, w) ∷ []) in let one : sum_by load_in ((k, w) ∷ []) ≡ set_descriptors (key_of k) w.total = omega arith in let n : w.total ≡ length sets = omega arith in let e = ap (set_descriptors (key_of k)) n in omega arith);
+          load =
+              (let was = rows_load es in
+               let is = rows_load (es ++ (k, w) ∷ []) in
+               let a = sum_by-append load_in es ((k, w) ∷ []) in
+               let one : sum_by load_in ((k, w) ∷ []) ≡ set_descriptors (key_of k) w.total = omega arith in
+               let n : w.total ≡ length sets = omega arith in let e = ap (set_descriptors (key_of k)) n in omega arith);
         })
 
 -- a write of what is there

@@ -1,5 +1,13 @@
 -- What a new pool does to the ledger.
-use Rattle.gpu_descriptor.proofs.Common.{◌↔◌, ◌≡◌, ◌≢◌, ◌<◌, ℕ, ◌+◌, ◌-◌, ◌≤◌, min, List, [], ◌∷◌, ◌++◌, length, Bool, true, false, cond, nat_eq, Option, Some, None, slice_index, refl, sym, ap, ◌∙◌, arith, eqb-true, mul-le-mul_right, fun_ext, update, flags_of, Key, Entry, Pool, Ledger, Counters, CanGive, HasNoSets, live_sets, fresh, after_create, after_no_create, after_alloc, after_no_alloc, after_destroy, create_refused, alloc_refused, pool_refusals, no_rise, CreatePoolError, pool_counts, DeviceAllocationError, Stop, update_here, IsNextSize, pool_descriptors, IsGrown, IsRefused, risen, stop_rise, option_map, fresh_entry, number_after, numbers_of}
+use Rattle.gpu_descriptor.proofs.Common.{◌↔◌, ◌≡◌, ◌≢◌, ◌<◌, ℕ, ◌+◌, ◌-◌, ◌≤◌, min, List, [], ◌∷◌, ◌++◌, length, Bool}
+use Rattle.gpu_descriptor.proofs.Common.{true, false, cond, nat_eq, Option, Some, None, slice_index, refl, sym, ap, ◌∙◌}
+use Rattle.gpu_descriptor.proofs.Common.{arith, eqb-true, mul-le-mul_right, fun_ext, update, flags_of, Key, Entry, Pool}
+use Rattle.gpu_descriptor.proofs.Common.{Ledger, Counters, CanGive, HasNoSets, live_sets, fresh, after_create}
+use Rattle.gpu_descriptor.proofs.Common.{after_no_create, after_alloc, after_no_alloc, after_destroy, create_refused}
+use Rattle.gpu_descriptor.proofs.Common.{alloc_refused, pool_refusals, no_rise, CreatePoolError, pool_counts}
+use Rattle.gpu_descriptor.proofs.Common.{DeviceAllocationError, Stop, update_here, IsNextSize, pool_descriptors}
+use Rattle.gpu_descriptor.proofs.Common.{IsGrown, IsRefused, risen, stop_rise, option_map, fresh_entry, number_after}
+use Rattle.gpu_descriptor.proofs.Common.{numbers_of}
 use Rattle.gpu_descriptor.specs.declared.bucket.stop.Stop.TheVariants as stop
 use Rattle.gpu_descriptor_types.proofs.Counting.{none_spelled}
 use Rattle.gpu_descriptor.proofs.request.Asks.{same_counters}
@@ -56,7 +64,14 @@ not_grown k size name error l m m' m'' none made refused gone = record {
     all : m'' ≡ after_destroy name (after_no_alloc name error (after_create (pool_counts k.counts size) size (flags_of k) name l))
     all = gone ∙ ap (after_destroy name) (refused ∙ ap (after_no_alloc name error) made)
 
-    at : (b : Bool) (q : ℕ) → nat_eq name q ≡ b → cond b None (cond b (option_map (λ (pool : Pool). record pool { refusals = pool.refusals + pool_refusals error }) (update nat_eq l.pools name (Some (fresh (pool_counts k.counts size) size (flags_of k))) name)) (cond b (Some (fresh (pool_counts k.counts size) size (flags_of k))) (l.pools q))) ≡ l.pools q
+    at :
+        (b : Bool) (q : ℕ) → nat_eq name q ≡ b
+        → cond b None
+            (cond b
+               (option_map (λ (pool : Pool). record pool { refusals = pool.refusals + pool_refusals error })
+                  (update nat_eq l.pools name (Some (fresh (pool_counts k.counts size) size (flags_of k))) name))
+               (cond b (Some (fresh (pool_counts k.counts size) size (flags_of k))) (l.pools q)))
+          ≡ l.pools q
     at true q h = sym none ∙ ap l.pools (eqb-true name q h)
     at false q h = refl
 

@@ -1,5 +1,13 @@
 -- What every outcome of a request promises.
-use Rattle.gpu_descriptor.proofs.Common.{◌≡◌, ◌≢◌, ℕ, suc, ◌+◌, ◌-◌, ◌*◌, ◌<◌, ◌≤◌, Bool, Option, List, [], ◌∷◌, map, length, sum_by, inl, inr, refl, sym, ap, ◌∙◌, subst, arith, length-map, length-append, sum_by-cons, sum_by-append, pool_size_floor, ◌↔◌, min, OnOk, Counters, create_refused, alloc_refused, no_rise, CreatePoolError, DeviceAllocationError, Stop, Item, Key, Entry, cases_lt, ◌⊎◌, Allocates, Call, IsBack, IsDone, IsStopped, StopsAt, out_then, stop_rise, wanting, Fresh, IsFreshPrefix, IsNextSize, room_after, AreSized, AreFull, IsFreshList, given_by, Grant, Part, portion_of, items_at, items_in, AreBelowTwice, IsShort, CreatesOnlyWhereShort, pool_descriptors, Portion, offer, rest, portions_of}
+use Rattle.gpu_descriptor.proofs.Common.{◌≡◌, ◌≢◌, ℕ, suc, ◌+◌, ◌-◌, ◌*◌, ◌<◌, ◌≤◌, Bool, Option, List, [], ◌∷◌, map}
+use Rattle.gpu_descriptor.proofs.Common.{length, sum_by, inl, inr, refl, sym, ap, ◌∙◌, subst, arith, length-map}
+use Rattle.gpu_descriptor.proofs.Common.{length-append, sum_by-cons, sum_by-append, pool_size_floor, ◌↔◌, min, OnOk}
+use Rattle.gpu_descriptor.proofs.Common.{Counters, create_refused, alloc_refused, no_rise, CreatePoolError}
+use Rattle.gpu_descriptor.proofs.Common.{DeviceAllocationError, Stop, Item, Key, Entry, cases_lt, ◌⊎◌, Allocates, Call}
+use Rattle.gpu_descriptor.proofs.Common.{IsBack, IsDone, IsStopped, StopsAt, out_then, stop_rise, wanting, Fresh}
+use Rattle.gpu_descriptor.proofs.Common.{IsFreshPrefix, IsNextSize, room_after, AreSized, AreFull, IsFreshList}
+use Rattle.gpu_descriptor.proofs.Common.{given_by, Grant, Part, portion_of, items_at, items_in, AreBelowTwice, IsShort}
+use Rattle.gpu_descriptor.proofs.Common.{CreatesOnlyWhereShort, pool_descriptors, Portion, offer, rest, portions_of}
 use Rattle.gpu_descriptor_types.proofs.Sizes.{pool_size_some}
 use Rattle.gpu_descriptor.specs.declared.bucket.stop.Stop.TheVariants as stop
 use Rattle.gpu_descriptor.specs.Model.Outcomes.Allocates.{none, above_limit as was_above_limit, past_bound as was_past_bound, no_memory_at_start as had_no_memory, done, stopped}
@@ -38,7 +46,11 @@ whole_gave : (most : Option ℕ) (k : Key) (room total wanted : ℕ) (f : Fresh)
 whole_gave most k room total wanted f next left full short = (let some = pool_size_some k.counts total wanted f.size (next_whole most k room total wanted f.size next (omega arith) left) in omega arith)
 
 -- new pools that gave all they have and didn't do are few; with room left for one more so are they and that one. The last may have been cut
-few : (most : Option ℕ) (k : Key) (room total wanted : ℕ) (pools : List Fresh) → AreSized most k room total wanted pools → AreFull pools → given_by pools < wanted → (more : ℕ) → (more ≡ 0) ⊎ ((more ≡ pool_size_floor k.counts) × (pool_descriptors k 1 ≤ room_after k room pools)) → length pools * pool_size_floor k.counts + more ≤ given_by pools + pool_size_floor k.counts
+few :
+    (most : Option ℕ) (k : Key) (room total wanted : ℕ) (pools : List Fresh) → AreSized most k room total wanted pools
+    → AreFull pools → given_by pools < wanted → (more : ℕ)
+    → (more ≡ 0) ⊎ ((more ≡ pool_size_floor k.counts) × (pool_descriptors k 1 ≤ room_after k room pools))
+    → length pools * pool_size_floor k.counts + more ≤ given_by pools + pool_size_floor k.counts
 few most k room total wanted [] sized full short more why = elim why [ inl nothing ↦ (omega arith) | inr one ↦ (let is = one.0 in omega arith) ]
 few most k room total wanted (f ∷ []) sized full short more why = elim why [ inl nothing ↦ (omega arith) | inr one ↦ (let is = one.0 in let gave = whole_gave most k room total wanted f sized.0 one.1 full.0 (omega arith) in omega arith) ]
 few most k room total wanted (f ∷ h ∷ pools) sized full short more why =

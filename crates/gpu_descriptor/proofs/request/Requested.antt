@@ -1,7 +1,16 @@
 -- What a request leaves of an allocator: why it is declined before the walk, and what it took.
 use Rattle.gpu_descriptor.proofs.sums.TableSums.{adds_up, outstanding_of-table, marked_load_of-table, pool_load_of-table}
 use Rattle.gpu_descriptor.specs.Model.Books.{AddsUp}
-use Rattle.gpu_descriptor.proofs.Common.{side, Meaning, greatest_u64, [], ◌≡◌, ℕ, ◌+◌, ◌-◌, ◌*◌, ◌<◌, ◌≤◌, ◌&&◌, Bool, true, false, List, map, length, sum, Option, Result, Err, inl, inr, refl, sym, ap, subst, ◌∙◌, arith, mul-le-mul_right, cases_Bool, and_parts, ltb-true, ltb-false, IsDistinct, nat_lt, ◌⊎◌, kinds, Ledger, AllocationError, BucketKey, DescriptorSet, DescriptorBucket, Stop, Key, key_eq, Bucket, BucketOf, HasDistinctKeys, books_of, next_number, sum_over, key_of, Allocations, bucket_load, descriptors_out, set_descriptors, sets_out, IsWithinLimit, call_of, IsDeclined, IsUnserved, IsSound, ServesKey, Takes, named_row, state_of, table_of, outstanding_of, marked_load_of, pool_load_of, IsConsistent, row_of, stored_keys, books_in}
+use Rattle.gpu_descriptor.proofs.Common.{side, Meaning, greatest_u64, [], ◌≡◌, ℕ, ◌+◌, ◌-◌, ◌*◌, ◌<◌, ◌≤◌, ◌&&◌, Bool}
+use Rattle.gpu_descriptor.proofs.Common.{true, false, List, map, length, sum, Option, Result, Err, inl, inr, refl, sym}
+use Rattle.gpu_descriptor.proofs.Common.{ap, subst, ◌∙◌, arith, mul-le-mul_right, cases_Bool, and_parts, ltb-true}
+use Rattle.gpu_descriptor.proofs.Common.{ltb-false, IsDistinct, nat_lt, ◌⊎◌, kinds, Ledger, AllocationError, BucketKey}
+use Rattle.gpu_descriptor.proofs.Common.{DescriptorSet, DescriptorBucket, Stop, Key, key_eq, Bucket, BucketOf}
+use Rattle.gpu_descriptor.proofs.Common.{HasDistinctKeys, books_of, next_number, sum_over, key_of, Allocations}
+use Rattle.gpu_descriptor.proofs.Common.{bucket_load, descriptors_out, set_descriptors, sets_out, IsWithinLimit}
+use Rattle.gpu_descriptor.proofs.Common.{call_of, IsDeclined, IsUnserved, IsSound, ServesKey, Takes, named_row}
+use Rattle.gpu_descriptor.proofs.Common.{state_of, table_of, outstanding_of, marked_load_of, pool_load_of, IsConsistent}
+use Rattle.gpu_descriptor.proofs.Common.{row_of, stored_keys, books_in}
 use Rattle.gpu_descriptor.specs.declared.errors.AllocationError.TheVariants.{Fragmentation}
 use Rattle.gpu_descriptor.specs.Model.Outcomes.Allocates.{above_limit, past_bound, no_memory_at_start}
 use Rattle.gpu_descriptor.proofs.table.TableBooks.{rows_are, distinct_rows}
@@ -65,7 +74,9 @@ module _ {L P S : Type 0} (means : Meaning L P S) (a : Allocations P) (before : 
 
 -- ---- the tests of a request, over the fields of an allocator
 
-module _ {L P S : Type 0} (means : Meaning L P S) {a : Allocations P} {max looks compared marked room out : ℕ} {most : Option ℕ} {es : List (BucketKey × DescriptorBucket P)} (is : seen max most looks compared es ≡ a) (counted : IsConsistent max marked room out es) (apart : IsDistinct key_eq (stored_keys es)) (before : Ledger)
+module _ {L P S : Type 0} (means : Meaning L P S) {a : Allocations P} {max looks compared marked room out : ℕ}
+  {most : Option ℕ} {es : List (BucketKey × DescriptorBucket P)} (is : seen max most looks compared es ≡ a)
+  (counted : IsConsistent max marked room out es) (apart : IsDistinct key_eq (stored_keys es)) (before : Ledger)
     (key : BucketKey) {count : ℕ} (some : 0 < count) {above : Bool} (test : above ≡ (key.update_after_bind && nat_lt a.limit (count * sum (kinds key.counts) + marked_load_of a))) where
   abbrev Declines : AllocationError → Type 0
   Declines error = IsDeclined (call_of means (key_of key) count (side a before) (side a before) (Err error))

@@ -1,5 +1,9 @@
 -- The shares of the newer pools stay when an older pool is asked.
-use Rattle.gpu_descriptor.proofs.Common.{ne_eqb, sym, nat_lt, ◌++◌, ◌∙◌, ◌≡◌, ◌≢◌, ℕ, zero, suc, ◌+◌, ◌-◌, inl, inr, List, [], ◌∷◌, Bool, false, ◌&&◌, ◌||◌, ◌==◌, Some, refl, ap, arith, eq-eqb, cases_Bool, sum_by-cons, slice_get, if◌then◌else◌, sum_by, Entry, offer, rest, is_asked, share, shared, all_shared, asked_count, refused_count, asks, OnlyAskedRefuse, portions_of}
+use Rattle.gpu_descriptor.proofs.Common.{ne_eqb, sym, nat_lt, ◌++◌, ◌∙◌, ◌≡◌, ◌≢◌, ℕ, zero, suc, ◌+◌, ◌-◌, inl, inr}
+use Rattle.gpu_descriptor.proofs.Common.{List, [], ◌∷◌, Bool, false, ◌&&◌, ◌||◌, ◌==◌, Some, refl, ap, arith, eq-eqb}
+use Rattle.gpu_descriptor.proofs.Common.{cases_Bool, sum_by-cons, slice_get, if◌then◌else◌, sum_by, Entry, offer, rest}
+use Rattle.gpu_descriptor.proofs.Common.{is_asked, share, shared, all_shared, asked_count, refused_count, asks}
+use Rattle.gpu_descriptor.proofs.Common.{OnlyAskedRefuse, portions_of}
 
 -- the pools of the list aren't of this name
 abbrev pub IsApart : ℕ → List Entry → Type 0

@@ -1,5 +1,16 @@
 -- What a request takes keeps books and ledger in agreement, and exactly its sets are outstanding besides.
-use Rattle.gpu_descriptor.proofs.Common.{◌≡◌, ◌≢◌, ℕ, suc, take, drop, ◌+◌, ◌-◌, ◌<◌, ◌⊎◌, inl, inr, List, [], ◌∷◌, ◌++◌, length, map, Bool, true, false, ◌==◌, Option, Some, None, refl, sym, ap, ◌∙◌, subst, arith, cases_Bool, cases_lt, ne_eqb, eqb-true, nil_from_length, length-append, sum_by-append, slice_get, slice_get_within, slice_get_past, list_any, option_map, option_map_or, if◌then◌else◌, flags_of, Key, key_eq, Entry, Bucket, Pool, State, Item, LiveSet, live_sets, times, Agree, IsAsBooked, entry_at, live_at, live_in, set_of, count_of, outstanding, pool_counts, map-append, times-append, eqb-false, slice_get-get_or, get_or_from_slice_get, get_or, IsBookedIn, Fresh, fresh_entries, fresh_entry, fresh_portions, next_number, numbers_of, rises, Grant, Part, IsGrantOf, items_in, portion_of, came, bucket_with, ledger_with, fresh_or, pool_with, items_at, granted, Portion, all_shared, portions_of, KeepsForeign, KeepsOtherKeys}
+use Rattle.gpu_descriptor.proofs.Common.{◌≡◌, ◌≢◌, ℕ, suc, take, drop, ◌+◌, ◌-◌, ◌<◌, ◌⊎◌, inl, inr, List, [], ◌∷◌}
+use Rattle.gpu_descriptor.proofs.Common.{◌++◌, length, map, Bool, true, false, ◌==◌, Option, Some, None, refl, sym, ap}
+use Rattle.gpu_descriptor.proofs.Common.{◌∙◌, subst, arith, cases_Bool, cases_lt, ne_eqb, eqb-true, nil_from_length}
+use Rattle.gpu_descriptor.proofs.Common.{length-append, sum_by-append, slice_get, slice_get_within, slice_get_past}
+use Rattle.gpu_descriptor.proofs.Common.{list_any, option_map, option_map_or, if◌then◌else◌, flags_of, Key, key_eq}
+use Rattle.gpu_descriptor.proofs.Common.{Entry, Bucket, Pool, State, Item, LiveSet, live_sets, times, Agree, IsAsBooked}
+use Rattle.gpu_descriptor.proofs.Common.{entry_at, live_at, live_in, set_of, count_of, outstanding, pool_counts}
+use Rattle.gpu_descriptor.proofs.Common.{map-append, times-append, eqb-false, slice_get-get_or, get_or_from_slice_get}
+use Rattle.gpu_descriptor.proofs.Common.{get_or, IsBookedIn, Fresh, fresh_entries, fresh_entry, fresh_portions}
+use Rattle.gpu_descriptor.proofs.Common.{next_number, numbers_of, rises, Grant, Part, IsGrantOf, items_in, portion_of}
+use Rattle.gpu_descriptor.proofs.Common.{came, bucket_with, ledger_with, fresh_or, pool_with, items_at, granted}
+use Rattle.gpu_descriptor.proofs.Common.{Portion, all_shared, portions_of, KeepsForeign, KeepsOtherKeys}
 use Rattle.std.proofs.lemmas.List.{get_or-append-add}
 use Rattle.gpu_descriptor.proofs.lists.AtPlaces.{cases_option, get_drop, none_from}
 use Rattle.gpu_descriptor_types.specs.Ledger as ledgers
@@ -52,7 +63,12 @@ all_came k id b apart u f at key own (p ∷ parts) placed =
     elim (cases_Bool (p.pool == f.pool)) [
       | inl on ↦ (
           let one = count_of_items k id p.number p.names u key (sym (apart p.number u.number placed.0.0 f placed.0.1 at (placed.0.2 ∙ eqb-true p.pool f.pool on))) own in
-          let sets : times (live_sets k.counts (came (p ∷ parts) f.pool)) (set_of u) ≡ times (live_sets k.counts p.names) (set_of u) + times (live_sets k.counts (came parts f.pool)) (set_of u) = rw (on, map-append) (times-append (live_sets k.counts p.names) (live_sets k.counts (came parts f.pool)) (set_of u)) in
+          let sets :
+              times (live_sets k.counts (came (p ∷ parts) f.pool)) (set_of u)
+              ≡ times (live_sets k.counts p.names) (set_of u)
+                + times (live_sets k.counts (came parts f.pool)) (set_of u) =
+              rw (on, map-append)
+                (times-append (live_sets k.counts p.names) (live_sets k.counts (came parts f.pool)) (set_of u)) in
           omega arith)
       | inr off ↦ (
           let none = count_elsewhere k id p.number p.names u (λ same. eqb-false p.pool f.pool off (let is : Some placed.0.0 ≡ Some f = sym placed.0.1 ∙ ap (entry_at b) (sym same) ∙ at in let entry : placed.0.0 ≡ f = cc in sym placed.0.2 ∙ ap (λ (e : Entry). e.pool) entry)) in

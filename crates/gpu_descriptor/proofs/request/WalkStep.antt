@@ -1,5 +1,14 @@
 -- One step of the walk over a key's pools.
-use Rattle.gpu_descriptor.proofs.Common.{◌≡◌, ℕ, suc, ◌+◌, ◌-◌, inl, inr, List, [], ◌∷◌, ◌++◌, length, map, take, drop, slice_set, Bool, true, false, cond, ◌&&◌, ◌==◌, nat_eq, nat_lt, Option, Some, None, refl, sym, ap, ◌∙◌, subst, arith, eqb-true, eq-eqb, append_assoc, or_cases, and_parts, and_from, or_left, or_right, eqb-false, fun_ext, map-append, append-nil, sum_by-cons, if◌then◌else◌, option_map, times-append, Key, Entry, Bucket, Item, Pool, Ledger, Counters, live_sets, on_pool, no_rise, LiveSet, times, flat_map-append, Grant, Part, fresh_or, items_at, items_in, portion_of, came, pool_with, ledger_with, Fresh, risen, grant_rise, offer, rest, is_asked, share, shared, all_shared, asked_count, refused_count, OnlyAskedRefuse, portions_of, IsAsked, HasTaken}
+use Rattle.gpu_descriptor.proofs.Common.{◌≡◌, ℕ, suc, ◌+◌, ◌-◌, inl, inr, List, [], ◌∷◌, ◌++◌, length, map, take, drop}
+use Rattle.gpu_descriptor.proofs.Common.{slice_set, Bool, true, false, cond, ◌&&◌, ◌==◌, nat_eq, nat_lt, Option, Some}
+use Rattle.gpu_descriptor.proofs.Common.{None, refl, sym, ap, ◌∙◌, subst, arith, eqb-true, eq-eqb, append_assoc}
+use Rattle.gpu_descriptor.proofs.Common.{or_cases, and_parts, and_from, or_left, or_right, eqb-false, fun_ext}
+use Rattle.gpu_descriptor.proofs.Common.{map-append, append-nil, sum_by-cons, if◌then◌else◌, option_map, times-append}
+use Rattle.gpu_descriptor.proofs.Common.{Key, Entry, Bucket, Item, Pool, Ledger, Counters, live_sets, on_pool, no_rise}
+use Rattle.gpu_descriptor.proofs.Common.{LiveSet, times, flat_map-append, Grant, Part, fresh_or, items_at, items_in}
+use Rattle.gpu_descriptor.proofs.Common.{portion_of, came, pool_with, ledger_with, Fresh, risen, grant_rise, offer}
+use Rattle.gpu_descriptor.proofs.Common.{rest, is_asked, share, shared, all_shared, asked_count, refused_count}
+use Rattle.gpu_descriptor.proofs.Common.{OnlyAskedRefuse, portions_of, IsAsked, HasTaken}
 use Rattle.std.proofs.Math.Seq.{set-append_seam}
 use Rattle.gpu_descriptor.proofs.request.Asks.{same_counters}
 use Rattle.gpu_descriptor.proofs.table.Exact.{bucket}
@@ -25,7 +34,19 @@ pool_twice counts a b r p = λ i. record {
   capacity = p.capacity;
   flags = p.flags;
   refusals = if r then p.refusals + 1 else p.refusals;
-  live = fun_ext (λ (x : LiveSet). (let e = ap (λ sets. times sets x) (map-append (λ (n : ℕ). let s : LiveSet = record { name = n; counts = counts } in s) a b) in let f = times-append (live_sets counts a) (live_sets counts b) x in let g : p.live x + times (live_sets counts a) x + times (live_sets counts b) x ≡ p.live x + times (live_sets counts (a ++ b)) x = omega arith in g)) i;
+  live =
+      fun_ext
+        (λ (x : LiveSet).
+           (let e =
+                ap (λ sets. times sets x)
+                  (map-append (λ (n : ℕ). let s : LiveSet = record { name = n; counts = counts } in s) a b) in
+            let f = times-append (live_sets counts a) (live_sets counts b) x in
+            let g :
+                p.live x + times (live_sets counts a) x + times (live_sets counts b) x
+                ≡ p.live x + times (live_sets counts (a ++ b)) x =
+                omega arith in
+            g))
+        i;
 }
 
 -- the items of one part more
@@ -42,7 +63,13 @@ ledger_more k refused fs parts r number name names pools id left left' not_yet =
     here None = refl
     here (Some p) = ap (λ (x : Pool). Some x) (pool_twice k.counts (came parts name) names r p)
 
-    at : (b : Bool) (q : ℕ) → nat_eq name q ≡ b → cond b (option_map (pool_with (live_sets k.counts names) r) (option_map (pool_with (live_sets k.counts (came parts name)) (refused name)) (fresh_or k fs name (pools name)))) (option_map (pool_with (live_sets k.counts (came parts q)) (refused q)) (fresh_or k fs q (pools q)))
+    at :
+        (b : Bool) (q : ℕ) → nat_eq name q ≡ b
+        → cond b
+            (option_map (pool_with (live_sets k.counts names) r)
+               (option_map (pool_with (live_sets k.counts (came parts name)) (refused name))
+                  (fresh_or k fs name (pools name))))
+            (option_map (pool_with (live_sets k.counts (came parts q)) (refused q)) (fresh_or k fs q (pools q)))
         ≡ option_map (pool_with (live_sets k.counts (came (parts ++ part number name names ∷ []) q)) (or_at r name refused q)) (fresh_or k fs q (pools q))
     at true q h = rw (← eqb-true name q h, or_at_here r name refused not_yet, came_more parts (part number name names) name, eq-eqb name name refl, not_yet) (here (fresh_or k fs name (pools name)))
     at false q h = rw (or_at_apart r name refused q (λ e. eqb-false name q h (sym e)), came_more parts (part number name names) q, h, append-nil (came parts q)) refl

@@ -1,5 +1,11 @@
 -- The running totals of a table, and what a run takes from them.
-use Rattle.gpu_descriptor.proofs.Common.{◌≡◌, ℕ, ◌+◌, ◌-◌, ◌≤◌, Bool, true, List, [], ◌∷◌, ◌++◌, length, map, sum_by, Option, Some, None, inl, inr, refl, sym, ap, ◌∙◌, arith, zero, suc, slice_get, lookup, set_value, cases_Bool, sum_by-cons, BucketKey, DescriptorSet, DescriptorBucket, Key, key_eq, sum_over, key_of, Allocations, common_steps, bucket_load, descriptors_out, set_descriptors, sets_out, marked_descriptors, items_of, outstanding_of, marked_load_of, AllPass, kept_in, kept_of, row_of, stored_load, IsConsistent}
+use Rattle.gpu_descriptor.proofs.Common.{◌≡◌, ℕ, ◌+◌, ◌-◌, ◌≤◌, Bool, true, List, [], ◌∷◌, ◌++◌, length, map, sum_by}
+use Rattle.gpu_descriptor.proofs.Common.{Option, Some, None, inl, inr, refl, sym, ap, ◌∙◌, arith, zero, suc, slice_get}
+use Rattle.gpu_descriptor.proofs.Common.{lookup, set_value, cases_Bool, sum_by-cons, BucketKey, DescriptorSet}
+use Rattle.gpu_descriptor.proofs.Common.{DescriptorBucket, Key, key_eq, sum_over, key_of, Allocations, common_steps}
+use Rattle.gpu_descriptor.proofs.Common.{bucket_load, descriptors_out, set_descriptors, sets_out, marked_descriptors}
+use Rattle.gpu_descriptor.proofs.Common.{items_of, outstanding_of, marked_load_of, AllPass, kept_in, kept_of, row_of}
+use Rattle.gpu_descriptor.proofs.Common.{stored_load, IsConsistent}
 use Rattle.indexmap.specs.Layout.{set_value_at}
 use Rattle.gpu_descriptor.specs.Inner.RunSteps.{lies_at}
 use Rattle.gpu_descriptor.specs.Inner.Stored.{IsCounted}
@@ -53,7 +59,12 @@ module _ {P : Type 0} where
   ]
 
   -- a write through the map, in a sum over its entries
-  pub sum_set : (f : BucketKey × DescriptorBucket P → ℕ) (test : BucketKey → Bool) (es : List (BucketKey × DescriptorBucket P)) (v w : DescriptorBucket P) → lookup test es ≡ Some v → (k : BucketKey) × (test k ≡ true) × (f (k, v) ≤ sum_by f es) × (sum_by f (set_value test es w) + f (k, v) ≡ sum_by f es + f (k, w))
+  pub sum_set :
+      (f : BucketKey × DescriptorBucket P → ℕ) (test : BucketKey → Bool) (es : List (BucketKey × DescriptorBucket P))
+        (v w : DescriptorBucket P)
+      → lookup test es ≡ Some v
+      → (k : BucketKey) × (test k ≡ true) × (f (k, v) ≤ sum_by f es)
+        × (sum_by f (set_value test es w) + f (k, v) ≡ sum_by f es + f (k, w))
   sum_set f test es v w found =
       let place = found_place test es v found in
       let put = sum_put f es place.0 place.1 v w place.3 in

@@ -1,5 +1,10 @@
 -- The ids of a table's keys: they rise, so one place has each, and one key.
-use Rattle.gpu_descriptor.proofs.Common.{◌≡◌, ◌+◌, ◌<◌, ℕ, zero, suc, Bool, true, false, ◌++◌, ◌∷◌, [], List, length, filter, slice_get, Option, Some, None, inl, inr, refl, sym, ap, subst, ◌∙◌, arith, slice_index_or, nat_lt, list_all, IsNonDecreasingBy, IsPartitionPoint, IsPartitionedBy, lookup, values_of, cases_Bool, cases_lt, and_parts, and_from, lt-ltb, ltb-true, ltb-false, BucketKey, DescriptorBucket, Key, key_eq, key_of, common_steps, rise_below, stored_ids}
+use Rattle.gpu_descriptor.proofs.Common.{◌≡◌, ◌+◌, ◌<◌, ℕ, zero, suc, Bool, true, false, ◌++◌, ◌∷◌, [], List, length}
+use Rattle.gpu_descriptor.proofs.Common.{filter, slice_get, Option, Some, None, inl, inr, refl, sym, ap, subst, ◌∙◌}
+use Rattle.gpu_descriptor.proofs.Common.{arith, slice_index_or, nat_lt, list_all, IsNonDecreasingBy, IsPartitionPoint}
+use Rattle.gpu_descriptor.proofs.Common.{IsPartitionedBy, lookup, values_of, cases_Bool, cases_lt, and_parts, and_from}
+use Rattle.gpu_descriptor.proofs.Common.{lt-ltb, ltb-true, ltb-false, BucketKey, DescriptorBucket, Key, key_eq, key_of}
+use Rattle.gpu_descriptor.proofs.Common.{common_steps, rise_below, stored_ids}
 use Rattle.std.proofs.lemmas.List.Sorted.{IsPartitionedBy-ltb}
 use Rattle.indexmap.specs.Layout.{set_value_at}
 use Rattle.gpu_descriptor.proofs.table.Exact.{key_exact}
@@ -93,7 +98,11 @@ module _ {P : Type 0} where
     | inr other ↦ absurd (let less = found_above x.1.id (λ l. key_eq k (key_of l)) es w above (rw other at found) in omega arith)
   ]
 
-  later_is : (x : BucketKey × DescriptorBucket P) (es : List (BucketKey × DescriptorBucket P)) → list_all (nat_lt x.1.id) (stored_ids es) ≡ true → (k : Key) (w : DescriptorBucket P) → lookup (λ l. key_eq k (key_of l)) (x ∷ es) ≡ Some w → (i n : ℕ) → slice_get (stored_ids es) i ≡ Some n → n ≡ w.id → lookup (λ l. key_eq k (key_of l)) es ≡ Some w
+  later_is :
+      (x : BucketKey × DescriptorBucket P) (es : List (BucketKey × DescriptorBucket P))
+      → list_all (nat_lt x.1.id) (stored_ids es) ≡ true → (k : Key) (w : DescriptorBucket P)
+      → lookup (λ l. key_eq k (key_of l)) (x ∷ es) ≡ Some w → (i n : ℕ) → slice_get (stored_ids es) i ≡ Some n
+      → n ≡ w.id → lookup (λ l. key_eq k (key_of l)) es ≡ Some w
   later_is x es above k w found i n at same = grind (arith, all_above)
 
   -- the row of a key stands where its id does

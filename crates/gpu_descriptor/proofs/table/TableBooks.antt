@@ -1,5 +1,11 @@
 -- The books of a table, and what a write to one of its rows does to them.
-use Rattle.gpu_descriptor.proofs.Common.{◌≡◌, ℕ, arith, Bool, true, false, List, [], ◌∷◌, map, count_by, Option, Some, None, IsSome, inl, inr, refl, sym, ap, ◌∙◌, if◌then◌else◌, list_any, IsDistinct, AllByRecursion, lookup, set_value, option_map_or, cases_Bool, or_from, or_parts, count_by_yes, count_by_no, BucketKey, DescriptorPool, DescriptorBucket, Key, key_eq, Entry, Bucket, no_pools, HasDistinctKeys, key_of, Allocations, named, named_row, books_in, kept_of, row_of, entry_of, bucket_of, stored_keys}
+use Rattle.gpu_descriptor.proofs.Common.{◌≡◌, ℕ, arith, Bool, true, false, List, [], ◌∷◌, map, count_by, Option, Some}
+use Rattle.gpu_descriptor.proofs.Common.{None, IsSome, inl, inr, refl, sym, ap, ◌∙◌, if◌then◌else◌, list_any}
+use Rattle.gpu_descriptor.proofs.Common.{IsDistinct, AllByRecursion, lookup, set_value, option_map_or, cases_Bool}
+use Rattle.gpu_descriptor.proofs.Common.{or_from, or_parts, count_by_yes, count_by_no, BucketKey, DescriptorPool}
+use Rattle.gpu_descriptor.proofs.Common.{DescriptorBucket, Key, key_eq, Entry, Bucket, no_pools, HasDistinctKeys}
+use Rattle.gpu_descriptor.proofs.Common.{key_of, Allocations, named, named_row, books_in, kept_of, row_of, entry_of}
+use Rattle.gpu_descriptor.proofs.Common.{bucket_of, stored_keys}
 use Rattle.std.specs.Map.{keys_of as map_keys}
 use Rattle.gpu_descriptor.specs.Caller.States.{keys_of}
 use Rattle.gpu_descriptor.proofs.table.Exact.{key_exact}
@@ -42,7 +48,11 @@ module _ {P : Type 0} (name : P → ℕ) where
       ]
 
   -- a write through the map is a write to the books
-  pub written : (test : BucketKey → Bool) (k : Key) → ((l : BucketKey) → test l ≡ key_eq k (key_of l)) → (es : List (BucketKey × DescriptorBucket P)) (w : DescriptorBucket P) → IsSome (lookup test es) → (l : Key) → books_in name (map row_of (set_value test es w)) l ≡ put_books (books_in name (map row_of es)) k (bucket_of name w) l
+  pub written :
+      (test : BucketKey → Bool) (k : Key) → ((l : BucketKey) → test l ≡ key_eq k (key_of l))
+      → (es : List (BucketKey × DescriptorBucket P)) (w : DescriptorBucket P) → IsSome (lookup test es) → (l : Key)
+      → books_in name (map row_of (set_value test es w)) l
+        ≡ put_books (books_in name (map row_of es)) k (bucket_of name w) l
   written test k same [] w some l = absurd (let bad : false ≡ true = some in cc)
   written test k same (e ∷ es) w some l = elim (cases_Bool (test e.0)) [
     | inl h ↦ (

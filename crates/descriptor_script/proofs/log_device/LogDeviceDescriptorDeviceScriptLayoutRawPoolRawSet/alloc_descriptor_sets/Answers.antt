@@ -27,7 +27,13 @@ invariant_of-self-in-Ok g c =
     let sets : List LiveSet = live_sets counts (map set_id put.sets) in
     let many : length sets ≡ left c.args.layouts = length-map (map set_id put.sets) (λ (n : ℕ). record { name = n; counts = counts }) ∙ length-map put.sets set_id ∙ put.many in
     record {
-      owed = ∥∥₁_map old.owed (λ o. moved _ _ (old.log.owed + length sets) c.put.new.self.owed put.ledger (c.put.ensures.owed ∙ ap (λ (n : ℕ). n + c.len-count.result) c.reserve.ensures.owed ∙ ap (λ (n : ℕ). old.log.owed + n) (c.len-count.ensures ∙ sym many)) (allocated (ledger_of old.device) old.log.owed c.args.pool.now.id gives.pool sets gives.is_live o));
+      owed =
+          ∥∥₁_map old.owed
+            (λ o.
+               moved _ _ (old.log.owed + length sets) c.put.new.self.owed put.ledger
+                 (c.put.ensures.owed ∙ ap (λ (n : ℕ). n + c.len-count.result) c.reserve.ensures.owed
+                  ∙ ap (λ (n : ℕ). old.log.owed + n) (c.len-count.ensures ∙ sym many))
+                 (allocated (ledger_of old.device) old.log.owed c.args.pool.now.id gives.pool sets gives.is_live o));
     }
 
 pub invariant_of-self-in-Err-1 : goal.invariant_of-self-in-Err-1
@@ -35,5 +41,11 @@ invariant_of-self-in-Err-1 g c =
     let old = c.args.self.now in
     let gives = c.requires.fits in
     record {
-      owed = ∥∥₁_map old.owed (λ o. refused (ledger_of old.device) _ c.args.pool.now.id (pool_refusals c.in-Err.error) gives.pool _ gives.is_live (ap (λ (l : Ledger). l.pools) c.in-Err.ensures.err.ledger) (moved (ledger_of old.device) (ledger_of old.device) old.log.owed c.reserve.new.self.owed refl c.reserve.ensures.owed o));
+      owed =
+          ∥∥₁_map old.owed
+            (λ o.
+               refused (ledger_of old.device) _ c.args.pool.now.id (pool_refusals c.in-Err.error) gives.pool _
+                 gives.is_live (ap (λ (l : Ledger). l.pools) c.in-Err.ensures.err.ledger)
+                 (moved (ledger_of old.device) (ledger_of old.device) old.log.owed c.reserve.new.self.owed refl
+                    c.reserve.ensures.owed o));
     }

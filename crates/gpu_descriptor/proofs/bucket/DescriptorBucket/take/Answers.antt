@@ -1,4 +1,8 @@
-use Rattle.gpu_descriptor.proofs.Common.{◌≡◌, ℕ, ◌+◌, ◌≤◌, ◌++◌, List, length, map, sym, ap, ◌∙◌, arith, Result, Ok, OnOk, IfErr, true, false, length-append, [], ◌∷◌, None, Err, length-map, map-append, Ledger, DeviceAllocationError, DescriptorPool, DescriptorSet, Item, Entry, Key, key_of, set_at, fresh_entry, items_at, items_of, IsTaken, entry_of, number_after, numbers_of, stored_load, stored_numbers, IsWalked}
+use Rattle.gpu_descriptor.proofs.Common.{◌≡◌, ℕ, ◌+◌, ◌≤◌, ◌++◌, List, length, map, sym, ap, ◌∙◌, arith, Result, Ok}
+use Rattle.gpu_descriptor.proofs.Common.{OnOk, IfErr, true, false, length-append, [], ◌∷◌, None, Err, length-map}
+use Rattle.gpu_descriptor.proofs.Common.{map-append, Ledger, DeviceAllocationError, DescriptorPool, DescriptorSet, Item}
+use Rattle.gpu_descriptor.proofs.Common.{Entry, Key, key_of, set_at, fresh_entry, items_at, items_of, IsTaken, entry_of}
+use Rattle.gpu_descriptor.proofs.Common.{number_after, numbers_of, stored_load, stored_numbers, IsWalked}
 use Rattle.std.specs.Result.{is_ok}
 use mathlib.Core.Bool.{true≢false}
 use Rattle.gpu_descriptor.proofs.sums.PoolsLoad.{pools_load}
@@ -117,4 +121,10 @@ loop-sink-preserved g c =
     }
 
 pub returns-in_err-map_err-clause-room : goal.returns-in_err-map_err-clause-room
-returns-in_err-map_err-clause-room g c = ap (λ n. c.args.budget.now.room + n) (on_err c.take_from_existing.result (λ e. stopped_load g.D.DescriptorDevice.meaning.pool_name c.args.self.now.pools.items c.take_from_existing.new.self.pools.items {error = e}) c.take_from_existing.ensures.stopped (sym c.in_err-map_err.ensures.variant))
+returns-in_err-map_err-clause-room g c =
+    ap (λ n. c.args.budget.now.room + n)
+      (on_err c.take_from_existing.result
+         (λ e.
+            stopped_load g.D.DescriptorDevice.meaning.pool_name c.args.self.now.pools.items
+              c.take_from_existing.new.self.pools.items {error = e})
+         c.take_from_existing.ensures.stopped (sym c.in_err-map_err.ensures.variant))

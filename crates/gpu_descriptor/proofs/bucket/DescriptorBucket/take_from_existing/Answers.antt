@@ -1,4 +1,9 @@
-use Rattle.gpu_descriptor.proofs.Common.{◌≡◌, ℕ, Global, ◌+◌, ◌++◌, arith, length, sum_by, List, None, Result, Ok, Err, sym, ap, ◌∙◌, subst, map, OnOk, IfErr, length-map, Ledger, DeviceAllocationError, DescriptorSet, DescriptorPool, Bucket, Key, key_of, allocated_in, items_of, item_of, AreBookedIn, IsTaken, bucket_in, bucket_of, entry_of, free_in, number_after, numbers_of, open_numbers, rises, stored_numbers, IsWalked}
+use Rattle.gpu_descriptor.proofs.Common.{◌≡◌, ℕ, Global, ◌+◌, ◌++◌, arith, length, sum_by, List, None, Result, Ok, Err}
+use Rattle.gpu_descriptor.proofs.Common.{sym, ap, ◌∙◌, subst, map, OnOk, IfErr, length-map, Ledger}
+use Rattle.gpu_descriptor.proofs.Common.{DeviceAllocationError, DescriptorSet, DescriptorPool, Bucket, Key, key_of}
+use Rattle.gpu_descriptor.proofs.Common.{allocated_in, items_of, item_of, AreBookedIn, IsTaken, bucket_in, bucket_of}
+use Rattle.gpu_descriptor.proofs.Common.{entry_of, free_in, number_after, numbers_of, open_numbers, rises}
+use Rattle.gpu_descriptor.proofs.Common.{stored_numbers, IsWalked}
 use Rattle.std.specs.declared.collections.VecDeque.{VecDeque}
 use Rattle.std.proofs.lemmas.Result.{IfErr-weaker, on_ok_weaker}
 use Rattle.gpu_descriptor.specs.declared.bucket.stop.Stop.TheVariants.{ExistingPoolRefused}
@@ -32,7 +37,12 @@ is_bucket : (g : _) (c : After-walk-walked g) → bucket_in g.D.DescriptorDevice
 is_bucket g c = λ i. bucket ((c.walk-walked.ensures.kept.4 ∙ c.new-view.ensures.id) i) (map (entry_of g.D.DescriptorDevice.meaning.pool_name) c.walk-walked.new.view.pools.now.items)
 
 pub walk-walked-requires-clause-booked : goal.walk-walked-requires-clause-booked
-walk-walked-requires-clause-booked g c = subst (λ (q : VecDeque (DescriptorPool g.row.P.Denot) Global). AreBookedIn (key_of c.args.request.now.key) (g.D.DescriptorDevice.ledger c.args.device.now).pools (map (entry_of g.D.DescriptorDevice.meaning.pool_name) q.items)) (sym c.new-view.ensures.pools) c.requires.booked
+walk-walked-requires-clause-booked g c =
+    subst
+      (λ (q : VecDeque (DescriptorPool g.row.P.Denot) Global).
+         AreBookedIn (key_of c.args.request.now.key) (g.D.DescriptorDevice.ledger c.args.device.now).pools
+           (map (entry_of g.D.DescriptorDevice.meaning.pool_name) q.items))
+      (sym c.new-view.ensures.pools) c.requires.booked
 
 pub returns-clause-walked : goal.returns-clause-walked
 returns-clause-walked g c =

@@ -1,4 +1,7 @@
-use Rattle.gpu_descriptor.proofs.Common.{◌≡◌, ℕ, ◌+◌, ◌++◌, List, [], length, map, slice_get, slice_set, Some, refl, sym, ap, ◌∙◌, arith, append_assoc, length-append, length-map, append-nil, map-append, length-set, BucketKey, DescriptorSet, Key, key_of, set_at, items_at, items_of, entry_of, newest_place, IsAsked}
+use Rattle.gpu_descriptor.proofs.Common.{◌≡◌, ℕ, ◌+◌, ◌++◌, List, [], length, map, slice_get, slice_set, Some, refl}
+use Rattle.gpu_descriptor.proofs.Common.{sym, ap, ◌∙◌, arith, append_assoc, length-append, length-map, append-nil}
+use Rattle.gpu_descriptor.proofs.Common.{map-append, length-set, BucketKey, DescriptorSet, Key, key_of, set_at}
+use Rattle.gpu_descriptor.proofs.Common.{items_at, items_of, entry_of, newest_place, IsAsked}
 use Rattle.gpu_descriptor.proofs.request.OpenWalk.{open_walk_start, open_walk_more, open_walk_stop, walk_sated, walk_empty, next_is_booked, listed_now_closed, listed_now_open, listed_now_same, one_asked}
 use Rattle.gpu_descriptor.proofs.request.OwnLayout.{none_own}
 use Rattle.gpu_descriptor.proofs.request.Passed.{passed}
@@ -20,7 +23,11 @@ loop-sink-init g c = record {
   sets = sym (append-nil (g.K.SetPlaces.items c.args.sink.now.sets));
   given = (let left = c.requires.left in omega arith);
   long = refl;
-  walk = rw c.requires.left (open_walk_start g.D.DescriptorDevice.meaning.pool_name (key_of c.args.request.now.key) c.args.request.now.count c.args.view.now.id c.args.view.now.offset c.args.view.now.pools.now.items c.args.view.now.listed.now.items (g.D.DescriptorDevice.ledger c.args.device.now) c.requires.listed);
+  walk =
+      rw c.requires.left
+        (open_walk_start g.D.DescriptorDevice.meaning.pool_name (key_of c.args.request.now.key) c.args.request.now.count
+           c.args.view.now.id c.args.view.now.offset c.args.view.now.pools.now.items c.args.view.now.listed.now.items
+           (g.D.DescriptorDevice.ledger c.args.device.now) c.requires.listed);
   space = refl;
   kept = (refl, refl, refl, refl, refl);
   own = λ first before. before;
@@ -68,7 +75,11 @@ module _ (g : _) (c : In_ok-ask g) where
   at : slice_get c.loop-sink.view.pools.now.items (newest_place c.loop-sink.view) ≡ Some c.in-Some.pool.now
   at = c.in-Some.ensures.value
 
-  asked : IsAsked (key_of c.args.request.now.key) c.loop-sink.sink.left names (entry_of g.D.DescriptorDevice.meaning.pool_name c.in-Some.pool.now) (entry_of g.D.DescriptorDevice.meaning.pool_name c.ask.new.pool) (g.D.DescriptorDevice.ledger c.loop-sink.device) (g.D.DescriptorDevice.ledger c.ask.new.device)
+  asked :
+      IsAsked (key_of c.args.request.now.key) c.loop-sink.sink.left names
+        (entry_of g.D.DescriptorDevice.meaning.pool_name c.in-Some.pool.now)
+        (entry_of g.D.DescriptorDevice.meaning.pool_name c.ask.new.pool)
+        (g.D.DescriptorDevice.ledger c.loop-sink.device) (g.D.DescriptorDevice.ledger c.ask.new.device)
   asked = rw c.newest.ensures.left at c.in_ok-ask.ensures.asked.3
 
   less : c.ask.new.sink.left + length names ≡ c.loop-sink.sink.left
@@ -76,7 +87,12 @@ module _ (g : _) (c : In_ok-ask g) where
 
   sets : (g.K.SetPlaces.items c.ask.new.sink.sets) ≡ (g.K.SetPlaces.items c.args.sink.now.sets) ++ put
   sets =
-      c.in_ok-ask.ensures.asked.1 ∙ ap (λ x. (g.K.SetPlaces.items c.newest.new.sink.sets) ++ x) (aimed_at c.newest.new.sink.number raws c.in-Some.ensures.key c.in-Some.ensures.id) ∙ ap (λ x. x ++ map (set_at (key_of c.args.request.now.key) c.loop-sink.view.id c.newest.new.sink.number) raws) (c.newest.ensures.sets ∙ c.loop-sink.invariant.sets) ∙ append_assoc (g.K.SetPlaces.items c.args.sink.now.sets) c.loop-sink.invariant.put _
+      c.in_ok-ask.ensures.asked.1
+      ∙ ap (λ x. (g.K.SetPlaces.items c.newest.new.sink.sets) ++ x)
+          (aimed_at c.newest.new.sink.number raws c.in-Some.ensures.key c.in-Some.ensures.id)
+      ∙ ap (λ x. x ++ map (set_at (key_of c.args.request.now.key) c.loop-sink.view.id c.newest.new.sink.number) raws)
+          (c.newest.ensures.sets ∙ c.loop-sink.invariant.sets)
+      ∙ append_assoc (g.K.SetPlaces.items c.args.sink.now.sets) c.loop-sink.invariant.put _
 
   -- under the pool's own number
   seen : items_of g.D.DescriptorDevice.meaning.set_name put ≡ items_of g.D.DescriptorDevice.meaning.set_name c.loop-sink.invariant.put ++ items_at (key_of c.args.request.now.key) c.loop-sink.view.id c.in-Some.pool.now.number names

@@ -17,7 +17,12 @@ none_at : {P : Type 0} (test : BucketKey → Bool) (key : BucketKey) → ((l : B
 none_at test key same es none = lookup_same (is_of (key_of key)) test (λ l. sym (same l)) es ∙ (Missing-position test es none).value
 
 -- what a search by the hash answers
-hashed : {P : Type 0} (test : BucketKey → Bool) (key : BucketKey) → ((l : BucketKey) → test l ≡ key_eq (key_of key) (key_of l)) → (es : List (BucketKey × DescriptorBucket P)) (found : Option ℕ) → found ≡ position test (keys_of es) → IfSome found (λ i. i < length es) → MatchOption found (lookup (is_of (key_of key)) es ≡ None) (λ i. slice_get (stored_keys es) i ≡ Some (key_of key))
+hashed :
+    {P : Type 0} (test : BucketKey → Bool) (key : BucketKey)
+    → ((l : BucketKey) → test l ≡ key_eq (key_of key) (key_of l))
+    → (es : List (BucketKey × DescriptorBucket P)) (found : Option ℕ) → found ≡ position test (keys_of es)
+    → IfSome found (λ i. i < length es)
+    → MatchOption found (lookup (is_of (key_of key)) es ≡ None) (λ i. slice_get (stored_keys es) i ≡ Some (key_of key))
 hashed test key same es None is within = none_at test key same es (sym is)
 hashed test key same es (Some i) is within = found_at test key same es i within (sym is)
 

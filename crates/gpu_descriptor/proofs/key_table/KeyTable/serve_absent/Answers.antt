@@ -1,4 +1,7 @@
-use Rattle.gpu_descriptor.proofs.Common.{ℕ, List, lookup, BucketKey, DescriptorBucket, map-append, greatest_u64, ◌≡◌, ◌+◌, ◌≤◌, ◌++◌, ◌∷◌, [], Bool, None, inl, refl, sym, ap, ◌∙◌, subst, arith, rules, map, Bucket, key_eq, no_pools, next_number, key_of, is_of, rise_below, stored_ids, books_in, entry_of, stored_load, row_of, IsUnserved}
+use Rattle.gpu_descriptor.proofs.Common.{ℕ, List, lookup, BucketKey, DescriptorBucket, map-append, greatest_u64, ◌≡◌}
+use Rattle.gpu_descriptor.proofs.Common.{◌+◌, ◌≤◌, ◌++◌, ◌∷◌, [], Bool, None, inl, refl, sym, ap, ◌∙◌, subst, arith}
+use Rattle.gpu_descriptor.proofs.Common.{rules, map, Bucket, key_eq, no_pools, next_number, key_of, is_of, rise_below}
+use Rattle.gpu_descriptor.proofs.Common.{stored_ids, books_in, entry_of, stored_load, row_of, IsUnserved}
 use Rattle.gpu_descriptor.proofs.table.Rising.{one_more}
 use Rattle.gpu_descriptor.proofs.table.RowAt.{lookup_same}
 use Rattle.indexmap.specs.IndexMap.{IndexMap, insert_entry}
@@ -11,7 +14,12 @@ use Rattle.gpu_descriptor.proofs.table.TableBooks.{distinct_stored}
 use Rattle.gpu_descriptor.proofs.key_table.KeyTable.serve_absent.Goals.{Start, In-Ok}
 use Rattle.gpu_descriptor.proofs.key_table.KeyTable.serve_absent.Goals as goal
 
-put_new : {X S : Type 0} (eq : BucketKey → BucketKey → Bool) → ((k l : BucketKey) → eq k l ≡ key_eq (key_of k) (key_of l)) → (m : IndexMap BucketKey (DescriptorBucket X) S) (k : BucketKey) (v : DescriptorBucket X) (es new : List (BucketKey × DescriptorBucket X)) → new ≡ insert_entry eq es k v → es ≡ m.entries → lookup (is_of (key_of k)) m.entries ≡ None → new ≡ m.entries ++ (k, v) ∷ []
+put_new :
+    {X S : Type 0} (eq : BucketKey → BucketKey → Bool) → ((k l : BucketKey) → eq k l ≡ key_eq (key_of k) (key_of l))
+    → (m : IndexMap BucketKey (DescriptorBucket X) S) (k : BucketKey) (v : DescriptorBucket X)
+        (es new : List (BucketKey × DescriptorBucket X))
+    → new ≡ insert_entry eq es k v → es ≡ m.entries → lookup (is_of (key_of k)) m.entries ≡ None
+    → new ≡ m.entries ++ (k, v) ∷ []
 put_new eq same m k v es new put kept none = put ∙ ap (λ l. insert_entry eq l k v) kept ∙ insert_entry-new eq m k v (lookup_same (eq k) (is_of (key_of k)) (same k) m.entries ∙ none)
 
 -- a key that the table lacks has no pools
