@@ -121,9 +121,9 @@ static uint64_t refuse_each(void) {
 }
 
 int main(void) {
-    static const uint32_t KEEPS[] = {0, 7, UINT32_MAX};
+    static const uint32_t KEEPS[] = {0, 1, 7, UINT32_MAX};
     uint64_t turns = 0;
-    for (int at = 0; at < 3; at++) {
+    for (int at = 0; at < 4; at++) {
         keep = KEEPS[at];
         turns += refuse_each();
         CHECK(keep == 0 ? refused_calls == turns : refused_calls < turns);

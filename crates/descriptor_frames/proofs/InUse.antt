@@ -74,15 +74,6 @@ retires_counted pool_name set_name old new l xs same more out used =
       used = λ t. (let e = as_before t in let m = more t in let a = out.out t in let b = used.used t in omega arith);
     }
 
--- the one set is retired, wherever it stands in the list
-pub retires_one :
-    {P S : Type 0} (pool_name : P → ℕ) (set_name : S → ℕ) (old new : FrameManager P S) (l : Ledger)
-      (x : DescriptorSet S)
-    → allocator_of new ≡ allocator_of old → HasBesides x (retired_sets (retired_of old)) (retired_sets (retired_of new))
-    → AreRetiredOut pool_name set_name old l → AreInUse pool_name set_name (item_of set_name x ∷ []) old l
-    → Retires pool_name set_name (item_of set_name x ∷ []) old new l
-retires_one pool_name set_name old new l x same more = retires_counted pool_name set_name old new l (x ∷ []) same (count_besides set_name more)
-
 pub none_retired : {P S : Type 0} (pool_name : P → ℕ) (set_name : S → ℕ) (m : FrameManager P S) (l : Ledger) → retired_of m ≡ [] → AreRetiredOut pool_name set_name m l
 none_retired pool_name set_name m l is = record { out = λ t. (let none = ap (λ rs. count_of t (items_of set_name (retired_sets rs))) is in omega arith) }
 

@@ -58,6 +58,7 @@ pub struct DescriptorTotalCount {
 impl DescriptorTotalCount {
     /// How many descriptors there are of all kinds together, at most 60129542130. Bytes of inline
     /// uniform blocks count as descriptors. The limit is compared with this number.
+    #[must_use]
     pub fn total(&self) -> u64
         ensures sum { result ≡ sum (kinds self.now) }
         ensures at_most { result ≤ greatest_total }
@@ -66,6 +67,7 @@ impl DescriptorTotalCount {
     }
 
     /// The fourteen counts, in the order of the fields.
+    #[must_use]
     pub fn to_array(&self) -> [u32; 14]
         ensures { result ≡ kinds self.now }
     {

@@ -39,9 +39,9 @@ use std_alloc::vec::Vec;
 
 /// Allocates descriptor sets, and frees them when the frame that used them last is done.
 ///
-/// Each call that needs the device borrows it, and it has to be the same each time. `retire`,
-/// `retire_late` and `retire_all` make no call of the device, and are safe: the sets are freed by
-/// `finish`, whose caller promises that the device is done with them.
+/// Each call that needs the device borrows it, and it has to be the same each time. `retire`
+/// and `retire_all` make no call of the device, and are safe: the sets are freed by `finish`, whose
+/// caller promises that the device is done with them.
 ///
 /// A panic in a device or in an iterator of sets has the same consequences as in
 /// [`DescriptorAllocator`](crate::DescriptorAllocator): from then on calls with a device panic, but
@@ -203,23 +203,6 @@ impl<P, S> FrameManager<P, S> {
     ) -> Result<(), RetireError<DescriptorSet<S>>> {
         let set = self.own(set)?;
         Ok(self.inner.get_mut().retire(frame, set)?)
-    }
-
-    /// Retires a set, also at a frame below the greatest.
-    ///
-    /// Its place among the retired sets is found by binary search. Then the sets of later frames are
-    /// moved, or the others if they are fewer.
-    ///
-    /// # Errors
-    ///
-    /// The error has the set, and nothing changed. It is never `FrameBack`.
-    pub fn retire_late(
-        &mut self,
-        frame: u64,
-        set: DescriptorSet<S>,
-    ) -> Result<(), RetireError<DescriptorSet<S>>> {
-        let set = self.own(set)?;
-        Ok(self.inner.get_mut().retire_late(frame, set)?)
     }
 
     /// Retires sets, in their order: all, or none.

@@ -87,7 +87,7 @@
 //! the thread unwinds, which ends the program.
 #![cfg_attr(not(feature = "std"), no_std)]
 #![deny(unsafe_op_in_unsafe_fn)]
-#![warn(missing_docs, clippy::missing_panics_doc)]
+#![warn(missing_docs, clippy::missing_panics_doc, clippy::must_use_candidate)]
 
 extern crate alloc as std_alloc;
 

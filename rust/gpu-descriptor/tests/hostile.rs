@@ -230,6 +230,32 @@ fn a_panic_in_a_rollback() {
     assert_broken(&mut allocator, &device.0, Vec::new());
 }
 
+/// What the vector had is dropped too.
+#[test]
+fn a_panic_while_sets_are_appended() {
+    let counts = DescriptorTotalCount {
+        sampler: 1,
+        ..Default::default()
+    };
+    let layout = SetLayout {
+        layout: String::new(),
+        counts,
+        flags: DescriptorSetLayoutCreateFlags::empty(),
+    };
+    for fault in [Fault::PanicsAtAlloc, Fault::PanicsAmongSets] {
+        let (device, mut allocator) = (Device::new(), Allocator::new(0));
+        let held = take(&mut allocator, &device, 5).unwrap();
+        let mut sets = Vec::new();
+        let mut append = || unsafe { allocator.allocate_into(&device, &layout, 3, &mut sets) };
+        append().unwrap();
+        assert_eq!(device.alive(), 8);
+        device.fault.set(fault);
+        assert_eq!(panic_of(append), PANICKED);
+        assert_eq!((sets.len(), device.alive()), (0, 5));
+        assert_broken(&mut allocator, &device, held);
+    }
+}
+
 /// The sets that were left are dropped.
 #[test]
 fn sets_that_a_device_leaves() {

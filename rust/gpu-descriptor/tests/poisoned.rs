@@ -246,7 +246,6 @@ fn calls_of_a_manager() -> Vec<Call<Managing>> {
         Answers (on.it).most_pool_descriptors();
         Answers (on.it).reserve(1);
         Answers (on.it).retire(1, on.sets.remove(0));
-        Answers (on.it).retire_late(0, on.sets.remove(0));
         Answers (on.it).retire_all(1, std::mem::take(&mut on.sets));
         Answers (on.it).outstanding();
         Answers (on.it).update_after_bind_capacity();

@@ -32,13 +32,6 @@ pub record LosesEmpty (everywhere : Bool) (old new : State) : Type 0 where
 abbrev pub IsCleaned : State → State → Type 0
 IsCleaned old new = LosesEmpty false old new
 
--- each key loses its empty pools
-abbrev pub IsTrimmed : State → State → Type 0
-IsTrimmed old new = LosesEmpty true old new
-
 -- how many pools of these keys are destroyed
 abbrev pub pools_lost : Bool → List Key → State → ℕ
 pools_lost everywhere keys s = sum_by (λ k. length (gone_of everywhere (s.books k).pools)) keys
-
-abbrev pub pools_cleaned : List Key → State → ℕ
-pools_cleaned keys s = pools_lost false keys s

@@ -22,6 +22,7 @@ unsafe extern "C" fn allocate_sets(
 
 unsafe extern "C" fn free_sets(_: *mut c_void, _: u64, _: u32, _: *const u64) {}
 
+#[cfg(feature = "std")]
 fn created() -> GdAllocator {
     created_with(true)
 }

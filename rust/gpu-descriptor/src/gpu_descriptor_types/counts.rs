@@ -53,12 +53,14 @@ pub struct DescriptorTotalCount {
 impl DescriptorTotalCount {
     /// How many descriptors there are of all kinds together, at most 60129542130. Bytes of inline
     /// uniform blocks count as descriptors. The limit is compared with this number.
+    #[must_use]
     pub fn total_u64(&self) -> u64
     {
         self.to_array().iter().map(|kind| u64::from(*kind)).sum()
     }
 
     /// The fourteen counts, in the order of the fields.
+    #[must_use]
     pub fn to_array(&self) -> [u32; 14]
     {
         [

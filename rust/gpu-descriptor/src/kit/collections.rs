@@ -52,11 +52,6 @@ impl<T> VecDeque<T> {
         self.0.front()
     }
 
-    /// `bound`, `partitioned`: the first place whose item `pred` refuses.
-    pub fn partition_point(&self, pred: impl Fn(&T) -> bool) -> usize {
-        self.0.partition_point(pred)
-    }
-
     /// `value`, `rest`: takes the first item, if there is one. `capacity`: it stays.
     #[inline]
     pub fn pop_front(&mut self) -> Option<T> {
@@ -174,7 +169,6 @@ mod tests {
             (queue.front(), queue.back(), queue.get(4)),
             (Some(&1), Some(&4), None)
         );
-        assert_eq!(queue.partition_point(|item| *item < 3), 2);
         queue[1] += 5;
         assert_eq!((queue[1], queue.len(), queue.is_empty()), (7, 4, false));
     }

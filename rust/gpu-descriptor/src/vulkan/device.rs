@@ -88,6 +88,7 @@ impl Device {
     ///
     /// * `handle` is a `VkDevice` that isn't destroyed;
     /// * `functions` are the functions of Vulkan by these names, and may be called with `handle`.
+    #[must_use]
     pub const unsafe fn new(handle: DeviceHandle, functions: Functions) -> Self {
         Device {
             handle,

@@ -38,36 +38,4 @@ impl<P, S> FrameManager<P, S> {
         self.retired.push_back_reserved(Retired { frame, set });
         self.greatest = frame;
     }
-
-    /// Retires a set, also at a frame below the greatest: it is freed when this frame or a later
-    /// one is finished.
-    ///
-    /// The place in the list is found by halves. Then either the sets of later frames are moved, or
-    /// the others, whichever are fewer. `Memory` if an allocation for one more fails: the set is
-    /// returned, and nothing changed. It never returns `FrameBack`.
-    pub fn retire_late(&mut self, frame: u64, set: DescriptorSet<S>) -> Result<(), RetireError<S>>
-    {
-        if self.reserve(1).is_err() {
-            return Err(RetireError::Memory(set));
-        }
-        let place = self.place_behind(frame);
-        self.put_at(place, frame, set);
-        Ok(())
-    }
-
-    /// How many sets were retired at the frame or before.
-    pub(super) fn place_behind(&self, frame: u64) -> usize
-    {
-        self.retired
-            .partition_point(|retired: &Retired<S>| retired.frame <= frame)
-    }
-
-    /// Puts a set in at its place, over memory that was reserved.
-    pub(super) fn put_at(&mut self, place: usize, frame: u64, set: DescriptorSet<S>)
-    {
-        match self.retired.insert(place, Retired { frame, set }) {
-            Ok(()) => self.greatest = self.greatest.max(frame),
-            Err(_) => unreachable!(),
-        }
-    }
 }

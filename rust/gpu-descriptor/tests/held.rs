@@ -1,0 +1,46 @@
+//! What a renderer takes of memory for a held set.
+
+mod refuses;
+
+use gpu_descriptor::renderer::Renderer;
+use gpu_descriptor::*;
+use refuses::bytes;
+
+include!("numbers/device.rs");
+
+/// A power of two: the lists have doubled so far, and are full.
+const SETS: usize = 1 << 16;
+
+/// The memory for so many held sets, a set, beside that of a renderer with a layout.
+fn bytes_of_a_set(is_one_request: bool) -> usize {
+    let counts = DescriptorTotalCount {
+        sampler: 1,
+        ..Default::default()
+    };
+    let layout = SetLayout {
+        layout: 0,
+        counts,
+        flags: DescriptorSetLayoutCreateFlags::empty(),
+    };
+    let mut it = Renderer::new(Device::default(), 0);
+    // SAFETY: the device knows no layouts.
+    let layout = unsafe { it.add_layout(layout) }.unwrap();
+    let before = bytes();
+    if is_one_request {
+        drop(it.create_sets(layout, SETS as u32).unwrap());
+    } else {
+        for _ in 0..SETS {
+            let _held = it.create_set(layout).unwrap();
+        }
+    }
+    let taken = bytes() - before;
+    // SAFETY: the device isn't in use.
+    unsafe { it.shutdown() };
+    taken / SETS
+}
+
+/// README says so.
+#[test]
+fn memory_of_a_held_set() {
+    assert_eq!((bytes_of_a_set(false), bytes_of_a_set(true)), (84, 108));
+}
