@@ -20,6 +20,8 @@ pub struct DescriptorSet<S> {
 
     /// The id of its key. No two keys of an allocator ever share one.
     pub(crate) id: u64,
+
+    /// The key itself (`is`), which only contracts read.
     pub(crate) key: SetKey,
 }
 

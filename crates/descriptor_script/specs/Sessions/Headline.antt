@@ -93,6 +93,6 @@ module _ {L P S : Type 0} (means : Meaning L P S) where
     pub sets_within : marked_descriptors (held_items new) ≤ (allocator_of new.value).limit
     pub pools_within : pool_load_of (allocator_of new.value) ≤ (allocator_of new.value).limit
     pub limit : (allocator_of new.value).limit ≡ (allocator_of old.value).limit
-    -- the layouts stay, and so does each live pool of others
+    -- the layouts stay, and so do the live pools that the books don't name: no pool of others is touched, and none of the allocator's is lost
     pub layouts : layouts_of new.value ≡ layouts_of old.value
     pub others : others_of means.pool_name (allocator_of new.value) new.ledger ≡ others_of means.pool_name (allocator_of old.value) old.ledger

@@ -105,7 +105,7 @@ fn readers_of_an_allocator(rt: HostRuntime) {
     let descriptors: u32 = allocator.update_after_bind_descriptors();
     let capacity: u32 = allocator.update_after_bind_capacity();
     let pools: usize = allocator.pool_count(&counts, true);
-    let view: Option<PoolView> = allocator.pool(&counts, false, 0);
+    let view: Option<PoolView> = allocator.pool(&counts, false, usize::MAX);
     assert_eq!(rt; (sets, descriptors, capacity, pools), (0, 0, 0, 0));
     assert_eq!(rt; view, None);
 }

@@ -148,7 +148,12 @@ fn sizes_of_pools(rt: HostRuntime) {
     let greatest = greatest_counts();
     let size: (DescriptorTotalCount, u32) = new_pool_size(&greatest, u64::MAX, u32::MAX);
     assert_eq!(rt; size, (greatest, 1));
-    let cut: Option<(DescriptorTotalCount, u32)> = cut_pool_size(&greatest, 0, 1, u32::MAX);
+    let cut: Option<(DescriptorTotalCount, u32)> = cut_pool_size(
+        &greatest,
+        u64::MAX,
+        u32::MAX,
+        u32::MAX,
+    );
     assert_eq!(rt; cut, None);
 }
 

@@ -5,6 +5,7 @@ ghost use Rattle.gpu_descriptor.specs.Caller.Flags.{is_marked};
 ghost use Rattle.gpu_descriptor.specs.Caller.States.{Agrees};
 ghost use Rattle.descriptor_frames.specs.Frames.{AreRetiredOut, allocator_of};
 
+use super::is_debug;
 use descriptor_frames::{FrameManager, RetireError};
 use gpu_descriptor::{
     AllocationError, DescriptorAllocator, DescriptorDevice, DescriptorSet,
@@ -68,6 +69,8 @@ fn allocator<P, S>(manager: &FrameManager<P, S>) -> &DescriptorAllocator<P, S> {
 
 #[test]
 fn readers_of_a_manager(rt: HostRuntime) {
+    is_debug::<FrameManager<u8, u8>>();
+    is_debug::<RetireError<u8>>();
     let manager: FrameManager<u8, u8> = FrameManager::new(rt.alloc(), u32::MAX);
     let outstanding: u64 = manager.outstanding();
     let retired: u64 = manager.retired();

@@ -24,9 +24,16 @@ fn number_of_answer(answer: Answer) -> u8 {
     }
 }
 
-fn script(alloc: Global) -> Result<Vec<Answer>, AllocError> {
-    refuse_at(alloc, 3, Answer::Pool)
+fn script(alloc: Global, place: usize) -> Result<Vec<Answer>, AllocError> {
+    refuse_at(alloc, place, Answer::Pool)
 }
+
+fn parts(layout: ScriptLayout) -> (DescriptorTotalCount, bool) {
+    let ScriptLayout { counts, mark } = layout;
+    (counts, mark)
+}
+
+fn is_device<L, P, S, D: DescriptorDevice<L, P, S>>() {}
 
 fn names(pool: &RawPool, set: &RawSet) -> (u64, u64, u64) {
     (pool.id(), set.id(), set.pool())
@@ -40,7 +47,9 @@ fn scripted_devices(rt: HostRuntime) -> Result<(), Fail> {
     is_debug::<RawSet>();
     is_debug::<ScriptedDevice>();
     is_debug::<LogDevice>();
-    let mut device: ScriptedDevice = ScriptedDevice::new(rt.alloc(), script(rt.alloc())?);
+    is_device::<ScriptLayout, RawPool, RawSet, ScriptedDevice>();
+    is_device::<ScriptLayout, RawPool, RawSet, LogDevice>();
+    let mut device: ScriptedDevice = ScriptedDevice::new(rt.alloc(), script(rt.alloc(), 3)?);
     device.load(Vec::new(rt.alloc()));
     let counters: [u64; 4] = [
         device.created(),

@@ -22,7 +22,7 @@ module _ {P : Type 0} (name : P → ℕ) where
   abbrev pub table_of : Allocations P → List (Key × Bucket)
   table_of a = map named_row a.table
 
-  -- the books, whatever the order of the keys, and the ledger's pools
+  -- the books by key, and the ledger's pools
   abbrev pub state_of : Allocations P → Ledger → State
   state_of a l = record { books = books_of (table_of a); ledger = l.pools }
 

@@ -32,7 +32,7 @@ Entry = EntryOf ℕ
 abbrev pub Bucket : Type 0
 Bucket = BucketOf ℕ
 
--- the pool that has the number
+-- the pool that has the number; of two that have it, the older one. If books and ledger agree, no two have it
 abbrev pub entry_at : Bucket → ℕ → Option Entry
 entry_at b n = find (λ e. e.number == n) b.pools
 
@@ -63,7 +63,7 @@ module _ {X : Type 0} where
   abbrev pub no_pools : BucketOf X
   no_pools = record { id = 0; pools = [] }
 
-  -- the books that a table keeps, whatever its order
+  -- the books that a table keeps: of a key the first row. If no key has two, the order of the rows says nothing
   abbrev pub books_of : List (Key × BucketOf X) → Key → BucketOf X
   books_of [] k = no_pools
   books_of (row ∷ table) k = if key_eq row.0 k then row.1 else books_of table k
