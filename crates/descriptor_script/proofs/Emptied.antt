@@ -1,7 +1,10 @@
 -- Sets that are taken out of their slots, one by one.
 use Rattle.std.proofs.Common.{◌≡◌, ◌≢◌, ℕ, zero, suc, ◌+◌, ◌<◌, true, false, List, [], ◌∷◌, length, map, get_or, set, Option, None, Some, inl, inr, refl, sym, ap, ◌∙◌, arith}
-use Rattle.std.proofs.lemmas.Bool.{cases_eq}
-use Rattle.std.proofs.lemmas.List.{get_or-set_other}
+use Rattle.std.proofs.lemmas.Bool.{cases_eq, eqb-false, ne_eqb}
+use Rattle.std.proofs.lemmas.List.{get_or-set_other, get_or_default}
+use Rattle.std.proofs.lemmas.List.Elements.{All-from_get_or, All-get_or}
+use Rattle.std.proofs.lemmas.Map.Keys.{IsDistinct-from_apart, apart_from_distinct}
+use Rattle.std.specs.Prelude.{nat_eq}
 use Rattle.std.proofs.lemmas.Option.{same_Some}
 use Rattle.std.specs.Iterator.{HoldsAlong, Yields}
 use Rattle.std.specs.Option.{IsSome, is_some}
@@ -76,18 +79,30 @@ module _ {X : Type 0} where
       let b = still_each slots n xs ns rest in
       cc
 
+  -- the tickets of a list by their places: each has a set, and no two are the same
+  pub held_by_places : (slots : List (Option X)) (tickets : List ℕ) → ((i : ℕ) → i < length tickets → IsSome (set_at slots (get_or tickets i 0))) → ((i j : ℕ) → i < j → j < length tickets → get_or tickets i 0 ≢ get_or tickets j 0) → AreHeldOnce slots tickets
+  held_by_places slots tickets held once = record {
+    held = All-from_get_or (λ n. IsSome (set_at slots n)) tickets 0 held;
+    once = IsDistinct-from_apart nat_eq tickets (λ i j d below lt. ne_eqb (get_or tickets i d) (get_or tickets j d) (λ same. once i j below lt (get_or_default tickets i 0 d (omega arith) ∙ same ∙ get_or_default tickets j d 0 lt)));
+  }
+
+  pub held_at : (slots : List (Option X)) (tickets : List ℕ) → AreHeldOnce slots tickets → (i : ℕ) → i < length tickets → IsSome (set_at slots (get_or tickets i 0))
+  held_at slots tickets h i lt = All-get_or (λ n. IsSome (set_at slots n)) tickets i 0 lt h.held
+
+  pub apart_at : (slots : List (Option X)) (tickets : List ℕ) → AreHeldOnce slots tickets → (i j : ℕ) → i < j → j < length tickets → get_or tickets i 0 ≢ get_or tickets j 0
+  apart_at slots tickets h i j below lt = eqb-false (get_or tickets i 0) (get_or tickets j 0) (apart_from_distinct nat_eq tickets i j 0 h.once below lt)
+
   -- the first ticket has a set
   pub first_held : (slots : List (Option X)) (n : ℕ) (ns : List ℕ) → AreHeldOnce slots (n ∷ ns) → IsSome (set_at slots n)
-  first_held slots n ns h = h.held 0 (omega arith)
+  first_held slots n ns h = held_at slots (n ∷ ns) h 0 (omega arith)
 
   -- when the first ticket's set is taken, the others are still held once
   pub rest_once : (slots : List (Option X)) (n : ℕ) (ns : List ℕ) → AreHeldOnce slots (n ∷ ns) → AreHeldOnce (set slots n None) ns
-  rest_once slots n ns h = record {
-    held = λ i lt.
-        let e = get_or-set_other slots n (get_or ns i 0) None None (λ same. h.once 0 (suc i) (omega arith) (omega arith) (sym same)) in
-        ap (λ o. is_some o) e ∙ h.held (suc i) (omega arith);
-    once = λ i j below lt. h.once (suc i) (suc j) (omega arith) (omega arith);
-  }
+  rest_once slots n ns h = held_by_places (set slots n None) ns
+      (λ i lt.
+      let e = get_or-set_other slots n (get_or ns i 0) None None (λ same. apart_at slots (n ∷ ns) h 0 (suc i) (omega arith) (omega arith) (sym same)) in
+      ap (λ o. is_some o) e ∙ held_at slots (n ∷ ns) h (suc i) (omega arith))
+      (λ i j below lt. apart_at slots (n ∷ ns) h (suc i) (suc j) (omega arith) (omega arith))
 
   same_elsewhere : (slots : List (Option X)) (n : ℕ) (ns : List ℕ) → ((i : ℕ) → i < length ns → get_or ns i 0 ≢ n) → map (set_at (set slots n None)) ns ≡ map (set_at slots) ns
   same_elsewhere slots n [] apart = refl
@@ -104,7 +119,7 @@ module _ {X : Type 0} where
   listed_from f slots (n ∷ ns) (x ∷ xs) h each =
       let here : Some x ≡ get_or slots n None = cc in
       let others : map Some xs ≡ map (set_at slots) ns = cc in
-      let same = same_elsewhere slots n ns (λ i lt same. h.once 0 (suc i) (omega arith) (omega arith) (sym same)) in
+      let same = same_elsewhere slots n ns (λ i lt same. apart_at slots (n ∷ ns) h 0 (suc i) (omega arith) (omega arith) (sym same)) in
       let rest = listed_from f (set slots n None) ns xs (rest_once slots n ns h) (others ∙ sym same) in
       let less = held_less f slots n x (sym here) in
       omega arith

@@ -1,22 +1,26 @@
 -- The parts of the headline hold at each step of a run.
-use Rattle.std.proofs.Common.{ℕ, List, [], ◌∷◌, sym, ap, subst, ◌∙◌}
+use Rattle.std.proofs.Common.{ℕ, List, [], ◌∷◌, refl, sym, ap, subst, ◌∙◌, arith, inl, inr, true}
 use Rattle.std.specs.Prelude.{◌<◌, slice_get, Option, Some}
 use Rattle.std.specs.Option.{option_map_or}
+use Rattle.std.proofs.lemmas.Bool.{cases_Bool, cases_lt}
 use Rattle.gpu_descriptor_types.specs.Ledger.{Counters, Pool}
+use Rattle.gpu_descriptor_types.proofs.Counting.{set_exact}
 use Rattle.gpu_descriptor_types.specs.Meaning.{Meaning}
-use Rattle.gpu_descriptor_types.specs.Multiset.{LiveSet}
+use Rattle.gpu_descriptor_types.specs.Multiset.{LiveSet, set_eq}
 use Rattle.gpu_descriptor_types.specs.Side.{Side}
 use Rattle.gpu_descriptor.proofs.Common.{◌≡◌, ◌≤◌, descriptors_out, length, marked_descriptors, marked_load_of, outstanding_of, sets_out}
 use Rattle.gpu_descriptor.proofs.sums.OutSets.{load_is_descriptors, out_is_length}
 use Rattle.gpu_descriptor.proofs.sums.TableSums.{adds_up, marked_load_of-table, outstanding_of-table}
 use Rattle.gpu_descriptor.specs.Caller.Call.{layout_key}
 use Rattle.gpu_descriptor.specs.Caller.Causes.{IsBecause}
-use Rattle.gpu_descriptor.specs.Model.Agreement.{live_in}
+use Rattle.gpu_descriptor.specs.Model.Agreement.{AreOutstanding, Item, live_in}
 use Rattle.gpu_descriptor.specs.Model.Books.{Entry, Key}
 use Rattle.gpu_descriptor.specs.Caller.Sets.{items_of}
 use Rattle.gpu_descriptor.specs.Caller.States.{state_of}
 use Rattle.gpu_descriptor.specs.declared.errors.AllocationError.{AllocationError}
+use Rattle.gpu_descriptor.proofs.lists.Numbers.{entry_at-from}
 use Rattle.gpu_descriptor.proofs.release.FreedOne.{freed_is}
+use Rattle.gpu_descriptor.proofs.release.Places.{back_named, back_named-is, outstanding_at, part_fits}
 use Rattle.gpu_descriptor.proofs.release.ReleaseAgrees.{one_by_one}
 use Rattle.descriptor_script.specs.Sessions.Headline.{GoBack, HoldsWhatIsOut, IsMet, IsRefused, KeepsAll, held_items}
 use Rattle.descriptor_script.specs.Sessions.Session.{IsReady, allocator_of, allocator_on, sets_of, state_on}
@@ -39,9 +43,35 @@ module _ {L P S : Type 0} (means : Meaning L P S) where
   held_load : (s : Side (Session L P S)) → IsReady means s → marked_descriptors (held_items means s) ≡ marked_load_of (allocator_of s.value)
   held_load s ready = load_is_descriptors (state_on means s) _ ready.agree.books (adds_up means.pool_name (allocator_of s.value) descriptors_out ready.agree.rows (marked_load_of-table means.pool_name (allocator_of s.value))) (held_items means s) (λ t. sym (ready.held t))
 
-  -- a set that lives in a pool of the books has the counts of the pool's key
-  nothing_else : (s : Side (Session L P S)) → IsReady means s → (k : Key) (i : ℕ) (e : Entry) (x : LiveSet) → slice_get ((state_on means s).books k).pools i ≡ Some e → 0 < live_in s.ledger.pools e.pool x → x.counts ≡ k.counts
-  nothing_else s ready k i e x at lives = (let b = ready.agree.books.booked k i e at in b.2.sets x (subst (λ (o : Option Pool). 0 < option_map_or (λ (p : Pool). p.live x) o 0) b.1 lives))
+  -- a set that lives in a pool of the books has the counts of the pool's key, and is one of the held sets that lie in it
+  nothing_else : (s : Side (Session L P S)) → IsReady means s → (k : Key) (i : ℕ) (e : Entry) (x : LiveSet) → slice_get ((state_on means s).books k).pools i ≡ Some e → (0 < live_in s.ledger.pools e.pool x → x.counts ≡ k.counts) × (live_in s.ledger.pools e.pool x ≡ back_named (held_items means s) (state_on means s) e.pool x)
+  nothing_else s ready k i e x at =
+      let state = state_on means s in
+      let agree = ready.agree.books in
+      let held = held_items means s in
+      let out : AreOutstanding held state = λ t. (let is = ready.held t in omega arith) in
+      let booked = agree.booked k i e at in
+      let pool = booked.0 in
+      let live : live_in s.ledger.pools e.pool x ≡ pool.live x = ap (λ (o : Option Pool). option_map_or (λ (p : Pool). p.live x) o 0) booked.1 in
+      let here = entry_at-from (state.books k) i e (agree.rising k) at in
+      let own : LiveSet = record { name = x.name; counts = k.counts } in (
+        λ lives. booked.2.sets x (omega arith),
+        elim (cases_Bool (set_eq x own)) [
+          | inl same ↦ (
+              let t : Item = record { key = k; id = (state.books k).id; number = e.number; name = x.name } in
+              let is : x ≡ own = set_exact.same x own same in
+              let counted = back_named-is held state agree out k e.number e here x.name in
+              let had = outstanding_at state t e pool refl here booked.1 in
+              live ∙ ap pool.live is ∙ sym had ∙ ready.held t ∙ sym counted ∙ ap (back_named held state e.pool) (sym is))
+          | inr other ↦ (
+              let fits = part_fits held state agree out k e.number e pool here booked.1 x in
+              let none : pool.live x ≤ 0 = elim (cases_lt 0 (pool.live x)) [
+                | inl lives ↦ absurd (let is : x ≡ own = ap (λ (c : List ℕ). let y : LiveSet = record { name = x.name; counts = c } in y) (booked.2.sets x lives) in let yes : set_eq x own ≡ true = ap (λ (y : LiveSet). set_eq y own) is ∙ set_exact.self own in cc)
+                | inr none ↦ none
+              ] in
+              omega arith)
+        ],
+      )
 
   module _ (old new : Side (Session L P S)) (ready : IsReady means old) where
     gone_back : (tickets : List ℕ) (many : ℕ) → GivesUp means tickets old new many → GoBack means tickets many old new

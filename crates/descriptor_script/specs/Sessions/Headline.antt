@@ -1,7 +1,7 @@
 -- The headline: what holds after each command of a run.
-use Rattle.std.specs.Prelude.{◌≡◌, ℕ, ◌+◌, ◌<◌, ◌≤◌, All, List, ◌++◌, length, map, slice_get, Some}
+use Rattle.std.specs.Prelude.{◌≡◌, ℕ, ◌+◌, ◌<◌, ◌≤◌, ◌&&◌, All, List, ◌++◌, count_by, length, map, slice_get, Some}
 use Rattle.gpu_descriptor_types.specs.Meaning.{Meaning}
-use Rattle.gpu_descriptor_types.specs.Multiset.{LiveSet}
+use Rattle.gpu_descriptor_types.specs.Multiset.{LiveSet, set_eq}
 use Rattle.gpu_descriptor_types.specs.Side.{Side}
 use Rattle.gpu_descriptor.specs.Caller.Call.{layout_key}
 use Rattle.gpu_descriptor.specs.Caller.Causes.{IsBecause}
@@ -9,9 +9,10 @@ use Rattle.gpu_descriptor.specs.Caller.Frees.{marked_descriptors}
 use Rattle.gpu_descriptor.specs.Caller.Others.{others_of}
 use Rattle.gpu_descriptor.specs.Caller.Sets.{AreOfLayout, items_of}
 use Rattle.gpu_descriptor.specs.Caller.States.{pool_load_of}
-use Rattle.gpu_descriptor.specs.Model.Agreement.{Item, count_of, live_in, outstanding}
+use Rattle.gpu_descriptor.specs.Model.Agreement.{Item, count_of, live_in, outstanding, set_of}
 use Rattle.gpu_descriptor.specs.Model.Books.{Entry, Key}
 use Rattle.gpu_descriptor.specs.Model.OneByOne.{freed_each}
+use Rattle.gpu_descriptor.specs.Model.Release.{lies_in}
 use Rattle.gpu_descriptor.specs.Model.Runs.{runs}
 use Rattle.gpu_descriptor.specs.declared.errors.AllocationError.{AllocationError}
 use Rattle.gpu_descriptor.specs.declared.layout.SetLayout.{SetLayout}
@@ -85,8 +86,8 @@ module _ {L P S : Type 0} (means : Meaning L P S) where
   pub record KeepsAll (command : Command) (reply : Reply) (old new : Side (Session L P S)) : Type 0 where
     -- the pools hold exactly the sets that are held: each is outstanding as often as it is held
     pub exactly : (t : Item) → outstanding (state_on means new) t ≡ count_of t (held_items new)
-    -- and no set of other counts lives in them, which `outstanding` doesn't see
-    pub nothing_else : (k : Key) (i : ℕ) (e : Entry) (x : LiveSet) → slice_get ((state_on means new).books k).pools i ≡ Some e → 0 < live_in new.ledger.pools e.pool x → x.counts ≡ k.counts
+    -- and nothing else: each of the pools has live exactly the held sets that lie in it, all with the counts of the pool's key
+    pub nothing_else : (k : Key) (i : ℕ) (e : Entry) (x : LiveSet) → slice_get ((state_on means new).books k).pools i ≡ Some e → (0 < live_in new.ledger.pools e.pool x → x.counts ≡ k.counts) × (live_in new.ledger.pools e.pool x ≡ count_by (λ t. lies_in (state_on means new).books e.pool t && set_eq (set_of t) x) (held_items new))
     -- and these are the sets that were handed out and not returned
     pub handed_out : HoldsWhatIsOut command reply old new
     -- neither the held marked sets nor the marked pools have more descriptors than the limit, which stays

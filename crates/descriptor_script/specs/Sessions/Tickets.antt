@@ -1,5 +1,6 @@
 -- Slots by ticket: the slot of a ticket has its set until that is freed.
-use Rattle.std.specs.Prelude.{◌≢◌, ℕ, ◌<◌, List, [], ◌∷◌, length, slice_index, slice_index_or, slice_set, Option, None, Some, IsSome}
+use Rattle.std.specs.Prelude.{All, ℕ, nat_eq, List, [], ◌∷◌, slice_index_or, slice_set, Option, None, Some, IsSome}
+use Rattle.std.specs.List.{IsDistinct}
 
 module _ {X : Type 0} where
   -- the set of the ticket
@@ -19,5 +20,5 @@ module _ {X : Type 0} where
 
   -- each ticket has a set, and none is there twice
   pub record AreHeldOnce (slots : List (Option X)) (tickets : List ℕ) : Type 0 where
-    pub held : (i : ℕ) → i < length tickets → IsSome (set_at slots (slice_index tickets i))
-    pub once : (i j : ℕ) → i < j → j < length tickets → slice_index tickets i ≢ slice_index tickets j
+    pub held : All (λ ticket. IsSome (set_at slots ticket)) tickets
+    pub once : IsDistinct nat_eq tickets

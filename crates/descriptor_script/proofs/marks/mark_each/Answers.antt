@@ -1,9 +1,9 @@
-use Rattle.std.proofs.Common.{◌≡◌, ◌≢◌, ℕ, ◌<◌, true, false, List, Bool, length, get_or, inl, inr, sym, ap, ◌∙◌, arith, rules, below_more}
+use Rattle.std.proofs.Common.{◌≡◌, ◌≢◌, ℕ, ◌<◌, true, false, List, Bool, length, get_or, inl, inr, refl, sym, ap, ◌∙◌, arith, rules, below_more}
 use Rattle.std.proofs.lemmas.Bool.{cases_eq}
 use Rattle.std.proofs.lemmas.List.{get_or-set_other, get_or-set_same}
 use Rattle.std.specs.Prelude.{IsSome}
 use Rattle.descriptor_script.specs.Sessions.Tickets.{set_at}
-use Rattle.descriptor_script.proofs.Emptied.{some_within}
+use Rattle.descriptor_script.proofs.Emptied.{apart_at, held_at, held_by_places, some_within}
 use Rattle.descriptor_script.proofs.marks.mark_each.Goals as goal
 
 pub loop-ticket-preserved : goal.loop-ticket-preserved
@@ -32,3 +32,26 @@ loop-ticket-preserved g c =
         | inr other ↦ (let was = inv.only m (sym (get_or-set_other marks n m true false other) ∙ marked) in (was.0, (let lt = was.1 in omega arith), was.2))
       ];
     }
+
+pub returns-then-not-is_held-clause-answer : goal.returns-then-not-is_held-clause-answer
+returns-then-not-is_held-clause-answer g c =
+    let inv = c.loop-ticket.invariant in
+    let i : ℕ = c.loop-ticket.ticket-index in
+    let slots = c.args.sets.now in
+    let ts : List ℕ = c.args.tickets.now in
+    let n : ℕ = get_or ts i 0 in
+    let within : i < length ts = search rules in (
+      λ bad. absurd (let no : false ≡ true = bad in cc),
+      λ once.
+          let here = held_at slots ts once i within in
+          let marked : get_or c.loop-ticket.marks n false ≡ true = search rules in
+          let before = inv.only n marked in
+          absurd (apart_at slots ts once before.0 i before.1 within before.2),
+    )
+
+pub returns-clause-answer : goal.returns-clause-answer
+returns-clause-answer g c =
+    let inv = c.loop-ticket.invariant in (
+      λ yes. held_by_places c.args.sets.now c.args.tickets.now (λ i lt. inv.held i (search rules)) (λ i j below lt. inv.once i j below (search rules)),
+      λ once. refl,
+    )
