@@ -15,8 +15,6 @@ mod outcome;
 mod owed;
 mod rendering;
 mod rounds;
-#[cfg(test)]
-mod two_layouts;
 mod workload;
 mod workloads;
 

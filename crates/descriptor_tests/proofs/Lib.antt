@@ -1,3 +1,2 @@
 mod Beside
-mod Layouts
 mod Trips

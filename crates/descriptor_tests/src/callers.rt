@@ -1,24 +1,13 @@
 //! Callers, each once with ample memory: that it succeeds, and what it leaves. No clause says that
 //! memory is there.
-ghost use Rattle.descriptor_script.specs.Scripted.Raw.{script_meaning};
-ghost use Rattle.gpu_descriptor.specs.Caller.SetLayouts.{IsMeant};
-
-use crate::acts::expect_calls;
-use crate::bench::{expect_same, layout_of};
+use crate::seen::{expect_calls, expect_same, layout_of};
 use descriptor_examples::drawing::{render, render_one};
 use descriptor_examples::game::{Score, play};
 use descriptor_examples::one_layout::draw_once;
 use descriptor_script::{Call, LogDevice, RawPool, RawSet, ScriptLayout};
-use gpu_descriptor::{DescriptorDevice, DescriptorPoolCreateFlags, SetLayout};
+use gpu_descriptor::{DescriptorDevice, DescriptorPoolCreateFlags};
 use std::process::Abort;
 use std::test::Fail;
-
-/// A layout of one sampler, as a request takes it.
-pub fn set_layout(mark: bool) -> SetLayout<ScriptLayout>
-    ensures { IsMeant script_meaning result }
-{
-    layout_of(1, mark).to_set_layout()
-}
 
 #[test]
 fn one_layout_is_drawn(rt: HostRuntime) -> Result<(), Fail> {

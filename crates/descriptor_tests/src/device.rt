@@ -1,4 +1,3 @@
 //! The scripted device tried through its public calls.
-mod names;
 mod trip;
 mod words;

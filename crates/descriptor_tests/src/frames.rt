@@ -1,6 +1,27 @@
-//! The frame manager over the scripted device.
-mod errors;
-mod memory;
-mod refused;
-mod rows;
+//! The frame manager over the scripted device, and what its readers show at four sets and two frames. No clause
+//! says that memory is there.
 mod trial;
+
+use std::test::Fail;
+use trial::FrameAct::{Cleanup, Device, Finish, FreeAll, Pools, Reserve, Retire, Sets};
+use trial::{Outcome, Trial, play};
+
+#[test]
+fn sets_go_back_with_their_frames(rt: HostRuntime) -> Result<(), Fail> {
+    let acts = [
+        Reserve(2),
+        Retire(5, Outcome::Retired),
+        Retire(7, Outcome::Retired),
+        Retire(6, Outcome::FrameBack(2)),
+        Finish(5),
+        Sets(3, 1),
+        FreeAll,
+        Pools(&[(0, 1, 63)]),
+        Finish(7),
+        Sets(0, 0),
+        Cleanup,
+        Device(1, 3),
+    ];
+    let mut trial = Trial::new(rt.alloc(), 4)?;
+    play(&rt, &mut trial, &acts)
+}

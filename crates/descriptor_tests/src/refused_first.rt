@@ -6,9 +6,10 @@ ghost use Rattle.gpu_descriptor.specs.Model.Agreement.{HasNoPools};
 ghost use Rattle.descriptor_script.specs.Scripted.Logged.{ledger_logged};
 ghost use Rattle.descriptor_script.specs.Scripted.Raw.{pool_id};
 
-use crate::bench::{expect_same, layout_of};
-use descriptor_script::{Answer, LogDevice, RawPool, RawSet, ScriptLayout};
+use crate::seen::{expect_same, layout_of};
+use descriptor_script::{Answer, LogDevice, RawPool, RawSet, ScriptLayout, refuse_at};
 use gpu_descriptor::{AllocationError, DescriptorAllocator, laws};
+use std::process::Abort;
 use std::test::Fail;
 
 /// Asks for a set. It answers whether that was refused, and left the key without pools.
@@ -61,17 +62,29 @@ fn borrow_and_clean(
     }
 }
 
-#[test]
-fn pools_come_back_after_a_refused_first_request(rt: HostRuntime) -> Result<(), Fail> {
-    let mut script = Vec::new(rt.alloc());
-    script.push(Answer::Device)?;
-    let mut device = LogDevice::with_script(rt.alloc(), script);
-    let mut allocator = DescriptorAllocator::new(rt.alloc(), 0);
+/// A request is refused, and the next one is granted.
+fn expect_pools_back(
+    rt: &impl Abort,
+    allocator: &mut DescriptorAllocator<RawPool, RawSet>,
+    device: &mut LogDevice,
+) -> Result<(), Fail>
+    requires agree { Agrees pool_id allocator.old (ledger_logged device.old) }
+    requires began { HasNoPools (state_of pool_id allocator.old (ledger_logged device.old)) }
+    requires none { outstanding_of allocator.old ≡ 0 }
+{
     let layout = layout_of(1, false);
-    if !ask_in_vain(&mut allocator, &mut device, &layout) {
+    if !ask_in_vain(allocator, device, &layout) {
         return Err(Fail::new("a pool is there"));
     }
-    borrow_and_clean(&mut allocator, &mut device, &layout)?;
-    expect_same(&rt, (device.created(), device.destroyed()), (1, 1));
+    borrow_and_clean(allocator, device, &layout)?;
+    expect_same(rt, (device.created(), device.destroyed()), (1, 1));
     Ok(())
+}
+
+#[test]
+fn pools_come_back_after_a_refused_first_request(rt: HostRuntime) -> Result<(), Fail> {
+    let script = refuse_at(rt.alloc(), 0, Answer::Device)?;
+    let mut device = LogDevice::with_script(rt.alloc(), script);
+    let mut allocator = DescriptorAllocator::new(rt.alloc(), 0);
+    expect_pools_back(&rt, &mut allocator, &mut device)
 }

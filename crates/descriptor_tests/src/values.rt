@@ -1,5 +1,3 @@
 //! The values that callers of the allocator and of the device interface see.
-mod counts;
-mod errors;
 mod flags;
 mod sets;

@@ -1,5 +1,5 @@
-//! Visits of a session to a device, with ample memory: that each succeeds and leaves nothing, so
-//! that the session may come again. No clause says that memory is there.
+//! A session's list of commands, and its visits to a device, with ample memory: that each succeeds, and
+//! that a visit leaves nothing, so that the session may come again. No clause says that memory is there.
 ghost use Rattle.std.specs.Prelude.{OnOk};
 ghost use Rattle.gpu_descriptor_types.specs.Side.{side};
 ghost use Rattle.gpu_descriptor.specs.Caller.States.{state_of};
@@ -8,8 +8,9 @@ ghost use Rattle.descriptor_script.specs.Sessions.Session.{IsReady, allocator_of
 ghost use Rattle.gpu_descriptor.specs.Model.Agreement.{HasNoPools};
 ghost use Rattle.descriptor_script.specs.Scripted.Logged.{ledger_logged};
 
-use crate::bench::sets;
 use crate::pair::one_layout;
+use crate::seen::sets;
+use descriptor_script::headline::headline;
 use descriptor_script::visit::visit;
 use descriptor_script::{Command, LogDevice, RawPool, RawSet, Reply, ScriptLayout, Session};
 use std::alloc::{AllocError, Global};
@@ -52,7 +53,22 @@ fn expect_visit(
     Ok(())
 }
 
-/// Two visits, each with three sets that go back.
+/// Does a list of commands, and compares the replies.
+fn expect_done(
+    rt: &impl Abort,
+    session: &mut Session<ScriptLayout, RawPool, RawSet>,
+    device: &mut LogDevice,
+    commands: &[Command],
+    replies: &[Reply],
+) -> Result<(), AllocError>
+    requires ready { IsReady script_meaning (side session.old (ledger_logged device.old)) }
+{
+    let seen = headline(session, device, commands)?;
+    assert_eq!(rt; seen.as_slice(), replies);
+    Ok(())
+}
+
+/// Two visits, each with three sets that go back, and the commands of such a visit alone.
 fn expect_visits(
     rt: &impl Abort,
     alloc: Global,
@@ -65,9 +81,12 @@ fn expect_visits(
 {
     let first = three_sets(alloc, &[0, 1, 2])?;
     let second = three_sets(alloc, &[3, 4, 5])?;
+    let third = three_sets(alloc, &[6, 7, 8])?;
     let freed = Reply::Freed(3);
     expect_visit(rt, session, device, &first, &[sets(0, 3), freed])?;
-    expect_visit(rt, session, device, &second, &[sets(3, 3), freed])
+    expect_visit(rt, session, device, &second, &[sets(3, 3), freed])?;
+    expect_done(rt, session, device, &third, &[sets(6, 3), freed])?;
+    Ok(())
 }
 
 #[test]

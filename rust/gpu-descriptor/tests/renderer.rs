@@ -351,6 +351,30 @@ fn each_growth_is_refused() {
     }
 }
 
+/// Memory for a slot is taken before the device is asked, so if it is wanting no set goes back.
+#[test]
+fn want_of_memory_gives_no_set_back() {
+    for number in 0.. {
+        refuse(number);
+        let gpu = Gpu::new();
+        let mut stage = Stage::new(&gpu);
+        for _ in 0..9 {
+            stage.begin();
+            stage.create(2);
+            stage.draw(0);
+            stage.end();
+        }
+        assert_eq!(gpu.releases.get(), 0);
+        let refusals = stage.refusals.len() as u64 + stage.layouts_refused;
+        stage.shutdown();
+        assert_eq!(refusals, u64::from(number < calls()));
+        if refusals == 0 {
+            assert!(number > 10);
+            break;
+        }
+    }
+}
+
 #[test]
 fn by_chance() {
     let mut random = Random(1);

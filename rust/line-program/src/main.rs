@@ -36,12 +36,18 @@ mod gpu_descriptor;
 #[forbid(unsafe_code)]
 #[rustfmt::skip]
 mod gpu_descriptor_types;
+#[cfg(test)]
+mod ids;
 mod indexmap;
 mod itoa;
 mod kit;
 mod many;
 #[cfg(test)]
 mod memory;
+#[cfg(test)]
+mod names;
+#[cfg(test)]
+mod runs;
 
 use std::io;
 use std::process::ExitCode;

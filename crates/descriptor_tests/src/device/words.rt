@@ -11,7 +11,7 @@ use std::process::Abort;
 use std::test::Fail;
 
 /// So many samplers, and no other descriptors.
-pub fn samplers(count: u32) -> DescriptorTotalCount
+fn samplers(count: u32) -> DescriptorTotalCount
     ensures { kinds result ≡ count ∷ replicate 13 0 }
 {
     let mut counts = DescriptorTotalCount::default();
@@ -20,7 +20,7 @@ pub fn samplers(count: u32) -> DescriptorTotalCount
 }
 
 /// A trip with sets of one sampler.
-pub fn trip(
+fn trip(
     alloc: Global,
     device: &mut ScriptedDevice,
     count: u32,
@@ -53,15 +53,5 @@ fn grants_after_the_end(rt: HostRuntime) -> Result<(), Fail> {
     trip(rt.alloc(), &mut device, 3, false)?;
     trip(rt.alloc(), &mut device, 0, true)?;
     expect_counts(&rt, &device, [2, 2, 2, 2]);
-    Ok(())
-}
-
-#[test]
-fn a_million_sets(rt: HostRuntime) -> Result<(), Fail> {
-    let mut device = ScriptedDevice::new(rt.alloc(), Vec::new(rt.alloc()));
-    for last_first in [false, true] {
-        trip(rt.alloc(), &mut device, 1_000_000, last_first)?;
-    }
-    assert_eq!(rt; device.released(), 2);
     Ok(())
 }

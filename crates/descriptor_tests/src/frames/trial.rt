@@ -6,7 +6,7 @@ ghost use Rattle.descriptor_script.specs.Scripted.Device.{ledger_of};
 ghost use Rattle.descriptor_script.specs.Scripted.Raw.{pool_id, set_id};
 ghost use Rattle.descriptor_frames.specs.Frames.{AreInUse, AreRetiredOut, allocator_of};
 
-use crate::bench::expect_pools;
+use crate::seen::expect_pools;
 use bitflags::Flags;
 use descriptor_frames::{FrameManager, RetireError};
 use descriptor_script::{RawPool, RawSet, ScriptLayout, ScriptedDevice};
@@ -122,13 +122,13 @@ pub enum FrameAct<'a> {
 }
 
 /// Compares how many sets are out, and how many of these are retired.
-pub fn expect_sets(rt: &impl Abort, trial: &Trial, outstanding: u64, retired: u64) {
+fn expect_sets(rt: &impl Abort, trial: &Trial, outstanding: u64, retired: u64) {
     let seen = [trial.manager.outstanding(), trial.manager.retired()];
     assert_eq!(rt; seen, [outstanding, retired]);
 }
 
 /// Compares how many pools were destroyed, and how many calls released sets.
-pub fn expect_device(rt: &impl Abort, trial: &Trial, destroyed: u64, released: u64) {
+fn expect_device(rt: &impl Abort, trial: &Trial, destroyed: u64, released: u64) {
     let seen = [trial.device.destroyed(), trial.device.released()];
     assert_eq!(rt; seen, [destroyed, released]);
 }

@@ -10,7 +10,7 @@ use super::{is_debug, is_hashed_value, is_value};
 use bitflags::Flags;
 use gpu_descriptor_types::{
     CreatePoolError, DescriptorDevice, DescriptorPoolCreateFlags, DescriptorTotalCount,
-    DeviceAllocationError, Layouts, SetSink, cut_pool_size, new_pool_size,
+    DeviceAllocationError, Layouts, SetSink, bounded_pool_size, cut_pool_size, new_pool_size,
 };
 
 /// The fourteen kinds, in their order.
@@ -155,6 +155,13 @@ fn sizes_of_pools(rt: HostRuntime) {
         u32::MAX,
     );
     assert_eq!(rt; cut, None);
+    let bounded: (DescriptorTotalCount, u32) = bounded_pool_size(
+        &greatest,
+        size,
+        u32::MAX,
+        Some(0),
+    );
+    assert_eq!(rt; bounded, (greatest, 1));
 }
 
 fn create<L, P, S, D: DescriptorDevice<L, P, S>>(
