@@ -1,6 +1,6 @@
-//! The public interface, and callers of all crates, each once with ample memory: that it succeeds, which no
-//! clause says. Tests alone: CI proves a crate with tests twice, so they have one of their own. What the
-//! packages for Rust have too is tested there.
+//! Callers of all crates, each once with ample memory: that it succeeds, which no clause says. Tests alone: CI
+//! proves a crate with tests twice, so they have one of their own. What the packages for Rust have too is tested
+//! there.
 #![tactic(auto)]
 
 #[cfg(test)]
@@ -9,8 +9,6 @@ mod callers;
 mod device;
 #[cfg(test)]
 mod frames;
-#[cfg(test)]
-mod interface;
 #[cfg(test)]
 mod pair;
 #[cfg(test)]

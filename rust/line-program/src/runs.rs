@@ -10,7 +10,7 @@ use std::io::{self, ErrorKind, Read, Write};
 /// A line with its end, and all that it is answered.
 type Exchange = (&'static str, &'static str);
 
-const DIALOGUES: [&[Exchange]; 2] = [
+const DIALOGUES: [&[Exchange]; 4] = [
     // Sizes of pools, between a comment and carriage returns.
     &[
         (
@@ -41,6 +41,38 @@ const DIALOGUES: [&[Exchange]; 2] = [
             "show\n",
             "pool s 0 59/1\npool s 1 10/54\ndevice created 2 destroyed 0 asked 3 released 1\n\
              held 69 marked 0\n",
+        ),
+    ],
+    // A request that takes what a pool has, and then from a new one.
+    &[
+        ("layout s plain sampler=1\n", "layout s total 1\n"),
+        ("alloc s 60\n", "sets 0-59: 0*60\n"),
+        ("alloc s 10\n", "sets 60-69: 0*4 1*6\n"),
+        (
+            "show\n",
+            "pool s 0 64/0\npool s 1 6/58\ndevice created 2 destroyed 0 asked 3 released 0\n\
+             held 70 marked 0\n",
+        ),
+    ],
+    // Pools that are destroyed, a set that takes a known place, and a key that begins again.
+    &[
+        ("layout s plain sampler=1\n", "layout s total 1\n"),
+        ("alloc s 64\n", "sets 0-63: 0*64\n"),
+        ("alloc s 64\n", "sets 64-127: 1*64\n"),
+        ("free 64-127\n", "freed 64\n"),
+        ("cleanup\n", "clean\n"),
+        (
+            "show\n",
+            "pool s 0 64/0\npool s 1 0/64\ndevice created 2 destroyed 0 asked 2 released 1\n\
+             held 64 marked 0\n",
+        ),
+        ("alloc s 1\n", "sets 128-128: 1*1\n"),
+        ("free 0-63 128\n", "freed 65\n"),
+        ("cleanup\n", "clean\n"),
+        ("alloc s 1\n", "sets 129-129: 2*1\n"),
+        (
+            "show\n",
+            "pool s 0 1/63\ndevice created 3 destroyed 2 asked 4 released 3\nheld 1 marked 0\n",
         ),
     ],
 ];
