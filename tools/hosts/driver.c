@@ -108,12 +108,39 @@ static uint32_t note(uint32_t result) {
     return result;
 }
 
-// How many descriptors of a marked pool count against the limit.
-static uint64_t load_of(const struct pool *pool) {
+static uint64_t descriptors_of(const struct pool *pool) {
     uint64_t sum = 0;
     for (int kind = 0; kind < GD_KINDS; kind++)
         sum += pool->counts[kind];
-    return pool->flags & GD_UPDATE_AFTER_BIND ? sum : 0;
+    return sum;
+}
+
+// How many descriptors of a marked pool count against the limit.
+static uint64_t load_of(const struct pool *pool) {
+    return pool->flags & GD_UPDATE_AFTER_BIND ? descriptors_of(pool) : 0;
+}
+
+static uint64_t greater(uint64_t one, uint64_t other) {
+    return one > other ? one : other;
+}
+
+static void count_pool(const struct pool *pool) {
+    gd_statistics *it = &driver.numbers;
+    it->pools++;
+    it->pool_sets += pool->capacity;
+    it->pool_descriptors += descriptors_of(pool);
+    it->update_after_bind_capacity += load_of(pool);
+    it->peak_pools = greater(it->peak_pools, it->pools);
+    it->peak_pool_sets = greater(it->peak_pool_sets, it->pool_sets);
+    it->peak_pool_descriptors = greater(it->peak_pool_descriptors, it->pool_descriptors);
+}
+
+static void discount_pool(const struct pool *pool) {
+    gd_statistics *it = &driver.numbers;
+    it->pools--;
+    it->pool_sets -= pool->capacity;
+    it->pool_descriptors -= descriptors_of(pool);
+    it->update_after_bind_capacity -= load_of(pool);
 }
 
 static uint32_t create(const gd_pool_info *info, uint64_t *handle) {
@@ -121,7 +148,7 @@ static uint32_t create(const gd_pool_info *info, uint64_t *handle) {
     CHECK((info->flags | GD_UPDATE_AFTER_BIND) == (GD_FREE_DESCRIPTOR_SET | GD_UPDATE_AFTER_BIND));
     struct pool pool = {.capacity = info->max_sets, .flags = info->flags, .is_alive = true};
     memcpy(pool.counts, info->counts, sizeof pool.counts);
-    CHECK(driver.marked + load_of(&pool) <= driver.limit);
+    CHECK(driver.numbers.update_after_bind_capacity + load_of(&pool) <= driver.limit);
     uint32_t why = refusal();
     if (why != GD_OK)
         return why;
@@ -130,8 +157,7 @@ static uint32_t create(const gd_pool_info *info, uint64_t *handle) {
     *handle = FIRST_POOL + 8 * pool_count;
     pool_count++;
     driver.created++;
-    driver.pools++;
-    driver.marked += load_of(&pool);
+    count_pool(&pool);
     return GD_OK;
 }
 
@@ -198,8 +224,7 @@ static void destroy_pool(uint64_t handle) {
     pool->is_alive = false;
     driver.destroyed++;
     driver_calls.destroyed++;
-    driver.pools--;
-    driver.marked -= load_of(pool);
+    discount_pool(pool);
 }
 
 // ---- the four functions: the driver's memory is not the library's ----

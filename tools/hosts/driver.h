@@ -23,7 +23,8 @@ struct driver {
     uint32_t invalid_one_in;    // a failure with an unknown status; 0: none
     uint64_t limit;          // on the descriptors of pools for marked layouts
     uint64_t created, destroyed, asked, released, refused;
-    uint64_t pools, sets, marked; // alive, and the descriptors of the marked pools
+    uint64_t sets;           // alive
+    gd_statistics numbers;   // of the pools that are alive, and of the most that were
 };
 
 extern struct driver driver;

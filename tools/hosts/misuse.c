@@ -44,10 +44,12 @@ static void expect_of_each(gd_status wanted, gd_allocator it, gd_layout known, g
     CHECK(layout.index == UNTOUCHED && layout.owner == UNTOUCHED);
     CHECK(gd_outstanding(it, &number) == wanted && gd_waiting(it, &number) == wanted);
     CHECK(gd_pool_count(it, &number) == wanted && number == UNTOUCHED);
-    gd_statistics statistics = {UNTOUCHED, 0, 0, 0, 0, UNTOUCHED};
+    gd_statistics statistics = {.outstanding = UNTOUCHED};
+    gd_layout_statistics of_layout = {.kept = UNTOUCHED};
     size_t length = 77;
     char text[2] = "?";
     CHECK(gd_get_statistics(it, &statistics) == wanted && statistics.outstanding == UNTOUCHED);
+    CHECK(gd_get_layout_statistics(it, known, &of_layout) == wanted && of_layout.kept == UNTOUCHED);
     CHECK(gd_kept(it, known, &number) == wanted && number == UNTOUCHED);
     CHECK(gd_write_statistics(it, text, 2, &length) == wanted && length == 77 && text[0] == '?');
     // With several mistakes any of their statuses is right.

@@ -416,7 +416,13 @@ static void look(void) {
     CHECK(LIBRARY(gd_waiting(allocator, &waits)) == GD_OK);
     CHECK(LIBRARY(gd_pool_count(allocator, &pools)) == GD_OK);
     CHECK(sets == held_count + waiting_count && is_number_of_sets(sets));
-    CHECK(waits == waiting_count && pools == driver.pools);
+    CHECK(waits == waiting_count && pools == driver.numbers.pools);
+    gd_statistics numbers, wanted = driver.numbers;
+    wanted.outstanding = sets, wanted.waiting = waits, wanted.layouts = DRIVER_LAYOUTS;
+    wanted.most_pool_descriptors = UINT64_MAX, wanted.update_after_bind_limit = driver.limit;
+    wanted.kept = driver.sets - sets;
+    CHECK(LIBRARY(gd_get_statistics(allocator, &numbers)) == GD_OK);
+    CHECK(memcmp(&numbers, &wanted, sizeof numbers) == 0);
     for (size_t place = 0; place < sets; place++) {
         size_t ticket = place < held_count ? held[place] : waiting[place - held_count].ticket;
         const struct given *set = &given[ticket];
@@ -508,7 +514,7 @@ static void close_all(void) {
         free_some();
     look();
     CHECK(LIBRARY(gd_destroy(allocator)) == GD_OK);
-    CHECK(driver.pools == 0 && driver.sets == 0 && driver.marked == 0);
+    CHECK(driver.numbers.pools == 0 && driver.sets == 0);
     CHECK(LIBRARY(gd_destroy(old)) == GD_BAD_ALLOCATOR);
     CHECK(memory_blocks == 1); // the slot
     CHECK(fclose(program) == 0 && fclose(expected) == 0);

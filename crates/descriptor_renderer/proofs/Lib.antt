@@ -10,6 +10,7 @@ mod Given
 mod Growing
 mod Handing
 mod Joining
+mod Keyed
 mod Listed
 mod Naming
 mod Owned

@@ -4,7 +4,9 @@ use Rattle.gpu_descriptor_types.specs.Ledger.{Ledger, Pool}
 use Rattle.gpu_descriptor_types.specs.Meaning.{IsOfLayout}
 use Rattle.gpu_descriptor_types.specs.Side.{Side}
 use Rattle.gpu_descriptor_types.specs.declared.device.DescriptorDevice.{Ghosts}
+use Rattle.gpu_descriptor.specs.Caller.Call.{layout_key}
 use Rattle.gpu_descriptor.specs.Caller.Values.{Allocations}
+use Rattle.gpu_descriptor.specs.Model.Books.{BucketOf, books_of}
 use Rattle.gpu_descriptor.specs.declared.errors.AllocationError.{AllocationError}
 use Rattle.gpu_descriptor.specs.declared.errors.AllocationError.TheVariants.{OutOfHostMemory}
 use Rattle.gpu_descriptor.specs.declared.layout.SetLayout.{SetLayout}
@@ -137,3 +139,7 @@ module _ {L P S D : Type 0} {d : Ghosts D L P S} where
     pub is : error ≡ OutOfHostMemory
     pub seen : seen new ≡ seen old
     pub side : side_of new ≡ side_of old
+
+  -- the pools for sets of layouts that have the key of this one
+  abbrev pub pools_for : L → Renderer L P S D d → BucketOf P
+  pools_for layout r = books_of (side_of r).value.table (layout_key d.meaning layout)

@@ -13,6 +13,7 @@ ghost use Rattle.descriptor_renderer.specs.Stores.{lists_for, lists_in, slots_in
 ghost use Rattle.descriptor_renderer.specs.Stores as stores;
 
 mod frames;
+mod pools;
 mod sets;
 
 use crate::errors::RenderError;

@@ -179,4 +179,11 @@ impl<L: Drop, P: Drop, S: Drop, D: DescriptorDevice<L, P, S>> Store<L, P, S, D> 
         } = self;
         device
     }
+
+    /// The allocator, to be read.
+    pub(crate) fn allocator(&self) -> &DescriptorAllocator<P, S>
+        ensures { result.now ≡ (side_of self.now).value }
+    {
+        &self.allocator
+    }
 }

@@ -64,7 +64,7 @@
  * The number of the binary interface. It changes if a program of the header before would do something else
  * with the library: with a struct, a number, or what a function takes.
  */
-#define GD_ABI 1u
+#define GD_ABI 2u
 
 #ifdef __cplusplus
 #define GD_NOEXCEPT noexcept
@@ -204,15 +204,35 @@ typedef struct gd_set {
     uint64_t owner;
 } gd_set;
 
-/* Numbers of an allocator. */
+/* Numbers of an allocator. A pool's sets and descriptors are those that it may have (gd_pool_info). */
 typedef struct gd_statistics {
     uint64_t outstanding; /* sets, those that wait for a frame included */
     uint64_t waiting;     /* sets that wait for a frame */
     uint64_t kept;        /* sets that are kept, of all layouts */
-    uint64_t pools;       /* pools that exist */
     uint64_t layouts;
+    uint64_t pools;                 /* pools that exist */
+    uint64_t pool_sets;             /* the sets of these pools */
+    uint64_t pool_descriptors;      /* and their descriptors, of all kinds together */
+    uint64_t peak_pools;            /* the most pools that ever existed at once */
+    uint64_t peak_pool_sets;        /* the most that 'pool_sets' ever was */
+    uint64_t peak_pool_descriptors; /* the most that 'pool_descriptors' ever was */
     uint64_t most_pool_descriptors; /* as gd_set_most_pool_descriptors was given it */
+    uint64_t update_after_bind_capacity; /* descriptors of the pools for update-after-bind layouts: so much
+                                            of the limit is used */
+    uint64_t update_after_bind_limit;    /* as gd_create was given it */
 } gd_statistics;
+
+/*
+ * Numbers of a layout. All layouts with the same counts and flags share pools, so all but 'kept' are of sets of
+ * all of these layouts, and of those that were removed.
+ */
+typedef struct gd_layout_statistics {
+    uint64_t kept;           /* sets that are kept, of this layout alone */
+    uint64_t pools;          /* pools that exist */
+    uint64_t pool_sets_used; /* sets of these pools that are outstanding or kept */
+    uint64_t pool_sets_free; /* and how many they can still give. A pool that refused counts as full until a
+                                set of it goes back to the driver */
+} gd_layout_statistics;
 
 /* The version of the library, by GD_MAKE_VERSION. */
 uint32_t gd_version(void);
@@ -222,8 +242,8 @@ const char *gd_status_name(gd_status status);
 
 /* The ABI's number and the sizes of structs, which gd_create compares with the library's. */
 #define GD_HEADER                                                                                       \
-    (GD_ABI * (UINT64_C(1) << 48) + sizeof(gd_statistics) * (UINT64_C(1) << 40) +                       \
-     sizeof(gd_device) * (UINT64_C(1) << 32) +                           \
+    (sizeof(gd_layout_statistics) * (UINT64_C(1) << 56) + GD_ABI * (UINT64_C(1) << 48) +                \
+     sizeof(gd_statistics) * (UINT64_C(1) << 40) + sizeof(gd_device) * (UINT64_C(1) << 32) +            \
      sizeof(gd_pool_info) * (UINT64_C(1) << 24) + sizeof(gd_allocator) * (UINT64_C(1) << 16) +          \
      sizeof(gd_layout) * (UINT64_C(1) << 8) + sizeof(gd_set))
 
@@ -388,11 +408,13 @@ gd_status gd_waiting(gd_allocator allocator, uint64_t *sets);
 gd_status gd_pool_count(gd_allocator allocator, uint64_t *pools);
 
 /*
- * All numbers at once, and how many sets of a layout are kept. The times are as above.
+ * All numbers of an allocator, and those of a layout. The times are as above, and for a layout linear in its
+ * pools; gd_kept takes constant time. They allocate nothing.
  *
  * GD_NULL_POINTER, GD_BAD_LAYOUT, GD_BAD_ALLOCATOR, GD_BUSY, GD_INTERNAL_ERROR.
  */
 gd_status gd_get_statistics(gd_allocator allocator, gd_statistics *statistics);
+gd_status gd_get_layout_statistics(gd_allocator allocator, gd_layout layout, gd_layout_statistics *statistics);
 gd_status gd_kept(gd_allocator allocator, gd_layout layout, uint64_t *sets);
 
 /*

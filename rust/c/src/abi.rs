@@ -4,10 +4,11 @@ use crate::slot::GdAllocator;
 use core::ffi::{CStr, c_void};
 
 /// `GD_ABI`, which names the shared library, too.
-pub const ABI: u64 = 1;
+pub const ABI: u64 = 2;
 
 /// `GD_HEADER`.
-pub const HEADER: u64 = ABI << 48
+pub const HEADER: u64 = (size_of::<GdLayoutStatistics>() as u64) << 56
+    | ABI << 48
     | (size_of::<GdStatistics>() as u64) << 40
     | (size_of::<GdDevice>() as u64) << 32
     | (size_of::<GdPoolInfo>() as u64) << 24
@@ -123,9 +124,26 @@ pub struct GdStatistics {
     pub outstanding: u64,
     pub waiting: u64,
     pub kept: u64,
-    pub pools: u64,
     pub layouts: u64,
+    pub pools: u64,
+    pub pool_sets: u64,
+    pub pool_descriptors: u64,
+    pub peak_pools: u64,
+    pub peak_pool_sets: u64,
+    pub peak_pool_descriptors: u64,
     pub most_pool_descriptors: u64,
+    pub update_after_bind_capacity: u64,
+    pub update_after_bind_limit: u64,
+}
+
+/// `gd_layout_statistics`.
+#[repr(C)]
+#[derive(Clone, Copy)]
+pub struct GdLayoutStatistics {
+    pub kept: u64,
+    pub pools: u64,
+    pub pool_sets_used: u64,
+    pub pool_sets_free: u64,
 }
 
 /// The sizes that C gives them.
@@ -133,7 +151,7 @@ const _: () = {
     assert!(size_of::<GdPoolInfo>() == 64);
     assert!(size_of::<GdDevice>() == 5 * size_of::<usize>());
     assert!(size_of::<GdLayout>() == 16 && size_of::<GdSet>() == 24);
-    assert!(size_of::<GdStatistics>() == 48);
+    assert!(size_of::<GdStatistics>() == 104 && size_of::<GdLayoutStatistics>() == 32);
 };
 
 #[cfg(test)]

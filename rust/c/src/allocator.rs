@@ -6,7 +6,7 @@
 
 use crate::abi::{GdLayout, GdSet, GdStatus};
 use crate::descriptor_renderer::{LayoutHandle, RenderError, Renderer, SetHandle};
-use crate::device::HostDevice;
+use crate::device::{HostDevice, HostPool};
 use crate::gpu_descriptor::{
     AllocationError, DescriptorSetLayoutCreateFlags, DescriptorTotalCount, SetLayout,
 };
@@ -14,7 +14,7 @@ use crate::kit::alloc::{AllocError, Global};
 use crate::kit::vec::Vec;
 use crate::known::Known;
 
-type HostRenderer = Renderer<u64, u64, u64, HostDevice>;
+type HostRenderer = Renderer<u64, HostPool, u64, HostDevice>;
 
 mod statistics;
 
@@ -86,7 +86,7 @@ impl Allocator {
 
     /// How many pools exist.
     pub fn pools(&self) -> u64 {
-        self.renderer.device().pools.get()
+        self.renderer.device().pools.count
     }
 
     /// Adds a layout. A known one with the same counts and flags keeps its index.

@@ -10,6 +10,44 @@ use core::cell::Cell;
 use core::ffi::c_void;
 use std_alloc::vec::Vec;
 
+/// A pool of the host, and what it may have.
+pub struct HostPool {
+    handle: u64,
+    sets: u32,
+    descriptors: u64,
+}
+
+/// How many pools there are, and what they may have.
+#[derive(Clone, Copy, Default)]
+pub struct Pools {
+    pub count: u64,
+    pub sets: u64,
+    pub descriptors: u64,
+}
+
+impl Pools {
+    fn add(&mut self, pool: &HostPool) {
+        self.count += 1;
+        self.sets += u64::from(pool.sets);
+        self.descriptors += pool.descriptors;
+    }
+
+    fn remove(&mut self, pool: &HostPool) {
+        self.count -= 1;
+        self.sets -= u64::from(pool.sets);
+        self.descriptors -= pool.descriptors;
+    }
+
+    /// The greater of each number.
+    fn max(self, other: Self) -> Self {
+        Pools {
+            count: self.count.max(other.count),
+            sets: self.sets.max(other.sets),
+            descriptors: self.descriptors.max(other.descriptors),
+        }
+    }
+}
+
 /// A `gd_device` of which no function is `NULL`, and memory for the handles of a call.
 ///
 /// A call has at most as many sets as the largest pool. So the memory is reserved before a pool is
@@ -33,8 +71,9 @@ pub struct HostDevice {
     layout: u64,
     filled: usize,
 
-    /// How many pools exist.
-    pub pools: Cell<u64>,
+    /// The pools that exist, and the most that there were at once.
+    pub pools: Pools,
+    pub peak: Pools,
 
     /// Why a request was refused, if that is no reason of the allocator's: `DEVICE_LOST`, or `BAD_RESULT` for
     /// an unknown status; else `OK`. It is refused as if an allocation of the host had failed.
@@ -58,7 +97,8 @@ impl HostDevice {
             layouts: Vec::new(),
             layout: 0,
             filled: 0,
-            pools: Cell::new(0),
+            pools: Pools::default(),
+            peak: Pools::default(),
             cause: Cell::new(GdStatus::OK),
         })
     }
@@ -144,13 +184,13 @@ impl HostDevice {
     }
 }
 
-impl DescriptorDevice<u64, u64, u64> for HostDevice {
+impl DescriptorDevice<u64, HostPool, u64> for HostDevice {
     fn create_descriptor_pool(
         &mut self,
         counts: &DescriptorTotalCount,
         max_sets: u32,
         flags: DescriptorPoolCreateFlags,
-    ) -> Result<u64, CreatePoolError> {
+    ) -> Result<HostPool, CreatePoolError> {
         if self.reserve(max_sets as usize).is_err() {
             return Err(CreatePoolError::OutOfHostMemory);
         }
@@ -159,12 +199,17 @@ impl DescriptorDevice<u64, u64, u64> for HostDevice {
             flags: flags.bits(),
             counts: counts.to_array(),
         };
-        let mut pool = 0;
+        let mut pool = HostPool {
+            handle: 0,
+            sets: max_sets,
+            descriptors: counts.total_u64(),
+        };
         // SAFETY: both pointers are valid during the call.
-        let status = unsafe { (self.create_pool)(self.user, &info, &mut pool) };
+        let status = unsafe { (self.create_pool)(self.user, &info, &mut pool.handle) };
         match status {
             GdStatus::OK => {
-                self.pools.set(self.pools.get() + 1);
+                self.pools.add(&pool);
+                self.peak = self.peak.max(self.pools);
                 Ok(pool)
             }
             GdStatus::OUT_OF_DEVICE_MEMORY => Err(CreatePoolError::OutOfDeviceMemory),
@@ -179,15 +224,15 @@ impl DescriptorDevice<u64, u64, u64> for HostDevice {
         }
     }
 
-    fn destroy_descriptor_pool(&mut self, pool: u64) {
-        self.pools.set(self.pools.get() - 1);
+    fn destroy_descriptor_pool(&mut self, pool: HostPool) {
+        self.pools.remove(&pool);
         // SAFETY: the host created the pool, and it has no sets.
-        unsafe { (self.destroy_pool)(self.user, pool) }
+        unsafe { (self.destroy_pool)(self.user, pool.handle) }
     }
 
     fn alloc_descriptor_sets<K: SetSink<u64>>(
         &mut self,
-        pool: &mut u64,
+        pool: &mut HostPool,
         layouts: Layouts<'_, u64>,
         sets: &mut K,
     ) -> Result<(), DeviceAllocationError> {
@@ -198,7 +243,8 @@ impl DescriptorDevice<u64, u64, u64> for HostDevice {
         self.prepare(layout, count as usize);
         let (layouts, handles) = (self.layouts.as_ptr(), self.handles.as_mut_ptr());
         // SAFETY: both arrays have at least `count` elements.
-        let status = unsafe { (self.allocate_sets)(self.user, *pool, count, layouts, handles) };
+        let status =
+            unsafe { (self.allocate_sets)(self.user, pool.handle, count, layouts, handles) };
         match status {
             GdStatus::OK => {
                 for handle in &self.handles[..count as usize] {
@@ -219,18 +265,22 @@ impl DescriptorDevice<u64, u64, u64> for HostDevice {
 
     /// Frees the sets in one call: there are no more than the pool has, for which memory is reserved.
     /// If there were more, it would take several calls.
-    fn dealloc_descriptor_sets<I: Iterator<Item = u64>>(&mut self, pool: &mut u64, sets: &mut I) {
+    fn dealloc_descriptor_sets<I: Iterator<Item = u64>>(
+        &mut self,
+        pool: &mut HostPool,
+        sets: &mut I,
+    ) {
         let mut count = 0;
         for set in sets {
             if let Some(handle) = self.handles.get_mut(count) {
                 *handle = set;
                 count += 1;
             } else {
-                self.free_first(*pool, count);
+                self.free_first(pool.handle, count);
                 self.handles[0] = set;
                 count = 1;
             }
         }
-        self.free_first(*pool, count);
+        self.free_first(pool.handle, count);
     }
 }

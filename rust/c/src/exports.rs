@@ -5,7 +5,8 @@
 #![allow(clippy::missing_safety_doc)]
 
 use crate::abi::{
-    EXTERNALLY_SYNCHRONIZED, GdDevice, GdLayout, GdSet, GdStatistics, GdStatus, HEADER,
+    EXTERNALLY_SYNCHRONIZED, GdDevice, GdLayout, GdLayoutStatistics, GdSet, GdStatistics, GdStatus,
+    HEADER,
 };
 use crate::allocator::Allocator;
 use crate::device::HostDevice;
@@ -299,6 +300,27 @@ pub unsafe extern "C" fn gd_kept(
         slot::enter(allocator, |it| match it.kept(layout) {
             Some(kept) => {
                 sets.write(kept);
+                GdStatus::OK
+            }
+            None => GdStatus::BAD_LAYOUT,
+        })
+    }
+}
+
+#[unsafe(no_mangle)]
+pub unsafe extern "C" fn gd_get_layout_statistics(
+    allocator: GdAllocator,
+    layout: GdLayout,
+    statistics: *mut GdLayoutStatistics,
+) -> GdStatus {
+    if statistics.is_null() {
+        return GdStatus::NULL_POINTER;
+    }
+    // SAFETY: the header's.
+    unsafe {
+        slot::enter(allocator, |it| match it.layout_statistics(layout) {
+            Some(numbers) => {
+                statistics.write(numbers);
                 GdStatus::OK
             }
             None => GdStatus::BAD_LAYOUT,

@@ -289,6 +289,12 @@ impl<P, S> DescriptorAllocator<P, S> {
         self.inner.get().update_after_bind_capacity()
     }
 
+    /// The limit on these descriptors, which `new` was given.
+    #[must_use]
+    pub fn update_after_bind_limit(&self) -> u32 {
+        self.inner.get().update_after_bind_limit()
+    }
+
     /// How many pools there are for sets of layouts with these counts and this flag.
     #[must_use]
     pub fn pool_count(&self, counts: &DescriptorTotalCount, update_after_bind: bool) -> usize {

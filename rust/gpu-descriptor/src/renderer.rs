@@ -93,7 +93,7 @@ use crate::gpu_descriptor_types::{self as types, Layouts, SetSink};
 use crate::poison::{Guarded, is_panicking, refuse, warn};
 use crate::{
     CreatePoolError, DescriptorPoolCreateFlags, DescriptorTotalCount, DeviceAllocationError,
-    SetLayout, descriptor_renderer as inner, kit,
+    PoolView, SetLayout, descriptor_renderer as inner, kit,
 };
 use core::error::Error;
 use core::fmt;
@@ -116,8 +116,6 @@ static RENDERERS: AtomicU32 = AtomicU32::new(0);
 /// `gpu_done` of the frame of its last use or a later one. Memory for a set to come back is reserved before
 /// the set is asked for, so only `add_layout`, `draw`, `create_set` and `create_sets` allocate. No handle
 /// comes twice, although memory follows the most sets that there were at a time.
-///
-/// Unlike a `DescriptorAllocator`, a renderer doesn't show its pools, nor how much of the limit they use.
 ///
 /// # Kept sets
 ///
@@ -497,6 +495,32 @@ impl<L, P, S, D: DescriptorDevice<L, P, S>> Renderer<L, P, S, D> {
     pub fn outstanding(&self) -> u64 {
         let counts = self.counts();
         counts.held + counts.waiting
+    }
+
+    /// How many descriptors the pools for update-after-bind layouts have. So much of the limit is used.
+    #[must_use]
+    pub fn update_after_bind_capacity(&self) -> u32 {
+        self.inner.get().update_after_bind_capacity()
+    }
+
+    /// The limit on these descriptors, which `new` was given.
+    #[must_use]
+    pub fn update_after_bind_limit(&self) -> u32 {
+        self.inner.get().update_after_bind_limit()
+    }
+
+    /// How many pools there are for sets of a layout. Layouts with the same counts and flags share pools. 0
+    /// if the layout was removed, and under a handle of another renderer.
+    #[must_use]
+    pub fn pool_count(&self, layout: LayoutHandle) -> usize {
+        self.inner.get().pool_count(layout)
+    }
+
+    /// The books of the pool at this place among those of [`pool_count`](Self::pool_count), oldest first;
+    /// `None` past the last. Sets that are kept are allocated from their pools.
+    #[must_use]
+    pub fn pool(&self, layout: LayoutHandle, index: usize) -> Option<PoolView> {
+        self.inner.get().pool(layout, index)
     }
 
     /// Hands the device back without a call of it. Pools and sets stay with the device, and nobody

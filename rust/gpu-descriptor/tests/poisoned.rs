@@ -183,6 +183,7 @@ fn calls_of_an_allocator() -> Vec<Call<Allocating>> {
         Answers (on.it).outstanding();
         Answers (on.it).update_after_bind_descriptors();
         Answers (on.it).update_after_bind_capacity();
+        Answers (on.it).update_after_bind_limit();
         Answers (on.it).pool_count(&on.layout.counts, false);
         Answers (on.it).pool(&on.layout.counts, false, 0);
         Answers (on.it).ids();
@@ -249,6 +250,7 @@ fn calls_of_a_manager() -> Vec<Call<Managing>> {
         Answers (on.it).retire_all(1, std::mem::take(&mut on.sets));
         Answers (on.it).outstanding();
         Answers (on.it).update_after_bind_capacity();
+        Answers (on.it).update_after_bind_limit();
         Answers (on.it).pool_count(&on.layout.counts, false);
         Answers (on.it).pool(&on.layout.counts, false, 0);
         Answers (on.it).retired();
@@ -335,6 +337,10 @@ fn calls_of_a_renderer() -> Vec<Call<Rendering>> {
         Answers (on.it.as_mut().unwrap()).counts();
         Answers (on.it.as_mut().unwrap()).kept_count(on.layout);
         Answers (on.it.as_mut().unwrap()).outstanding();
+        Answers (on.it.as_mut().unwrap()).update_after_bind_capacity();
+        Answers (on.it.as_mut().unwrap()).update_after_bind_limit();
+        Answers (on.it.as_mut().unwrap()).pool_count(on.layout);
+        Answers (on.it.as_mut().unwrap()).pool(on.layout, 0).unwrap();
     }
 }
 

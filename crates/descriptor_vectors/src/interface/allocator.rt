@@ -104,9 +104,11 @@ fn readers_of_an_allocator(rt: HostRuntime) {
     let sets: u64 = allocator.outstanding();
     let descriptors: u32 = allocator.update_after_bind_descriptors();
     let capacity: u32 = allocator.update_after_bind_capacity();
+    let limit: u32 = allocator.update_after_bind_limit();
     let pools: usize = allocator.pool_count(&counts, true);
     let view: Option<PoolView> = allocator.pool(&counts, false, usize::MAX);
-    assert_eq!(rt; (sets, descriptors, capacity, pools), (0, 0, 0, 0));
+    assert_eq!(rt; (sets, descriptors, capacity, limit), (0, 0, 0, u32::MAX));
+    assert_eq!(rt; pools, 0);
     assert_eq!(rt; view, None);
 }
 

@@ -37,6 +37,13 @@ impl<P, S> DescriptorAllocator<P, S> {
         self.max_update_after_bind_descriptors_in_all_pools - self.budget.room
     }
 
+    /// The limit that the allocator was made with. The original has no such reader.
+    pub fn update_after_bind_limit(&self) -> u32
+        ensures limit { result ≡ self.now.limit }
+    {
+        self.max_update_after_bind_descriptors_in_all_pools
+    }
+
     /// How many descriptors a new pool has at most, unless what is wanting needs more; `None` where
     /// that isn't bounded.
     pub fn most_pool_descriptors(&self) -> Option<u64>

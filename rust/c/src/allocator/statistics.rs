@@ -1,8 +1,8 @@
-//! Numbers of an allocator, and the same as JSON. They are what the renderer's readers return, and how many
-//! pools the device has.
+//! Numbers of an allocator, and the same as JSON. They are what the renderer's readers return, and what the
+//! device counts of its pools.
 
 use super::{Allocator, handle_of};
-use crate::abi::{GdLayout, GdStatistics};
+use crate::abi::{GdLayout, GdLayoutStatistics, GdStatistics};
 use crate::descriptor_renderer::LayoutHandle;
 use crate::gpu_descriptor::DescriptorSetLayoutCreateFlags;
 use core::fmt::{Result, Write};
@@ -33,32 +33,80 @@ impl Allocator {
     }
 
     pub fn statistics(&self) -> GdStatistics {
+        let renderer = &self.renderer;
+        let (pools, peak) = (renderer.device().pools, renderer.device().peak);
         GdStatistics {
             outstanding: self.outstanding(),
             waiting: self.waiting(),
-            kept: self.renderer.counts().kept,
-            pools: self.pools(),
+            kept: renderer.counts().kept,
             layouts: self.layouts().count() as u64,
-            most_pool_descriptors: self.renderer.most_pool_descriptors().unwrap_or(u64::MAX),
+            pools: pools.count,
+            pool_sets: pools.sets,
+            pool_descriptors: pools.descriptors,
+            peak_pools: peak.count,
+            peak_pool_sets: peak.sets,
+            peak_pool_descriptors: peak.descriptors,
+            most_pool_descriptors: renderer.most_pool_descriptors().unwrap_or(u64::MAX),
+            update_after_bind_capacity: renderer.update_after_bind_capacity().into(),
+            update_after_bind_limit: renderer.update_after_bind_limit().into(),
         }
     }
 
-    /// How many sets of a layout are kept; `None` if it isn't one of this allocator.
-    pub fn kept(&self, layout: GdLayout) -> Option<u64> {
+    /// The renderer's handle of a layout; `None` if it isn't one of this allocator.
+    fn known_handle(&self, layout: GdLayout) -> Option<LayoutHandle> {
         let slot = handle_of(layout.owner, layout.index);
         let layout = LayoutHandle { slot };
-        self.renderer.layout(layout)?;
-        Some(u64::from(self.renderer.kept_count(layout)))
+        self.renderer.layout(layout).map(|_| layout)
+    }
+
+    /// How many sets of a layout are kept.
+    pub fn kept(&self, layout: GdLayout) -> Option<u64> {
+        let handle = self.known_handle(layout)?;
+        Some(self.renderer.kept_count(handle).into())
+    }
+
+    pub fn layout_statistics(&self, layout: GdLayout) -> Option<GdLayoutStatistics> {
+        let handle = self.known_handle(layout)?;
+        Some(self.numbers_of(handle))
+    }
+
+    /// It goes over the pools.
+    fn numbers_of(&self, layout: LayoutHandle) -> GdLayoutStatistics {
+        let mut numbers = GdLayoutStatistics {
+            kept: self.renderer.kept_count(layout).into(),
+            pools: 0,
+            pool_sets_used: 0,
+            pool_sets_free: 0,
+        };
+        while let Some(pool) = self.renderer.pool(layout, numbers.pools as usize) {
+            numbers.pools += 1;
+            numbers.pool_sets_used += u64::from(pool.allocated);
+            numbers.pool_sets_free += u64::from(pool.available);
+        }
+        numbers
     }
 
     /// Writes the numbers as JSON.
     pub fn write_statistics(&self, text: &mut impl Write) -> Result {
         let numbers = self.statistics();
         write!(text, "{{\"version\": \"{}\"", env!("CARGO_PKG_VERSION"))?;
-        write!(text, ", \"outstanding\": {}", numbers.outstanding)?;
-        write!(text, ", \"waiting\": {}", numbers.waiting)?;
-        write!(text, ", \"kept\": {}", numbers.kept)?;
-        write!(text, ", \"pools\": {}", numbers.pools)?;
+        let members = [
+            ("outstanding", numbers.outstanding),
+            ("waiting", numbers.waiting),
+            ("kept", numbers.kept),
+            ("pools", numbers.pools),
+            ("pool_sets", numbers.pool_sets),
+            ("pool_descriptors", numbers.pool_descriptors),
+            ("peak_pools", numbers.peak_pools),
+            ("peak_pool_sets", numbers.peak_pool_sets),
+            ("peak_pool_descriptors", numbers.peak_pool_descriptors),
+            (
+                "update_after_bind_capacity",
+                numbers.update_after_bind_capacity,
+            ),
+            ("update_after_bind_limit", numbers.update_after_bind_limit),
+        ];
+        write_members(text, &members)?;
         match self.renderer.most_pool_descriptors() {
             Some(most) => write!(text, ", \"most_pool_descriptors\": {most}")?,
             None => text.write_str(", \"most_pool_descriptors\": null")?,
@@ -81,7 +129,14 @@ impl Allocator {
             .contains(DescriptorSetLayoutCreateFlags::UPDATE_AFTER_BIND);
         write!(text, "{{\"handle\": \"{:#x}\"", layout.layout)?;
         write!(text, ", \"update_after_bind\": {is_marked}")?;
-        write!(text, ", \"kept\": {}", self.renderer.kept_count(handle))?;
+        let numbers = self.numbers_of(handle);
+        let members = [
+            ("kept", numbers.kept),
+            ("pools", numbers.pools),
+            ("pool_sets_used", numbers.pool_sets_used),
+            ("pool_sets_free", numbers.pool_sets_free),
+        ];
+        write_members(text, &members)?;
         text.write_str(", \"descriptors\": {")?;
         let mut separator = "";
         for (kind, count) in KINDS.iter().zip(layout.counts.to_array()) {
@@ -92,4 +147,12 @@ impl Allocator {
         }
         text.write_str("}}")
     }
+}
+
+/// Members of an object, after others.
+fn write_members(text: &mut impl Write, members: &[(&str, u64)]) -> Result {
+    for (name, number) in members {
+        write!(text, ", \"{name}\": {number}")?;
+    }
+    Ok(())
 }

@@ -2,6 +2,7 @@
 //! The renderer: layouts that are added as it runs, sets of a frame, and sets that are held.
 
 mod frames;
+mod pools;
 mod sets;
 
 use crate::descriptor_renderer::errors::RenderError;

@@ -120,4 +120,10 @@ impl<L, P, S, D: DescriptorDevice<L, P, S>> Store<L, P, S, D> {
         } = self;
         device
     }
+
+    /// The allocator, to be read.
+    pub(crate) fn allocator(&self) -> &DescriptorAllocator<P, S>
+    {
+        &self.allocator
+    }
 }
