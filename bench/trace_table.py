@@ -1,13 +1,15 @@
 """The table of `bench/compare --traces`: what programs asked of their descriptor pools, played by each column."""
+import contextlib
 import glob
 import gzip
 import os
 import re
+import shutil
 import subprocess
 import sys
 import tempfile
 
-from common import TOP, account_of, cargo_build, need, original_source, refuse, write_package
+from common import SKIPPED, TOP, account_of, cargo_build, need, original_source, refuse, skip, write_package
 
 HERE = os.path.dirname(os.path.abspath(__file__))
 TRACES = f"{HERE}/traces"
@@ -18,7 +20,8 @@ PREFIX = f"{BUILD}/prefix"
 # for C, and by hand the program's own pools and a list of sets for each layout.
 COLUMNS = ["crate", "renderer", "C", "pools", "lists"]
 
-# Passes of two runs that are counted. What only the first pass does is in both.
+# The first passes, in which pools grow, are left out: those of the shorter of two runs that are counted, and those
+# that the programs don't time.
 FEWER, MORE = 2, 4
 
 # How many sets a run that is timed has at least.
@@ -27,31 +30,49 @@ SETS_A_RUN = 20_000
 CALLGRIND = ["valgrind", "--tool=callgrind", "--callgrind-out-file=/dev/null"]
 
 
-def build_columns(allocator):
-    """The words that play a trace, for each column. Without the file of the original its column is left out."""
+def build_original(allocator, folder, features, flags):
+    """The original, with the crate's device for Vulkan over its types."""
+    device = f"{TOP}/rust/gpu-descriptor/src/vulkan"
+    os.makedirs(f"{BUILD}/vulkan", exist_ok=True)
+    for path in [f"{device}.rs", *glob.glob(f"{device}/*.rs")]:
+        shutil.copy(path, f"{BUILD}/{os.path.relpath(path, os.path.dirname(device))}")
+    write_package(f"{HERE}/original", BUILD, {"allocator.rs": original_source(allocator)})
+    cargo_build(BUILD, "--profile", "release", "--target-dir", f"{folder}/original", *features, RUSTFLAGS=flags)
+    return [f"{folder}/original/release/original", "trace"]
+
+
+def build_columns(allocator, over="counts"):
+    """The words that play a trace, for each column: over the device that only counts, a `driver`, or one that
+    accounts for `memory`. Without the file of the original its column is left out."""
     need("cargo", "it builds the programs")
     need("cc", "it compiles the calls of the library for C: apt-get install gcc")
-    columns = {}
-    if allocator:
-        write_package(f"{HERE}/original", BUILD, {"allocator.rs": original_source(allocator)})
-        target = f"{BUILD}/target/release"
-        cargo_build(BUILD, "--profile", "release", "--target-dir", target, RUSTFLAGS="")
-        columns["original"] = [f"{target}/release/original", "trace"]
-    os.makedirs(BUILD, exist_ok=True)
+    if over == "driver" and not os.path.exists("/usr/include/vulkan/vulkan.h"):
+        skip("no headers of Vulkan: apt-get install libvulkan-dev")
+    sources, features = {"counts": ([], []), "driver": (["-DWITH_DRIVER", f"{TRACES}/driver.c", "-lvulkan"], [over]),
+                         "memory": ([f"{TRACES}/measured.c"], [over])}[over]
+    folder = f"{BUILD}/{over}"
+    os.makedirs(folder, exist_ok=True)
     # A shared library, as cargo doesn't see whether what it links has changed.
-    words = ["cc", "-O2", "-shared", "-fPIC", f"-I{PREFIX}/include", f"{TRACES}/by_c.c", "-o", f"{BUILD}/libby_c.so",
-             f"{PREFIX}/lib/libgpu_descriptor_c.a", "-Wl,--exclude-libs,ALL", "-lpthread", "-ldl", "-lm"]
+    words = ["cc", "-O2", "-shared", "-fPIC", f"-I{PREFIX}/include", f"{TRACES}/by_c.c", *sources,
+             "-o", f"{folder}/libby_c.so", f"{PREFIX}/lib/libgpu_descriptor_c.a", "-Wl,--exclude-libs,ALL",
+             "-lpthread", "-ldl", "-lm"]
     for command in ([f"{TOP}/rust/c/install", PREFIX], words):
         if subprocess.run(command, stdout=subprocess.DEVNULL).returncode:
             refuse(f"{command[0]} failed", 1)
-    flags = f"-L native={BUILD} -l dylib=by_c -C link-arg=-Wl,-rpath,{BUILD}"
-    cargo_build(TRACES, "--target-dir", f"{BUILD}/target/traces", RUSTFLAGS=flags)
-    return columns | {name: [f"{BUILD}/target/traces/release/traces", name] for name in COLUMNS}
+    flags = f"-L native={folder} -l dylib=by_c -C link-arg=-Wl,-rpath,{folder}"
+    features = [f"--features={it}" for it in features]
+    columns = {}
+    if allocator:
+        columns["original"] = build_original(allocator, folder, features, flags if features else "")
+    cargo_build(TRACES, "--target-dir", f"{folder}/traces", *features, RUSTFLAGS=flags)
+    return columns | {name: [f"{folder}/traces/release/traces", name] for name in COLUMNS}
 
 
 def finish(words):
     """What a program wrote, once it has ended well."""
     ran = subprocess.run(words, capture_output=True, text=True)
+    if ran.returncode == SKIPPED:
+        skip(f"{ran.stderr.strip()}: apt-get install mesa-vulkan-drivers")
     if ran.returncode:
         refuse(f"{' '.join(words)} failed: {ran.stderr.strip()}", 1)
     return ran.stdout.strip(), ran.stderr
@@ -69,37 +90,40 @@ def require(name, trace, times, said):
         refuse(f"{name} did something else than the trace: {said}, not {expected(trace, times)}", 1)
 
 
-def nanoseconds(words, name, trace, file, runs):
+def timed(words, name, trace, file, *how):
+    """What a set took, and what the driver says if the words ask it: its calls, and their time."""
+    sets = account_of(trace)["allocated"]
+    passes = -(-SETS_A_RUN // sets)
+    said, told = finish([*words, file, str(FEWER + passes), *how])
+    require(name, trace, FEWER + passes, said)
+    numbers = re.search(r"^(\d+) ns(?:, (\d+) calls of (\d+) ns)?$", told, re.M).groups("0")
+    return [int(number) / (passes * sets) for number in numbers]
+
+
+def nanoseconds(words, name, trace, file, how, runs):
     """The lowest time of a set."""
-    lowest = None
-    passes = -(-SETS_A_RUN // account_of(trace)["allocated"])
-    for _ in range(runs):
-        said, told = finish([*words, file, str(passes)])
-        require(name, trace, passes, said)
-        time = int(re.search(r"(\d+) ns", told)[1]) / int(said.split()[2])
-        lowest = time if lowest is None else min(lowest, time)
-    return lowest
+    return min(timed(words, name, trace, file, *how)[0] for _ in range(runs))
 
 
-def instructions(words, name, trace, file):
+def instructions(words, name, trace, file, how):
     """The instructions of a set, in passes after the first ones."""
     counted = []
     for times in (FEWER, MORE):
-        said, told = finish([*CALLGRIND, *words, file, str(times)])
+        said, told = finish([*CALLGRIND, *words, file, str(times), *how])
         require(name, trace, times, said)
         counted.append(int(re.search(r"Collected : (\d+)", told)[1]))
     return (counted[1] - counted[0]) / (account_of(trace)["allocated"] * (MORE - FEWER))
 
 
-def check(columns, name, trace, file):
-    """Plays a trace once by each column: how many did what the trace says."""
-    fine = 0
+def faults(columns, name, trace, file, over_driver):
+    """What each column does otherwise than the trace says, or nothing. Over a driver a renderer with layouts that
+    stay must make no call after the first passes."""
     for column, words in columns.items():
         said, _ = finish([*words, file, "1"])
-        fine += said == expected(trace, 1)
-        if said != expected(trace, 1):
-            print(f"FAILED: {name} by {column}: {said}, not {expected(trace, 1)}")
-    return fine
+        yield "" if said == expected(trace, 1) else f"{name} by {column}: {said}, not {expected(trace, 1)}"
+        if over_driver and column in ("renderer", "C"):
+            _, calls, _ = timed(words, name, trace, file, "timed", "stay")
+            yield f"{name} by {column}: {calls} calls a set" if calls else ""
 
 
 def traces():
@@ -109,37 +133,64 @@ def traces():
             yield os.path.basename(path).removesuffix(".trace.gz"), it.read()
 
 
-def print_rows(columns, value, unit):
-    print(f"{unit} a set")
-    print(f"{'trace':10}{'sets':>8}" + "".join(f"{name:>10}" for name in columns))
+@contextlib.contextmanager
+def written(trace):
+    """A file with a trace."""
+    with tempfile.NamedTemporaryFile("w", encoding="utf-8") as it:
+        it.write(trace)
+        it.flush()
+        yield it.name
+
+
+def over_driver(words, name, trace, file, how):
+    """The time of a set, then the driver's part of it in a run that times its calls, and how many they were."""
+    whole = timed(words, name, trace, file, *how)[0]
+    _, calls, part = timed(words, name, trace, file, "timed", *how)
+    return whole, part, calls
+
+
+def row_over_driver(columns, runs, *where):
+    """The lowest of all runs, in which the columns take turns. The calls are the same in each."""
+    all_runs = [[over_driver(words, *where) for words in columns.values()] for _ in range(runs)]
+    row = [[min(values) for values in zip(*column)] for column in zip(*all_runs)]
+    return [f"{whole:9.1f}{part:7.1f}{calls:5.2f}" for whole, part, calls in row]
+
+
+def print_rows(columns, row, unit, width):
+    """Of each trace the row as it is, and the one with layouts that stay."""
+    print(f"{unit} a set\n{'trace':10}{'sets':>8}" + "".join(f"{name:>{width}}" for name in columns))
     for name, trace in traces():
-        with tempfile.NamedTemporaryFile("w", encoding="utf-8") as it:
-            it.write(trace)
-            it.flush()
-            row = [value(words, name, trace, it.name) for words in columns.values()]
-        print(f"{name:10}{account_of(trace)['allocated']:8}" + "".join(f"{it:10.1f}" for it in row), flush=True)
+        for how in ((), ("stay",)):
+            with written(trace) as file:
+                cells = "".join(row(name, trace, file, how))
+            stay = ", layouts stay" if how else ""
+            print(f"{name:10}{account_of(trace)['allocated']:8}{cells}{stay}", flush=True)
 
 
-def check_all(columns):
+def check_all(columns, over_driver):
     passed, failed = 0, 0
     for name, trace in traces():
-        with tempfile.NamedTemporaryFile("w", encoding="utf-8") as it:
-            it.write(trace)
-            it.flush()
-            fine = check(columns, name, trace, it.name)
-        passed, failed = passed + fine, failed + len(columns) - fine
-        print(f"{name}: {fine} of {len(columns)} columns do what the trace says", flush=True)
+        with written(trace) as file:
+            found = list(faults(columns, name, trace, file, over_driver))
+        print("".join(f"FAILED: {fault}\n" for fault in found if fault), end="")
+        passed, failed = passed + found.count(""), failed + len(found) - found.count("")
+        print(f"{name}: {found.count('')} of {len(found)} are as the trace says", flush=True)
     print(f"{passed} passed, {failed} failed")
     sys.exit(failed > 0)
 
 
 def run(given):
     """The table that was asked for."""
-    columns = build_columns(given.allocator)
+    columns = build_columns(given.allocator, "driver" if given.vulkan else "counts")
+    each = lambda value: lambda *where: [f"{value(words, *where):10.1f}" for words in columns.values()]
     if given.check:
-        check_all(columns)
+        check_all(columns, given.vulkan)
+    elif given.vulkan:
+        unit = f"nanoseconds, lowest of {given.runs}, of them the driver's, and calls of the driver,"
+        print_rows(columns, lambda *where: row_over_driver(columns, given.runs, *where), unit, 21)
     elif given.instructions:
         need("valgrind", "it counts the instructions")
-        print_rows(columns, instructions, "instructions")
+        print_rows(columns, each(instructions), "instructions", 10)
     else:
-        print_rows(columns, lambda *words: nanoseconds(*words, given.runs), f"nanoseconds, lowest of {given.runs},")
+        time = each(lambda *where: nanoseconds(*where, given.runs))
+        print_rows(columns, time, f"nanoseconds, lowest of {given.runs},", 10)

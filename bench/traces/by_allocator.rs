@@ -1,14 +1,20 @@
 //! A trace by an allocator with the original's interface: each request is one call, as is each free.
 
 use crate::allocator::{DescriptorAllocator, DescriptorSet, DescriptorSetLayoutCreateFlags};
-use crate::device::CountingDevice;
-use crate::play::{KINDS, Player};
+use crate::gpu::Gpu;
+use crate::play::{Descriptors, KINDS, Player};
 use crate::types::DescriptorTotalCount;
 
-pub struct Allocator {
-    allocator: DescriptorAllocator<u64, u64>,
-    device: CountingDevice,
-    layouts: Vec<DescriptorTotalCount>,
+struct Layout<L> {
+    handle: L,
+    counts: DescriptorTotalCount,
+    flags: DescriptorSetLayoutCreateFlags,
+}
+
+pub struct Allocator<G: Gpu> {
+    pub allocator: DescriptorAllocator<G::Pool, G::Set>,
+    pub gpu: G,
+    layouts: Vec<Layout<G::Layout>>,
 }
 
 /// The counts in the order of the kinds.
@@ -31,36 +37,50 @@ pub fn total_count(counts: &[u32; KINDS]) -> DescriptorTotalCount {
     }
 }
 
-impl Player for Allocator {
-    type Set = DescriptorSet<u64>;
+/// The flags of a layout, of which update-after-bind is the only one.
+pub fn layout_flags(flags: u32) -> DescriptorSetLayoutCreateFlags {
+    let mut some = DescriptorSetLayoutCreateFlags::empty();
+    some.set(
+        DescriptorSetLayoutCreateFlags::UPDATE_AFTER_BIND,
+        flags != 0,
+    );
+    some
+}
 
-    fn new() -> Self {
+impl<G: Gpu> Player<G> for Allocator<G> {
+    type Set = DescriptorSet<G::Set>;
+
+    fn new(gpu: G) -> Self {
         Allocator {
-            allocator: DescriptorAllocator::new(u32::MAX),
-            device: CountingDevice::new(u64::MAX),
+            allocator: DescriptorAllocator::new(gpu.limit()),
+            gpu,
             layouts: Vec::new(),
         }
     }
 
-    fn add_layout(&mut self, layout: usize, counts: &[u32; KINDS]) {
+    fn add_layout(&mut self, layout: usize, handle: G::Layout, of: &Descriptors) {
         self.layouts.truncate(layout);
-        self.layouts.push(total_count(counts));
+        self.layouts.push(Layout {
+            handle,
+            counts: total_count(&of.counts),
+            flags: layout_flags(of.flags),
+        });
     }
 
     fn remove_layout(&mut self, _layout: usize) {}
 
-    fn take(&mut self, _pool: usize, layout: usize, count: u32, sets: &mut Vec<Self::Set>) {
-        let flags = DescriptorSetLayoutCreateFlags::empty();
+    fn take(&mut self, _: usize, layout: usize, count: u32, sets: &mut Vec<Self::Set>) -> bool {
+        let of = &self.layouts[layout];
         // SAFETY: the device is the same in all calls, and the layout has these counts.
         let taken = unsafe {
             self.allocator
-                .allocate(&self.device, &(), flags, &self.layouts[layout], count)
+                .allocate(&self.gpu, &of.handle, of.flags, &of.counts, count)
         };
-        sets.append(&mut taken.unwrap());
+        taken.map(|mut taken| sets.append(&mut taken)).is_ok()
     }
 
     fn free(&mut self, _pool: usize, sets: &mut Vec<Self::Set>) {
         // SAFETY: the sets came from this allocator, and each goes back once.
-        unsafe { self.allocator.free(&self.device, sets.drain(..)) }
+        unsafe { self.allocator.free(&self.gpu, sets.drain(..)) }
     }
 }

@@ -1,5 +1,9 @@
-// A trace by the library for C, over a device that only counts.
+// A trace by the library for C, over a device that only counts, or over a driver.
+#ifdef WITH_DRIVER
+#include "gpu_descriptor_vulkan.h"
+#endif
 #include "gpu_descriptor.h"
+#include <stdbool.h>
 #include <stdlib.h>
 
 static uint64_t next_handle = 1, sum;
@@ -36,17 +40,33 @@ static void require(gd_status status) {
         abort();
 }
 
+void c_create_with(const gd_device *device, uint32_t limit);
+void c_create_with(const gd_device *device, uint32_t limit) {
+    require(gd_create(device, limit, &allocator));
+}
+
 void c_create(void);
 void c_create(void) {
     gd_device device = {NULL, create_pool, destroy_pool, allocate_sets, free_sets};
-    require(gd_create(&device, UINT32_MAX, &allocator));
+    c_create_with(&device, UINT32_MAX);
 }
 
-// Each layout has a handle of its own, as the driver's are while they exist.
-gd_layout c_add_layout(const uint32_t *counts);
-gd_layout c_add_layout(const uint32_t *counts) {
+#ifdef WITH_DRIVER
+PFN_vkVoidFunction driver_function(VkDevice of, const char *name);
+
+void c_create_over(VkDevice device);
+void c_create_over(VkDevice device) {
+    gdv_device vulkan;
+    require(gdv_load(&vulkan, device, NULL, driver_function));
+    require(gdv_create(&vulkan, UINT32_MAX, &allocator));
+}
+#endif
+
+// Over the device that counts each layout has a handle of its own, as the driver's are while they exist.
+gd_layout c_add_layout(uint64_t handle, const uint32_t *counts, uint32_t flags);
+gd_layout c_add_layout(uint64_t handle, const uint32_t *counts, uint32_t flags) {
     gd_layout layout;
-    require(gd_add_layout(allocator, next_handle++, counts, 0, &layout));
+    require(gd_add_layout(allocator, handle != 0 ? handle : next_handle++, counts, flags, &layout));
     return layout;
 }
 
@@ -55,14 +75,19 @@ void c_remove_layout(gd_layout layout) {
     require(gd_remove_layout(allocator, layout));
 }
 
-void c_take(gd_layout layout, uint32_t count, gd_set *sets);
-void c_take(gd_layout layout, uint32_t count, gd_set *sets) {
-    require(gd_allocate(allocator, layout, count, sets));
+bool c_take(gd_layout layout, uint32_t count, gd_set *sets);
+bool c_take(gd_layout layout, uint32_t count, gd_set *sets) {
+    return gd_allocate(allocator, layout, count, sets) == GD_OK;
 }
 
 void c_free(const gd_set *sets, uint32_t count);
 void c_free(const gd_set *sets, uint32_t count) {
     require(gd_free(allocator, sets, count));
+}
+
+void c_cleanup(void);
+void c_cleanup(void) {
+    require(gd_cleanup(allocator));
 }
 
 uint64_t c_outstanding(void);

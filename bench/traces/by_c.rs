@@ -1,6 +1,9 @@
 //! A trace by the library for C, through the calls of `by_c.c`.
 
-use crate::play::{KINDS, Player};
+use crate::device::CountingDevice;
+use crate::gpu::Gpu;
+use crate::play::{Descriptors, Player};
+use std::marker::PhantomData;
 
 #[repr(C)]
 #[derive(Clone, Copy)]
@@ -12,32 +15,70 @@ pub struct Set([u64; 3]);
 
 unsafe extern "C" {
     fn c_create();
-    fn c_add_layout(counts: *const u32) -> Layout;
+    #[cfg(feature = "driver")]
+    fn c_create_over(device: crate::vulkan::DeviceHandle);
+    fn c_add_layout(handle: u64, counts: *const u32, flags: u32) -> Layout;
     fn c_remove_layout(layout: Layout);
-    fn c_take(layout: Layout, count: u32, sets: *mut Set);
+    fn c_take(layout: Layout, count: u32, sets: *mut Set) -> bool;
     fn c_free(sets: *const Set, count: u32);
+    #[cfg(feature = "memory")]
+    fn c_cleanup();
     fn c_outstanding() -> u64;
 }
 
-pub struct Library {
-    layouts: Vec<Layout>,
+/// A device that the library for C has too.
+pub trait GpuOfC: Gpu {
+    /// Makes the allocator over it.
+    ///
+    /// # Safety
+    ///
+    /// There is one allocator, and one player.
+    unsafe fn create(&self);
 }
 
-impl Player for Library {
+impl GpuOfC for CountingDevice {
+    unsafe fn create(&self) {
+        unsafe { c_create() }
+    }
+}
+
+#[cfg(feature = "driver")]
+impl GpuOfC for crate::vulkan::Device {
+    unsafe fn create(&self) {
+        unsafe { c_create_over(self.handle()) }
+    }
+}
+
+pub struct Library<G> {
+    layouts: Vec<Layout>,
+    gpu: PhantomData<G>,
+}
+
+#[cfg(feature = "memory")]
+impl<G> Library<G> {
+    pub fn cleanup(&mut self) {
+        // SAFETY: it has no condition.
+        unsafe { c_cleanup() }
+    }
+}
+
+impl<G: GpuOfC> Player<G> for Library<G> {
     type Set = Set;
 
-    fn new() -> Self {
-        // SAFETY: there is one allocator, and one player.
-        unsafe { c_create() };
+    fn new(gpu: G) -> Self {
+        // SAFETY: this is the player.
+        unsafe { gpu.create() };
         Library {
             layouts: Vec::new(),
+            gpu: PhantomData,
         }
     }
 
-    fn add_layout(&mut self, layout: usize, counts: &[u32; KINDS]) {
+    fn add_layout(&mut self, layout: usize, handle: G::Layout, of: &Descriptors) {
         self.layouts.truncate(layout);
         // SAFETY: the counts are as many as there are kinds.
-        self.layouts.push(unsafe { c_add_layout(counts.as_ptr()) });
+        let added = unsafe { c_add_layout(G::number(handle), of.counts.as_ptr(), of.flags) };
+        self.layouts.push(added);
     }
 
     fn remove_layout(&mut self, layout: usize) {
@@ -45,11 +86,15 @@ impl Player for Library {
         unsafe { c_remove_layout(self.layouts[layout]) };
     }
 
-    fn take(&mut self, _pool: usize, layout: usize, count: u32, sets: &mut Vec<Set>) {
+    fn take(&mut self, _: usize, layout: usize, count: u32, sets: &mut Vec<Set>) -> bool {
         let len = sets.len();
         sets.resize(len + count as usize, Set([0; 3]));
         // SAFETY: there is room for so many sets.
-        unsafe { c_take(self.layouts[layout], count, sets[len..].as_mut_ptr()) };
+        let is_taken = unsafe { c_take(self.layouts[layout], count, sets[len..].as_mut_ptr()) };
+        if !is_taken {
+            sets.truncate(len);
+        }
+        is_taken
     }
 
     fn free(&mut self, _pool: usize, sets: &mut Vec<Set>) {

@@ -1,119 +1,119 @@
 //! A trace by hand, with a list of sets for each layout: what comes back is kept for the next request. A new
-//! set comes from the last pool of its layout, which has twice as many sets as the one before. The sets of
-//! a layout that goes are freed, those that are out once they come back, and its pools are destroyed after
-//! the last. It checks no set that it gets.
+//! set comes from the last pool of its layout: the first has 64 sets, and each further one twice as many as
+//! the one before. The sets of a layout that goes are freed, those that are out once they come back, and its
+//! pools are destroyed after the last. It checks no set that it gets.
 
-use crate::by_allocator::total_count;
-use crate::device::CountingDevice;
-use crate::play::{KINDS, Player};
-use gpu_descriptor::{DescriptorDevice, DescriptorPoolCreateFlags as Flags, DescriptorTotalCount};
+use crate::play::{Descriptors, Player};
+use crate::{by_allocator::total_count, by_pools::pool_flags, gpu::Gpu};
 
-/// The sets of a layout's first pool.
-const FIRST: u32 = 64;
-
-#[derive(Default)]
-struct Layout {
-    counts: DescriptorTotalCount,
+struct Layout<G: Gpu> {
+    handle: G::Layout,
+    of: Descriptors,
     is_removed: bool,
-    kept: Vec<u64>,
-    /// How many sets are out.
-    out: u32,
-    pools: Vec<u64>,
+    kept: Vec<G::Set>,
+    sets_out: u32,
+    pools: Vec<G::Pool>,
     /// How many sets the last pool has, and how many it can give.
     size: u32,
     room: u32,
 }
 
-/// A set, and the place of its layout.
-type Set = (u64, u32);
-
-pub struct Lists {
-    device: CountingDevice,
-    layouts: Vec<Layout>,
+pub struct Lists<G: Gpu> {
+    gpu: G,
+    layouts: Vec<Layout<G>>,
     /// The places of the program's layouts.
     places: Vec<u32>,
 }
 
-impl Layout {
+impl<G: Gpu> Layout<G> {
     /// Takes new sets, as many as are missing.
-    fn grow(&mut self, device: &CountingDevice, missing: u32) {
+    fn grow(&mut self, gpu: &G, missing: u32) -> bool {
         if self.room < missing {
-            self.size = (2 * self.size).max(FIRST).max(missing);
-            let flags = Flags::FREE_DESCRIPTOR_SET;
-            // SAFETY: the device only counts.
-            let made = unsafe { device.create_descriptor_pool(&self.counts, self.size, flags) };
-            self.pools.push(made.unwrap());
-            self.room = self.size;
+            let size = (2 * self.size).max(64).max(missing);
+            let counts = total_count(&self.of.counts.map(|count| count * size));
+            let flags = pool_flags(self.of.flags);
+            // SAFETY: it has no condition.
+            let made = unsafe { gpu.create_descriptor_pool(&counts, size, flags) };
+            let Ok(pool) = made else { return false };
+            self.pools.push(pool);
+            (self.size, self.room) = (size, size);
         }
         let pool = self.pools.last_mut().unwrap();
-        let layouts = [(); 1024];
-        let layouts = layouts[..missing as usize].iter();
-        // SAFETY: the device only counts.
-        unsafe { device.alloc_descriptor_sets(pool, layouts, &mut self.kept) }.unwrap();
+        let layouts = std::iter::repeat_n(&self.handle, missing as usize);
+        // SAFETY: the pool has room, and is of this layout.
+        unsafe { gpu.alloc_descriptor_sets(pool, layouts, &mut self.kept) }.unwrap();
         self.room -= missing;
+        true
     }
 
     /// Destroys the pools of a layout that is gone, once no set is out.
-    fn end(&mut self, device: &CountingDevice) {
-        if self.is_removed && self.out == 0 {
+    fn end(&mut self, gpu: &G) {
+        if self.is_removed && self.sets_out == 0 {
             for pool in self.pools.drain(..) {
-                // SAFETY: the device only counts.
-                unsafe { device.destroy_descriptor_pool(pool) }
+                // SAFETY: no set of it is out.
+                unsafe { gpu.destroy_descriptor_pool(pool) }
             }
             self.kept = Vec::new();
         }
     }
 }
 
-impl Player for Lists {
-    type Set = Set;
+impl<G: Gpu> Player<G> for Lists<G> {
+    /// A set, and the place of its layout.
+    type Set = (G::Set, u32);
 
-    fn new() -> Self {
+    fn new(gpu: G) -> Self {
         Lists {
-            device: CountingDevice::new(u64::MAX),
+            gpu,
             layouts: Vec::new(),
             places: Vec::new(),
         }
     }
 
-    fn add_layout(&mut self, layout: usize, counts: &[u32; KINDS]) {
+    fn add_layout(&mut self, layout: usize, handle: G::Layout, of: &Descriptors) {
         self.places.truncate(layout);
         self.places.push(self.layouts.len() as u32);
-        let counts = total_count(counts);
         self.layouts.push(Layout {
-            counts,
-            ..Default::default()
+            handle,
+            of: *of,
+            is_removed: false,
+            kept: Vec::new(),
+            sets_out: 0,
+            pools: Vec::new(),
+            size: 0,
+            room: 0,
         });
     }
 
     fn remove_layout(&mut self, layout: usize) {
         let layout = &mut self.layouts[self.places[layout] as usize];
         layout.is_removed = true;
-        layout.end(&self.device);
+        layout.end(&self.gpu);
     }
 
-    fn take(&mut self, _pool: usize, layout: usize, count: u32, sets: &mut Vec<Set>) {
+    fn take(&mut self, _: usize, layout: usize, count: u32, sets: &mut Vec<Self::Set>) -> bool {
         let place = self.places[layout];
         let layout = &mut self.layouts[place as usize];
         let missing = count.saturating_sub(layout.kept.len() as u32);
-        if missing > 0 {
-            layout.grow(&self.device, missing);
+        if missing > 0 && !layout.grow(&self.gpu, missing) {
+            return false;
         }
-        layout.out += count;
+        layout.sets_out += count;
         let left = layout.kept.len() - count as usize;
         sets.extend(layout.kept.drain(left..).map(|set| (set, place)));
+        true
     }
 
-    fn free(&mut self, _pool: usize, sets: &mut Vec<Set>) {
+    fn free(&mut self, _pool: usize, sets: &mut Vec<Self::Set>) {
         for (set, place) in sets.drain(..) {
             let layout = &mut self.layouts[place as usize];
             layout.kept.push(set);
-            layout.out -= 1;
-            layout.end(&self.device);
+            layout.sets_out -= 1;
+            layout.end(&self.gpu);
         }
     }
 
     fn outstanding(&self) -> Option<u64> {
-        Some(self.layouts.iter().map(|it| u64::from(it.out)).sum())
+        Some(self.layouts.iter().map(|it| u64::from(it.sets_out)).sum())
     }
 }

@@ -1,40 +1,41 @@
 //! A trace by the crate's renderer, which keeps the sets that come back.
 
-use crate::by_allocator::total_count;
-use crate::device::CountingDevice;
-use crate::play::{KINDS, Player};
+use crate::by_allocator::{layout_flags, total_count};
+use crate::gpu::Gpu;
+use crate::play::{Descriptors, Player};
+use gpu_descriptor::SetLayout;
 use gpu_descriptor::renderer::{LayoutHandle, Renderer, SetHandle};
-use gpu_descriptor::{DescriptorSetLayoutCreateFlags, SetLayout};
 
-pub struct Keeping {
-    renderer: Renderer<(), u64, u64, CountingDevice>,
+pub struct Keeping<G: Gpu> {
+    pub renderer: Renderer<G::Layout, G::Pool, G::Set, G>,
     layouts: Vec<LayoutHandle>,
 }
 
-impl Drop for Keeping {
+impl<G: Gpu> Drop for Keeping<G> {
     fn drop(&mut self) {
         self.renderer.cleanup();
     }
 }
 
-impl Player for Keeping {
+impl<G: Gpu> Player<G> for Keeping<G> {
     type Set = SetHandle;
 
-    fn new() -> Self {
+    fn new(gpu: G) -> Self {
+        let limit = gpu.limit();
         Keeping {
-            renderer: Renderer::new(CountingDevice::new(u64::MAX), u32::MAX),
+            renderer: Renderer::new(gpu, limit),
             layouts: Vec::new(),
         }
     }
 
-    fn add_layout(&mut self, layout: usize, counts: &[u32; KINDS]) {
+    fn add_layout(&mut self, layout: usize, handle: G::Layout, of: &Descriptors) {
         let added = SetLayout {
-            layout: (),
-            counts: total_count(counts),
-            flags: DescriptorSetLayoutCreateFlags::empty(),
+            layout: handle,
+            counts: total_count(&of.counts),
+            flags: layout_flags(of.flags),
         };
         self.layouts.truncate(layout);
-        // SAFETY: the device only counts.
+        // SAFETY: the layout has these counts, and lives as long as the device.
         self.layouts
             .push(unsafe { self.renderer.add_layout(added) }.unwrap());
     }
@@ -43,16 +44,16 @@ impl Player for Keeping {
         self.renderer.remove_layout(self.layouts[layout]).unwrap();
     }
 
-    fn take(&mut self, _pool: usize, layout: usize, count: u32, sets: &mut Vec<SetHandle>) {
-        let mut taken = self
-            .renderer
-            .create_sets(self.layouts[layout], count)
-            .unwrap();
+    fn take(&mut self, _: usize, layout: usize, count: u32, sets: &mut Vec<SetHandle>) -> bool {
+        let Ok(mut taken) = self.renderer.create_sets(self.layouts[layout], count) else {
+            return false;
+        };
         sets.append(&mut taken);
+        true
     }
 
     fn free(&mut self, _pool: usize, sets: &mut Vec<SetHandle>) {
-        // SAFETY: the device only counts.
+        // SAFETY: the device uses no set.
         unsafe { self.renderer.free_sets(sets) }.unwrap();
         sets.clear();
     }

@@ -4,26 +4,37 @@
 //! played as one for each stretch of one layout. What the program was refused, and layouts that the
 //! library doesn't serve, are left out.
 
+use crate::gpu::Gpu;
 use std::time::{Duration, Instant};
 
 /// How many kinds of descriptors there are.
 pub const KINDS: usize = 14;
 
+/// The first passes, in which pools grow: no time of them counts if there are more.
+const FIRST_PASSES: u32 = 2;
+
+/// The descriptors of a layout or of a pool, and its flags of Vulkan.
+#[derive(Clone, Copy, Default)]
+pub struct Descriptors {
+    pub counts: [u32; KINDS],
+    pub flags: u32,
+}
+
 /// The sets of a program, by its own names: numbers of its layouts and pools.
-pub trait Player {
+pub trait Player<G: Gpu> {
     type Set;
 
-    fn new() -> Self;
+    fn new(gpu: G) -> Self;
 
-    fn add_layout(&mut self, layout: usize, counts: &[u32; KINDS]);
+    fn add_layout(&mut self, layout: usize, handle: G::Layout, of: &Descriptors);
 
     fn remove_layout(&mut self, layout: usize);
 
-    /// The program creates a pool of its own.
-    fn add_pool(&mut self, _pool: usize) {}
+    /// The program creates a pool of its own, for so many sets.
+    fn add_pool(&mut self, _pool: usize, _max_sets: u32, _of: &Descriptors) {}
 
-    /// Appends so many sets of a layout.
-    fn take(&mut self, pool: usize, layout: usize, count: u32, sets: &mut Vec<Self::Set>);
+    /// Appends so many sets of a layout, or none if they are refused.
+    fn take(&mut self, pool: usize, layout: usize, count: u32, sets: &mut Vec<Self::Set>) -> bool;
 
     /// Takes sets of a pool back.
     fn free(&mut self, pool: usize, sets: &mut Vec<Self::Set>);
@@ -40,19 +51,45 @@ pub trait Player {
 }
 
 enum Call {
-    Layout(usize, [u32; KINDS]),
+    Layout(usize, Descriptors),
     Unlayout(usize),
-    Pool(usize),
+    Pool(usize, u32, Descriptors),
     Request(usize, usize, u32),
     /// The places of sets within what their pool has.
     Free(usize, Vec<usize>),
     Empty(usize, bool),
 }
 
-/// A program's calls, and how many pools it makes.
+/// A program's calls, with the frames that it presented before each, and how many pools it makes.
 pub struct Trace {
     calls: Vec<Call>,
+    frames: Vec<u32>,
     pools: usize,
+}
+
+/// The words of the program that plays: a file, how often it is played, and what else is asked.
+pub struct Asked {
+    pub file: String,
+    pub times: u32,
+    pub words: Vec<String>,
+}
+
+impl Asked {
+    /// Reads the words after the column.
+    pub fn read(words: &[String]) -> Self {
+        let [file, times, words @ ..] = words else {
+            panic!("the arguments are a column, a trace, how often it is played, and words");
+        };
+        Asked {
+            file: file.clone(),
+            times: times.parse().expect("a number"),
+            words: words.to_vec(),
+        }
+    }
+
+    pub fn has(&self, word: &str) -> bool {
+        self.words.iter().any(|it| it == word)
+    }
 }
 
 fn number(word: &str) -> usize {
@@ -62,12 +99,24 @@ fn number(word: &str) -> usize {
 /// The sets of each pool, by number, while a trace is read.
 type Held = Vec<Vec<usize>>;
 
-fn layout(words: &[&str]) -> Option<Call> {
+/// What stands after the word `flags`.
+fn descriptors(words: &[&str]) -> Descriptors {
     let mut counts = [0; KINDS];
-    for (kind, count) in words[4..].iter().filter_map(|word| word.split_once(':')) {
+    for (kind, count) in words[1..].iter().filter_map(|word| word.split_once(':')) {
         counts[number(kind)] += number(count) as u32;
     }
-    (!words.contains(&"refused")).then(|| Call::Layout(number(words[1]), counts))
+    let flags = number(words[0]) as u32;
+    Descriptors { counts, flags }
+}
+
+fn layout(words: &[&str]) -> Option<Call> {
+    let is_refused = words.contains(&"refused");
+    (!is_refused).then(|| Call::Layout(number(words[1]), descriptors(&words[3..])))
+}
+
+fn pool(words: &[&str]) -> Call {
+    let max_sets = number(words[3]) as u32;
+    Call::Pool(number(words[1]), max_sets, descriptors(&words[5..]))
 }
 
 /// The stretches of one layout. No layout is refused in a request that is played.
@@ -104,6 +153,7 @@ fn free(words: &[&str], held: &mut Held) -> Call {
 impl Trace {
     pub fn read(text: &str) -> Self {
         let (mut calls, mut held): (_, Held) = (Vec::new(), Vec::new());
+        let (mut frames, mut frame) = (Vec::new(), 0);
         for line in text.lines() {
             let words: Vec<&str> = line.split_whitespace().collect();
             match words[0] {
@@ -111,7 +161,7 @@ impl Trace {
                 "unlayout" => calls.push(Call::Unlayout(number(words[1]))),
                 "pool" => {
                     held.push(Vec::new());
-                    calls.push(Call::Pool(number(words[1])));
+                    calls.push(pool(&words));
                 }
                 "alloc" => requests(&words, &mut held, &mut calls),
                 "free" => calls.push(free(&words, &mut held)),
@@ -119,24 +169,51 @@ impl Trace {
                     held[number(words[1])].clear();
                     calls.push(Call::Empty(number(words[1]), words[0] == "destroy"));
                 }
+                "present" => frame += 1,
                 _ => {}
             }
+            frames.resize(calls.len(), frame);
         }
         let pools = held.len();
-        Trace { calls, pools }
+        Trace {
+            calls,
+            frames,
+            pools,
+        }
+    }
+
+    fn layouts(&self) -> impl Iterator<Item = (usize, &Descriptors)> {
+        self.calls.iter().filter_map(|call| match call {
+            Call::Layout(layout, of) => Some((*layout, of)),
+            _ => None,
+        })
+    }
+
+    /// All layouts are there before the first pass, and none goes.
+    fn keep_layouts<G: Gpu>(&mut self, player: &mut impl Player<G>, handles: &[G::Layout]) {
+        for (layout, of) in self.layouts() {
+            player.add_layout(layout, handles[layout], of);
+        }
+        let goes = |call: &Call| matches!(call, Call::Layout(..) | Call::Unlayout(_));
+        self.calls.retain(|call| !goes(call));
     }
 
     /// Plays all calls once: how many sets were allocated, freed, and left.
-    fn play<P: Player>(&self, player: &mut P, pools: &mut [Vec<P::Set>]) -> [u64; 3] {
+    fn play<G: Gpu, P: Player<G>>(
+        &self,
+        player: &mut P,
+        handles: &[G::Layout],
+        pools: &mut [Vec<P::Set>],
+    ) -> [u64; 3] {
         let (mut allocated, mut freed, mut some) = (0, 0, Vec::new());
-        for call in &self.calls {
+        for (place, call) in self.calls.iter().enumerate() {
             match call {
-                Call::Layout(layout, counts) => player.add_layout(*layout, counts),
+                Call::Layout(layout, of) => player.add_layout(*layout, handles[*layout], of),
                 Call::Unlayout(layout) => player.remove_layout(*layout),
-                Call::Pool(pool) => player.add_pool(*pool),
+                Call::Pool(pool, max_sets, of) => player.add_pool(*pool, *max_sets, of),
                 Call::Request(pool, layout, count) => {
                     allocated += u64::from(*count);
-                    player.take(*pool, *layout, *count, &mut pools[*pool]);
+                    assert!(player.take(*pool, *layout, *count, &mut pools[*pool]));
                 }
                 Call::Free(pool, places) => {
                     some.extend(places.iter().map(|place| pools[*pool].swap_remove(*place)));
@@ -148,6 +225,9 @@ impl Trace {
                     player.empty(*pool, &mut pools[*pool], *is_destroyed);
                 }
             }
+            if let Some(frame) = self.frames.get(place) {
+                G::at(*frame);
+            }
         }
         [
             allocated,
@@ -157,16 +237,25 @@ impl Trace {
     }
 }
 
-/// Plays a trace some times, and reports what was done. What a pass leaves goes after it.
-pub fn run<P: Player>(file: &str, times: u32) {
-    let text = std::fs::read_to_string(file).expect("a trace");
-    let trace = Trace::read(&text);
-    let mut player = P::new();
+/// Plays a trace some times, and reports what was done. What a pass leaves goes after it. With the word `stay`
+/// no layout goes.
+pub fn run<G: Gpu, P: Player<G>>(gpu: G, asked: &Asked) {
+    let text = std::fs::read_to_string(&asked.file).expect("a trace");
+    let mut trace = Trace::read(&text);
+    let handles: Vec<G::Layout> = trace.layouts().map(|it| gpu.create_layout(it.1)).collect();
+    let mut player = P::new(gpu);
+    if asked.has("stay") {
+        trace.keep_layouts(&mut player, &handles);
+    }
     let mut pools: Vec<Vec<P::Set>> = (0..trace.pools).map(|_| Vec::new()).collect();
     let (mut time, mut done) = (Duration::ZERO, [0; 3]);
-    for _ in 0..times {
+    for number in 0..asked.times {
+        if number == FIRST_PASSES {
+            time = Duration::ZERO;
+            G::forget();
+        }
         let start = Instant::now();
-        let pass = trace.play(&mut player, &mut pools);
+        let pass = trace.play(&mut player, &handles, &mut pools);
         time += start.elapsed();
         assert_eq!(player.outstanding().unwrap_or(pass[2]), pass[2]);
         for (pool, sets) in pools.iter_mut().enumerate() {
@@ -175,6 +264,7 @@ pub fn run<P: Player>(file: &str, times: u32) {
         done = [done[0] + pass[0], done[1] + pass[1], done[2] + pass[2]];
     }
     let [allocated, freed, left] = done;
+    let times = asked.times;
     println!("played {times} {allocated} operations, {freed} freed, {left} left");
-    eprintln!("{} ns", time.as_nanos());
+    eprintln!("{} ns{}", time.as_nanos(), G::account());
 }

@@ -1,0 +1,159 @@
+"""The tables of `bench/compare --memory`: pools while traces are played, and the worst cases by name."""
+import importlib.machinery
+import importlib.util
+import os
+import sys
+from types import SimpleNamespace
+
+from common import TOP, account_of
+from trace_table import HERE, build_columns, finish, traces, written
+
+# Whose pools are measured in a trace; `pools` are the program's own.
+PLAYERS = ["pools", "crate", "renderer", "C", "lists"]
+
+CASES = {
+    "first": "a spike of 100,000 sets after one that stays",
+    "middle": "the same, and the one that stays is in its middle",
+    "bindless": "one set of 100,000 images",
+    "same": "10,000 layouts come and go, all with the same counts",
+    "different": "10,000 layouts come and go, each with its own counts",
+    "limit": "under a limit of 500,000 the 500 sets of 1000 images that it has room for, then as many of 999",
+}
+
+# The trace of the picture.
+DRAWN, PICTURE = "glmark2", f"{HERE}/memory.svg"
+
+
+class Checks:
+    """How many values are as they must be."""
+
+    def __init__(self):
+        self.passed, self.failed = 0, 0
+
+    def equal(self, what, value, expected):
+        self.passed += value == expected
+        self.failed += value != expected
+        if value != expected:
+            print(f"FAILED: {what}: {value}, not {expected}")
+
+
+def pools_of(words, file):
+    """The frame, the pools, their sets and their descriptors after each call of a trace."""
+    said, _ = finish([*words, file, "1"])
+    return [tuple(map(int, line.split()[1:])) for line in said.splitlines() if line.startswith("at ")]
+
+
+def played(columns):
+    """Of each trace the pools of each player."""
+    for name, trace in traces():
+        with written(trace) as file:
+            yield name, trace, {player: pools_of(columns[player], file) for player in PLAYERS}
+
+
+def print_traces(pools_by_trace, checks):
+    print("pools of a trace, at most and at its end\n"
+          f"{'trace':10}{'sets':>6} {'of':10}{'pools':>10}{'their sets':>16}{'descriptors':>18}")
+    for name, trace, pools in pools_by_trace:
+        for player, rows in pools.items():
+            cells = [f"{max(values)} {values[-1]}" for values in list(zip(*rows))[1:]]
+            print(f"{name:10}{account_of(trace)['peak']:6} {player:10}{cells[0]:>10}{cells[1]:>16}{cells[2]:>18}")
+        checks.equal(f"{name}: the program's own pools at the end", pools["pools"][-1][1], 0)
+        checks.equal(f"{name}: the pools of C are the renderer's", pools["C"] == pools["renderer"], True)
+
+
+def case_of(words, name):
+    """What a worst case prints, by the first word of a line."""
+    said, _ = finish([*words, "worst", name])
+    lines = [line.split() for line in said.splitlines()]
+    numbers = {word: list(map(int, rest)) for word, *rest in lines if word not in ("case", "got")}
+    return numbers | {"got": [int(rest[0]) for word, *rest in lines if word == "got"]}
+
+
+def check_case(name, column, case, checks):
+    """What is known of it. The list by hand has no promise, and the crate alone no bound of a pool."""
+    check = lambda what, value, expected: checks.equal(f"{CASES[name]}, {column}: {what}", value, expected)
+    if column == "lists":
+        return
+    check("pools, sets and descriptors once no set is out", case["gone"][:3], [0, 0, 0])
+    if name in ("first", "middle"):
+        check("pools beside the set that stays", case["end"][0], 1)
+    elif name == "bindless" and column != "crate":
+        check("the sets of its pool", case["most"][:2], [1, 1])
+    elif name == "same":
+        check("pools at most", case["most"][0], 1)
+        check("bytes at most are below 8192", case["most"][3] < 8192, True)
+    elif name == "limit":
+        check("descriptors at most", case["most"][2], 500_000)
+        check("sets of the first layout, and of the second after all was given back", case["got"][::2], [500, 500])
+        check("sets of the second, beside kept ones", column == "crate" or case["got"][1] == 500, True)
+
+
+def print_cases(columns, checks):
+    print("\nworst cases, at most and once all that can be was given back\n"
+          f"{'':10}{'pools':>14}{'their sets':>18}{'descriptors':>20}{'kB':>18}")
+    for name, about in CASES.items():
+        print(about)
+        for column in PLAYERS[1:]:
+            case = case_of(columns[column], name)
+            cells = [f"{most} {end}" for most, end in zip(case["most"][:3], case["end"])]
+            cells.append(" ".join(f"{case[when][3] / 1000:.1f}" for when in ("most", "end")))
+            got = f", sets: {' '.join(map(str, case['got']))}" if case["got"] else ""
+            print(f"{column:10}{cells[0]:>14}{cells[1]:>18}{cells[2]:>20}{cells[3]:>18}{got}")
+            check_case(name, column, case, checks)
+
+
+def tool(name):
+    """A tool as a module."""
+    loader = importlib.machinery.SourceFileLoader(name, f"{TOP}/tools/{name}")
+    module = importlib.util.module_from_spec(importlib.util.spec_from_loader(name, loader))
+    loader.exec_module(module)
+    return module
+
+
+def room_by_frame(rows):
+    """The sets that the pools have room for: the most in each frame, and what is left after the last one."""
+    most = {}
+    for frame, _, sets, _ in rows:
+        most[frame] = max(sets, most.get(frame, 0))
+    steps = [*most.items(), (rows[-1][0] + 1, rows[-1][2])]
+    return [step for place, step in enumerate(steps) if place == 0 or step[1] != steps[place - 1][1]]
+
+
+def picture(pools, peak):
+    """The program's own pools and the library's, frame by frame."""
+    drawing, frames = tool("picture"), pools["C"][-1][0]
+    left, right, top, base = drawing.LEFT, drawing.WIDTH - drawing.RIGHT, 70, 300
+    it = drawing.Picture(SimpleNamespace(length=frames + 1, pools={}, refused=[]))
+    it.height = base + 40
+    own, ours = room_by_frame(pools["pools"]), room_by_frame(pools["C"])
+    most = max(room for _, room in own + ours)
+    height = lambda room: base - room * (base - top) / most
+    it.say(left, 24, f"What the pools of {DRAWN} have room for. It has {peak} sets at most.", 16)
+    parts = (own, drawing.OUT, left, "its own"), (ours, drawing.COLOURS[0], left + 300, "the library's")
+    for steps, colour, x, whose in parts:
+        it.area(it.stairs(steps, it.end, height), base, fill=colour)
+        it.put("rect", x=x, y=36, width=22, height=11, fill=colour)
+        it.say(x + 28, 46, f"{whose}: {max(room for _, room in steps)} sets at most, {steps[-1][1]} at the end")
+    for room in (0, most / 2, most):
+        it.rule(left, height(room), right, height(room), drawing.EMPTY)
+        it.say(left - 8, height(room) + 4, f"{room:g}", 11, drawing.FAINT, "end")
+    it.say((left + right) / 2, base + 28, f"{frames} frames, from left to right", 12, drawing.FAINT, "middle")
+    return f"{it.document()}\n"
+
+
+def run(given):
+    """Both tables and what must be in them, or the picture alone."""
+    # Freed memory that malloc holds back for a thread would count as given.
+    os.environ["GLIBC_TUNABLES"] = "glibc.malloc.tcache_count=0"
+    columns, checks = build_columns(None, "memory"), Checks()
+    pools_by_trace = list(played(columns))
+    drawn = next(picture(pools, account_of(trace)["peak"]) for name, trace, pools in pools_by_trace if name == DRAWN)
+    if given.picture:
+        sys.stdout.write(drawn)
+        return
+    print_traces(pools_by_trace, checks)
+    print_cases(columns, checks)
+    with open(PICTURE, encoding="utf-8") as it:
+        checks.equal(f"{os.path.relpath(PICTURE, TOP)} is what it draws", it.read() == drawn, True)
+    print(f"{checks.passed} passed, {checks.failed} failed")
+    sys.exit(checks.failed > 0)
