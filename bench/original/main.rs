@@ -47,7 +47,7 @@ fn gpu(_: &play::Asked) -> device::CountingDevice {
 
 fn main() {
     let words: Vec<String> = std::env::args().skip(1).collect();
-    if words[0] == "trace" {
+    if words.first().is_some_and(|word| word == "trace") {
         let asked = play::Asked::read(&words[1..]);
         play::run::<_, by_allocator::Allocator<_>>(gpu(&asked), &asked);
     } else {

@@ -192,6 +192,12 @@ static void share_pools(void) {
     wanted.pool_descriptors = 64000 + 128;
     expect_numbers(allocator, wanted);
     expect_numbers_of(allocator, third, (gd_layout_statistics){0, 1, 100, 28});
+    // There are fewer of all than before.
+    CHECK(gd_free_all(allocator) == GD_OK && gd_cleanup(allocator) == GD_OK);
+    CHECK(gd_allocate(allocator, third, 1, sets) == GD_OK);
+    wanted.outstanding = wanted.pools = 1;
+    wanted.pool_sets = wanted.pool_descriptors = 64;
+    expect_numbers(allocator, wanted);
     CHECK(gd_free_all(allocator) == GD_OK && gd_destroy(allocator) == GD_OK);
 }
 

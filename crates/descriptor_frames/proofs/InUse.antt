@@ -1,16 +1,14 @@
 -- What is outstanding and in use, when sets are retired and go back.
-use Rattle.std.proofs.Common.{◌≡◌, ℕ, ◌+◌, ◌-◌, ◌≤◌, List, [], ◌∷◌, ◌++◌, IfOk, OnErr, Result, Ok, Err, ap, ◌∙◌, arith}
+use Rattle.std.proofs.Common.{◌≡◌, ℕ, ◌+◌, ◌-◌, ◌≤◌, List, [], ◌++◌, IfOk, OnErr, Result, Ok, Err, ap, ◌∙◌, arith}
 use Rattle.gpu_descriptor.specs.declared.errors.AllocationError.{AllocationError}
 use Rattle.gpu_descriptor.specs.Caller.Call.{map_ok}
 use Rattle.gpu_descriptor.specs.Model.Agreement.{AreOutstanding, Item, State, count_of, outstanding}
 use Rattle.gpu_descriptor.specs.Model.Promises.{AreOutBesides, KeepsOutstanding}
 use Rattle.gpu_descriptor_types.specs.Ledger.{Ledger}
-use Rattle.gpu_descriptor.specs.Caller.SetLists.{HasBesides}
-use Rattle.gpu_descriptor.specs.Caller.Sets.{item_of, items_of}
+use Rattle.gpu_descriptor.specs.Caller.Sets.{items_of}
 use Rattle.gpu_descriptor.specs.Caller.States.{state_of}
 use Rattle.gpu_descriptor.specs.declared.set.DescriptorSet.{DescriptorSet}
 use Rattle.gpu_descriptor.proofs.callers.HeldSets.{count_parts}
-use Rattle.gpu_descriptor.proofs.callers.SetLists.{count_besides}
 use Rattle.descriptor_frames.specs.Frames.{AreInUse, AreRetiredOut, Retires, allocator_of, retired_of, state_in}
 use Rattle.descriptor_frames.specs.Retired.{retired_sets}
 use Rattle.descriptor_frames.specs.declared.manager.FrameManager.{FrameManager}

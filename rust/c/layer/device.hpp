@@ -13,6 +13,7 @@
 #include <mutex>
 #include <string>
 #include <unordered_map>
+#include <utility>
 
 namespace layer {
 
@@ -20,17 +21,16 @@ namespace layer {
 struct level {
     uint64_t now = 0, peak = 0, total = 0; // total: all that was ever added
     void add(uint64_t more) {
-        now += more;
         total += more;
-        peak = std::max(peak, now);
+        peak = std::max(peak, now += more);
     }
 };
 
-/* What pools and their sets took. Times have the pools that were created and destroyed for the
- * sets. */
+/* What pools and their sets took. Times have the pools that were created and destroyed for the sets. */
 struct account {
-    level pools, capacity, sets;                 // capacity: the sets that the pools may have
-    uint64_t allocate_calls = 0, free_calls = 0; // of the driver; a reset frees
+    level pools, capacity, sets; // capacity: the sets that the pools may have
+    // Calls of the driver; a reset frees.
+    uint64_t create_calls = 0, destroy_calls = 0, allocate_calls = 0, free_calls = 0;
     uint64_t allocate_ns = 0, free_ns = 0, driver_ns = 0;
 };
 
@@ -70,7 +70,6 @@ struct device {
     std::ofstream trace;
     std::unordered_map<uint64_t, layout> layouts; // by handle
     std::unordered_map<uint64_t, pool> pools;
-    std::unordered_map<uint64_t, uint32_t> library_pools; // the sets that each may have
     account library, own;
     uint64_t layout_count = 0, set_count = 0;
     std::map<gd_status, uint64_t> fell_back; // sets of the own pools, by the library's status
@@ -81,23 +80,32 @@ struct device {
     ~device();
 };
 
-/* The device of its own handle, or of a queue's. */
-std::unique_ptr<device> &device_of(void *handle);
+/* Instances or devices, by the pointer at which the loader has each of their handles begin, as a queue's. */
+template <class Value> struct table {
+    std::mutex mutex;
+    std::unordered_map<void *, std::unique_ptr<Value>> values;
+    std::unique_ptr<Value> &at(void *handle) {
+        std::lock_guard lock(mutex);
+        return values[*static_cast<void **>(handle)];
+    }
+};
+
+inline table<device> devices;
 
 /* The next function of a name, below the layer. */
 #define NEXT(it, name) reinterpret_cast<PFN_##name>((it).get((it).handle, #name))
 
 /* The calls of the program that the layer has in place of the driver's. */
-template <class Pointer> using call = std::remove_pointer_t<Pointer>;
-call<PFN_vkCreateDescriptorSetLayout> create_layout;
-call<PFN_vkDestroyDescriptorSetLayout> destroy_layout;
-call<PFN_vkCreateDescriptorPool> create_pool;
-call<PFN_vkDestroyDescriptorPool> destroy_pool;
-call<PFN_vkResetDescriptorPool> reset_pool;
-call<PFN_vkAllocateDescriptorSets> allocate_sets;
-call<PFN_vkFreeDescriptorSets> free_sets;
+std::remove_pointer_t<PFN_vkCreateDescriptorSetLayout> create_layout;
+std::remove_pointer_t<PFN_vkDestroyDescriptorSetLayout> destroy_layout;
+std::remove_pointer_t<PFN_vkCreateDescriptorPool> create_pool;
+std::remove_pointer_t<PFN_vkDestroyDescriptorPool> destroy_pool;
+std::remove_pointer_t<PFN_vkResetDescriptorPool> reset_pool;
+std::remove_pointer_t<PFN_vkAllocateDescriptorSets> allocate_sets;
+std::remove_pointer_t<PFN_vkFreeDescriptorSets> free_sets;
 
 void create_allocator(device &it, uint32_t limit);
+void read_pools(device &it); // into the library's account
 void destroy_allocator(device &it);
 
 /* A word of the environment, NULL if there is none. */

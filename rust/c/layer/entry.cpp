@@ -22,27 +22,14 @@ struct instance {
     PFN_vkEnumerateDeviceExtensionProperties extensions = NEXT(*this, vkEnumerateDeviceExtensionProperties);
 };
 
-/* Instances or devices, by the pointer at which the loader has each of their handles begin. */
-template <class Value> struct table {
-    std::mutex mutex;
-    std::unordered_map<void *, std::unique_ptr<Value>> values;
-    std::unique_ptr<Value> &at(void *handle) {
-        std::lock_guard lock(mutex);
-        return values[*static_cast<void **>(handle)];
-    }
-};
-
 table<instance> instances;
-table<device> devices;
 
 /* What the loader says of the next layer. Each layer moves it on. */
 template <class Link> auto *take_link(const void *chain, VkStructureType type) {
     auto *link = static_cast<Link *>(const_cast<void *>(chain));
     while (link->sType != type || link->function != VK_LAYER_LINK_INFO)
         link = static_cast<Link *>(const_cast<void *>(link->pNext));
-    auto *next = link->u.pLayerInfo;
-    link->u.pLayerInfo = next->pNext;
-    return next;
+    return std::exchange(link->u.pLayerInfo, link->u.pLayerInfo->pNext);
 }
 
 VkResult create_instance(const VkInstanceCreateInfo *info, const VkAllocationCallbacks *callbacks,
@@ -63,15 +50,15 @@ void destroy_instance(VkInstance handle, const VkAllocationCallbacks *callbacks)
     ended->destroy(handle, callbacks);
 }
 
-/* maxUpdateAfterBindDescriptorsInAllPools, or 0 if the instance can't be asked. */
-uint32_t limit_of(const instance &of, VkPhysicalDevice physical) {
+/* Notes the device's name. Its maxUpdateAfterBindDescriptorsInAllPools, or 0 if the instance can't be asked. */
+uint32_t describe(device &it, const instance &of, VkPhysicalDevice physical) {
     VkPhysicalDeviceDescriptorIndexingProperties indexing = {};
     indexing.sType = VK_STRUCTURE_TYPE_PHYSICAL_DEVICE_DESCRIPTOR_INDEXING_PROPERTIES;
-    VkPhysicalDeviceProperties2 properties = {};
-    properties.sType = VK_STRUCTURE_TYPE_PHYSICAL_DEVICE_PROPERTIES_2;
-    properties.pNext = &indexing;
+    VkPhysicalDeviceProperties2 properties = {VK_STRUCTURE_TYPE_PHYSICAL_DEVICE_PROPERTIES_2, &indexing, {}};
+    of.properties(physical, &properties.properties);
     if (of.is_newer)
         of.properties2(physical, &properties);
+    it.name = properties.properties.deviceName;
     return indexing.maxUpdateAfterBindDescriptorsInAllPools;
 }
 
@@ -95,16 +82,8 @@ VkResult create_device(VkPhysicalDevice physical, const VkDeviceCreateInfo *info
     auto it = std::make_unique<device>();
     it->handle = *made;
     it->get = get;
-    it->driver = {*made,
-                  nullptr,
-                  NEXT(*it, vkCreateDescriptorPool),
-                  NEXT(*it, vkDestroyDescriptorPool),
-                  NEXT(*it, vkAllocateDescriptorSets),
-                  NEXT(*it, vkFreeDescriptorSets)};
-    VkPhysicalDeviceProperties properties;
-    of.properties(physical, &properties);
-    it->name = properties.deviceName;
-    const uint32_t limit = limit_of(of, physical);
+    it->faults += gdv_load(&it->driver, *made, nullptr, get) != GD_OK;
+    const uint32_t limit = describe(*it, of, physical);
     open_trace(*it, limit);
     if (setting("GPU_DESCRIPTOR_LAYER_OWN_POOLS") == nullptr)
         create_allocator(*it, limit);
@@ -132,40 +111,25 @@ VkResult enumerate_extensions(VkPhysicalDevice physical, const char *of_layer, u
     return result;
 }
 
-/* A call of a queue, with its word in the trace. */
+/* The device of a queue, with a word more in its trace. */
 device &traced(const char *word, VkQueue queue) {
-    device &it = *device_of(queue);
+    device &it = *devices.at(queue);
     std::lock_guard lock(it.mutex);
     it.trace << word;
     return it;
 }
 
-VkResult submit(VkQueue queue, uint32_t count, const VkSubmitInfo *infos, VkFence fence) {
-    return NEXT(traced("submit\n", queue), vkQueueSubmit)(queue, count, infos, fence);
-}
-
-VkResult submit2(VkQueue queue, uint32_t count, const VkSubmitInfo2 *infos, VkFence fence) {
-    device &it = traced("submit\n", queue);
-    const auto next = NEXT(it, vkQueueSubmit2) ? NEXT(it, vkQueueSubmit2) : NEXT(it, vkQueueSubmit2KHR);
-    return next(queue, count, infos, fence);
-}
-
-VkResult present(VkQueue queue, const VkPresentInfoKHR *info) {
-    return NEXT(traced("present\n", queue), vkQueuePresentKHR)(queue, info);
-}
-
-struct entry {
-    const char *name;
-    PFN_vkVoidFunction function;
-};
-
 #define ENTRY(name, function)                                                                                \
     { #name, reinterpret_cast < PFN_vkVoidFunction>(static_cast <PFN_##name>(function)) }
+
+/* A call of a queue, which is a word in the trace. */
+#define TRACED(name, word)                                                                                   \
+    ENTRY(name, [](VkQueue queue, auto... rest) { return NEXT(traced(word, queue), name)(queue, rest...); })
 
 PFN_vkVoidFunction device_function(VkDevice handle, const char *name);
 PFN_vkVoidFunction instance_function(VkInstance handle, const char *name);
 
-const entry entries[] = {
+const std::pair<const char *, PFN_vkVoidFunction> entries[] = {
     ENTRY(vkGetInstanceProcAddr, instance_function),
     ENTRY(vkCreateInstance, create_instance),
     ENTRY(vkDestroyInstance, destroy_instance),
@@ -180,21 +144,21 @@ const entry entries[] = {
     ENTRY(vkResetDescriptorPool, reset_pool),
     ENTRY(vkAllocateDescriptorSets, allocate_sets),
     ENTRY(vkFreeDescriptorSets, free_sets),
-    ENTRY(vkQueueSubmit, submit),
-    ENTRY(vkQueueSubmit2, submit2),
-    ENTRY(vkQueueSubmit2KHR, submit2),
-    ENTRY(vkQueuePresentKHR, present),
+    TRACED(vkQueueSubmit, "submit\n"),
+    TRACED(vkQueueSubmit2, "submit\n"),
+    TRACED(vkQueueSubmit2KHR, "submit\n"),
+    TRACED(vkQueuePresentKHR, "present\n"),
 };
 
 PFN_vkVoidFunction function_of(const char *name, PFN_vkVoidFunction next, bool always) {
-    for (const entry &ours : entries)
-        if (std::strcmp(ours.name, name) == 0 && (always || next != nullptr))
-            return ours.function;
+    for (const auto &[ours, function] : entries)
+        if (std::strcmp(ours, name) == 0 && (always || next != nullptr))
+            return function;
     return next;
 }
 
 PFN_vkVoidFunction device_function(VkDevice handle, const char *name) {
-    return function_of(name, device_of(handle)->get(handle, name), false);
+    return function_of(name, devices.at(handle)->get(handle, name), false);
 }
 
 PFN_vkVoidFunction instance_function(VkInstance handle, const char *name) {
@@ -203,10 +167,6 @@ PFN_vkVoidFunction instance_function(VkInstance handle, const char *name) {
 }
 
 } // namespace
-
-std::unique_ptr<device> &device_of(void *handle) {
-    return devices.at(handle);
-}
 
 const char *setting(const char *name) {
     const char *text = std::getenv(name);
@@ -217,9 +177,7 @@ const char *setting(const char *name) {
 
 extern "C" VK_LAYER_EXPORT VkResult
 vkNegotiateLoaderLayerInterfaceVersion(VkNegotiateLayerInterface *interface) {
-    interface->loaderLayerInterfaceVersion = std::min(interface->loaderLayerInterfaceVersion, 2U);
-    interface->pfnGetInstanceProcAddr = layer::instance_function;
-    interface->pfnGetDeviceProcAddr = layer::device_function;
-    interface->pfnGetPhysicalDeviceProcAddr = nullptr;
+    *interface = {interface->sType, interface->pNext, std::min(interface->loaderLayerInterfaceVersion, 2U),
+                  layer::instance_function, layer::device_function, nullptr};
     return VK_SUCCESS;
 }

@@ -4,65 +4,46 @@
 #include <cstdlib>
 
 namespace layer {
-namespace {
 
-gd_status make_pool(void *user, const gd_pool_info *info, uint64_t *made) noexcept {
+/* A function of the library's device: the driver's, counted and timed. */
+template <auto call, auto calls, class... Rest> static auto counted(void *user, Rest... rest) noexcept {
     auto &it = *static_cast<device *>(user);
     const stopwatch time{it.library.driver_ns};
-    const gd_status status = gdv_create_pool(&it.driver, info, made);
-    if (status == GD_OK) {
-        it.library.pools.add(1);
-        it.library.capacity.add(info->max_sets);
-        it.library_pools[*made] = info->max_sets;
-    }
-    return status;
+    it.library.*calls += 1;
+    return call(&it.driver, rest...);
 }
-
-void end_pool(void *user, uint64_t ended) noexcept {
-    auto &it = *static_cast<device *>(user);
-    const stopwatch time{it.library.driver_ns};
-    gdv_destroy_pool(&it.driver, ended);
-    it.library.pools.now--;
-    it.library.capacity.now -= it.library_pools[ended];
-    it.library_pools.erase(ended);
-}
-
-gd_status make_sets(void *user, uint64_t from, uint32_t count, const uint64_t *layouts,
-                    uint64_t *sets) noexcept {
-    auto &it = *static_cast<device *>(user);
-    const stopwatch time{it.library.driver_ns};
-    it.library.allocate_calls++;
-    return gdv_allocate_sets(&it.driver, from, count, layouts, sets);
-}
-
-void end_sets(void *user, uint64_t of, uint32_t count, const uint64_t *sets) noexcept {
-    auto &it = *static_cast<device *>(user);
-    const stopwatch time{it.library.driver_ns};
-    it.library.free_calls++;
-    gdv_free_sets(&it.driver, of, count, sets);
-}
-
-} // namespace
 
 void create_allocator(device &it, uint32_t limit) {
-    const gd_device functions = {&it, make_pool, end_pool, make_sets, end_sets};
+    const gd_device functions = {&it, counted<gdv_create_pool, &account::create_calls>,
+                                 counted<gdv_destroy_pool, &account::destroy_calls>,
+                                 counted<gdv_allocate_sets, &account::allocate_calls>,
+                                 counted<gdv_free_sets, &account::free_calls>};
     it.faults += gd_create(&functions, limit, &it.allocator) != GD_OK;
     if (const char *most = setting("GPU_DESCRIPTOR_LAYER_KEEP"))
         it.faults += gd_keep(it.allocator, uint32_t(std::strtoul(most, nullptr, 10))) != GD_OK;
 }
 
+/* Each pool that was created is there, or was destroyed. */
+void read_pools(device &it) {
+    gd_statistics numbers = {};
+    it.faults += gd_get_statistics(it.allocator, &numbers) != GD_OK;
+    it.library.pools = {numbers.pools, numbers.peak_pools, numbers.pools + it.library.destroy_calls};
+    it.library.capacity.peak = numbers.peak_pool_sets;
+    it.faults += numbers.outstanding != it.library.sets.now;
+}
+
 void destroy_allocator(device &it) {
     const stopwatch time{it.library.free_ns};
-    uint64_t outstanding = 0;
-    it.faults += gd_outstanding(it.allocator, &outstanding) != GD_OK;
-    it.faults += outstanding != it.library.sets.now;
+    read_pools(it);
     it.faults += gd_free_all(it.allocator) != GD_OK;
     it.faults += gd_destroy(it.allocator) != GD_OK;
+    it.library.pools.now = it.library.pools.total - it.library.destroy_calls;
+    it.allocator = {};
 }
 
 VkResult create_layout(VkDevice handle, const VkDescriptorSetLayoutCreateInfo *info,
                        const VkAllocationCallbacks *callbacks, VkDescriptorSetLayout *made) {
-    device &it = *device_of(handle);
+    device &it = *devices.at(handle);
     const VkResult result = NEXT(it, vkCreateDescriptorSetLayout)(handle, info, callbacks, made);
     if (result != VK_SUCCESS)
         return result;
@@ -81,17 +62,15 @@ VkResult create_layout(VkDevice handle, const VkDescriptorSetLayoutCreateInfo *i
 }
 
 void destroy_layout(VkDevice handle, VkDescriptorSetLayout ended, const VkAllocationCallbacks *callbacks) {
-    device &it = *device_of(handle);
-    std::unique_lock lock(it.mutex);
-    const auto found = it.layouts.find(GDV_NUMBER(ended));
-    if (found != it.layouts.end()) {
-        it.trace << "unlayout " << found->second.number << '\n';
+    device &it = *devices.at(handle);
+    std::lock_guard lock(it.mutex);
+    const auto node = it.layouts.extract(GDV_NUMBER(ended));
+    if (!node.empty()) {
+        it.trace << "unlayout " << node.mapped().number << '\n';
         const stopwatch time{it.library.free_ns};
-        if (found->second.known.owner != 0)
-            it.faults += gd_remove_layout(it.allocator, found->second.known) != GD_OK;
-        it.layouts.erase(found);
+        if (node.mapped().known.owner != 0)
+            it.faults += gd_remove_layout(it.allocator, node.mapped().known) != GD_OK;
     }
-    lock.unlock();
     NEXT(it, vkDestroyDescriptorSetLayout)(handle, ended, callbacks);
 }
 

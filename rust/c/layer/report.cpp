@@ -1,10 +1,10 @@
 // The report: what the library and what the program's own pools took.
 #include "device.hpp"
 
+#include <filesystem>
 #include <iomanip>
 #include <iostream>
 #include <sstream>
-#include <unistd.h>
 
 namespace layer {
 namespace {
@@ -29,31 +29,31 @@ uint64_t by(uint64_t sum, uint64_t count) {
 }
 
 std::string program() {
-    char path[1024];
-    const ssize_t length = readlink("/proc/self/exe", path, sizeof path);
-    return std::string(path, length < 0 ? 0 : size_t(length));
+    std::error_code none;
+    return std::filesystem::read_symlink("/proc/self/exe", none).string();
 }
 
 void add_accounts(tables &to, const account &library, const account &own) {
     const auto add = [&](const char *name, auto of) { to.add(name, of(library), of(own)); };
-    using it = const account &;
-    add("pools created", [](it of) { return of.pools.total; });
-    add("pools at most", [](it of) { return of.pools.peak; });
-    add("pools left", [](it of) { return of.pools.now; });
-    add("capacity at most", [](it of) { return of.capacity.peak; });
-    add("sets allocated", [](it of) { return of.sets.total; });
-    add("sets at most", [](it of) { return of.sets.peak; });
-    add("sets left", [](it of) { return of.sets.now; });
-    add("driver calls to allocate", [](it of) { return of.allocate_calls; });
-    add("driver calls to free", [](it of) { return of.free_calls; });
-    add("ns a set allocated", [](it of) { return by(of.allocate_ns, of.sets.total); });
-    add("ns a set freed", [](it of) { return by(of.free_ns, of.sets.total - of.sets.now); });
-    add("ns a set in the driver", [](it of) { return by(of.driver_ns, of.sets.total); });
+    add("pools created", [](const auto &of) { return of.pools.total; });
+    add("pools at most", [](const auto &of) { return of.pools.peak; });
+    add("pools left", [](const auto &of) { return of.pools.now; });
+    add("capacity at most", [](const auto &of) { return of.capacity.peak; });
+    add("sets allocated", [](const auto &of) { return of.sets.total; });
+    add("sets at most", [](const auto &of) { return of.sets.peak; });
+    add("sets left", [](const auto &of) { return of.sets.now; });
+    add("driver calls to allocate", [](const auto &of) { return of.allocate_calls; });
+    add("driver calls to free", [](const auto &of) { return of.free_calls; });
+    add("ns a set allocated", [](const auto &of) { return by(of.allocate_ns, of.sets.total); });
+    add("ns a set freed", [](const auto &of) { return by(of.free_ns, of.sets.total - of.sets.now); });
+    add("ns a set in the driver", [](const auto &of) { return by(of.driver_ns, of.sets.total); });
 }
 
 } // namespace
 
 device::~device() {
+    if (allocator.slot != nullptr)
+        read_pools(*this);
     tables all;
     all.text << "gpu_descriptor: " << program() << " on " << name << '\n'
              << std::setw(48) << "library" << std::setw(12) << "own pools" << '\n';

@@ -44,43 +44,36 @@ VkResult serve(device &it, const VkDescriptorSetAllocateInfo &info, std::vector<
 void trace_request(device &it, const VkDescriptorSetAllocateInfo &info, VkResult result) {
     if (!it.trace.is_open())
         return;
-    const uint64_t from = it.pools[GDV_NUMBER(info.descriptorPool)].number;
-    it.trace << "alloc " << from << ' ' << info.descriptorSetCount;
+    it.trace << "alloc " << it.pools[GDV_NUMBER(info.descriptorPool)].number << ' ' << info.descriptorSetCount;
     for (uint32_t place = 0; place < info.descriptorSetCount; place++)
         it.trace << ' ' << it.layouts[GDV_NUMBER(info.pSetLayouts[place])].number;
-    if (result == VK_SUCCESS)
-        it.trace << " = " << it.set_count << '\n';
-    else
-        it.trace << " failed " << result << '\n';
+    const int64_t number = result == VK_SUCCESS ? int64_t(it.set_count) : result;
+    it.trace << (result == VK_SUCCESS ? " = " : " failed ") << number << '\n';
 }
 
 /* Gives sets that were taken out of a pool to the library, and counts those of the pool itself. */
-void give_back(device &it, const std::vector<held_set> &sets) {
-    std::vector<gd_set> raw;
-    for (const held_set &held : sets)
-        if (held.set.owner != 0)
-            raw.push_back(held.set);
-    it.own.sets.now -= sets.size() - raw.size();
-    it.library.sets.now -= raw.size();
-    if (raw.empty())
-        return;
+void give_back(device &it, std::vector<gd_set> sets) {
+    const auto own = std::remove_if(sets.begin(), sets.end(), [](const gd_set &set) { return set.owner == 0; });
+    it.own.sets.now -= uint64_t(sets.end() - own);
+    sets.erase(own, sets.end());
+    it.library.sets.now -= sets.size();
     const stopwatch time{it.library.free_ns};
-    it.faults += gd_free(it.allocator, raw.data(), uint32_t(raw.size())) != GD_OK;
+    it.faults += !sets.empty() && gd_free(it.allocator, sets.data(), uint32_t(sets.size())) != GD_OK;
 }
 
 void empty(device &it, pool &emptied) {
-    std::vector<held_set> sets;
+    std::vector<gd_set> sets;
     for (const auto &entry : emptied.sets)
-        sets.push_back(entry.second);
+        sets.push_back(entry.second.set);
     emptied.sets.clear();
-    give_back(it, sets);
+    give_back(it, std::move(sets));
 }
 
 } // namespace
 
 VkResult create_pool(VkDevice handle, const VkDescriptorPoolCreateInfo *info,
                      const VkAllocationCallbacks *callbacks, VkDescriptorPool *made) {
-    device &it = *device_of(handle);
+    device &it = *devices.at(handle);
     std::lock_guard lock(it.mutex);
     const stopwatch time{it.own.allocate_ns};
     const VkResult result = it.driver.create_pool(handle, info, callbacks, made);
@@ -91,30 +84,28 @@ VkResult create_pool(VkDevice handle, const VkDescriptorPoolCreateInfo *info,
     it.own.pools.add(1);
     it.own.capacity.add(info->maxSets);
     it.trace << "pool " << number << " max " << info->maxSets << " flags " << info->flags;
-    for (uint32_t place = 0; place < info->poolSizeCount; place++)
-        it.trace << ' ' << gdv_kind(info->pPoolSizes[place].type) << ':'
-                 << info->pPoolSizes[place].descriptorCount;
+    for (const auto *size = info->pPoolSizes; size != info->pPoolSizes + info->poolSizeCount; size++)
+        it.trace << ' ' << gdv_kind(size->type) << ':' << size->descriptorCount;
     it.trace << '\n';
     return result;
 }
 
 void destroy_pool(VkDevice handle, VkDescriptorPool ended, const VkAllocationCallbacks *callbacks) {
-    device &it = *device_of(handle);
+    device &it = *devices.at(handle);
     std::lock_guard lock(it.mutex);
-    const auto found = it.pools.find(GDV_NUMBER(ended));
-    if (found != it.pools.end()) {
-        it.trace << "destroy " << found->second.number << '\n';
-        empty(it, found->second);
+    auto node = it.pools.extract(GDV_NUMBER(ended));
+    if (!node.empty()) {
+        it.trace << "destroy " << node.mapped().number << '\n';
+        empty(it, node.mapped());
         it.own.pools.now--;
-        it.own.capacity.now -= found->second.max_sets;
-        it.pools.erase(found);
+        it.own.capacity.now -= node.mapped().max_sets;
     }
     const stopwatch time{it.own.free_ns};
     it.driver.destroy_pool(handle, ended, callbacks);
 }
 
 VkResult reset_pool(VkDevice handle, VkDescriptorPool emptied, VkDescriptorPoolResetFlags flags) {
-    device &it = *device_of(handle);
+    device &it = *devices.at(handle);
     std::lock_guard lock(it.mutex);
     it.trace << "reset " << it.pools[GDV_NUMBER(emptied)].number << '\n';
     empty(it, it.pools[GDV_NUMBER(emptied)]);
@@ -125,7 +116,7 @@ VkResult reset_pool(VkDevice handle, VkDescriptorPool emptied, VkDescriptorPoolR
 }
 
 VkResult allocate_sets(VkDevice handle, const VkDescriptorSetAllocateInfo *info, VkDescriptorSet *sets) {
-    device &it = *device_of(handle);
+    device &it = *devices.at(handle);
     std::lock_guard lock(it.mutex);
     pool &from = it.pools[GDV_NUMBER(info->descriptorPool)];
     std::vector<gd_set> taken(info->descriptorSetCount);
@@ -137,10 +128,10 @@ VkResult allocate_sets(VkDevice handle, const VkDescriptorSetAllocateInfo *info,
 }
 
 VkResult free_sets(VkDevice handle, VkDescriptorPool of, uint32_t count, const VkDescriptorSet *sets) {
-    device &it = *device_of(handle);
+    device &it = *devices.at(handle);
     std::lock_guard lock(it.mutex);
     pool &from = it.pools[GDV_NUMBER(of)];
-    std::vector<held_set> known;
+    std::vector<gd_set> known;
     std::vector<VkDescriptorSet> others; // the driver's to free, or to complain of
     it.trace << "free " << from.number << ' ' << count;
     for (const auto *set = sets; set != sets + count; set++) {
@@ -148,12 +139,12 @@ VkResult free_sets(VkDevice handle, VkDescriptorPool of, uint32_t count, const V
         if (node.empty() || node.mapped().set.owner == 0)
             others.push_back(*set);
         if (!node.empty()) {
-            known.push_back(node.mapped());
-            it.trace << ' ' << known.back().number;
+            known.push_back(node.mapped().set);
+            it.trace << ' ' << node.mapped().number;
         }
     }
     it.trace << '\n';
-    give_back(it, known);
+    give_back(it, std::move(known));
     if (others.empty())
         return VK_SUCCESS;
     const stopwatch time{it.own.free_ns};
