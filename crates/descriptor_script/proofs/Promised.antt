@@ -43,8 +43,12 @@ module _ {L P S : Type 0} (means : Meaning L P S) where
   held_load : (s : Side (Session L P S)) → IsReady means s → marked_descriptors (held_items means s) ≡ marked_load_of (allocator_of s.value)
   held_load s ready = load_is_descriptors (state_on means s) _ ready.agree.books (adds_up means.pool_name (allocator_of s.value) descriptors_out ready.agree.rows (marked_load_of-table means.pool_name (allocator_of s.value))) (held_items means s) (λ t. sym (ready.held t))
 
-  -- a set that lives in a pool of the books has the counts of the pool's key, and is one of the held sets that lie in it
-  nothing_else : (s : Side (Session L P S)) → IsReady means s → (k : Key) (i : ℕ) (e : Entry) (x : LiveSet) → slice_get ((state_on means s).books k).pools i ≡ Some e → (0 < live_in s.ledger.pools e.pool x → x.counts ≡ k.counts) × (live_in s.ledger.pools e.pool x ≡ back_named (held_items means s) (state_on means s) e.pool x)
+  -- the live sets of a pool in the books are the held sets that lie in it, and have the counts of its key
+  nothing_else :
+      (s : Side (Session L P S)) → IsReady means s → (k : Key) (i : ℕ) (e : Entry) (x : LiveSet)
+      → slice_get ((state_on means s).books k).pools i ≡ Some e
+      → (0 < live_in s.ledger.pools e.pool x → x.counts ≡ k.counts)
+        × (live_in s.ledger.pools e.pool x ≡ back_named (held_items means s) (state_on means s) e.pool x)
   nothing_else s ready k i e x at =
       let state = state_on means s in
       let agree = ready.agree.books in

@@ -86,7 +86,7 @@ module _ {L P S : Type 0} (means : Meaning L P S) where
   pub record KeepsAll (command : Command) (reply : Reply) (old new : Side (Session L P S)) : Type 0 where
     -- the pools hold exactly the sets that are held: each is outstanding as often as it is held
     pub exactly : (t : Item) → outstanding (state_on means new) t ≡ count_of t (held_items new)
-    -- and nothing else: each of the pools has live exactly the held sets that lie in it, all with the counts of the pool's key
+    -- and nothing else: the live sets of each pool in the books are the held sets that lie in it, and have the counts of its key
     pub nothing_else : (k : Key) (i : ℕ) (e : Entry) (x : LiveSet) → slice_get ((state_on means new).books k).pools i ≡ Some e → (0 < live_in new.ledger.pools e.pool x → x.counts ≡ k.counts) × (live_in new.ledger.pools e.pool x ≡ count_by (λ t. lies_in (state_on means new).books e.pool t && set_eq (set_of t) x) (held_items new))
     -- and these are the sets that were handed out and not returned
     pub handed_out : HoldsWhatIsOut command reply old new
