@@ -164,19 +164,19 @@ versioned() {
 meets() {
   mkdir -p "$room/edited"
   sed "$3" "$include/gpu_descriptor.h" >"$room/edited/gpu_descriptor.h"
-  gcc "${of_c[@]}" -I"$room/edited" tools/hosts/linking/version.c "$1/lib/libgpu_descriptor_c.a" -o "$room/version" &&
+  gcc "${of_c[@]}" -I"$room/edited" rust/c/tests/linking/version.c "$1/lib/libgpu_descriptor_c.a" -o "$room/version" &&
     "$room/version" "$2"
 }
 
 beside_another() {
-  rustc --edition 2024 --crate-type staticlib -O tools/hosts/linking/other.rs -o "$room/libother.a" &&
-    gcc "${of_c[@]}" -I"$include" tools/hosts/linking/two_libraries.c "$1/lib/libgpu_descriptor_c.a" "$room/libother.a" \
+  rustc --edition 2024 --crate-type staticlib -O rust/c/tests/linking/other.rs -o "$room/libother.a" &&
+    gcc "${of_c[@]}" -I"$include" rust/c/tests/linking/two_libraries.c "$1/lib/libgpu_descriptor_c.a" "$room/libother.a" \
       -o "$room/two_libraries" && "$room/two_libraries" 2>/dev/null
 }
 
 # As cargo builds it the static library shows its functions, unless the linker excludes them.
 excluded() {
-  gcc "${of_c[@]}" -fPIC -shared -I"$include" tools/hosts/linking/plugin.c "$top/target/full/libgpu_descriptor_c.a" \
+  gcc "${of_c[@]}" -fPIC -shared -I"$include" rust/c/tests/linking/plugin.c "$top/target/full/libgpu_descriptor_c.a" \
     -Wl,--exclude-libs,libgpu_descriptor_c.a -o "$room/excluded.so" || return
   nm -D --defined-only "$room/excluded.so" | sed 's/.* //' >"$room/shown"
   cat "$room/shown"
@@ -185,8 +185,8 @@ excluded() {
 
 # A shared object over the static library shows its own function alone. It can be unloaded.
 inside_another() {
-  gcc "${of_c[@]}" -fPIC -shared -I"$include" tools/hosts/linking/plugin.c "$1/lib/libgpu_descriptor_c.a" -o "$room/plugin.so" &&
-    gcc "${of_c[@]}" tools/hosts/linking/loaded.c -o "$room/loaded" || return
+  gcc "${of_c[@]}" -fPIC -shared -I"$include" rust/c/tests/linking/plugin.c "$1/lib/libgpu_descriptor_c.a" -o "$room/plugin.so" &&
+    gcc "${of_c[@]}" rust/c/tests/linking/loaded.c -o "$room/loaded" || return
   nm -D --defined-only "$room/plugin.so" | sed 's/.* //' >"$room/shown"
   cat "$room/shown"
   [ "$(cat "$room/shown")" = plugin ] && "$room/loaded" "$room/plugin.so" plugin
