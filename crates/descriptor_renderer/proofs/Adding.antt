@@ -1,5 +1,5 @@
 -- A layout that comes into a slot and has a handle, and one that leaves.
-use Rattle.std.proofs.Common.{◌≡◌, ◌≢◌, ℕ, ◌+◌, ◌<◌, ◌⊎◌, zero, suc, true, false, List, [], ◌∷◌, length, set, slice_index_or, Option, None, Some, IsSome, inl, inr, refl, sym, ap, subst, ◌∙◌, arith}
+use Rattle.std.proofs.Common.{◌≡◌, ◌≢◌, ℕ, ◌+◌, ◌<◌, ◌⊎◌, zero, suc, Bool, true, false, List, [], ◌∷◌, length, set, slice_index_or, if◌then◌else◌, Option, None, Some, is_some, IsSome, inl, inr, refl, sym, ap, subst, ◌∙◌, arith}
 use Rattle.std.proofs.lemmas.List.{length-set}
 use Rattle.descriptor_table.specs.Sets.{AreHeldOnce, LoseNames, Names, find, is_held, sets_of}
 use Rattle.descriptor_table.specs.Slots.{is_live, slot_at}
@@ -11,12 +11,18 @@ use Rattle.descriptor_table.proofs.Counting.{same_or}
 use Rattle.descriptor_table.proofs.Holding.{held_is}
 use Rattle.descriptor_table.proofs.Naming.{names_lost}
 use Rattle.descriptor_table.proofs.Listed.{other_slots, slot_set}
+use Rattle.descriptor_renderer.specs.Own.{AreCounted, IsCounted}
 use Rattle.descriptor_renderer.proofs.Cleared.{same_clears}
 use Rattle.descriptor_renderer.proofs.Growing.{grow_new}
 use Rattle.descriptor_renderer.proofs.Handing.{named, new_fills}
 use Rattle.descriptor_renderer.proofs.Owned.{found_none, same_some}
 
-module _ {T : Type 0} (number p : ℕ) (x : T) (handle : SetHandle) (old mid new : List (Slot T)) (puts : Puts 0 x p old mid) (renews : Renews number p Held handle mid new) where
+one_more : (b c : Bool) (r g h : ℕ) → b ≡ false → c ≡ true → h ≡ g + 1 → g ≡ r + (if b then 1 else 0) → h ≡ r + (if c then 1 else 0)
+one_more false true r g h none some more was = omega arith
+one_more false false r g h none some more was = absurd (cc)
+one_more true c r g h none some more was = absurd (cc)
+
+module _ {T : Type 0} (number p : ℕ) (x : T) (handle : SetHandle) (old mid new : List (Slot T)) (generations : ℕ → ℕ) (puts : Puts generations 0 x p old mid) (renews : Renews number p Held handle mid new) where
   slot_here : slot_at new p ≡ renewed Held (slot_at mid p)
   slot_here = ap (λ l. slot_at l p) renews.slots ∙ slot_set mid p (renewed Held (slot_at mid p)) puts.within
 
@@ -29,8 +35,8 @@ module _ {T : Type 0} (number p : ℕ) (x : T) (handle : SetHandle) (old mid new
   -- no handle but the new one names something else
   pub added_names : Names handle x (sets_of number 0 false old) (sets_of number 0 false new)
   added_names =
-      let fills = new_fills (λ n y. y ≡ x) number 0 p Held handle x old mid new puts refl renews in
-      let is = named (λ n y. y ≡ x) number 0 p Held handle old new (record { mid = old; clears = λ q. same_clears (slot_at old q) (slot_at old q) refl; fills = fills }) in
+      let fills = new_fills (λ n y. y ≡ x) number generations 0 p Held handle x old mid new puts refl renews in
+      let is = named (λ n y. y ≡ x) number generations 0 p Held handle old new (record { mid = old; clears = λ q. same_clears (slot_at old q) (slot_at old q) refl; fills = fills }) in
       let at : (slot_at new handle.place).set ≡ Some x = ap (λ (h : SetHandle). (slot_at new h.place).set) renews.is ∙ added_here in
       subst (λ y. Names handle y (sets_of number 0 false old) (sets_of number 0 false new)) (same_some is.set x (sym is.here ∙ at)) (is.names 0 false refl)
 
@@ -49,8 +55,18 @@ module _ {T : Type 0} (number p : ℕ) (x : T) (handle : SetHandle) (old mid new
     | inr ne ↦ inl (ap (λ (s : Slot T). s.set) (sym (added_there n ne)) ∙ is)
   ]
 
+  -- one handle more was given where a layout came
+  pub added_counted : (removed : ℕ → ℕ) → AreCounted removed old → AreCounted removed new
+  added_counted removed counted n = elim (same_or n p) [
+    | inl e ↦ subst (λ n. IsCounted (removed n) (slot_at new n)) (sym e) (
+        let more : (slot_at new p).generation ≡ (slot_at old p).generation + 1 = ap (λ (s : Slot T). s.generation) slot_here ∙ ap (λ (s : Slot T). s.generation + 1) puts.here in
+        let few = puts.next in
+        (one_more (is_some (slot_at old p).set) (is_some (slot_at new p).set) (removed p) (slot_at old p).generation (slot_at new p).generation (ap is_some puts.empty) (ap is_some added_here) more (counted p).0, omega arith))
+    | inr ne ↦ subst (IsCounted (removed n)) (sym (added_there n ne)) (counted n)
+  ]
+
   pub added_grows : Grows old new
-  added_grows = grow_new number 0 p x Held handle old mid new (λ s. refl) puts renews
+  added_grows = grow_new number generations 0 p x Held handle old mid new (λ s. refl) puts renews
 
   pub added_one : (length new ≡ length old) ⊎ (length new ≡ length old + 1)
   added_one =

@@ -3,7 +3,7 @@ use Rattle.std.proofs.Common.{◌≡◌, ℕ, ◌+◌, ◌≤◌, ◌⊎◌, ◌
 use Rattle.gpu_descriptor_types.specs.declared.device.DescriptorDevice.{Ghosts}
 use Rattle.gpu_descriptor.specs.declared.set.DescriptorSet.{DescriptorSet}
 use Rattle.descriptor_table.specs.Slots.{frame_in, frame_of, in_list, slot_at}
-use Rattle.descriptor_table.specs.Tables.{is_held_use, is_waiting_use}
+use Rattle.descriptor_table.specs.Tables.{came_under, is_held_use, is_waiting_use}
 use Rattle.descriptor_table.specs.declared.slot.Slot.{Slot}
 use Rattle.descriptor_table.specs.declared.slot.Use.{Use}
 use Rattle.descriptor_renderer.specs.Stores.{IsAtRest, Settles, coming_in, is_placed, slots_in}
@@ -12,7 +12,7 @@ use Rattle.descriptor_renderer.proofs.Cleared.{Clears}
 
 -- a slot's set was there under the same layout, or passes the test, and waits for no frame later than before, and than this one. If the slot was placed, it is
 pub record Arrives {T : Type 0} (comes : ℕ → T → Type 0) (f : ℕ) (o n : Slot T) : Type 0 where
-  pub set : (x : T) → n.set ≡ Some x → ((o.set ≡ Some x) × (n.layout ≡ o.layout)) ⊎ comes n.layout x
+  pub set : (x : T) → n.set ≡ Some x → ((o.set ≡ Some x) × (came_under n ≡ came_under o)) ⊎ comes n.layout x
   pub placed : is_placed o ≡ true → is_placed n ≡ true
   pub frame : (g : ℕ) → f ≤ g → frame_of o ≤ g → frame_of n ≤ g
 
@@ -34,7 +34,7 @@ module _ {T : Type 0} where
     clears_arrives o n c = elim c.is [
       | inl same ↦ record {
         set = λ x e. inl (sym same.1 ∙ e, c.layout);
-        placed = λ was. ap (λ u. placed_in u n.set n.layout n.generation) same.0 ∙ ap (λ x. placed_in o.used x n.layout n.generation) same.1 ∙ ap (λ l. placed_in o.used o.set l n.generation) c.layout ∙ ap (placed_in o.used o.set o.layout) c.generation ∙ was;
+        placed = λ was. ap (λ u. placed_in u n.set n.layout n.generation) same.0 ∙ ap (λ x. placed_in o.used x n.layout n.generation) same.1 ∙ ap (λ l. placed_in o.used o.set l.0 n.generation) c.layout ∙ ap (placed_in o.used o.set o.layout) c.generation ∙ was;
         frame = λ g le up. subst (λ u. frame_in u ≤ g) (sym same.0) up;
       }
       | inr gone ↦ record {
@@ -49,7 +49,7 @@ module _ {T : Type 0} where
       set = λ x e. elim (b.set x e) [
         | inl stays ↦ elim (a.set x stays.0) [
           | inl was ↦ inl (was.0, stays.1 ∙ was.1)
-          | inr came ↦ inr (subst (λ l. comes l x) (sym stays.1) came)
+          | inr came ↦ inr (subst (λ l. comes l.0 x) (sym stays.1) came)
         ]
         | inr came ↦ inr came
       ];

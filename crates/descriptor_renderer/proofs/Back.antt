@@ -20,8 +20,8 @@ module _ {T : Type 0} where
       by_test p false e = ap (λ (s : Slot T). s.set) (t.rest p e)
       by_test p true e = same (slot_at old p) (slot_at new p) (t.here p e)
 
-  pub settled_sets : (test : Slot T → Bool) (most : ℕ) (old new : List (Slot T)) → Turns test (IsSettled most) old new → sets_in new ≡ sets_in old
-  settled_sets test most old new t = turned_sets test (IsSettled most) old new t (λ o n settled. elim settled [
+  pub settled_sets : (test : Slot T → Bool) (generations : ℕ → ℕ) (most : ℕ) (old new : List (Slot T)) → Turns test (IsSettled generations most) old new → sets_in new ≡ sets_in old
+  settled_sets test generations most old new t = turned_sets test (IsSettled generations most) old new t (λ o n settled. elim settled [
     | inl kept ↦ ap (λ (s : Slot T). s.set) kept.0
     | inr going ↦ ap (λ (s : Slot T). s.set) going.0
   ])
@@ -43,12 +43,12 @@ module _ {T : Type 0} where
       by_test p false e = ap (is_in k) (gives.rest p e)
       by_test p true e = ap (is_in k) (gives.here p e) ∙ vacant_out (slot_at mid p) ∙ sym (lists_apart k 1 (slot_at mid p) e (λ f. omega arith))
 
-  module _ (test : Slot T → Bool) (most : ℕ) (old mid new : List (Slot T)) (full : (s : Slot T) → test s ≡ true → is_some s.set ≡ true) where
+  module _ (test : Slot T → Bool) (generations : ℕ → ℕ) (most : ℕ) (old mid new : List (Slot T)) (full : (s : Slot T) → test s ≡ true → is_some s.set ≡ true) where
     kept_apart : (s : Slot T) → goes (used_for Kept s) ≡ false
     kept_apart s = ap (λ b. b && (nat_lt s.generation 4294967295 && is_some s.set)) (ne_eqb 1 (s.layout + 2) (λ e. omega arith))
 
     -- sets settled, and those that went were given back
-    pub came_back : ((p : ℕ) → goes (slot_at old p) ≡ false) → Turns test (IsSettled most) old mid → Turns goes Vacates mid new → Turns test (IsBack most) old new
+    pub came_back : ((p : ℕ) → goes (slot_at old p) ≡ false) → Turns test (IsSettled generations most) old mid → Turns goes Vacates mid new → Turns test (IsBack generations most) old new
     came_back none settles gives = record {
       long = gives.long ∙ settles.long;
       rest = λ p out. (let same = settles.rest p out in gives.rest p (ap goes same ∙ none p) ∙ same);
@@ -62,8 +62,8 @@ module _ {T : Type 0} where
     }
 
   -- no set is due then
-  pub back_not_due : (frame most : ℕ) (old new : List (Slot T)) → Turns (is_due frame) (IsBack most) old new → (p : ℕ) → is_due frame (slot_at new p) ≡ false
-  back_not_due frame most old new t p = by_test (is_due frame (slot_at old p)) refl
+  pub back_not_due : (generations : ℕ → ℕ) (frame most : ℕ) (old new : List (Slot T)) → Turns (is_due frame) (IsBack generations most) old new → (p : ℕ) → is_due frame (slot_at new p) ≡ false
+  back_not_due generations frame most old new t p = by_test (is_due frame (slot_at old p)) refl
     where
       by_test : (b : Bool) → is_due frame (slot_at old p) ≡ b → is_due frame (slot_at new p) ≡ false
       by_test false e = ap (is_due frame) (t.rest p e) ∙ e

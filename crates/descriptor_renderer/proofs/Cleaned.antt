@@ -16,8 +16,8 @@ use Rattle.descriptor_renderer.proofs.Following.{ArePlaced, follows_aged, follow
 use Rattle.descriptor_renderer.proofs.Settling.{Follows}
 
 module _ {T : Type 0} where
-  pub past : (l : List (Slot T)) (p : ℕ) → length l ≤ p → slot_at l p ≡ record { generation = 0; layout = 0; used = Taken; leaves = false; set = None }
-  past l p le = get_or_past l p (record { generation = 0; layout = 0; used = Taken; leaves = false; set = None }) le
+  pub past : (l : List (Slot T)) (p : ℕ) → length l ≤ p → slot_at l p ≡ record { generation = 0; layout = 0; layout_generation = 0; used = Taken; leaves = false; set = None }
+  past l p le = get_or_past l p (record { generation = 0; layout = 0; layout_generation = 0; used = Taken; leaves = false; set = None }) le
 
   pub aged_sets : (old new : List (Slot T)) → AreAged old new → sets_in new ≡ sets_in old
   aged_sets old new a = same_sets old new a.long (λ p. elim (below_or p (length old)) [

@@ -2,7 +2,7 @@
 use Rattle.std.proofs.Common.{◌≡◌, ℕ, ◌+◌, ◌≤◌, ◌⊎◌, ◌&&◌, nat_lt, ne_eqb, Bool, true, false, if◌then◌else◌, List, length, None, inl, inr, refl, sym, ap, ◌∙◌, arith}
 use Rattle.std.proofs.lemmas.List.{get_or_past}
 use Rattle.descriptor_table.specs.Slots.{slot_at}
-use Rattle.descriptor_table.specs.Tables.{aged, count, is_kept, vacated}
+use Rattle.descriptor_table.specs.Tables.{aged, came_under, count, is_kept, vacated}
 use Rattle.descriptor_table.specs.declared.slot.Slot.{Slot}
 use Rattle.descriptor_table.specs.declared.slot.Use.TheVariants.{Taken, Vacant}
 use Rattle.descriptor_table.proofs.Counting.{below_or}
@@ -12,31 +12,31 @@ use Rattle.descriptor_renderer.specs.Stores.{AreCleaned}
 -- a set that was kept may be gone, and any other is there
 pub record Clears {T : Type 0} (o n : Slot T) : Type 0 where
   pub generation : n.generation ≡ o.generation
-  pub layout : n.layout ≡ o.layout
+  pub layout : came_under n ≡ came_under o
   pub is : ((n.used ≡ o.used) × (n.set ≡ o.set)) ⊎ ((is_kept o ≡ true) × (n.used ≡ Vacant) × (n.set ≡ None))
 
 module _ {T : Type 0} where
   pub same_clears : (o n : Slot T) → n ≡ o → Clears o n
   same_clears o n e = record {
     generation = ap (λ (s : Slot T). s.generation) e;
-    layout = ap (λ (s : Slot T). s.layout) e;
+    layout = ap came_under e;
     is = inl (ap (λ (s : Slot T). s.used) e, ap (λ (s : Slot T). s.set) e);
   }
 
   cleared_as : (o n : Slot T) (b : Bool) → is_kept o ≡ b → n ≡ (if b then vacated (aged o) else aged o) → Clears o n
   cleared_as o n true kept e = record {
     generation = ap (λ (s : Slot T). s.generation) e;
-    layout = ap (λ (s : Slot T). s.layout) e;
+    layout = ap came_under e;
     is = inr (kept, ap (λ (s : Slot T). s.used) e, ap (λ (s : Slot T). s.set) e);
   }
   cleared_as o n false kept e = record {
     generation = ap (λ (s : Slot T). s.generation) e;
-    layout = ap (λ (s : Slot T). s.layout) e;
+    layout = ap came_under e;
     is = inl (ap (λ (s : Slot T). s.used) e, ap (λ (s : Slot T). s.set) e);
   }
 
-  past : (l : List (Slot T)) (p : ℕ) → length l ≤ p → slot_at l p ≡ record { generation = 0; layout = 0; used = Taken; leaves = false; set = None }
-  past l p le = get_or_past l p (record { generation = 0; layout = 0; used = Taken; leaves = false; set = None }) le
+  past : (l : List (Slot T)) (p : ℕ) → length l ≤ p → slot_at l p ≡ record { generation = 0; layout = 0; layout_generation = 0; used = Taken; leaves = false; set = None }
+  past l p le = get_or_past l p (record { generation = 0; layout = 0; layout_generation = 0; used = Taken; leaves = false; set = None }) le
 
   pub clears : (old new : List (Slot T)) → AreCleaned old new → (p : ℕ) → Clears (slot_at old p) (slot_at new p)
   clears old new c p = elim (below_or p (length old)) [

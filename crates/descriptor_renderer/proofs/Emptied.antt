@@ -67,7 +67,7 @@ empty_kept s e = by_kept (is_kept s) refl
 abbrev HasLeft : {T : Type 0} → Slot T → Slot T → Type 0
 HasLeft o n = ((n ≡ o) × (o.set ≡ None)) ⊎ (n ≡ vacated o)
 
-module _ {T : Type 0} (frame most : ℕ) (a b c d new : List (Slot T)) (settles : Turns (is_due frame) (IsSettled most) a b) (leave : Turns holds Leaves b c) (trims : Turns is_kept MayGo c d) (few : (layout : ℕ) → count (is_in (layout + 2)) d ≤ 0) (gives : Turns goes Vacates d new) where
+module _ {T : Type 0} (generations : ℕ → ℕ) (frame most : ℕ) (a b c d new : List (Slot T)) (settles : Turns (is_due frame) (IsSettled generations most) a b) (leave : Turns holds Leaves b c) (trims : Turns is_kept MayGo c d) (few : (layout : ℕ) → count (is_in (layout + 2)) d ≤ 0) (gives : Turns goes Vacates d new) where
   -- a set that goes was given back
   given : (p : ℕ) (s : Slot T) → is_some s.set ≡ true → slot_at d p ≡ used_for Going s → slot_at new p ≡ vacated s
   given p s full e = gives.here p (ap goes e ∙ full) ∙ ap vacated e
@@ -91,7 +91,7 @@ module _ {T : Type 0} (frame most : ℕ) (a b c d new : List (Slot T)) (settles 
       let two : slot_at c p ≡ used_for Going s = leave.here p (ap holds one ∙ e) ∙ ap (used_for Going) one in
       going p s full two
 
-  waiting_leaves : (p : ℕ) → waits (slot_at a p) ≡ true → is_some (slot_at a p).set ≡ true → frame_of (slot_at a p) ≤ frame → stays (slot_at a p) ≡ false → slot_at new p ≡ vacated (slot_at a p)
+  waiting_leaves : (p : ℕ) → waits (slot_at a p) ≡ true → is_some (slot_at a p).set ≡ true → frame_of (slot_at a p) ≤ frame → stays generations (slot_at a p) ≡ false → slot_at new p ≡ vacated (slot_at a p)
   waiting_leaves p e full up old =
       let s = slot_at a p in
       let one : slot_at b p ≡ used_for Going s = elim (settles.here p (waiting_due frame s.used (is_some s.set) up e)) [
@@ -113,7 +113,7 @@ module _ {T : Type 0} (frame most : ℕ) (a b c d new : List (Slot T)) (settles 
       ] in
       given p s (kept_full s e) three
 
-  all_leave : (p : ℕ) → is_placed (slot_at a p) ≡ true → goes (slot_at a p) ≡ false → frame_of (slot_at a p) ≤ frame → stays (slot_at a p) ≡ false → HasLeft (slot_at a p) (slot_at new p)
+  all_leave : (p : ℕ) → is_placed (slot_at a p) ≡ true → goes (slot_at a p) ≡ false → frame_of (slot_at a p) ≤ frame → stays generations (slot_at a p) ≡ false → HasLeft (slot_at a p) (slot_at new p)
   all_leave p placed none up old = by_full (is_some (slot_at a p).set) refl
     where
       s : Slot T
@@ -138,8 +138,8 @@ pub record IsEmptied {T : Type 0} (o n : Slot T) : Type 0 where
   pub given : n.generation ≡ o.generation
   pub follows : Follows 0 o n
 
-module _ {T : Type 0} (frame most : ℕ) (old a b c d new : List (Slot T)) (placed : ArePlaced old) (up : IsUpTo frame old) where
-  pub emptied : AreAged old a → Turns (is_due frame) (IsSettled most) a b → Turns holds Leaves b c → Turns is_kept MayGo c d → ((layout : ℕ) → count (is_in (layout + 2)) d ≤ 0) → Turns goes Vacates d new → (p : ℕ) → IsEmptied (slot_at old p) (slot_at new p)
+module _ {T : Type 0} (generations : ℕ → ℕ) (frame most : ℕ) (old a b c d new : List (Slot T)) (placed : ArePlaced old) (up : IsUpTo frame old) where
+  pub emptied : AreAged old a → Turns (is_due frame) (IsSettled generations most) a b → Turns holds Leaves b c → Turns is_kept MayGo c d → ((layout : ℕ) → count (is_in (layout + 2)) d ≤ 0) → Turns goes Vacates d new → (p : ℕ) → IsEmptied (slot_at old p) (slot_at new p)
   emptied ages settles leave trims few gives p = elim (below_or p (length old)) [
     | inl lt ↦ elim (at_place lt) [
       | inl same ↦ record {
@@ -173,4 +173,4 @@ module _ {T : Type 0} (frame most : ℕ) (old a b c d new : List (Slot T)) (plac
       at_place lt =
           let here = ages.each p lt in
           let frames = ap frame_of here in
-          all_leave frame most a b c d new settles leave trims few gives p (ap is_placed here ∙ placed p) (ap goes here ∙ none_goes old placed p) (let below = up p in omega arith) (ap stays here)
+          all_leave generations frame most a b c d new settles leave trims few gives p (ap is_placed here ∙ placed p) (ap goes here ∙ none_goes old placed p) (let below = up p in omega arith) (ap (stays generations) here)

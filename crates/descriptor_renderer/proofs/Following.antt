@@ -1,7 +1,7 @@
 -- Each kind of change of a slot follows what it was.
 use Rattle.std.proofs.Common.{◌≡◌, ◌≢◌, ℕ, ◌+◌, ◌<◌, ◌&&◌, ◌||◌, nat_lt, not, Bool, true, false, List, length, is_some, inl, inr, refl, sym, ap, subst, ◌∙◌, arith, eq-eqb, ne_eqb}
 use Rattle.descriptor_table.specs.Slots.{frame_of, goes, in_list, slot_at}
-use Rattle.descriptor_table.specs.Tables.{Turns, aged, is_held_use, is_taken, is_taken_use, is_waiting_use, place_at, stays, used_for, vacated}
+use Rattle.descriptor_table.specs.Tables.{Turns, aged, came_under, is_current, is_held_use, is_taken, is_taken_use, is_waiting_use, place_at, stays, used_for, vacated}
 use Rattle.descriptor_table.specs.declared.handle.SetHandle.{SetHandle}
 use Rattle.descriptor_table.specs.declared.slot.Slot.{Slot}
 use Rattle.descriptor_table.specs.declared.slot.Use.{Use}
@@ -50,14 +50,14 @@ module _ {T : Type 0} where
   module _ (f : ℕ) where
     pub follows_same : (o n : Slot T) → n ≡ o → Follows f o n
     follows_same o n e = record {
-      set = inr (ap (λ (s : Slot T). s.set) e, ap (λ (s : Slot T). s.layout) e);
+      set = inr (ap (λ (s : Slot T). s.set) e, ap came_under e);
       placed = λ h. ap is_placed e ∙ h;
       frame = λ g le up. (let same = ap frame_of e in omega arith);
     }
 
     pub follows_aged : (o n : Slot T) → n ≡ aged o → Follows f o n
     follows_aged o n e = record {
-      set = inr (ap (λ (s : Slot T). s.set) e, ap (λ (s : Slot T). s.layout) e);
+      set = inr (ap (λ (s : Slot T). s.set) e, ap came_under e);
       placed = λ h. ap is_placed e ∙ h;
       frame = λ g le up. (let same = ap frame_of e in omega arith);
     }
@@ -83,20 +83,20 @@ module _ {T : Type 0} where
     }
 
     -- a set that may stay is kept
-    pub follows_kept : (o n : Slot T) → n ≡ used_for Kept o → stays o ≡ true → Follows f o n
-    follows_kept o n e may = record {
-      set = inr (ap (λ (s : Slot T). s.set) e, ap (λ (s : Slot T). s.layout) e);
+    pub follows_kept : (generations : ℕ → ℕ) (o n : Slot T) → n ≡ used_for Kept o → stays generations o ≡ true → Follows f o n
+    follows_kept generations o n e may = record {
+      set = inr (ap (λ (s : Slot T). s.set) e, ap came_under e);
       placed = λ h. ap is_placed e ∙ by_full (is_some o.set);
       frame = λ g le up. (let same = ap frame_of e in omega arith);
     }
       where
         by_full : (full : Bool) → placed_use Kept o.layout o.generation full ≡ true
         by_full false = refl
-        by_full true = ap (λ b. b && (nat_lt o.generation 4294967295 && true)) (eq-eqb (o.layout + 2) (o.layout + 2) refl) ∙ ap (λ b. b && true) (and_true (not o.leaves) (nat_lt o.generation 4294967295) may).1
+        by_full true = ap (λ b. b && (nat_lt o.generation 4294967295 && true)) (eq-eqb (o.layout + 2) (o.layout + 2) refl) ∙ ap (λ b. b && true) (and_true (not o.leaves) (nat_lt o.generation 4294967295) (and_true (not o.leaves && nat_lt o.generation 4294967295) (is_current generations o) may).0).1
 
-    pub follows_back : (most : ℕ) (new : List (Slot T)) (o n : Slot T) → IsBack most new o n → Follows f o n
-    follows_back most new o n (inl kept) = follows_kept o n kept.0 kept.1
-    follows_back most new o n (inr gone) = follows_vacated o n gone.0
+    pub follows_back : (generations : ℕ → ℕ) (most : ℕ) (new : List (Slot T)) (o n : Slot T) → IsBack generations most new o n → Follows f o n
+    follows_back generations most new o n (inl kept) = follows_kept generations o n kept.0 kept.1
+    follows_back generations most new o n (inr gone) = follows_vacated o n gone.0
 
     pub follows_left : (new : List (Slot T)) (o n : Slot T) → MayLeave new o n → Follows f o n
     follows_left new o n (inl same) = follows_same o n same
@@ -113,7 +113,7 @@ module _ {T : Type 0} where
   -- a set waits for the frame
   pub follows_waits : (f : ℕ) (o n : Slot T) → n ≡ used_for (Waits f) o → Follows f o n
   follows_waits f o n e = record {
-    set = inr (ap (λ (s : Slot T). s.set) e, ap (λ (s : Slot T). s.layout) e);
+    set = inr (ap (λ (s : Slot T). s.set) e, ap came_under e);
     placed = λ h. ap is_placed e ∙ by_full (is_some o.set);
     frame = λ g le up. (let same = ap frame_of e in omega arith);
   }

@@ -24,18 +24,18 @@ module _ {S : Type 0} (name : S → ℕ) where
   counts t (x ∷ l) = count_parts name (x ∷ []) l t ∙ ap (λ n. count_of t (item_of name x ∷ []) + n) (counts t l)
 
   -- a set came into a slot that had none
-  pub put_count : (layout p : ℕ) (x : DescriptorSet S) (old new : List (Slot (DescriptorSet S))) → Puts layout x p old new → (t : Item) → count_of t (items_of name (sets_in new)) ≡ count_of t (items_of name (sets_in old)) + count_of t (items_of name (x ∷ []))
-  put_count layout p x old new puts t =
-      let h = put_weigh (weight t) layout p x old new puts in
+  pub put_count : (generations : ℕ → ℕ) (layout p : ℕ) (x : DescriptorSet S) (old new : List (Slot (DescriptorSet S))) → Puts generations layout x p old new → (t : Item) → count_of t (items_of name (sets_in new)) ≡ count_of t (items_of name (sets_in old)) + count_of t (items_of name (x ∷ []))
+  put_count generations layout p x old new puts t =
+      let h = put_weigh (weight t) generations layout p x old new puts in
       let a = counts t (sets_in old) in
       let b = counts t (sets_in new) in
       let c = counts t (x ∷ []) in
       omega arith
 
 module _ {T : Type 0} where
-  pub put_many : (layout p : ℕ) (x : T) (old new : List (Slot T)) → Puts layout x p old new → length (sets_in new) ≡ length (sets_in old) + 1
-  put_many layout p x old new puts =
-      let h = put_weigh (λ x. 1) layout p x old new puts in
+  pub put_many : (generations : ℕ → ℕ) (layout p : ℕ) (x : T) (old new : List (Slot T)) → Puts generations layout x p old new → length (sets_in new) ≡ length (sets_in old) + 1
+  put_many generations layout p x old new puts =
+      let h = put_weigh (λ x. 1) generations layout p x old new puts in
       let a = tally_length (sets_in old) in
       let b = tally_length (sets_in new) in
       omega arith

@@ -13,7 +13,7 @@ use Rattle.descriptor_table.specs.declared.slot.Use.TheVariants.{Held, Drawn, Wa
 use Rattle.descriptor_table.proofs.Counting.{below_or, same_or}
 use Rattle.descriptor_table.proofs.Holding.{named_or}
 use Rattle.descriptor_table.proofs.Listed.{other_slots, slot_set}
-use Rattle.descriptor_renderer.specs.Stores.{GetsAtLast, HoldEach, IsCleared, IsRefusedAtLast, TakesKept, kept_of, slots_in}
+use Rattle.descriptor_renderer.specs.Stores.{GetsAtLast, HoldEach, IsCleared, IsRefusedAtLast, TakesKept, generations_in, kept_of, slots_in}
 use Rattle.descriptor_renderer.specs.declared.store.Store.{Store}
 
 held_used : (u : Use) (layout generation : ℕ) (full : Bool) → (is_held_use u && full) ≡ true → in_list 0 u layout generation full ≡ false
@@ -34,8 +34,8 @@ module _ {T : Type 0} where
   grow_kept test q number p u handle old mid new picks r = inl (renewed_long number p u handle mid new r ∙ ap length picks.slots ∙ length-set old q (used_for Taken (slot_at old q)))
 
   -- a new set gets one
-  pub grow_new : (number layout p : ℕ) (x : T) (u : Use) (handle : SetHandle) (old mid new : List (Slot T)) → ((s : Slot T) → is_usable (renewed u s) ≡ false) → Puts layout x p old mid → Renews number p u handle mid new → Grows old new
-  grow_new number layout p x u handle old mid new used puts r = elim puts.grows [
+  pub grow_new : (number : ℕ) (generations : ℕ → ℕ) (layout p : ℕ) (x : T) (u : Use) (handle : SetHandle) (old mid new : List (Slot T)) → ((s : Slot T) → is_usable (renewed u s) ≡ false) → Puts generations layout x p old mid → Renews number p u handle mid new → Grows old new
+  grow_new number generations layout p x u handle old mid new used puts r = elim puts.grows [
     | inl same ↦ inl (renewed_long number p u handle mid new r ∙ same)
     | inr more ↦ inr (λ q. elim (same_or q p) [
       | inl e ↦ subst (λ q. is_usable (slot_at new q) ≡ false) (sym e) (ap (λ l. is_usable (slot_at l p)) r.slots ∙ ap is_usable (slot_set mid p (renewed u (slot_at mid p)) puts.within) ∙ used (slot_at mid p))
@@ -43,13 +43,13 @@ module _ {T : Type 0} where
           let same : slot_at new q ≡ slot_at old q = ap (λ l. slot_at l q) r.slots ∙ other_slots mid p (renewed u (slot_at mid p)) q ne ∙ puts.others q ne in
           elim (below_or q (length old)) [
             | inl lt ↦ ap is_usable same ∙ more.1 q lt
-            | inr past ↦ ap is_usable (same ∙ get_or_past old q (record { generation = 0; layout = 0; used = Taken; leaves = false; set = None }) past)
+            | inr past ↦ ap is_usable (same ∙ get_or_past old q (record { generation = 0; layout = 0; layout_generation = 0; used = Taken; leaves = false; set = None }) past)
           ]
     ])
   ]
 
   -- one step after others
-  pub grow_more : (number layout : ℕ) (handles : List SetHandle) (old mid new : List (Slot T)) → Grows old mid → Grows mid new → HoldEach number layout handles mid new → Grows old new
+  pub grow_more : (number : ℕ) (layout : ℕ × ℕ) (handles : List SetHandle) (old mid new : List (Slot T)) → Grows old mid → Grows mid new → HoldEach number layout handles mid new → Grows old new
   grow_more number layout handles old mid new first last holding = elim last [
     | inr all ↦ inr all
     | inl long ↦ elim first [
@@ -78,8 +78,8 @@ module _ {L P S D : Type 0} {d : Ghosts D L P S} where
   grow_taken layout number n p u handle old mid new used kept comes r = elim (below_or 0 (kept_of n old)) [
     | inl some ↦ grow_kept (is_kept_of n) (kept some).place number p u handle (slots_in old) (slots_in mid) new (kept some).picks r
     | inr none ↦ elim (comes (omega arith)) [
-      | inl gets ↦ grow_new number n p gets.set u handle (slots_in old) (slots_in mid) new used gets.puts r
-      | inr twice ↦ grow_from (slots_in old) (slots_in twice.0) new (cleared_long layout 1 old twice.0 twice.1) (grow_new number n p twice.2.set u handle (slots_in twice.0) (slots_in mid) new used twice.2.puts r)
+      | inl gets ↦ grow_new number (generations_in mid) n p gets.set u handle (slots_in old) (slots_in mid) new used gets.puts r
+      | inr twice ↦ grow_from (slots_in old) (slots_in twice.0) new (cleared_long layout 1 old twice.0 twice.1) (grow_new number (generations_in mid) n p twice.2.set u handle (slots_in twice.0) (slots_in mid) new used twice.2.puts r)
     ]
   ]
 

@@ -6,7 +6,7 @@ use Rattle.gpu_descriptor_types.specs.declared.device.DescriptorDevice.{Ghosts}
 use Rattle.gpu_descriptor.specs.declared.set.DescriptorSet.{DescriptorSet}
 use Rattle.gpu_descriptor.specs.declared.errors.AllocationError.{AllocationError}
 use Rattle.descriptor_table.specs.Slots.{frame_in, is_kept_of, is_live, slot_at}
-use Rattle.descriptor_table.specs.Tables.{Picks, Puts, Renews, count, is_held_use, is_waiting_use, renewed, used_for}
+use Rattle.descriptor_table.specs.Tables.{Picks, Puts, Renews, came_under, count, current, is_held_use, is_kept, is_waiting_use, renewed, used_for}
 use Rattle.descriptor_table.specs.declared.handle.SetHandle.{SetHandle}
 use Rattle.descriptor_table.specs.declared.slot.Slot.{Slot}
 use Rattle.descriptor_table.specs.declared.slot.Use.{Use}
@@ -15,7 +15,7 @@ use Rattle.descriptor_table.proofs.Counting.{below_or}
 use Rattle.descriptor_table.proofs.Counts.{bit, count_set, same_count}
 use Rattle.descriptor_table.proofs.Listed.{other_slots, slot_set}
 use Rattle.descriptor_table.proofs.Renewing.{kept_is}
-use Rattle.descriptor_renderer.specs.Stores.{AreCleaned, ComesOf, GetsAtLast, HandlesKept, IsCleared, IsNamed, IsRefusedAtLast, TakesKept, is_free, kept_of, number_of, side_of, slots_in}
+use Rattle.descriptor_renderer.specs.Stores.{AreCleaned, ComesOf, GetsAtLast, HandlesKept, IsCleared, IsNamed, IsRefusedAtLast, TakesKept, generations_in, is_free, kept_of, number_of, side_of, slots_in}
 use Rattle.descriptor_renderer.specs.declared.store.Store.{Store}
 use Rattle.descriptor_renderer.proofs.Arriving.{Arrives, arrives_then, clears_arrives, same_arrives, used_placed}
 use Rattle.descriptor_renderer.proofs.Cleared.{Clears, clears, same_clears}
@@ -29,28 +29,36 @@ ok_same : {p q : ℕ} → ◌≡◌ {A = Result ℕ AllocationError} (Ok p) (Ok 
 ok_same e = cc
 
 -- a free slot got a set, or had a kept one, which has the next handle of the slot, and is in use for this
-pub record Fills {T : Type 0} (comes : ℕ → T → Type 0) (number layout p : ℕ) (u : Use) (handle : SetHandle) (old new : List (Slot T)) : Type 0 where
+pub record Fills {T : Type 0} (comes : ℕ → T → Type 0) (number : ℕ) (generations : ℕ → ℕ) (layout p : ℕ) (u : Use) (handle : SetHandle) (old new : List (Slot T)) : Type 0 where
   pub free : is_free (slot_at old p) ≡ true
   pub is : handle ≡ next_of number p (slot_at old p)
   pub set : T
   pub generation : (slot_at new p).generation ≡ (slot_at old p).generation + 1
-  pub of_layout : (slot_at new p).layout ≡ layout
+  pub of_layout : came_under (slot_at new p) ≡ current generations layout
   pub used : (slot_at new p).used ≡ u
   pub here : (slot_at new p).set ≡ Some set
-  pub own : (((slot_at old p).set ≡ Some set) × ((slot_at old p).layout ≡ layout)) ⊎ comes layout set
+  pub own : (((slot_at old p).set ≡ Some set) × (came_under (slot_at old p) ≡ current generations layout)) ⊎ comes layout set
   pub others : (q : ℕ) → q ≢ p → slot_at new q ≡ slot_at old q
 
+-- each kept set came under the layout that has its number now
+abbrev pub IsCurrent : {T : Type 0} → (ℕ → ℕ) → List (Slot T) → Type 0
+IsCurrent generations slots = (p : ℕ) → p < length slots → is_kept (slot_at slots p) ≡ true → (slot_at slots p).layout_generation ≡ generations (slot_at slots p).layout
+
+kept_under : {T : Type 0} (generations : ℕ → ℕ) (layout : ℕ) (s : Slot T) → s.layout ≡ layout → s.layout_generation ≡ generations s.layout → came_under s ≡ current generations layout
+kept_under generations layout s at now = λ i. (at i, (now ∙ ap generations at) i)
+
 -- kept sets may have gone before that
-pub record Handles {T : Type 0} (comes : ℕ → T → Type 0) (number layout p : ℕ) (u : Use) (handle : SetHandle) (old new : List (Slot T)) : Type 0 where
+pub record Handles {T : Type 0} (comes : ℕ → T → Type 0) (number : ℕ) (generations : ℕ → ℕ) (layout p : ℕ) (u : Use) (handle : SetHandle) (old new : List (Slot T)) : Type 0 where
   pub mid : List (Slot T)
   pub clears : (q : ℕ) → Clears (slot_at old q) (slot_at mid q)
-  pub fills : Fills comes number layout p u handle mid new
+  pub fills : Fills comes number generations layout p u handle mid new
 
-module _ {T : Type 0} (comes : ℕ → T → Type 0) (number layout p : ℕ) (u : Use) (handle : SetHandle) where
-  pub kept_fills : (old mid new : List (Slot T)) → Picks (is_kept_of layout) p old mid → Renews number p u handle mid new → Fills comes number layout p u handle old new
-  kept_fills old mid new picks renews =
+module _ {T : Type 0} (comes : ℕ → T → Type 0) (number : ℕ) (generations : ℕ → ℕ) (layout p : ℕ) (u : Use) (handle : SetHandle) where
+  pub kept_fills : (old mid new : List (Slot T)) → IsCurrent generations old → Picks (is_kept_of layout) p old mid → Renews number p u handle mid new → Fills comes number generations layout p u handle old new
+  kept_fills old mid new now picks renews =
       let o = slot_at old p in
       let kept = kept_as layout o picks.was in
+      let under : came_under o ≡ current generations layout = kept_under generations layout o kept.1 (now p picks.within kept.2) in
       let full = some_of o.set (kept_is (layout + 2) o (omega arith) picks.was).1 in
       let there : slot_at mid p ≡ used_for Taken o = ap (λ l. slot_at l p) picks.slots ∙ slot_set old p (used_for Taken o) picks.within in
       let long = ap length picks.slots ∙ length-set old p (used_for Taken o) in
@@ -61,14 +69,14 @@ module _ {T : Type 0} (comes : ℕ → T → Type 0) (number layout p : ℕ) (u 
         is = renews.is ∙ ap (next_of number p) there;
         set = full.0;
         generation = ap (λ (s : Slot T). s.generation) here ∙ ap (λ (s : Slot T). s.generation + 1) there;
-        of_layout = ap (λ (s : Slot T). s.layout) here ∙ ap (λ (s : Slot T). s.layout) there ∙ kept.1;
+        of_layout = ap came_under here ∙ ap came_under there ∙ under;
         used = ap (λ (s : Slot T). s.used) here;
         here = ap (λ (s : Slot T). s.set) here ∙ ap (λ (s : Slot T). s.set) there ∙ full.1;
-        own = inl (full.1, kept.1);
+        own = inl (full.1, under);
         others = λ q ne. ap (λ l. slot_at l q) renews.slots ∙ other_slots mid p (renewed u (slot_at mid p)) q ne ∙ ap (λ l. slot_at l q) picks.slots ∙ other_slots old p (used_for Taken o) q ne;
       }
 
-  pub new_fills : (x : T) (old put new : List (Slot T)) → Puts layout x p old put → comes layout x → Renews number p u handle put new → Fills comes number layout p u handle old new
+  pub new_fills : (x : T) (old put new : List (Slot T)) → Puts generations layout x p old put → comes layout x → Renews number p u handle put new → Fills comes number generations layout p u handle old new
   new_fills x old put new puts came renews =
       let there = puts.here in
       let here : slot_at new p ≡ renewed u (slot_at put p) = ap (λ l. slot_at l p) renews.slots ∙ slot_set put p (renewed u (slot_at put p)) puts.within in
@@ -77,7 +85,7 @@ module _ {T : Type 0} (comes : ℕ → T → Type 0) (number layout p : ℕ) (u 
         is = renews.is ∙ ap (λ (s : Slot T). next_of number p s) there;
         set = x;
         generation = ap (λ (s : Slot T). s.generation) here ∙ ap (λ (s : Slot T). s.generation + 1) there;
-        of_layout = ap (λ (s : Slot T). s.layout) here ∙ ap (λ (s : Slot T). s.layout) there;
+        of_layout = ap came_under here ∙ ap came_under there;
         used = ap (λ (s : Slot T). s.used) here;
         here = ap (λ (s : Slot T). s.set) here ∙ ap (λ (s : Slot T). s.set) there;
         own = inr came;
@@ -85,12 +93,12 @@ module _ {T : Type 0} (comes : ℕ → T → Type 0) (number layout p : ℕ) (u 
       }
 
   -- a slot's set was there, or came
-  pub fills_arrives : (f : ℕ) → (is_held_use u || is_waiting_use u) ≡ true → frame_in u ≤ f → (old new : List (Slot T)) → Fills comes number layout p u handle old new → (q : ℕ) → Arrives comes f (slot_at old q) (slot_at new q)
+  pub fills_arrives : (f : ℕ) → (is_held_use u || is_waiting_use u) ≡ true → frame_in u ≤ f → (old new : List (Slot T)) → Fills comes number generations layout p u handle old new → (q : ℕ) → Arrives comes f (slot_at old q) (slot_at new q)
   fills_arrives f live few old new h q = elim (cases_eq q p) [
     | inl e ↦ subst (λ q. Arrives comes f (slot_at old q) (slot_at new q)) (sym e) (record {
       set = λ x is. (let same : h.set ≡ x = some_same (sym h.here ∙ is) in elim h.own [
         | inl kept ↦ inl (kept.0 ∙ sym h.here ∙ is, h.of_layout ∙ sym kept.1)
-        | inr came ↦ inr (subst (λ l. comes l x) (sym h.of_layout) (subst (comes layout) same came))
+        | inr came ↦ inr (subst (λ l. comes l.0 x) (sym h.of_layout) (subst (comes layout) same came))
       ]);
       placed = λ was. used_placed (slot_at new p) h.set h.here (ap (λ u. is_held_use u || is_waiting_use u) h.used ∙ live);
       frame = λ g le up. subst (λ u. frame_in u ≤ g) (sym h.used) (omega arith);
@@ -101,8 +109,8 @@ module _ {T : Type 0} (comes : ℕ → T → Type 0) (number layout p : ℕ) (u 
       some_same : {x y : T} → Some x ≡ Some y → x ≡ y
       some_same e = cc
 
-  module _ (old new : List (Slot T)) (h : Handles comes number layout p u handle old new) where
-    named_as : IsNamed number layout u (next_of number p (slot_at h.mid p)) old new
+  module _ (old new : List (Slot T)) (h : Handles comes number generations layout p u handle old new) where
+    named_as : IsNamed number (current generations layout) u (next_of number p (slot_at h.mid p)) old new
     named_as =
         let m = slot_at h.mid p in
         let n = slot_at new p in
@@ -137,8 +145,8 @@ module _ {T : Type 0} (comes : ℕ → T → Type 0) (number layout p : ℕ) (u 
         elsewhere : (other : SetHandle) → other.place ≢ p → Clears (slot_at old other.place) (slot_at new other.place)
         elsewhere other far = subst (Clears (slot_at old other.place)) (sym (h.fills.others other.place far)) (h.clears other.place)
 
-    pub named : IsNamed number layout u handle old new
-    named = subst (λ h. IsNamed number layout u h old new) (sym h.fills.is) named_as
+    pub named : IsNamed number (current generations layout) u handle old new
+    named = subst (λ h. IsNamed number (current generations layout) u h old new) (sym h.fills.is) named_as
 
     pub handled_arrives : (f : ℕ) → (is_held_use u || is_waiting_use u) ≡ true → frame_in u ≤ f → (q : ℕ) → Arrives comes f (slot_at old q) (slot_at new q)
     handled_arrives f live few q = arrives_then comes f (slot_at old q) (slot_at h.mid q) (slot_at new q) (clears_arrives comes f (slot_at old q) (slot_at h.mid q) (h.clears q)) (fills_arrives f live few h.mid new h.fills q)
@@ -164,20 +172,23 @@ module _ {L P S D : Type 0} {d : Ghosts D L P S} where
   cleared_of layout many old new c = subst (λ l. AreCleaned l (slots_in new)) c.first.slots c.cleaned
 
   -- a set was taken, and has a handle
-  pub taken_handles : (layout : L) (number number' p : ℕ) (u : Use) (handle : SetHandle) (old taken : Store L P S D d) (new : List (Slot (DescriptorSet S))) → (0 < kept_of number old → TakesKept number (Ok p) old taken) → (kept_of number old ≡ 0 → GetsAtLast layout number p old taken) → Renews number' p u handle (slots_in taken) new → Handles (ComesOf d.meaning layout number) number' number p u handle (slots_in old) new
-  taken_handles layout number number' p u handle old taken new kept comes renews = elim (below_or 0 (kept_of number old)) [
-    | inl some ↦ (let k = kept some in let picks = subst (λ p. Picks (is_kept_of number) p (slots_in old) (slots_in taken)) (ok_same k.is) k.picks in at_once (kept_fills (ComesOf d.meaning layout number) number' number p u handle (slots_in old) (slots_in taken) new picks renews))
+  pub taken_handles : (layout : L) (number number' p : ℕ) (u : Use) (handle : SetHandle) (old taken : Store L P S D d) (new : List (Slot (DescriptorSet S))) → generations_in taken ≡ generations_in old → (0 < kept_of number old → TakesKept number (Ok p) old taken) → (kept_of number old ≡ 0 → GetsAtLast layout number p old taken) → Renews number' p u handle (slots_in taken) new → Handles (ComesOf d.meaning layout number) number' (generations_in old) number p u handle (slots_in old) new
+  taken_handles layout number number' p u handle old taken new same kept comes renews = elim (below_or 0 (kept_of number old)) [
+    | inl some ↦ (let k = kept some in let picks = subst (λ p. Picks (is_kept_of number) p (slots_in old) (slots_in taken)) (ok_same k.is) k.picks in at_once (kept_fills (ComesOf d.meaning layout number) number' (generations_in old) number p u handle (slots_in old) (slots_in taken) new (λ q within. (old.table.known q within).kept) picks renews))
     | inr none ↦ elim (comes (omega arith)) [
-      | inl gets ↦ at_once (new_fills (ComesOf d.meaning layout number) number' number p u handle gets.set (slots_in old) (slots_in taken) new gets.puts (refl, gets.own) renews)
+      | inl gets ↦ at_once (new_fills (ComesOf d.meaning layout number) number' (generations_in old) number p u handle gets.set (slots_in old) (slots_in taken) new (again (slots_in old) gets.set gets.puts) (refl, gets.own) renews)
       | inr cleared ↦ (let mid = cleared.0 in let gets = cleared.2 in record {
         mid = slots_in mid;
         clears = clears (slots_in old) (slots_in mid) (cleared_of layout 1 old mid cleared.1);
-        fills = new_fills (ComesOf d.meaning layout number) number' number p u handle gets.set (slots_in mid) (slots_in taken) new gets.puts (refl, gets.own) renews;
+        fills = new_fills (ComesOf d.meaning layout number) number' (generations_in old) number p u handle gets.set (slots_in mid) (slots_in taken) new (again (slots_in mid) gets.set gets.puts) (refl, gets.own) renews;
       })
     ]
   ]
     where
-      at_once : Fills (ComesOf d.meaning layout number) number' number p u handle (slots_in old) new → Handles (ComesOf d.meaning layout number) number' number p u handle (slots_in old) new
+      again : (mid : List (Slot (DescriptorSet S))) (x : DescriptorSet S) → Puts (generations_in taken) number x p mid (slots_in taken) → Puts (generations_in old) number x p mid (slots_in taken)
+      again mid x = subst (λ generations. Puts generations number x p mid (slots_in taken)) same
+
+      at_once : Fills (ComesOf d.meaning layout number) number' (generations_in old) number p u handle (slots_in old) new → Handles (ComesOf d.meaning layout number) number' (generations_in old) number p u handle (slots_in old) new
       at_once fills = record { mid = slots_in old; clears = λ q. same_clears (slot_at (slots_in old) q) (slot_at (slots_in old) q) refl; fills = fills }
 
   -- a kept set has its handle

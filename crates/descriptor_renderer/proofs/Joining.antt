@@ -6,14 +6,14 @@ use Rattle.gpu_descriptor_types.specs.declared.device.DescriptorDevice.{Ghosts}
 use Rattle.gpu_descriptor.specs.declared.set.DescriptorSet.{DescriptorSet}
 use Rattle.descriptor_table.specs.Slots.{frame_in, is_live, slot_at}
 use Rattle.descriptor_table.specs.Sets.{find, is_given}
-use Rattle.descriptor_table.specs.Tables.{holds, is_held_use, is_waiting_use, place_at}
+use Rattle.descriptor_table.specs.Tables.{came_under, current, holds, is_held_use, is_waiting_use, place_at}
 use Rattle.descriptor_table.specs.declared.handle.SetHandle.{SetHandle}
 use Rattle.descriptor_table.specs.declared.slot.Slot.{Slot}
 use Rattle.descriptor_table.specs.declared.slot.Use.{Use}
 use Rattle.descriptor_table.specs.declared.slot.Use.TheVariants.{Held, Drawn, Waits, Kept, Going, Taken, Vacant}
 use Rattle.descriptor_table.proofs.Chains.{and_true}
 use Rattle.descriptor_table.proofs.Holding.{named_or}
-use Rattle.descriptor_renderer.specs.Stores.{AreNamed, HoldEach, NoneComes, SetsCome, StoreStays, is_free, most_of, number_of, slots_in}
+use Rattle.descriptor_renderer.specs.Stores.{AreNamed, HoldEach, NoneComes, SetsCome, StoreStays, current_in, is_free, most_of, number_of, slots_in}
 use Rattle.descriptor_renderer.specs.declared.store.Store.{Store}
 use Rattle.descriptor_renderer.proofs.Arriving.{Arrives, arrives_then, clears_arrives, same_arrives, used_placed}
 use Rattle.descriptor_renderer.proofs.Cleared.{Clears}
@@ -51,7 +51,7 @@ module _ {T : Type 0} where
     | inr kept ↦ (let no : false ≡ true = ap is_held_use (sym kept ∙ (held_is s held).0) in cc)
   ]
 
-  pub hold_none : (number layout : ℕ) (old : List (Slot T)) → HoldEach number layout [] old old
+  pub hold_none : (number : ℕ) (layout : ℕ × ℕ) (old : List (Slot T)) → HoldEach number layout [] old old
   hold_none number layout old = record {
     apart = λ i j lt less. absurd (omega arith);
     was = λ i lt. absurd (omega arith);
@@ -62,13 +62,13 @@ module _ {T : Type 0} where
     rest = λ p none. refl;
   }
 
-  pub hold_one : (comes : ℕ → T → Type 0) (number layout p : ℕ) (handle : SetHandle) (old new : List (Slot T)) → Fills comes number layout p Held handle old new → HoldEach number layout (handle ∷ []) old new
-  hold_one comes number layout p handle old new f = record {
+  pub hold_one : (comes : ℕ → T → Type 0) (number : ℕ) (generations : ℕ → ℕ) (layout p : ℕ) (handle : SetHandle) (old new : List (Slot T)) → Fills comes number generations layout p Held handle old new → HoldEach number (current generations layout) (handle ∷ []) old new
+  hold_one comes number generations layout p handle old new f = record {
     apart = λ i j lt less. absurd (omega arith);
     was = λ i lt. subst (λ q. is_free (slot_at old q) ≡ true) (sym (at i lt)) f.free;
     is = is_next;
     generation = λ i lt. subst (λ q. (slot_at new q).generation ≡ (slot_at old q).generation + 1) (sym (at i lt)) f.generation;
-    of_layout = λ i lt. subst (λ q. (slot_at new q).layout ≡ layout) (sym (at i lt)) f.of_layout;
+    of_layout = λ i lt. subst (λ q. came_under (slot_at new q) ≡ current generations layout) (sym (at i lt)) f.of_layout;
     held = λ i lt. subst (λ q. holds (slot_at new q) ≡ true) (sym (at i lt)) (ap (λ u. is_held_use u && is_some (slot_at new p).set) f.used ∙ ap is_some f.here);
     rest = λ q none. f.others q (λ e. none 0 (omega arith) (at 0 (omega arith) ∙ sym e));
   }
@@ -81,7 +81,7 @@ module _ {T : Type 0} where
       is_next zero e lt = f.is ∙ ap (λ q. next_of number q (slot_at old q)) (sym (at 0 lt))
       is_next (suc i) e lt = absurd (omega arith)
 
-  module _ (number layout : ℕ) (a b : List SetHandle) (old mid new : List (Slot T)) (x : HoldEach number layout a old mid) (y : HoldEach number layout b mid new) where
+  module _ (number : ℕ) (layout : ℕ × ℕ) (a b : List SetHandle) (old mid new : List (Slot T)) (x : HoldEach number layout a old mid) (y : HoldEach number layout b mid new) where
     apart_places : (i k : ℕ) → i < length a → k < length b → place_at a i ≢ place_at b k
     apart_places i k lt less e = held_not_free (slot_at mid (place_at b k)) (subst (λ q. holds (slot_at mid q) ≡ true) e (x.held i lt)) (y.was k less)
 
@@ -121,8 +121,8 @@ module _ {T : Type 0} where
         | inr u ↦ subst (λ q. (slot_at new q).generation ≡ (slot_at old q).generation + 1) (sym u.3) (y.generation u.0 u.1 ∙ ap (λ (s : Slot T). s.generation + 1) (later u.0 u.1))
       ];
       of_layout = λ i lt. elim (spot a b i lt) [
-        | inl u ↦ subst (λ q. (slot_at new q).layout ≡ layout) (sym u.1) (ap (λ (s : Slot T). s.layout) (first i u.0) ∙ x.of_layout i u.0)
-        | inr u ↦ subst (λ q. (slot_at new q).layout ≡ layout) (sym u.3) (y.of_layout u.0 u.1)
+        | inl u ↦ subst (λ q. came_under (slot_at new q) ≡ layout) (sym u.1) (ap came_under (first i u.0) ∙ x.of_layout i u.0)
+        | inr u ↦ subst (λ q. came_under (slot_at new q) ≡ layout) (sym u.3) (y.of_layout u.0 u.1)
       ];
       held = λ i lt. elim (spot a b i lt) [
         | inl u ↦ subst (λ q. holds (slot_at new q) ≡ true) (sym u.1) (ap holds (first i u.0) ∙ x.held i u.0)
@@ -133,9 +133,9 @@ module _ {T : Type 0} where
           ∙ x.rest p (λ i lt e. none i (let long = length-append a b in omega arith) (ap (λ (h : SetHandle). h.place) (get_or_append_left a b (record { renderer = 0; place = 0; generation = 0 }) i lt) ∙ e));
     }
 
-  module _ (number layout : ℕ) (handles : List SetHandle) (old mid new : List (Slot T)) (clear : (q : ℕ) → Clears (slot_at old q) (slot_at mid q)) (x : HoldEach number layout handles mid new) where
+  module _ (number : ℕ) (layout : ℕ × ℕ) (handles : List SetHandle) (old mid new : List (Slot T)) (clear : (q : ℕ) → Clears (slot_at old q) (slot_at mid q)) (x : HoldEach number layout handles mid new) where
     -- each set is there, and waits for no frame
-    pub holds_arrives : (comes : ℕ → T → Type 0) (f : ℕ) → ((p : ℕ) (t : T) → (slot_at new p).set ≡ Some t → (((slot_at mid p).set ≡ Some t) × ((slot_at new p).layout ≡ (slot_at mid p).layout)) ⊎ comes (slot_at new p).layout t) → (q : ℕ) → Arrives comes f (slot_at old q) (slot_at new q)
+    pub holds_arrives : (comes : ℕ → T → Type 0) (f : ℕ) → ((p : ℕ) (t : T) → (slot_at new p).set ≡ Some t → (((slot_at mid p).set ≡ Some t) × (came_under (slot_at new p) ≡ came_under (slot_at mid p))) ⊎ comes (slot_at new p).layout t) → (q : ℕ) → Arrives comes f (slot_at old q) (slot_at new q)
     holds_arrives comes f sets q = arrives_then comes f (slot_at old q) (slot_at mid q) (slot_at new q) (clears_arrives comes f (slot_at old q) (slot_at mid q) (clear q)) (elim (named_or (length handles) (place_at handles) q) [
       | inl found ↦
           let held = held_is (slot_at new q) (subst (λ q. holds (slot_at new q) ≡ true) found.2 (x.held found.0 found.1)) in
@@ -189,7 +189,7 @@ module _ {S : Type 0} where
   sets_then comes old mid new a b p x e = elim (b p x e) [
     | inl stays ↦ elim (a p x stays.0) [
       | inl was ↦ inl (was.0, stays.1 ∙ was.1)
-      | inr came ↦ inr (subst (λ l. comes l x) (sym stays.1) came)
+      | inr came ↦ inr (subst (λ l. comes l.0 x) (sym stays.1) came)
     ]
     | inr came ↦ inr came
   ]
@@ -203,34 +203,40 @@ module _ {S : Type 0} where
 
 module _ {L P S D : Type 0} {d : Ghosts D L P S} where
   pub store_same : (s : Store L P S D d) → StoreStays (most_of s) s s
-  store_same s = record { number = refl; lists = refl; limit = refl; bound = refl; besides = refl; keeps = refl }
+  store_same s = record { number = refl; lists = refl; generations = refl; limit = refl; bound = refl; besides = refl; keeps = refl }
 
   pub stays_then : (old mid new : Store L P S D d) → StoreStays (most_of old) old mid → StoreStays (most_of mid) mid new → StoreStays (most_of old) old new
   stays_then old mid new a b = record {
     number = b.number ∙ a.number;
     lists = b.lists ∙ a.lists;
+    generations = b.generations ∙ a.generations;
     limit = b.limit ∙ a.limit;
     bound = b.bound ∙ a.bound;
     besides = b.besides ∙ a.besides;
     keeps = b.keeps ∙ a.keeps;
   }
 
+  -- the number and the layouts are as they were
+  pub held_stays : (layout : ℕ) (handles : List SetHandle) (mid new : List (Slot (DescriptorSet S))) (old now : Store L P S D d) → StoreStays (most_of old) old now → HoldEach (number_of now) (current_in layout now) handles mid new → HoldEach (number_of old) (current_in layout old) handles mid new
+  held_stays layout handles mid new old now stays holds = subst (λ generations. HoldEach (number_of old) (current generations layout) handles mid new) stays.generations (subst (λ number. HoldEach number (current_in layout now) handles mid new) stays.number holds)
+
   -- more handles were given
-  pub held_then : (layout n m : ℕ) (start now then : List SetHandle) (old mid new : Store L P S D d) → number_of mid ≡ number_of old → ((given : List SetHandle) × (now ≡ start ++ given) × (length given ≡ n) × HoldEach (number_of old) layout given (slots_in old) (slots_in mid)) → ((given : List SetHandle) × (then ≡ now ++ given) × (length given ≡ m) × HoldEach (number_of mid) layout given (slots_in mid) (slots_in new)) → (given : List SetHandle) × (then ≡ start ++ given) × (length given ≡ n + m) × HoldEach (number_of old) layout given (slots_in old) (slots_in new)
-  held_then layout n m start now then old mid new same a b =
+  pub held_then : (layout n m : ℕ) (start now then : List SetHandle) (old mid new : Store L P S D d) → StoreStays (most_of old) old mid → ((given : List SetHandle) × (now ≡ start ++ given) × (length given ≡ n) × HoldEach (number_of old) (current_in layout old) given (slots_in old) (slots_in mid)) → ((given : List SetHandle) × (then ≡ now ++ given) × (length given ≡ m) × HoldEach (number_of mid) (current_in layout mid) given (slots_in mid) (slots_in new)) → (given : List SetHandle) × (then ≡ start ++ given) × (length given ≡ n + m) × HoldEach (number_of old) (current_in layout old) given (slots_in old) (slots_in new)
+  held_then layout n m start now then old mid new stays a b =
       let long = length-append a.0 b.0 in
       let first_many = a.2 in
       let many = b.2 in
-      let each = subst (λ number. HoldEach number layout b.0 (slots_in mid) (slots_in new)) same b.3 in (
+      let under = current_in layout old in
+      let each = held_stays layout b.0 (slots_in mid) (slots_in new) old mid stays b.3 in (
         a.0 ++ b.0,
         b.1 ∙ ap (λ l. l ++ b.0) a.1 ∙ append_assoc start a.0 b.0,
         omega arith,
-        joined (number_of old) layout a.0 b.0 (slots_in old) (slots_in mid) (slots_in new) a.3 each,
+        joined (number_of old) under a.0 b.0 (slots_in old) (slots_in mid) (slots_in new) a.3 each,
       )
 
-  pub held_next : (layout n : ℕ) (start now then : List SetHandle) (old mid new : Store L P S D d) → StoreStays (most_of old) old mid → ((given : List SetHandle) × (now ≡ start ++ given) × (length given ≡ n) × HoldEach (number_of old) layout given (slots_in old) (slots_in mid)) → ((handle : SetHandle) × (then ≡ now ++ handle ∷ []) × HoldEach (number_of mid) layout (handle ∷ []) (slots_in mid) (slots_in new)) → (given : List SetHandle) × (then ≡ start ++ given) × (length given ≡ n + 1) × HoldEach (number_of old) layout given (slots_in old) (slots_in new)
-  held_next layout n start now then old mid new stays a b = held_then layout n 1 start now then old mid new stays.number a (b.0 ∷ [], b.1, refl, b.2)
+  pub held_next : (layout n : ℕ) (start now then : List SetHandle) (old mid new : Store L P S D d) → StoreStays (most_of old) old mid → ((given : List SetHandle) × (now ≡ start ++ given) × (length given ≡ n) × HoldEach (number_of old) (current_in layout old) given (slots_in old) (slots_in mid)) → ((handle : SetHandle) × (then ≡ now ++ handle ∷ []) × HoldEach (number_of mid) (current_in layout mid) (handle ∷ []) (slots_in mid) (slots_in new)) → (given : List SetHandle) × (then ≡ start ++ given) × (length given ≡ n + 1) × HoldEach (number_of old) (current_in layout old) given (slots_in old) (slots_in new)
+  held_next layout n start now then old mid new stays a b = held_then layout n 1 start now then old mid new stays a (b.0 ∷ [], b.1, refl, b.2)
 
   -- none is given yet
-  pub held_start : (layout : ℕ) (start : List SetHandle) (old : Store L P S D d) → (given : List SetHandle) × (start ≡ start ++ given) × (length given ≡ 0) × HoldEach (number_of old) layout given (slots_in old) (slots_in old)
-  held_start layout start old = ([], sym (append-nil start), refl, hold_none (number_of old) layout (slots_in old))
+  pub held_start : (layout : ℕ) (start : List SetHandle) (old : Store L P S D d) → (given : List SetHandle) × (start ≡ start ++ given) × (length given ≡ 0) × HoldEach (number_of old) (current_in layout old) given (slots_in old) (slots_in old)
+  held_start layout start old = ([], sym (append-nil start), refl, hold_none (number_of old) (current_in layout old) (slots_in old))

@@ -15,9 +15,9 @@ use Rattle.descriptor_renderer.proofs.Back.{came_back}
 use Rattle.descriptor_renderer.proofs.Following.{ArePlaced, none_goes, none_taken}
 
 -- the sets of the handles came back, and all else is as it was
-pub record BackEach {T : Type 0} (handles : List SetHandle) (most : ℕ) (old new : List (Slot T)) : Type 0 where
+pub record BackEach {T : Type 0} (handles : List SetHandle) (generations : ℕ → ℕ) (most : ℕ) (old new : List (Slot T)) : Type 0 where
   pub long : length new ≡ length old
-  pub named : (i : ℕ) → i < length handles → IsBack most new (slot_at old (place_at handles i)) (slot_at new (place_at handles i))
+  pub named : (i : ℕ) → i < length handles → IsBack generations most new (slot_at old (place_at handles i)) (slot_at new (place_at handles i))
   pub rest : (p : ℕ) → ((i : ℕ) → i < length handles → place_at handles i ≢ p) → slot_at new p ≡ slot_at old p
 
 module _ {T : Type 0} (handles : List SetHandle) (old now : List (Slot T)) (took : TookEach handles (length handles) old now) where
@@ -64,11 +64,11 @@ module _ {T : Type 0} (handles : List SetHandle) (old now : List (Slot T)) (took
   }
 
   -- those that settled came back, and those of them that went were given back
-  pub back_each : (number most : ℕ) (mid new : List (Slot T)) → AreHeldOnce number old handles → ArePlaced old → Turns is_taken (IsSettled most) now mid → Turns goes Vacates mid new → BackEach handles most old new
-  back_each number most mid new once placed settles gives =
-      let back = came_back is_taken most now mid new (λ s e. (taken_is s e).1) (took_none placed) settles gives in
+  pub back_each : (number : ℕ) (generations : ℕ → ℕ) (most : ℕ) (mid new : List (Slot T)) → AreHeldOnce number old handles → ArePlaced old → Turns is_taken (IsSettled generations most) now mid → Turns goes Vacates mid new → BackEach handles generations most old new
+  back_each number generations most mid new once placed settles gives =
+      let back = came_back is_taken generations most now mid new (λ s e. (taken_is s e).1) (took_none placed) settles gives in
       record {
         long = back.long ∙ took.long;
-        named = λ i lt. (let p = place_at handles i in subst (λ o. IsBack most new o (slot_at new p)) (took.named i lt) (back.here p (took_full number once i lt)));
+        named = λ i lt. (let p = place_at handles i in subst (λ o. IsBack generations most new o (slot_at new p)) (took.named i lt) (back.here p (took_full number once i lt)));
         rest = λ p apart. back.rest p (took_rest placed p apart) ∙ took.rest p apart;
       }

@@ -8,13 +8,13 @@ use Rattle.gpu_descriptor.specs.declared.set.DescriptorSet.{DescriptorSet}
 use Rattle.std.proofs.lemmas.List.{get_or_past}
 use Rattle.descriptor_table.specs.Sets.{KeepNames, find, is_last, sets_of}
 use Rattle.descriptor_table.specs.Slots.{is_live, slot_at}
-use Rattle.descriptor_table.specs.Tables.{lists_with}
+use Rattle.descriptor_table.specs.Tables.{came_under, current, lists_with}
 use Rattle.descriptor_table.specs.declared.handle.SetHandle.{SetHandle}
 use Rattle.descriptor_table.specs.declared.slot.Slot.{Slot}
 use Rattle.descriptor_table.proofs.Counting.{below_or}
 use Rattle.descriptor_renderer.specs.LayoutRegistries.{layout_at, layout_slots, registry_of}
-use Rattle.descriptor_renderer.specs.Own.{AreOwn, IsOwn}
-use Rattle.descriptor_renderer.specs.Stores.{ComesOf, IsRefusedAtLast, NoneComes, Settles, lists_for, slots_in}
+use Rattle.descriptor_renderer.specs.Own.{AreCounted, AreOwn, IsOwn}
+use Rattle.descriptor_renderer.specs.Stores.{ComesOf, IsRefusedAtLast, NoneComes, Settles, generations_in, lists_for, slots_in}
 use Rattle.descriptor_renderer.specs.declared.layout_registry.LayoutHandle.{LayoutHandle}
 use Rattle.descriptor_renderer.specs.declared.layout_registry.LayoutRegistry.{LayoutRegistry}
 use Rattle.descriptor_renderer.specs.declared.store.Store.{Store}
@@ -26,22 +26,32 @@ same_some x y e = ap (λ o. elim o [ None ↦ x | Some z ↦ z ]) e
 
 module _ {L P S D : Type 0} {d : Ghosts D L P S} where
   -- sets that stay, and those that leave
-  pub own_stays : (f : ℕ) (layouts : List (Slot (SetLayout L))) (old new : Store L P S D d) → Settles NoneComes f old new → AreOwn d.meaning layouts (slots_in old) → AreOwn d.meaning layouts (slots_in new)
-  own_stays f layouts old new settles own p x full = elim (settles.sets p x full) [
-    | inl stays ↦ subst (λ n. n ≢ 4294967295 → IsOwn d.meaning layouts n x) (sym stays.1) (own p x stays.0)
+  pub own_stays : (f : ℕ) (layouts : List (Slot (SetLayout L))) (old new : Store L P S D d) → Settles NoneComes f old new → generations_in new ≡ generations_in old → AreOwn d.meaning (generations_in old) layouts (slots_in old) → AreOwn d.meaning (generations_in new) layouts (slots_in new)
+  own_stays f layouts old new settles same own p n x full at = elim (settles.sets p x full) [
+    | inl stays ↦ own p n x stays.0 (sym stays.1 ∙ at ∙ ap (λ generations. current generations n) same)
     | inr comes ↦ absurd comes
   ]
 
   -- and those that come, which are of this layout
   module _ (f number : ℕ) (layouts : List (Slot (SetLayout L))) (known : SetLayout L) (old new : Store L P S D d) (here : (slot_at layouts number).set ≡ Some known) where
-    pub own_comes : Settles (ComesOf d.meaning known.layout number) f old new → AreOwn d.meaning layouts (slots_in old) → AreOwn d.meaning layouts (slots_in new)
-    own_comes settles own p x full = elim (settles.sets p x full) [
-      | inl stays ↦ subst (λ n. n ≢ 4294967295 → IsOwn d.meaning layouts n x) (sym stays.1) (own p x stays.0)
-      | inr comes ↦ λ some. (let there = ap (λ n. (slot_at layouts n).set) comes.0 ∙ here in record {
-        there = ap is_some there;
-        own = λ other is. subst (λ (l : SetLayout L). IsOfLayout d.meaning l.layout x.raw) (same_some known other (sym there ∙ is)) comes.1;
-      })
+    pub own_comes : Settles (ComesOf d.meaning known.layout number) f old new → generations_in new ≡ generations_in old → AreOwn d.meaning (generations_in old) layouts (slots_in old) → AreOwn d.meaning (generations_in new) layouts (slots_in new)
+    own_comes settles same own p n x full at = elim (settles.sets p x full) [
+      | inl stays ↦ own p n x stays.0 (sym stays.1 ∙ at ∙ ap (λ generations. current generations n) same)
+      | inr comes ↦
+          let number_of : n ≡ number = sym (ap (λ (u : ℕ × ℕ). u.0) at) ∙ comes.0 in
+          let there = ap (λ n. (slot_at layouts n).set) number_of ∙ here in
+          record {
+            there = ap is_some there;
+            own = λ other is. subst (λ (l : SetLayout L). IsOfLayout d.meaning l.layout x.raw) (same_some known other (sym there ∙ is)) comes.1;
+          }
     ]
+
+  -- the slots and the layouts are as they were
+  pub own_as : (means : Meaning L P S) (layouts : List (Slot (SetLayout L))) (old new : Store L P S D d) → generations_in new ≡ generations_in old → slots_in new ≡ slots_in old → AreOwn means (generations_in old) layouts (slots_in old) → AreOwn means (generations_in new) layouts (slots_in new)
+  own_as means layouts old new same slots own = subst (AreOwn means (generations_in new) layouts) (sym slots) (subst (λ generations. AreOwn means generations layouts (slots_in old)) (sym same) own)
+
+  pub counted_stays : (layouts : List (Slot (SetLayout L))) (old new : Store L P S D d) → generations_in new ≡ generations_in old → AreCounted (generations_in old) layouts → AreCounted (generations_in new) layouts
+  counted_stays layouts old new same = subst (λ generations. AreCounted generations layouts) (sym same)
 
   -- a refusal changes no names
   pub refused_names : (layout : L) (first last : ℕ) (error : AllocationError) (old new : Store L P S D d) → IsRefusedAtLast layout first last error old new → (number frame : ℕ) (opened : Bool) → KeepNames (sets_of number frame opened (slots_in old)) (sets_of number frame opened (slots_in new))
@@ -105,17 +115,14 @@ layout_here r h known place at e = ap (λ n. (slot_at (layout_slots r) n).set) a
 
 module _ {L P S : Type 0} (means : Meaning L P S) where
   -- a set of a layout that is there
-  module _ (layouts : List (Slot (SetLayout L))) (slots : List (Slot (DescriptorSet S))) (own : AreOwn means layouts slots) (few : length layouts < 4294967296) where
-    pub own_known : (p n : ℕ) (x : DescriptorSet S) (known : SetLayout L) → (slot_at slots p).set ≡ Some x → (slot_at slots p).layout ≡ n → (slot_at layouts n).set ≡ Some known → IsOfLayout means known.layout x.raw
-    own_known p n x known full at here =
-        let within = layout_within layouts n known here in
-        (own p x full (λ none. omega arith)).own known (ap (λ n. (slot_at layouts n).set) at ∙ here)
+  module _ (generations : ℕ → ℕ) (layouts : List (Slot (SetLayout L))) (slots : List (Slot (DescriptorSet S))) (own : AreOwn means generations layouts slots) where
+    pub own_known : (p n : ℕ) (x : DescriptorSet S) (known : SetLayout L) → (slot_at slots p).set ≡ Some x → came_under (slot_at slots p) ≡ current generations n → (slot_at layouts n).set ≡ Some known → IsOfLayout means known.layout x.raw
+    own_known p n x known full at here = (own p n x full at).own known here
 
   -- with one layout more, the sets that are there are of theirs
-  pub own_added : (layouts more : List (Slot (SetLayout L))) (slots : List (Slot (DescriptorSet S))) → ((n : ℕ) (known : SetLayout L) → (slot_at layouts n).set ≡ Some known → (slot_at more n).set ≡ Some known) → AreOwn means layouts slots → AreOwn means more slots
-  own_added layouts more slots stay own p x full some =
-      let is = own p x full some in
-      let n = (slot_at slots p).layout in
+  pub own_added : (generations : ℕ → ℕ) (layouts more : List (Slot (SetLayout L))) (slots : List (Slot (DescriptorSet S))) → ((n : ℕ) (known : SetLayout L) → (slot_at layouts n).set ≡ Some known → (slot_at more n).set ≡ Some known) → AreOwn means generations layouts slots → AreOwn means generations more slots
+  own_added generations layouts more slots stay own p n x full at =
+      let is = own p n x full at in
       let was = some_of (slot_at layouts n).set is.there in
       let there = stay n was.0 was.1 in
       record { there = ap is_some there; own = λ known now. is.own known (was.1 ∙ sym there ∙ now) }

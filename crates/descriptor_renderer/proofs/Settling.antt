@@ -2,13 +2,14 @@
 use Rattle.std.proofs.Common.{◌≡◌, ℕ, ◌≤◌, ◌⊎◌, true, [], Some, None, inl, inr, sym, ◌∙◌}
 use Rattle.gpu_descriptor_types.specs.declared.device.DescriptorDevice.{Ghosts}
 use Rattle.descriptor_table.specs.Slots.{frame_of, slot_at}
+use Rattle.descriptor_table.specs.Tables.{came_under}
 use Rattle.descriptor_table.specs.declared.slot.Slot.{Slot}
 use Rattle.descriptor_renderer.specs.Stores.{IsAtRest, NoneComes, Settles, coming_in, is_placed, slots_in}
 use Rattle.descriptor_renderer.specs.declared.store.Store.{Store}
 
 -- a slot's set left, or is there under the same layout, and waits for no frame later than before, and than this one. If the slot was placed, it is
 pub record Follows {T : Type 0} (f : ℕ) (o n : Slot T) : Type 0 where
-  pub set : (n.set ≡ None) ⊎ ((n.set ≡ o.set) × (n.layout ≡ o.layout))
+  pub set : (n.set ≡ None) ⊎ ((n.set ≡ o.set) × (came_under n ≡ came_under o))
   pub placed : is_placed o ≡ true → is_placed n ≡ true
   pub frame : (g : ℕ) → f ≤ g → frame_of o ≤ g → frame_of n ≤ g
 

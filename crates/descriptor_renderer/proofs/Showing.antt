@@ -54,13 +54,13 @@ module _ {T : Type 0} (frame : ℕ) (opened : Bool) where
     set = ap (λ b. if b then n.set else None) is ∙ sym (ap (λ b. if b then o.set else None) was);
   }
 
-  back_quiet : (most : ℕ) (new : List (Slot T)) (o n : Slot T) → IsBack most new o n → (is_live frame opened n.used ≡ false) × (n.generation ≡ o.generation)
-  back_quiet most new o n back = elim back [
+  back_quiet : (generations : ℕ → ℕ) (most : ℕ) (new : List (Slot T)) (o n : Slot T) → IsBack generations most new o n → (is_live frame opened n.used ≡ false) × (n.generation ≡ o.generation)
+  back_quiet generations most new o n back = elim back [
     | inl kept ↦ (ap (λ (s : Slot T). is_live frame opened s.used) kept.0, ap (λ (s : Slot T). s.generation) kept.0)
     | inr left ↦ (ap (λ (s : Slot T). is_live frame opened s.used) left.0, ap (λ (s : Slot T). s.generation) left.0)
   ]
 
-  turned : (test : Slot T → Bool) (becomes : List (Slot T) → Slot T → Slot T → Type 0) (old new : List (Slot T)) → Turns test becomes old new → ((o n : Slot T) → test o ≡ true → becomes new o n → ShowsSame frame opened o n) → (p : ℕ) → ShowsSame frame opened (slot_at old p) (slot_at new p)
+  pub turned : (test : Slot T → Bool) (becomes : List (Slot T) → Slot T → Slot T → Type 0) (old new : List (Slot T)) → Turns test becomes old new → ((o n : Slot T) → test o ≡ true → becomes new o n → ShowsSame frame opened o n) → (p : ℕ) → ShowsSame frame opened (slot_at old p) (slot_at new p)
   turned test becomes old new turns shows p = by_test (test (slot_at old p)) refl
     where
       by_test : (b : Bool) → test (slot_at old p) ≡ b → ShowsSame frame opened (slot_at old p) (slot_at new p)
@@ -68,9 +68,9 @@ module _ {T : Type 0} (frame : ℕ) (opened : Bool) where
       by_test false e = same_shown (slot_at old p) (slot_at new p) (turns.rest p e)
 
   -- sets that came back leave the names of all others
-  pub back_names : (number due most : ℕ) (old new : List (Slot T)) → (opened ≡ true → due < frame) → Turns (is_due due) (IsBack most) old new → KeepNames (sets_of number frame opened old) (sets_of number frame opened new)
-  back_names number due most old new later turns = names_kept number frame opened old new (turned (is_due due) (IsBack most) old new turns (λ o n e back.
-      let q = back_quiet most new o n back in
+  pub back_names : (generations : ℕ → ℕ) (number due most : ℕ) (old new : List (Slot T)) → (opened ≡ true → due < frame) → Turns (is_due due) (IsBack generations most) old new → KeepNames (sets_of number frame opened old) (sets_of number frame opened new)
+  back_names generations number due most old new later turns = names_kept number frame opened old new (turned (is_due due) (IsBack generations most) old new turns (λ o n e back.
+      let q = back_quiet generations most new o n back in
       quiet_shown o n q.1 (due_use o.used due frame (is_some o.set) opened later e) q.0))
 
   pub trim_names : (number : ℕ) (old new : List (Slot T)) → Turns is_kept MayLeave old new → KeepNames (sets_of number frame opened old) (sets_of number frame opened new)
@@ -94,9 +94,9 @@ module _ {T : Type 0} (frame : ℕ) (opened : Bool) where
           record { generation = ap (λ (s : Slot T). s.generation) old; set = ap (shown frame opened) old }
 
   -- freed sets, and those that wait, have no handle
-  pub freed_names : (number most : ℕ) (handles : List SetHandle) (old new : List (Slot T)) → AreHeldOnce number old handles → ((i : ℕ) → i < length handles → IsBack most new (slot_at old (place_at handles i)) (slot_at new (place_at handles i))) → ((p : ℕ) → ((i : ℕ) → i < length handles → place_at handles i ≢ p) → slot_at new p ≡ slot_at old p) → LoseNames handles (sets_of number frame opened old) (sets_of number frame opened new)
-  freed_names number most handles old new once back rest =
-      let quiet : (i : ℕ) → i < length handles → _ = λ i lt. back_quiet most new (slot_at old (place_at handles i)) (slot_at new (place_at handles i)) (back i lt) in
+  pub freed_names : (generations : ℕ → ℕ) (number most : ℕ) (handles : List SetHandle) (old new : List (Slot T)) → AreHeldOnce number old handles → ((i : ℕ) → i < length handles → IsBack generations most new (slot_at old (place_at handles i)) (slot_at new (place_at handles i))) → ((p : ℕ) → ((i : ℕ) → i < length handles → place_at handles i ≢ p) → slot_at new p ≡ slot_at old p) → LoseNames handles (sets_of number frame opened old) (sets_of number frame opened new)
+  freed_names generations number most handles old new once back rest =
+      let quiet : (i : ℕ) → i < length handles → _ = λ i lt. back_quiet generations most new (slot_at old (place_at handles i)) (slot_at new (place_at handles i)) (back i lt) in
       names_lost number frame opened handles old new once (λ i lt. (quiet i lt).0) (λ i lt. (quiet i lt).1) rest
 
   pub waited_names : (number until : ℕ) (handles : List SetHandle) (old new : List (Slot T)) → AreHeldOnce number old handles → WaitEach handles until old new → LoseNames handles (sets_of number frame opened old) (sets_of number frame opened new)

@@ -1,10 +1,11 @@
 -- The sets of a renderer are of the layouts that they were asked for by.
-use Rattle.std.specs.Prelude.{◌≡◌, ◌≢◌, ℕ, true, List, Some, is_some}
+use Rattle.std.specs.Prelude.{◌≡◌, ℕ, ◌+◌, ◌<◌, true, List, Some, is_some, if◌then◌else◌}
 use Rattle.gpu_descriptor_types.specs.Meaning.{IsOfLayout, Meaning}
 use Rattle.gpu_descriptor.specs.Caller.SetLayouts.{IsMeant}
 use Rattle.gpu_descriptor.specs.declared.layout.SetLayout.{SetLayout}
 use Rattle.gpu_descriptor.specs.declared.set.DescriptorSet.{DescriptorSet}
 use Rattle.descriptor_table.specs.Slots.{slot_at}
+use Rattle.descriptor_table.specs.Tables.{came_under, current}
 use Rattle.descriptor_table.specs.declared.slot.Slot.{Slot}
 
 module _ {L P S : Type 0} (means : Meaning L P S) where
@@ -17,6 +18,14 @@ module _ {L P S : Type 0} (means : Meaning L P S) where
     pub there : is_some (slot_at layouts number).set ≡ true
     pub own : (known : SetLayout L) → (slot_at layouts number).set ≡ Some known → IsOfLayout means known.layout x.raw
 
-  -- the set in each slot is of the layout that the slot names. One whose layout was removed names none
-  abbrev pub AreOwn : List (Slot (SetLayout L)) → List (Slot (DescriptorSet S)) → Type 0
-  AreOwn layouts slots = (p : ℕ) (x : DescriptorSet S) → (slot_at slots p).set ≡ Some x → (slot_at slots p).layout ≢ 4294967295 → IsOwn layouts (slot_at slots p).layout x
+  -- the set in each slot is of the layout that it came under, if that was not removed
+  abbrev pub AreOwn : (ℕ → ℕ) → List (Slot (SetLayout L)) → List (Slot (DescriptorSet S)) → Type 0
+  AreOwn generations layouts slots = (p n : ℕ) (x : DescriptorSet S) → (slot_at slots p).set ≡ Some x → came_under (slot_at slots p) ≡ current generations n → IsOwn layouts n x
+
+-- as many handles were given for the slot as layouts left it, and one more for a layout that is there
+abbrev pub IsCounted : {T : Type 0} → ℕ → Slot T → Type 0
+IsCounted removed s = (s.generation ≡ removed + (if is_some s.set then 1 else 0)) × (s.generation < 4294967296)
+
+-- so it is for each number
+abbrev pub AreCounted : {T : Type 0} → (ℕ → ℕ) → List (Slot T) → Type 0
+AreCounted generations layouts = (n : ℕ) → IsCounted (generations n) (slot_at layouts n)

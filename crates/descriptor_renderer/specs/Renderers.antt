@@ -30,6 +30,8 @@ pub record Rendering (L S : Type 0) : Type 0 where
   pub is_open : Bool
   -- the slots of its sets, each with its layout and what it is in use for
   pub slots : List (Slot (DescriptorSet S))
+  -- how many layouts of each number were removed
+  pub generations : ℕ → ℕ
   -- how many sets of a layout are kept at most
   pub most : ℕ
   pub pools_besides : ℕ → Option Pool
@@ -72,6 +74,10 @@ module _ {L P S D : Type 0} {d : Ghosts D L P S} where
   -- the sets by handle: those that are held, and those of the open frame
   abbrev pub sets_by : Renderer L P S D d → Sets (DescriptorSet S)
   sets_by r = sets_of r.renderer r.frame r.is_open (slots_of r)
+
+  -- how many layouts of each number were removed
+  abbrev pub generations_of : Renderer L P S D d → ℕ → ℕ
+  generations_of r = stores.generations_in r.store
 
   -- how many sets of a layout are kept
   abbrev pub kept_of : LayoutHandle → Renderer L P S D d → ℕ
@@ -117,6 +123,7 @@ module _ {L P S D : Type 0} {d : Ghosts D L P S} where
     frame = frame_of r;
     is_open = is_open r;
     slots = slots_of r;
+    generations = generations_of r;
     most = most_of r;
     pools_besides = pools_besides r;
     limit = limit_of r;

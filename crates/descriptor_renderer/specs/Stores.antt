@@ -1,5 +1,5 @@
 -- What the store of a renderer has: the table of its sets, and the allocator over a device.
-use Rattle.std.specs.Prelude.{◌≡◌, ◌≢◌, ℕ, zero, suc, ◌+◌, ◌<◌, ◌≤◌, ◌⊎◌, ◌||◌, true, not, Bool, List, [], ◌∷◌, length, slice_index_or, if◌then◌else◌, is_some, Option, Result, Some, Ok, Err, None, Vec, vec_capacity}
+use Rattle.std.specs.Prelude.{◌≡◌, ◌≢◌, ℕ, zero, suc, ◌+◌, ◌<◌, ◌≤◌, ◌⊎◌, ◌||◌, true, not, Bool, List, [], ◌∷◌, length, slice_index_or, if◌then◌else◌, is_some, Option, Result, Some, Ok, Err, None, Vec}
 use Rattle.std.specs.declared.alloc.Global.{Global}
 use Rattle.gpu_descriptor_types.specs.Ledger.{Ledger, Pool}
 use Rattle.gpu_descriptor.specs.Caller.Others.{others_of}
@@ -18,7 +18,8 @@ use Rattle.gpu_descriptor.specs.declared.errors.AllocationError.TheVariants.{Out
 use Rattle.gpu_descriptor.specs.declared.set.DescriptorSet.{DescriptorSet}
 use Rattle.descriptor_table.specs.Sets.{NameEach, Names, sets_in, sets_of}
 use Rattle.descriptor_table.specs.Slots.{frame_of, is_kept_of, is_live, slot_at}
-use Rattle.descriptor_table.specs.Tables.{Picks, Puts, Renews, Turns, Vacates, aged, count, detached, holds, is_kept, place_at, lists_of, slots_of, stays, used_for, vacated, waits}
+use Rattle.descriptor_table.specs.Tables.{Picks, Puts, Renews, Turns, Vacates, aged, came_under, count, current, generations_of, holds, is_kept, place_at, lists_of, removed_at, slots_of, stays, used_for, vacated, waits}
+use Rattle.descriptor_table.specs.Tables as tables
 use Rattle.descriptor_table.specs.declared.handle.SetHandle.{SetHandle}
 use Rattle.descriptor_table.specs.declared.slot.Slot.{Slot}
 use Rattle.descriptor_table.specs.declared.slot.Use.{Use}
@@ -26,8 +27,8 @@ use Rattle.descriptor_table.specs.declared.slot.Use.TheVariants.{Kept, Waits}
 use Rattle.descriptor_renderer.specs.declared.store.Store.{Store}
 
 -- a set that came back is kept, or left its slot. If it may be kept, it leaves only if as many are kept as may be
-abbrev pub IsBack : {T : Type 0} → ℕ → List (Slot T) → Slot T → Slot T → Type 0
-IsBack most new o n = ((n ≡ used_for Kept o) × (stays o ≡ true)) ⊎ ((n ≡ vacated o) × (stays o ≡ true → most ≤ count (is_kept_of o.layout) new))
+abbrev pub IsBack : {T : Type 0} → (ℕ → ℕ) → ℕ → List (Slot T) → Slot T → Slot T → Type 0
+IsBack generations most new o n = ((n ≡ used_for Kept o) × (stays generations o ≡ true)) ⊎ ((n ≡ vacated o) × (stays generations o ≡ true → most ≤ count (is_kept_of o.layout) new))
 
 -- a kept set is still kept, or left its slot
 abbrev pub MayLeave : {T : Type 0} → List (Slot T) → Slot T → Slot T → Type 0
@@ -52,14 +53,10 @@ pub record AreCleaned {T : Type 0} (old new : List (Slot T)) : Type 0 where
   pub long : length new ≡ length old
   pub each : (p : ℕ) → p < length old → slot_at new p ≡ (if is_kept (slot_at old p) then vacated (aged (slot_at old p)) else aged (slot_at old p))
 
--- the slot after its layout, if it is this one, was removed: a kept set left it, and any other is of no layout, and isn't kept when it comes back
-abbrev pub removed : {T : Type 0} → ℕ → Slot T → Slot T
-removed layout s = detached layout (if is_kept_of layout s then vacated s else s)
-
 -- a set has the handle, which was never given, and is in use for this; each other handle names what it named, in whatever frame
-pub record IsNamed {T : Type 0} (number layout : ℕ) (u : Use) (handle : SetHandle) (old new : List (Slot T)) : Type 0 where
+pub record IsNamed {T : Type 0} (number : ℕ) (layout : ℕ × ℕ) (u : Use) (handle : SetHandle) (old new : List (Slot T)) : Type 0 where
   pub set : T
-  pub of_layout : (slot_at new handle.place).layout ≡ layout
+  pub of_layout : came_under (slot_at new handle.place) ≡ layout
   pub here : (slot_at new handle.place).set ≡ Some set
   pub names : (frame : ℕ) (opened : Bool) → is_live frame opened u ≡ true → Names handle set (sets_of number frame opened old) (sets_of number frame opened new)
 
@@ -68,24 +65,24 @@ abbrev pub is_free : {T : Type 0} → Slot T → Bool
 is_free s = is_kept s || not (is_some s.set)
 
 -- sets that were kept, or came, are held by the next handles of their slots, and all else is as it was
-pub record HoldEach {T : Type 0} (number layout : ℕ) (handles : List SetHandle) (old new : List (Slot T)) : Type 0 where
+pub record HoldEach {T : Type 0} (number : ℕ) (layout : ℕ × ℕ) (handles : List SetHandle) (old new : List (Slot T)) : Type 0 where
   pub apart : (i j : ℕ) → i < j → j < length handles → place_at handles i ≢ place_at handles j
   pub was : (i : ℕ) → i < length handles → is_free (slot_at old (place_at handles i)) ≡ true
   pub is : (i : ℕ) (e : SetHandle) → i < length handles → slice_index_or handles i e ≡ record { renderer = number; place = place_at handles i; generation = (slot_at old (place_at handles i)).generation + 1 }
   pub generation : (i : ℕ) → i < length handles → (slot_at new (place_at handles i)).generation ≡ (slot_at old (place_at handles i)).generation + 1
-  pub of_layout : (i : ℕ) → i < length handles → (slot_at new (place_at handles i)).layout ≡ layout
+  pub of_layout : (i : ℕ) → i < length handles → came_under (slot_at new (place_at handles i)) ≡ layout
   pub held : (i : ℕ) → i < length handles → holds (slot_at new (place_at handles i)) ≡ true
   pub rest : (p : ℕ) → ((i : ℕ) → i < length handles → place_at handles i ≢ p) → slot_at new p ≡ slot_at old p
 
 -- the sets of the handles were kept, or came, perhaps after all kept sets left their slots; all else is as it was
-pub record HoldAtLast {T : Type 0} (number layout : ℕ) (handles : List SetHandle) (old new : List (Slot T)) : Type 0 where
+pub record HoldAtLast {T : Type 0} (number : ℕ) (layout : ℕ × ℕ) (handles : List SetHandle) (old new : List (Slot T)) : Type 0 where
   pub mid : List (Slot T)
   pub cleared : (mid ≡ old) ⊎ AreCleaned old mid
   pub holds : HoldEach number layout handles mid new
 
 -- so many sets, each held, have handles that were never given
-pub record AreNamed {T : Type 0} (number layout : ℕ) (handles : List SetHandle) (old new : List (Slot T)) : Type 0 where
-  pub of_layout : (i : ℕ) → i < length handles → (slot_at new (place_at handles i)).layout ≡ layout
+pub record AreNamed {T : Type 0} (number : ℕ) (layout : ℕ × ℕ) (handles : List SetHandle) (old new : List (Slot T)) : Type 0 where
+  pub of_layout : (i : ℕ) → i < length handles → came_under (slot_at new (place_at handles i)) ≡ layout
   pub names : (frame : ℕ) (opened : Bool) → NameEach handles (sets_of number frame opened old) (sets_of number frame opened new)
 
 -- no set comes
@@ -99,7 +96,7 @@ ComesOf means layout number other x = (other ≡ number) × IsOfLayout means lay
 module _ {S : Type 0} where
   -- each set was in its slot before, under its layout, or passes the test
   abbrev pub SetsCome : (ℕ → DescriptorSet S → Type 0) → List (Slot (DescriptorSet S)) → List (Slot (DescriptorSet S)) → Type 0
-  SetsCome comes old new = (p : ℕ) (x : DescriptorSet S) → (slot_at new p).set ≡ Some x → (((slot_at old p).set ≡ Some x) × ((slot_at new p).layout ≡ (slot_at old p).layout)) ⊎ comes (slot_at new p).layout x
+  SetsCome comes old new = (p : ℕ) (x : DescriptorSet S) → (slot_at new p).set ≡ Some x → (((slot_at old p).set ≡ Some x) × (came_under (slot_at new p) ≡ came_under (slot_at old p))) ⊎ comes (slot_at new p).layout x
 
 -- how many lists a table has for so many layouts
 abbrev pub lists_for : ℕ → ℕ
@@ -137,13 +134,21 @@ module _ {L P S D : Type 0} {d : Ghosts D L P S} where
   abbrev pub lists_in : Store L P S D d → ℕ
   lists_in s = lists_of s.table
 
+  -- how many layouts of each number were removed
+  abbrev pub generations_in : Store L P S D d → ℕ → ℕ
+  generations_in s = generations_of s.table
+
+  -- the layout that has the number now
+  abbrev pub current_in : ℕ → Store L P S D d → ℕ × ℕ
+  current_in layout s = current (generations_in s) layout
+
   -- the layout of this number was added to the table
   abbrev pub HasLayout : ℕ → Store L P S D d → Type 0
   HasLayout layout s = layout + 2 < lists_in s
 
   -- a layout more fits without an allocation
   abbrev pub HasListRoom : Store L P S D d → Type 0
-  HasListRoom s = lists_in s + 3 ≤ vec_capacity s.table.chains
+  HasListRoom s = tables.HasListRoom s.table
 
   -- the sets that a request has before they are in the table
   abbrev pub coming_in : Store L P S D d → Vec (DescriptorSet S) Global
@@ -162,10 +167,11 @@ module _ {L P S D : Type 0} {d : Ghosts D L P S} where
     pub none_coming : (coming_in s).items ≡ []
     pub placed : (p : ℕ) → is_placed (slot_at (slots_in s) p) ≡ true
 
-  -- number, lists, and what is none of the allocator's are as they were, and as many sets are kept at most as this
+  -- number, lists, the layouts that have them, and what is none of the allocator's are as they were, and as many sets are kept at most as this
   pub record StoreStays (most : ℕ) (old new : Store L P S D d) : Type 0 where
     pub number : number_of new ≡ number_of old
     pub lists : lists_in new ≡ lists_in old
+    pub generations : generations_in new ≡ generations_in old
     pub limit : limit_of new ≡ limit_of old
     pub bound : bound_of new ≡ bound_of old
     pub besides : pools_besides new ≡ pools_besides old
@@ -211,7 +217,7 @@ module _ {L P S D : Type 0} {d : Ghosts D L P S} where
   -- a set of the layout came from the allocator, and is at the place
   pub record Gets (layout : L) (number place : ℕ) (old new : Store L P S D d) : Type 0 where
     pub set : DescriptorSet S
-    pub puts : Puts number set place (slots_in old) (slots_in new)
+    pub puts : Puts (generations_in new) number set place (slots_in old) (slots_in new)
     pub own : IsOfLayout d.meaning layout set.raw
     pub hands_out : HandsOut d.meaning (layout_key d.meaning layout) 1 (Ok (set ∷ [])) (side_of old) (side_of new)
 
@@ -252,14 +258,16 @@ module _ {L P S D : Type 0} {d : Ghosts D L P S} where
 
   -- the sets that pass the test came back, and those that are not kept were given back in one call, if there were any
   pub record ComeBack (test : Slot (DescriptorSet S) → Bool) (old new : Store L P S D d) : Type 0 where
-    pub turns : Turns test (IsBack (most_of old)) (slots_in old) (slots_in new)
+    pub turns : Turns test (IsBack (generations_in old) (most_of old)) (slots_in old) (slots_in new)
     pub sets : List (DescriptorSet S)
     pub returns : Returns d.meaning sets (side_of old) (side_of new)
 
-  -- the kept sets of the layout were given back in one call, if there were any, and the others are of no layout
+  -- the kept sets of the layout were given back in one call, if there were any, and all other slots are as they were
   pub record Removes (layout : ℕ) (old new : Store L P S D d) : Type 0 where
-    pub long : length (slots_in new) ≡ length (slots_in old)
-    pub each : (p : ℕ) → p < length (slots_in old) → slot_at (slots_in new) p ≡ removed layout (slot_at (slots_in old) p)
+    pub turns : Turns (is_kept_of layout) Vacates (slots_in old) (slots_in new)
+    -- one layout more of the number was removed. Each set that is left under the number came under one of these, so it isn't kept when it comes back
+    pub generations : generations_in new ≡ removed_at layout (generations_in old)
+    pub past : (p : ℕ) → (slot_at (slots_in new) p).layout ≡ layout → (slot_at (slots_in new) p).layout_generation < generations_in new layout
     pub sets : List (DescriptorSet S)
     -- these, and those that are left, are those that there were
     pub gave : (t : Item) → count_of t (items_of d.meaning.set_name (sets_in (slots_in old))) ≡ count_of t (items_of d.meaning.set_name sets) + count_of t (items_of d.meaning.set_name (sets_in (slots_in new)))
@@ -268,7 +276,7 @@ module _ {L P S D : Type 0} {d : Ghosts D L P S} where
   -- the sets of the handles came back, and those that are not kept were given back in one call, if there were any
   pub record FreesEach (handles : List SetHandle) (old new : Store L P S D d) : Type 0 where
     pub long : length (slots_in new) ≡ length (slots_in old)
-    pub named : (i : ℕ) → i < length handles → IsBack (most_of old) (slots_in new) (slot_at (slots_in old) (place_at handles i)) (slot_at (slots_in new) (place_at handles i))
+    pub named : (i : ℕ) → i < length handles → IsBack (generations_in old) (most_of old) (slots_in new) (slot_at (slots_in old) (place_at handles i)) (slot_at (slots_in new) (place_at handles i))
     pub rest : (p : ℕ) → ((i : ℕ) → i < length handles → place_at handles i ≢ p) → slot_at (slots_in new) p ≡ slot_at (slots_in old) p
     pub sets : List (DescriptorSet S)
     pub returns : Returns d.meaning sets (side_of old) (side_of new)

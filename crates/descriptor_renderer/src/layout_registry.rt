@@ -4,7 +4,7 @@ ghost use Rattle.std.specs.Prelude.{IsSome, None, OnErr, OnOk, Some};
 ghost use Rattle.std.specs.Option.{option_copied};
 ghost use Rattle.gpu_descriptor.specs.Caller.SetLayouts.{IsMeant};
 ghost use Rattle.descriptor_table.specs.Tables.{lists_of, slots_of};
-ghost use Rattle.descriptor_renderer.specs.Own.{AreMeant};
+ghost use Rattle.descriptor_renderer.specs.Own.{AreCounted, AreMeant};
 
 use descriptor_table::{SetHandle, SetTable, place_of};
 use gpu_descriptor::{DescriptorDevice, SetLayout};
@@ -101,6 +101,8 @@ impl<L, P, S, D: DescriptorDevice<L, P, S>> LayoutRegistry<L, P, S, D> {
         ensures names { IfOk result (λ handle. Names handle.slot layout (layouts_by self.old)
             (layouts_by self.new)) }
         ensures fresh { IfOk result (λ handle. layout_at self.old handle ≡ None) }
+        ensures counted { (generations : ℕ → ℕ) → AreCounted generations (layout_slots self.old)
+            → AreCounted generations (layout_slots self.new) }
         ensures stay { (n : ℕ) (known : SetLayout L) → (slot_at (layout_slots self.old) n).set
             ≡ Some known → (slot_at (layout_slots self.new) n).set ≡ Some known }
         ensures grows { OnOk result (Grows (layout_slots self.old) (layout_slots self.new)) }

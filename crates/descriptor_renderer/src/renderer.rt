@@ -7,9 +7,9 @@ ghost use Rattle.gpu_descriptor.specs.Caller.SetLayouts.{IsMeant};
 ghost use Rattle.descriptor_table.specs.Sets.{KeepNames};
 ghost use Rattle.descriptor_table.specs.Tables.{Grows, count, holds, is_kept, waits};
 ghost use Rattle.descriptor_renderer.specs.LayoutRegistries.{layout_slots, registry_of};
-ghost use Rattle.descriptor_renderer.specs.Own.{AreOwn};
+ghost use Rattle.descriptor_renderer.specs.Own.{AreCounted, AreOwn};
 ghost use Rattle.descriptor_renderer.specs.Stores.{AreCleaned, Cleans, IsAtRest, IsUpTo, Removes, Trims};
-ghost use Rattle.descriptor_renderer.specs.Stores.{lists_for, lists_in, slots_in};
+ghost use Rattle.descriptor_renderer.specs.Stores.{generations_in, lists_for, lists_in, slots_in};
 ghost use Rattle.descriptor_renderer.specs.Stores as stores;
 
 mod frames;
@@ -62,7 +62,8 @@ pub struct Renderer<L, P, S, D: DescriptorDevice<L, P, S>> {
     /// The last field, as the device in it is dropped last.
     store: Store<L, P, S, D>,
     ghost rest: { IsAtRest store },
-    ghost own: { AreOwn D.meaning (layout_slots layouts) (slots_in store) },
+    ghost own: { AreOwn D.meaning (generations_in store) (layout_slots layouts) (slots_in store) },
+    ghost counted: { AreCounted (generations_in store) (layout_slots layouts) },
     ghost begun: { is_open ≡ true → 1 ≤ frame },
     ghost rising: { IsUpTo frame (slots_in store) },
     ghost lists: { lists_in store ≡ lists_for (length (layout_slots layouts)) },
@@ -73,8 +74,8 @@ pub struct Renderer<L, P, S, D: DescriptorDevice<L, P, S>> {
 impl<L: Drop, P: Drop, S: Drop, D: DescriptorDevice<L, P, S>> Renderer<L, P, S, D> {
     ghost use Rattle.gpu_descriptor.specs.declared.layout.SetLayout.{SetLayout};
     ghost use Rattle.descriptor_renderer.specs.declared.layout_registry.LayoutHandle.{LayoutHandle};
-    ghost use Rattle.descriptor_renderer.specs.Renderers.{bound_of, frame_of, is_open, kept_of};
-    ghost use Rattle.descriptor_renderer.specs.Renderers.{layout_given, layout_of};
+    ghost use Rattle.descriptor_renderer.specs.Renderers.{bound_of, frame_of, generations_of, is_open};
+    ghost use Rattle.descriptor_renderer.specs.Renderers.{kept_of, layout_given, layout_of};
     ghost use Rattle.descriptor_renderer.specs.Renderers.{layouts_in, ledger_in, limit_of, most_of};
     ghost use Rattle.descriptor_renderer.specs.Renderers.{number_of, pools_besides, pools_in, seen};
     ghost use Rattle.descriptor_renderer.specs.Renderers.{sets_by, side_of, slots_of, store_of};
@@ -165,7 +166,8 @@ impl<L: Drop, P: Drop, S: Drop, D: DescriptorDevice<L, P, S>> Renderer<L, P, S, 
         ensures stay { OnErr result ((slots_of self.new ≡ slots_of self.old)
             × (side_of self.new ≡ side_of self.old)) }
         ensures rest { seen self.new ≡ record (seen self.old)
-            { layouts = layout_of self.new; slots = slots_of self.new } }
+            { layouts = layout_of self.new; slots = slots_of self.new;
+              generations = generations_of self.new } }
     {
         match self.layouts.remove(layout) {
             Some(removed) => {

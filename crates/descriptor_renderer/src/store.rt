@@ -5,7 +5,7 @@ ghost use Rattle.gpu_descriptor.specs.Caller.Sets.{raw_of};
 ghost use Rattle.gpu_descriptor.specs.Caller.States.{Agrees, outstanding_of, state_of};
 ghost use Rattle.gpu_descriptor.proofs.callers.OneAgreement.{Agrees-prop};
 ghost use Rattle.descriptor_table.specs.Sets.{find, sets_in};
-ghost use Rattle.descriptor_table.specs.Slots.{slot_at};
+ghost use Rattle.descriptor_table.specs.Slots.{generation_at, slot_at};
 ghost use Rattle.descriptor_table.specs.Tables.{count, holds, is_kept, lists_with, slots_of, waits};
 ghost use Rattle.descriptor_renderer.specs.Exact.{AreExactly};
 
@@ -45,7 +45,8 @@ pub(crate) struct Store<L, P, S, D: DescriptorDevice<L, P, S>> {
 
 impl<L: Drop, P: Drop, S: Drop, D: DescriptorDevice<L, P, S>> Store<L, P, S, D> {
     ghost use Rattle.descriptor_renderer.specs.Stores.{HasListRoom, IsAtRest, StoreStays, coming_in, kept_of, ledger_of};
-    ghost use Rattle.descriptor_renderer.specs.Stores.{bound_of, limit_of, lists_in, most_of, number_of};
+    ghost use Rattle.descriptor_renderer.specs.Stores.{bound_of, generations_in, limit_of, lists_in};
+    ghost use Rattle.descriptor_renderer.specs.Stores.{most_of, number_of};
     ghost use Rattle.descriptor_renderer.specs.Stores.{pools_besides, side_of, slots_in};
 
     /// No sets and no layouts, for the renderer of this number, over a new allocator with this limit on
@@ -59,6 +60,7 @@ impl<L: Drop, P: Drop, S: Drop, D: DescriptorDevice<L, P, S>> Store<L, P, S, D> 
         ensures number { number_of result ≡ number }
         ensures most { most_of result ≡ u32.MAX }
         ensures lists { lists_in result ≡ 0 }
+        ensures generations { generations_in result ≡ generation_at [] }
         ensures rest { IsAtRest result }
     {
         let mut allocator = DescriptorAllocator::new(alloc, limit);
@@ -87,6 +89,7 @@ impl<L: Drop, P: Drop, S: Drop, D: DescriptorDevice<L, P, S>> Store<L, P, S, D> 
     pub(crate) fn add_layout(&mut self)
         requires { HasListRoom self.old }
         ensures lists { lists_in self.new ≡ lists_with (lists_in self.old) }
+        ensures generations { generations_in self.new ≡ generations_in self.old }
         ensures slots { slots_in self.new ≡ slots_in self.old }
         ensures side { side_of self.new ≡ side_of self.old }
         ensures number { number_of self.new ≡ number_of self.old }
@@ -105,6 +108,7 @@ impl<L: Drop, P: Drop, S: Drop, D: DescriptorDevice<L, P, S>> Store<L, P, S, D> 
         ensures besides { pools_besides self.new ≡ pools_besides self.old }
         ensures number { number_of self.new ≡ number_of self.old }
         ensures lists { lists_in self.new ≡ lists_in self.old }
+        ensures generations { generations_in self.new ≡ generations_in self.old }
         ensures limit { limit_of self.new ≡ limit_of self.old }
         ensures keeps { most_of self.new ≡ most_of self.old }
         ensures coming { coming_in self.new ≡ coming_in self.old }

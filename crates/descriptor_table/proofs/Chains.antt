@@ -2,8 +2,8 @@
 use Rattle.std.proofs.Common.{◌≡◌, ◌≢◌, ℕ, zero, suc, ◌+◌, ◌-◌, ◌<◌, ◌≤◌, ◌==◌, ◌&&◌, Bool, true, false, not, nat_lt, List, [], ◌∷◌, length, get_or, set, slice_get, Option, None, Some, is_some, inl, inr, refl, sym, ap, subst, ◌∙◌, arith, ne_eqb, eqb-true}
 use Rattle.std.proofs.lemmas.List.{get_or-set_other, get_or-set_same, get_or_read, length-set}
 use Rattle.descriptor_table.specs.Places.{walk}
-use Rattle.descriptor_table.specs.Slots.{AreFew, AreFramed, AreLinked, HasLists, HasListsOf, chain_at, chain_of, in_list, is_in, is_of, slot_at, waits_for}
-use Rattle.descriptor_table.specs.Tables.{used_for}
+use Rattle.descriptor_table.specs.Slots.{AreFew, AreFramed, AreLinked, HasLists, IsListed, chain_at, chain_of, in_list, is_in, is_of, slot_at, waits_for}
+use Rattle.descriptor_table.specs.Tables.{is_kept, used_for}
 use Rattle.descriptor_table.specs.declared.slot.Use.{Use}
 use Rattle.descriptor_table.specs.declared.slot.Use.TheVariants.{Held, Drawn, Waits, Kept, Going, Taken, Vacant}
 use Rattle.descriptor_table.specs.declared.slot.Slot.{Slot}
@@ -81,6 +81,13 @@ module _ {T : Type 0} where
   pub in_no_list : (f : ℕ) (s : Slot T) → is_of f s ≡ true → (k : ℕ) → is_in k s ≡ false
   in_no_list f s e k = framed_not_listed f k s.used s.layout s.generation (is_some s.set) e
 
+  -- nor is it kept
+  pub waits_unkept : (f : ℕ) (s : Slot T) {X : Type 0} → is_of f s ≡ true → is_kept s ≡ true → X
+  waits_unkept f s waits kept = absurd (let no : true ≡ false = sym kept ∙ in_no_list f s waits (s.layout + 2) in cc)
+
+  pub taken_unkept : (s : Slot T) {X : Type 0} → is_kept (used_for Taken s) ≡ true → X
+  taken_unkept s kept = absurd (let no : false ≡ true = kept in cc)
+
   pub taken_no_list : (s : Slot T) → s.used ≡ Taken → (k : ℕ) → is_in k s ≡ false
   taken_no_list s e k = ap (λ u. in_list k u s.layout s.generation (is_some s.set)) e
 
@@ -105,15 +112,17 @@ few_set most chains k c few within le j two = elim (same_or j k) [
 
 module _ {T : Type 0} where
   -- one slot changed
-  pub lists_set : (slots : List (Slot T)) (p : ℕ) (s : Slot T) (lists : ℕ) → HasLists slots lists → p < length slots → HasListsOf lists s → HasLists (set slots p s) lists
-  lists_set slots p s lists known within here q lt = elim (same_or q p) [
-    | inl e ↦ subst (HasListsOf lists) (sym (ap (slot_at (set slots p s)) e ∙ slot_set slots p s within)) here
-    | inr ne ↦ subst (HasListsOf lists) (sym (other_slots slots p s q ne)) (known q (let size = length-set slots p s in omega arith))
+  pub lists_set : (slots : List (Slot T)) (p : ℕ) (s : Slot T) (lists : ℕ) (generations : ℕ → ℕ) → HasLists slots lists generations → p < length slots → IsListed lists generations s → HasLists (set slots p s) lists generations
+  lists_set slots p s lists generations known within here q lt = elim (same_or q p) [
+    | inl e ↦ subst (IsListed lists generations) (sym (ap (slot_at (set slots p s)) e ∙ slot_set slots p s within)) here
+    | inr ne ↦ subst (IsListed lists generations) (sym (other_slots slots p s q ne)) (known q (let size = length-set slots p s in omega arith))
   ]
 
-  -- a slot keeps its layout
-  pub known_set : (slots : List (Slot T)) (p : ℕ) (u : Use) (w : Slot T) (lists : ℕ) → HasLists slots lists → p < length slots → w ≡ slot_at slots p → HasLists (set slots p (used_for u w)) lists
-  known_set slots p u w lists known within is = lists_set slots p (used_for u w) lists known within (subst (HasListsOf lists) (sym is) (known p within))
+  -- a slot keeps its layout. If its set is kept now, its layout has its number still
+  pub known_set : (slots : List (Slot T)) (p : ℕ) (u : Use) (w : Slot T) (lists : ℕ) (generations : ℕ → ℕ) → HasLists slots lists generations → p < length slots → w ≡ slot_at slots p → (is_kept (used_for u w) ≡ true → w.layout_generation ≡ generations w.layout) → HasLists (set slots p (used_for u w)) lists generations
+  known_set slots p u w lists generations known within is current =
+      let was = subst (IsListed lists generations) (sym is) (known p within) in
+      lists_set slots p (used_for u w) lists generations known within (record { there = was.there; before = was.before; kept = current })
 
 -- what the code reads
 pub got_chain : (chains : List Chain) (k : ℕ) (c : Chain) → Some c ≡ slice_get chains k → (k < length chains) × (chain_at chains k ≡ c)
@@ -175,5 +184,5 @@ module _ {T : Type 0} (slots : List (Slot T)) (next : List ℕ) (chains : List C
   pub out_linked : p < length slots → ((k : ℕ) → is_in k (slot_at slots p) ≡ false) → ((k : ℕ) → is_in k s ≡ false) → AreLinked (set slots p s) next chains
   out_linked within was now = stay_linked is_in slots next (chain_at chains) h p s within (λ k. now k ∙ sym (was k))
 
-pub known_chains : {T : Type 0} (slots : List (Slot T)) (chains : List Chain) (k : ℕ) (d : Chain) → HasLists slots (length chains) → HasLists slots (length (set chains k d))
-known_chains slots chains k d known = subst (HasLists slots) (sym (length-set chains k d)) known
+pub known_chains : {T : Type 0} (slots : List (Slot T)) (chains : List Chain) (k : ℕ) (d : Chain) (generations : ℕ → ℕ) → HasLists slots (length chains) generations → HasLists slots (length (set chains k d)) generations
+known_chains slots chains k d generations known = subst (λ n. HasLists slots n generations) (sym (length-set chains k d)) known

@@ -45,5 +45,5 @@ module _ {T : Type 0} (weight : T → ℕ) where
       let h = got l m p x none here (λ q ne. others (suc q) (λ e. ne (omega arith))) in
       omega arith
 
-  pub put_weigh : (layout p : ℕ) (x : T) (old new : List (Slot T)) → Puts layout x p old new → tally weight (sets_in new) ≡ tally weight (sets_in old) + weight x
-  put_weigh layout p x old new puts = got old new p x puts.empty (ap (λ (s : Slot T). s.set) puts.here) (λ q ne. ap (λ (s : Slot T). s.set) (puts.others q ne))
+  pub put_weigh : (generations : ℕ → ℕ) (layout p : ℕ) (x : T) (old new : List (Slot T)) → Puts generations layout x p old new → tally weight (sets_in new) ≡ tally weight (sets_in old) + weight x
+  put_weigh generations layout p x old new puts = got old new p x puts.empty (ap (λ (s : Slot T). s.set) puts.here) (λ q ne. ap (λ (s : Slot T). s.set) (puts.others q ne))

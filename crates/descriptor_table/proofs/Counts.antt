@@ -28,9 +28,9 @@ module _ {T : Type 0} where
   same_count test slots p s within same = let h = count_set test slots p s within in let e = ap bit same in omega arith
 
   -- as many slots as places in a list
-  listed_count : (test : Slot T → Bool) (slots : List (Slot T)) (l : List ℕ) → test (record { generation = 0; layout = 0; used = Taken; leaves = false; set = None }) ≡ false → Lists test slots l → length l ≡ count test slots
+  listed_count : (test : Slot T → Bool) (slots : List (Slot T)) (l : List ℕ) → test (record { generation = 0; layout = 0; layout_generation = 0; used = Taken; leaves = false; set = None }) ≡ false → Lists test slots l → length l ≡ count test slots
   listed_count test slots l none h =
-      places_total (length slots) l (λ p past. h p ∙ ap (λ x. if test x then 1 else 0) (get_or_past slots p (record { generation = 0; layout = 0; used = Taken; leaves = false; set = None }) past) ∙ ap bit none)
+      places_total (length slots) l (λ p past. h p ∙ ap (λ x. if test x then 1 else 0) (get_or_past slots p (record { generation = 0; layout = 0; layout_generation = 0; used = Taken; leaves = false; set = None }) past) ∙ ap bit none)
       ∙ total_as (λ p. times p l) (λ p. if test (slot_at slots p) then 1 else 0) (length slots) h
       ∙ all_count slots
     where
@@ -65,7 +65,7 @@ module _ {T : Type 0} where
   none_count test [] none = refl
   none_count test (s ∷ slots) none = ap (λ b. (if b then 1 else 0) + count test slots) (none 0) ∙ (let h = none_count test slots (λ p. none (suc p)) in omega arith)
 
-  pub count_none : (test : Slot T → Bool) (slots : List (Slot T)) → test (record { generation = 0; layout = 0; used = Taken; leaves = false; set = None }) ≡ false → count test slots ≡ 0 → (p : ℕ) → test (slot_at slots p) ≡ false
+  pub count_none : (test : Slot T → Bool) (slots : List (Slot T)) → test (record { generation = 0; layout = 0; layout_generation = 0; used = Taken; leaves = false; set = None }) ≡ false → count test slots ≡ 0 → (p : ℕ) → test (slot_at slots p) ≡ false
   count_none test [] none zero_count p = none
   count_none test (s ∷ slots) none zero_count zero = by_test (test s) zero_count
     where

@@ -249,7 +249,7 @@ module _ {T : Type 0} (slots : List (Slot T)) where
           | inl e ↦ subst (λ q. times q l ≤ 1) (sym e) (let a = times_here p (firsts frames) in omega arith)
           | inr ne ↦ (let a = times_there q p (firsts frames) ne in let b = firsts_once frames q first_waits has.falls in omega arith)
         ] in
-        let past : (q : ℕ) → length slots ≤ q → times q l ≡ 0 = λ q le. times_there q p (firsts frames) (λ e. omega arith) ∙ no_first frames q first_waits (λ i lt. ap (is_of (frame_at frames i).frame) (get_or_past slots q (record { generation = 0; layout = 0; used = Taken; leaves = false; set = None }) le)) in
+        let past : (q : ℕ) → length slots ≤ q → times q l ≡ 0 = λ q le. times_there q p (firsts frames) (λ e. omega arith) ∙ no_first frames q first_waits (λ i lt. ap (is_of (frame_at frames i).frame) (get_or_past slots q (record { generation = 0; layout = 0; layout_generation = 0; used = Taken; leaves = false; set = None }) le)) in
         let few = few_places (length slots) l once past in
         let size = firsts_length frames in
         omega arith

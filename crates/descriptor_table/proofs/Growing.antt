@@ -1,7 +1,7 @@
 -- The lists of slots, when a slot comes at the end.
-use Rattle.std.proofs.Common.{◌≡◌, ◌≢◌, ℕ, zero, suc, ◌+◌, ◌<◌, Bool, false, if◌then◌else◌, List, [], ◌∷◌, ◌++◌, length, get_or, Some, None, inl, inr, refl, sym, ap, subst, ◌∙◌, arith}
+use Rattle.std.proofs.Common.{◌≡◌, ◌≢◌, ℕ, zero, suc, ◌+◌, Bool, false, if◌then◌else◌, List, [], ◌∷◌, ◌++◌, length, get_or, Some, None, inl, inr, refl, sym, ap, subst, ◌∙◌, arith}
 use Rattle.descriptor_table.specs.Places.{times, walk}
-use Rattle.descriptor_table.specs.Slots.{AreFramed, AreLinked, HasChains, HasLists, HasListsOf, chain_at, chain_of, is_in, is_of, slot_at}
+use Rattle.descriptor_table.specs.Slots.{AreFramed, AreLinked, HasChains, HasLists, IsListed, chain_at, chain_of, is_in, is_of, slot_at}
 use Rattle.descriptor_table.specs.Tables.{Puts, count, is_usable}
 use Rattle.descriptor_table.specs.declared.slot.Use.TheVariants.{Taken}
 use Rattle.descriptor_table.specs.declared.slot.Slot.{Slot}
@@ -22,7 +22,7 @@ walk_grown (suc n) next first = ap (λ y. first ∷ walk n (next ++ 0 ∷ []) y)
 
 module _ {T : Type 0} where
   -- what a slot that comes at the end has as one past it
-  grown : {X : Type 0} (f : Slot T → X) (slots : List (Slot T)) (s : Slot T) (q : ℕ) → f s ≡ f (record { generation = 0; layout = 0; used = Taken; leaves = false; set = None }) → f (slot_at (slots ++ s ∷ []) q) ≡ f (slot_at slots q)
+  grown : {X : Type 0} (f : Slot T → X) (slots : List (Slot T)) (s : Slot T) (q : ℕ) → f s ≡ f (record { generation = 0; layout = 0; layout_generation = 0; used = Taken; leaves = false; set = None }) → f (slot_at (slots ++ s ∷ []) q) ≡ f (slot_at slots q)
   grown f [] s zero same = same
   grown f [] s (suc q) same = refl
   grown f (x ∷ slots) s zero same = refl
@@ -38,11 +38,11 @@ module _ {T : Type 0} where
   slots_before (x ∷ slots) s zero apart = refl
   slots_before (x ∷ slots) s (suc q) apart = slots_before slots s q (λ e. apart (ap suc e))
 
-  past : (slots : List (Slot T)) → slot_at slots (length slots) ≡ record { generation = 0; layout = 0; used = Taken; leaves = false; set = None }
+  past : (slots : List (Slot T)) → slot_at slots (length slots) ≡ record { generation = 0; layout = 0; layout_generation = 0; used = Taken; leaves = false; set = None }
   past [] = refl
   past (x ∷ slots) = past slots
 
-  chains_grown : (test : ℕ → Slot T → Bool) (slots : List (Slot T)) (next : List ℕ) (heads : ℕ → Chain) (s : Slot T) → ((k : ℕ) → test k s ≡ test k (record { generation = 0; layout = 0; used = Taken; leaves = false; set = None })) → HasChains test slots next heads → HasChains test (slots ++ s ∷ []) (next ++ 0 ∷ []) heads
+  chains_grown : (test : ℕ → Slot T → Bool) (slots : List (Slot T)) (next : List ℕ) (heads : ℕ → Chain) (s : Slot T) → ((k : ℕ) → test k s ≡ test k (record { generation = 0; layout = 0; layout_generation = 0; used = Taken; leaves = false; set = None })) → HasChains test slots next heads → HasChains test (slots ++ s ∷ []) (next ++ 0 ∷ []) heads
   chains_grown test slots next heads s same h = λ k q. ap (times q) (walk_grown (heads k).count next (heads k).first) ∙ h k q ∙ ap (λ b. if b then 1 else 0) (sym (grown (test k) slots s q (same k)))
 
   pub linked_grown : (slots : List (Slot T)) (next : List ℕ) (chains : List Chain) (s : Slot T) → s.used ≡ Taken → AreLinked slots next chains → AreLinked (slots ++ s ∷ []) (next ++ 0 ∷ []) chains
@@ -51,10 +51,10 @@ module _ {T : Type 0} where
   pub framed_grown : (slots : List (Slot T)) (next : List ℕ) (frames : List FrameChain) (s : Slot T) → s.used ≡ Taken → AreFramed slots next frames → AreFramed (slots ++ s ∷ []) (next ++ 0 ∷ []) frames
   framed_grown slots next frames s taken h = chains_grown is_of slots next (chain_of frames) s (taken_no_frame s taken) h
 
-  pub known_grown : (slots : List (Slot T)) (s : Slot T) (lists : ℕ) → s.layout + 2 < lists → HasLists slots lists → length (slots ++ s ∷ []) ≡ length slots + 1 → HasLists (slots ++ s ∷ []) lists
-  known_grown slots s lists lt known long q within = elim (same_or q (length slots)) [
-    | inl e ↦ subst (HasListsOf lists) (sym (ap (slot_at (slots ++ s ∷ [])) e ∙ last_slot slots s)) (omega arith, λ may. lt)
-    | inr ne ↦ subst (HasListsOf lists) (sym (slots_before slots s q ne)) (known q (omega arith))
+  pub known_grown : (slots : List (Slot T)) (s : Slot T) (lists : ℕ) (generations : ℕ → ℕ) → IsListed lists generations s → HasLists slots lists generations → length (slots ++ s ∷ []) ≡ length slots + 1 → HasLists (slots ++ s ∷ []) lists generations
+  known_grown slots s lists generations here known long q within = elim (same_or q (length slots)) [
+    | inl e ↦ subst (IsListed lists generations) (sym (ap (slot_at (slots ++ s ∷ [])) e ∙ last_slot slots s)) here
+    | inr ne ↦ subst (IsListed lists generations) (sym (slots_before slots s q ne)) (known q (omega arith))
   ]
 
   long_grown : (slots : List (Slot T)) (s : Slot T) → length (slots ++ s ∷ []) ≡ length slots + 1
@@ -67,17 +67,17 @@ module _ {T : Type 0} where
   count_grown test (x ∷ slots) s = let h = count_grown test slots s in omega arith
 
   -- a set came to a new slot
-  pub puts_last : (layout : ℕ) (x : T) (old new : List (Slot T)) (p : ℕ) → p ≡ length old → new ≡ old ++ record { generation = 0; layout = layout; used = Taken; leaves = false; set = Some x } ∷ [] → ((q : ℕ) → is_usable (slot_at old q) ≡ false) → Puts layout x p old new
-  puts_last layout x old new p at is full =
-      let s : Slot T = record { generation = 0; layout = layout; used = Taken; leaves = false; set = Some x } in
-      let none : slot_at old p ≡ record { generation = 0; layout = 0; used = Taken; leaves = false; set = None } = ap (slot_at old) at ∙ past old in
+  pub puts_last : (generations : ℕ → ℕ) (layout : ℕ) (x : T) (old new : List (Slot T)) (p : ℕ) → p ≡ length old → new ≡ old ++ record { generation = 0; layout = layout; layout_generation = generations layout; used = Taken; leaves = false; set = Some x } ∷ [] → ((q : ℕ) → is_usable (slot_at old q) ≡ false) → Puts generations layout x p old new
+  puts_last generations layout x old new p at is full =
+      let s : Slot T = record { generation = 0; layout = layout; layout_generation = generations layout; used = Taken; leaves = false; set = Some x } in
+      let none : slot_at old p ≡ record { generation = 0; layout = 0; layout_generation = 0; used = Taken; leaves = false; set = None } = ap (slot_at old) at ∙ past old in
       let long = ap length is ∙ long_grown old s in
       let generation = ap (λ (o : Slot T). o.generation) none in
       record {
         empty = ap (λ (o : Slot T). o.set) none;
         within = omega arith;
         next = omega arith;
-        here = ap (λ l. slot_at l p) is ∙ ap (λ q. slot_at (old ++ s ∷ []) q) at ∙ last_slot old s ∙ (λ i. record { generation = sym generation i; layout = layout; used = Taken; leaves = false; set = Some x });
+        here = ap (λ l. slot_at l p) is ∙ ap (λ q. slot_at (old ++ s ∷ []) q) at ∙ last_slot old s ∙ (λ i. record { generation = sym generation i; layout = layout; layout_generation = generations layout; used = Taken; leaves = false; set = Some x });
         others = λ q ne. ap (λ l. slot_at l q) is ∙ slots_before old s q (λ e. ne (e ∙ sym at));
         grows = inr (long, λ q lt. full q);
       }

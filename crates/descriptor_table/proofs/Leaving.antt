@@ -85,7 +85,7 @@ module _ {T : Type 0} where
         given_turns xs u t old y.2 (turn_step test Vacates old now (slots_of u.now) g.place (vacated (slot_at now g.place)) turning g.within g.was g.slots (λ o n w. w) (λ o n w. ap test w ∙ out o) refl)
 
     given_stays : (xs : List T) (s t : MutBor (SetTable T)) → Yields (GivesFrom test) s xs t → (t.ghost_name ≡ s.ghost_name) × Stays s.now t.now
-    given_stays [] s t y = (ap (λ (u : MutBor (SetTable T)). u.ghost_name) (sym y), subst (λ (u : MutBor (SetTable T)). Stays s.now u.now) y (record { number = refl; most = refl; lists = refl; slots = refl; next = refl; frames = refl }))
+    given_stays [] s t y = (ap (λ (u : MutBor (SetTable T)). u.ghost_name) (sym y), subst (λ (u : MutBor (SetTable T)). Stays s.now u.now) y (record { number = refl; most = refl; lists = refl; generations = refl; slots = refl; next = refl; frames = refl }))
     given_stays (x ∷ xs) s t y =
         let rest = given_stays xs y.0 t y.2 in
         (rest.0 ∙ y.1.same, stays_more s.now y.0.now t.now y.1.stays rest.1)

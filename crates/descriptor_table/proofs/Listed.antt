@@ -30,17 +30,17 @@ walk_length (suc n) next first = let h = walk_length n next (get_or next first 0
 
 module _ {T : Type 0} where
   pub slot_set : (slots : List (Slot T)) (p : ℕ) (s : Slot T) → p < length slots → slot_at (set slots p s) p ≡ s
-  slot_set slots p s within = get_or-set_same slots p s (record { generation = 0; layout = 0; used = Taken; leaves = false; set = None }) within
+  slot_set slots p s within = get_or-set_same slots p s (record { generation = 0; layout = 0; layout_generation = 0; used = Taken; leaves = false; set = None }) within
 
   pub other_slots : (slots : List (Slot T)) (p : ℕ) (s : Slot T) (q : ℕ) → q ≢ p → slot_at (set slots p s) q ≡ slot_at slots q
-  other_slots slots p s q ne = get_or-set_other slots p q s (record { generation = 0; layout = 0; used = Taken; leaves = false; set = None }) ne
+  other_slots slots p s q ne = get_or-set_other slots p q s (record { generation = 0; layout = 0; layout_generation = 0; used = Taken; leaves = false; set = None }) ne
 
   -- what the code's index reads
   pub read_slot : (slots : List (Slot T)) (p : ℕ) (s : Slot T) → p < length slots → s ≡ get_or slots p s → s ≡ slot_at slots p
-  read_slot slots p s within is = get_or_read slots p s within is (record { generation = 0; layout = 0; used = Taken; leaves = false; set = None })
+  read_slot slots p s within is = get_or_read slots p s within is (record { generation = 0; layout = 0; layout_generation = 0; used = Taken; leaves = false; set = None })
 
   -- a test that holds nowhere past the end
-  pub test_within : (t : Slot T → Bool) (slots : List (Slot T)) (p : ℕ) → t (record { generation = 0; layout = 0; used = Taken; leaves = false; set = None }) ≡ false → t (slot_at slots p) ≡ true → p < length slots
+  pub test_within : (t : Slot T → Bool) (slots : List (Slot T)) (p : ℕ) → t (record { generation = 0; layout = 0; layout_generation = 0; used = Taken; leaves = false; set = None }) ≡ false → t (slot_at slots p) ≡ true → p < length slots
   test_within t [] p not is = absurd (cc)
   test_within t (s ∷ slots) zero not is = omega arith
   test_within t (s ∷ slots) (suc p) not is = let h = test_within t slots p not is in omega arith
@@ -68,8 +68,8 @@ module _ {T : Type 0} where
   ]
 
   -- a list has no more places than there are slots
-  pub lists_few : (t : Slot T → Bool) (slots : List (Slot T)) (l : List ℕ) → t (record { generation = 0; layout = 0; used = Taken; leaves = false; set = None }) ≡ false → Lists t slots l → length l ≤ length slots
-  lists_few t slots l none h = few_places (length slots) l (λ p. subst (λ n. n ≤ 1) (sym (h p)) (one_few (t (slot_at slots p)))) (λ p past. h p ∙ ap (λ x. one (t x)) (get_or_past slots p (record { generation = 0; layout = 0; used = Taken; leaves = false; set = None }) past) ∙ ap one none)
+  pub lists_few : (t : Slot T → Bool) (slots : List (Slot T)) (l : List ℕ) → t (record { generation = 0; layout = 0; layout_generation = 0; used = Taken; leaves = false; set = None }) ≡ false → Lists t slots l → length l ≤ length slots
+  lists_few t slots l none h = few_places (length slots) l (λ p. subst (λ n. n ≤ 1) (sym (h p)) (one_few (t (slot_at slots p)))) (λ p past. h p ∙ ap (λ x. one (t x)) (get_or_past slots p (record { generation = 0; layout = 0; layout_generation = 0; used = Taken; leaves = false; set = None }) past) ∙ ap one none)
 
   -- a slot that does not pass the test is not in the list
   pub not_listed : (t : Slot T → Bool) (slots : List (Slot T)) (l : List ℕ) (p : ℕ) → Lists t slots l → t (slot_at slots p) ≡ false → times p l ≡ 0
@@ -78,7 +78,7 @@ module _ {T : Type 0} where
   module _ (test : ℕ → Slot T → Bool) where
     -- a slot past the end is in no list
     abbrev pub PassesNone : Type 0
-    PassesNone = (k : ℕ) → test k (record { generation = 0; layout = 0; used = Taken; leaves = false; set = None }) ≡ false
+    PassesNone = (k : ℕ) → test k (record { generation = 0; layout = 0; layout_generation = 0; used = Taken; leaves = false; set = None }) ≡ false
 
     -- a slot is in one list
     abbrev pub IsApart : Type 0

@@ -28,12 +28,12 @@ module _ {T : Type 0} where
       by_use Vacant (Some x) e = absurd (let z = (and_true (nat_lt s.generation 4294967295) false e).1 in cc)
 
   -- a set came to a vacant slot
-  pub puts_again : (layout p : ℕ) (x : T) (old mid new : List (Slot T)) → p < length old → is_usable (slot_at old p) ≡ true → mid ≡ with_use p Taken old → new ≡ set mid p (record { generation = (slot_at mid p).generation; layout = layout; used = Taken; leaves = false; set = Some x }) → Puts layout x p old new
-  puts_again layout p x old mid new within was left is =
+  pub puts_again : (generations : ℕ → ℕ) (layout p : ℕ) (x : T) (old mid new : List (Slot T)) → p < length old → is_usable (slot_at old p) ≡ true → mid ≡ with_use p Taken old → new ≡ set mid p (record { generation = (slot_at mid p).generation; layout = layout; layout_generation = generations layout; used = Taken; leaves = false; set = Some x }) → Puts generations layout x p old new
+  puts_again generations layout p x old mid new within was left is =
       let o = slot_at old p in
-      let s : Slot T = record { generation = o.generation; layout = layout; used = Taken; leaves = false; set = Some x } in
+      let s : Slot T = record { generation = o.generation; layout = layout; layout_generation = generations layout; used = Taken; leaves = false; set = Some x } in
       let slot : slot_at mid p ≡ used_for Taken o = ap (λ l. slot_at l p) left ∙ slot_set old p (used_for Taken o) within in
-      let all : new ≡ set old p s = is ∙ ap (λ (w : Slot T). set mid p (record { generation = w.generation; layout = layout; used = Taken; leaves = false; set = Some x })) slot ∙ ap (λ l. set l p s) left ∙ set-set old p (used_for Taken o) s in
+      let all : new ≡ set old p s = is ∙ ap (λ (w : Slot T). set mid p (record { generation = w.generation; layout = layout; layout_generation = generations layout; used = Taken; leaves = false; set = Some x })) slot ∙ ap (λ l. set l p s) left ∙ set-set old p (used_for Taken o) s in
       let long = ap length all ∙ length-set old p s in
       record {
         empty = (vacant_is o was).0;

@@ -74,16 +74,16 @@ module _ {T : Type 0} where
   kept_grows k p now s within out = (let h = count_set (is_in k) now p s within in let b = ap bit out in omega arith)
 
   -- a set of a slot that is in no list settled
-  module _ (most : ℕ) (now mid new : List (Slot T)) (p : ℕ) (within : p < length now) (out : (k : ℕ) → is_in k (slot_at now p) ≡ false) (left : mid ≡ with_use p Taken now) (is : new ≡ with_use p (next_use most mid p) mid) where
-    pub settled_set : new ≡ set now p (used_for (next_use most mid p) (slot_at now p))
-    settled_set = is ∙ ap (λ l. with_use p (next_use most mid p) l) left ∙ use_again now p Taken (next_use most mid p) within
+  module _ (generations : ℕ → ℕ) (most : ℕ) (now mid new : List (Slot T)) (p : ℕ) (within : p < length now) (out : (k : ℕ) → is_in k (slot_at now p) ≡ false) (left : mid ≡ with_use p Taken now) (is : new ≡ with_use p (next_use generations most mid p) mid) where
+    pub settled_set : new ≡ set now p (used_for (next_use generations most mid p) (slot_at now p))
+    settled_set = is ∙ ap (λ l. with_use p (next_use generations most mid p) l) left ∙ use_again now p Taken (next_use generations most mid p) within
 
-    pub settled_grows : (o n : Slot T) → IsSettled most now o n → IsSettled most new o n
+    pub settled_grows : (o n : Slot T) → IsSettled generations most now o n → IsSettled generations most new o n
     settled_grows o n (inl kept) = inl kept
-    settled_grows o n (inr goes) = inr (goes.0, λ may. (let a = goes.1 may in let b = kept_grows (o.layout + 2) p now (used_for (next_use most mid p) (slot_at now p)) within (out (o.layout + 2)) in let c = ap (count (is_in (o.layout + 2))) settled_set in omega arith))
+    settled_grows o n (inr goes) = inr (goes.0, λ may. (let a = goes.1 may in let b = kept_grows (o.layout + 2) p now (used_for (next_use generations most mid p) (slot_at now p)) within (out (o.layout + 2)) in let c = ap (count (is_in (o.layout + 2))) settled_set in omega arith))
 
-    pub settled_here : IsSettled most new (slot_at now p) (used_for (next_use most mid p) (slot_at now p))
-    settled_here = by_test (may_stay most mid (slot_at mid p)) refl
+    pub settled_here : IsSettled generations most new (slot_at now p) (used_for (next_use generations most mid p) (slot_at now p))
+    settled_here = by_test (may_stay generations most mid (slot_at mid p)) refl
       where
         o : Slot T
         o = slot_at now p
@@ -91,17 +91,17 @@ module _ {T : Type 0} where
         slot : slot_at mid p ≡ used_for Taken (slot_at now p)
         slot = ap (λ l. slot_at l p) left ∙ slot_set now p (used_for Taken (slot_at now p)) within
 
-        both : may_stay most mid (slot_at mid p) ≡ (stays (slot_at now p) && nat_lt (count (is_in ((slot_at now p).layout + 2)) mid) most)
-        both = ap (may_stay most mid) slot
+        both : may_stay generations most mid (slot_at mid p) ≡ (stays generations (slot_at now p) && nat_lt (count (is_in ((slot_at now p).layout + 2)) mid) most)
+        both = ap (may_stay generations most mid) slot
 
-        by_test : (b : Bool) → may_stay most mid (slot_at mid p) ≡ b → IsSettled most new (slot_at now p) (used_for (if b then Kept else Going) (slot_at now p))
-        by_test true e = inl (refl, (and_true (stays (slot_at now p)) (nat_lt (count (is_in ((slot_at now p).layout + 2)) mid) most) (sym both ∙ e)).0)
+        by_test : (b : Bool) → may_stay generations most mid (slot_at mid p) ≡ b → IsSettled generations most new (slot_at now p) (used_for (if b then Kept else Going) (slot_at now p))
+        by_test true e = inl (refl, (and_true (stays generations (slot_at now p)) (nat_lt (count (is_in ((slot_at now p).layout + 2)) mid) most) (sym both ∙ e)).0)
         by_test false e = inr (
           refl,
           λ may.
               let k = (slot_at now p).layout + 2 in
               let full = ltb-false (count (is_in k) mid) most (sym (ap (λ b. b && nat_lt (count (is_in k) mid) most) may) ∙ sym both ∙ e) in
-              let a = kept_grows k p now (used_for (next_use most mid p) (slot_at now p)) within (out k) in
+              let a = kept_grows k p now (used_for (next_use generations most mid p) (slot_at now p)) within (out k) in
               let b = ap (count (is_in k)) settled_set in
               let c = same_count (is_in k) now p (used_for Taken (slot_at now p)) within (sym (out k)) in
               let d = ap (count (is_in k)) left in
@@ -109,13 +109,13 @@ module _ {T : Type 0} where
         )
 
   -- a set that settled waits no longer, and no call has it
-  pub settled_not_due : (frame most : ℕ) (l : List (Slot T)) (o n : Slot T) → IsSettled most l o n → is_due frame n ≡ false
-  settled_not_due frame most l o n (inl kept) = ap (is_due frame) kept.0
-  settled_not_due frame most l o n (inr goes) = ap (is_due frame) goes.0
+  pub settled_not_due : (generations : ℕ → ℕ) (frame most : ℕ) (l : List (Slot T)) (o n : Slot T) → IsSettled generations most l o n → is_due frame n ≡ false
+  settled_not_due generations frame most l o n (inl kept) = ap (is_due frame) kept.0
+  settled_not_due generations frame most l o n (inr goes) = ap (is_due frame) goes.0
 
-  pub settled_not_taken : (most : ℕ) (l : List (Slot T)) (o n : Slot T) → IsSettled most l o n → is_taken n ≡ false
-  settled_not_taken most l o n (inl kept) = ap is_taken kept.0
-  settled_not_taken most l o n (inr goes) = ap is_taken goes.0
+  pub settled_not_taken : (generations : ℕ → ℕ) (most : ℕ) (l : List (Slot T)) (o n : Slot T) → IsSettled generations most l o n → is_taken n ≡ false
+  settled_not_taken generations most l o n (inl kept) = ap is_taken kept.0
+  settled_not_taken generations most l o n (inr goes) = ap is_taken goes.0
 
   -- a set that waits, or that a call has, is in no list
   pub due_not_listed : (frame : ℕ) (s : Slot T) → is_due frame s ≡ true → (k : ℕ) → is_in k s ≡ false
@@ -150,6 +150,7 @@ module _ {T : Type 0} where
     number = two.number ∙ one.number;
     most = two.most ∙ one.most;
     lists = two.lists ∙ one.lists;
+    generations = two.generations ∙ one.generations;
     slots = two.slots ∙ one.slots;
     next = two.next ∙ one.next;
     frames = two.frames ∙ one.frames;
@@ -199,16 +200,16 @@ module _ {T : Type 0} where
               others = λ q none. ap (λ l. test (slot_at l q)) all ∙ none;
             }
 
-  pub settle_one : (most : ℕ) (old now new : List (Slot T)) (p : ℕ) → Turning is_taken (IsSettled most) old now → p < length now → new ≡ if_taken p (next_use most now p) now → TurnsOne is_taken (IsSettled most) old now new p
-  settle_one most old now new p turning within is = turn_one is_taken (IsSettled most) old now new p (next_use most now p) turning within is step (settled_out (may_stay most now (slot_at now p)) (slot_at now p))
+  pub settle_one : (generations : ℕ → ℕ) (most : ℕ) (old now new : List (Slot T)) (p : ℕ) → Turning is_taken (IsSettled generations most) old now → p < length now → new ≡ if_taken p (next_use generations most now p) now → TurnsOne is_taken (IsSettled generations most) old now new p
+  settle_one generations most old now new p turning within is = turn_one is_taken (IsSettled generations most) old now new p (next_use generations most now p) turning within is step (settled_out (may_stay generations most now (slot_at now p)) (slot_at now p))
     where
-      step : is_taken (slot_at now p) ≡ true → Turning is_taken (IsSettled most) old new
+      step : is_taken (slot_at now p) ≡ true → Turning is_taken (IsSettled generations most) old new
       step e =
           let taken = taken_is (slot_at now p) e in
-          let all : new ≡ with_use p (next_use most now p) now = is ∙ ap (λ b. if b then with_use p (next_use most now p) now else now) e in
+          let all : new ≡ with_use p (next_use generations most now p) now = is ∙ ap (λ b. if b then with_use p (next_use generations most now p) now else now) e in
           let left : now ≡ with_use p Taken now = sym (same_use now p taken.0 within) in
           let out : (k : ℕ) → is_in k (slot_at now p) ≡ false = (λ k. ap (λ u. in_list k u (slot_at now p).layout (slot_at now p).generation (is_some (slot_at now p).set)) taken.0) in
-          turn_step is_taken (IsSettled most) old now new p (used_for (next_use most now p) (slot_at now p)) turning within e (settled_set most now now new p within out left all) (settled_grows most now now new p within out left all) (settled_not_taken most now) (settled_here most now now new p within out left all)
+          turn_step is_taken (IsSettled generations most) old now new p (used_for (next_use generations most now p) (slot_at now p)) turning within e (settled_set generations most now now new p within out left all) (settled_grows generations most now now new p within out left all) (settled_not_taken generations most now) (settled_here generations most now now new p within out left all)
 
   pub wait_one : (frame : ℕ) (old now new : List (Slot T)) (p : ℕ) → Turning is_taken (WaitsFor frame) old now → p < length now → new ≡ if_taken p (Waits frame) now → TurnsOne is_taken (WaitsFor frame) old now new p
   wait_one frame old now new p turning within is = turn_one is_taken (WaitsFor frame) old now new p (Waits frame) turning within is step refl
@@ -234,7 +235,7 @@ module _ {T : Type 0} where
           turn_step holds Leaves old now new p (used_for Going (slot_at now p)) turning within e all (λ o n w. w) (λ o n w. ap holds w) refl
 
   -- a test that no slot passes, nor one past the end
-  pub none_passes : (test : Slot T → Bool) (slots : List (Slot T)) → test (record { generation = 0; layout = 0; used = Taken; leaves = false; set = None }) ≡ false → ((p : ℕ) → p < length slots → test (slot_at slots p) ≡ false) → (p : ℕ) → test (slot_at slots p) ≡ false
+  pub none_passes : (test : Slot T → Bool) (slots : List (Slot T)) → test (record { generation = 0; layout = 0; layout_generation = 0; used = Taken; leaves = false; set = None }) ≡ false → ((p : ℕ) → p < length slots → test (slot_at slots p) ≡ false) → (p : ℕ) → test (slot_at slots p) ≡ false
   none_passes test [] past none p = past
   none_passes test (s ∷ slots) past none zero = none 0 (omega arith)
   none_passes test (s ∷ slots) past none (suc p) = none_passes test slots past (λ q lt. none (suc q) (omega arith)) p
@@ -277,7 +278,7 @@ module _ {T : Type 0} where
   going_out k s two = ap (λ b. b && is_some s.set) (ne_eqb k 1 (λ e. omega arith))
 
   pub stays_same : (a : SetTable T) → Stays a a
-  stays_same a = record { number = refl; most = refl; lists = refl; slots = refl; next = refl; frames = refl }
+  stays_same a = record { number = refl; most = refl; lists = refl; generations = refl; slots = refl; next = refl; frames = refl }
 
   pub count_same : (test : Slot T → Bool) (l m : List (Slot T)) → length m ≡ length l → ((p : ℕ) → test (slot_at m p) ≡ test (slot_at l p)) → count test m ≡ count test l
   count_same test [] [] long same = refl

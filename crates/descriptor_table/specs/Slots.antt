@@ -70,6 +70,10 @@ frame_in Vacant = 0
 abbrev pub chain_at : List Chain → ℕ → Chain
 chain_at chains k = slice_index_or chains k (record { first = 0; count = 0 })
 
+-- how many layouts of the number were removed, of what a table has for its lists
+abbrev pub generation_at : List ℕ → ℕ → ℕ
+generation_at generations layout = slice_index_or generations (layout + 2) 0
+
 abbrev pub frame_at : List FrameChain → ℕ → FrameChain
 frame_at frames i = slice_index_or frames i (record { frame = 0; first = 0; count = 0 })
 
@@ -96,7 +100,7 @@ AreFew most chains = (k : ℕ) → 2 ≤ k → (chain_at chains k).count ≤ mos
 module _ {T : Type 0} where
   -- the slot at a place. Past the end no set ever was
   abbrev pub slot_at : List (Slot T) → ℕ → Slot T
-  slot_at slots place = slice_index_or slots place (record { generation = 0; layout = 0; used = Taken; leaves = false; set = None })
+  slot_at slots place = slice_index_or slots place (record { generation = 0; layout = 0; layout_generation = 0; used = Taken; leaves = false; set = None })
 
   -- whether a slot is in the list
   abbrev pub is_in : ℕ → Slot T → Bool
@@ -137,13 +141,15 @@ module _ {T : Type 0} where
   abbrev pub AreFramed : List (Slot T) → List ℕ → List FrameChain → Type 0
   AreFramed slots next frames = HasChains is_of slots next (chain_of frames)
 
-  -- the lists of a slot are there: that of its layout if its set may be kept
-  abbrev pub HasListsOf : ℕ → Slot T → Type 0
-  HasListsOf lists s = (2 < lists) × (s.leaves ≡ false → s.layout + 2 < lists)
+  -- the list of a slot's layout is there. Its set came under this layout, or under one that had the number before, and a kept one under this one
+  pub record IsListed (lists : ℕ) (generations : ℕ → ℕ) (s : Slot T) : Type 0 where
+    pub there : s.layout + 2 < lists
+    pub before : s.layout_generation ≤ generations s.layout
+    pub kept : is_in (s.layout + 2) s ≡ true → s.layout_generation ≡ generations s.layout
 
-  -- each slot has its lists
-  abbrev pub HasLists : List (Slot T) → ℕ → Type 0
-  HasLists slots lists = (p : ℕ) → p < length slots → HasListsOf lists (slot_at slots p)
+  -- each slot has its list
+  abbrev pub HasLists : List (Slot T) → ℕ → (ℕ → ℕ) → Type 0
+  HasLists slots lists generations = (p : ℕ) → p < length slots → IsListed lists generations (slot_at slots p)
 
   -- each slot is so
   abbrev pub AllSlots : (Slot T → Type 0) → List (Slot T) → Type 0

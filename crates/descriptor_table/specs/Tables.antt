@@ -1,6 +1,6 @@
 -- What becomes of the slots of a table.
 use Rattle.std.specs.Prelude.{◌≡◌, ◌≢◌, ℕ, zero, suc, ◌+◌, ◌-◌, ◌<◌, ◌≤◌, ◌⊎◌, ◌==◌, ◌&&◌, nat_lt, Bool, true, false, not, List, [], ◌∷◌, length, slice_index_or, slice_set, vec_capacity, is_some, if◌then◌else◌, Option, Some, None, MatchOption}
-use Rattle.descriptor_table.specs.Slots.{chain_at, is_in, is_kept_of, slot_at}
+use Rattle.descriptor_table.specs.Slots.{chain_at, generation_at, is_in, is_kept_of, slot_at}
 use Rattle.descriptor_table.specs.declared.handle.SetHandle.{SetHandle}
 use Rattle.descriptor_table.specs.declared.set_table.SetTable.{SetTable}
 use Rattle.descriptor_table.specs.declared.slot.Use.{Use}
@@ -37,6 +37,14 @@ is_waiting_use Vacant = false
 -- the place of the handle at a place of a list
 abbrev pub place_at : List SetHandle → ℕ → ℕ
 place_at handles i = (slice_index_or handles i (record { renderer = 0; place = 0; generation = 0 })).place
+
+-- how many layouts of each number were removed, after one more was
+abbrev pub removed_at : ℕ → (ℕ → ℕ) → ℕ → ℕ
+removed_at layout generations n = if n == layout then generations n + 1 else generations n
+
+-- the layout that has the number now: its number, and how many had the number before
+abbrev pub current : (ℕ → ℕ) → ℕ → ℕ × ℕ
+current generations layout = (layout, generations layout)
 
 -- how many lists there are with one layout more: the first comes with those that are of no layout
 abbrev pub lists_with : ℕ → ℕ
@@ -75,6 +83,10 @@ module _ {T : Type 0} where
   abbrev pub most_of : SetTable T → ℕ
   most_of t = t.most
 
+  -- how many layouts of each number were removed
+  abbrev pub generations_of : SetTable T → ℕ → ℕ
+  generations_of t = generation_at t.generations.items
+
   -- how many slots are in the list
   abbrev pub count_of : ℕ → SetTable T → ℕ
   count_of k t = (chain_at t.chains.items k).count
@@ -84,9 +96,15 @@ module _ {T : Type 0} where
     pub number : new.number ≡ old.number
     pub most : new.most ≡ old.most
     pub lists : lists_of new ≡ lists_of old
+    pub generations : generations_of new ≡ generations_of old
     pub slots : vec_capacity new.slots ≡ vec_capacity old.slots
     pub next : vec_capacity new.next ≡ vec_capacity old.next
     pub frames : vec_capacity new.frames ≡ vec_capacity old.frames
+
+  -- there is memory for a layout more
+  pub record HasListRoom (t : SetTable T) : Type 0 where
+    pub chains : lists_of t + 3 ≤ vec_capacity t.chains
+    pub generations : lists_of t + 3 ≤ vec_capacity t.generations
 
   -- there is memory for so many slots more
   pub record HasPlaces (n : ℕ) (t : SetTable T) : Type 0 where
@@ -131,21 +149,29 @@ module _ {T : Type 0} where
   abbrev pub is_taken : Slot T → Bool
   is_taken s = is_taken_use s.used && is_some s.set
 
-  -- whether a set may be kept: it came after the last cleanup, and its place has a generation left
-  abbrev pub stays : Slot T → Bool
-  stays s = not s.leaves && nat_lt s.generation 4294967295
+  -- the layout that a set came under
+  abbrev pub came_under : Slot T → ℕ × ℕ
+  came_under s = (s.layout, s.layout_generation)
+
+  -- whether the layout that a set came under has its number still
+  abbrev pub is_current : (ℕ → ℕ) → Slot T → Bool
+  is_current generations s = s.layout_generation == generations s.layout
+
+  -- whether a set may be kept: it came after the last cleanup, its place has a generation left, and its layout was not removed
+  abbrev pub stays : (ℕ → ℕ) → Slot T → Bool
+  stays generations s = (not s.leaves && nat_lt s.generation 4294967295) && is_current generations s
 
   -- whether a set is kept, if at most so many of its layout are
-  abbrev pub may_stay : ℕ → List (Slot T) → Slot T → Bool
-  may_stay most slots s = stays s && nat_lt (count (is_kept_of s.layout) slots) most
+  abbrev pub may_stay : (ℕ → ℕ) → ℕ → List (Slot T) → Slot T → Bool
+  may_stay generations most slots s = stays generations s && nat_lt (count (is_kept_of s.layout) slots) most
 
   -- what a set that comes back is in use for
-  abbrev pub next_use : ℕ → List (Slot T) → ℕ → Use
-  next_use most slots p = if may_stay most slots (slot_at slots p) then Kept else Going
+  abbrev pub next_use : (ℕ → ℕ) → ℕ → List (Slot T) → ℕ → Use
+  next_use generations most slots p = if may_stay generations most slots (slot_at slots p) then Kept else Going
 
   -- a set that came back is kept, or goes back to its pool. If it may be kept, it goes only if as many are kept as may be
-  abbrev pub IsSettled : ℕ → List (Slot T) → Slot T → Slot T → Type 0
-  IsSettled most new o n = ((n ≡ used_for Kept o) × (stays o ≡ true)) ⊎ ((n ≡ used_for Going o) × (stays o ≡ true → most ≤ count (is_kept_of o.layout) new))
+  abbrev pub IsSettled : (ℕ → ℕ) → ℕ → List (Slot T) → Slot T → Slot T → Type 0
+  IsSettled generations most new o n = ((n ≡ used_for Kept o) × (stays generations o ≡ true)) ⊎ ((n ≡ used_for Going o) × (stays generations o ≡ true → most ≤ count (is_kept_of o.layout) new))
 
   -- a set waits for the frame
   abbrev pub WaitsFor : ℕ → List (Slot T) → Slot T → Slot T → Type 0
@@ -189,21 +215,12 @@ module _ {T : Type 0} where
   abbrev pub aged : Slot T → Slot T
   aged s = record s { leaves = true }
 
-  -- the slot, if it is of the layout, of none, and its set isn't kept when it comes back
-  abbrev pub detached : ℕ → Slot T → Slot T
-  detached layout s = record s { layout = if s.layout == layout then 4294967295 else s.layout; leaves = if s.layout == layout then true else s.leaves }
-
-  -- each slot of the layout is of none
-  pub record AreDetached (layout : ℕ) (old new : List (Slot T)) : Type 0 where
-    pub long : length new ≡ length old
-    pub each : (p : ℕ) → p < length old → slot_at new p ≡ detached layout (slot_at old p)
-
-  -- a set came into a slot that had none, and has no handle there yet
-  pub record Puts (layout : ℕ) (set : T) (p : ℕ) (old new : List (Slot T)) : Type 0 where
+  -- a set of the layout came into a slot that had none, and has no handle there yet
+  pub record Puts (generations : ℕ → ℕ) (layout : ℕ) (set : T) (p : ℕ) (old new : List (Slot T)) : Type 0 where
     pub empty : (slot_at old p).set ≡ None
     pub within : p < length new
     pub next : (slot_at old p).generation < 4294967295
-    pub here : slot_at new p ≡ record { generation = (slot_at old p).generation; layout = layout; used = Taken; leaves = false; set = Some set }
+    pub here : slot_at new p ≡ record { generation = (slot_at old p).generation; layout = layout; layout_generation = generations layout; used = Taken; leaves = false; set = Some set }
     pub others : (q : ℕ) → q ≢ p → slot_at new q ≡ slot_at old q
     -- the table grows only if each slot has a set, or had its last generation
     pub grows : (length new ≡ length old) ⊎ ((length new ≡ length old + 1) × ((q : ℕ) → q < length old → is_usable (slot_at old q) ≡ false))

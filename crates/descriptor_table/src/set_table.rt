@@ -2,7 +2,7 @@
 ghost use Rattle.std.specs.Prelude.{◌≡◌, ℕ, ◌+◌, ◌<◌, ◌≤◌, List, [], length, IsOk, OnOk, vec_capacity};
 ghost use Rattle.std.specs.Option.{option_copied};
 ghost use Rattle.descriptor_table.specs.Slots.{AreFew, AreFramed, AreLinked, AreSized};
-ghost use Rattle.descriptor_table.specs.Slots.{HasFrames, HasLists};
+ghost use Rattle.descriptor_table.specs.Slots.{HasFrames, HasLists, generation_at};
 
 mod back;
 mod counts;
@@ -29,9 +29,6 @@ pub(crate) const GOING: usize = 1;
 /// The list of the kept sets of the first layout.
 pub(crate) const KEPT: usize = 2;
 
-/// What a slot has in place of a layout once its layout was removed.
-pub(crate) const NO_LAYOUT: u32 = u32::MAX;
-
 /// The sets, each in a slot.
 #[derive(Drop)]
 pub struct SetTable<T> {
@@ -45,6 +42,10 @@ pub struct SetTable<T> {
     /// The lists, but for those of sets that wait.
     pub(crate) chains: Vec<Chain>,
 
+    /// For each list how many layouts of its number were removed. A set that came under one of these
+    /// isn't kept when it comes back.
+    pub(crate) generations: Vec<u32>,
+
     /// The lists of sets that wait, by falling frames. None is empty.
     pub(crate) frames: Vec<FrameChain>,
 
@@ -54,18 +55,21 @@ pub struct SetTable<T> {
     ghost linked: { AreLinked slots.items next.items chains.items },
     ghost framed: { AreFramed slots.items next.items frames.items },
     ghost rising: { HasFrames frames.items },
-    ghost known: { HasLists slots.items (length chains.items) },
+    ghost counted: { length generations.items ≡ length chains.items },
+    ghost known: { HasLists slots.items (length chains.items) (generation_at generations.items) },
     ghost few: { AreFew most chains.items },
 }
 
 impl<T> SetTable<T> {
     ghost use Rattle.descriptor_table.specs.Sets.{find, is_held};
-    ghost use Rattle.descriptor_table.specs.Tables.{HasPlaces, HasRoom, Stays, lists_of, most_of, number_of, slots_of};
+    ghost use Rattle.descriptor_table.specs.Tables.{HasPlaces, HasRoom, Stays, generations_of, lists_of};
+    ghost use Rattle.descriptor_table.specs.Tables.{most_of, number_of, slots_of};
 
     /// No sets, and no layouts. It allocates nothing.
     pub fn new(alloc: Global, number: u64) -> Self
         ensures slots { slots_of result ≡ [] }
         ensures lists { lists_of result ≡ 0 }
+        ensures generations { generations_of result ≡ generation_at [] }
         ensures number { number_of result ≡ number }
         ensures most { most_of result ≡ u32.MAX }
     {
@@ -74,6 +78,7 @@ impl<T> SetTable<T> {
             slots: Vec::new(alloc),
             next: Vec::new(alloc),
             chains: Vec::new(alloc),
+            generations: Vec::new(alloc),
             frames: Vec::new(alloc),
             most: u32::MAX,
         }
@@ -124,6 +129,7 @@ impl<T> SetTable<T> {
         ensures fits { HasRoom additional self.old → IsOk result }
         ensures slots { slots_of self.new ≡ slots_of self.old }
         ensures lists { lists_of self.new ≡ lists_of self.old }
+        ensures generations { generations_of self.new ≡ generations_of self.old }
         ensures number { number_of self.new ≡ number_of self.old }
         ensures most { most_of self.new ≡ most_of self.old }
     {
@@ -140,6 +146,7 @@ impl<T> SetTable<T> {
         ensures fits { HasPlaces additional self.old → IsOk result }
         ensures slots { slots_of self.new ≡ slots_of self.old }
         ensures lists { lists_of self.new ≡ lists_of self.old }
+        ensures generations { generations_of self.new ≡ generations_of self.old }
         ensures number { number_of self.new ≡ number_of self.old }
         ensures most { most_of self.new ≡ most_of self.old }
     {

@@ -47,6 +47,9 @@ pub struct Slot<T> {
     /// How many handles were given for this place.
     pub(crate) generation: u32,
     pub(crate) layout: u32,
+
+    /// How many layouts had the number before that of the set.
+    pub(crate) layout_generation: u32,
     pub(crate) used: Use,
 
     /// Whether the set isn't kept when it comes back: it was there at the last cleanup.

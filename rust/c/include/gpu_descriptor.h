@@ -308,7 +308,7 @@ gd_status gd_add_layout(gd_allocator allocator, uint64_t handle, const uint32_t 
  * Removes a layout: call it before you destroy the layout, as the driver may give its handle to another.
  * From then on it is GD_BAD_LAYOUT, also once other layouts were added. Its kept sets go back to the
  * driver. Its outstanding sets stay valid until they are freed, and then go back to the driver too. It
- * allocates nothing. The time is linear in the most sets that were there at once.
+ * allocates nothing. The time is linear in the number of its kept sets.
  *
  * GD_BAD_LAYOUT, GD_BAD_ALLOCATOR, GD_BUSY, GD_INTERNAL_ERROR.
  */

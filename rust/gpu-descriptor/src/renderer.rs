@@ -209,8 +209,8 @@ impl<L, P, S, D: DescriptorDevice<L, P, S>> Renderer<L, P, S, D> {
     /// Removes a layout, and returns it. Its handle names none from now on, and none later. Its kept sets
     /// are freed, and then pools are destroyed as by
     /// [`DescriptorAllocator::free`](crate::DescriptorAllocator::free). Its other sets stay as they are,
-    /// and aren't kept when they come back. It allocates nothing. The time is linear in the most sets that
-    /// there were at once.
+    /// and aren't kept when they come back. It allocates nothing. The time is linear in the number of its
+    /// kept sets.
     ///
     /// # Errors
     ///

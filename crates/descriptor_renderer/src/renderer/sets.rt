@@ -8,6 +8,7 @@ ghost use Rattle.descriptor_table.specs.Sets.{AreHeldOnce, KeepNames, LoseNames}
 ghost use Rattle.descriptor_table.specs.Tables.{Grows};
 ghost use Rattle.descriptor_renderer.specs.Stores.{BringsAtLast, FreesAll, FreesEach, HandlesKept};
 ghost use Rattle.descriptor_renderer.specs.Stores.{HandlesNew, HoldAtLast, IsRefusedAtLast, WaitEach};
+ghost use Rattle.descriptor_renderer.specs.Stores.{current_in};
 
 use super::Renderer;
 use crate::errors::{DestroyError, RenderError};
@@ -72,8 +73,8 @@ impl<L: Drop, P: Drop, S: Drop, D: DescriptorDevice<L, P, S>> Renderer<L, P, S, 
         ensures creates { OnOk result (IfSome (layout_of self.old layout) (λ known.
             (given : List SetHandle) × (handles.new.items ≡ handles.old.items ++ given)
             × (length given ≡ many) × ComeEach known.layout given self.old self.new
-            × HoldAtLast (number_of self.old) layout.slot.place given (slots_of self.old)
-            (slots_of self.new))) }
+            × HoldAtLast (number_of self.old) (current_in layout.slot.place (store_of self.old)) given
+            (slots_of self.old) (slots_of self.new))) }
         ensures kept { many ≤ kept_of layout self.old → side_of self.new ≡ side_of self.old }
         ensures comes { kept_of layout self.old < many → OnOk result (IfSome
             (layout_of self.old layout) (λ known. BringsAtLast known.layout

@@ -1,5 +1,5 @@
 //! Sets that come back: they are kept, or go back to their pools.
-ghost use Rattle.std.specs.Prelude.{◌≡◌, ℕ, ◌+◌, ◌≤◌, ◌↔◌, length, false, IsFalse, IsTrue};
+ghost use Rattle.std.specs.Prelude.{◌≡◌, ℕ, ◌+◌, ◌<◌, ◌≤◌, ◌↔◌, length, false, IsFalse, IsTrue};
 ghost use Rattle.gpu_descriptor.specs.Caller.CleansUp.{TrimsPools};
 ghost use Rattle.gpu_descriptor.specs.Caller.Keeps.{Keeps};
 
@@ -12,8 +12,9 @@ impl<L: Drop, P: Drop, S: Drop, D: DescriptorDevice<L, P, S>> Store<L, P, S, D> 
     ghost use Rattle.descriptor_table.specs.Slots.{goes, is_due, slot_at};
     ghost use Rattle.descriptor_renderer.specs.Stores.{AreCleaned, Cleans, ComeBack, FreesAll, FreesEach};
     ghost use Rattle.descriptor_renderer.specs.Stores.{GivesBack, HasLayout, IsAtRest, IsUpTo, NoneComes, Removes, Settles};
-    ghost use Rattle.descriptor_renderer.specs.Stores.{StoreStays, Trims, WaitEach, coming_in, kept_of};
-    ghost use Rattle.descriptor_renderer.specs.Stores.{ledger_of, most_of, number_of, pools_besides};
+    ghost use Rattle.descriptor_renderer.specs.Stores.{StoreStays, Trims, WaitEach, bound_of, coming_in};
+    ghost use Rattle.descriptor_renderer.specs.Stores.{generations_in, kept_of, ledger_of, limit_of};
+    ghost use Rattle.descriptor_renderer.specs.Stores.{lists_in, most_of, number_of, pools_besides};
     ghost use Rattle.descriptor_renderer.specs.Stores.{side_of, slots_in};
 
     /// Gives the sets that were let go back to their pools.
@@ -160,18 +161,23 @@ impl<L: Drop, P: Drop, S: Drop, D: DescriptorDevice<L, P, S>> Store<L, P, S, D> 
         self.give();
     }
 
-    /// Gives the kept sets of a layout back. Its other sets are of none from now on, and aren't kept when
-    /// they come back.
+    /// Removes a layout: its kept sets are given back, and its other sets aren't kept when they come back,
+    /// not even once another layout has its number.
     pub(crate) fn remove_layout(&mut self, layout: u32)
         requires rest { IsAtRest self.old }
         requires layout { HasLayout layout self.old }
+        requires next { generations_in self.old layout < 4294967295 }
         ensures removes { Removes layout self.old self.new }
-        ensures rest { IsAtRest self.new }
-        ensures frames { (f : ℕ) → IsUpTo f (slots_in self.old) → IsUpTo f (slots_in self.new) }
-        ensures stays { StoreStays (most_of self.old) self.old self.new }
+        ensures settles { Settles NoneComes 0 self.old self.new }
+        ensures number { number_of self.new ≡ number_of self.old }
+        ensures lists { lists_in self.new ≡ lists_in self.old }
+        ensures limit { limit_of self.new ≡ limit_of self.old }
+        ensures bound { bound_of self.new ≡ bound_of self.old }
+        ensures besides { pools_besides self.new ≡ pools_besides self.old }
+        ensures keeps { most_of self.new ≡ most_of self.old }
     {
         self.table.let_kept_go(layout);
-        self.table.detach(layout);
+        self.table.remove_layout(layout);
         self.give();
     }
 

@@ -14,7 +14,7 @@ impl<L: Drop, P: Drop, S: Drop, D: DescriptorDevice<L, P, S>> Store<L, P, S, D> 
     ghost use Rattle.descriptor_table.specs.declared.handle.SetHandle.{SetHandle};
     ghost use Rattle.descriptor_renderer.specs.Stores.{AreNamed, Asks, AsksAtLast, BringsAtLast, ComesOf, HasLayout, HoldAtLast, HoldEach};
     ghost use Rattle.descriptor_renderer.specs.Stores.{IsAtRest, IsRefused, IsRefusedAtLast, NoneComes, SetsCome, Settles};
-    ghost use Rattle.descriptor_renderer.specs.Stores.{StoreStays, coming_in, kept_of, most_of};
+    ghost use Rattle.descriptor_renderer.specs.Stores.{StoreStays, coming_in, current_in, kept_of, most_of};
     ghost use Rattle.descriptor_renderer.specs.Stores.{number_of, side_of, slots_in};
 
     /// Asks the allocator for so many sets of a layout, and for memory to put them into the table.
@@ -72,8 +72,8 @@ impl<L: Drop, P: Drop, S: Drop, D: DescriptorDevice<L, P, S>> Store<L, P, S, D> 
         requires kept { 0 < kept_of layout self.old }
         requires room { vec_len handles.old < vec_capacity handles.old }
         ensures holds { (handle : SetHandle) × (handles.new.items ≡ handles.old.items ++ handle ∷ [])
-            × HoldEach (number_of self.old) layout (handle ∷ []) (slots_in self.old)
-            (slots_in self.new) }
+            × HoldEach (number_of self.old) (current_in layout self.old) (handle ∷ [])
+            (slots_in self.old) (slots_in self.new) }
         ensures fewer { kept_of layout self.new + 1 ≡ kept_of layout self.old }
         ensures room { vec_capacity handles.new ≡ vec_capacity handles.old }
         ensures side { side_of self.new ≡ side_of self.old }
@@ -94,8 +94,8 @@ impl<L: Drop, P: Drop, S: Drop, D: DescriptorDevice<L, P, S>> Store<L, P, S, D> 
         requires kept { many ≤ kept_of layout self.old }
         requires room { vec_len handles.old + many ≤ vec_capacity handles.old }
         ensures holds { (given : List SetHandle) × (handles.new.items ≡ handles.old.items ++ given)
-            × (length given ≡ many) × HoldEach (number_of self.old) layout given
-            (slots_in self.old) (slots_in self.new) }
+            × (length given ≡ many) × HoldEach (number_of self.old) (current_in layout self.old)
+            given (slots_in self.old) (slots_in self.new) }
         ensures room { vec_capacity handles.new ≡ vec_capacity handles.old }
         ensures side { side_of self.new ≡ side_of self.old }
         ensures coming { coming_in self.new ≡ coming_in self.old }
@@ -118,8 +118,8 @@ impl<L: Drop, P: Drop, S: Drop, D: DescriptorDevice<L, P, S>> Store<L, P, S, D> 
         requires table { HasRoom (length (coming_in self.old).items) self.old.table }
         requires room { vec_len handles.old < vec_capacity handles.old }
         ensures holds { (handle : SetHandle) × (handles.new.items ≡ handles.old.items ++ handle ∷ [])
-            × HoldEach (number_of self.old) layout (handle ∷ []) (slots_in self.old)
-            (slots_in self.new) }
+            × HoldEach (number_of self.old) (current_in layout self.old) (handle ∷ [])
+            (slots_in self.old) (slots_in self.new) }
         ensures fewer { length (coming_in self.new).items + 1 ≡ length (coming_in self.old).items }
         ensures room { vec_capacity handles.new ≡ vec_capacity handles.old }
         ensures side { side_of self.new ≡ side_of self.old }
@@ -148,7 +148,8 @@ impl<L: Drop, P: Drop, S: Drop, D: DescriptorDevice<L, P, S>> Store<L, P, S, D> 
             ≤ vec_capacity handles.old }
         ensures holds { (given : List SetHandle) × (handles.new.items ≡ handles.old.items ++ given)
             × (length given ≡ length (coming_in self.old).items)
-            × HoldEach (number_of self.old) layout given (slots_in self.old) (slots_in self.new) }
+            × HoldEach (number_of self.old) (current_in layout self.old) given (slots_in self.old)
+            (slots_in self.new) }
         ensures none { (coming_in self.new).items ≡ [] }
         ensures side { side_of self.new ≡ side_of self.old }
         ensures sets { (known : L) → AreOfLayout D.meaning known (coming_in self.old).items
@@ -176,8 +177,9 @@ impl<L: Drop, P: Drop, S: Drop, D: DescriptorDevice<L, P, S>> Store<L, P, S, D> 
         requires room { vec_len handles.old + many ≤ vec_capacity handles.old }
         ensures creates { OnOk result ((given : List SetHandle)
             × (handles.new.items ≡ handles.old.items ++ given) × (length given ≡ many)
-            × AreNamed (number_of self.old) layout given (slots_in self.old) (slots_in self.new)
-            × HoldAtLast (number_of self.old) layout given (slots_in self.old) (slots_in self.new)) }
+            × AreNamed (number_of self.old) (current_in layout self.old) given (slots_in self.old)
+            (slots_in self.new) × HoldAtLast (number_of self.old) (current_in layout self.old) given
+            (slots_in self.old) (slots_in self.new)) }
         ensures kept { many ≤ kept_of layout self.old → (result ≡ Ok tt)
             × (side_of self.new ≡ side_of self.old) }
         ensures comes { kept_of layout self.old < many → OnOk result (BringsAtLast known.now.layout

@@ -13,8 +13,8 @@ impl<L: Drop, P: Drop, S: Drop, D: DescriptorDevice<L, P, S>> Store<L, P, S, D> 
     ghost use Rattle.descriptor_renderer.specs.Stores.{ComesOf, Gets, GetsAtLast, HandlesKept};
     ghost use Rattle.descriptor_renderer.specs.Stores.{HandlesNew, HasLayout, IsAtRest, IsNamed};
     ghost use Rattle.descriptor_renderer.specs.Stores.{IsRefused, IsRefusedAtLast, Settles, StoreStays};
-    ghost use Rattle.descriptor_renderer.specs.Stores.{TakesKept, coming_in, kept_of, most_of};
-    ghost use Rattle.descriptor_renderer.specs.Stores.{number_of, slots_in};
+    ghost use Rattle.descriptor_renderer.specs.Stores.{TakesKept, coming_in, current_in, kept_of};
+    ghost use Rattle.descriptor_renderer.specs.Stores.{most_of, number_of, slots_in};
 
     /// Asks the allocator for a set of a layout, and puts it into the table. Gives its place.
     #[inline]
@@ -96,8 +96,9 @@ impl<L: Drop, P: Drop, S: Drop, D: DescriptorDevice<L, P, S>> Store<L, P, S, D> 
         requires meant { IsMeant D.meaning known.now }
         requires layout { HasLayout layout self.old }
         requires rest { IsAtRest self.old }
-        ensures named { IfOk result (λ handle. IsNamed (number_of self.old) layout (Use.Drawn frame)
-            handle (slots_in self.old) (slots_in self.new)) }
+        ensures named { IfOk result (λ handle. IsNamed (number_of self.old)
+            (current_in layout self.old) (Use.Drawn frame) handle (slots_in self.old)
+            (slots_in self.new)) }
         ensures kept { 0 < kept_of layout self.old → (handle : SetHandle) × (result ≡ Ok handle)
             × HandlesKept layout (Use.Drawn frame) handle self.old self.new }
         ensures comes { kept_of layout self.old ≡ 0 → IfOk result (λ handle.
@@ -122,8 +123,8 @@ impl<L: Drop, P: Drop, S: Drop, D: DescriptorDevice<L, P, S>> Store<L, P, S, D> 
         requires meant { IsMeant D.meaning known.now }
         requires layout { HasLayout layout self.old }
         requires rest { IsAtRest self.old }
-        ensures named { IfOk result (λ handle. IsNamed (number_of self.old) layout Use.Held handle
-            (slots_in self.old) (slots_in self.new)) }
+        ensures named { IfOk result (λ handle. IsNamed (number_of self.old)
+            (current_in layout self.old) Use.Held handle (slots_in self.old) (slots_in self.new)) }
         ensures kept { 0 < kept_of layout self.old → (handle : SetHandle) × (result ≡ Ok handle)
             × HandlesKept layout Use.Held handle self.old self.new }
         ensures comes { kept_of layout self.old ≡ 0 → IfOk result (λ handle.

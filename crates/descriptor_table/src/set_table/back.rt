@@ -9,26 +9,29 @@ impl<T> SetTable<T> {
     ghost use Rattle.descriptor_table.specs.Slots.{is_due, is_in, is_kept_of, slot_at};
     ghost use Rattle.descriptor_table.specs.Tables.{HasTaken, Leaves, MayGo, PicksAbove, Stays, Turns};
     ghost use Rattle.descriptor_table.specs.Tables.{IsSettled, WaitsFor, count, holds, if_held, if_taken};
-    ghost use Rattle.descriptor_table.specs.Tables.{is_kept, is_taken, lists_of, may_stay, next_use};
-    ghost use Rattle.descriptor_table.specs.Tables.{most_of, place_at, slots_of, with_use};
+    ghost use Rattle.descriptor_table.specs.Tables.{generations_of, is_kept, is_taken, lists_of, may_stay};
+    ghost use Rattle.descriptor_table.specs.Tables.{most_of, next_use, place_at, slots_of, with_use};
 
     /// Whether a set that comes back is kept.
     #[inline]
     fn stays(&self, place: usize) -> bool
         requires { place < length (slots_of self.now) }
-        ensures { result ≡ may_stay (most_of self.now) (slots_of self.now)
-            (slot_at (slots_of self.now) place) }
+        ensures { result ≡ may_stay (generations_of self.now) (most_of self.now)
+            (slots_of self.now) (slot_at (slots_of self.now) place) }
     {
         let slot = &self.slots[place];
-        !slot.leaves && slot.generation < u32::MAX && self.kept_count(slot.layout) < self.most
+        !slot.leaves
+            && slot.generation < u32::MAX
+            && slot.layout_generation == self.generation(slot.layout)
+            && self.kept_count(slot.layout) < self.most
     }
 
     /// Keeps a set that a call has, or lets it go.
     #[inline]
     fn settle(&mut self, place: usize)
         requires { HasTaken place (slots_of self.old) }
-        ensures slots { slots_of self.new ≡ with_use place
-            (next_use (most_of self.old) (slots_of self.old) place) (slots_of self.old) }
+        ensures slots { slots_of self.new ≡ with_use place (next_use (generations_of self.old)
+            (most_of self.old) (slots_of self.old) place) (slots_of self.old) }
         ensures stays { Stays self.old self.new }
     {
         if self.stays(place) {
@@ -41,8 +44,8 @@ impl<T> SetTable<T> {
 
     /// The sets that wait for a frame up to this one are kept or go.
     pub fn settle_due(&mut self, frame: u64)
-        ensures turns { Turns (is_due frame) (IsSettled (most_of self.old)) (slots_of self.old)
-            (slots_of self.new) }
+        ensures turns { Turns (is_due frame) (IsSettled (generations_of self.old) (most_of self.old))
+            (slots_of self.old) (slots_of self.new) }
         ensures stays { Stays self.old self.new }
     {
         while let Some(place) = self.pick_due(frame) {
@@ -54,8 +57,8 @@ impl<T> SetTable<T> {
     #[inline]
     fn settle_taken(&mut self, place: usize)
         requires { place < length (slots_of self.old) }
-        ensures slots { slots_of self.new ≡ if_taken place
-            (next_use (most_of self.old) (slots_of self.old) place) (slots_of self.old) }
+        ensures slots { slots_of self.new ≡ if_taken place (next_use (generations_of self.old)
+            (most_of self.old) (slots_of self.old) place) (slots_of self.old) }
         ensures stays { Stays self.old self.new }
     {
         if !self.has_taken(place) {
@@ -84,8 +87,8 @@ impl<T> SetTable<T> {
             < length (slots_of self.old) }
         requires taken { (p : ℕ) → is_taken (slot_at (slots_of self.old) p) ≡ true → (i : ℕ)
             × (i < length handles.now) × (place_at handles.now i ≡ p) }
-        ensures turns { Turns is_taken (IsSettled (most_of self.old)) (slots_of self.old)
-            (slots_of self.new) }
+        ensures turns { Turns is_taken (IsSettled (generations_of self.old) (most_of self.old))
+            (slots_of self.old) (slots_of self.new) }
         ensures stays { Stays self.old self.new }
     {
         for index in 0..handles.len() {

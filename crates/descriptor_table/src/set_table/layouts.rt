@@ -2,14 +2,15 @@
 ghost use Rattle.std.specs.Prelude.{◌≡◌, ◌↔◌, ◌+◌, ◌<◌, ◌≤◌, ℕ, false, IsOk, IsTrue, OnOk, length};
 ghost use Rattle.std.specs.Prelude.{slice_set, vec_capacity};
 
-use super::{KEPT, NO_LAYOUT, SetTable};
+use super::{KEPT, SetTable};
 use crate::slot::Chain;
 use std::alloc::AllocError;
 
 impl<T> SetTable<T> {
     ghost use Rattle.descriptor_table.specs.Slots.{chain_at, is_kept_of, slot_at};
-    ghost use Rattle.descriptor_table.specs.Tables.{AreAged, AreDetached, Stays, aged, detached};
-    ghost use Rattle.descriptor_table.specs.Tables.{lists_of, lists_with, most_of, number_of, slots_of};
+    ghost use Rattle.descriptor_table.specs.Tables.{AreAged, HasListRoom, Stays, aged, generations_of};
+    ghost use Rattle.descriptor_table.specs.Tables.{lists_of, lists_with, most_of, number_of, removed_at};
+    ghost use Rattle.descriptor_table.specs.Tables.{slots_of};
 
     /// Whether a layout was added.
     #[inline]
@@ -29,32 +30,39 @@ impl<T> SetTable<T> {
 
     /// Reserves memory for one layout more.
     pub fn reserve_layout(&mut self) -> Result<(), AllocError>
-        ensures room { OnOk result (lists_of self.new + 3 ≤ vec_capacity self.new.chains) }
-        ensures fits { lists_of self.old + 3 ≤ vec_capacity self.old.chains → IsOk result }
+        ensures room { OnOk result (HasListRoom self.new) }
+        ensures fits { HasListRoom self.old → IsOk result }
         ensures slots { self.new.slots ≡ self.old.slots }
         ensures lists { lists_of self.new ≡ lists_of self.old }
+        ensures generations { generations_of self.new ≡ generations_of self.old }
         ensures number { number_of self.new ≡ number_of self.old }
         ensures most { most_of self.new ≡ most_of self.old }
     {
-        self.chains.reserve(KEPT + 1)
+        self.chains.reserve(KEPT + 1)?;
+        self.generations.reserve(KEPT + 1)
     }
 
     /// Adds a list without slots, over memory that was reserved.
     fn add_list(&mut self)
-        requires room { lists_of self.old < vec_capacity self.old.chains }
+        requires chains { lists_of self.old < vec_capacity self.old.chains }
+        requires generations { lists_of self.old < vec_capacity self.old.generations }
         ensures lists { lists_of self.new ≡ lists_of self.old + 1 }
         ensures room { vec_capacity self.new.chains ≡ vec_capacity self.old.chains }
+        ensures more { vec_capacity self.new.generations ≡ vec_capacity self.old.generations }
         ensures slots { self.new.slots ≡ self.old.slots }
+        ensures same { generations_of self.new ≡ generations_of self.old }
         ensures number { number_of self.new ≡ number_of self.old }
         ensures most { most_of self.new ≡ most_of self.old }
     {
         self.chains.push_reserved(Chain { first: 0, count: 0 });
+        self.generations.push_reserved(0);
     }
 
     /// Adds a layout, over memory that was reserved.
     pub fn add_layout(&mut self)
-        requires room { lists_of self.old + 3 ≤ vec_capacity self.old.chains }
+        requires room { HasListRoom self.old }
         ensures lists { lists_of self.new ≡ lists_with (lists_of self.old) }
+        ensures generations { generations_of self.new ≡ generations_of self.old }
         ensures slots { self.new.slots ≡ self.old.slots }
         ensures number { number_of self.new ≡ number_of self.old }
         ensures most { most_of self.new ≡ most_of self.old }
@@ -89,32 +97,22 @@ impl<T> SetTable<T> {
         }
     }
 
-    /// The slot, if it is of a layout, is of none from now on.
-    #[inline]
-    fn detach_at(&mut self, place: usize, layout: u32)
-        requires within { place < length (slots_of self.old) }
-        requires none_kept { is_kept_of layout (slot_at (slots_of self.old) place) ≡ false }
-        ensures slots { slots_of self.new ≡ slice_set (slots_of self.old) place
-            (detached layout (slot_at (slots_of self.old) place)) }
-        ensures stays { Stays self.old self.new }
-    {
-        let slot = &mut self.slots[place];
-        if slot.layout == layout {
-            slot.layout = NO_LAYOUT;
-            slot.leaves = true;
-        }
-    }
-
-    /// The sets of a layout, of which none is kept, are of none from now on, and aren't kept when they
-    /// come back.
-    pub fn detach(&mut self, layout: u32)
+    /// Removes a layout, of which no set is kept. Its sets aren't kept when they come back, not even once
+    /// another layout has its number.
+    pub fn remove_layout(&mut self, layout: u32)
+        requires layout { layout + 2 < lists_of self.old }
         requires none_kept { (p : ℕ) → is_kept_of layout (slot_at (slots_of self.old) p) ≡ false }
-        ensures detached { AreDetached layout (slots_of self.old) (slots_of self.new) }
-        ensures stays { Stays self.old self.new }
+        requires next { generations_of self.old layout < 4294967295 }
+        ensures generations { generations_of self.new ≡ removed_at layout
+            (generations_of self.old) }
+        ensures past { (p : ℕ) → (slot_at (slots_of self.new) p).layout ≡ layout → (slot_at
+            (slots_of self.new) p).layout_generation < generations_of self.new layout }
+        ensures slots { self.new.slots ≡ self.old.slots }
+        ensures lists { lists_of self.new ≡ lists_of self.old }
+        ensures number { number_of self.new ≡ number_of self.old }
+        ensures most { most_of self.new ≡ most_of self.old }
     {
-        for place in 0..self.slots.len() {
-            self.detach_at(place, layout);
-        }
+        self.generations[layout as usize + KEPT] += 1;
     }
 
     /// Keeps at most so many sets of a layout from now on. No more are kept now.
@@ -123,6 +121,7 @@ impl<T> SetTable<T> {
         ensures most { most_of self.new ≡ most }
         ensures slots { self.new.slots ≡ self.old.slots }
         ensures lists { lists_of self.new ≡ lists_of self.old }
+        ensures generations { generations_of self.new ≡ generations_of self.old }
         ensures number { number_of self.new ≡ number_of self.old }
     {
         self.most = most;

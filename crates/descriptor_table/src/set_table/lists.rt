@@ -7,7 +7,8 @@ use crate::slot::{Chain, Use};
 impl<T> SetTable<T> {
     ghost use Rattle.descriptor_table.specs.Slots.{chain_at, goes, is_in, is_kept_of, slot_at};
     ghost use Rattle.descriptor_table.specs.Tables.{IsTaken, PicksFirst, Stays, count, count_of};
-    ghost use Rattle.descriptor_table.specs.Tables.{lists_of, most_of, slots_of, used_for, with_use};
+    ghost use Rattle.descriptor_table.specs.Tables.{generations_of, is_kept, lists_of, most_of};
+    ghost use Rattle.descriptor_table.specs.Tables.{slots_of, used_for, with_use};
 
     /// A list by its number. One that there isn't has no slots.
     #[inline]
@@ -17,6 +18,17 @@ impl<T> SetTable<T> {
         match self.chains.get(list) {
             Some(chain) => *chain,
             None => Chain { first: 0, count: 0 },
+        }
+    }
+
+    /// How many layouts of a number were removed.
+    #[inline]
+    pub(super) fn generation(&self, layout: u32) -> u32
+        ensures { result ≡ generations_of self.now layout }
+    {
+        match self.generations.get(layout as usize + KEPT) {
+            Some(generation) => *generation,
+            None => 0,
         }
     }
 
@@ -43,6 +55,9 @@ impl<T> SetTable<T> {
         requires list { list < lists_of self.old }
         requires taken { IsTaken place (slots_of self.old) }
         requires goes { is_in list (used_for used (slot_at (slots_of self.old) place)) ≡ true }
+        requires current { is_kept (used_for used (slot_at (slots_of self.old) place)) ≡ true
+            → (slot_at (slots_of self.old) place).layout_generation ≡ generations_of self.old
+            (slot_at (slots_of self.old) place).layout }
         requires few { 2 ≤ list → count_of list self.old < most_of self.old }
         ensures slots { slots_of self.new ≡ with_use place used (slots_of self.old) }
         ensures stays { Stays self.old self.new }

@@ -10,19 +10,22 @@ impl<T> SetTable<T> {
     ghost use Rattle.descriptor_table.specs.Sets.{find, is_held};
     ghost use Rattle.descriptor_table.specs.Slots.{IsNowhere, goes, is_due, slot_at};
     ghost use Rattle.descriptor_table.specs.Tables.{GivesFirst, HasRoom, HasTaken, IsTaken};
-    ghost use Rattle.descriptor_table.specs.Tables.{Puts, Renews, Stays, is_usable, lists_of, vacated};
-    ghost use Rattle.descriptor_table.specs.Tables.{most_of, number_of, renewed, slots_of, with_use};
+    ghost use Rattle.descriptor_table.specs.Tables.{Puts, Renews, Stays, generations_of, is_usable};
+    ghost use Rattle.descriptor_table.specs.Tables.{lists_of, most_of, number_of, renewed, slots_of};
+    ghost use Rattle.descriptor_table.specs.Tables.{vacated, with_use};
 
     /// Puts a set into a slot, over memory that was reserved. Gives its place.
     #[inline]
     pub fn put(&mut self, layout: u32, set: T) -> usize
         requires room { HasRoom 1 self.old }
         requires layout { layout + 2 < lists_of self.old }
-        ensures puts { Puts layout set result (slots_of self.old) (slots_of self.new) }
+        ensures puts { Puts (generations_of self.old) layout set result (slots_of self.old)
+            (slots_of self.new) }
         ensures reserve { (n : ℕ) → HasRoom (n + 1) self.old → HasRoom n self.new }
         ensures number { number_of self.new ≡ number_of self.old }
         ensures most { most_of self.new ≡ most_of self.old }
         ensures lists { lists_of self.new ≡ lists_of self.old }
+        ensures generations { generations_of self.new ≡ generations_of self.old }
     {
         if let Some(place) = self.pick(VACANT) {
             self.fill(place, layout, set);
@@ -41,6 +44,7 @@ impl<T> SetTable<T> {
             (record {
               generation = (slot_at (slots_of self.old) place).generation;
               layout = layout;
+              layout_generation = generations_of self.old layout;
               used = Use.Taken;
               leaves = false;
               set = Some set;
@@ -50,6 +54,7 @@ impl<T> SetTable<T> {
         let slot = Slot {
             generation: self.slots[place].generation,
             layout,
+            layout_generation: self.generation(layout),
             used: Use::Taken,
             leaves: false,
             set: Some(set),
@@ -57,6 +62,7 @@ impl<T> SetTable<T> {
         let Slot {
             generation: _,
             layout: _,
+            layout_generation: _,
             used: _,
             leaves: _,
             set: before,
@@ -73,16 +79,20 @@ impl<T> SetTable<T> {
         requires room { HasRoom 1 self.old }
         requires layout { layout + 2 < lists_of self.old }
         requires full { (q : ℕ) → is_usable (slot_at (slots_of self.old) q) ≡ false }
-        ensures puts { Puts layout set result (slots_of self.old) (slots_of self.new) }
+        ensures puts { Puts (generations_of self.old) layout set result (slots_of self.old)
+            (slots_of self.new) }
         ensures reserve { (n : ℕ) → HasRoom (n + 1) self.old → HasRoom n self.new }
         ensures number { number_of self.new ≡ number_of self.old }
         ensures most { most_of self.new ≡ most_of self.old }
         ensures lists { lists_of self.new ≡ lists_of self.old }
+        ensures generations { generations_of self.new ≡ generations_of self.old }
     {
         let place = self.slots.len();
+        let layout_generation = self.generation(layout);
         self.slots.push_reserved(Slot {
             generation: 0,
             layout,
+            layout_generation,
             used: Use::Taken,
             leaves: false,
             set: Some(set),

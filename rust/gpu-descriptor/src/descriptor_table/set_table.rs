@@ -26,9 +26,6 @@ pub(crate) const GOING: usize = 1;
 /// The list of the kept sets of the first layout.
 pub(crate) const KEPT: usize = 2;
 
-/// What a slot has in place of a layout once its layout was removed.
-pub(crate) const NO_LAYOUT: u32 = u32::MAX;
-
 /// The sets, each in a slot.
 pub struct SetTable<T> {
     /// The number of the renderer, which tells its handles from those of others.
@@ -40,6 +37,10 @@ pub struct SetTable<T> {
 
     /// The lists, but for those of sets that wait.
     pub(crate) chains: Vec<Chain>,
+
+    /// For each list how many layouts of its number were removed. A set that came under one of these
+    /// isn't kept when it comes back.
+    pub(crate) generations: Vec<u32>,
 
     /// The lists of sets that wait, by falling frames. None is empty.
     pub(crate) frames: Vec<FrameChain>,
@@ -57,6 +58,7 @@ impl<T> SetTable<T> {
             slots: Vec::new(alloc),
             next: Vec::new(alloc),
             chains: Vec::new(alloc),
+            generations: Vec::new(alloc),
             frames: Vec::new(alloc),
             most: u32::MAX,
         }

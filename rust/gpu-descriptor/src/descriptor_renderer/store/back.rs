@@ -95,12 +95,12 @@ impl<L, P, S, D: DescriptorDevice<L, P, S>> Store<L, P, S, D> {
         self.give();
     }
 
-    /// Gives the kept sets of a layout back. Its other sets are of none from now on, and aren't kept when
-    /// they come back.
+    /// Removes a layout: its kept sets are given back, and its other sets aren't kept when they come back,
+    /// not even once another layout has its number.
     pub(crate) fn remove_layout(&mut self, layout: u32)
     {
         self.table.let_kept_go(layout);
-        self.table.detach(layout);
+        self.table.remove_layout(layout);
         self.give();
     }
 

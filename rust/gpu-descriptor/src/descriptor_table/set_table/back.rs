@@ -11,7 +11,10 @@ impl<T> SetTable<T> {
     fn stays(&self, place: usize) -> bool
     {
         let slot = &self.slots[place];
-        !slot.leaves && slot.generation < u32::MAX && self.kept_count(slot.layout) < self.most
+        !slot.leaves
+            && slot.generation < u32::MAX
+            && slot.layout_generation == self.generation(slot.layout)
+            && self.kept_count(slot.layout) < self.most
     }
 
     /// Keeps a set that a call has, or lets it go.

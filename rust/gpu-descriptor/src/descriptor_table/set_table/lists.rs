@@ -15,6 +15,16 @@ impl<T> SetTable<T> {
         }
     }
 
+    /// How many layouts of a number were removed.
+    #[inline]
+    pub(super) fn generation(&self, layout: u32) -> u32
+    {
+        match self.generations.get(layout as usize + KEPT) {
+            Some(generation) => *generation,
+            None => 0,
+        }
+    }
+
     /// Takes the first slot of a list out of it.
     #[inline]
     pub(super) fn pick(&mut self, list: usize) -> Option<usize>

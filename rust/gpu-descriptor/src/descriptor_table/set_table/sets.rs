@@ -25,6 +25,7 @@ impl<T> SetTable<T> {
         let slot = Slot {
             generation: self.slots[place].generation,
             layout,
+            layout_generation: self.generation(layout),
             used: Use::Taken,
             leaves: false,
             set: Some(set),
@@ -32,6 +33,7 @@ impl<T> SetTable<T> {
         let Slot {
             generation: _,
             layout: _,
+            layout_generation: _,
             used: _,
             leaves: _,
             set: before,
@@ -47,9 +49,11 @@ impl<T> SetTable<T> {
     fn push(&mut self, layout: u32, set: T) -> usize
     {
         let place = self.slots.len();
+        let layout_generation = self.generation(layout);
         self.slots.push_reserved(Slot {
             generation: 0,
             layout,
+            layout_generation,
             used: Use::Taken,
             leaves: false,
             set: Some(set),

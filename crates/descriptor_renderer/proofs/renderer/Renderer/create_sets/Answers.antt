@@ -3,9 +3,10 @@ use Rattle.descriptor_table.specs.Sets.{NameEach, sets_of}
 use Rattle.descriptor_table.specs.declared.handle.SetHandle.{SetHandle}
 use Rattle.descriptor_table.proofs.Holding.{same_default}
 use Rattle.descriptor_table.specs.Slots.{slot_at}
+use Rattle.descriptor_table.specs.Tables.{came_under, current}
 use Rattle.descriptor_renderer.specs.LayoutRegistries.{layout_slots}
-use Rattle.descriptor_renderer.specs.Stores.{BringsAtLast, HoldAtLast, kept_of, number_of, slots_in}
-use Rattle.descriptor_renderer.proofs.Owned.{found_set, if_some, layout_here, layout_listed, own_comes, own_known, refused_names}
+use Rattle.descriptor_renderer.specs.Stores.{BringsAtLast, HoldAtLast, current_in, generations_in, kept_of, number_of, slots_in}
+use Rattle.descriptor_renderer.proofs.Owned.{counted_stays, found_set, if_some, layout_here, layout_listed, own_comes, own_known, refused_names}
 use Rattle.descriptor_renderer.proofs.renderer.Renderer.create_sets.Goals as goal
 
 pub create_each-requires-clause-layout : goal.create_each-requires-clause-layout
@@ -19,7 +20,10 @@ invariant_of-self-2-clause-own g c =
     let old = c.args.self.now in
     let known = c.in-Some.known.now in
     let here = layout_here old.layouts c.args.layout known c.place.result c.place.ensures (sym c.in-Some.ensures.layout) in
-    own_comes 0 c.place.result (layout_slots old.layouts) known old.store c.create_each.new.self here c.create_each.ensures.settles old.own
+    own_comes 0 c.place.result (layout_slots old.layouts) known old.store c.create_each.new.self here c.create_each.ensures.settles c.create_each.ensures.stays.generations old.own
+
+pub invariant_of-self-2-clause-counted : goal.invariant_of-self-2-clause-counted
+invariant_of-self-2-clause-counted g c = counted_stays (layout_slots c.args.self.now.layouts) c.args.self.now.store c.create_each.new.self c.create_each.ensures.stays.generations c.args.self.now.counted
 
 pub invariant_of-self-2-clause-rising : goal.invariant_of-self-2-clause-rising
 invariant_of-self-2-clause-rising g c = c.create_each.ensures.settles.frames c.args.self.now.frame (omega arith) c.args.self.now.rising
@@ -29,7 +33,7 @@ returns-in-Ok-clause-creates g c =
     let old = c.args.self.now in
     let known = c.in-Some.known.now in
     let here = layout_here old.layouts c.args.layout known c.place.result c.place.ensures (sym c.in-Some.ensures.layout) in
-    let own = own_comes 0 c.place.result (layout_slots old.layouts) known old.store c.create_each.new.self here c.create_each.ensures.settles old.own in
+    let own = own_comes 0 c.place.result (layout_slots old.layouts) known old.store c.create_each.new.self here c.create_each.ensures.settles c.create_each.ensures.stays.generations old.own in
     let creates = c.in-Ok.ensures.creates in
     let given = creates.0 in
     let named = creates.3 in
@@ -44,9 +48,9 @@ returns-in-Ok-clause-creates g c =
         own = λ i e x lt found.
             let h = slice_index_or given i e in
             let same = ap (λ (h : SetHandle). h.place) (same_default given i e (record { renderer = 0; place = 0; generation = 0 }) lt) in
-            own_known g.D.DescriptorDevice.meaning (layout_slots old.layouts) new own old.layouts.table.sized.few h.place c.place.result x known (found_set old.renderer old.frame old.is_open new h x found) (ap (λ p. (slot_at new p).layout) same ∙ named.of_layout i lt) here;
+            own_known g.D.DescriptorDevice.meaning (generations_in c.create_each.new.self) (layout_slots old.layouts) new own h.place c.place.result x known (found_set old.renderer old.frame old.is_open new h x found) (ap (λ p. came_under (slot_at new p)) same ∙ named.of_layout i lt ∙ ap (λ generations. current generations c.place.result) (sym c.create_each.ensures.stays.generations)) here;
       },
-      subst (λ n. HoldAtLast n c.args.layout.slot.place given (slots_in old.store) new) old.numbers_sets (subst (λ p. HoldAtLast (number_of old.store) p given (slots_in old.store) new) c.place.ensures creates.4),
+      subst (λ n. HoldAtLast n (current_in c.args.layout.slot.place old.store) given (slots_in old.store) new) old.numbers_sets (subst (λ p. HoldAtLast (number_of old.store) (current_in p old.store) given (slots_in old.store) new) c.place.ensures creates.4),
     )
 
 pub returns-in-Err-clause-stay : goal.returns-in-Err-clause-stay

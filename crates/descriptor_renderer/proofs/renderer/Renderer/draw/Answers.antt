@@ -1,9 +1,10 @@
-use Rattle.std.proofs.Common.{◌≡◌, ◌+◌, ◌<◌, ◌==◌, ◌&&◌, true, sym, ap, subst, ◌∙◌, refl, eq-eqb, arith}
+use Rattle.std.proofs.Common.{◌&&◌, ◌+◌, ◌<◌, ◌==◌, ◌∙◌, ◌≡◌, ap, arith, eq-eqb, refl, subst, sym, true}
 use Rattle.descriptor_table.specs.Sets.{Names, sets_of}
+use Rattle.descriptor_table.specs.Tables.{current}
 use Rattle.descriptor_table.specs.declared.slot.Use.TheVariants.{Drawn}
 use Rattle.descriptor_renderer.specs.LayoutRegistries.{layout_slots}
-use Rattle.descriptor_renderer.specs.Stores.{HandlesNew, kept_of, slots_in}
-use Rattle.descriptor_renderer.proofs.Owned.{if_some, layout_here, layout_listed, own_comes, own_known, refused_names}
+use Rattle.descriptor_renderer.specs.Stores.{HandlesNew, generations_in, kept_of, slots_in}
+use Rattle.descriptor_renderer.proofs.Owned.{counted_stays, if_some, layout_here, layout_listed, own_comes, own_known, refused_names}
 use Rattle.descriptor_renderer.proofs.renderer.Renderer.draw.Goals as goal
 
 pub draw-requires-clause-layout : goal.draw-requires-clause-layout
@@ -17,7 +18,10 @@ invariant_of-self-2-clause-own g c =
     let old = c.args.self.now in
     let known = c.in-Some.known.now in
     let here = layout_here old.layouts c.args.layout known c.place.result c.place.ensures (sym c.in-Some.ensures.layout) in
-    own_comes old.frame c.place.result (layout_slots old.layouts) known old.store c.draw.new.self here c.draw.ensures.settles old.own
+    own_comes old.frame c.place.result (layout_slots old.layouts) known old.store c.draw.new.self here c.draw.ensures.settles c.draw.ensures.stays.generations old.own
+
+pub invariant_of-self-2-clause-counted : goal.invariant_of-self-2-clause-counted
+invariant_of-self-2-clause-counted g c = counted_stays (layout_slots c.args.self.now.layouts) c.args.self.now.store c.draw.new.self c.draw.ensures.stays.generations c.args.self.now.counted
 
 pub invariant_of-self-2-clause-rising : goal.invariant_of-self-2-clause-rising
 invariant_of-self-2-clause-rising g c = c.draw.ensures.settles.frames c.args.self.now.frame (omega arith) c.args.self.now.rising
@@ -27,13 +31,13 @@ returns-in-Ok-clause-draws g c =
     let old = c.args.self.now in
     let known = c.in-Some.known.now in
     let here = layout_here old.layouts c.args.layout known c.place.result c.place.ensures (sym c.in-Some.ensures.layout) in
-    let own = own_comes old.frame c.place.result (layout_slots old.layouts) known old.store c.draw.new.self here c.draw.ensures.settles old.own in
+    let own = own_comes old.frame c.place.result (layout_slots old.layouts) known old.store c.draw.new.self here c.draw.ensures.settles c.draw.ensures.stays.generations old.own in
     let named = c.in-Ok.ensures.named in
     let handle = c.in-Ok.handle in
     let live : (old.is_open && (old.frame == old.frame)) ≡ true = ap (λ b. b && (old.frame == old.frame)) c.if-not-self.false ∙ eq-eqb old.frame old.frame refl in
     if_some _ known _ c.in-Some.ensures.layout (record {
       set = named.set;
-      own = own_known g.D.DescriptorDevice.meaning (layout_slots old.layouts) (slots_in c.draw.new.self) own old.layouts.table.sized.few handle.place c.place.result named.set known named.here named.of_layout here;
+      own = own_known g.D.DescriptorDevice.meaning (generations_in c.draw.new.self) (layout_slots old.layouts) (slots_in c.draw.new.self) own handle.place c.place.result named.set known named.here (named.of_layout ∙ ap (λ generations. current generations c.place.result) (sym c.draw.ensures.stays.generations)) here;
       names = subst (λ n. Names handle named.set (sets_of n old.frame old.is_open (slots_in old.store)) (sets_of n old.frame old.is_open (slots_in c.draw.new.self))) old.numbers_sets (named.names old.frame old.is_open live);
     })
 

@@ -1,33 +1,64 @@
-use Rattle.std.proofs.Common.{◌≡◌, ◌≢◌, ℕ, ◌+◌, ◌<◌, length, refl, sym, ap, subst, ◌∙◌}
+use Rattle.std.proofs.Common.{◌≡◌, ◌≢◌, ℕ, ◌+◌, ◌<◌, Some, is_some, length, refl, sym, ap, subst, ◌∙◌, arith}
 use Rattle.std.proofs.lemmas.List.{length-set}
 use Rattle.descriptor_table.specs.Slots.{is_kept_of, slot_at}
-use Rattle.descriptor_table.specs.Tables.{count, vacated}
-use Rattle.descriptor_table.proofs.Listed.{other_slots}
-use Rattle.descriptor_renderer.specs.LayoutRegistries.{layout_slots}
-use Rattle.descriptor_renderer.specs.Own.{AreOwn}
-use Rattle.descriptor_renderer.specs.Stores.{lists_for, slots_in}
-use Rattle.descriptor_renderer.proofs.Owned.{layout_here, layout_listed}
-use Rattle.descriptor_renderer.proofs.Removing.{own_removed, removed_names, removed_none}
+use Rattle.descriptor_table.specs.Tables.{count, removed_at, vacated}
+use Rattle.descriptor_table.proofs.Listed.{other_slots, slot_set}
+use Rattle.descriptor_renderer.specs.LayoutRegistries.{layout_slots, layouts_by}
+use Rattle.descriptor_renderer.specs.Own.{AreCounted, AreOwn}
+use Rattle.descriptor_renderer.specs.Stores.{generations_in, lists_for, slots_in}
+use Rattle.descriptor_renderer.proofs.Owned.{layout_here, layout_listed, layout_within}
+use Rattle.descriptor_renderer.proofs.Removing.{counted_removed, own_removed, removed_fits, removed_names, removed_none}
+use Rattle.descriptor_renderer.proofs.renderer.Renderer.remove_layout.Given.{Over}
 use Rattle.descriptor_renderer.proofs.renderer.Renderer.remove_layout.Goals as goal
+use Rattle.descriptor_renderer.proofs.renderer.Renderer.remove_layout.Goals.{After-place}
+
+-- the layout is there
+here : (g : Over) (c : After-place g) → (slot_at (layout_slots c.args.self.now.layouts) c.place.result).set ≡ Some c.in-Some.removed
+here g c = layout_here c.args.self.now.layouts c.args.layout c.in-Some.removed c.place.result c.place.ensures (sym c.in-Some.ensures.layout)
+
+-- and leaves its slot
+gone : (g : Over) (c : After-place g) → slot_at (layout_slots c.remove.new.self) c.place.result ≡ vacated (slot_at (layout_slots c.args.self.now.layouts) c.place.result)
+gone g c =
+    let layouts = layout_slots c.args.self.now.layouts in
+    let within = layout_within layouts c.place.result c.in-Some.removed (here g c) in
+    subst (λ p. slot_at (layout_slots c.remove.new.self) p ≡ vacated (slot_at layouts p)) (sym c.place.ensures) (
+        ap (λ l. slot_at l c.args.layout.slot.place) (c.in-Some.ensures.slots refl) ∙ slot_set layouts c.args.layout.slot.place (vacated (slot_at layouts c.args.layout.slot.place)) (let at = c.place.ensures in omega arith))
+
+others : (g : Over) (c : After-place g) (n : ℕ) → n ≢ c.place.result → slot_at (layout_slots c.remove.new.self) n ≡ slot_at (layout_slots c.args.self.now.layouts) n
+others g c n ne =
+    let layouts = layout_slots c.args.self.now.layouts in
+    let p = c.args.layout.slot.place in
+    ap (λ l. slot_at l n) (c.in-Some.ensures.slots refl) ∙ other_slots layouts p (vacated (slot_at layouts p)) n (λ e. ne (e ∙ sym c.place.ensures))
 
 pub remove_layout-requires-clause-layout : goal.remove_layout-requires-clause-layout
 remove_layout-requires-clause-layout g c =
     let old = c.args.self.now in
-    let here = layout_here old.layouts c.args.layout c.in-Some.removed c.place.result c.place.ensures (sym c.in-Some.ensures.layout) in
-    subst (λ n. c.place.result + 2 < n) (sym old.lists) (layout_listed (layout_slots old.layouts) c.place.result c.in-Some.removed here)
+    subst (λ n. c.place.result + 2 < n) (sym old.lists) (layout_listed (layout_slots old.layouts) c.place.result c.in-Some.removed (here g c))
+
+pub remove_layout-requires-clause-next : goal.remove_layout-requires-clause-next
+remove_layout-requires-clause-next g c =
+    let old = c.args.self.now in
+    removed_fits c.place.result (generations_in old.store) (layout_slots old.layouts) old.counted (ap is_some (here g c))
 
 pub invariant_of-self-clause-own : goal.invariant_of-self-clause-own
 invariant_of-self-clause-own g c =
     let old = c.args.self.now in
-    let layouts = layout_slots old.layouts in
-    let p = c.args.layout.slot.place in
     let fewer = layout_slots c.remove.new.self in
+    let new = slots_in c.remove_layout.new.self in
     let removes = c.remove_layout.ensures.removes in
-    let others : (n : ℕ) → n ≢ c.place.result → slot_at fewer n ≡ slot_at layouts n = λ n ne. ap (λ l. slot_at l n) (c.in-Some.ensures.slots refl) ∙ other_slots layouts p (vacated (slot_at layouts p)) n (λ e. ne (e ∙ sym c.place.ensures)) in
-    own_removed g.D.DescriptorDevice.meaning c.place.result layouts fewer others (slots_in old.store) (slots_in c.remove_layout.new.self) removes.long removes.each old.own
+    let d = (goal.at.invariant_of-self-clause-own g c).After-place in
+    let past : (p : ℕ) → (slot_at new p).layout ≡ c.place.result → (slot_at new p).layout_generation < removed_at c.place.result (generations_in old.store) c.place.result = λ p at. subst (λ (generations : ℕ → ℕ). (slot_at new p).layout_generation < generations c.place.result) removes.generations (removes.past p at) in
+    subst (λ generations. AreOwn g.D.DescriptorDevice.meaning generations fewer new) (sym removes.generations) (own_removed g.D.DescriptorDevice.meaning c.place.result (generations_in old.store) (layout_slots old.layouts) fewer (others g d) (slots_in old.store) new removes.turns past old.own)
+
+pub invariant_of-self-clause-counted : goal.invariant_of-self-clause-counted
+invariant_of-self-clause-counted g c =
+    let old = c.args.self.now in
+    let fewer = layout_slots c.remove.new.self in
+    let d = (goal.at.invariant_of-self-clause-counted g c).After-place in
+    subst (λ generations. AreCounted generations fewer) (sym c.remove_layout.ensures.removes.generations) (counted_removed c.place.result (generations_in old.store) (layout_slots old.layouts) fewer old.counted (ap is_some (here g d)) (gone g d) (others g d))
 
 pub invariant_of-self-clause-rising : goal.invariant_of-self-clause-rising
-invariant_of-self-clause-rising g c = c.remove_layout.ensures.frames c.args.self.now.frame c.args.self.now.rising
+invariant_of-self-clause-rising g c = c.remove_layout.ensures.settles.frames c.args.self.now.frame (omega arith) c.args.self.now.rising
 
 pub invariant_of-self-clause-lists : goal.invariant_of-self-clause-lists
 invariant_of-self-clause-lists g c =
@@ -35,21 +66,43 @@ invariant_of-self-clause-lists g c =
     let layouts = layout_slots old.layouts in
     let p = c.args.layout.slot.place in
     let long = ap length (c.in-Some.ensures.slots refl) ∙ length-set layouts p (vacated (slot_at layouts p)) in
-    c.remove_layout.ensures.stays.lists ∙ old.lists ∙ ap lists_for (sym long)
+    c.remove_layout.ensures.lists ∙ old.lists ∙ ap lists_for (sym long)
 
 pub invariant_of-self-in-None-clause-own : goal.invariant_of-self-in-None-clause-own
 invariant_of-self-in-None-clause-own g c =
     let old = c.args.self.now in
-    subst (λ l. AreOwn g.D.DescriptorDevice.meaning l (slots_in old.store)) (sym (c.in-None.ensures.none refl)) old.own
+    subst (λ l. AreOwn g.D.DescriptorDevice.meaning (generations_in old.store) l (slots_in old.store)) (sym (c.in-None.ensures.none refl)) old.own
+
+pub invariant_of-self-in-None-clause-counted : goal.invariant_of-self-in-None-clause-counted
+invariant_of-self-in-None-clause-counted g c =
+    let old = c.args.self.now in
+    subst (AreCounted (generations_in old.store)) (sym (c.in-None.ensures.none refl)) old.counted
 
 pub returns-in-Some-clause-none_kept : goal.returns-in-Some-clause-none_kept
 returns-in-Some-clause-none_kept g c =
     let new = slots_in c.remove_layout.new.self in
-    let removes = c.remove_layout.ensures.removes in
-    subst (λ p. count (is_kept_of p) new ≡ 0) c.place.ensures (removed_none c.place.result (slots_in c.args.self.now.store) new removes.long removes.each)
+    subst (λ p. count (is_kept_of p) new ≡ 0) c.place.ensures (removed_none c.place.result (slots_in c.args.self.now.store) new c.remove_layout.ensures.removes.turns)
 
 pub returns-in-Some-clause-names : goal.returns-in-Some-clause-names
 returns-in-Some-clause-names g c =
     let old = c.args.self.now in
-    let removes = c.remove_layout.ensures.removes in
-    removed_names c.place.result (slots_in old.store) (slots_in c.remove_layout.new.self) removes.long removes.each old.renderer old.frame old.is_open
+    removed_names c.place.result (slots_in old.store) (slots_in c.remove_layout.new.self) c.remove_layout.ensures.removes.turns old.renderer old.frame old.is_open
+
+pub returns-in-Some-clause-rest : goal.returns-in-Some-clause-rest
+returns-in-Some-clause-rest g c =
+    let old = c.args.self.now in
+    let now = c.remove_layout.ensures in
+    let names = c.in-Some.ensures.names refl in
+    λ i. record {
+      number = old.renderer;
+      layouts = λ h. (layouts_by c.remove.new.self).set h.slot;
+      given = λ h. names.given h.slot i;
+      frame = old.frame;
+      is_open = old.is_open;
+      slots = slots_in c.remove_layout.new.self;
+      generations = generations_in c.remove_layout.new.self;
+      most = now.keeps i;
+      pools_besides = now.besides i;
+      limit = now.limit i;
+      bound = now.bound i;
+    }

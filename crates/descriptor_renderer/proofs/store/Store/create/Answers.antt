@@ -4,7 +4,7 @@ use Rattle.gpu_descriptor.specs.Model.Agreement.{count_of}
 use Rattle.descriptor_table.specs.Sets.{sets_in}
 use Rattle.descriptor_table.specs.Tables.{Renews, slots_of}
 use Rattle.descriptor_table.specs.declared.slot.Use.TheVariants.{Held}
-use Rattle.descriptor_renderer.specs.Stores.{ComesOf, number_of, slots_in}
+use Rattle.descriptor_renderer.specs.Stores.{ComesOf, generations_in, number_of, slots_in}
 use Rattle.descriptor_renderer.proofs.Arriving.{arrived}
 use Rattle.descriptor_renderer.proofs.Given.{renewed_sets}
 use Rattle.descriptor_renderer.proofs.Growing.{grow_refused, grow_taken}
@@ -16,8 +16,8 @@ use Rattle.descriptor_renderer.proofs.store.Store.create.Goals.{After-hold}
 renews : (g : Over) (c : After-hold g) → Renews (number_of c.args.self.now) c.in_ok-place.place Held c.hold.result (slots_in c.take.new.self) (slots_of c.hold.new.self)
 renews g c = subst (λ n. Renews n c.in_ok-place.place Held c.hold.result (slots_in c.take.new.self) (slots_of c.hold.new.self)) c.take.ensures.stays.number c.hold.ensures.renews
 
-handles : (g : Over) (c : After-hold g) → Handles (ComesOf g.D.DescriptorDevice.meaning c.args.known.now.layout c.args.layout) (number_of c.args.self.now) c.args.layout c.in_ok-place.place Held c.hold.result (slots_in c.args.self.now) (slots_of c.hold.new.self)
-handles g c = taken_handles c.args.known.now.layout c.args.layout (number_of c.args.self.now) c.in_ok-place.place Held c.hold.result c.args.self.now c.take.new.self (slots_of c.hold.new.self) c.in_ok-place.ensures.kept c.in_ok-place.ensures.comes (renews g c)
+handles : (g : Over) (c : After-hold g) → Handles (ComesOf g.D.DescriptorDevice.meaning c.args.known.now.layout c.args.layout) (number_of c.args.self.now) (generations_in c.args.self.now) c.args.layout c.in_ok-place.place Held c.hold.result (slots_in c.args.self.now) (slots_of c.hold.new.self)
+handles g c = taken_handles c.args.known.now.layout c.args.layout (number_of c.args.self.now) c.in_ok-place.place Held c.hold.result c.args.self.now c.take.new.self (slots_of c.hold.new.self) c.take.ensures.stays.generations c.in_ok-place.ensures.kept c.in_ok-place.ensures.comes (renews g c)
 
 same_sets : (g : Over) (c : After-hold g) → sets_in (slots_of c.hold.new.self) ≡ sets_in (slots_in c.take.new.self)
 same_sets g c = renewed_sets (number_of c.take.new.self) c.in_ok-place.place Held c.hold.result (slots_in c.take.new.self) (slots_of c.hold.new.self) c.hold.ensures.renews
@@ -40,7 +40,7 @@ invariant_of-self-clause-accounted g c =
     omega arith
 
 pub returns-clause-named : goal.returns-clause-named
-returns-clause-named g c = named (ComesOf g.D.DescriptorDevice.meaning c.args.known.now.layout c.args.layout) (number_of c.args.self.now) c.args.layout c.in_ok-place.place Held c.hold.result (slots_in c.args.self.now) (slots_of c.hold.new.self) (handles g (goal.at.returns-clause-named g c).After-hold)
+returns-clause-named g c = named (ComesOf g.D.DescriptorDevice.meaning c.args.known.now.layout c.args.layout) (number_of c.args.self.now) (generations_in c.args.self.now) c.args.layout c.in_ok-place.place Held c.hold.result (slots_in c.args.self.now) (slots_of c.hold.new.self) (handles g (goal.at.returns-clause-named g c).After-hold)
 
 pub returns-clause-kept : goal.returns-clause-kept
 returns-clause-kept g c = λ some. (c.hold.result, refl, kept_handle c.args.layout c.in_ok-place.place Held c.hold.result c.args.self.now c.take.new.self _ (c.in_ok-place.ensures.kept some) (renews g (goal.at.returns-clause-kept g c).After-hold) refl)
@@ -54,7 +54,7 @@ pub returns-clause-settles : goal.returns-clause-settles
 returns-clause-settles g c =
     let comes = ComesOf g.D.DescriptorDevice.meaning c.args.known.now.layout c.args.layout in
     let h = handles g (goal.at.returns-clause-settles g c).After-hold in
-    arrived comes 0 c.args.self.now _ (handled_arrives comes (number_of c.args.self.now) c.args.layout c.in_ok-place.place Held c.hold.result (slots_in c.args.self.now) (slots_of c.hold.new.self) h 0 refl (omega arith)) (ap (λ v. v.items) c.take.ensures.coming ∙ c.requires.rest.none_coming) c.requires.rest
+    arrived comes 0 c.args.self.now _ (handled_arrives comes (number_of c.args.self.now) (generations_in c.args.self.now) c.args.layout c.in_ok-place.place Held c.hold.result (slots_in c.args.self.now) (slots_of c.hold.new.self) h 0 refl (omega arith)) (ap (λ v. v.items) c.take.ensures.coming ∙ c.requires.rest.none_coming) c.requires.rest
 
 pub returns-in_err-place-clause-grows : goal.returns-in_err-place-clause-grows
 returns-in_err-place-clause-grows g c = grow_refused c.args.known.now.layout 1 1 c.in_err-place.field-0.0 c.args.self.now c.take.new.self c.in_err-place.ensures.refused

@@ -2,12 +2,12 @@ use Rattle.std.proofs.Common.{◌≡◌, ◌-◌, ◌++◌, ◌∙◌, List, len
 use Rattle.gpu_descriptor.specs.Caller.Sets.{AreOfLayout}
 use Rattle.descriptor_table.specs.Tables.{HasRoom}
 use Rattle.descriptor_table.specs.declared.handle.SetHandle.{SetHandle}
-use Rattle.descriptor_renderer.specs.Stores.{ComesOf, HoldEach, SetsCome, coming_in, number_of, slots_in}
+use Rattle.descriptor_renderer.specs.Stores.{ComesOf, HoldEach, SetsCome, coming_in, current_in, number_of, slots_in}
 use Rattle.descriptor_renderer.proofs.Arriving.{arrived}
 use Rattle.descriptor_renderer.proofs.Bringing.{Brings, brought}
 use Rattle.descriptor_renderer.proofs.Growing.{grow_from, grow_more, grow_refused}
 use Rattle.descriptor_renderer.proofs.Handing.{refused_arrives}
-use Rattle.descriptor_renderer.proofs.Joining.{are_named, held_then, holds_arrives, kept_then}
+use Rattle.descriptor_renderer.proofs.Joining.{are_named, held_stays, held_then, holds_arrives, kept_then}
 use Rattle.descriptor_renderer.proofs.store.Store.create_each.Given.{Over}
 use Rattle.descriptor_renderer.proofs.store.Store.create_each.Goals as goal
 use Rattle.descriptor_renderer.proofs.store.Store.create_each.Goals.{After-hold_coming}
@@ -16,15 +16,15 @@ brings : (g : Over) (c : After-hold_coming g) → Brings c.args.known.now.layout
 brings g c = brought c.args.known.now.layout c.args.layout c.args.many c.args.self.now c.bring.new.self c.requires.rest.none_coming (λ enough. (c.in_ok-bring.ensures.kept enough).1) c.in_ok-bring.ensures.asks
 
 -- all handles, of kept sets and of those that came
-all_held : (g : Over) (c : After-hold_coming g) → (given : List SetHandle) × (c.hold_coming.new.handles.items ≡ c.args.handles.now.items ++ given) × (length given ≡ c.args.many) × HoldEach (number_of c.args.self.now) c.args.layout given (slots_in c.bring.new.self) (slots_in c.hold_coming.new.self)
+all_held : (g : Over) (c : After-hold_coming g) → (given : List SetHandle) × (c.hold_coming.new.handles.items ≡ c.args.handles.now.items ++ given) × (length given ≡ c.args.many) × HoldEach (number_of c.args.self.now) (current_in c.args.layout c.args.self.now) given (slots_in c.bring.new.self) (slots_in c.hold_coming.new.self)
 all_held g c =
-    let h = held_then c.args.layout (c.args.many - c.len.result) (length (coming_in c.hold_kept.new.self).items) c.args.handles.now.items c.hold_kept.new.handles.items c.hold_coming.new.handles.items c.bring.new.self c.hold_kept.new.self c.hold_coming.new.self c.hold_kept.ensures.stays.number c.hold_kept.ensures.holds c.hold_coming.ensures.holds in
+    let h = held_then c.args.layout (c.args.many - c.len.result) (length (coming_in c.hold_kept.new.self).items) c.args.handles.now.items c.hold_kept.new.handles.items c.hold_coming.new.handles.items c.bring.new.self c.hold_kept.new.self c.hold_coming.new.self c.hold_kept.ensures.stays c.hold_kept.ensures.holds c.hold_coming.ensures.holds in
     let same = ap (λ v. length v.items) c.hold_kept.ensures.coming in
     let few = (brings g c).few in
     let count = c.len.ensures in
     let long = c.bring.new.self.coming.ok.0 in
     let sum = h.2 in
-    (h.0, h.1, omega arith, subst (λ n. HoldEach n c.args.layout h.0 (slots_in c.bring.new.self) (slots_in c.hold_coming.new.self)) c.bring.ensures.stays.number h.3)
+    (h.0, h.1, omega arith, held_stays c.args.layout h.0 (slots_in c.bring.new.self) (slots_in c.hold_coming.new.self) c.args.self.now c.bring.new.self c.bring.ensures.stays h.3)
 
 come : (g : Over) (c : After-hold_coming g) → SetsCome (ComesOf g.D.DescriptorDevice.meaning c.args.known.now.layout c.args.layout) (slots_in c.bring.new.self) (slots_in c.hold_coming.new.self)
 come g c =
@@ -44,7 +44,7 @@ hold_coming-requires-clause-table g c =
 pub returns-clause-creates : goal.returns-clause-creates
 returns-clause-creates g c =
     let h = all_held g c in
-    let named = are_named (number_of c.args.self.now) c.args.layout h.0 (slots_in c.args.self.now) (slots_in c.bring.new.self) (slots_in c.hold_coming.new.self) (brings g c).clear h.3 in
+    let named = are_named (number_of c.args.self.now) (current_in c.args.layout c.args.self.now) h.0 (slots_in c.args.self.now) (slots_in c.bring.new.self) (slots_in c.hold_coming.new.self) (brings g c).clear h.3 in
     (h.0, h.1, h.2, named, record { mid = slots_in c.bring.new.self; cleared = (brings g c).cleared; holds = h.3 })
 
 pub returns-clause-comes : goal.returns-clause-comes
@@ -54,7 +54,7 @@ pub returns-clause-settles : goal.returns-clause-settles
 returns-clause-settles g c =
     let comes = ComesOf g.D.DescriptorDevice.meaning c.args.known.now.layout c.args.layout in
     let h = all_held g c in
-    arrived comes 0 c.args.self.now c.hold_coming.new.self (holds_arrives (number_of c.args.self.now) c.args.layout h.0 (slots_in c.args.self.now) (slots_in c.bring.new.self) (slots_in c.hold_coming.new.self) (brings g c).clear h.3 comes 0 (come g c)) c.hold_coming.ensures.none c.requires.rest
+    arrived comes 0 c.args.self.now c.hold_coming.new.self (holds_arrives (number_of c.args.self.now) (current_in c.args.layout c.args.self.now) h.0 (slots_in c.args.self.now) (slots_in c.bring.new.self) (slots_in c.hold_coming.new.self) (brings g c).clear h.3 comes 0 (come g c)) c.hold_coming.ensures.none c.requires.rest
 
 pub returns-in_err-bring-clause-grows : goal.returns-in_err-bring-clause-grows
 returns-in_err-bring-clause-grows g c = grow_refused c.args.known.now.layout _ c.args.many c.in_err-bring.field-0.0 c.args.self.now c.bring.new.self c.in_err-bring.ensures.refused
@@ -64,4 +64,4 @@ returns-clause-grows g c =
     let coming = c.hold_coming.ensures.holds in
     let brought = slots_in c.bring.new.self in
     let held = slots_in c.hold_coming.new.self in
-    grow_from (slots_in c.args.self.now) brought held (brings g c).long (grow_more (number_of c.hold_kept.new.self) c.args.layout coming.0 brought (slots_in c.hold_kept.new.self) held c.hold_kept.ensures.grows c.hold_coming.ensures.grows coming.3)
+    grow_from (slots_in c.args.self.now) brought held (brings g c).long (grow_more (number_of c.hold_kept.new.self) (current_in c.args.layout c.hold_kept.new.self) coming.0 brought (slots_in c.hold_kept.new.self) held c.hold_kept.ensures.grows c.hold_coming.ensures.grows coming.3)

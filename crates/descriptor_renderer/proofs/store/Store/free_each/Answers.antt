@@ -2,7 +2,7 @@ use Rattle.std.proofs.Common.{◌∙◌, length, refl, ap, subst, arith}
 use Rattle.gpu_descriptor.specs.Caller.Sets.{items_of}
 use Rattle.gpu_descriptor.specs.Model.Agreement.{count_of}
 use Rattle.descriptor_table.specs.Slots.{slot_at}
-use Rattle.descriptor_table.specs.Tables.{is_taken, place_at, slots_of}
+use Rattle.descriptor_table.specs.Tables.{generations_of, is_taken, place_at, slots_of}
 use Rattle.descriptor_renderer.proofs.Back.{settled_sets}
 use Rattle.descriptor_renderer.proofs.Following.{follow_each, follows_back}
 use Rattle.descriptor_renderer.proofs.Listed.{BackEach, back_each, took_named, took_sets}
@@ -18,7 +18,7 @@ pub invariant_of-self-2-clause-exact : goal.invariant_of-self-2-clause-exact
 invariant_of-self-2-clause-exact g c = λ t.
     let name = g.D.DescriptorDevice.meaning.set_name in
     let took = c.if-not-take_each.ensures.took refl in
-    let same = settled_sets is_taken _ (slots_of c.take_each.new.self) (slots_of c.settle_each.new.self) c.settle_each.ensures.turns ∙ took_sets c.args.handles.now (slots_of c.args.self.now.table) (slots_of c.take_each.new.self) took in
+    let same = settled_sets is_taken _ _ (slots_of c.take_each.new.self) (slots_of c.settle_each.new.self) c.settle_each.ensures.turns ∙ took_sets c.args.handles.now (slots_of c.args.self.now.table) (slots_of c.take_each.new.self) took in
     let count = ap (λ l. count_of t (items_of name l)) same in
     let was = c.args.self.now.exact t in
     omega arith
@@ -26,7 +26,7 @@ invariant_of-self-2-clause-exact g c = λ t.
 pub invariant_of-self-2-clause-accounted : goal.invariant_of-self-2-clause-accounted
 invariant_of-self-2-clause-accounted g c =
     let took = c.if-not-take_each.ensures.took refl in
-    let same = settled_sets is_taken _ (slots_of c.take_each.new.self) (slots_of c.settle_each.new.self) c.settle_each.ensures.turns ∙ took_sets c.args.handles.now (slots_of c.args.self.now.table) (slots_of c.take_each.new.self) took in
+    let same = settled_sets is_taken _ _ (slots_of c.take_each.new.self) (slots_of c.settle_each.new.self) c.settle_each.ensures.turns ∙ took_sets c.args.handles.now (slots_of c.args.self.now.table) (slots_of c.take_each.new.self) took in
     let count = ap length same in
     let was = c.args.self.now.accounted in
     omega arith
@@ -39,8 +39,9 @@ returns-clause-frees g c = λ t.
     let took = c.if-not-take_each.ensures.took refl in
     let once = c.if-not-take_each.ensures.once.0 refl in
     let gives = c.give.ensures.gives in
-    let each = back_each handles old (slots_of c.take_each.new.self) took c.args.self.now.table.number c.take_each.new.self.most (slots_of c.settle_each.new.self) new once c.requires.rest.placed c.settle_each.ensures.turns gives.turns in
-    let back = subst (λ most. BackEach handles most old new) c.take_each.ensures.stays.most each in
+    let each = back_each handles old (slots_of c.take_each.new.self) took c.args.self.now.table.number (generations_of c.take_each.new.self) c.take_each.new.self.most (slots_of c.settle_each.new.self) new once c.requires.rest.placed c.settle_each.ensures.turns gives.turns in
+    let few = subst (λ most. BackEach handles (generations_of c.take_each.new.self) most old new) c.take_each.ensures.stays.most each in
+    let back = subst (λ generations. BackEach handles generations c.args.self.now.table.most old new) c.take_each.ensures.stays.generations few in
     record { long = back.long; named = back.named; rest = back.rest; sets = gives.sets; returns = gives.returns }
 
 pub returns-clause-settles : goal.returns-clause-settles
@@ -51,5 +52,5 @@ returns-clause-settles g c =
     let most = c.take_each.new.self.most in
     let took = c.if-not-take_each.ensures.took refl in
     let once = c.if-not-take_each.ensures.once.0 refl in
-    let back = back_each handles old (slots_of c.take_each.new.self) took c.args.self.now.table.number most (slots_of c.settle_each.new.self) new once c.requires.rest.placed c.settle_each.ensures.turns c.give.ensures.gives.turns in
-    settled 0 c.args.self.now c.give.new.self (follow_each 0 handles old new (λ i lt. let p = place_at handles i in follows_back 0 most new (slot_at old p) (slot_at new p) (back.named i lt)) back.rest) (ap (λ v. v.items) c.give.ensures.coming ∙ c.requires.rest.none_coming) c.requires.rest
+    let back = back_each handles old (slots_of c.take_each.new.self) took c.args.self.now.table.number (generations_of c.take_each.new.self) most (slots_of c.settle_each.new.self) new once c.requires.rest.placed c.settle_each.ensures.turns c.give.ensures.gives.turns in
+    settled 0 c.args.self.now c.give.new.self (follow_each 0 handles old new (λ i lt. let p = place_at handles i in follows_back 0 (generations_of c.take_each.new.self) most new (slot_at old p) (slot_at new p) (back.named i lt)) back.rest) (ap (λ v. v.items) c.give.ensures.coming ∙ c.requires.rest.none_coming) c.requires.rest

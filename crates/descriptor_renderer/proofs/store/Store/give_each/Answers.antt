@@ -53,4 +53,4 @@ returns-clause-stays g c =
     let f = c.free_from.ensures.frees in
     let all = given_all goes (λ s. refl) f.sets _ _ (going_all f.sets _ _ f.drained) in
     let stays = subst (Stays c.args.self.now.table) (sym c.end.ensures) all.2 in
-    record { number = stays.number; lists = stays.lists; limit = c.free_from.ensures.keeps.limit; bound = c.free_from.ensures.keeps.most; besides = c.free_from.ensures.keeps.others; keeps = stays.most }
+    record { number = stays.number; lists = stays.lists; generations = stays.generations; limit = c.free_from.ensures.keeps.limit; bound = c.free_from.ensures.keeps.most; besides = c.free_from.ensures.keeps.others; keeps = stays.most }

@@ -1,5 +1,5 @@
 use Rattle.std.proofs.Common.{◌∙◌, [], ◌∷◌, inl, refl, arith}
-use Rattle.descriptor_renderer.specs.Stores.{ComesOf, number_of, slots_in}
+use Rattle.descriptor_renderer.specs.Stores.{ComesOf, current_in, number_of, slots_in}
 use Rattle.descriptor_renderer.proofs.Growing.{grow_more}
 use Rattle.descriptor_renderer.proofs.Joining.{held_next, held_start, sets_then, stays_then, store_same}
 use Rattle.descriptor_renderer.proofs.store.Store.hold_coming.Goals as goal
@@ -29,6 +29,6 @@ loop-preserved g c =
       own = λ known own. now.own known (was.own known own);
       sets = λ known own. sets_then (ComesOf g.D.DescriptorDevice.meaning known c.args.layout) (slots_in c.args.self.now) (slots_in c.loop.self) (slots_in c.hold_last.new.self) (was.sets known own) (now.sets known (was.own known own));
       table = now.table;
-      grows = grow_more (number_of c.loop.self) c.args.layout (now.holds.0 ∷ []) (slots_in c.args.self.now) (slots_in c.loop.self) (slots_in c.hold_last.new.self) was.grows now.grows now.holds.2;
+      grows = grow_more (number_of c.loop.self) (current_in c.args.layout c.loop.self) (now.holds.0 ∷ []) (slots_in c.args.self.now) (slots_in c.loop.self) (slots_in c.hold_last.new.self) was.grows now.grows now.holds.2;
       stays = stays_then c.args.self.now c.loop.self c.hold_last.new.self was.stays now.stays;
     }

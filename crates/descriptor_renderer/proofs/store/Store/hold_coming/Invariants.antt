@@ -2,12 +2,12 @@ use Rattle.std.proofs.Common.{◌≡◌, ◌+◌, ◌++◌, List, length, vec_ca
 use Rattle.gpu_descriptor.specs.Caller.Sets.{AreOfLayout}
 use Rattle.descriptor_table.specs.Tables.{Grows, HasRoom}
 use Rattle.descriptor_table.specs.declared.handle.SetHandle.{SetHandle}
-use Rattle.descriptor_renderer.specs.Stores.{ComesOf, HoldEach, SetsCome, StoreStays, coming_in, most_of, number_of, side_of, slots_in}
+use Rattle.descriptor_renderer.specs.Stores.{ComesOf, HoldEach, SetsCome, StoreStays, coming_in, current_in, most_of, number_of, side_of, slots_in}
 use Rattle.descriptor_renderer.proofs.store.Store.hold_coming.Given as goal
 
 abbrev pub invariant-loop : goal.invariant-loop
 invariant-loop g l = record {
-  holds : (given : List SetHandle) × (l.handles.items ≡ l.fn.handles.items ++ given) × (length given ≡ l.counter) × HoldEach (number_of l.fn.self) l.layout given (slots_in l.fn.self) (slots_in l.self);
+  holds : (given : List SetHandle) × (l.handles.items ≡ l.fn.handles.items ++ given) × (length given ≡ l.counter) × HoldEach (number_of l.fn.self) (current_in l.layout l.fn.self) given (slots_in l.fn.self) (slots_in l.self);
   fewer : length (coming_in l.self).items + l.counter ≡ length (coming_in l.fn.self).items;
   room : vec_capacity l.handles ≡ vec_capacity l.fn.handles;
   side : side_of l.self ≡ side_of l.fn.self;

@@ -1,5 +1,5 @@
 use Rattle.std.proofs.Common.{◌∙◌, [], ◌∷◌, inl, refl, arith}
-use Rattle.descriptor_renderer.specs.Stores.{NoneComes, number_of, slots_in}
+use Rattle.descriptor_renderer.specs.Stores.{NoneComes, current_in, number_of, slots_in}
 use Rattle.descriptor_renderer.proofs.Growing.{grow_more}
 use Rattle.descriptor_renderer.proofs.Joining.{held_next, held_start, kept_then, stays_then, store_same}
 use Rattle.descriptor_renderer.proofs.store.Store.hold_kept.Goals as goal
@@ -29,6 +29,6 @@ loop-preserved g c =
       coming = now.coming ∙ was.coming;
       sets = kept_then NoneComes (slots_in c.args.self.now) (slots_in c.loop.self) (slots_in c.hold_next.new.self) was.sets now.sets;
       table = λ n room. now.table n (was.table n room);
-      grows = grow_more (number_of c.loop.self) c.args.layout (now.holds.0 ∷ []) (slots_in c.args.self.now) (slots_in c.loop.self) (slots_in c.hold_next.new.self) was.grows now.grows now.holds.2;
+      grows = grow_more (number_of c.loop.self) (current_in c.args.layout c.loop.self) (now.holds.0 ∷ []) (slots_in c.args.self.now) (slots_in c.loop.self) (slots_in c.hold_next.new.self) was.grows now.grows now.holds.2;
       stays = stays_then c.args.self.now c.loop.self c.hold_next.new.self was.stays now.stays;
     }

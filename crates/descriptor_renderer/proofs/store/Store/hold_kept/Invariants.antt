@@ -1,12 +1,12 @@
 use Rattle.std.proofs.Common.{◌≡◌, ℕ, ◌+◌, ◌++◌, List, length, vec_capacity}
 use Rattle.descriptor_table.specs.Tables.{Grows, HasRoom}
 use Rattle.descriptor_table.specs.declared.handle.SetHandle.{SetHandle}
-use Rattle.descriptor_renderer.specs.Stores.{HoldEach, NoneComes, SetsCome, StoreStays, coming_in, kept_of, most_of, number_of, side_of, slots_in}
+use Rattle.descriptor_renderer.specs.Stores.{HoldEach, NoneComes, SetsCome, StoreStays, coming_in, current_in, kept_of, most_of, number_of, side_of, slots_in}
 use Rattle.descriptor_renderer.proofs.store.Store.hold_kept.Given as goal
 
 abbrev pub invariant-loop : goal.invariant-loop
 invariant-loop g l = record {
-  holds : (given : List SetHandle) × (l.handles.items ≡ l.fn.handles.items ++ given) × (length given ≡ l.counter) × HoldEach (number_of l.fn.self) l.layout given (slots_in l.fn.self) (slots_in l.self);
+  holds : (given : List SetHandle) × (l.handles.items ≡ l.fn.handles.items ++ given) × (length given ≡ l.counter) × HoldEach (number_of l.fn.self) (current_in l.layout l.fn.self) given (slots_in l.fn.self) (slots_in l.self);
   fewer : kept_of l.layout l.self + l.counter ≡ kept_of l.layout l.fn.self;
   room : vec_capacity l.handles ≡ vec_capacity l.fn.handles;
   side : side_of l.self ≡ side_of l.fn.self;

@@ -10,7 +10,7 @@ use Rattle.descriptor_table.specs.Slots.{slot_at}
 use Rattle.descriptor_table.specs.Tables.{HasRoom, Renews, renewed, slots_of}
 use Rattle.descriptor_table.specs.declared.slot.Use.TheVariants.{Held}
 use Rattle.descriptor_table.proofs.Renewing.{room_stays, usable_renewed}
-use Rattle.descriptor_renderer.specs.Stores.{coming_in, number_of, slots_in}
+use Rattle.descriptor_renderer.specs.Stores.{coming_in, generations_in, number_of, slots_in}
 use Rattle.descriptor_renderer.proofs.Given.{put_count, put_many, renewed_sets}
 use Rattle.descriptor_renderer.proofs.Growing.{grow_new}
 use Rattle.descriptor_renderer.proofs.Handing.{new_fills}
@@ -32,7 +32,7 @@ pub invariant_of-self-clause-exact : goal.invariant_of-self-clause-exact
 invariant_of-self-clause-exact g c = λ t.
     let name = g.D.DescriptorDevice.meaning.set_name in
     let same = ap (λ l. count_of t (items_of name l)) (same_sets g c) in
-    let more = put_count name c.args.layout c.put-place.result c.in-Some.set (slots_in c.args.self.now) (slots_of c.put-place.new.self) c.put-place.ensures.puts t in
+    let more = put_count name (generations_in c.args.self.now) c.args.layout c.put-place.result c.in-Some.set (slots_in c.args.self.now) (slots_of c.put-place.new.self) c.put-place.ensures.puts t in
     let coming = ap (λ l. count_of t (items_of name l)) c.in-Some.ensures.items in
     let parts = count_parts name c.pop.new.self.items (c.in-Some.set ∷ []) t in
     let was = c.args.self.now.exact t in
@@ -41,7 +41,7 @@ invariant_of-self-clause-exact g c = λ t.
 pub invariant_of-self-clause-accounted : goal.invariant_of-self-clause-accounted
 invariant_of-self-clause-accounted g c =
     let same = ap length (same_sets g c) in
-    let more = put_many c.args.layout c.put-place.result c.in-Some.set (slots_in c.args.self.now) (slots_of c.put-place.new.self) c.put-place.ensures.puts in
+    let more = put_many (generations_in c.args.self.now) c.args.layout c.put-place.result c.in-Some.set (slots_in c.args.self.now) (slots_of c.put-place.new.self) c.put-place.ensures.puts in
     let coming = fewer g c in
     let was = c.args.self.now.accounted in
     omega arith
@@ -49,8 +49,8 @@ invariant_of-self-clause-accounted g c =
 pub returns-clause-holds : goal.returns-clause-holds
 returns-clause-holds g c =
     let h = (goal.at.returns-clause-holds g c).After-hold in
-    let fills = new_fills (λ l x. ⊤) (number_of c.args.self.now) c.args.layout c.put-place.result Held c.hold.result c.in-Some.set (slots_in c.args.self.now) (slots_of c.put-place.new.self) (slots_of c.hold.new.self) c.put-place.ensures.puts tt (renews g h) in
-    (c.hold.result, c.push_reserved.ensures.items, hold_one (λ l x. ⊤) (number_of c.args.self.now) c.args.layout c.put-place.result c.hold.result (slots_in c.args.self.now) (slots_of c.hold.new.self) fills)
+    let fills = new_fills (λ l x. ⊤) (number_of c.args.self.now) (generations_in c.args.self.now) c.args.layout c.put-place.result Held c.hold.result c.in-Some.set (slots_in c.args.self.now) (slots_of c.put-place.new.self) (slots_of c.hold.new.self) c.put-place.ensures.puts tt (renews g h) in
+    (c.hold.result, c.push_reserved.ensures.items, hold_one (λ l x. ⊤) (number_of c.args.self.now) (generations_in c.args.self.now) c.args.layout c.put-place.result c.hold.result (slots_in c.args.self.now) (slots_of c.hold.new.self) fills)
 
 pub returns-clause-own : goal.returns-clause-own
 returns-clause-own g c = λ known own k d lt.
@@ -68,4 +68,4 @@ returns-clause-table g c =
     room_stays (length c.pop.new.self.items) c.put-place.new.self c.hold.new.self c.hold.ensures.stays (ap length r.slots ∙ length-set put c.put-place.result (renewed Held (slot_at put c.put-place.result))) (usable_renewed (number_of c.args.self.now) c.put-place.result Held c.hold.result put (slots_of c.hold.new.self) r puts.within (ap (λ s. s.used) puts.here) refl) (c.put-place.ensures.reserve (length c.pop.new.self.items) room)
 
 pub returns-clause-grows : goal.returns-clause-grows
-returns-clause-grows g c = grow_new (number_of c.args.self.now) c.args.layout c.put-place.result c.in-Some.set Held c.hold.result (slots_in c.args.self.now) (slots_of c.put-place.new.self) (slots_of c.hold.new.self) (λ s. refl) c.put-place.ensures.puts (renews g (goal.at.returns-clause-grows g c).After-hold)
+returns-clause-grows g c = grow_new (number_of c.args.self.now) (generations_in c.args.self.now) c.args.layout c.put-place.result c.in-Some.set Held c.hold.result (slots_in c.args.self.now) (slots_of c.put-place.new.self) (slots_of c.hold.new.self) (λ s. refl) c.put-place.ensures.puts (renews g (goal.at.returns-clause-grows g c).After-hold)

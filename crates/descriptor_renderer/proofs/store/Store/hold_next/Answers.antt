@@ -9,7 +9,7 @@ use Rattle.descriptor_table.specs.declared.slot.Use.TheVariants.{Held, Taken}
 use Rattle.descriptor_table.proofs.Counts.{none_count}
 use Rattle.descriptor_table.proofs.Listed.{slot_set}
 use Rattle.descriptor_table.proofs.Renewing.{room_stays, usable_picked, usable_renewed}
-use Rattle.descriptor_renderer.specs.Stores.{NoneComes, number_of, slots_in}
+use Rattle.descriptor_renderer.specs.Stores.{NoneComes, generations_in, number_of, slots_in}
 use Rattle.descriptor_renderer.proofs.Given.{picked_sets, renewed_sets}
 use Rattle.descriptor_renderer.proofs.Growing.{grow_kept}
 use Rattle.descriptor_renderer.proofs.Handing.{kept_fewer, kept_fills}
@@ -45,8 +45,8 @@ invariant_of-self-clause-accounted g c =
 pub returns-clause-holds : goal.returns-clause-holds
 returns-clause-holds g c =
     let h = (goal.at.returns-clause-holds g c).After-hold in
-    let fills = kept_fills NoneComes (number_of c.args.self.now) c.args.layout c.in-Some.place Held c.hold.result (slots_in c.args.self.now) (slots_of c.take_kept.new.self) (slots_of c.hold.new.self) c.in-Some.ensures.picks (renews g h) in
-    (c.hold.result, c.push_reserved.ensures.items, hold_one NoneComes (number_of c.args.self.now) c.args.layout c.in-Some.place c.hold.result (slots_in c.args.self.now) (slots_of c.hold.new.self) fills)
+    let fills = kept_fills NoneComes (number_of c.args.self.now) (generations_in c.args.self.now) c.args.layout c.in-Some.place Held c.hold.result (slots_in c.args.self.now) (slots_of c.take_kept.new.self) (slots_of c.hold.new.self) (λ q within. (c.args.self.now.table.known q within).kept) c.in-Some.ensures.picks (renews g h) in
+    (c.hold.result, c.push_reserved.ensures.items, hold_one NoneComes (number_of c.args.self.now) (generations_in c.args.self.now) c.args.layout c.in-Some.place c.hold.result (slots_in c.args.self.now) (slots_of c.hold.new.self) fills)
 
 pub returns-clause-fewer : goal.returns-clause-fewer
 returns-clause-fewer g c = kept_fewer c.args.layout c.in-Some.place (number_of c.args.self.now) Held c.hold.result (slots_in c.args.self.now) (slots_of c.take_kept.new.self) (slots_of c.hold.new.self) c.in-Some.ensures.picks (renews g (goal.at.returns-clause-fewer g c).After-hold) (λ s. refl)

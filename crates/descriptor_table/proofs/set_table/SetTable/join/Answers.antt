@@ -2,7 +2,7 @@ use Rattle.std.proofs.Common.{◌+◌, ap, ◌∙◌, arith}
 use Rattle.descriptor_table.specs.Slots.{frame_at, is_of, slot_at}
 use Rattle.descriptor_table.specs.Tables.{used_for}
 use Rattle.descriptor_table.specs.declared.slot.FrameChain.{FrameChain}
-use Rattle.descriptor_table.proofs.Chains.{in_no_list, known_set, wait_linked}
+use Rattle.descriptor_table.proofs.Chains.{in_no_list, known_set, wait_linked, waits_unkept}
 use Rattle.descriptor_table.proofs.Frames.{has_set, join_framed, join_more, read_frame}
 use Rattle.descriptor_table.proofs.Listed.{read_slot}
 use Rattle.descriptor_table.proofs.set_table.SetTable.join.Goals as goal
@@ -40,4 +40,6 @@ invariant_of-self-clause-rising g c =
 pub invariant_of-self-clause-known : goal.invariant_of-self-clause-known
 invariant_of-self-clause-known g c =
     let s = c.args.self.now in
-    known_set s.slots.items c.args.place c.args.used c.index_mut-2.result.now _ s.known c.requires.taken.taken.within (read_slot s.slots.items c.args.place c.index_mut-2.result.now c.requires.taken.taken.within c.index_mut-2.ensures.value)
+    let read = read_slot s.slots.items c.args.place c.index_mut-2.result.now c.requires.taken.taken.within c.index_mut-2.ensures.value in
+    let frame = (frame_at s.frames.items c.args.at).frame in
+    known_set s.slots.items c.args.place c.args.used c.index_mut-2.result.now _ _ s.known c.requires.taken.taken.within read (waits_unkept frame (used_for c.args.used c.index_mut-2.result.now) (ap (λ w. is_of frame (used_for c.args.used w)) read ∙ c.requires.goes))

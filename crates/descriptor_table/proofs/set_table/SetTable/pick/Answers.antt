@@ -1,10 +1,10 @@
-use Rattle.std.proofs.Common.{◌≡◌, ◌-◌, ◌<◌, length, true, refl, sym, ap, set, arith}
-use Rattle.std.proofs.lemmas.List.{get_or_read}
+use Rattle.std.proofs.Common.{◌≡◌, ◌-◌, ◌<◌, length, true, refl, sym, ap, set, ◌∙◌, arith}
+use Rattle.std.proofs.lemmas.List.{get_or_read, length-set}
 use Rattle.descriptor_table.specs.Slots.{chain_at, is_in, slot_at}
 use Rattle.descriptor_table.specs.Tables.{used_for}
 use Rattle.descriptor_table.specs.declared.slot.Chain.{Chain}
 use Rattle.descriptor_table.specs.declared.slot.Use.TheVariants.{Taken}
-use Rattle.descriptor_table.proofs.Chains.{few_set, in_no_frame, known_chains, known_set, pick_framed, pick_linked, picked, read_chain}
+use Rattle.descriptor_table.proofs.Chains.{few_set, in_no_frame, known_chains, known_set, pick_framed, pick_linked, picked, read_chain, taken_unkept}
 use Rattle.descriptor_table.proofs.Listed.{read_slot}
 use Rattle.descriptor_table.proofs.set_table.SetTable.pick.Goals.{Else-chain-eq0}
 use Rattle.descriptor_table.proofs.set_table.SetTable.pick.Goals as goal
@@ -49,14 +49,19 @@ invariant_of-self-2-clause-framed g c =
     let p = first g (goal.at.invariant_of-self-2-clause-framed g c).Else-chain-eq0 in
     pick_framed s.slots.items s.next.items s.frames.items s.framed at (used_for Taken c.index_mut.result.now) p.0 (in_no_frame c.args.list (slot_at s.slots.items at) p.1) (λ f. refl)
 
+pub invariant_of-self-2-clause-counted : goal.invariant_of-self-2-clause-counted
+invariant_of-self-2-clause-counted g c =
+    let s = c.args.self.now in
+    s.counted ∙ sym (length-set s.chains.items c.args.list (record { first = c.index.result.now; count = c.in_ok-chain.chain.now.count - 1 }))
+
 pub invariant_of-self-2-clause-known : goal.invariant_of-self-2-clause-known
 invariant_of-self-2-clause-known g c =
     let s = c.args.self.now in
     let at = c.in_ok-chain.chain.now.first in
     let p = first g (goal.at.invariant_of-self-2-clause-known g c).Else-chain-eq0 in
     let new = used_for Taken c.index_mut.result.now in
-    let known = known_set s.slots.items at Taken c.index_mut.result.now _ s.known p.0 (read_slot s.slots.items at c.index_mut.result.now p.0 c.index_mut.ensures.value) in
-    known_chains (set s.slots.items at new) s.chains.items c.args.list (record { first = c.index.result.now; count = c.in_ok-chain.chain.now.count - 1 }) known
+    let known = known_set s.slots.items at Taken c.index_mut.result.now _ _ s.known p.0 (read_slot s.slots.items at c.index_mut.result.now p.0 c.index_mut.ensures.value) (taken_unkept c.index_mut.result.now) in
+    known_chains (set s.slots.items at new) s.chains.items c.args.list (record { first = c.index.result.now; count = c.in_ok-chain.chain.now.count - 1 }) _ known
 
 pub invariant_of-self-2-clause-few : goal.invariant_of-self-2-clause-few
 invariant_of-self-2-clause-few g c =

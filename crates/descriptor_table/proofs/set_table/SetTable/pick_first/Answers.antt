@@ -4,7 +4,7 @@ use Rattle.descriptor_table.specs.Slots.{frame_at, is_of, slot_at}
 use Rattle.descriptor_table.specs.Tables.{used_for}
 use Rattle.descriptor_table.specs.declared.slot.FrameChain.{FrameChain}
 use Rattle.descriptor_table.specs.declared.slot.Use.TheVariants.{Taken}
-use Rattle.descriptor_table.proofs.Chains.{in_no_list, known_set, out_linked}
+use Rattle.descriptor_table.proofs.Chains.{in_no_list, known_set, out_linked, taken_unkept}
 use Rattle.descriptor_table.proofs.Frames.{first_inside, first_waits, has_set, read_frame, shorten_framed}
 use Rattle.descriptor_table.proofs.Listed.{read_slot}
 use Rattle.descriptor_table.proofs.set_table.SetTable.pick_first.Goals.{After-index_mut-chain}
@@ -74,7 +74,7 @@ pub invariant_of-self-clause-known : goal.invariant_of-self-clause-known
 invariant_of-self-clause-known g c =
     let s = c.args.self.now in
     let i = inside g (goal.at.invariant_of-self-clause-known g c).After-index_mut-chain in
-    known_set s.slots.items c.index_mut-chain.result.now.first Taken c.index_mut.result.now _ s.known i (read_slot s.slots.items c.index_mut-chain.result.now.first c.index_mut.result.now i c.index_mut.ensures.value)
+    known_set s.slots.items c.index_mut-chain.result.now.first Taken c.index_mut.result.now _ _ s.known i (read_slot s.slots.items c.index_mut-chain.result.now.first c.index_mut.result.now i c.index_mut.ensures.value) (taken_unkept c.index_mut.result.now)
 
 pub returns-clause-picks : goal.returns-clause-picks
 returns-clause-picks g c =

@@ -3,7 +3,7 @@ use Rattle.descriptor_table.specs.Slots.{HasFrames, frame_at, is_of, slot_at}
 use Rattle.descriptor_table.specs.Tables.{used_for}
 use Rattle.descriptor_table.specs.declared.slot.FrameChain.{FrameChain}
 use Rattle.descriptor_table.specs.declared.slot.Use.TheVariants.{Taken}
-use Rattle.descriptor_table.proofs.Chains.{in_no_list, known_set, out_linked}
+use Rattle.descriptor_table.proofs.Chains.{in_no_list, known_set, out_linked, taken_unkept}
 use Rattle.descriptor_table.proofs.Frames.{end_framed, first_inside, first_waits, has_front, last_is}
 use Rattle.descriptor_table.proofs.Listed.{read_slot}
 use Rattle.descriptor_table.proofs.set_table.SetTable.pick_last.Goals.{In-Some}
@@ -50,7 +50,7 @@ pub invariant_of-self-clause-known : goal.invariant_of-self-clause-known
 invariant_of-self-clause-known g c =
     let s = c.args.self.now in
     let i = inside g (goal.at.invariant_of-self-clause-known g c).In-Some in
-    known_set s.slots.items c.in-Some.chain.first Taken c.index_mut.result.now _ s.known i (read_slot s.slots.items c.in-Some.chain.first c.index_mut.result.now i c.index_mut.ensures.value)
+    known_set s.slots.items c.in-Some.chain.first Taken c.index_mut.result.now _ _ s.known i (read_slot s.slots.items c.in-Some.chain.first c.index_mut.result.now i c.index_mut.ensures.value) (taken_unkept c.index_mut.result.now)
 
 pub returns-clause-picks : goal.returns-clause-picks
 returns-clause-picks g c =

@@ -1,7 +1,7 @@
-use Rattle.std.proofs.Common.{◌∙◌, ◌++◌, ◌∷◌, [], ℕ, List, length, refl, sym, ap, subst, Some, false, arith}
+use Rattle.std.proofs.Common.{◌≡◌, ◌∙◌, ◌++◌, ◌∷◌, [], ℕ, List, length, refl, sym, ap, subst, Some, false, arith}
 use Rattle.std.proofs.lemmas.List.{length_push}
 use Rattle.descriptor_table.specs.Slots.{AreFramed, AreLinked, HasLists}
-use Rattle.descriptor_table.specs.Tables.{count, is_usable}
+use Rattle.descriptor_table.specs.Tables.{count, generations_of, is_usable}
 use Rattle.descriptor_table.specs.declared.slot.Slot.{Slot}
 use Rattle.descriptor_table.specs.declared.slot.Use.TheVariants.{Taken}
 use Rattle.descriptor_table.proofs.Counts.{none_count}
@@ -28,7 +28,7 @@ push_reserved-requires-2 g c =
 pub invariant_of-self-clause-sized : goal.invariant_of-self-clause-sized
 invariant_of-self-clause-sized g c =
     let s = c.args.self.now in
-    let new : Slot g.row.T.Denot = record { generation = 0; layout = c.args.layout; used = Taken; leaves = false; set = Some c.args.set } in
+    let new : Slot g.row.T.Denot = record { generation = 0; layout = c.args.layout; layout_generation = c.generation-layout_generation.result; used = Taken; leaves = false; set = Some c.args.set } in
     let full = none_count is_usable s.slots.items c.requires.full in
     let long = ap length c.push_reserved.ensures.items ∙ length_push s.slots.items new in
     let more = ap length c.push_reserved-2.ensures.items ∙ length_push s.next.items 0 in
@@ -38,7 +38,7 @@ invariant_of-self-clause-sized g c =
 pub returns-clause-reserve : goal.returns-clause-reserve
 returns-clause-reserve g c = λ n room.
     let s = c.args.self.now in
-    let new : Slot g.row.T.Denot = record { generation = 0; layout = c.args.layout; used = Taken; leaves = false; set = Some c.args.set } in
+    let new : Slot g.row.T.Denot = record { generation = 0; layout = c.args.layout; layout_generation = c.generation-layout_generation.result; used = Taken; leaves = false; set = Some c.args.set } in
     let full = none_count is_usable s.slots.items c.requires.full in
     let long = ap length c.push_reserved.ensures.items ∙ length_push s.slots.items new in
     let usable = ap (count is_usable) c.push_reserved.ensures.items ∙ count_grown is_usable s.slots.items new in
@@ -49,22 +49,23 @@ returns-clause-reserve g c = λ n room.
 pub invariant_of-self-clause-linked : goal.invariant_of-self-clause-linked
 invariant_of-self-clause-linked g c =
     let s = c.args.self.now in
-    let new : Slot g.row.T.Denot = record { generation = 0; layout = c.args.layout; used = Taken; leaves = false; set = Some c.args.set } in
+    let new : Slot g.row.T.Denot = record { generation = 0; layout = c.args.layout; layout_generation = c.generation-layout_generation.result; used = Taken; leaves = false; set = Some c.args.set } in
     subst (λ (l : List (Slot g.row.T.Denot)). AreLinked l c.push_reserved-2.new.self.items s.chains.items) (sym c.push_reserved.ensures.items) (subst (λ (l : List ℕ). AreLinked (s.slots.items ++ new ∷ []) l s.chains.items) (sym c.push_reserved-2.ensures.items) (linked_grown s.slots.items s.next.items s.chains.items new refl s.linked))
 
 pub invariant_of-self-clause-framed : goal.invariant_of-self-clause-framed
 invariant_of-self-clause-framed g c =
     let s = c.args.self.now in
-    let new : Slot g.row.T.Denot = record { generation = 0; layout = c.args.layout; used = Taken; leaves = false; set = Some c.args.set } in
+    let new : Slot g.row.T.Denot = record { generation = 0; layout = c.args.layout; layout_generation = c.generation-layout_generation.result; used = Taken; leaves = false; set = Some c.args.set } in
     subst (λ (l : List (Slot g.row.T.Denot)). AreFramed l c.push_reserved-2.new.self.items s.frames.items) (sym c.push_reserved.ensures.items) (subst (λ (l : List ℕ). AreFramed (s.slots.items ++ new ∷ []) l s.frames.items) (sym c.push_reserved-2.ensures.items) (framed_grown s.slots.items s.next.items s.frames.items new refl s.framed))
 
 pub invariant_of-self-clause-known : goal.invariant_of-self-clause-known
 invariant_of-self-clause-known g c =
     let s = c.args.self.now in
-    let new : Slot g.row.T.Denot = record { generation = 0; layout = c.args.layout; used = Taken; leaves = false; set = Some c.args.set } in
-    subst (λ (l : List (Slot g.row.T.Denot)). HasLists l (length s.chains.items)) (sym c.push_reserved.ensures.items) (known_grown s.slots.items new (length s.chains.items) c.requires.layout s.known (length_push s.slots.items new))
+    let new : Slot g.row.T.Denot = record { generation = 0; layout = c.args.layout; layout_generation = c.generation-layout_generation.result; used = Taken; leaves = false; set = Some c.args.set } in
+    subst (λ (l : List (Slot g.row.T.Denot)). HasLists l (length s.chains.items) (generations_of s)) (sym c.push_reserved.ensures.items) (known_grown s.slots.items new (length s.chains.items) (generations_of s) (record { there = c.requires.layout; before = (let e = c.generation-layout_generation.ensures in omega arith); kept = λ kept. c.generation-layout_generation.ensures }) s.known (length_push s.slots.items new))
 
 pub returns-clause-puts : goal.returns-clause-puts
 returns-clause-puts g c =
     let s = c.args.self.now in
-    puts_last c.args.layout c.args.set s.slots.items c.push_reserved.new.self.items c.len-place.result (let ok = s.slots.ok.0 in let n = c.len-place.ensures in omega arith) c.push_reserved.ensures.items c.requires.full
+    let made = subst (λ n. c.push_reserved.new.self.items ≡ s.slots.items ++ record { generation = 0; layout = c.args.layout; layout_generation = n; used = Taken; leaves = false; set = Some c.args.set } ∷ []) c.generation-layout_generation.ensures c.push_reserved.ensures.items in
+    puts_last (generations_of s) c.args.layout c.args.set s.slots.items c.push_reserved.new.self.items c.len-place.result (let ok = s.slots.ok.0 in let n = c.len-place.ensures in omega arith) made c.requires.full

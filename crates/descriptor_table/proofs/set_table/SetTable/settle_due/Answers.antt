@@ -1,18 +1,23 @@
 use Rattle.std.proofs.Common.{◌≡◌, ◌∙◌, sym, subst}
 use Rattle.descriptor_table.specs.Slots.{is_due, slot_at}
-use Rattle.descriptor_table.specs.Tables.{IsSettled, Turns, next_use, slots_of, used_for, with_use}
+use Rattle.descriptor_table.specs.Tables.{IsSettled, Turns, generations_of, next_use, slots_of, used_for, with_use}
 use Rattle.descriptor_table.proofs.Turning.{due_not_listed, one_fewer, settled_grows, settled_here, settled_not_due, settled_set, stays_more, turn_end, turn_step}
 use Rattle.descriptor_table.proofs.set_table.SetTable.settle_due.Goals.{After-settle}
 use Rattle.descriptor_table.proofs.set_table.SetTable.settle_due.Goals as goal
 
 -- the set that was picked settled
-settled : (g : _) (c : After-settle g) → slots_of c.settle.new.self ≡ with_use c.in-Some.place (next_use c.args.self.now.most (slots_of c.pick_due.new.self) c.in-Some.place) (slots_of c.pick_due.new.self)
-settled g c = subst (λ m. slots_of c.settle.new.self ≡ with_use c.in-Some.place (next_use m (slots_of c.pick_due.new.self) c.in-Some.place) (slots_of c.pick_due.new.self)) (c.in-Some.ensures.stays.most ∙ c.loop-place.invariant.stays.most) c.settle.ensures.slots
+settled : (g : _) (c : After-settle g) → slots_of c.settle.new.self ≡ with_use c.in-Some.place (next_use (generations_of c.args.self.now) c.args.self.now.most (slots_of c.pick_due.new.self) c.in-Some.place) (slots_of c.pick_due.new.self)
+settled g c =
+    let mid = slots_of c.pick_due.new.self in
+    let at = c.in-Some.place in
+    let few = subst (λ m. slots_of c.settle.new.self ≡ with_use at (next_use (generations_of c.pick_due.new.self) m mid at) mid) (c.in-Some.ensures.stays.most ∙ c.loop-place.invariant.stays.most) c.settle.ensures.slots in
+    subst (λ generations. slots_of c.settle.new.self ≡ with_use at (next_use generations c.args.self.now.most mid at) mid) (c.in-Some.ensures.stays.generations ∙ c.loop-place.invariant.stays.generations) few
 
 pub loop-place-preserved : goal.loop-place-preserved
 loop-place-preserved g c =
     let inv = c.loop-place.invariant in
     let picks = c.in-Some.ensures.picks in
+    let generations = generations_of c.args.self.now in
     let most = c.args.self.now.most in
     let now = slots_of c.loop-place.self in
     let mid = slots_of c.pick_due.new.self in
@@ -21,13 +26,14 @@ loop-place-preserved g c =
     let is = settled g (goal.at.loop-place-preserved g c).After-settle in
     let out = due_not_listed c.args.frame (slot_at now p) picks.was in
     record {
-      turning = turn_step (is_due c.args.frame) (IsSettled most) (slots_of c.args.self.now) now new p (used_for (next_use most mid p) (slot_at now p)) inv.turning picks.within picks.was (settled_set most now mid new p picks.within out picks.slots is) (settled_grows most now mid new p picks.within out picks.slots is) (settled_not_due c.args.frame most now) (settled_here most now mid new p picks.within out picks.slots is);
+      turning = turn_step (is_due c.args.frame) (IsSettled generations most) (slots_of c.args.self.now) now new p (used_for (next_use generations most mid p) (slot_at now p)) inv.turning picks.within picks.was (settled_set generations most now mid new p picks.within out picks.slots is) (settled_grows generations most now mid new p picks.within out picks.slots is) (settled_not_due generations c.args.frame most now) (settled_here generations most now mid new p picks.within out picks.slots is);
       stays = stays_more c.args.self.now c.loop-place.self c.settle.new.self inv.stays (stays_more c.loop-place.self c.pick_due.new.self c.settle.new.self c.in-Some.ensures.stays c.settle.ensures.stays);
     }
 
 pub loop-place-smaller : goal.loop-place-smaller
 loop-place-smaller g c =
     let picks = c.in-Some.ensures.picks in
+    let generations = generations_of c.args.self.now in
     let most = c.args.self.now.most in
     let now = slots_of c.loop-place.self in
     let mid = slots_of c.pick_due.new.self in
@@ -35,10 +41,11 @@ loop-place-smaller g c =
     let p = c.in-Some.place in
     let is = settled g (goal.at.loop-place-smaller g c).After-settle in
     let out = due_not_listed c.args.frame (slot_at now p) picks.was in
-    one_fewer (is_due c.args.frame) now new p (used_for (next_use most mid p) (slot_at now p)) picks.within picks.was (settled_not_due c.args.frame most new (slot_at now p) (used_for (next_use most mid p) (slot_at now p)) (settled_here most now mid new p picks.within out picks.slots is)) (settled_set most now mid new p picks.within out picks.slots is)
+    one_fewer (is_due c.args.frame) now new p (used_for (next_use generations most mid p) (slot_at now p)) picks.within picks.was (settled_not_due generations c.args.frame most new (slot_at now p) (used_for (next_use generations most mid p) (slot_at now p)) (settled_here generations most now mid new p picks.within out picks.slots is)) (settled_set generations most now mid new p picks.within out picks.slots is)
 
 pub returns-clause-turns : goal.returns-clause-turns
 returns-clause-turns g c =
     let picks = c.in_default.ensures.picks in
+    let generations = generations_of c.args.self.now in
     let most = c.args.self.now.most in
-    subst (Turns (is_due c.args.frame) (IsSettled most) (slots_of c.args.self.now)) (sym picks.slots) (turn_end (is_due c.args.frame) (IsSettled most) (slots_of c.args.self.now) (slots_of c.loop-place.self) c.loop-place.invariant.turning picks.none)
+    subst (Turns (is_due c.args.frame) (IsSettled generations most) (slots_of c.args.self.now)) (sym picks.slots) (turn_end (is_due c.args.frame) (IsSettled generations most) (slots_of c.args.self.now) (slots_of c.loop-place.self) c.loop-place.invariant.turning picks.none)

@@ -1,13 +1,13 @@
 use Rattle.std.proofs.Common.{◌≡◌, false, length, inl, inr, sym, subst, arith}
 use Rattle.descriptor_table.specs.Slots.{slot_at}
-use Rattle.descriptor_table.specs.Tables.{IsSettled, if_taken, is_taken, next_use, place_at, slots_of}
+use Rattle.descriptor_table.specs.Tables.{IsSettled, generations_of, if_taken, is_taken, next_use, place_at, slots_of}
 use Rattle.descriptor_table.proofs.Counting.{same_or}
 use Rattle.descriptor_table.proofs.Turning.{none_taken, settle_one, settled_not_taken, stays_more, stays_same, turn_end, turn_start}
 use Rattle.descriptor_table.proofs.set_table.SetTable.settle_each.Goals as goal
 
 pub loop-index-init : goal.loop-index-init
 loop-index-init g c = record {
-  turning = turn_start is_taken (IsSettled c.args.self.now.most) (slots_of c.args.self.now);
+  turning = turn_start is_taken (IsSettled (generations_of c.args.self.now) c.args.self.now.most) (slots_of c.args.self.now);
   done = λ i lt. absurd (omega arith);
   stays = stays_same c.args.self.now;
 }
@@ -27,8 +27,9 @@ loop-index-preserved g c =
     let p = place_at c.args.handles.now c.loop-index.index in
     let lt = c.requires.within c.loop-index.index c.loop-index-test.true in
     let long = inv.turning.long in
-    let made = subst (λ m. slots_of c.settle_taken.new.self ≡ if_taken p (next_use m now p) now) inv.stays.most c.settle_taken.ensures.slots in
-    let one = settle_one c.args.self.now.most old now new p inv.turning (omega arith) made in
+    let few = subst (λ m. new ≡ if_taken p (next_use (generations_of c.loop-index.self) m now p) now) inv.stays.most c.settle_taken.ensures.slots in
+    let made = subst (λ generations. new ≡ if_taken p (next_use generations c.args.self.now.most now p) now) inv.stays.generations few in
+    let one = settle_one (generations_of c.args.self.now) c.args.self.now.most old now new p inv.turning (omega arith) made in
     record {
       turning = one.turning;
       done = λ i less. elim (same_or i c.loop-index.index) [
@@ -44,4 +45,4 @@ returns-clause-turns g c =
     let old = slots_of c.args.self.now in
     let now = slots_of c.loop-index.self in
     let end = c.loop-index-test.false in
-    turn_end is_taken (IsSettled c.args.self.now.most) old now inv.turning (none_taken (IsSettled c.args.self.now.most) (length c.args.handles.now) (place_at c.args.handles.now) old now inv.turning (settled_not_taken c.args.self.now.most (slots_of c.loop-index.self)) c.requires.taken (λ i lt. inv.done i (omega arith)))
+    turn_end is_taken (IsSettled (generations_of c.args.self.now) c.args.self.now.most) old now inv.turning (none_taken (IsSettled (generations_of c.args.self.now) c.args.self.now.most) (length c.args.handles.now) (place_at c.args.handles.now) old now inv.turning (settled_not_taken (generations_of c.args.self.now) c.args.self.now.most (slots_of c.loop-index.self)) c.requires.taken (λ i lt. inv.done i (omega arith)))

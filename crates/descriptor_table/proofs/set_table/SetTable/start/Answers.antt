@@ -1,7 +1,7 @@
 use Rattle.std.proofs.Common.{◌<◌, length, refl, sym, ap, set, subst, ◌∙◌, arith}
 use Rattle.descriptor_table.specs.Slots.{AreFramed, HasFrames, is_of, slot_at}
 use Rattle.descriptor_table.specs.Tables.{used_for}
-use Rattle.descriptor_table.proofs.Chains.{in_no_list, known_set, out_linked, taken_no_list}
+use Rattle.descriptor_table.proofs.Chains.{in_no_list, known_set, out_linked, taken_no_list, waits_unkept}
 use Rattle.descriptor_table.proofs.Frames.{few_frames, has_put, start_framed}
 use Rattle.descriptor_table.proofs.Listed.{read_slot}
 use Rattle.descriptor_table.proofs.set_table.SetTable.start.Goals.{After-insert}
@@ -43,11 +43,12 @@ invariant_of-self-clause-rising g c =
 pub invariant_of-self-clause-known : goal.invariant_of-self-clause-known
 invariant_of-self-clause-known g c =
     let s = c.args.self.now in
-    known_set s.slots.items c.args.place c.args.used c.index_mut.result.now _ s.known c.requires.taken.taken.within (read_slot s.slots.items c.args.place c.index_mut.result.now c.requires.taken.taken.within c.index_mut.ensures.value)
+    let read = read_slot s.slots.items c.args.place c.index_mut.result.now c.requires.taken.taken.within c.index_mut.ensures.value in
+    known_set s.slots.items c.args.place c.args.used c.index_mut.result.now _ _ s.known c.requires.taken.taken.within read (waits_unkept c.args.frame (used_for c.args.used c.index_mut.result.now) (ap (λ w. is_of c.args.frame (used_for c.args.used w)) read ∙ c.requires.goes))
 
 pub returns-clause-stays : goal.returns-clause-stays
 returns-clause-stays g c =
     let few = few g (goal.at.returns-clause-stays g c).After-insert in
     let room = c.args.self.now.sized.room in
     let block = c.in-Ok.ensures.in_place (omega arith) in
-    record { number = refl; most = refl; lists = refl; slots = refl; next = refl; frames = block.1.0 }
+    record { number = refl; most = refl; lists = refl; generations = refl; slots = refl; next = refl; frames = block.1.0 }
