@@ -74,7 +74,12 @@ module _ {L P S D : Type 0} {d : Ghosts D L P S} where
   cleared_long layout many old new clear = clear.cleaned.long ∙ ap length clear.first.slots
 
   -- a set was taken, and gets a handle
-  pub grow_taken : (layout : L) (number n p : ℕ) (u : Use) (handle : SetHandle) (old mid : Store L P S D d) (new : List (Slot (DescriptorSet S))) → ((s : Slot (DescriptorSet S)) → is_usable (renewed u s) ≡ false) → (0 < kept_of n old → TakesKept n (Ok p) old mid) → (kept_of n old ≡ 0 → GetsAtLast layout n p old mid) → Renews number p u handle (slots_in mid) new → Grows (slots_in old) new
+  pub grow_taken :
+      (layout : L) (number n p : ℕ) (u : Use) (handle : SetHandle) (old mid : Store L P S D d)
+        (new : List (Slot (DescriptorSet S)))
+      → ((s : Slot (DescriptorSet S)) → is_usable (renewed u s) ≡ false)
+      → (0 < kept_of n old → TakesKept n (Ok p) old mid) → (kept_of n old ≡ 0 → GetsAtLast layout n p old mid)
+      → Renews number p u handle (slots_in mid) new → Grows (slots_in old) new
   grow_taken layout number n p u handle old mid new used kept comes r = elim (below_or 0 (kept_of n old)) [
     | inl some ↦ grow_kept (is_kept_of n) (kept some).place number p u handle (slots_in old) (slots_in mid) new (kept some).picks r
     | inr none ↦ elim (comes (omega arith)) [

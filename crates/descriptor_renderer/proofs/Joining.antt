@@ -221,7 +221,15 @@ module _ {L P S D : Type 0} {d : Ghosts D L P S} where
   held_stays layout handles mid new old now stays holds = subst (λ generations. HoldEach (number_of old) (current generations layout) handles mid new) stays.generations (subst (λ number. HoldEach number (current_in layout now) handles mid new) stays.number holds)
 
   -- more handles were given
-  pub held_then : (layout n m : ℕ) (start now then : List SetHandle) (old mid new : Store L P S D d) → StoreStays (most_of old) old mid → ((given : List SetHandle) × (now ≡ start ++ given) × (length given ≡ n) × HoldEach (number_of old) (current_in layout old) given (slots_in old) (slots_in mid)) → ((given : List SetHandle) × (then ≡ now ++ given) × (length given ≡ m) × HoldEach (number_of mid) (current_in layout mid) given (slots_in mid) (slots_in new)) → (given : List SetHandle) × (then ≡ start ++ given) × (length given ≡ n + m) × HoldEach (number_of old) (current_in layout old) given (slots_in old) (slots_in new)
+  pub held_then :
+      (layout n m : ℕ) (start now then : List SetHandle) (old mid new : Store L P S D d)
+      → StoreStays (most_of old) old mid
+      → ((given : List SetHandle) × (now ≡ start ++ given) × (length given ≡ n)
+         × HoldEach (number_of old) (current_in layout old) given (slots_in old) (slots_in mid))
+      → ((given : List SetHandle) × (then ≡ now ++ given) × (length given ≡ m)
+         × HoldEach (number_of mid) (current_in layout mid) given (slots_in mid) (slots_in new))
+      → (given : List SetHandle) × (then ≡ start ++ given) × (length given ≡ n + m)
+        × HoldEach (number_of old) (current_in layout old) given (slots_in old) (slots_in new)
   held_then layout n m start now then old mid new stays a b =
       let long = length-append a.0 b.0 in
       let first_many = a.2 in
@@ -234,7 +242,15 @@ module _ {L P S D : Type 0} {d : Ghosts D L P S} where
         joined (number_of old) under a.0 b.0 (slots_in old) (slots_in mid) (slots_in new) a.3 each,
       )
 
-  pub held_next : (layout n : ℕ) (start now then : List SetHandle) (old mid new : Store L P S D d) → StoreStays (most_of old) old mid → ((given : List SetHandle) × (now ≡ start ++ given) × (length given ≡ n) × HoldEach (number_of old) (current_in layout old) given (slots_in old) (slots_in mid)) → ((handle : SetHandle) × (then ≡ now ++ handle ∷ []) × HoldEach (number_of mid) (current_in layout mid) (handle ∷ []) (slots_in mid) (slots_in new)) → (given : List SetHandle) × (then ≡ start ++ given) × (length given ≡ n + 1) × HoldEach (number_of old) (current_in layout old) given (slots_in old) (slots_in new)
+  pub held_next :
+      (layout n : ℕ) (start now then : List SetHandle) (old mid new : Store L P S D d)
+      → StoreStays (most_of old) old mid
+      → ((given : List SetHandle) × (now ≡ start ++ given) × (length given ≡ n)
+         × HoldEach (number_of old) (current_in layout old) given (slots_in old) (slots_in mid))
+      → ((handle : SetHandle) × (then ≡ now ++ handle ∷ [])
+         × HoldEach (number_of mid) (current_in layout mid) (handle ∷ []) (slots_in mid) (slots_in new))
+      → (given : List SetHandle) × (then ≡ start ++ given) × (length given ≡ n + 1)
+        × HoldEach (number_of old) (current_in layout old) given (slots_in old) (slots_in new)
   held_next layout n start now then old mid new stays a b = held_then layout n 1 start now then old mid new stays a (b.0 ∷ [], b.1, refl, b.2)
 
   -- none is given yet

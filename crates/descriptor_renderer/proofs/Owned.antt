@@ -120,7 +120,10 @@ module _ {L P S : Type 0} (means : Meaning L P S) where
     own_known p n x known full at here = (own p n x full at).own known here
 
   -- with one layout more, the sets that are there are of theirs
-  pub own_added : (generations : ℕ → ℕ) (layouts more : List (Slot (SetLayout L))) (slots : List (Slot (DescriptorSet S))) → ((n : ℕ) (known : SetLayout L) → (slot_at layouts n).set ≡ Some known → (slot_at more n).set ≡ Some known) → AreOwn means generations layouts slots → AreOwn means generations more slots
+  pub own_added :
+      (generations : ℕ → ℕ) (layouts more : List (Slot (SetLayout L))) (slots : List (Slot (DescriptorSet S)))
+      → ((n : ℕ) (known : SetLayout L) → (slot_at layouts n).set ≡ Some known → (slot_at more n).set ≡ Some known)
+      → AreOwn means generations layouts slots → AreOwn means generations more slots
   own_added generations layouts more slots stay own p n x full at =
       let is = own p n x full at in
       let was = some_of (slot_at layouts n).set is.there in

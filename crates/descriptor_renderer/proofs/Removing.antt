@@ -61,7 +61,11 @@ removed_other layout generations n ne = ap (λ b. if b then generations n + 1 el
 
 module _ {L P S : Type 0} (means : Meaning L P S) (layout : ℕ) (generations : ℕ → ℕ) (layouts fewer : List (Slot (SetLayout L))) (others : (n : ℕ) → n ≢ layout → slot_at fewer n ≡ slot_at layouts n) where
   -- the sets that are left are of their layouts
-  pub own_removed : (old new : List (Slot (DescriptorSet S))) → Turns (is_kept_of layout) Vacates old new → ((p : ℕ) → (slot_at new p).layout ≡ layout → (slot_at new p).layout_generation < removed_at layout generations layout) → AreOwn means generations layouts old → AreOwn means (removed_at layout generations) fewer new
+  pub own_removed :
+      (old new : List (Slot (DescriptorSet S))) → Turns (is_kept_of layout) Vacates old new
+      → ((p : ℕ) → (slot_at new p).layout ≡ layout
+         → (slot_at new p).layout_generation < removed_at layout generations layout)
+      → AreOwn means generations layouts old → AreOwn means (removed_at layout generations) fewer new
   own_removed old new turns past own p n x full at = elim (cases_eq n layout) [
     | inl e ↦ absurd (
         let less = past p (ap (λ (u : ℕ × ℕ). u.0) at ∙ e) in
@@ -85,13 +89,18 @@ one_less true true r s g h some none more same was = absurd (cc)
 one_less false c r s g h some none more same was = absurd (cc)
 
 -- as many handles were given, and one layout more was removed
-pub counted_removed : {T : Type 0} (layout : ℕ) (generations : ℕ → ℕ) (layouts fewer : List (Slot T)) → AreCounted generations layouts → is_some (slot_at layouts layout).set ≡ true → slot_at fewer layout ≡ vacated (slot_at layouts layout) → ((n : ℕ) → n ≢ layout → slot_at fewer n ≡ slot_at layouts n) → AreCounted (removed_at layout generations) fewer
+pub counted_removed :
+    {T : Type 0} (layout : ℕ) (generations : ℕ → ℕ) (layouts fewer : List (Slot T)) → AreCounted generations layouts
+    → is_some (slot_at layouts layout).set ≡ true → slot_at fewer layout ≡ vacated (slot_at layouts layout)
+    → ((n : ℕ) → n ≢ layout → slot_at fewer n ≡ slot_at layouts n) → AreCounted (removed_at layout generations) fewer
 counted_removed {T = T} layout generations layouts fewer counted there gone others n = elim (cases_eq n layout) [
   | inl e ↦ subst (λ n. IsCounted (removed_at layout generations n) (slot_at fewer n)) (sym e) (
       let same : (slot_at fewer layout).generation ≡ (slot_at layouts layout).generation = ap (λ (s : Slot T). s.generation) gone in
       let more : removed_at layout generations layout ≡ generations layout + 1 = ap (λ b. if b then generations layout + 1 else generations layout) (eq-eqb layout layout refl) in
       let few = (counted layout).1 in
-      (one_less (is_some (slot_at layouts layout).set) (is_some (slot_at fewer layout).set) (generations layout) (removed_at layout generations layout) (slot_at layouts layout).generation (slot_at fewer layout).generation there (ap (λ (s : Slot T). is_some s.set) gone) more same (counted layout).0, omega arith))
+      (one_less (is_some (slot_at layouts layout).set) (is_some (slot_at fewer layout).set) (generations layout)
+         (removed_at layout generations layout) (slot_at layouts layout).generation (slot_at fewer layout).generation
+         there (ap (λ (s : Slot T). is_some s.set) gone) more same (counted layout).0, omega arith))
   | inr ne ↦ subst (λ m. IsCounted m (slot_at fewer n)) (sym (removed_other layout generations n ne)) (subst (IsCounted (generations n)) (sym (others n ne)) (counted n))
 ]
 

@@ -94,7 +94,13 @@ module _ {T : Type 0} (frame : ℕ) (opened : Bool) where
           record { generation = ap (λ (s : Slot T). s.generation) old; set = ap (shown frame opened) old }
 
   -- freed sets, and those that wait, have no handle
-  pub freed_names : (generations : ℕ → ℕ) (number most : ℕ) (handles : List SetHandle) (old new : List (Slot T)) → AreHeldOnce number old handles → ((i : ℕ) → i < length handles → IsBack generations most new (slot_at old (place_at handles i)) (slot_at new (place_at handles i))) → ((p : ℕ) → ((i : ℕ) → i < length handles → place_at handles i ≢ p) → slot_at new p ≡ slot_at old p) → LoseNames handles (sets_of number frame opened old) (sets_of number frame opened new)
+  pub freed_names :
+      (generations : ℕ → ℕ) (number most : ℕ) (handles : List SetHandle) (old new : List (Slot T))
+      → AreHeldOnce number old handles
+      → ((i : ℕ) → i < length handles
+         → IsBack generations most new (slot_at old (place_at handles i)) (slot_at new (place_at handles i)))
+      → ((p : ℕ) → ((i : ℕ) → i < length handles → place_at handles i ≢ p) → slot_at new p ≡ slot_at old p)
+      → LoseNames handles (sets_of number frame opened old) (sets_of number frame opened new)
   freed_names generations number most handles old new once back rest =
       let quiet : (i : ℕ) → i < length handles → _ = λ i lt. back_quiet generations most new (slot_at old (place_at handles i)) (slot_at new (place_at handles i)) (back i lt) in
       names_lost number frame opened handles old new once (λ i lt. (quiet i lt).0) (λ i lt. (quiet i lt).1) rest

@@ -119,7 +119,11 @@ module _ {T : Type 0} where
   ]
 
   -- a slot keeps its layout. If its set is kept now, its layout has its number still
-  pub known_set : (slots : List (Slot T)) (p : ℕ) (u : Use) (w : Slot T) (lists : ℕ) (generations : ℕ → ℕ) → HasLists slots lists generations → p < length slots → w ≡ slot_at slots p → (is_kept (used_for u w) ≡ true → w.layout_generation ≡ generations w.layout) → HasLists (set slots p (used_for u w)) lists generations
+  pub known_set :
+      (slots : List (Slot T)) (p : ℕ) (u : Use) (w : Slot T) (lists : ℕ) (generations : ℕ → ℕ)
+      → HasLists slots lists generations → p < length slots → w ≡ slot_at slots p
+      → (is_kept (used_for u w) ≡ true → w.layout_generation ≡ generations w.layout)
+      → HasLists (set slots p (used_for u w)) lists generations
   known_set slots p u w lists generations known within is current =
       let was = subst (IsListed lists generations) (sym is) (known p within) in
       lists_set slots p (used_for u w) lists generations known within (record { there = was.there; before = was.before; kept = current })
@@ -144,7 +148,11 @@ module _ {T : Type 0} (slots : List (Slot T)) (next : List ℕ) (chains : List C
   pub pick_linked : (was : Slot T) (after : ℕ) → c.count ≢ 0 → k < length chains → after ≡ get_or next c.first 0 → AreLinked (set slots c.first (used_for Taken was)) next (set chains k (record { first = after; count = c.count - 1 }))
   pick_linked was after some within told =
       let d : Chain = record { first = after; count = c.count - 1 } in
-      unlinked is_in slots next (chain_at chains) linked_all (lists_none T) lists_apart (chain_at (set chains k d)) k (c.count - 1) c.first (used_for Taken was) (split_chain (chain_at chains k) c is some) (ap (λ (d : Chain). walk d.count next d.first) (chain_set chains k d within) ∙ ap (walk (c.count - 1) next) told) (other_chains chains k d) (λ j. refl)
+      unlinked is_in slots next (chain_at chains) linked_all (lists_none T) lists_apart (chain_at (set chains k d)) k
+        (c.count - 1) c.first (used_for Taken was) (split_chain (chain_at chains k) c is some)
+        (ap (λ (d : Chain). walk d.count next d.first) (chain_set chains k d within)
+         ∙ ap (walk (c.count - 1) next) told)
+        (other_chains chains k d) (λ j. refl)
 
   pub link_linked : (p : ℕ) (s : Slot T) → p < length slots → length next ≡ length slots → k < length chains → (slot_at slots p).used ≡ Taken → is_in k s ≡ true → AreLinked (set slots p s) (set next p c.first) (set chains k (record { first = p; count = c.count + 1 }))
   link_linked p s inside long within taken goes =

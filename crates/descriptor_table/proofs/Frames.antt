@@ -1,5 +1,8 @@
 -- The lists of sets that wait, by the code's chains of frames.
-use Rattle.std.proofs.Common.{◌≡◌, ◌≢◌, ℕ, zero, suc, ◌+◌, ◌-◌, ◌<◌, ◌≤◌, ◌==◌, ◌&&◌, nat_le, Bool, true, false, if◌then◌else◌, List, [], ◌∷◌, ◌++◌, insert, length, get_or, set, slice_get, Option, None, Some, is_some, inl, inr, refl, sym, ap, subst, ◌∙◌, arith, eq-eqb, ne_eqb, eqb-true, leb-true, le-leb}
+use Rattle.std.proofs.Common.{◌≡◌, ◌≢◌, ℕ, zero, suc, ◌+◌, ◌-◌, ◌<◌, ◌≤◌, ◌==◌, ◌&&◌, nat_le, Bool, true, false}
+use Rattle.std.proofs.Common.{if◌then◌else◌, List, [], ◌∷◌, ◌++◌, insert, length, get_or, set, slice_get, Option, None}
+use Rattle.std.proofs.Common.{Some, is_some, inl, inr, refl, sym, ap, subst, ◌∙◌, arith, eq-eqb, ne_eqb, eqb-true}
+use Rattle.std.proofs.Common.{leb-true, le-leb}
 use Rattle.std.proofs.lemmas.List.{length-set}
 use Rattle.descriptor_table.specs.Places.{times, walk}
 use Rattle.descriptor_table.specs.Slots.{AreFramed, HasFrames, chain_of, frame_at, is_due, is_of, slot_at, waits_for, waits_until}
@@ -249,13 +252,32 @@ module _ {T : Type 0} (slots : List (Slot T)) where
           | inl e ↦ subst (λ q. times q l ≤ 1) (sym e) (let a = times_here p (firsts frames) in omega arith)
           | inr ne ↦ (let a = times_there q p (firsts frames) ne in let b = firsts_once frames q first_waits has.falls in omega arith)
         ] in
-        let past : (q : ℕ) → length slots ≤ q → times q l ≡ 0 = λ q le. times_there q p (firsts frames) (λ e. omega arith) ∙ no_first frames q first_waits (λ i lt. ap (is_of (frame_at frames i).frame) (get_or_past slots q (record { generation = 0; layout = 0; layout_generation = 0; used = Taken; leaves = false; set = None }) le)) in
+        let past : (q : ℕ) → length slots ≤ q → times q l ≡ 0 =
+            λ q le.
+              times_there q p (firsts frames) (λ e. omega arith)
+              ∙ no_first frames q first_waits
+                  (λ i lt.
+                     ap (is_of (frame_at frames i).frame)
+                       (get_or_past slots q
+                          (record {
+                             generation = 0;
+                             layout = 0;
+                             layout_generation = 0;
+                             used = Taken;
+                             leaves = false;
+                             set = None
+                           })
+                          le)) in
         let few = few_places (length slots) l once past in
         let size = firsts_length frames in
         omega arith
 
     -- a set came into the list at a place
-    pub join_framed : (i p : ℕ) (c : FrameChain) (s : Slot T) → i < length frames → c ≡ frame_at frames i → p < length slots → length next ≡ length slots → (slot_at slots p).used ≡ Taken → is_of c.frame s ≡ true → AreFramed (set slots p s) (set next p c.first) (set frames i (record { frame = c.frame; first = p; count = c.count + 1 }))
+    pub join_framed :
+        (i p : ℕ) (c : FrameChain) (s : Slot T) → i < length frames → c ≡ frame_at frames i → p < length slots
+        → length next ≡ length slots → (slot_at slots p).used ≡ Taken → is_of c.frame s ≡ true
+        → AreFramed (set slots p s) (set next p c.first)
+            (set frames i (record { frame = c.frame; first = p; count = c.count + 1 }))
     join_framed i p c s lt is inside long taken goes =
         let d : FrameChain = record { frame = c.frame; first = p; count = c.count + 1 } in
         let same : d.frame ≡ (frame_at frames i).frame = ap (λ (e : FrameChain). e.frame) is in
@@ -270,7 +292,11 @@ module _ {T : Type 0} (slots : List (Slot T)) where
         omega arith
 
     -- a set began the list of a frame
-    pub start_framed : (i p f : ℕ) (s : Slot T) → i ≤ length frames → ((j : ℕ) → j < i → f < (frame_at frames j).frame) → ((j : ℕ) → i ≤ j → j < length frames → (frame_at frames j).frame < f) → p < length slots → (slot_at slots p).used ≡ Taken → is_of f s ≡ true → AreFramed (set slots p s) next (insert frames i (record { frame = f; first = p; count = 1 }))
+    pub start_framed :
+        (i p f : ℕ) (s : Slot T) → i ≤ length frames → ((j : ℕ) → j < i → f < (frame_at frames j).frame)
+        → ((j : ℕ) → i ≤ j → j < length frames → (frame_at frames j).frame < f) → p < length slots
+        → (slot_at slots p).used ≡ Taken → is_of f s ≡ true
+        → AreFramed (set slots p s) next (insert frames i (record { frame = f; first = p; count = 1 }))
     start_framed i p f s le before after inside taken goes =
         let d : FrameChain = record { frame = f; first = p; count = 1 } in
         let none = none_of frames f (λ j lt. elim (below_or j i) [ inl b ↦ λ e. (let h = before j b in omega arith) | inr a ↦ λ e. (let h = after j a lt in omega arith) ]) in
@@ -282,7 +308,11 @@ module _ {T : Type 0} (slots : List (Slot T)) where
         let d : FrameChain = record { frame = c.frame; first = after; count = c.count - 1 } in
         let same : d.frame ≡ (frame_at frames i).frame = ap (λ (e : FrameChain). e.frame) is in
         let here = subst (λ (e : FrameChain). chain_of frames e.frame ≡ record { first = e.first; count = e.count - 1 + 1 }) (sym is) (head_of i lt) in
-        unlinked is_of slots next (chain_of frames) framed (frames_none T) frames_apart (chain_of (set frames i d)) c.frame (c.count - 1) c.first (used_for Taken was) here (ap (λ (e : Chain). walk e.count next e.first) (set_here frames i d has.falls lt same) ∙ ap (walk (c.count - 1) next) told) (λ g ne. set_others frames i d g same ne) (λ f. refl)
+        unlinked is_of slots next (chain_of frames) framed (frames_none T) frames_apart (chain_of (set frames i d))
+          c.frame (c.count - 1) c.first (used_for Taken was) here
+          (ap (λ (e : Chain). walk e.count next e.first) (set_here frames i d has.falls lt same)
+           ∙ ap (walk (c.count - 1) next) told)
+          (λ g ne. set_others frames i d g same ne) (λ f. refl)
 
     -- no set is due if the earliest frame is later
     pub none_due : (frame : ℕ) → ((i : ℕ) → i < length frames → frame < (frame_at frames i).frame) → (q : ℕ) → is_due frame (slot_at slots q) ≡ false
@@ -311,7 +341,10 @@ module _ {T : Type 0} (slots : List (Slot T)) where
       let framed' = subst (λ l. AreFramed slots next l) is framed in
       let size = last_length frames c in
       let at = last_at frames c in
-      let here : chain_of (frames ++ c ∷ []) c.frame ≡ record { first = c.first; count = 0 + 1 } = subst (λ (e : FrameChain). chain_of (frames ++ c ∷ []) e.frame ≡ links_of e) at (chain_here (frames ++ c ∷ []) (length frames) has'.falls (omega arith)) ∙ (λ j. record { first = c.first; count = one j }) in
+      let here : chain_of (frames ++ c ∷ []) c.frame ≡ record { first = c.first; count = 0 + 1 } =
+          subst (λ (e : FrameChain). chain_of (frames ++ c ∷ []) e.frame ≡ links_of e) at
+            (chain_here (frames ++ c ∷ []) (length frames) has'.falls (omega arith))
+          ∙ (λ j. record { first = c.first; count = one j }) in
       let gone : chain_of frames c.frame ≡ record { first = 0; count = 0 } = none_of frames c.frame (λ i lt e. let h = has'.falls i (length frames) lt (omega arith) in let a = ap (λ (d : FrameChain). d.frame) (front_at frames c i lt) in let b = ap (λ (d : FrameChain). d.frame) at in omega arith) in
       unlinked is_of slots next (chain_of (frames ++ c ∷ [])) framed' (frames_none T) frames_apart (chain_of frames) c.frame 0 c.first (used_for Taken was) here (ap (λ (e : Chain). walk e.count next e.first) gone) (λ g ne. sym (last_gone frames c g ne)) (λ f. refl)
 

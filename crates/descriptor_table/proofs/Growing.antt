@@ -42,7 +42,13 @@ module _ {T : Type 0} where
   past [] = refl
   past (x ∷ slots) = past slots
 
-  chains_grown : (test : ℕ → Slot T → Bool) (slots : List (Slot T)) (next : List ℕ) (heads : ℕ → Chain) (s : Slot T) → ((k : ℕ) → test k s ≡ test k (record { generation = 0; layout = 0; layout_generation = 0; used = Taken; leaves = false; set = None })) → HasChains test slots next heads → HasChains test (slots ++ s ∷ []) (next ++ 0 ∷ []) heads
+  chains_grown :
+      (test : ℕ → Slot T → Bool) (slots : List (Slot T)) (next : List ℕ) (heads : ℕ → Chain) (s : Slot T)
+      → ((k : ℕ)
+         → test k s
+           ≡ test k
+               (record { generation = 0; layout = 0; layout_generation = 0; used = Taken; leaves = false; set = None }))
+      → HasChains test slots next heads → HasChains test (slots ++ s ∷ []) (next ++ 0 ∷ []) heads
   chains_grown test slots next heads s same h = λ k q. ap (times q) (walk_grown (heads k).count next (heads k).first) ∙ h k q ∙ ap (λ b. if b then 1 else 0) (sym (grown (test k) slots s q (same k)))
 
   pub linked_grown : (slots : List (Slot T)) (next : List ℕ) (chains : List Chain) (s : Slot T) → s.used ≡ Taken → AreLinked slots next chains → AreLinked (slots ++ s ∷ []) (next ++ 0 ∷ []) chains
@@ -67,7 +73,20 @@ module _ {T : Type 0} where
   count_grown test (x ∷ slots) s = let h = count_grown test slots s in omega arith
 
   -- a set came to a new slot
-  pub puts_last : (generations : ℕ → ℕ) (layout : ℕ) (x : T) (old new : List (Slot T)) (p : ℕ) → p ≡ length old → new ≡ old ++ record { generation = 0; layout = layout; layout_generation = generations layout; used = Taken; leaves = false; set = Some x } ∷ [] → ((q : ℕ) → is_usable (slot_at old q) ≡ false) → Puts generations layout x p old new
+  pub puts_last :
+      (generations : ℕ → ℕ) (layout : ℕ) (x : T) (old new : List (Slot T)) (p : ℕ) → p ≡ length old
+      → new
+        ≡ old
+          ++ record {
+               generation = 0;
+               layout = layout;
+               layout_generation = generations layout;
+               used = Taken;
+               leaves = false;
+               set = Some x
+             }
+          ∷ []
+      → ((q : ℕ) → is_usable (slot_at old q) ≡ false) → Puts generations layout x p old new
   puts_last generations layout x old new p at is full =
       let s : Slot T = record { generation = 0; layout = layout; layout_generation = generations layout; used = Taken; leaves = false; set = Some x } in
       let none : slot_at old p ≡ record { generation = 0; layout = 0; layout_generation = 0; used = Taken; leaves = false; set = None } = ap (slot_at old) at ∙ past old in

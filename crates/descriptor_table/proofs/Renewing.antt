@@ -28,7 +28,20 @@ module _ {T : Type 0} where
       by_use Vacant (Some x) e = absurd (let z = (and_true (nat_lt s.generation 4294967295) false e).1 in cc)
 
   -- a set came to a vacant slot
-  pub puts_again : (generations : ℕ → ℕ) (layout p : ℕ) (x : T) (old mid new : List (Slot T)) → p < length old → is_usable (slot_at old p) ≡ true → mid ≡ with_use p Taken old → new ≡ set mid p (record { generation = (slot_at mid p).generation; layout = layout; layout_generation = generations layout; used = Taken; leaves = false; set = Some x }) → Puts generations layout x p old new
+  pub puts_again :
+      (generations : ℕ → ℕ) (layout p : ℕ) (x : T) (old mid new : List (Slot T)) → p < length old
+      → is_usable (slot_at old p) ≡ true → mid ≡ with_use p Taken old
+      → new
+        ≡ set mid p
+            (record {
+               generation = (slot_at mid p).generation;
+               layout = layout;
+               layout_generation = generations layout;
+               used = Taken;
+               leaves = false;
+               set = Some x
+             })
+      → Puts generations layout x p old new
   puts_again generations layout p x old mid new within was left is =
       let o = slot_at old p in
       let s : Slot T = record { generation = o.generation; layout = layout; layout_generation = generations layout; used = Taken; leaves = false; set = Some x } in

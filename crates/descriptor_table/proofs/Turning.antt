@@ -37,7 +37,11 @@ module _ {T : Type 0} where
     turn_start old = record { long = refl; each = λ p. inl refl }
 
     -- the slot at a place turned, which passed the test
-    pub turn_step : (old now new : List (Slot T)) (p : ℕ) (s : Slot T) → Turning test becomes old now → p < length now → test (slot_at now p) ≡ true → new ≡ set now p s → ((o n : Slot T) → becomes now o n → becomes new o n) → ((o n : Slot T) → becomes now o n → test n ≡ false) → becomes new (slot_at now p) s → Turning test becomes old new
+    pub turn_step :
+        (old now new : List (Slot T)) (p : ℕ) (s : Slot T) → Turning test becomes old now → p < length now
+        → test (slot_at now p) ≡ true → new ≡ set now p s → ((o n : Slot T) → becomes now o n → becomes new o n)
+        → ((o n : Slot T) → becomes now o n → test n ≡ false) → becomes new (slot_at now p) s
+        → Turning test becomes old new
     turn_step old now new p s turning within was is grows done turned =
         let here : slot_at new p ≡ s = ap (λ l. slot_at l p) is ∙ slot_set now p s within in
         let stayed : slot_at now p ≡ slot_at old p = elim (turning.each p) [
@@ -209,7 +213,11 @@ module _ {T : Type 0} where
           let all : new ≡ with_use p (next_use generations most now p) now = is ∙ ap (λ b. if b then with_use p (next_use generations most now p) now else now) e in
           let left : now ≡ with_use p Taken now = sym (same_use now p taken.0 within) in
           let out : (k : ℕ) → is_in k (slot_at now p) ≡ false = (λ k. ap (λ u. in_list k u (slot_at now p).layout (slot_at now p).generation (is_some (slot_at now p).set)) taken.0) in
-          turn_step is_taken (IsSettled generations most) old now new p (used_for (next_use generations most now p) (slot_at now p)) turning within e (settled_set generations most now now new p within out left all) (settled_grows generations most now now new p within out left all) (settled_not_taken generations most now) (settled_here generations most now now new p within out left all)
+          turn_step is_taken (IsSettled generations most) old now new p
+            (used_for (next_use generations most now p) (slot_at now p)) turning within e
+            (settled_set generations most now now new p within out left all)
+            (settled_grows generations most now now new p within out left all) (settled_not_taken generations most now)
+            (settled_here generations most now now new p within out left all)
 
   pub wait_one : (frame : ℕ) (old now new : List (Slot T)) (p : ℕ) → Turning is_taken (WaitsFor frame) old now → p < length now → new ≡ if_taken p (Waits frame) now → TurnsOne is_taken (WaitsFor frame) old now new p
   wait_one frame old now new p turning within is = turn_one is_taken (WaitsFor frame) old now new p (Waits frame) turning within is step refl
@@ -241,7 +249,11 @@ module _ {T : Type 0} where
   none_passes test (s ∷ slots) past none (suc p) = none_passes test slots past (λ q lt. none (suc q) (omega arith)) p
 
   -- all sets that were taken have turned, since each is that of a handle
-  pub none_taken : (becomes : List (Slot T) → Slot T → Slot T → Type 0) (n : ℕ) (place : ℕ → ℕ) (old now : List (Slot T)) → Turning is_taken becomes old now → ((o m : Slot T) → becomes now o m → is_taken m ≡ false) → ((p : ℕ) → is_taken (slot_at old p) ≡ true → (i : ℕ) × (i < n) × (place i ≡ p)) → ((i : ℕ) → i < n → is_taken (slot_at now (place i)) ≡ false) → (p : ℕ) → is_taken (slot_at now p) ≡ false
+  pub none_taken :
+      (becomes : List (Slot T) → Slot T → Slot T → Type 0) (n : ℕ) (place : ℕ → ℕ) (old now : List (Slot T))
+      → Turning is_taken becomes old now → ((o m : Slot T) → becomes now o m → is_taken m ≡ false)
+      → ((p : ℕ) → is_taken (slot_at old p) ≡ true → (i : ℕ) × (i < n) × (place i ≡ p))
+      → ((i : ℕ) → i < n → is_taken (slot_at now (place i)) ≡ false) → (p : ℕ) → is_taken (slot_at now p) ≡ false
   none_taken becomes n place old now turning done named each p = by_test (is_taken (slot_at now p)) refl
     where
       by_test : (b : Bool) → is_taken (slot_at now p) ≡ b → b ≡ false

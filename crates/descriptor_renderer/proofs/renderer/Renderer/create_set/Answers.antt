@@ -36,7 +36,12 @@ returns-in-Ok-clause-creates g c =
     let handle = c.in-Ok.handle in
     if_some _ known _ c.in-Some.ensures.layout (record {
       set = named.set;
-      own = own_known g.D.DescriptorDevice.meaning (generations_in c.create.new.self) (layout_slots old.layouts) (slots_in c.create.new.self) own handle.place c.place.result named.set known named.here (named.of_layout ∙ ap (λ generations. current generations c.place.result) (sym c.create.ensures.stays.generations)) here;
+      own =
+          own_known g.D.DescriptorDevice.meaning (generations_in c.create.new.self) (layout_slots old.layouts)
+            (slots_in c.create.new.self) own handle.place c.place.result named.set known named.here
+            (named.of_layout
+             ∙ ap (λ generations. current generations c.place.result) (sym c.create.ensures.stays.generations))
+            here;
       names = subst (λ n. Names handle named.set (sets_of n old.frame old.is_open (slots_in old.store)) (sets_of n old.frame old.is_open (slots_in c.create.new.self))) old.numbers_sets (named.names old.frame old.is_open refl);
     })
 

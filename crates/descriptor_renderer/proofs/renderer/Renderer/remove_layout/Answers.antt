@@ -47,7 +47,12 @@ invariant_of-self-clause-own g c =
     let new = slots_in c.remove_layout.new.self in
     let removes = c.remove_layout.ensures.removes in
     let d = (goal.at.invariant_of-self-clause-own g c).After-place in
-    let past : (p : ℕ) → (slot_at new p).layout ≡ c.place.result → (slot_at new p).layout_generation < removed_at c.place.result (generations_in old.store) c.place.result = λ p at. subst (λ (generations : ℕ → ℕ). (slot_at new p).layout_generation < generations c.place.result) removes.generations (removes.past p at) in
+    let past :
+        (p : ℕ) → (slot_at new p).layout ≡ c.place.result
+        → (slot_at new p).layout_generation < removed_at c.place.result (generations_in old.store) c.place.result =
+        λ p at.
+          subst (λ (generations : ℕ → ℕ). (slot_at new p).layout_generation < generations c.place.result)
+            removes.generations (removes.past p at) in
     subst (λ generations. AreOwn g.D.DescriptorDevice.meaning generations fewer new) (sym removes.generations) (own_removed g.D.DescriptorDevice.meaning c.place.result (generations_in old.store) (layout_slots old.layouts) fewer (others g d) (slots_in old.store) new removes.turns past old.own)
 
 pub invariant_of-self-clause-counted : goal.invariant_of-self-clause-counted

@@ -16,8 +16,15 @@ use Rattle.descriptor_renderer.proofs.store.Store.draw.Goals.{After-draw}
 renews : (g : Over) (c : After-draw g) → Renews (number_of c.args.self.now) c.in_ok-place.place (Drawn c.args.frame) c.draw.result (slots_in c.take.new.self) (slots_of c.draw.new.self)
 renews g c = subst (λ n. Renews n c.in_ok-place.place (Drawn c.args.frame) c.draw.result (slots_in c.take.new.self) (slots_of c.draw.new.self)) c.take.ensures.stays.number c.draw.ensures.renews
 
-handles : (g : Over) (c : After-draw g) → Handles (ComesOf g.D.DescriptorDevice.meaning c.args.known.now.layout c.args.layout) (number_of c.args.self.now) (generations_in c.args.self.now) c.args.layout c.in_ok-place.place (Drawn c.args.frame) c.draw.result (slots_in c.args.self.now) (slots_of c.draw.new.self)
-handles g c = taken_handles c.args.known.now.layout c.args.layout (number_of c.args.self.now) c.in_ok-place.place (Drawn c.args.frame) c.draw.result c.args.self.now c.take.new.self (slots_of c.draw.new.self) c.take.ensures.stays.generations c.in_ok-place.ensures.kept c.in_ok-place.ensures.comes (renews g c)
+handles :
+    (g : Over) (c : After-draw g)
+    → Handles (ComesOf g.D.DescriptorDevice.meaning c.args.known.now.layout c.args.layout) (number_of c.args.self.now)
+        (generations_in c.args.self.now) c.args.layout c.in_ok-place.place (Drawn c.args.frame) c.draw.result
+        (slots_in c.args.self.now) (slots_of c.draw.new.self)
+handles g c =
+    taken_handles c.args.known.now.layout c.args.layout (number_of c.args.self.now) c.in_ok-place.place
+      (Drawn c.args.frame) c.draw.result c.args.self.now c.take.new.self (slots_of c.draw.new.self)
+      c.take.ensures.stays.generations c.in_ok-place.ensures.kept c.in_ok-place.ensures.comes (renews g c)
 
 same_sets : (g : Over) (c : After-draw g) → sets_in (slots_of c.draw.new.self) ≡ sets_in (slots_in c.take.new.self)
 same_sets g c = renewed_sets (number_of c.take.new.self) c.in_ok-place.place (Drawn c.args.frame) c.draw.result (slots_in c.take.new.self) (slots_of c.draw.new.self) c.draw.ensures.renews
@@ -25,7 +32,10 @@ same_sets g c = renewed_sets (number_of c.take.new.self) c.in_ok-place.place (Dr
 pub returns-in_err-place-clause-settles : goal.returns-in_err-place-clause-settles
 returns-in_err-place-clause-settles g c =
     let comes = ComesOf g.D.DescriptorDevice.meaning c.args.known.now.layout c.args.layout in
-    arrived comes c.args.frame c.args.self.now c.take.new.self (refused_arrives comes c.args.frame c.args.known.now.layout 1 1 c.in_err-place.field-0.0 c.args.self.now c.take.new.self c.in_err-place.ensures.refused) (ap (λ v. v.items) c.take.ensures.coming ∙ c.requires.rest.none_coming) c.requires.rest
+    arrived comes c.args.frame c.args.self.now c.take.new.self
+      (refused_arrives comes c.args.frame c.args.known.now.layout 1 1 c.in_err-place.field-0.0 c.args.self.now
+         c.take.new.self c.in_err-place.ensures.refused)
+      (ap (λ v. v.items) c.take.ensures.coming ∙ c.requires.rest.none_coming) c.requires.rest
 
 pub invariant_of-self-clause-exact : goal.invariant_of-self-clause-exact
 invariant_of-self-clause-exact g c = λ t.
@@ -40,7 +50,10 @@ invariant_of-self-clause-accounted g c =
     omega arith
 
 pub returns-clause-named : goal.returns-clause-named
-returns-clause-named g c = named (ComesOf g.D.DescriptorDevice.meaning c.args.known.now.layout c.args.layout) (number_of c.args.self.now) (generations_in c.args.self.now) c.args.layout c.in_ok-place.place (Drawn c.args.frame) c.draw.result (slots_in c.args.self.now) (slots_of c.draw.new.self) (handles g (goal.at.returns-clause-named g c).After-draw)
+returns-clause-named g c =
+    named (ComesOf g.D.DescriptorDevice.meaning c.args.known.now.layout c.args.layout) (number_of c.args.self.now)
+      (generations_in c.args.self.now) c.args.layout c.in_ok-place.place (Drawn c.args.frame) c.draw.result
+      (slots_in c.args.self.now) (slots_of c.draw.new.self) (handles g (goal.at.returns-clause-named g c).After-draw)
 
 pub returns-clause-kept : goal.returns-clause-kept
 returns-clause-kept g c = λ some. (c.draw.result, refl, kept_handle c.args.layout c.in_ok-place.place (Drawn c.args.frame) c.draw.result c.args.self.now c.take.new.self _ (c.in_ok-place.ensures.kept some) (renews g (goal.at.returns-clause-kept g c).After-draw) refl)
@@ -54,10 +67,17 @@ pub returns-clause-settles : goal.returns-clause-settles
 returns-clause-settles g c =
     let comes = ComesOf g.D.DescriptorDevice.meaning c.args.known.now.layout c.args.layout in
     let h = handles g (goal.at.returns-clause-settles g c).After-draw in
-    arrived comes c.args.frame c.args.self.now _ (handled_arrives comes (number_of c.args.self.now) (generations_in c.args.self.now) c.args.layout c.in_ok-place.place (Drawn c.args.frame) c.draw.result (slots_in c.args.self.now) (slots_of c.draw.new.self) h c.args.frame refl (omega arith)) (ap (λ v. v.items) c.take.ensures.coming ∙ c.requires.rest.none_coming) c.requires.rest
+    arrived comes c.args.frame c.args.self.now _
+      (handled_arrives comes (number_of c.args.self.now) (generations_in c.args.self.now) c.args.layout
+         c.in_ok-place.place (Drawn c.args.frame) c.draw.result (slots_in c.args.self.now) (slots_of c.draw.new.self) h
+         c.args.frame refl (omega arith))
+      (ap (λ v. v.items) c.take.ensures.coming ∙ c.requires.rest.none_coming) c.requires.rest
 
 pub returns-in_err-place-clause-grows : goal.returns-in_err-place-clause-grows
 returns-in_err-place-clause-grows g c = grow_refused c.args.known.now.layout 1 1 c.in_err-place.field-0.0 c.args.self.now c.take.new.self c.in_err-place.ensures.refused
 
 pub returns-clause-grows : goal.returns-clause-grows
-returns-clause-grows g c = grow_taken c.args.known.now.layout (number_of c.args.self.now) c.args.layout c.in_ok-place.place (Drawn c.args.frame) c.draw.result c.args.self.now c.take.new.self (slots_of c.draw.new.self) (λ s. refl) c.in_ok-place.ensures.kept c.in_ok-place.ensures.comes (renews g (goal.at.returns-clause-grows g c).After-draw)
+returns-clause-grows g c =
+    grow_taken c.args.known.now.layout (number_of c.args.self.now) c.args.layout c.in_ok-place.place
+      (Drawn c.args.frame) c.draw.result c.args.self.now c.take.new.self (slots_of c.draw.new.self) (λ s. refl)
+      c.in_ok-place.ensures.kept c.in_ok-place.ensures.comes (renews g (goal.at.returns-clause-grows g c).After-draw)

@@ -22,4 +22,15 @@ returns-then-chain-frame-clause-picks g c =
     let is = read_frame s.frames.items (c.len-count.result - 1) c.index-chain.result.now (omega arith) c.index-chain.ensures in
     let late = c.if-chain-frame.true in
     let f = ap (λ (d : FrameChain). d.frame) is in
-    record { none = none_due s.slots.items s.next.items s.frames.items s.framed s.rising c.args.frame (λ i lt. elim (below_or i (c.len-count.result - 1)) [ inl b ↦ (let h = s.rising.falls i (c.len-count.result - 1) b (omega arith) in omega arith) | inr a ↦ (let e : i ≡ c.len-count.result - 1 = omega arith in let h = ap (λ i. (frame_at s.frames.items i).frame) e in omega arith) ]); slots = refl }
+    record {
+      none =
+          none_due s.slots.items s.next.items s.frames.items s.framed s.rising c.args.frame
+            (λ i lt.
+               elim (below_or i (c.len-count.result - 1)) [
+                 inl b ↦ (let h = s.rising.falls i (c.len-count.result - 1) b (omega arith) in omega arith)
+                 | inr a ↦ (
+                     let e : i ≡ c.len-count.result - 1 = omega arith in
+                     let h = ap (λ i. (frame_at s.frames.items i).frame) e in omega arith)
+               ]);
+      slots = refl
+    }

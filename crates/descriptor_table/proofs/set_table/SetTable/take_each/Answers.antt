@@ -40,7 +40,11 @@ loop-index-preserved g c =
     let d = (goal.at.loop-index-preserved g c).After-holds in
     let inv = c.loop-index.invariant in
     record {
-      some = take_more c.args.self.now.number c.args.handles.now c.loop-index.index (slots_of c.args.self.now) (slots_of c.loop-index.self) inv.some (handle g d) c.loop-index-test.true (handle_at c.args.handles.now c.loop-index.index c.loop-index-test.true) (sym (holds g d) ∙ c.if-not-holds.false) (slots_of c.assign.new.self) c.assign.ensures.slots;
+      some =
+          take_more c.args.self.now.number c.args.handles.now c.loop-index.index (slots_of c.args.self.now)
+            (slots_of c.loop-index.self) inv.some (handle g d) c.loop-index-test.true
+            (handle_at c.args.handles.now c.loop-index.index c.loop-index-test.true)
+            (sym (holds g d) ∙ c.if-not-holds.false) (slots_of c.assign.new.self) c.assign.ensures.slots;
       stays = stays_more c.args.self.now c.loop-index.self c.assign.new.self inv.stays c.assign.ensures.stays;
     }
 
