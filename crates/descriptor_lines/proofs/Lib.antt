@@ -4,7 +4,6 @@ pub mod FirstLayoutLemmas
 pub mod LayoutLemmas
 pub mod LineLemmas
 pub mod ReplyLemmas
-pub mod RowLemmas
 pub mod SessionLemmas
 pub mod ShownLemmas
 pub mod TranscriptLemmas

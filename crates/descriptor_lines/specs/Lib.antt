@@ -11,7 +11,6 @@ pub mod Outcomes
 pub mod Programs
 pub mod Replies
 pub mod ReplyTexts
-pub mod Rows
 pub mod ScriptWords
 pub mod Shown
 pub mod Transcripts

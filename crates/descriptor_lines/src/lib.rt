@@ -7,7 +7,6 @@ mod command;
 mod device;
 mod exit;
 mod input;
-pub mod laws;
 mod layouts;
 mod program;
 

@@ -10,7 +10,7 @@ use Rattle.descriptor_table.specs.declared.slot.Slot.{Slot}
 use Rattle.descriptor_table.specs.declared.slot.Chain.{Chain}
 use Rattle.descriptor_table.specs.declared.slot.FrameChain.{FrameChain}
 use Rattle.descriptor_table.proofs.Counting.{same_or}
-use Rattle.descriptor_table.proofs.Listed.{IsApart, PassesNone, first_in, first_within, linked, none_in, one_more, other_slots, slot_set, still_linked, stay_linked, unlinked}
+use Rattle.descriptor_table.proofs.Listed.{IsApart, PassesNone, first_in, first_within, linked, one_more, other_slots, slot_set, still_linked, stay_linked, unlinked}
 
 pub and_true : (a b : Bool) → (a && b) ≡ true → (a ≡ true) × (b ≡ true)
 and_true true true e = (refl, refl)
@@ -164,18 +164,6 @@ module _ {T : Type 0} (slots : List (Slot T)) (next : List ℕ) (chains : List C
       let more = one_more is_in slots next (chain_at chains) linked_all (lists_none T) k p s inside (taken_no_list (slot_at slots p) taken) goes in
       let same = ap (λ (d : Chain). d.count) is in
       omega arith
-
-  pub pick_none : c.count ≡ 0 → (p : ℕ) → is_in k (slot_at slots p) ≡ false
-  pick_none none = none_in is_in slots next (chain_at chains) linked_all k (ap (λ (d : Chain). d.count) is ∙ none)
-
--- a list past the end has no slot
-pub past_none : {T : Type 0} (slots : List (Slot T)) (next : List ℕ) (chains : List Chain) (k : ℕ) → AreLinked slots next chains → slice_get chains k ≡ None → (p : ℕ) → is_in k (slot_at slots p) ≡ false
-past_none slots next chains k h e = none_in is_in slots next (chain_at chains) h k (past chains k e)
-  where
-    past : (chains : List Chain) (k : ℕ) → slice_get chains k ≡ None → (chain_at chains k).count ≡ 0
-    past [] k e = refl
-    past (d ∷ chains) zero e = absurd (let bad : ◌≡◌ {A = Option Chain} (Some d) None = e in cc)
-    past (d ∷ chains) (suc k) e = past chains k e
 
 -- a slot that leaves a list, or comes to one, waits for no frame before and after
 module _ {T : Type 0} (slots : List (Slot T)) (next : List ℕ) (frames : List FrameChain) (framed : AreFramed slots next frames) (p : ℕ) (s : Slot T) where

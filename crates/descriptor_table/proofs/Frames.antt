@@ -1,8 +1,8 @@
 -- The lists of sets that wait, by the code's chains of frames.
 use Rattle.std.proofs.Common.{◌≡◌, ◌≢◌, ℕ, zero, suc, ◌+◌, ◌-◌, ◌<◌, ◌≤◌, ◌==◌, ◌&&◌, nat_le, Bool, true, false}
 use Rattle.std.proofs.Common.{if◌then◌else◌, List, [], ◌∷◌, ◌++◌, insert, length, get_or, set, slice_get, Option, None}
-use Rattle.std.proofs.Common.{Some, is_some, inl, inr, refl, sym, ap, subst, ◌∙◌, arith, eq-eqb, ne_eqb, eqb-true}
-use Rattle.std.proofs.Common.{leb-true, le-leb}
+use Rattle.std.proofs.Common.{Some, is_some, inl, inr, refl, sym, ap, subst, ◌∙◌, arith, eq-eqb, ne_eqb}
+use Rattle.std.proofs.Common.{leb-true}
 use Rattle.std.proofs.lemmas.List.{length-set}
 use Rattle.descriptor_table.specs.Places.{times, walk}
 use Rattle.descriptor_table.specs.Slots.{AreFramed, HasFrames, chain_of, frame_at, is_due, is_of, slot_at, waits_for, waits_until}
@@ -21,9 +21,6 @@ use Rattle.descriptor_table.proofs.Counting.{below_or}
 -- the chain without its frame
 abbrev pub links_of : FrameChain → Chain
 links_of c = record { first = c.first; count = c.count }
-
-no_chain : Chain
-no_chain = record { first = 0; count = 0 }
 
 -- later frames come first
 abbrev Falls : List FrameChain → Type 0
@@ -347,29 +344,6 @@ module _ {T : Type 0} (slots : List (Slot T)) where
           ∙ (λ j. record { first = c.first; count = one j }) in
       let gone : chain_of frames c.frame ≡ record { first = 0; count = 0 } = none_of frames c.frame (λ i lt e. let h = has'.falls i (length frames) lt (omega arith) in let a = ap (λ (d : FrameChain). d.frame) (front_at frames c i lt) in let b = ap (λ (d : FrameChain). d.frame) at in omega arith) in
       unlinked is_of slots next (chain_of (frames ++ c ∷ [])) framed' (frames_none T) frames_apart (chain_of frames) c.frame 0 c.first (used_for Taken was) here (ap (λ (e : Chain). walk e.count next e.first) gone) (λ g ne. sym (last_gone frames c g ne)) (λ f. refl)
-
--- a set that waits for a frame up to this one is due
-pub due_of : {T : Type 0} (s : Slot T) (f frame : ℕ) → is_of f s ≡ true → f ≤ frame → is_due frame s ≡ true
-due_of s f frame e le = by_use s.used (is_some s.set) e
-  where
-    and_both : (a b : Bool) → (a && b) ≡ true → (a ≡ true) × (b ≡ true)
-    and_both true b e = (refl, e)
-    and_both false b e = absurd (cc)
-
-    by_eq : (g : ℕ) (full : Bool) → ((f == g) && full) ≡ true → (nat_le g frame && full) ≡ true
-    by_eq g full e =
-        let both = and_both (f == g) full e in
-        let same : f ≡ g = eqb-true f g both.0 in
-        ap (λ b. b && full) (le-leb g frame (omega arith)) ∙ both.1
-
-    by_use : (u : Use) (full : Bool) → (waits_for f u && full) ≡ true → (waits_until frame u && full) ≡ true
-    by_use Held full e = e
-    by_use (Drawn g) full e = by_eq g full e
-    by_use (Waits g) full e = by_eq g full e
-    by_use Kept full e = e
-    by_use Going full e = e
-    by_use Taken full e = e
-    by_use Vacant full e = e
 
 pub read_frame : (frames : List FrameChain) (i : ℕ) (c : FrameChain) → i < length frames → c ≡ get_or frames i c → c ≡ frame_at frames i
 read_frame frames i c within is = get_or_read frames i c within is (record { frame = 0; first = 0; count = 0 })

@@ -2,7 +2,7 @@
 use Rattle.std.proofs.Common.{◌≡◌, ◌≢◌, ℕ, zero, suc, ◌+◌, ◌<◌, ◌⊎◌, ◌==◌, ◌&&◌, Bool, true, false, List, [], ◌∷◌, length, get_or, is_some, inl, inr, refl, sym, ap, subst, ◌∙◌, arith, eqb-true}
 use Rattle.std.proofs.lemmas.List.{length-set}
 use Rattle.descriptor_table.specs.Sets.{AreHeldOnce, is_held}
-use Rattle.descriptor_table.specs.Slots.{IsNowhere, in_list, is_in, is_of, slot_at, waits_for}
+use Rattle.descriptor_table.specs.Slots.{IsNowhere, in_list, slot_at, waits_for}
 use Rattle.descriptor_table.specs.Tables.{TookEach, is_held_use, place_at, used_for, with_use}
 use Rattle.descriptor_table.specs.declared.handle.SetHandle.{SetHandle}
 use Rattle.descriptor_table.specs.declared.slot.Use.{Use}
@@ -63,11 +63,6 @@ same_default (x ∷ l) zero d e lt = refl
 same_default (x ∷ l) (suc i) d e lt = same_default l i d e (omega arith)
 
 module _ {T : Type 0} where
-  pub nowhere_no_list : (s : Slot T) → IsNowhere s.used → (k : ℕ) → is_in k s ≡ false
-  nowhere_no_list s n k = nowhere_list s.used n k s.layout s.generation (is_some s.set)
-
-  pub nowhere_no_frame : (s : Slot T) → IsNowhere s.used → (f : ℕ) → is_of f s ≡ false
-  nowhere_no_frame s n f = nowhere_frame s.used n f (is_some s.set)
 
   -- what is known of a handle with a held set
   pub record IsHeld (number : ℕ) (slots : List (Slot T)) (h : SetHandle) : Type 0 where
@@ -168,16 +163,6 @@ module _ {T : Type 0} where
             | inr ne ↦ some.apart i j less (omega arith)
           ];
         }
-
-    -- a handle that has no held set now, had none, or is in the list before
-    pub not_once : is_held number now h ≡ false → AreHeldOnce number old handles → ⊥
-    not_once e all =
-        let d : SetHandle = record { renderer = 0; place = 0; generation = 0 } in
-        let was : is_held number old h ≡ true = ap (is_held number old) (is d) ∙ all.held n d lt in
-        let others : (i : ℕ) → i < n → place_at handles i ≢ h.place = (λ i less f. all.once i n d less lt (same_handle number old (get_or handles i d) (get_or handles n d) (some.held i d less (omega arith)) (all.held n d lt) (f ∙ sym at))) in
-        let same = some.took.rest h.place others in
-        let now_held : is_held number now h ≡ true = ap (λ (s : Slot T). ((h.renderer == number) && (h.generation == s.generation)) && (is_held_use s.used && is_some s.set)) same ∙ was in
-        (let no : true ≡ false = sym now_held ∙ e in cc)
 
   pub took_all : (number : ℕ) (handles : List SetHandle) (old now : List (Slot T)) → TookSome number handles (length handles) old now → AreHeldOnce number old handles
   took_all number handles old now some = record {

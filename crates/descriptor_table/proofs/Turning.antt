@@ -11,7 +11,7 @@ use Rattle.descriptor_table.specs.declared.slot.Slot.{Slot}
 use Rattle.descriptor_table.proofs.Chains.{and_true, lists_apart}
 use Rattle.descriptor_table.proofs.Counting.{same_or}
 use Rattle.descriptor_table.proofs.Counts.{bit, count_set, none_count, same_count}
-use Rattle.descriptor_table.proofs.Listed.{other_slots, slot_set, test_within}
+use Rattle.descriptor_table.proofs.Listed.{other_slots, slot_set}
 
 taken_use : (u : Use) → is_taken_use u ≡ true → u ≡ Taken
 taken_use Held e = absurd (cc)
@@ -139,9 +139,6 @@ module _ {T : Type 0} where
 
   pub taken_is : (s : Slot T) → is_taken s ≡ true → (s.used ≡ Taken) × (is_some s.set ≡ true)
   taken_is s e = let both = and_true (is_taken_use s.used) (is_some s.set) e in (taken_use s.used both.0, both.1)
-
-  pub taken_inside : (slots : List (Slot T)) (p : ℕ) → is_taken (slot_at slots p) ≡ true → p < length slots
-  taken_inside slots p e = test_within is_taken slots p refl e
 
   -- a slot in use as before
   pub same_use : (slots : List (Slot T)) (p : ℕ) → (slot_at slots p).used ≡ Taken → p < length slots → with_use p Taken slots ≡ slots

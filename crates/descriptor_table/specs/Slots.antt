@@ -150,7 +150,3 @@ module _ {T : Type 0} where
   -- each slot has its list
   abbrev pub HasLists : List (Slot T) → ℕ → (ℕ → ℕ) → Type 0
   HasLists slots lists generations = (p : ℕ) → p < length slots → IsListed lists generations (slot_at slots p)
-
-  -- each slot is so
-  abbrev pub AllSlots : (Slot T → Type 0) → List (Slot T) → Type 0
-  AllSlots P slots = (p : ℕ) → P (slot_at slots p)

@@ -1,8 +1,8 @@
 -- The front of a bucket: what giving back does to it, and which places keep their pools when it goes.
 use Rattle.gpu_descriptor.proofs.Common.{◌≡◌, ℕ, zero, suc, ◌+◌, ◌-◌, ◌<◌, ◌≤◌, true, false, min, List, [], ◌∷◌, length}
 use Rattle.gpu_descriptor.proofs.Common.{map, drop, slice_get, Some, inl, inr, refl, sym, ap, ◌∙◌, arith, drop-drop}
-use Rattle.gpu_descriptor.proofs.Common.{prefix_len, cases_Bool, cases_lt, drop-map, prefix_len-le-length, Entry}
-use Rattle.gpu_descriptor.proofs.Common.{Bucket, entry_at, rises, numbers_of, common_steps, front_but, trimmed_bucket}
+use Rattle.gpu_descriptor.proofs.Common.{prefix_len, cases_Bool, cases_lt, drop-map, Entry}
+use Rattle.gpu_descriptor.proofs.Common.{Bucket, entry_at, rises, numbers_of, common_steps, trimmed_bucket}
 use Rattle.gpu_descriptor.proofs.Common.{entry_less, bucket_less, is_empty, empty_front, spent_front, without_front}
 use Rattle.gpu_descriptor.proofs.lists.AtPlaces.{get_drop}
 use Rattle.gpu_descriptor.proofs.lists.Numbers.{entry_at-found, entry_at-named, numbers_drop, rises_drop}
@@ -19,10 +19,6 @@ trim_no keep x es h = rw h (omega arith)
 
 pub trim_short : (keep : ℕ) (es : List Entry) → length es ≤ keep → trim keep es ≡ 0
 trim_short keep es le = omega arith
-
--- with no pool to stay the whole empty front goes
-pub whole_front : (b : Bucket) → front_but 0 b ≡ empty_front b
-whole_front b = (let le = prefix_len-le-length is_empty b.pools in omega arith)
 
 -- a change that leaves empty pools empty
 abbrev pub KeepsEmpty : (Entry → Entry) → Type 0

@@ -25,10 +25,6 @@ none_with (Some p) = ap (λ (x : Pool). Some x) (pool_same p)
 asks_some : (free wanted : ℕ) → 0 < min wanted free → nat_lt 0 free && nat_lt 0 wanted ≡ true
 asks_some free wanted h = and_from _ _ (lt-ltb 0 free (omega arith)) (lt-ltb 0 wanted (omega arith))
 
-and_false : (b : Bool) → b && false ≡ false
-and_false true = refl
-and_false false = refl
-
 asks_none : (free wanted : ℕ) → min wanted free ≡ 0 → nat_lt 0 free && nat_lt 0 wanted ≡ false
 asks_none free wanted h = grind arith
 

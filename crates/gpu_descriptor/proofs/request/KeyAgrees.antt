@@ -1,10 +1,10 @@
 -- What a request takes of a key's pools leaves books and ledger of the key in agreement.
 use Rattle.gpu_descriptor.proofs.Common.{◌≡◌, ◌≢◌, ℕ, suc, ◌+◌, ◌<◌, ◌≤◌, inl, inr, List, [], ◌∷◌, ◌++◌, length, Bool}
-use Rattle.gpu_descriptor.proofs.Common.{true, false, Option, refl, sym, ap, ◌∙◌, arith, length-append, cases_Bool}
+use Rattle.gpu_descriptor.proofs.Common.{true, false, refl, sym, ap, ◌∙◌, arith, length-append, cases_Bool}
 use Rattle.gpu_descriptor.proofs.Common.{cases_lt, length-map, if◌then◌else◌, Pool, live_sets, LiveSet, set_eq, times}
 use Rattle.gpu_descriptor.proofs.Common.{bool_iff, subst, count_by_yes, count_by_no, set_exact, times-append, Key}
-use Rattle.gpu_descriptor.proofs.Common.{Entry, Item, item_eq, set_of, count_of, IsAsBooked, ∥∥₁_map, live_in}
-use Rattle.gpu_descriptor.proofs.Common.{option_map_or, count_by-append, items_at, pool_with}
+use Rattle.gpu_descriptor.proofs.Common.{Entry, Item, item_eq, set_of, count_of, IsAsBooked, ∥∥₁_map}
+use Rattle.gpu_descriptor.proofs.Common.{count_by-append, items_at, pool_with}
 use Rattle.gpu_descriptor.proofs.table.Exact.{item_exact, item_from}
 
 -- a set that stands among sets of these counts has them
@@ -49,10 +49,6 @@ pool_booked k pool e f names refused b became = record {
     | inr off ↦ became.whole off ∙ b.full (let same : (if refused then pool.refusals + 1 else pool.refusals) ≡ pool.refusals = rw off refl in omega arith)
   ];
 }
-
--- how often a set is live in an entry's pool, if there is an entry
-abbrev pub live_of : (ℕ → Option Pool) → Option Entry → LiveSet → ℕ
-live_of pools o x = option_map_or (λ e. live_in pools e.pool x) o 0
 
 -- ---- the sets of one pool
 
