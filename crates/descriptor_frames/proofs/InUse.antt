@@ -33,9 +33,9 @@ module _ {S : Type 0} (name : S → ℕ) (xs ys all : List (DescriptorSet S)) (i
       (s : State) → AreOutstanding (items_of name xs) s
       → ((u : Item) → count_of u (items_of name ys) ≤ outstanding s u - count_of u (items_of name xs))
       → (AreOutstanding (items_of name all) s)
-        × ((u : Item)
-           → outstanding s u - count_of u (items_of name all) + count_of u (items_of name ys)
-             ≡ outstanding s u - count_of u (items_of name xs))
+      × ((u : Item)
+      → outstanding s u - count_of u (items_of name all) + count_of u (items_of name ys)
+      ≡ outstanding s u - count_of u (items_of name xs))
   joins s out used =
       (λ u. (let a = count_whole u in let b = out u in let c = used u in omega arith), λ u. (let a = count_whole u in let b = out u in let c = used u in omega arith))
 
@@ -43,7 +43,7 @@ module _ {S : Type 0} (name : S → ℕ) (xs ys all : List (DescriptorSet S)) (i
 
 pub retires :
     {P S : Type 0} (pool_name : P → ℕ) (set_name : S → ℕ) (old new : FrameManager P S) (l : Ledger)
-      (xs : List (DescriptorSet S))
+    (xs : List (DescriptorSet S))
     → allocator_of new ≡ allocator_of old → retired_sets (retired_of new) ≡ retired_sets (retired_of old) ++ xs
     → AreRetiredOut pool_name set_name old l → AreInUse pool_name set_name (items_of set_name xs) old l
     → Retires pool_name set_name (items_of set_name xs) old new l
@@ -58,11 +58,11 @@ retires pool_name set_name old new l xs same is out used =
 -- sets are retired, wherever they stand in the list
 pub retires_counted :
     {P S : Type 0} (pool_name : P → ℕ) (set_name : S → ℕ) (old new : FrameManager P S) (l : Ledger)
-      (xs : List (DescriptorSet S))
+    (xs : List (DescriptorSet S))
     → allocator_of new ≡ allocator_of old
     → ((t : Item)
-       → count_of t (items_of set_name (retired_sets (retired_of new)))
-         ≡ count_of t (items_of set_name (retired_sets (retired_of old))) + count_of t (items_of set_name xs))
+    → count_of t (items_of set_name (retired_sets (retired_of new)))
+    ≡ count_of t (items_of set_name (retired_sets (retired_of old))) + count_of t (items_of set_name xs))
     → AreRetiredOut pool_name set_name old l → AreInUse pool_name set_name (items_of set_name xs) old l
     → Retires pool_name set_name (items_of set_name xs) old new l
 retires_counted pool_name set_name old new l xs same more out used =
@@ -78,16 +78,16 @@ none_retired pool_name set_name m l is = record { out = λ t. (let none = ap (λ
 -- sets that come out join those in use
 pub together :
     {P S X : Type 0} (pool_name : P → ℕ) (set_name : S → ℕ) (sets_in : X → List (DescriptorSet S))
-      (r : Result X AllocationError) (old new : FrameManager P S) (before after : Ledger)
+    (r : Result X AllocationError) (old new : FrameManager P S) (before after : Ledger)
     → retired_of new ≡ retired_of old
     → IfOk (map_ok sets_in r)
-        (λ sets. AreOutBesides (items_of set_name sets) (state_in pool_name old before) (state_in pool_name new after))
+    (λ sets. AreOutBesides (items_of set_name sets) (state_in pool_name old before) (state_in pool_name new after))
     → AreRetiredOut pool_name set_name old before
     → IfOk r
-        (λ x.
-           (used all : List (DescriptorSet S)) → all ≡ used ++ sets_in x
-           → AreInUse pool_name set_name (items_of set_name used) old before
-           → AreInUse pool_name set_name (items_of set_name all) new after)
+    (λ x.
+    (used all : List (DescriptorSet S)) → all ≡ used ++ sets_in x
+    → AreInUse pool_name set_name (items_of set_name used) old before
+    → AreInUse pool_name set_name (items_of set_name all) new after)
 together pool_name set_name sets_in (Ok x) old new before after same more out = λ used all is are. record {
   used = λ t. (
       let both = count_whole set_name used (sets_in x) all is t in

@@ -21,7 +21,7 @@ answer_of_more names counts n named counted =
     ap (flat_map kind_answer) (take_more (zip names counts) n ([], 0) inside)
     ∙ sym (flat_map_more kind_answer [] (take n (zip names counts)) (get_or (zip names counts) n ([], 0)))
     ∙ ap (λ kind. flat_map kind_answer (take n (zip names counts)) ++ kind_answer kind)
-        (get_or-zip names counts n ([], 0) named counted)
+    (get_or-zip names counts n ([], 0) named counted)
 
 pub answer_of_all : (counts : List ℕ) (n : ℕ) → length counts ≤ n → answer_of_first n kind_names counts ≡ kinds_answer counts
 unfolding answer_of_first kinds_answer

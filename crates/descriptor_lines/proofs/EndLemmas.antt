@@ -72,7 +72,7 @@ left_alone outcome old new fault is stays = (let same : new ≡ begun old = rw i
 -- a line that was run
 pub takes_run :
     (number : ℕ) (left rest : Option (List ℕ)) (line : List ℕ) (outcome : Result Unit Refusal) (text : List ℕ)
-      (old new : LineState)
+    (old new : LineState)
     → IsFirstOf line left → LosesLine left rest → length line ≤ 4096
     → OnOk outcome (DoesLine (words_in line) text old new) → OnErr outcome (IsUnchanged old new)
     → new.has_begun ≡ (old.has_begun || not (is_silent (words_in line)))
@@ -96,7 +96,7 @@ takes_run number (Some bytes) (Some others) line outcome text old new first lose
 -- a line at its place in the buffer, run
 pub takes_span :
     (number : ℕ) (buffer : LineBuffer) (span : Span) (left rest : Option (List ℕ)) (line : List ℕ)
-      (outcome : Result Unit Refusal) (text : List ℕ) (old new : LineState)
+    (outcome : Result Unit Refusal) (text : List ℕ) (old new : LineState)
     → IsFirstOf (bytes_at buffer span) left → LosesLine left rest → span.end - span.start ≤ 4096
     → line ≡ strip_last 13 (bytes_at buffer span) → OnOk outcome (DoesLine (words line) text old new)
     → OnErr outcome (IsUnchanged old new) → new.has_begun ≡ (old.has_begun || not (is_silent (words line)))
@@ -126,7 +126,7 @@ takes_long number (Some bytes) rest outcome text p is long = (
 
 pub stands_on :
     (known left rest : Option (List ℕ)) (start old new : LineState) (answers text : List ℕ) (number : ℕ)
-      (outcome : Result Unit Refusal)
+    (outcome : Result Unit Refusal)
     → Stands known start answers number left old → Takes number left rest outcome text old new → IsNoFault outcome
     → Stands known start (answers ++ said_of number outcome text) (number + 1) rest new
 stands_on None left rest start old new answers text number outcome at takes fine = tt
@@ -153,7 +153,7 @@ ends_unread (Some bytes) (Some left) start p answers number old new (before, all
 -- a run that has come to its next line, with what was said of it
 at_line :
     (Says : ℕ → List ℕ → List ℕ → LineState → Type 0) (bytes left line said : List ℕ) (start p : LineState)
-      (answers : List ℕ) (number : ℕ)
+    (answers : List ℕ) (number : ℕ)
     → Stands (Some bytes) start answers number (Some left) p → 0 < length left → line ≡ before_end left
     → Says number line said p → ComesTo Says (lines_of bytes) start (answers ++ said)
 at_line Says bytes left line said start p answers number (before, all, next, at) some first says =
@@ -173,7 +173,7 @@ at_line Says bytes left line said start p answers number (before, all, next, at)
 
 ends_refused :
     (known left rest : Option (List ℕ)) (start p now : LineState) (answers text : List ℕ) (number : ℕ)
-      (outcome : Result Unit Refusal) (fault : Fault) (old mid new : Option (List ℕ))
+    (outcome : Result Unit Refusal) (fault : Fault) (old mid new : Option (List ℕ))
     → outcome ≡ Err (refusal.Fault fault) → Stands known start answers number left p
     → Takes number left rest outcome text p now → Appends old mid answers
     → Appends mid new (said_of number outcome text) → Writes known start BadLine old new now
@@ -194,7 +194,7 @@ is_fault (Err (refusal.Fault fault)) faulty = (fault, refl)
 -- a faulty line was the last
 pub ends_at_fault :
     (known left rest : Option (List ℕ)) (start p now : LineState) (answers text : List ℕ) (number : ℕ)
-      (outcome : Result Unit Refusal) (old mid new : Option (List ℕ))
+    (outcome : Result Unit Refusal) (old mid new : Option (List ℕ))
     → ¬ (IsNoFault outcome) → Stands known start answers number left p → Takes number left rest outcome text p now
     → Appends old mid answers → Appends mid new (said_of number outcome text) → Writes known start BadLine old new now
 ends_at_fault known left rest start p now answers text number outcome old mid new faulty at takes before said =
@@ -203,10 +203,10 @@ ends_at_fault known left rest start p now answers text number outcome old mid ne
 
 is_said :
     (number : ℕ) (line bytes : List ℕ) (rest : Option (List ℕ)) (outcome : Result Unit Refusal) (text : List ℕ)
-      (old new : LineState)
+    (old new : LineState)
     → IsTaken number line bytes rest outcome text old new
     → IsAnswered line (said_of number outcome text) old new
-      ⊎ IsRefused number line (said_of number outcome text) old new
+    ⊎ IsRefused number line (said_of number outcome text) old new
 is_said number line bytes rest (Ok done) text old new taken = inl (taken.answered tt)
 is_said number line bytes rest (Err refusal.NoMemory) text old new taken = inl (taken.answered refl)
 is_said number line bytes rest (Err (refusal.Fault fault)) text old new taken = inr (record { fault = fault; wrong = taken.wrong fault refl; said = refl; device = taken.device fault refl })
@@ -214,7 +214,7 @@ is_said number line bytes rest (Err (refusal.Fault fault)) text old new taken = 
 -- a write failed
 pub ends_unwritten :
     (known left rest : Option (List ℕ)) (start p now : LineState) (answers text : List ℕ) (number : ℕ)
-      (outcome : Result Unit Refusal) (old mid new : Option (List ℕ))
+    (outcome : Result Unit Refusal) (old mid new : Option (List ℕ))
     → Stands known start answers number left p → Takes number left rest outcome text p now → Appends old mid answers
     → AppendsPrefix mid new (said_of number outcome text) → Writes known start WriteFault old new now
 ends_unwritten None left rest start p now answers text number outcome old mid new at takes before wrote = tt
@@ -222,10 +222,12 @@ ends_unwritten (Some bytes) None rest start p now answers text number outcome ol
 ends_unwritten (Some bytes) (Some left) rest start p now answers text number outcome old mid new at (line, taken) before wrote = (
   answers ++ wrote.prefix,
   at_line
-    (λ n l t q. (unwritten : List ℕ) × (IsAnswered l (t ++ unwritten) q now ⊎ IsRefused n l (t ++ unwritten) q now))
-    bytes left line wrote.prefix start p answers number at taken.some taken.first
-    (wrote.unwritten, subst (λ t. IsAnswered line t p now ⊎ IsRefused number line t p now) wrote.split
-       (is_said number line left rest outcome text p now taken)),
+      (λ n l t q. (unwritten : List ℕ) × (IsAnswered l (t ++ unwritten) q now ⊎ IsRefused n l (t ++ unwritten) q now))
+      bytes left line wrote.prefix start p answers number at taken.some taken.first (
+        wrote.unwritten,
+        subst (λ t. IsAnswered line t p now ⊎ IsRefused number line t p now) wrote.split
+            (is_said number line left rest outcome text p now taken),
+      ),
   Appends-trans old mid new answers _ before wrote.grown,
 )
 

@@ -80,7 +80,7 @@ tell_more es e told new =
     ap (map listed) (filter-append _ es (e ∷ [])) ∙ map-append listed _ _
     ∙ ap (λ firsts. firsts ++ map listed (filter (λ f. f.1.is_first) (e ∷ []))) told
     ∙ ap (λ last. first_layouts (map listed es) ++ last)
-        (last_one e.1.is_first (any_same (map listed es) (listed e)) is_first)
+    (last_one e.1.is_first (any_same (map listed es) (listed e)) is_first)
     ∙ sym (first_of_more (map listed es) (listed e)) ∙ ap first_layouts (sym (map-append listed es (e ∷ [])))
   where
     last_one : (flag any : Bool) → flag ≡ not any → map listed (cond flag (e ∷ []) []) ≡ cond any [] (listed e ∷ [])

@@ -58,10 +58,10 @@ part_behind bytes got more a end n from fits few =
     let behind : drop end (take end bytes ++ (got ++ more)) ≡ got ++ more = drop_at (take end bytes) (got ++ more) end size in
     split
     ∙ ap (λ l. l ++ slice_range (take end bytes ++ (got ++ more)) end (end + n))
-        (front_part bytes (got ++ more) a end end (omega arith) fits)
+    (front_part bytes (got ++ more) a end end (omega arith) fits)
     ∙ ap (λ l. slice_range bytes a end ++ l)
-        (ap (λ k. take k (drop end (take end bytes ++ (got ++ more)))) count ∙ ap (take n) behind
-         ∙ take-append-le n got more few)
+    (ap (λ k. take k (drop end (take end bytes ++ (got ++ more)))) count ∙ ap (take n) behind
+    ∙ take-append-le n got more few)
 
 -- ---- the first end of a line
 
@@ -121,13 +121,13 @@ pub search_comes_to : (bytes shown : List ℕ) (start searched end count : ℕ) 
 search_comes_to bytes shown start searched end count found same from to fits none place is =
     let found_is : found ≡ position (is_byte 10) (slice_range bytes searched end) = place ∙ ap (λ l. position (is_byte 10) (slice_range l searched end)) same in
     let count_is :
-        count
-        ≡ unwrap_or (position (is_byte 10) (slice_range bytes searched end)) (length (slice_range bytes searched end)) =
-        is ∙ ap (λ o. unwrap_or o (length (slice_range shown searched end))) found_is
-        ∙ ap
-            (λ l.
-               unwrap_or (position (is_byte 10) (slice_range bytes searched end)) (length (slice_range l searched end)))
-            same in
+    count
+    ≡ unwrap_or (position (is_byte 10) (slice_range bytes searched end)) (length (slice_range bytes searched end)) =
+    is ∙ ap (λ o. unwrap_or o (length (slice_range shown searched end))) found_is
+    ∙ ap
+    (λ l.
+    unwrap_or (position (is_byte 10) (slice_range bytes searched end)) (length (slice_range l searched end)))
+    same in
     rw (count_is, found_is) (comes_to bytes start searched end from to fits none)
 
 -- a line up to its end, and what is behind that

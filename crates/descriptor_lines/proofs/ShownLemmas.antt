@@ -77,8 +77,8 @@ pub said_whole :
     (p : LineState) (old text : List ℕ)
     → text ≡ old ++ said_of_told (allocator_of p.session).table p.layouts.by_name.entries
     → (text ++ calls_answer p.ledger.counters)
-        ++ held_answer (length (held_sets (sets_of p.session))) (marked_load_of (allocator_of p.session))
-      ≡ old ++ show_answer p
+    ++ held_answer (length (held_sets (sets_of p.session))) (marked_load_of (allocator_of p.session))
+    ≡ old ++ show_answer p
 unfolding said_of_told show_answer
 said_whole p old text pools =
     let calls = calls_answer p.ledger.counters in

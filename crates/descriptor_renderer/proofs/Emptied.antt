@@ -68,9 +68,9 @@ abbrev HasLeft : {T : Type 0} → Slot T → Slot T → Type 0
 HasLeft o n = ((n ≡ o) × (o.set ≡ None)) ⊎ (n ≡ vacated o)
 
 module _ {T : Type 0} (generations : ℕ → ℕ) (frame most : ℕ) (a b c d new : List (Slot T))
-  (settles : Turns (is_due frame) (IsSettled generations most) a b) (leave : Turns holds Leaves b c)
-  (trims : Turns is_kept MayGo c d) (few : (layout : ℕ) → count (is_in (layout + 2)) d ≤ 0)
-  (gives : Turns goes Vacates d new) where
+    (settles : Turns (is_due frame) (IsSettled generations most) a b) (leave : Turns holds Leaves b c)
+    (trims : Turns is_kept MayGo c d) (few : (layout : ℕ) → count (is_in (layout + 2)) d ≤ 0)
+    (gives : Turns goes Vacates d new) where
   -- a set that goes was given back
   given : (p : ℕ) (s : Slot T) → is_some s.set ≡ true → slot_at d p ≡ used_for Going s → slot_at new p ≡ vacated s
   given p s full e = gives.here p (ap goes e ∙ full) ∙ ap vacated e

@@ -76,7 +76,7 @@ module _ {L P S D : Type 0} {d : Ghosts D L P S} where
   -- a set was taken, and gets a handle
   pub grow_taken :
       (layout : L) (number n p : ℕ) (u : Use) (handle : SetHandle) (old mid : Store L P S D d)
-        (new : List (Slot (DescriptorSet S)))
+      (new : List (Slot (DescriptorSet S)))
       → ((s : Slot (DescriptorSet S)) → is_usable (renewed u s) ≡ false)
       → (0 < kept_of n old → TakesKept n (Ok p) old mid) → (kept_of n old ≡ 0 → GetsAtLast layout n p old mid)
       → Renews number p u handle (slots_in mid) new → Grows (slots_in old) new

@@ -178,17 +178,17 @@ module _ {L P S D : Type 0} {d : Ghosts D L P S} where
   -- a set was taken, and has a handle
   pub taken_handles :
       (layout : L) (number number' p : ℕ) (u : Use) (handle : SetHandle) (old taken : Store L P S D d)
-        (new : List (Slot (DescriptorSet S)))
+      (new : List (Slot (DescriptorSet S)))
       → generations_in taken ≡ generations_in old → (0 < kept_of number old → TakesKept number (Ok p) old taken)
       → (kept_of number old ≡ 0 → GetsAtLast layout number p old taken) → Renews number' p u handle (slots_in taken) new
       → Handles (ComesOf d.meaning layout number) number' (generations_in old) number p u handle (slots_in old) new
   taken_handles layout number number' p u handle old taken new same kept comes renews = elim (below_or 0 (kept_of number old)) [
     | inl some ↦
-      (let k = kept some in
-       let picks = subst (λ p. Picks (is_kept_of number) p (slots_in old) (slots_in taken)) (ok_same k.is) k.picks in
-       at_once
-         (kept_fills (ComesOf d.meaning layout number) number' (generations_in old) number p u handle (slots_in old)
-            (slots_in taken) new (λ q within. (old.table.known q within).kept) picks renews))
+        (let k = kept some in
+        let picks = subst (λ p. Picks (is_kept_of number) p (slots_in old) (slots_in taken)) (ok_same k.is) k.picks in
+        at_once
+        (kept_fills (ComesOf d.meaning layout number) number' (generations_in old) number p u handle (slots_in old)
+        (slots_in taken) new (λ q within. (old.table.known q within).kept) picks renews))
     | inr none ↦ elim (comes (omega arith)) [
       | inl gets ↦ at_once (new_fills (ComesOf d.meaning layout number) number' (generations_in old) number p u handle gets.set (slots_in old) (slots_in taken) new (again (slots_in old) gets.set gets.puts) (refl, gets.own) renews)
       | inr cleared ↦ (let mid = cleared.0 in let gets = cleared.2 in record {
@@ -225,10 +225,10 @@ module _ {L P S D : Type 0} {d : Ghosts D L P S} where
   -- a new set has its handle
   pub new_handle :
       (layout : L) (number p : ℕ) (u : Use) (handle : SetHandle) (old taken : Store L P S D d)
-        (new : List (Slot (DescriptorSet S)))
+      (new : List (Slot (DescriptorSet S)))
       → GetsAtLast layout number p old taken → Renews (number_of old) p u handle (slots_in taken) new
       → GetsAtLast layout number handle.place old taken
-        × Renews (number_of old) handle.place u handle (slots_in taken) new
+      × Renews (number_of old) handle.place u handle (slots_in taken) new
   new_handle layout number p u handle old taken new gets renews =
       let at : p ≡ handle.place = sym (ap (λ (h : SetHandle). h.place) renews.is) in
       (subst (λ p. GetsAtLast layout number p old taken) at gets, subst (λ p. Renews (number_of old) p u handle (slots_in taken) new) at renews)
@@ -238,10 +238,10 @@ module _ {L P S D : Type 0} {d : Ghosts D L P S} where
   refused_arrives comes f layout first last error old new refused q = elim refused.why [
     | inl at_once ↦ same_arrives comes f (slot_at (slots_in old) q) (slot_at (slots_in new) q) (ap (λ l. slot_at l q) at_once.slots)
     | inr later ↦
-      (let mid = later.0 in
-       arrives_then comes f (slot_at (slots_in old) q) (slot_at (slots_in mid) q) (slot_at (slots_in new) q)
-         (clears_arrives comes f (slot_at (slots_in old) q) (slot_at (slots_in mid) q)
-            (clears (slots_in old) (slots_in mid) (cleared_of layout first old mid later.1) q))
-         (same_arrives comes f (slot_at (slots_in mid) q) (slot_at (slots_in new) q)
-            (ap (λ l. slot_at l q) later.2.slots)))
+        (let mid = later.0 in
+        arrives_then comes f (slot_at (slots_in old) q) (slot_at (slots_in mid) q) (slot_at (slots_in new) q)
+        (clears_arrives comes f (slot_at (slots_in old) q) (slot_at (slots_in mid) q)
+        (clears (slots_in old) (slots_in mid) (cleared_of layout first old mid later.1) q))
+        (same_arrives comes f (slot_at (slots_in mid) q) (slot_at (slots_in new) q)
+        (ap (λ l. slot_at l q) later.2.slots)))
   ]

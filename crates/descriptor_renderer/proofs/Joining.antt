@@ -225,11 +225,11 @@ module _ {L P S D : Type 0} {d : Ghosts D L P S} where
       (layout n m : ℕ) (start now then : List SetHandle) (old mid new : Store L P S D d)
       → StoreStays (most_of old) old mid
       → ((given : List SetHandle) × (now ≡ start ++ given) × (length given ≡ n)
-         × HoldEach (number_of old) (current_in layout old) given (slots_in old) (slots_in mid))
+      × HoldEach (number_of old) (current_in layout old) given (slots_in old) (slots_in mid))
       → ((given : List SetHandle) × (then ≡ now ++ given) × (length given ≡ m)
-         × HoldEach (number_of mid) (current_in layout mid) given (slots_in mid) (slots_in new))
+      × HoldEach (number_of mid) (current_in layout mid) given (slots_in mid) (slots_in new))
       → (given : List SetHandle) × (then ≡ start ++ given) × (length given ≡ n + m)
-        × HoldEach (number_of old) (current_in layout old) given (slots_in old) (slots_in new)
+      × HoldEach (number_of old) (current_in layout old) given (slots_in old) (slots_in new)
   held_then layout n m start now then old mid new stays a b =
       let long = length-append a.0 b.0 in
       let first_many = a.2 in
@@ -246,11 +246,11 @@ module _ {L P S D : Type 0} {d : Ghosts D L P S} where
       (layout n : ℕ) (start now then : List SetHandle) (old mid new : Store L P S D d)
       → StoreStays (most_of old) old mid
       → ((given : List SetHandle) × (now ≡ start ++ given) × (length given ≡ n)
-         × HoldEach (number_of old) (current_in layout old) given (slots_in old) (slots_in mid))
+      × HoldEach (number_of old) (current_in layout old) given (slots_in old) (slots_in mid))
       → ((handle : SetHandle) × (then ≡ now ++ handle ∷ [])
-         × HoldEach (number_of mid) (current_in layout mid) (handle ∷ []) (slots_in mid) (slots_in new))
+      × HoldEach (number_of mid) (current_in layout mid) (handle ∷ []) (slots_in mid) (slots_in new))
       → (given : List SetHandle) × (then ≡ start ++ given) × (length given ≡ n + 1)
-        × HoldEach (number_of old) (current_in layout old) given (slots_in old) (slots_in new)
+      × HoldEach (number_of old) (current_in layout old) given (slots_in old) (slots_in new)
   held_next layout n start now then old mid new stays a b = held_then layout n 1 start now then old mid new stays a (b.0 ∷ [], b.1, refl, b.2)
 
   -- none is given yet

@@ -76,10 +76,10 @@ module _ {T : Type 0} where
     pub seen_clear : (frame : ℕ) (opened : Bool) (o n : Slot T) (h : SetHandle) → Clears o n → seen frame opened n h ≡ seen frame opened o h
     seen_clear frame opened o n h c = elim c.is [
       | inl same ↦ ap
-        (λ g. if ((h.renderer == number) && (h.generation == g)) && is_live frame opened n.used then n.set else None)
-        c.generation
-      ∙ ap (λ u. if last o h && is_live frame opened u then n.set else None) same.0
-      ∙ ap (λ x. if last o h && is_live frame opened o.used then x else None) same.1
+          (λ g. if ((h.renderer == number) && (h.generation == g)) && is_live frame opened n.used then n.set else None)
+          c.generation
+          ∙ ap (λ u. if last o h && is_live frame opened u then n.set else None) same.0
+          ∙ ap (λ x. if last o h && is_live frame opened o.used then x else None) same.1
       | inr gone ↦ seen_free frame opened n h (free_none n gone.2) ∙ sym (seen_free frame opened o h (free_kept o gone.0))
     ]
 
@@ -115,9 +115,9 @@ module _ {T : Type 0} where
     pub seen_next : (frame : ℕ) (opened : Bool) (p : ℕ) (o n : Slot T) → n.generation ≡ o.generation + 1 → is_live frame opened n.used ≡ true → seen frame opened n (next_of p o) ≡ n.set
     seen_next frame opened p o n more live =
         ap (λ b. if (b && ((o.generation + 1) == n.generation)) && is_live frame opened n.used then n.set else None)
-          (eq-eqb number number refl)
+        (eq-eqb number number refl)
         ∙ ap (λ b. if b && is_live frame opened n.used then n.set else None)
-            (eq-eqb (o.generation + 1) n.generation (sym more))
+        (eq-eqb (o.generation + 1) n.generation (sym more))
         ∙ ap (λ b. if b then n.set else None) live
 
     pub given_next : (p : ℕ) (o n : Slot T) → n.generation ≡ o.generation + 1 → was_given n (next_of p o) ≡ true

@@ -64,7 +64,7 @@ module _ {L P S : Type 0} (means : Meaning L P S) (layout : ℕ) (generations : 
   pub own_removed :
       (old new : List (Slot (DescriptorSet S))) → Turns (is_kept_of layout) Vacates old new
       → ((p : ℕ) → (slot_at new p).layout ≡ layout
-         → (slot_at new p).layout_generation < removed_at layout generations layout)
+      → (slot_at new p).layout_generation < removed_at layout generations layout)
       → AreOwn means generations layouts old → AreOwn means (removed_at layout generations) fewer new
   own_removed old new turns past own p n x full at = elim (cases_eq n layout) [
     | inl e ↦ absurd (
@@ -97,10 +97,12 @@ counted_removed {T = T} layout generations layouts fewer counted there gone othe
   | inl e ↦ subst (λ n. IsCounted (removed_at layout generations n) (slot_at fewer n)) (sym e) (
       let same : (slot_at fewer layout).generation ≡ (slot_at layouts layout).generation = ap (λ (s : Slot T). s.generation) gone in
       let more : removed_at layout generations layout ≡ generations layout + 1 = ap (λ b. if b then generations layout + 1 else generations layout) (eq-eqb layout layout refl) in
-      let few = (counted layout).1 in
-      (one_less (is_some (slot_at layouts layout).set) (is_some (slot_at fewer layout).set) (generations layout)
-         (removed_at layout generations layout) (slot_at layouts layout).generation (slot_at fewer layout).generation
-         there (ap (λ (s : Slot T). is_some s.set) gone) more same (counted layout).0, omega arith))
+      let few = (counted layout).1 in (
+        one_less (is_some (slot_at layouts layout).set) (is_some (slot_at fewer layout).set) (generations layout)
+            (removed_at layout generations layout) (slot_at layouts layout).generation (slot_at fewer layout).generation
+            there (ap (λ (s : Slot T). is_some s.set) gone) more same (counted layout).0,
+        omega arith,
+      ))
   | inr ne ↦ subst (λ m. IsCounted m (slot_at fewer n)) (sym (removed_other layout generations n ne)) (subst (IsCounted (generations n)) (sym (others n ne)) (counted n))
 ]
 

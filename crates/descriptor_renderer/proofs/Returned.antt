@@ -34,7 +34,7 @@ module _ {S : Type 0} (name : S → ℕ) where
       (test : Slot (DescriptorSet S) → Bool) (xs : List (DescriptorSet S)) (s u : MutBor (SetTable (DescriptorSet S)))
       → Yields (GivesFrom test) s xs u → (t : Item)
       → count_of t (items_of name (sets_in (slots_of s.now)))
-        ≡ count_of t (items_of name xs) + count_of t (items_of name (sets_in (slots_of u.now)))
+      ≡ count_of t (items_of name xs) + count_of t (items_of name (sets_in (slots_of u.now)))
   given_count test xs s u y t =
       let h = given_weigh (weight t) test xs s u y in
       let a = counts t (sets_in (slots_of s.now)) in

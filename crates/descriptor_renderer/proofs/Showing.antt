@@ -98,7 +98,7 @@ module _ {T : Type 0} (frame : ℕ) (opened : Bool) where
       (generations : ℕ → ℕ) (number most : ℕ) (handles : List SetHandle) (old new : List (Slot T))
       → AreHeldOnce number old handles
       → ((i : ℕ) → i < length handles
-         → IsBack generations most new (slot_at old (place_at handles i)) (slot_at new (place_at handles i)))
+      → IsBack generations most new (slot_at old (place_at handles i)) (slot_at new (place_at handles i)))
       → ((p : ℕ) → ((i : ℕ) → i < length handles → place_at handles i ≢ p) → slot_at new p ≡ slot_at old p)
       → LoseNames handles (sets_of number frame opened old) (sets_of number frame opened new)
   freed_names generations number most handles old new once back rest =

@@ -165,9 +165,11 @@ impl<L: Drop, P: Drop, S: Drop, D: DescriptorDevice<L, P, S>> Renderer<L, P, S, 
         ensures only { IfErr result (λ error. error ≡ RenderError.NoLayout) }
         ensures stay { OnErr result ((slots_of self.new ≡ slots_of self.old)
             × (side_of self.new ≡ side_of self.old)) }
-        ensures rest { seen self.new ≡ record (seen self.old)
-            { layouts = layout_of self.new; slots = slots_of self.new;
-              generations = generations_of self.new } }
+        ensures rest { seen self.new ≡ record (seen self.old) {
+          layouts = layout_of self.new;
+          slots = slots_of self.new;
+          generations = generations_of self.new;
+        } }
     {
         match self.layouts.remove(layout) {
             Some(removed) => {

@@ -62,11 +62,11 @@ taken n v es fs found is p = by (position (nat_eq n) (keys_of es)) refl
         let entry : get_or es i (n, v) ≡ (n, v) = pair_at es i n v (n, v) f.within (eqb-true _ _ passes) (sym f.value ∙ found) in
         let cut : count_by p (live_sets_of (swap_remove es i (n, v))) + count_by p (live_set_of (get_or es i (n, v)) ∷ []) ≡ count_by p (live_sets_of es) = swap_counts p es i (n, v) f.within in
         ap (λ (l : List (ℕ × DescriptorTotalCount)). count_by p (live_sets_of l) + count_by p (live_set_of (n, v) ∷ []))
-          (is ∙ swap_remove_entry-found (nat_eq n) es i (n, v) at)
+        (is ∙ swap_remove_entry-found (nat_eq n) es i (n, v) at)
         ∙ ap
-            (λ (e : ℕ × DescriptorTotalCount).
-               count_by p (live_sets_of (swap_remove es i (n, v))) + count_by p (live_set_of e ∷ []))
-            (sym entry)
+        (λ (e : ℕ × DescriptorTotalCount).
+        count_by p (live_sets_of (swap_remove es i (n, v))) + count_by p (live_set_of e ∷ []))
+        (sym entry)
         ∙ cut
 
 -- sets of one name more than are gone are in the table, so one of the name is left

@@ -48,7 +48,7 @@ module _ {L P S : Type 0} (means : Meaning L P S) where
       (s : Side (Session L P S)) → IsReady means s → (k : Key) (i : ℕ) (e : Entry) (x : LiveSet)
       → slice_get ((state_on means s).books k).pools i ≡ Some e
       → (0 < live_in s.ledger.pools e.pool x → x.counts ≡ k.counts)
-        × (live_in s.ledger.pools e.pool x ≡ back_named (held_items means s) (state_on means s) e.pool x)
+      × (live_in s.ledger.pools e.pool x ≡ back_named (held_items means s) (state_on means s) e.pool x)
   nothing_else s ready k i e x at =
       let state = state_on means s in
       let agree = ready.agree.books in
@@ -113,12 +113,12 @@ module _ {L P S : Type 0} (means : Meaning L P S) where
       some = wants_some _ h.outcome;
       cause =
           subst (λ out. IsBecause means k count out marked (allocator_on old) (allocator_on new) error)
-            (sym (held_count old ready))
-            (subst
-               (λ load.
-                  IsBecause means k count (outstanding_of (allocator_of old.value)) load (allocator_on old)
-                    (allocator_on new) error)
-               (sym (held_load old ready)) h.cause);
+          (sym (held_count old ready))
+          (subst
+          (λ load.
+          IsBecause means k count (outstanding_of (allocator_of old.value)) load (allocator_on old)
+          (allocator_on new) error)
+          (sym (held_load old ready)) h.cause);
       sets = h.sets;
     }
 

@@ -13,7 +13,7 @@ use Rattle.descriptor_script.specs.declared.session.Session.{Session}
 module _ {L P S : Type 0} (means : Meaning L P S) where
   pub runs_more :
       (commands : List Command) (replies : List Reply) (command : Command) (reply : Reply)
-        (old mid new : Side (Session L P S))
+      (old mid new : Side (Session L P S))
       → RunsTo means commands replies old mid → StepsTo means command reply mid new → KeepsSession means mid new
       → RunsTo means (commands ++ command ∷ []) (replies ++ reply ∷ []) old new
   runs_more [] [] command reply old mid new run step keeps = (new, (subst (λ s. StepsTo means command reply s new) run step, subst (λ s. KeepsSession means s new) run keeps), refl)

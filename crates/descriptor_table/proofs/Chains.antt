@@ -149,10 +149,10 @@ module _ {T : Type 0} (slots : List (Slot T)) (next : List ℕ) (chains : List C
   pick_linked was after some within told =
       let d : Chain = record { first = after; count = c.count - 1 } in
       unlinked is_in slots next (chain_at chains) linked_all (lists_none T) lists_apart (chain_at (set chains k d)) k
-        (c.count - 1) c.first (used_for Taken was) (split_chain (chain_at chains k) c is some)
-        (ap (λ (d : Chain). walk d.count next d.first) (chain_set chains k d within)
-         ∙ ap (walk (c.count - 1) next) told)
-        (other_chains chains k d) (λ j. refl)
+      (c.count - 1) c.first (used_for Taken was) (split_chain (chain_at chains k) c is some)
+      (ap (λ (d : Chain). walk d.count next d.first) (chain_set chains k d within)
+      ∙ ap (walk (c.count - 1) next) told)
+      (other_chains chains k d) (λ j. refl)
 
   pub link_linked : (p : ℕ) (s : Slot T) → p < length slots → length next ≡ length slots → k < length chains → (slot_at slots p).used ≡ Taken → is_in k s ≡ true → AreLinked (set slots p s) (set next p c.first) (set chains k (record { first = p; count = c.count + 1 }))
   link_linked p s inside long within taken goes =

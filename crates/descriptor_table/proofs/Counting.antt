@@ -89,17 +89,17 @@ few_places (suc n) l once below =
     let a = without_length n l in
     let b = once n in
     let h =
-        few_places n (without n l)
-          (λ p.
-             elim (same_or p n) [
-               inl e ↦ subst (λ q. times q (without n l) ≤ 1) (sym e) (let z = without_self n l in omega arith)
-               | inr ne ↦ let z = without_times n p l ne in let o = once p in omega arith
-             ])
-          (λ p le.
-             elim (same_or p n) [
-               inl e ↦ subst (λ q. times q (without n l) ≡ 0) (sym e) (without_self n l)
-               | inr ne ↦ without_times n p l ne ∙ below p (omega arith)
-             ]) in
+    few_places n (without n l)
+    (λ p.
+    elim (same_or p n) [
+      | inl e ↦ subst (λ q. times q (without n l) ≤ 1) (sym e) (let z = without_self n l in omega arith)
+      | inr ne ↦ let z = without_times n p l ne in let o = once p in omega arith
+    ])
+    (λ p le.
+    elim (same_or p n) [
+      | inl e ↦ subst (λ q. times q (without n l) ≡ 0) (sym e) (without_self n l)
+      | inr ne ↦ without_times n p l ne ∙ below p (omega arith)
+    ]) in
     omega arith
 
 -- a list that a place is not in is the same, whatever its next is

@@ -250,21 +250,21 @@ module _ {T : Type 0} (slots : List (Slot T)) where
           | inr ne ↦ (let a = times_there q p (firsts frames) ne in let b = firsts_once frames q first_waits has.falls in omega arith)
         ] in
         let past : (q : ℕ) → length slots ≤ q → times q l ≡ 0 =
-            λ q le.
-              times_there q p (firsts frames) (λ e. omega arith)
-              ∙ no_first frames q first_waits
-                  (λ i lt.
-                     ap (is_of (frame_at frames i).frame)
-                       (get_or_past slots q
-                          (record {
-                             generation = 0;
-                             layout = 0;
-                             layout_generation = 0;
-                             used = Taken;
-                             leaves = false;
-                             set = None
-                           })
-                          le)) in
+        λ q le.
+        times_there q p (firsts frames) (λ e. omega arith)
+        ∙ no_first frames q first_waits
+        (λ i lt.
+        ap (is_of (frame_at frames i).frame)
+        (get_or_past slots q
+        (record {
+          generation = 0;
+          layout = 0;
+          layout_generation = 0;
+          used = Taken;
+          leaves = false;
+          set = None;
+        })
+        le)) in
         let few = few_places (length slots) l once past in
         let size = firsts_length frames in
         omega arith
@@ -274,7 +274,7 @@ module _ {T : Type 0} (slots : List (Slot T)) where
         (i p : ℕ) (c : FrameChain) (s : Slot T) → i < length frames → c ≡ frame_at frames i → p < length slots
         → length next ≡ length slots → (slot_at slots p).used ≡ Taken → is_of c.frame s ≡ true
         → AreFramed (set slots p s) (set next p c.first)
-            (set frames i (record { frame = c.frame; first = p; count = c.count + 1 }))
+        (set frames i (record { frame = c.frame; first = p; count = c.count + 1 }))
     join_framed i p c s lt is inside long taken goes =
         let d : FrameChain = record { frame = c.frame; first = p; count = c.count + 1 } in
         let same : d.frame ≡ (frame_at frames i).frame = ap (λ (e : FrameChain). e.frame) is in
@@ -306,10 +306,10 @@ module _ {T : Type 0} (slots : List (Slot T)) where
         let same : d.frame ≡ (frame_at frames i).frame = ap (λ (e : FrameChain). e.frame) is in
         let here = subst (λ (e : FrameChain). chain_of frames e.frame ≡ record { first = e.first; count = e.count - 1 + 1 }) (sym is) (head_of i lt) in
         unlinked is_of slots next (chain_of frames) framed (frames_none T) frames_apart (chain_of (set frames i d))
-          c.frame (c.count - 1) c.first (used_for Taken was) here
-          (ap (λ (e : Chain). walk e.count next e.first) (set_here frames i d has.falls lt same)
-           ∙ ap (walk (c.count - 1) next) told)
-          (λ g ne. set_others frames i d g same ne) (λ f. refl)
+        c.frame (c.count - 1) c.first (used_for Taken was) here
+        (ap (λ (e : Chain). walk e.count next e.first) (set_here frames i d has.falls lt same)
+        ∙ ap (walk (c.count - 1) next) told)
+        (λ g ne. set_others frames i d g same ne) (λ f. refl)
 
     -- no set is due if the earliest frame is later
     pub none_due : (frame : ℕ) → ((i : ℕ) → i < length frames → frame < (frame_at frames i).frame) → (q : ℕ) → is_due frame (slot_at slots q) ≡ false
@@ -339,9 +339,9 @@ module _ {T : Type 0} (slots : List (Slot T)) where
       let size = last_length frames c in
       let at = last_at frames c in
       let here : chain_of (frames ++ c ∷ []) c.frame ≡ record { first = c.first; count = 0 + 1 } =
-          subst (λ (e : FrameChain). chain_of (frames ++ c ∷ []) e.frame ≡ links_of e) at
-            (chain_here (frames ++ c ∷ []) (length frames) has'.falls (omega arith))
-          ∙ (λ j. record { first = c.first; count = one j }) in
+      subst (λ (e : FrameChain). chain_of (frames ++ c ∷ []) e.frame ≡ links_of e) at
+      (chain_here (frames ++ c ∷ []) (length frames) has'.falls (omega arith))
+      ∙ (λ j. record { first = c.first; count = one j }) in
       let gone : chain_of frames c.frame ≡ record { first = 0; count = 0 } = none_of frames c.frame (λ i lt e. let h = has'.falls i (length frames) lt (omega arith) in let a = ap (λ (d : FrameChain). d.frame) (front_at frames c i lt) in let b = ap (λ (d : FrameChain). d.frame) at in omega arith) in
       unlinked is_of slots next (chain_of (frames ++ c ∷ [])) framed' (frames_none T) frames_apart (chain_of frames) c.frame 0 c.first (used_for Taken was) here (ap (λ (e : Chain). walk e.count next e.first) gone) (λ g ne. sym (last_gone frames c g ne)) (λ f. refl)
 

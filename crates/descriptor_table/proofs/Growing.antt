@@ -45,9 +45,9 @@ module _ {T : Type 0} where
   chains_grown :
       (test : ℕ → Slot T → Bool) (slots : List (Slot T)) (next : List ℕ) (heads : ℕ → Chain) (s : Slot T)
       → ((k : ℕ)
-         → test k s
-           ≡ test k
-               (record { generation = 0; layout = 0; layout_generation = 0; used = Taken; leaves = false; set = None }))
+      → test k s
+      ≡ test k
+      (record { generation = 0; layout = 0; layout_generation = 0; used = Taken; leaves = false; set = None }))
       → HasChains test slots next heads → HasChains test (slots ++ s ∷ []) (next ++ 0 ∷ []) heads
   chains_grown test slots next heads s same h = λ k q. ap (times q) (walk_grown (heads k).count next (heads k).first) ∙ h k q ∙ ap (λ b. if b then 1 else 0) (sym (grown (test k) slots s q (same k)))
 
@@ -76,16 +76,16 @@ module _ {T : Type 0} where
   pub puts_last :
       (generations : ℕ → ℕ) (layout : ℕ) (x : T) (old new : List (Slot T)) (p : ℕ) → p ≡ length old
       → new
-        ≡ old
-          ++ record {
-               generation = 0;
-               layout = layout;
-               layout_generation = generations layout;
-               used = Taken;
-               leaves = false;
-               set = Some x
-             }
-          ∷ []
+      ≡ old
+      ++ record {
+        generation = 0;
+        layout = layout;
+        layout_generation = generations layout;
+        used = Taken;
+        leaves = false;
+        set = Some x;
+      }
+      ∷ []
       → ((q : ℕ) → is_usable (slot_at old q) ≡ false) → Puts generations layout x p old new
   puts_last generations layout x old new p at is full =
       let s : Slot T = record { generation = 0; layout = layout; layout_generation = generations layout; used = Taken; leaves = false; set = Some x } in

@@ -63,7 +63,6 @@ same_default (x ∷ l) zero d e lt = refl
 same_default (x ∷ l) (suc i) d e lt = same_default l i d e (omega arith)
 
 module _ {T : Type 0} where
-
   -- what is known of a handle with a held set
   pub record IsHeld (number : ℕ) (slots : List (Slot T)) (h : SetHandle) : Type 0 where
     pub renderer : h.renderer ≡ number

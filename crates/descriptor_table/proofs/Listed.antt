@@ -71,20 +71,20 @@ module _ {T : Type 0} where
   pub lists_few : (t : Slot T → Bool) (slots : List (Slot T)) (l : List ℕ) → t (record { generation = 0; layout = 0; layout_generation = 0; used = Taken; leaves = false; set = None }) ≡ false → Lists t slots l → length l ≤ length slots
   lists_few t slots l none h =
       few_places (length slots) l (λ p. subst (λ n. n ≤ 1) (sym (h p)) (one_few (t (slot_at slots p))))
-        (λ p past.
-           h p
-           ∙ ap (λ x. one (t x))
-               (get_or_past slots p
-                  (record {
-                     generation = 0;
-                     layout = 0;
-                     layout_generation = 0;
-                     used = Taken;
-                     leaves = false;
-                     set = None
-                   })
-                  past)
-           ∙ ap one none)
+      (λ p past.
+      h p
+      ∙ ap (λ x. one (t x))
+      (get_or_past slots p
+      (record {
+        generation = 0;
+        layout = 0;
+        layout_generation = 0;
+        used = Taken;
+        leaves = false;
+        set = None;
+      })
+      past)
+      ∙ ap one none)
 
   -- a slot that does not pass the test is not in the list
   pub not_listed : (t : Slot T → Bool) (slots : List (Slot T)) (l : List ℕ) (p : ℕ) → Lists t slots l → t (slot_at slots p) ≡ false → times p l ≡ 0
@@ -129,10 +129,10 @@ module _ {T : Type 0} where
           let is = first_in k m p e in
           λ j. elim (same_or j k) [
             | inl same ↦ subst (λ j. Lists (test j) (set slots p s) (walk (heads' j).count next (heads' j).first))
-              (sym same)
-              (subst (λ l. Lists (test k) (set slots p s) l) (sym rest)
-                 (lists_pop (test k) slots p s (walk m next (get_or next p 0))
-                    (subst (λ l. Lists (test k) slots l) (walk_first k m p e) (h k)) inside (out k)))
+                (sym same)
+                (subst (λ l. Lists (test k) (set slots p s) l) (sym rest)
+                (lists_pop (test k) slots p s (walk m next (get_or next p 0))
+                (subst (λ l. Lists (test k) slots l) (walk_first k m p e) (h k)) inside (out k)))
             | inr ne ↦ subst (λ (d : Chain). Lists (test j) (set slots p s) (walk d.count next d.first)) (sym (others j ne)) (lists_other (test j) slots p s (walk (heads j).count next (heads j).first) (h j) inside (out j ∙ sym (apart j k (slot_at slots p) is ne)))
           ]
 
@@ -160,17 +160,17 @@ module _ {T : Type 0} where
           let places : walk (n + 1) (set next p f) p ≡ p ∷ walk n next f = ap (λ i. walk i (set next p f) p) (add-one n) ∙ ap (λ g. p ∷ walk n (set next p f) g) told ∙ ap (λ l. p ∷ l) (subst (λ (d : Chain). walk d.count (set next p f) d.first ≡ walk d.count next d.first) e (same_walk k)) in
           λ j. elim (same_or j k) [
             | inl same ↦ subst
-              (λ j. Lists (test j) (set slots p s) (walk (heads' j).count (set next p f) (heads' j).first)) (sym same)
-              (subst (λ (d : Chain). Lists (test k) (set slots p s) (walk d.count (set next p f) d.first)) (sym here)
-                 (subst (λ l. Lists (test k) (set slots p s) l) (sym places)
-                    (lists_push (test k) slots p s (walk n next f)
-                       (subst (λ (d : Chain). Lists (test k) slots (walk d.count next d.first)) e (h k)) inside (out k)
-                       now)))
+                (λ j. Lists (test j) (set slots p s) (walk (heads' j).count (set next p f) (heads' j).first)) (sym same)
+                (subst (λ (d : Chain). Lists (test k) (set slots p s) (walk d.count (set next p f) d.first)) (sym here)
+                (subst (λ l. Lists (test k) (set slots p s) l) (sym places)
+                (lists_push (test k) slots p s (walk n next f)
+                (subst (λ (d : Chain). Lists (test k) slots (walk d.count next d.first)) e (h k)) inside (out k)
+                now)))
             | inr ne ↦ subst (λ (d : Chain). Lists (test j) (set slots p s) (walk d.count (set next p f) d.first))
-              (sym (others j ne))
-              (subst (λ l. Lists (test j) (set slots p s) l) (sym (same_walk j))
-                 (lists_other (test j) slots p s (walk (heads j).count next (heads j).first) (h j) inside
-                    (apart j k s now ne ∙ sym (out j))))
+                (sym (others j ne))
+                (subst (λ l. Lists (test j) (set slots p s) l) (sym (same_walk j))
+                (lists_other (test j) slots p s (walk (heads j).count next (heads j).first) (h j) inside
+                (apart j k s now ne ∙ sym (out j))))
           ]
 
       -- a slot began a list that had none
@@ -181,10 +181,10 @@ module _ {T : Type 0} where
       begun apart heads' k p s inside none here others out now =
           λ j. elim (same_or j k) [
             | inl same ↦ subst (λ j. Lists (test j) (set slots p s) (walk (heads' j).count next (heads' j).first))
-              (sym same)
-              (subst (λ (d : Chain). Lists (test k) (set slots p s) (walk d.count next d.first)) (sym here)
-                 (lists_push (test k) slots p s []
-                    (subst (λ n. Lists (test k) slots (walk n next (heads k).first)) none (h k)) inside (out k) now))
+                (sym same)
+                (subst (λ (d : Chain). Lists (test k) (set slots p s) (walk d.count next d.first)) (sym here)
+                (lists_push (test k) slots p s []
+                (subst (λ n. Lists (test k) slots (walk n next (heads k).first)) none (h k)) inside (out k) now))
             | inr ne ↦ subst (λ (d : Chain). Lists (test j) (set slots p s) (walk d.count next d.first)) (sym (others j ne)) (lists_other (test j) slots p s (walk (heads j).count next (heads j).first) (h j) inside (apart j k s now ne ∙ sym (out j)))
           ]
 

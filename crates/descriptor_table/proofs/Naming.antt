@@ -49,12 +49,12 @@ module _ {T : Type 0} where
 
   -- sets that were held have no handle any more
   module _ (number frame : ℕ) (opened : Bool) (handles : List SetHandle) (old new : List (Slot T))
-    (once : AreHeldOnce number old handles)
-    (quiet : (i : ℕ) → i < length handles → is_live frame opened (slot_at new (place_at handles i)).used ≡ false)
-    (generation :
-         (i : ℕ) → i < length handles
-         → (slot_at new (place_at handles i)).generation ≡ (slot_at old (place_at handles i)).generation)
-    (rest : (p : ℕ) → ((i : ℕ) → i < length handles → place_at handles i ≢ p) → slot_at new p ≡ slot_at old p) where
+      (once : AreHeldOnce number old handles)
+      (quiet : (i : ℕ) → i < length handles → is_live frame opened (slot_at new (place_at handles i)).used ≡ false)
+      (generation :
+      (i : ℕ) → i < length handles
+      → (slot_at new (place_at handles i)).generation ≡ (slot_at old (place_at handles i)).generation)
+      (rest : (p : ℕ) → ((i : ℕ) → i < length handles → place_at handles i ≢ p) → slot_at new p ≡ slot_at old p) where
     abbrev zero_handle : SetHandle
     zero_handle = record { renderer = 0; place = 0; generation = 0 }
 

@@ -32,15 +32,15 @@ module _ {T : Type 0} where
       (generations : ℕ → ℕ) (layout p : ℕ) (x : T) (old mid new : List (Slot T)) → p < length old
       → is_usable (slot_at old p) ≡ true → mid ≡ with_use p Taken old
       → new
-        ≡ set mid p
-            (record {
-               generation = (slot_at mid p).generation;
-               layout = layout;
-               layout_generation = generations layout;
-               used = Taken;
-               leaves = false;
-               set = Some x
-             })
+      ≡ set mid p
+      (record {
+        generation = (slot_at mid p).generation;
+        layout = layout;
+        layout_generation = generations layout;
+        used = Taken;
+        leaves = false;
+        set = Some x;
+      })
       → Puts generations layout x p old new
   puts_again generations layout p x old mid new within was left is =
       let o = slot_at old p in

@@ -211,10 +211,10 @@ module _ {T : Type 0} where
           let left : now ≡ with_use p Taken now = sym (same_use now p taken.0 within) in
           let out : (k : ℕ) → is_in k (slot_at now p) ≡ false = (λ k. ap (λ u. in_list k u (slot_at now p).layout (slot_at now p).generation (is_some (slot_at now p).set)) taken.0) in
           turn_step is_taken (IsSettled generations most) old now new p
-            (used_for (next_use generations most now p) (slot_at now p)) turning within e
-            (settled_set generations most now now new p within out left all)
-            (settled_grows generations most now now new p within out left all) (settled_not_taken generations most now)
-            (settled_here generations most now now new p within out left all)
+          (used_for (next_use generations most now p) (slot_at now p)) turning within e
+          (settled_set generations most now now new p within out left all)
+          (settled_grows generations most now now new p within out left all) (settled_not_taken generations most now)
+          (settled_here generations most now now new p within out left all)
 
   pub wait_one : (frame : ℕ) (old now new : List (Slot T)) (p : ℕ) → Turning is_taken (WaitsFor frame) old now → p < length now → new ≡ if_taken p (Waits frame) now → TurnsOne is_taken (WaitsFor frame) old now new p
   wait_one frame old now new p turning within is = turn_one is_taken (WaitsFor frame) old now new p (Waits frame) turning within is step refl

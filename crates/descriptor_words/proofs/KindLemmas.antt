@@ -97,10 +97,10 @@ counts_kept :
     (words : List (List ℕ)) (counts : List ℕ) (word : List ℕ) (place value : ℕ) → GiveCounts words counts
     → IsKindAt place (kind_of word) → ¬ IsAgain words word
     → All
-        (λ earlier.
-           (other : ℕ) → IsKindAt other (kind_of earlier)
-           → get_or (set counts place value) other 0 ≡ value_of (count_in earlier))
-        words
+    (λ earlier.
+    (other : ℕ) → IsKindAt other (kind_of earlier)
+    → get_or (set counts place value) other 0 ≡ value_of (count_in earlier))
+    words
 counts_kept words counts word place value give is new k d inside other at =
     let earlier = get_or words k d in
     let apart : ¬ (other ≡ place) = λ same. new (subst (Contains (map kind_of words)) (sym (one_name place other (kind_of word) (kind_of earlier) is at same)) (contains_map kind_of words earlier (Contains-get_or words k d inside))) in
@@ -114,13 +114,13 @@ counts_more words counts word place give all is new =
     record {
       named =
           All-push
-            (λ earlier.
-               (other : ℕ) → IsKindAt other (kind_of earlier)
-               → get_or (set counts place value) other 0 ≡ value_of (count_in earlier))
-            words word (counts_kept words counts word place value give is new)
-            (λ other at.
-               ap (λ p. get_or (set counts place value) p 0) (same_place other place (kind_of word) at is)
-               ∙ get_or-set_same counts place value 0 inside);
+          (λ earlier.
+          (other : ℕ) → IsKindAt other (kind_of earlier)
+          → get_or (set counts place value) other 0 ≡ value_of (count_in earlier))
+          words word (counts_kept words counts word place value give is new)
+          (λ other at.
+          ap (λ p. get_or (set counts place value) p 0) (same_place other place (kind_of word) at is)
+          ∙ get_or-set_same counts place value 0 inside);
       unnamed = λ other name at none. (
           let apart : ¬ (other ≡ place) = λ same. none (rw more (subst (Contains (map kind_of words ++ kind_of word ∷ [])) (one_name place other (kind_of word) name is at same) (Contains-push (map kind_of words) (kind_of word)))) in
           get_or-set_other counts place other value 0 apart ∙ give.unnamed other name at (λ had. none (rw more (Contains-append_left (map kind_of words) (kind_of word ∷ []) name had))));

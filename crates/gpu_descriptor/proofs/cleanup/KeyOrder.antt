@@ -51,7 +51,7 @@ keys_left everywhere stays (r ∷ rows) says =
 -- the keys that still have pools are left, in their order
 pub keys_cleaned :
     (everywhere : Bool) {P : Type 0} (name : P → ℕ) (a b : Allocations P) (l m : Ledger)
-      (es now fs : List (BucketKey × DescriptorBucket P))
+    (es now fs : List (BucketKey × DescriptorBucket P))
     → a.table ≡ map row_of es → b.table ≡ map row_of fs → HasDistinctKeys (rows_in name es)
     → rows_in name now ≡ map (cleared_row everywhere) (rows_in name es) → fs ≡ filter (λ e. has_pools e.1) now
     → LosesEmpty everywhere (state_of name a l) (state_of name b m) → keys_of b ≡ keys_with_pools (state_of name b m) (keys_of a)
@@ -60,10 +60,10 @@ keys_cleaned everywhere {P} name a b l m es now fs was is distinct rows kept cle
     let stays : Key → Bool = λ k. not (length (t.books k).pools == 0) in
     let says : (i : ℕ) (r : Key × Bucket) → slice_get (rows_in name es) i ≡ Some r → stays r.0 ≡ has_row (cleared_row everywhere r) = λ i r at.
     ap (λ (c : Bucket). not (length c.pools == 0))
-      (clean.books r.0
-       ∙ ap (λ (b : Bucket). with_pools b (left_of everywhere b.pools))
-           (ap (λ (x : Rows). books_of x r.0) (ap (map (named_row name)) was ∙ rows_are name es)
-            ∙ row_books (rows_in name es) i r distinct at))
+    (clean.books r.0
+    ∙ ap (λ (b : Bucket). with_pools b (left_of everywhere b.pools))
+    (ap (λ (x : Rows). books_of x r.0) (ap (map (named_row name)) was ∙ rows_are name es)
+    ∙ row_books (rows_in name es) i r distinct at))
     ∙ ap (λ (es : List Entry). not (length es == 0)) (pools_with r.1 (left_of everywhere r.1.pools)) in
     keys_are b fs is ∙ ap stored_keys kept ∙ sym (first_keys everywhere name (filter (λ e. has_pools e.1) now))
     ∙ ap (map (λ (r : Key × Bucket). r.0)) (rows_left name now ∙ ap (filter has_row) rows) ∙ keys_left everywhere stays (rows_in name es) says ∙ ap (filter stays) (first_keys everywhere name es ∙ sym (keys_are a es was))

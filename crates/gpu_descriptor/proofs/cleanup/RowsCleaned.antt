@@ -217,14 +217,14 @@ module _ (everywhere : Bool) where
         let new_is : state_of name new k ≡ record { books = books_of (rows_in name (filter (λ e. has_pools e.1) now)); ledger = pools_less (rows_in name es) l.pools } =
         state_is new k fs refl ∙ (λ i. record { books = books_of (rows_in name (kept i)); ledger = (pools i).pools }) in
         subst (λ t. LosesEmpty everywhere (state_of name a l) t) (sym new_is)
-          (subst
-             (λ s.
-                LosesEmpty everywhere s
-                  (record {
-                     books = books_of (rows_in name (filter (λ e. has_pools e.1) now));
-                     ledger = pools_less (rows_in name es) l.pools
-                   }))
-             (sym (state_is a l es is)) (is_cleaned name now (rows_in name es) l.pools distinct rows))
+        (subst
+        (λ s.
+        LosesEmpty everywhere s
+        (record {
+          books = books_of (rows_in name (filter (λ e. has_pools e.1) now));
+          ledger = pools_less (rows_in name es) l.pools;
+        }))
+        (sym (state_is a l es is)) (is_cleaned name now (rows_in name es) l.pools distinct rows))
 
     pub first_keys : (es : List (BucketKey × DescriptorBucket P)) → map (λ (r : Key × Bucket). r.0) (rows_in name es) ≡ map (λ e. key_of e.0) es
     first_keys [] = refl
@@ -254,7 +254,7 @@ module _ {P : Type 0} where
 
   pub counted_put :
       (limit marked room left out : ℕ) (es : List (BucketKey × DescriptorBucket P)) (i : ℕ) (k : BucketKey)
-        (v w : DescriptorBucket P)
+      (v w : DescriptorBucket P)
       → slice_get es i ≡ Some (k, v) → w.total ≡ v.total → left + stored_load_in (k, w) ≡ room + stored_load_in (k, v)
       → IsConsistent limit marked room out es → IsConsistent limit marked left out (set_value_at es i w)
   counted_put limit marked room left out es i k v w at same moved counted = grind (arith, rows_load, rows_out, rows_pool_load, sum_put)

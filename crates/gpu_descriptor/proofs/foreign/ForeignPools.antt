@@ -116,14 +116,14 @@ foreign_through s t u first second name pool foreign live = (let kept = first na
 
 pub freed_foreign :
     {L P S : Type 0} (means : Meaning L P S) (sets : List (DescriptorSet S)) (calls : ℕ) (old new : Allocations P)
-      (before after : Ledger)
+    (before after : Ledger)
     → GivesBack means sets calls (side old before) (side new after)
     → KeepsForeign (state_of means.pool_name old before) (state_of means.pool_name new after)
 freed_foreign means sets calls old new before after back = subst (KeepsForeign (state_of means.pool_name old before)) (sym back.state) (released_foreign (items_of means.set_name sets) (state_of means.pool_name old before))
 
 pub freed_loses :
     {L P S : Type 0} (means : Meaning L P S) (sets : List (DescriptorSet S)) (calls : ℕ) (old new : Allocations P)
-      (before after : Ledger)
+    (before after : Ledger)
     → GivesBack means sets calls (side old before) (side new after)
     → KeepsForeign (state_of means.pool_name new after) (state_of means.pool_name old before)
 freed_loses means sets calls old new before after back = subst (λ t. KeepsForeign t (state_of means.pool_name old before)) (sym back.state) (released_loses (items_of means.set_name sets) (state_of means.pool_name old before))

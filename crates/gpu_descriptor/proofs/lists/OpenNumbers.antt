@@ -111,9 +111,9 @@ open_gains first xs i (suc m) place at h within p =
     let low : AreBetween first (first + i) (before first xs i) = subst (λ (n : ℕ). AreBetween first (first + n) (before first xs i)) (long_take xs i 0 at) (open_between first (take i xs)) in
     let high : AreBetween (first + i) (first + suc i + length (drop (suc i) xs)) (appended first xs i) = wider (first + i) (first + suc i) _ _ (appended first xs i) (omega arith) (omega arith) (open_between (first + suc i) (drop (suc i) xs)) in
     let ends : place ≡ length (before first xs i) =
-        part_ends first (first + suc i + length (drop (suc i) xs)) (first + i) (before first xs i) (appended first xs i)
-          place low high (let e = ap length is in omega arith)
-          (subst (λ (l : List ℕ). IsPartitionPoint (λ x. x < first + i) (λ x. first + i ≤ x) l place) is p) in
+    part_ends first (first + suc i + length (drop (suc i) xs)) (first + i) (before first xs i) (appended first xs i)
+    place low high (let e = ap length is in omega arith)
+    (subst (λ (l : List ℕ). IsPartitionPoint (λ x. x < first + i) (λ x. first + i ≤ x) l place) is p) in
     grind (arith, common_steps, insert_between, one_up, open_set)
 
 -- ---- the newest open pool

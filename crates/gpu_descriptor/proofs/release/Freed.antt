@@ -137,9 +137,9 @@ module _ {L P S : Type 0} (means : Meaning L P S) where
     appended first xs y zs rest t a b = subst (λ vs. Yields steps first vs t) (append_assoc xs (y ∷ []) zs) (both steps (xs ++ y ∷ []) zs first rest t a b)
 
     module _ (first : T) (old : Allocations P) (before : Ledger) (now : Allocations P) (mid : Ledger)
-      (x : DescriptorSet S) (rest : T) (agree : Agree (state_of means.pool_name old before))
-      (out : HoldsAlong steps first (λ xs. AreOutstanding (items xs) (state_of means.pool_name old before)))
-      (r : Freed first old before now mid (Some x) rest) where
+        (x : DescriptorSet S) (rest : T) (agree : Agree (state_of means.pool_name old before))
+        (out : HoldsAlong steps first (λ xs. AreOutstanding (items xs) (state_of means.pool_name old before)))
+        (r : Freed first old before now mid (Some x) rest) where
       -- what is to come is outstanding together with what came
       all_out : (zs : List (DescriptorSet S)) (t : T) → Yields steps rest zs t → AreOutstanding (items r.sets ++ items (x ∷ zs)) (state_of means.pool_name old before)
       all_out zs t z = subst (λ m. AreOutstanding m (state_of means.pool_name old before)) (items-append r.sets (x ∷ zs)) (out (r.sets ++ x ∷ zs) t (appended first r.sets x zs rest t r.comes.0 z))

@@ -49,9 +49,9 @@ module _ {P S : Type 0} (name : P → ℕ) (set_name : S → ℕ) (a : Allocatio
           let k = x.key.is in
           let some : IsSome (lookup test es) = rw found refl in
           let books : (state_of name new after).books ≡ put_books s.books k (bucket_of name w) =
-              ap (λ (x : List (BucketKey × DescriptorBucket P)). books_in name (map row_of x)) wrote
-              ∙ fun_ext (written name test k same es w some)
-              ∙ ap (λ (f : Key → Bucket). put_books f k (bucket_of name w)) (sym books_are) in
+          ap (λ (x : List (BucketKey × DescriptorBucket P)). books_in name (map row_of x)) wrote
+          ∙ fun_ext (written name test k same es w some)
+          ∙ ap (λ (f : Key → Bucket). put_books f k (bucket_of name w)) (sym books_are) in
           let b = bucket_back (s.books k) here.place (length (names_of set_name (x ∷ xs))) here.entry in
           let pools : after.pools ≡ trimmed_pools b (taken_from l.pools here.entry.pool (live_sets k.counts (names_of set_name (x ∷ xs)))) = ap (λ (m : Ledger). m.pools) ledger ∙ ap (trimmed_pools b) (release_pools here.entry.pool (live_sets k.counts (names_of set_name (x ∷ xs))) l) in
           let left : state_of name new after ≡ record { books = put_books s.books k (bucket_of name w); ledger = after.pools } = λ i. record { books = books i; ledger = after.pools } in

@@ -104,7 +104,7 @@ module _ {P S : Type 0} (name : P → ℕ) (set_name : S → ℕ) (a : Allocatio
     -- so a run by the id is one by the key
     pub ends_at :
         {T : Type 0} (steps : T → Option (DescriptorSet S) → T → Type 0) (x : DescriptorSet S) (given left : T)
-          (xs : List (DescriptorSet S)) (ahead : Option (DescriptorSet S))
+        (xs : List (DescriptorSet S)) (ahead : Option (DescriptorSet S))
         → HoldsAlong steps given (λ zs. AreOutstanding (items_of set_name (x ∷ zs)) s)
         → EndsRun steps (at_place id n) given xs ahead left → EndsRun steps (lies_at k n) given xs ahead left
     ends_at steps x given left xs ahead out came = (

@@ -32,7 +32,7 @@ rest_less :
     (live : LiveSet → ℕ) (a : ℕ) (lies : Item → Bool) (m : List Item) → HasSize live a
     → ((name : LiveSet) → count_by (λ t. lies t && (set_eq (set_of t) name)) m ≤ live name)
     → (count_by lies m ≤ a)
-      × HasSize (λ name. live name - count_by (λ t. lies t && (set_eq (set_of t) name)) m) (a - count_by lies m)
+    × HasSize (λ name. live name - count_by (λ t. lies t && (set_eq (set_of t) name)) m) (a - count_by lies m)
 rest_less live a lies m size fits =
     let part : List LiveSet = map (λ (t : Item). set_of t) (filter lies m) in
     let long : length part ≡ count_by lies m = length-map (filter lies m) (λ (t : Item). set_of t) ∙ length-filter lies m in
@@ -55,7 +55,7 @@ pub size_less :
     (live : LiveSet → ℕ) (a : ℕ) (lies : Item → Bool) (m : List Item) → ∥ HasSize live a ∥₁
     → ((name : LiveSet) → count_by (λ t. lies t && (set_eq (set_of t) name)) m ≤ live name)
     → (count_by lies m ≤ a)
-      × ∥ HasSize (λ name. live name - count_by (λ t. lies t && (set_eq (set_of t) name)) m) (a - count_by lies m) ∥₁
+    × ∥ HasSize (λ name. live name - count_by (λ t. lies t && (set_eq (set_of t) name)) m) (a - count_by lies m) ∥₁
 size_less live a lies m some fits = (∥∥₁_elim some (search props) (λ size. (rest_less live a lies m size fits).0), ∥∥₁_map some (λ size. (rest_less live a lies m size fits).1))
 
 -- where a name is left, a set is left
@@ -82,7 +82,7 @@ pub back_named-is :
     (m : List Item) (s : State) → Agree s → AreOutstanding m s → (k : Key) (i : ℕ) (e : Entry)
     → entry_at (s.books k) i ≡ Some e → (name : ℕ)
     → back_named m s e.pool (record { name = name; counts = k.counts })
-      ≡ count_of (record { key = k; id = (s.books k).id; number = i; name = name }) m
+    ≡ count_of (record { key = k; id = (s.books k).id; number = i; name = name }) m
 back_named-is m s agree out k i e at name =
     let x : LiveSet = record { name = name; counts = k.counts } in
     let u : Item = record { key = k; id = (s.books k).id; number = i; name = name } in

@@ -19,7 +19,7 @@ module _ {T S : Type 0} (steps : T → Option (DescriptorSet S) → T → Type 0
           (x : DescriptorSet S) (b : Bool) → at_place s.id s.number x ≡ b
           → Looks steps can left s.source.now s.ahead.now (Some x) t.source.now
           → MatchBool b ((Some y ≡ Some x.raw) × (t.ahead.now ≡ None) × (t.count ≡ s.count + 1))
-              ((Some y ≡ None) × (t.ahead.now ≡ Some x) × (t.count ≡ s.count))
+          ((Some y ≡ None) × (t.ahead.now ≡ Some x) × (t.count ≡ s.count))
           → Gave s y t
       some x true e l m = record { item = x; looks = l; raw = (cc); place = e; ahead = m.1; count = m.2 }
       some x false e l m = let a = m.0 in (cc)

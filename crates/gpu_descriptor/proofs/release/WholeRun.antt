@@ -172,8 +172,8 @@ module _ {S : Type 0} (name : S → ℕ) where
       → (c : Bucket) (pools : ℕ → Option Pool)
       → c ≡ trimmed_bucket 1 (bucket_back (s.books x.key.is) i (length (names_of name (x ∷ xs))) e)
       → pools
-        ≡ trimmed_pools (bucket_back (s.books x.key.is) i (length (names_of name (x ∷ xs))) e)
-            (taken_from s.ledger e.pool (live_sets x.key.is.counts (names_of name (x ∷ xs))))
+      ≡ trimmed_pools (bucket_back (s.books x.key.is) i (length (names_of name (x ∷ xs))) e)
+      (taken_from s.ledger e.pool (live_sets x.key.is.counts (names_of name (x ∷ xs))))
       → ◌≡◌ {A = State} (record { books = put_books s.books x.key.is c; ledger = pools }) (released (items_of name (x ∷ xs)) s)
   whole_run s agree x xs have i e at named c pools is are =
       let k = x.key.is in

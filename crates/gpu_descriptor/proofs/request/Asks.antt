@@ -54,11 +54,11 @@ pub given :
     (k : Key) (wanted : ℕ) (names : List ℕ) (e : Entry) (l m : Ledger) → 0 < min wanted e.available
     → length names ≡ min wanted e.available → m ≡ after_alloc e.pool (live_sets k.counts names) l
     → IsAsked k wanted names e
-        (record e {
-           allocated = e.allocated + min wanted e.available;
-           available = e.available - min wanted e.available
-         })
-        l m
+    (record e {
+      allocated = e.allocated + min wanted e.available;
+      available = e.available - min wanted e.available;
+    })
+    l m
 given k wanted names e l m some many is = record {
   refused = false;
   refusing = λ r. absurd (cc);
@@ -80,13 +80,13 @@ refuses k wanted error e l m some pool_error is = record {
   pools =
       ap (λ (x : Ledger). x.pools) is
       ∙ ap (λ (f : Pool → Pool). on_pool e.pool f l.pools)
-          (fun_ext
-             (λ (p : Pool).
-                λ i.
-                  record p {
-                    live = fun_ext (λ (x : LiveSet). (let a : p.live x ≡ p.live x + 0 = omega arith in a)) i;
-                    refusals = (let a : p.refusals + pool_refusals error ≡ p.refusals + 1 = omega arith in a) i
-                  }));
+      (fun_ext
+      (λ (p : Pool).
+      λ i.
+      record p {
+        live = fun_ext (λ (x : LiveSet). (let a : p.live x ≡ p.live x + 0 = omega arith in a)) i;
+        refusals = (let a : p.refusals + pool_refusals error ≡ p.refusals + 1 = omega arith in a) i;
+      }));
   counters = ap (λ (x : Ledger). x.counters) is ∙ (let t = asks_some e.available wanted some in rw t (refused_counters error l.counters pool_error));
 }
 

@@ -88,9 +88,11 @@ sized_more most k room t w [] f left total wanted all room_is total_is wanted_is
     let b : wanted ≡ w = omega arith in
     (rw (room_is, a, b) at one, tt)
 sized_more most k room t w (h ∷ fs) f left total wanted all room_is total_is wanted_is one =
-  (let s = sum_by-cons (λ (f : Fresh). f.given) h fs in
-   (all.0, sized_more most k (room - pool_descriptors k h.size) (t + h.given) (w - h.given) fs f left total wanted all.1
-      room_is (omega arith) (omega arith) one))
+    (let s = sum_by-cons (λ (f : Fresh). f.given) h fs in (
+      all.0,
+      sized_more most k (room - pool_descriptors k h.size) (t + h.given) (w - h.given) fs f left total wanted all.1
+          room_is (omega arith) (omega arith) one,
+    ))
 
 full_more : (fs : List Fresh) (f : Fresh) → AreFull fs → f.given ≡ f.size → AreFull (fs ++ f ∷ [])
 full_more [] f all one = (one, tt)

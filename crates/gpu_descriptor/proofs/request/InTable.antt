@@ -49,7 +49,7 @@ taken_new t = record { grant = grant_new t.grant; came = t.came; bucket = t.buck
 
 served_new :
     {L P S : Type 0} {means : Meaning L P S} {most : Option ℕ} {k : Key} {room count id : ℕ}
-      {sets : List (DescriptorSet S)} {ended : Result (Unit {0}) Stop} {b : Bucket} {before after : Ledger}
+    {sets : List (DescriptorSet S)} {ended : Result (Unit {0}) Stop} {b : Bucket} {before after : Ledger}
     → IsServed means most k room count sets ended (record no_pools { id = id }) b before after
     → IsServed means most k room count sets ended no_pools b before after
 served_new {ended = Ok done} s = record { numbers = s.numbers; few = s.few; all = s.all; taken = (s.taken.0, taken_new s.taken.1, s.taken.2, s.taken.3) }
@@ -87,10 +87,10 @@ module _ {L P S : Type 0} {means : Meaning L P S} (k : BucketKey) (w : Descripto
           out = (let was = rows_out es in let is = rows_out (es ++ (k, w) ∷ []) in let a = sum_by-append (λ (r : BucketKey × DescriptorBucket P). r.1.total) es ((k, w) ∷ []) in let one : sum_by (λ (r : BucketKey × DescriptorBucket P). r.1.total) ((k, w) ∷ []) ≡ w.total = omega arith in omega arith);
           load =
               (let was = rows_load es in
-               let is = rows_load (es ++ (k, w) ∷ []) in
-               let a = sum_by-append load_in es ((k, w) ∷ []) in
-               let one : sum_by load_in ((k, w) ∷ []) ≡ set_descriptors (key_of k) w.total = omega arith in
-               let n : w.total ≡ length sets = omega arith in let e = ap (set_descriptors (key_of k)) n in omega arith);
+              let is = rows_load (es ++ (k, w) ∷ []) in
+              let a = sum_by-append load_in es ((k, w) ∷ []) in
+              let one : sum_by load_in ((k, w) ∷ []) ≡ set_descriptors (key_of k) w.total = omega arith in
+              let n : w.total ≡ length sets = omega arith in let e = ap (set_descriptors (key_of k)) n in omega arith);
         })
 
 -- a write of what is there

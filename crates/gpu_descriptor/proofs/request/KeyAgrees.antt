@@ -71,13 +71,13 @@ count_of_items k id number (n ∷ names) t key at own =
     let u : Item = record { key = k; id = id; number = number; name = n } in
     let rest = count_of_items k id number names t key at own in
     let alike : item_eq u t ≡ set_eq (set_of u) (set_of t) =
-        bool_iff _ _
-          (λ h.
-             subst (λ (v : Item). set_eq (set_of u) (set_of v) ≡ true) (item_exact.same u t h)
-               (set_exact.self (set_of u)))
-          (λ h.
-             item_from u t (sym key) (sym at) (ap (λ (x : LiveSet). x.name) (set_exact.same (set_of u) (set_of t) h))
-               (sym own)) in
+    bool_iff _ _
+    (λ h.
+    subst (λ (v : Item). set_eq (set_of u) (set_of v) ≡ true) (item_exact.same u t h)
+    (set_exact.self (set_of u)))
+    (λ h.
+    item_from u t (sym key) (sym at) (ap (λ (x : LiveSet). x.name) (set_exact.same (set_of u) (set_of t) h))
+    (sym own)) in
     elim (cases_Bool (item_eq u t)) [
       | inl on ↦ count_by_yes (λ v. item_eq v t) u (items_at k id number names) on ∙ ap suc rest ∙ sym (count_by_yes (λ z. set_eq z (set_of t)) (set_of u) (live_sets k.counts names) (sym alike ∙ on))
       | inr off ↦ count_by_no (λ v. item_eq v t) u (items_at k id number names) off ∙ rest ∙ sym (count_by_no (λ z. set_eq z (set_of t)) (set_of u) (live_sets k.counts names) (sym alike ∙ off))

@@ -67,11 +67,11 @@ not_grown k size name error l m m' m'' none made refused gone = record {
     at :
         (b : Bool) (q : ℕ) → nat_eq name q ≡ b
         → cond b None
-            (cond b
-               (option_map (λ (pool : Pool). record pool { refusals = pool.refusals + pool_refusals error })
-                  (update nat_eq l.pools name (Some (fresh (pool_counts k.counts size) size (flags_of k))) name))
-               (cond b (Some (fresh (pool_counts k.counts size) size (flags_of k))) (l.pools q)))
-          ≡ l.pools q
+        (cond b
+        (option_map (λ (pool : Pool). record pool { refusals = pool.refusals + pool_refusals error })
+        (update nat_eq l.pools name (Some (fresh (pool_counts k.counts size) size (flags_of k))) name))
+        (cond b (Some (fresh (pool_counts k.counts size) size (flags_of k))) (l.pools q)))
+        ≡ l.pools q
     at true q h = sym none ∙ ap l.pools (eqb-true name q h)
     at false q h = refl
 

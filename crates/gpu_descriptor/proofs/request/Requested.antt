@@ -75,8 +75,8 @@ module _ {L P S : Type 0} (means : Meaning L P S) (a : Allocations P) (before : 
 -- ---- the tests of a request, over the fields of an allocator
 
 module _ {L P S : Type 0} (means : Meaning L P S) {a : Allocations P} {max looks compared marked room out : ℕ}
-  {most : Option ℕ} {es : List (BucketKey × DescriptorBucket P)} (is : seen max most looks compared es ≡ a)
-  (counted : IsConsistent max marked room out es) (apart : IsDistinct key_eq (stored_keys es)) (before : Ledger)
+    {most : Option ℕ} {es : List (BucketKey × DescriptorBucket P)} (is : seen max most looks compared es ≡ a)
+    (counted : IsConsistent max marked room out es) (apart : IsDistinct key_eq (stored_keys es)) (before : Ledger)
     (key : BucketKey) {count : ℕ} (some : 0 < count) {above : Bool} (test : above ≡ (key.update_after_bind && nat_lt a.limit (count * sum (kinds key.counts) + marked_load_of a))) where
   abbrev Declines : AllocationError → Type 0
   Declines error = IsDeclined (call_of means (key_of key) count (side a before) (side a before) (Err error))

@@ -64,11 +64,11 @@ all_came k id b apart u f at key own (p ∷ parts) placed =
       | inl on ↦ (
           let one = count_of_items k id p.number p.names u key (sym (apart p.number u.number placed.0.0 f placed.0.1 at (placed.0.2 ∙ eqb-true p.pool f.pool on))) own in
           let sets :
-              times (live_sets k.counts (came (p ∷ parts) f.pool)) (set_of u)
-              ≡ times (live_sets k.counts p.names) (set_of u)
-                + times (live_sets k.counts (came parts f.pool)) (set_of u) =
-              rw (on, map-append)
-                (times-append (live_sets k.counts p.names) (live_sets k.counts (came parts f.pool)) (set_of u)) in
+          times (live_sets k.counts (came (p ∷ parts) f.pool)) (set_of u)
+          ≡ times (live_sets k.counts p.names) (set_of u)
+          + times (live_sets k.counts (came parts f.pool)) (set_of u) =
+          rw (on, map-append)
+          (times-append (live_sets k.counts p.names) (live_sets k.counts (came parts f.pool)) (set_of u)) in
           omega arith)
       | inr off ↦ (
           let none = count_elsewhere k id p.number p.names u (λ same. eqb-false p.pool f.pool off (let is : Some placed.0.0 ≡ Some f = sym placed.0.1 ∙ ap (entry_at b) (sym same) ∙ at in let entry : placed.0.0 ≡ f = cc in sym placed.0.2 ∙ ap (λ (e : Entry). e.pool) entry)) in

@@ -36,17 +36,17 @@ pool_twice counts a b r p = λ i. record {
   refusals = if r then p.refusals + 1 else p.refusals;
   live =
       fun_ext
-        (λ (x : LiveSet).
-           (let e =
-                ap (λ sets. times sets x)
-                  (map-append (λ (n : ℕ). let s : LiveSet = record { name = n; counts = counts } in s) a b) in
-            let f = times-append (live_sets counts a) (live_sets counts b) x in
-            let g :
-                p.live x + times (live_sets counts a) x + times (live_sets counts b) x
-                ≡ p.live x + times (live_sets counts (a ++ b)) x =
-                omega arith in
-            g))
-        i;
+      (λ (x : LiveSet).
+      (let e =
+      ap (λ sets. times sets x)
+      (map-append (λ (n : ℕ). let s : LiveSet = record { name = n; counts = counts } in s) a b) in
+      let f = times-append (live_sets counts a) (live_sets counts b) x in
+      let g :
+      p.live x + times (live_sets counts a) x + times (live_sets counts b) x
+      ≡ p.live x + times (live_sets counts (a ++ b)) x =
+      omega arith in
+      g))
+      i;
 }
 
 -- the items of one part more
@@ -66,10 +66,10 @@ ledger_more k refused fs parts r number name names pools id left left' not_yet =
     at :
         (b : Bool) (q : ℕ) → nat_eq name q ≡ b
         → cond b
-            (option_map (pool_with (live_sets k.counts names) r)
-               (option_map (pool_with (live_sets k.counts (came parts name)) (refused name))
-                  (fresh_or k fs name (pools name))))
-            (option_map (pool_with (live_sets k.counts (came parts q)) (refused q)) (fresh_or k fs q (pools q)))
+        (option_map (pool_with (live_sets k.counts names) r)
+        (option_map (pool_with (live_sets k.counts (came parts name)) (refused name))
+        (fresh_or k fs name (pools name))))
+        (option_map (pool_with (live_sets k.counts (came parts q)) (refused q)) (fresh_or k fs q (pools q)))
         ≡ option_map (pool_with (live_sets k.counts (came (parts ++ part number name names ∷ []) q)) (or_at r name refused q)) (fresh_or k fs q (pools q))
     at true q h = rw (← eqb-true name q h, or_at_here r name refused not_yet, came_more parts (part number name names) name, eq-eqb name name refl, not_yet) (here (fresh_or k fs name (pools name)))
     at false q h = rw (or_at_apart r name refused q (λ e. eqb-false name q h (sym e)), came_more parts (part number name names) q, h, append-nil (came parts q)) refl

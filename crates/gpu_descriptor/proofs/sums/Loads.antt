@@ -61,10 +61,10 @@ module _ {P : Type 0} where
   -- a write through the map, in a sum over its entries
   pub sum_set :
       (f : BucketKey × DescriptorBucket P → ℕ) (test : BucketKey → Bool) (es : List (BucketKey × DescriptorBucket P))
-        (v w : DescriptorBucket P)
+      (v w : DescriptorBucket P)
       → lookup test es ≡ Some v
       → (k : BucketKey) × (test k ≡ true) × (f (k, v) ≤ sum_by f es)
-        × (sum_by f (set_value test es w) + f (k, v) ≡ sum_by f es + f (k, w))
+      × (sum_by f (set_value test es w) + f (k, v) ≡ sum_by f es + f (k, w))
   sum_set f test es v w found =
       let place = found_place test es v found in
       let put = sum_put f es place.0 place.1 v w place.3 in

@@ -52,7 +52,7 @@ module _ {P : Type 0} (name : P → ℕ) where
       (test : BucketKey → Bool) (k : Key) → ((l : BucketKey) → test l ≡ key_eq k (key_of l))
       → (es : List (BucketKey × DescriptorBucket P)) (w : DescriptorBucket P) → IsSome (lookup test es) → (l : Key)
       → books_in name (map row_of (set_value test es w)) l
-        ≡ put_books (books_in name (map row_of es)) k (bucket_of name w) l
+      ≡ put_books (books_in name (map row_of es)) k (bucket_of name w) l
   written test k same [] w some l = absurd (let bad : false ≡ true = some in cc)
   written test k same (e ∷ es) w some l = elim (cases_Bool (test e.0)) [
     | inl h ↦ (

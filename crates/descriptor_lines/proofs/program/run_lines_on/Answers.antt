@@ -8,8 +8,8 @@ returns g c = record {
     writes = (
         let known = unread_first c.in-Ok.lines (g.R.Read.remaining c.args.input.now) c.in-Ok.ensures.empty c.in-Ok.ensures.open in
         from_start _ (line_state g.D.DescriptorDevice.ledger g.D.LineDevice.script c.new-program.result)
-          (line_state g.D.DescriptorDevice.ledger g.D.LineDevice.script c.run_to_end-exit.new.program) _ _ _
-          c.run_to_end-exit.ensures.memory c.new-program.ensures.fresh (rw known at c.run_to_end-exit.ensures.writes));
+        (line_state g.D.DescriptorDevice.ledger g.D.LineDevice.script c.run_to_end-exit.new.program) _ _ _
+        c.run_to_end-exit.ensures.memory c.new-program.ensures.fresh (rw known at c.run_to_end-exit.ensures.writes));
     done = c.run_to_end-exit.ensures.done;
     bad_line = c.run_to_end-exit.ensures.bad_line;
     no_memory = λ is. absurd (c.run_to_end-exit.ensures.memory is);

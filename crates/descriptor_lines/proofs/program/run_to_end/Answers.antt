@@ -42,18 +42,18 @@ pub loop-number-preserved : goal.loop-number-preserved
 loop-number-preserved g c =
     let (text, grown, stands) = c.loop-number.invariant.answers in
     let takes : Takes c.loop-number.number (unread c.loop-number.lines (g.R.Read.remaining c.loop-number.input))
-      (unread c.next_line.new.self (g.R.Read.remaining c.next_line.new.input)) c.match-next_line.outcome
-      (string_bytes c.match-next_line.answer)
-      (line_state g.D.DescriptorDevice.ledger g.D.LineDevice.script c.loop-number.program)
-      (line_state g.D.DescriptorDevice.ledger g.D.LineDevice.script c.match-next_line.program) = elim
-      c.match-next_line.branch [
+    (unread c.next_line.new.self (g.R.Read.remaining c.next_line.new.input)) c.match-next_line.outcome
+    (string_bytes c.match-next_line.answer)
+    (line_state g.D.DescriptorDevice.ledger g.D.LineDevice.script c.loop-number.program)
+    (line_state g.D.DescriptorDevice.ledger g.D.LineDevice.script c.match-next_line.program) = elim
+    c.match-next_line.branch [
       | in-Ok-Some w ↦ let ran =
           w.run_line-outcome.ensures in let found =
-              w.in-Ok-Some.ensures in rw (w.program-is, w.answer-is, w.outcome-is)
-                (takes_span _ c.next_line.new.self w.in-Ok-Some.span _ _ _ _ _ _ _
-                   (rw w.in-Ok-Some.field-0-is at found.line) (rw w.in-Ok-Some.field-0-is at found.rest)
-                   (rw w.in-Ok-Some.field-0-is at found.short) w.line.ensures.bytes ran.does ran.err ran.begun
-                   ran.speaks ran.own ran.faulty ran.ready)
+          w.in-Ok-Some.ensures in rw (w.program-is, w.answer-is, w.outcome-is)
+          (takes_span _ c.next_line.new.self w.in-Ok-Some.span _ _ _ _ _ _ _
+          (rw w.in-Ok-Some.field-0-is at found.line) (rw w.in-Ok-Some.field-0-is at found.rest)
+          (rw w.in-Ok-Some.field-0-is at found.short) w.line.ensures.bytes ran.does ran.err ran.begun
+          ran.speaks ran.own ran.faulty ran.ready)
       | in-Err-LineTooLong w ↦ rw (w.program-is, w.answer-is) (takes_long _ _ _ _ _ _ w.outcome-is (c.next_line.ensures.too_long (w.in-Err-LineTooLong.is ∙ ap Err w.in-Err-LineTooLong.field-0-is)))
     ] in
     record {
@@ -71,18 +71,18 @@ pub returns-in_default-clause-writes : goal.returns-in_default-clause-writes
 returns-in_default-clause-writes g c =
     let (text, grown, stands) = c.loop-number.invariant.answers in
     let takes : Takes c.loop-number.number (unread c.loop-number.lines (g.R.Read.remaining c.loop-number.input))
-      (unread c.next_line.new.self (g.R.Read.remaining c.next_line.new.input)) c.match-next_line.outcome
-      (string_bytes c.match-next_line.answer)
-      (line_state g.D.DescriptorDevice.ledger g.D.LineDevice.script c.loop-number.program)
-      (line_state g.D.DescriptorDevice.ledger g.D.LineDevice.script c.match-next_line.program) = elim
-      c.match-next_line.branch [
+    (unread c.next_line.new.self (g.R.Read.remaining c.next_line.new.input)) c.match-next_line.outcome
+    (string_bytes c.match-next_line.answer)
+    (line_state g.D.DescriptorDevice.ledger g.D.LineDevice.script c.loop-number.program)
+    (line_state g.D.DescriptorDevice.ledger g.D.LineDevice.script c.match-next_line.program) = elim
+    c.match-next_line.branch [
       | in-Ok-Some w ↦ let ran =
           w.run_line-outcome.ensures in let found =
-              w.in-Ok-Some.ensures in rw (w.program-is, w.answer-is, w.outcome-is)
-                (takes_span _ c.next_line.new.self w.in-Ok-Some.span _ _ _ _ _ _ _
-                   (rw w.in-Ok-Some.field-0-is at found.line) (rw w.in-Ok-Some.field-0-is at found.rest)
-                   (rw w.in-Ok-Some.field-0-is at found.short) w.line.ensures.bytes ran.does ran.err ran.begun
-                   ran.speaks ran.own ran.faulty ran.ready)
+          w.in-Ok-Some.ensures in rw (w.program-is, w.answer-is, w.outcome-is)
+          (takes_span _ c.next_line.new.self w.in-Ok-Some.span _ _ _ _ _ _ _
+          (rw w.in-Ok-Some.field-0-is at found.line) (rw w.in-Ok-Some.field-0-is at found.rest)
+          (rw w.in-Ok-Some.field-0-is at found.short) w.line.ensures.bytes ran.does ran.err ran.begun
+          ran.speaks ran.own ran.faulty ran.ready)
       | in-Err-LineTooLong w ↦ rw (w.program-is, w.answer-is) (takes_long _ _ _ _ _ _ w.outcome-is (c.next_line.ensures.too_long (w.in-Err-LineTooLong.is ∙ ap Err w.in-Err-LineTooLong.field-0-is)))
     ] in
     ends_unread _ _ _ _ _ _ _ _ (stands_on _ _ _ _ _ _ _ _ _ _ stands takes c.in_default.ensures.ok) (Appends-trans _ _ _ _ _ grown c.in_default.ensures.answered)
@@ -91,18 +91,18 @@ pub returns-then-has_lost-clause-writes : goal.returns-then-has_lost-clause-writ
 returns-then-has_lost-clause-writes g c =
     let (text, grown, stands) = c.loop-number.invariant.answers in
     let takes : Takes c.loop-number.number (unread c.loop-number.lines (g.R.Read.remaining c.loop-number.input))
-      (unread c.next_line.new.self (g.R.Read.remaining c.next_line.new.input)) c.match-next_line.outcome
-      (string_bytes c.match-next_line.answer)
-      (line_state g.D.DescriptorDevice.ledger g.D.LineDevice.script c.loop-number.program)
-      (line_state g.D.DescriptorDevice.ledger g.D.LineDevice.script c.match-next_line.program) = elim
-      c.match-next_line.branch [
+    (unread c.next_line.new.self (g.R.Read.remaining c.next_line.new.input)) c.match-next_line.outcome
+    (string_bytes c.match-next_line.answer)
+    (line_state g.D.DescriptorDevice.ledger g.D.LineDevice.script c.loop-number.program)
+    (line_state g.D.DescriptorDevice.ledger g.D.LineDevice.script c.match-next_line.program) = elim
+    c.match-next_line.branch [
       | in-Ok-Some w ↦ let ran =
           w.run_line-outcome.ensures in let found =
-              w.in-Ok-Some.ensures in rw (w.program-is, w.answer-is, w.outcome-is)
-                (takes_span _ c.next_line.new.self w.in-Ok-Some.span _ _ _ _ _ _ _
-                   (rw w.in-Ok-Some.field-0-is at found.line) (rw w.in-Ok-Some.field-0-is at found.rest)
-                   (rw w.in-Ok-Some.field-0-is at found.short) w.line.ensures.bytes ran.does ran.err ran.begun
-                   ran.speaks ran.own ran.faulty ran.ready)
+          w.in-Ok-Some.ensures in rw (w.program-is, w.answer-is, w.outcome-is)
+          (takes_span _ c.next_line.new.self w.in-Ok-Some.span _ _ _ _ _ _ _
+          (rw w.in-Ok-Some.field-0-is at found.line) (rw w.in-Ok-Some.field-0-is at found.rest)
+          (rw w.in-Ok-Some.field-0-is at found.short) w.line.ensures.bytes ran.does ran.err ran.begun
+          ran.speaks ran.own ran.faulty ran.ready)
       | in-Err-LineTooLong w ↦ rw (w.program-is, w.answer-is) (takes_long _ _ _ _ _ _ w.outcome-is (c.next_line.ensures.too_long (w.in-Err-LineTooLong.is ∙ ap Err w.in-Err-LineTooLong.field-0-is)))
     ] in
     ends_unwritten _ _ _ _ _ _ _ _ _ _ _ _ _ stands takes grown (record { prefix = []; unwritten = _; split = refl; grown = Appends-nil _ })
@@ -125,27 +125,27 @@ returns-in-Err-clause-writes g c =
     let (text, grown, stands) = c.loop-number.invariant.answers in
     let said = c.in-Err.ensures in
     let takes : Takes c.loop-number.number (unread c.loop-number.lines (g.R.Read.remaining c.loop-number.input))
-      (unread c.next_line.new.self (g.R.Read.remaining c.next_line.new.input)) c.match-next_line.outcome
-      (string_bytes c.match-next_line.answer)
-      (line_state g.D.DescriptorDevice.ledger g.D.LineDevice.script c.loop-number.program)
-      (line_state g.D.DescriptorDevice.ledger g.D.LineDevice.script c.match-next_line.program) = elim
-      c.match-next_line.branch [
+    (unread c.next_line.new.self (g.R.Read.remaining c.next_line.new.input)) c.match-next_line.outcome
+    (string_bytes c.match-next_line.answer)
+    (line_state g.D.DescriptorDevice.ledger g.D.LineDevice.script c.loop-number.program)
+    (line_state g.D.DescriptorDevice.ledger g.D.LineDevice.script c.match-next_line.program) = elim
+    c.match-next_line.branch [
       | in-Ok-Some w ↦ let ran =
           w.run_line-outcome.ensures in let found =
-              w.in-Ok-Some.ensures in rw (w.program-is, w.answer-is, w.outcome-is)
-                (takes_span _ c.next_line.new.self w.in-Ok-Some.span _ _ _ _ _ _ _
-                   (rw w.in-Ok-Some.field-0-is at found.line) (rw w.in-Ok-Some.field-0-is at found.rest)
-                   (rw w.in-Ok-Some.field-0-is at found.short) w.line.ensures.bytes ran.does ran.err ran.begun
-                   ran.speaks ran.own ran.faulty ran.ready)
+          w.in-Ok-Some.ensures in rw (w.program-is, w.answer-is, w.outcome-is)
+          (takes_span _ c.next_line.new.self w.in-Ok-Some.span _ _ _ _ _ _ _
+          (rw w.in-Ok-Some.field-0-is at found.line) (rw w.in-Ok-Some.field-0-is at found.rest)
+          (rw w.in-Ok-Some.field-0-is at found.short) w.line.ensures.bytes ran.does ran.err ran.begun
+          ran.speaks ran.own ran.faulty ran.ready)
       | in-Err-LineTooLong w ↦ rw (w.program-is, w.answer-is) (takes_long _ _ _ _ _ _ w.outcome-is (c.next_line.ensures.too_long (w.in-Err-LineTooLong.is ∙ ap Err w.in-Err-LineTooLong.field-0-is)))
     ] in
     ends_early _ _ _ c.in-Err.exit _ _ said.err
-      (λ bad.
-         ends_at_fault _ _ _ _ _ _ _ _ _ _ _ _ _ (c.answer_line.ensures.bad_line (c.in-Err.is ∙ ap Err bad)) stands
-           takes grown (c.answer_line.ensures.told (c.in-Err.is ∙ ap Err bad)))
-      (λ broken.
-         ends_unwritten _ _ _ _ _ _ _ _ _ _ _ _ _ stands takes grown
-           (c.answer_line.ensures.broken (c.in-Err.is ∙ ap Err broken)))
+    (λ bad.
+    ends_at_fault _ _ _ _ _ _ _ _ _ _ _ _ _ (c.answer_line.ensures.bad_line (c.in-Err.is ∙ ap Err bad)) stands
+    takes grown (c.answer_line.ensures.told (c.in-Err.is ∙ ap Err bad)))
+    (λ broken.
+    ends_unwritten _ _ _ _ _ _ _ _ _ _ _ _ _ stands takes grown
+    (c.answer_line.ensures.broken (c.in-Err.is ∙ ap Err broken)))
 
 pub returns-in-Err-clause-done : goal.returns-in-Err-clause-done
 returns-in-Err-clause-done g c = λ done. absurd (not_done c.in-Err.exit c.in-Err.ensures.err done)

@@ -15,9 +15,9 @@ invariant-loop-number g l = record {
   answers :
       (text : List ℕ) × Appends (g.W.Write.contents l.initial.output) (g.W.Write.contents l.output) text
       × Stands (unread l.initial.lines (g.R.Read.remaining l.initial.input))
-          (line_state g.D.DescriptorDevice.ledger g.D.LineDevice.script l.initial.program) text l.number
-          (unread l.lines (g.R.Read.remaining l.input))
-          (line_state g.D.DescriptorDevice.ledger g.D.LineDevice.script l.program);
+      (line_state g.D.DescriptorDevice.ledger g.D.LineDevice.script l.initial.program) text l.number
+      (unread l.lines (g.R.Read.remaining l.input))
+      (line_state g.D.DescriptorDevice.ledger g.D.LineDevice.script l.program);
   sees : SeesEndOf l.lines (g.R.Read.remaining l.input);
   whole : IsFalse (g.D.LineDevice.lost l.initial.program.device) → IsFalse (g.D.LineDevice.lost l.program.device);
 }

@@ -15,9 +15,9 @@ loop-set-preserved g c =
     let more = Yields-more g.I.Iterator.next_gives c.args.sets.now c.loop-set.yielded c.loop-set.sets c.in-Some.set c.next.new.self i.steps c.in-Some.ensures.steps in
     let named = c.requires.live (c.loop-set.yielded ++ c.in-Some.set ∷ []) c.next.new.self more in
     let left : 0 < count_by (λ s. s.name == n) (live_sets_of c.loop-set.live.entries) =
-        some_left (live_sets_of c.args.live.now.entries) (live_sets_of c.loop-set.live.entries) i.gone named.gone
-          (map set_id c.loop-set.yielded) n i.parts i.named
-          (named.named ∙ map_push set_id c.loop-set.yielded c.in-Some.set) named.live in
+    some_left (live_sets_of c.args.live.now.entries) (live_sets_of c.loop-set.live.entries) i.gone named.gone
+    (map set_id c.loop-set.yielded) n i.parts i.named
+    (named.named ∙ map_push set_id c.loop-set.yielded c.in-Some.set) named.live in
     let had = found_left n c.loop-set.live.entries left in
     let out = taken n had.0 c.loop-set.live.entries c.swap_remove.new.self.entries had.1 c.swap_remove.ensures.entries in
     record {

@@ -25,11 +25,11 @@ returns-in_err-kind-clause-fault c =
     let fault : c.in_err-kind.field-0.0 ≡ BadKind = (let value = rw refused.ok_part at refused.value in cc) in
     let unnamed : ¬ NamesKind c.in-Some.word.now = λ names. false≢true (refused.variant ∙ c.around.ensures.found.1 names.equals) in
     fault_of c.from_residual.result c.in_err-kind.field-0.0 BadKind (IsFaultOfKinds (words_left c.args.words))
-      c.from_residual.ensures.1 fault
-      (at_next _ (words_left c.args.words) c.loop-word.yielded c.into_iter-word-iterator.result
-         c.loop-word.word-iterator c.next.new.self c.in-Some.word.now c.loop-word.yielded_by
-         (ap words_left c.into_iter-word-iterator.ensures.into_iter_gives) c.in-Some.ensures.steps
-         (c.loop-word.invariant.are, unnamed))
+    c.from_residual.ensures.1 fault
+    (at_next _ (words_left c.args.words) c.loop-word.yielded c.into_iter-word-iterator.result
+    c.loop-word.word-iterator c.next.new.self c.in-Some.word.now c.loop-word.yielded_by
+    (ap words_left c.into_iter-word-iterator.ensures.into_iter_gives) c.in-Some.ensures.steps
+    (c.loop-word.invariant.are, unnamed))
 
 pub returns-in_err-kind-2-clause-fault : goal.returns-in_err-kind-2-clause-fault
 returns-in_err-kind-2-clause-fault c =
@@ -39,11 +39,11 @@ returns-in_err-kind-2-clause-fault c =
     let absent : ¬ Contains kind_names c.in_ok-kind.kind.now = rw refused.ok_part at c.kind.ensures.unnamed in
     let unnamed : ¬ NamesKind c.in-Some.word.now = λ names. absent (subst (Contains kind_names) (sym kind) names.kind) in
     fault_of c.from_residual-in_err-kind-2.result c.in_err-kind-2.field-0.0 BadKind
-      (IsFaultOfKinds (words_left c.args.words)) c.from_residual-in_err-kind-2.ensures.1 fault
-      (at_next _ (words_left c.args.words) c.loop-word.yielded c.into_iter-word-iterator.result
-         c.loop-word.word-iterator c.next.new.self c.in-Some.word.now c.loop-word.yielded_by
-         (ap words_left c.into_iter-word-iterator.ensures.into_iter_gives) c.in-Some.ensures.steps
-         (c.loop-word.invariant.are, unnamed))
+    (IsFaultOfKinds (words_left c.args.words)) c.from_residual-in_err-kind-2.ensures.1 fault
+    (at_next _ (words_left c.args.words) c.loop-word.yielded c.into_iter-word-iterator.result
+    c.loop-word.word-iterator c.next.new.self c.in-Some.word.now c.loop-word.yielded_by
+    (ap words_left c.into_iter-word-iterator.ensures.into_iter_gives) c.in-Some.ensures.steps
+    (c.loop-word.invariant.are, unnamed))
 
 pub returns-then-is_named-kind-clause-fault : goal.returns-then-is_named-kind-clause-fault
 returns-then-is_named-kind-clause-fault c =
@@ -51,10 +51,13 @@ returns-then-is_named-kind-clause-fault c =
     let place : IsKindAt c.in_ok-kind-2.kind (kind_of c.in-Some.word.now) = (let named = rw c.in_ok-kind-2.ensures.ok_part at c.kind.ensures.named in cc) in
     let names : NamesKind c.in-Some.word.now = record { equals = c.around.ensures.found.0 (sym c.in_ok-kind.ensures.variant); kind = contains_name c.in_ok-kind-2.kind (kind_of c.in-Some.word.now) place } in
     at_next _ (words_left c.args.words) c.loop-word.yielded c.into_iter-word-iterator.result c.loop-word.word-iterator
-      c.next.new.self c.in-Some.word.now c.loop-word.yielded_by
-      (ap words_left c.into_iter-word-iterator.ensures.into_iter_gives) c.in-Some.ensures.steps
-      (c.loop-word.invariant.are, names, c.loop-word.invariant.marks.marked c.in_ok-kind-2.kind
-         (kind_of c.in-Some.word.now) place c.if-is_named-kind.true)
+    c.next.new.self c.in-Some.word.now c.loop-word.yielded_by
+    (ap words_left c.into_iter-word-iterator.ensures.into_iter_gives) c.in-Some.ensures.steps (
+      c.loop-word.invariant.are,
+      names,
+      c.loop-word.invariant.marks.marked c.in_ok-kind-2.kind
+          (kind_of c.in-Some.word.now) place c.if-is_named-kind.true,
+    )
 
 pub returns-in_err-parse_u32-clause-fault : goal.returns-in_err-parse_u32-clause-fault
 returns-in_err-parse_u32-clause-fault c =
@@ -65,12 +68,12 @@ returns-in_err-parse_u32-clause-fault c =
     let unwritten : ¬ GivesCount c.in-Some.word.now = λ gives. false≢true (c.in_err-parse_u32.ensures.accepted.1 (rw count gives)) in
     let new : ¬ IsAgain (map (λ word. word.now) c.loop-word.yielded) c.in-Some.word.now = c.loop-word.invariant.marks.unmarked c.in_ok-kind-2.kind (kind_of c.in-Some.word.now) place c.if-is_named-kind.false in
     fault_of c.from_residual-in_err-parse_u32.result c.in_err-parse_u32.field-0.0 BadNumber
-      (IsFaultOfKinds (words_left c.args.words)) c.from_residual-in_err-parse_u32.ensures.1
-      c.in_err-parse_u32.ensures.fault
-      (at_next _ (words_left c.args.words) c.loop-word.yielded c.into_iter-word-iterator.result
-         c.loop-word.word-iterator c.next.new.self c.in-Some.word.now c.loop-word.yielded_by
-         (ap words_left c.into_iter-word-iterator.ensures.into_iter_gives) c.in-Some.ensures.steps
-         (c.loop-word.invariant.are, names, new, unwritten))
+    (IsFaultOfKinds (words_left c.args.words)) c.from_residual-in_err-parse_u32.ensures.1
+    c.in_err-parse_u32.ensures.fault
+    (at_next _ (words_left c.args.words) c.loop-word.yielded c.into_iter-word-iterator.result
+    c.loop-word.word-iterator c.next.new.self c.in-Some.word.now c.loop-word.yielded_by
+    (ap words_left c.into_iter-word-iterator.ensures.into_iter_gives) c.in-Some.ensures.steps
+    (c.loop-word.invariant.are, names, new, unwritten))
 
 pub loop-word-preserved : goal.loop-word-preserved
 loop-word-preserved c =
@@ -93,19 +96,19 @@ loop-word-preserved c =
 pub returns-clause-accepted : goal.returns-clause-accepted
 returns-clause-accepted c =
     let end =
-        YieldsList-end
-          (YieldsList-from_first (λ word. word.now) words_left (words_left c.args.words)
-             (ap words_left c.into_iter-word-iterator.ensures.into_iter_gives))
-          c.loop-word.yielded c.loop-word.word-iterator c.loop-word.yielded_by c.next.result c.next.new.self
-          c.in-None.is c.next.ensures.steps in
+    YieldsList-end
+    (YieldsList-from_first (λ word. word.now) words_left (words_left c.args.words)
+    (ap words_left c.into_iter-word-iterator.ensures.into_iter_gives))
+    c.loop-word.yielded c.loop-word.word-iterator c.loop-word.yielded_by c.next.result c.next.new.self
+    c.in-None.is c.next.ensures.steps in
     rw (← end.0) c.loop-word.invariant.are
 
 pub returns-clause-counts : goal.returns-clause-counts
 returns-clause-counts c =
     let end =
-        YieldsList-end
-          (YieldsList-from_first (λ word. word.now) words_left (words_left c.args.words)
-             (ap words_left c.into_iter-word-iterator.ensures.into_iter_gives))
-          c.loop-word.yielded c.loop-word.word-iterator c.loop-word.yielded_by c.next.result c.next.new.self
-          c.in-None.is c.next.ensures.steps in
+    YieldsList-end
+    (YieldsList-from_first (λ word. word.now) words_left (words_left c.args.words)
+    (ap words_left c.into_iter-word-iterator.ensures.into_iter_gives))
+    c.loop-word.yielded c.loop-word.word-iterator c.loop-word.yielded_by c.next.result c.next.new.self
+    c.in-None.is c.next.ensures.steps in
     rw (← end.0) c.loop-word.invariant.counts

@@ -49,11 +49,11 @@ loop-word-preserved c =
 pub returns-clause-tickets : goal.returns-clause-tickets
 returns-clause-tickets c =
     let end =
-        YieldsList-end
-          (YieldsList-from_first (λ word. word.now) words_left (words_left c.args.words)
-             (ap words_left c.into_iter-word-iterator.ensures.into_iter_gives))
-          c.loop-word.yielded c.loop-word.word-iterator c.loop-word.yielded_by c.next.result c.next.new.self
-          c.in-None.is c.next.ensures.steps in
+    YieldsList-end
+    (YieldsList-from_first (λ word. word.now) words_left (words_left c.args.words)
+    (ap words_left c.into_iter-word-iterator.ensures.into_iter_gives))
+    c.loop-word.yielded c.loop-word.word-iterator c.loop-word.yielded_by c.next.result c.next.new.self
+    c.in-None.is c.next.ensures.steps in
     c.loop-word.invariant.items ∙ ap (flat_map tickets_of) end.0
 
 pub returns-in_err-parse_span-clause-fault : goal.returns-in_err-parse_span-clause-fault
@@ -61,9 +61,9 @@ returns-in_err-parse_span-clause-fault c =
     let start = c.into_iter-word-iterator.result in
     let given = are_tickets c.loop-word.tickets _ c.loop-word.invariant.written c.loop-word.invariant.items c.loop-word.invariant.few in
     let at =
-        at_next _ (words_left c.args.words) c.loop-word.yielded start c.loop-word.word-iterator c.next.new.self
-          c.in-Some.word.now c.loop-word.yielded_by (ap words_left c.into_iter-word-iterator.ensures.into_iter_gives)
-          c.in-Some.ensures.steps (given, λ writes. false≢true (c.in_err-parse_span.ensures.accepted.1 writes)) in
+    at_next _ (words_left c.args.words) c.loop-word.yielded start c.loop-word.word-iterator c.next.new.self
+    c.in-Some.word.now c.loop-word.yielded_by (ap words_left c.into_iter-word-iterator.ensures.into_iter_gives)
+    c.in-Some.ensures.steps (given, λ writes. false≢true (c.in_err-parse_span.ensures.accepted.1 writes)) in
     refused_for c.from_residual.result c.in_err-parse_span.field-0.0 (IsFaultOfFree (words_left c.args.words)) c.from_residual.ensures.1 (rw c.in_err-parse_span.ensures.fault at)
 
 pub returns-in_err-add_tickets-clause-fault : goal.returns-in_err-add_tickets-clause-fault
@@ -77,20 +77,20 @@ returns-in_err-add_tickets-clause-fault c =
     let count : vec_len c.loop-word.tickets ≡ length (flat_map tickets_of words) = vec_count c.loop-word.tickets _ c.loop-word.invariant.items in
     let too_many : refused.field-0.0 ≡ faulty TooManyTickets → most_tickets < length (flat_map tickets_of (words ++ word ∷ [])) = λ is. (let past = refused.ensures.too_many.0 (ap Err is) in rw (count_more words word, ← span.first, ← span.last, ← count) past) in
     let at =
-        λ (is : refused.field-0.0 ≡ faulty TooManyTickets).
-          at_next _ (words_left c.args.words) c.loop-word.yielded start c.loop-word.word-iterator c.next.new.self word
-            c.loop-word.yielded_by (ap words_left c.into_iter-word-iterator.ensures.into_iter_gives)
-            c.in-Some.ensures.steps (given, span.accepted.0 refl, too_many is) in
+    λ (is : refused.field-0.0 ≡ faulty TooManyTickets).
+    at_next _ (words_left c.args.words) c.loop-word.yielded start c.loop-word.word-iterator c.next.new.self word
+    c.loop-word.yielded_by (ap words_left c.into_iter-word-iterator.ensures.into_iter_gives)
+    c.in-Some.ensures.steps (given, span.accepted.0 refl, too_many is) in
     handed_on c.from_residual-in_err-add_tickets.result refused.field-0.0 (IsFaultOfFree (words_left c.args.words)) c.from_residual-in_err-add_tickets.ensures.1 (only_for refused.field-0.0 TooManyTickets (IsFaultOfFree (words_left c.args.words)) refused.ensures.fault at)
 
 pub returns-clause-accepted : goal.returns-clause-accepted
 returns-clause-accepted c =
     let end =
-        YieldsList-end
-          (YieldsList-from_first (λ word. word.now) words_left (words_left c.args.words)
-             (ap words_left c.into_iter-word-iterator.ensures.into_iter_gives))
-          c.loop-word.yielded c.loop-word.word-iterator c.loop-word.yielded_by c.next.result c.next.new.self
-          c.in-None.is c.next.ensures.steps in
+    YieldsList-end
+    (YieldsList-from_first (λ word. word.now) words_left (words_left c.args.words)
+    (ap words_left c.into_iter-word-iterator.ensures.into_iter_gives))
+    c.loop-word.yielded c.loop-word.word-iterator c.loop-word.yielded_by c.next.result c.next.new.self
+    c.in-None.is c.next.ensures.steps in
     rw (← end.0) (are_tickets c.loop-word.tickets _ c.loop-word.invariant.written c.loop-word.invariant.items c.loop-word.invariant.few)
 
 pub returns-clause-few : goal.returns-clause-few

@@ -35,16 +35,16 @@ returns-clause-ok g c =
       room = (let r = c.fill.ensures.room in let l = c.len-many.ensures in omega arith);
       ledger =
           same_ledger _ _
-            (ap (λ (l : Log). pools_owed l.rows) c.note.ensures
-             ∙ change_row old.rows c.args.pool.now (λ (r : OwedPool). record r { live = r.live ++ more })
-                 (λ pool.
-                    record pool {
-                      live =
-                          λ x.
-                            pool.live x + times (live_sets (kinds (layout c.args.layouts).counts) (map set_name sets)) x
-                    })
-                 (λ r at.
-                    ap (λ l. record (pool_owed r) { live = l })
-                      (fun_ext (λ x. times-append r.live more x ∙ ap (λ s. times r.live x + times s x) same))))
-            (ap (λ (n : ℕ). record (ledger_of c.args.self.now).counters { asked = n }) c.next-self.ensures);
+          (ap (λ (l : Log). pools_owed l.rows) c.note.ensures
+          ∙ change_row old.rows c.args.pool.now (λ (r : OwedPool). record r { live = r.live ++ more })
+          (λ pool.
+          record pool {
+            live =
+                λ x.
+                pool.live x + times (live_sets (kinds (layout c.args.layouts).counts) (map set_name sets)) x;
+          })
+          (λ r at.
+          ap (λ l. record (pool_owed r) { live = l })
+          (fun_ext (λ x. times-append r.live more x ∙ ap (λ s. times r.live x + times s x) same))))
+          (ap (λ (n : ℕ). record (ledger_of c.args.self.now).counters { asked = n }) c.next-self.ensures);
     }

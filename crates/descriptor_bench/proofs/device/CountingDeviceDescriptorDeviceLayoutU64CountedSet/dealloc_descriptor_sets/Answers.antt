@@ -32,15 +32,15 @@ returns-clause-released g c =
       live = subst (λ o. IfSome (option_map pool_owed o) (λ pool. AreIn gone pool.live)) (sym row.1) (taken_in names row.0.live taken);
       ledger =
           same_ledger _ _
-            (ap (λ (l : Log). pools_owed l.rows) (c.note.ensures ∙ ap (log_after (Release c.args.pool.now)) before)
-             ∙ change_row old.rows c.args.pool.now (λ (r : OwedPool). record r { live = none_named names r.live })
-                 (λ pool. record pool { live = λ x. pool.live x - times gone x })
-                 (λ r at.
-                    subst
-                      (λ (s : OwedPool).
-                         ◌≡◌ {A = Pool} (pool_owed (record s { live = none_named names s.live }))
-                           (record (pool_owed s) { live = λ x. times s.live x - times gone x }))
-                      (row_is row.0 r (sym row.1 ∙ at))
-                      (ap (λ l. record (pool_owed row.0) { live = l }) (taken_less names row.0.live taken))))
-            (ap (λ (n : ℕ). record (ledger_of c.args.self.now).counters { released = n }) c.next-self.ensures);
+          (ap (λ (l : Log). pools_owed l.rows) (c.note.ensures ∙ ap (log_after (Release c.args.pool.now)) before)
+          ∙ change_row old.rows c.args.pool.now (λ (r : OwedPool). record r { live = none_named names r.live })
+          (λ pool. record pool { live = λ x. pool.live x - times gone x })
+          (λ r at.
+          subst
+          (λ (s : OwedPool).
+          ◌≡◌ {A = Pool} (pool_owed (record s { live = none_named names s.live }))
+          (record (pool_owed s) { live = λ x. times s.live x - times gone x }))
+          (row_is row.0 r (sym row.1 ∙ at))
+          (ap (λ l. record (pool_owed row.0) { live = l }) (taken_less names row.0.live taken))))
+          (ap (λ (n : ℕ). record (ledger_of c.args.self.now).counters { released = n }) c.next-self.ensures);
     }

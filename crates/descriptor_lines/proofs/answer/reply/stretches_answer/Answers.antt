@@ -51,8 +51,8 @@ loop-ticket-preserved c =
                 ap (λ bytes. bytes ++ others) w.stretch_answer.ensures.text
                 ∙ append_assoc (string_bytes l.answer) ended others
                 ∙ ap (λ text. string_bytes l.answer ++ text)
-                    (stretch_ends slots l.ticket (c.args.first + c.args.count) l.stretch.pool l.stretch.length
-                       pool.result c.loop-ticket-test.true l.invariant.some (sym pool.ensures) w.if-pool-stretch.false)
+                (stretch_ends slots l.ticket (c.args.first + c.args.count) l.stretch.pool l.stretch.length
+                pool.result c.loop-ticket-test.true l.invariant.some (sym pool.ensures) w.if-pool-stretch.false)
                 ∙ l.invariant.said;
             few = omega (arith, grown, length_of_stretch l.stretch.pool l.stretch.length l.invariant.some l.invariant.named (omega arith));
             reserve = omega arith;
@@ -75,9 +75,9 @@ returns-clause-enough c =
     let last = stretch_text (l.stretch.pool, l.stretch.length) in
     let whole = stretches_text (pools_from (sets_of c.args.session.now) c.args.first c.args.count) in
     let said : string_bytes l.answer ++ last ≡ string_bytes c.args.answer.now ++ whole =
-        ap (λ text. string_bytes l.answer ++ text)
-          (stretch_is_last (sets_of c.args.session.now) l.ticket (c.args.first + c.args.count) l.stretch.pool
-             l.stretch.length (omega arith) l.invariant.some)
-        ∙ l.invariant.said in
+    ap (λ text. string_bytes l.answer ++ text)
+    (stretch_is_last (sets_of c.args.session.now) l.ticket (c.args.first + c.args.count) l.stretch.pool
+    l.stretch.length (omega arith) l.invariant.some)
+    ∙ l.invariant.said in
     let sizes : length (string_bytes l.answer) + length last ≡ length (string_bytes c.args.answer.now) + length whole = sym (length-append (string_bytes l.answer) last) ∙ ap length said ∙ length-append (string_bytes c.args.answer.now) whole in
     omega (arith, length_of_stretch l.stretch.pool l.stretch.length l.invariant.some l.invariant.named (omega arith))

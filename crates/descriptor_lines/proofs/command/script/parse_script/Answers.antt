@@ -30,18 +30,18 @@ pub returns-in_err-answer-clause-fault : goal.returns-in_err-answer-clause-fault
 returns-in_err-answer-clause-fault c =
     let start = c.into_iter-word-iterator.result in
     let at =
-        at_next _ (words_left c.args.words) c.loop-word.yielded start c.loop-word.word-iterator c.next.new.self
-          c.in-Some.word.now c.loop-word.yielded_by (ap words_left c.into_iter-word-iterator.ensures.into_iter_gives)
-          c.in-Some.ensures.steps
-          (c.loop-word.invariant.known, λ known. c.in_err-answer.ensures.unknown known.0 known.1) in
+    at_next _ (words_left c.args.words) c.loop-word.yielded start c.loop-word.word-iterator c.next.new.self
+    c.in-Some.word.now c.loop-word.yielded_by (ap words_left c.into_iter-word-iterator.ensures.into_iter_gives)
+    c.in-Some.ensures.steps
+    (c.loop-word.invariant.known, λ known. c.in_err-answer.ensures.unknown known.0 known.1) in
     refused_for c.from_residual.result c.in_err-answer.field-0.0 (IsFaultOfScript (words_left c.args.words)) c.from_residual.ensures.1 (rw c.in_err-answer.ensures.fault at)
 
 pub returns-clause-script : goal.returns-clause-script
 returns-clause-script c =
     let end =
-        YieldsList-end
-          (YieldsList-from_first (λ word. word.now) words_left (words_left c.args.words)
-             (ap words_left c.into_iter-word-iterator.ensures.into_iter_gives))
-          c.loop-word.yielded c.loop-word.word-iterator c.loop-word.yielded_by c.next.result c.next.new.self
-          c.in-None.is c.next.ensures.steps in
+    YieldsList-end
+    (YieldsList-from_first (λ word. word.now) words_left (words_left c.args.words)
+    (ap words_left c.into_iter-word-iterator.ensures.into_iter_gives))
+    c.loop-word.yielded c.loop-word.word-iterator c.loop-word.yielded_by c.next.result c.next.new.self
+    c.in-None.is c.next.ensures.steps in
     c.loop-word.invariant.script ∙ end.0

@@ -30,10 +30,10 @@ returns-clause-kept g c =
     let got = take c.in-Ok.count c.read.new.buf in
     let behind = read_behind s.bytes shown c.read.new.buf s.end c.deref_mut.ensures.len fits c.read.auto.buf in
     let all =
-        ap (λ l. slice_range l s.start (s.end + c.in-Ok.count)) behind
-        ∙ part_behind shown c.read.new.buf (post_of s.end (length shown - s.end) shown) s.start s.end c.in-Ok.count
-            (omega arith) fits c.in-Ok.ensures.bound.0
-        ∙ ap (λ l. slice_range l s.start s.end ++ got) c.deref_mut.ensures.value in
+    ap (λ l. slice_range l s.start (s.end + c.in-Ok.count)) behind
+    ∙ part_behind shown c.read.new.buf (post_of s.end (length shown - s.end) shown) s.start s.end c.in-Ok.count
+    (omega arith) fits c.in-Ok.ensures.bound.0
+    ∙ ap (λ l. slice_range l s.start s.end ++ got) c.deref_mut.ensures.value in
     read_kept c.args.self.now.is_at_end _ _ _ _ _ got _ c.requires.open c.move_to_front.ensures.bytes all c.in-Ok.ensures.bytes.0 (λ none. c.in-Ok.ensures.bytes.1 (grind (arith, nat_tests, none)) (omega arith))
 
 pub invariant_of-self-2-clause-unended : goal.invariant_of-self-2-clause-unended

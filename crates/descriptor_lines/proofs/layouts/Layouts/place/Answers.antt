@@ -8,8 +8,8 @@ same_layout :
     (es : List (String Global × Entry)) (place : ℕ) (found : Option Entry)
     → slice_get (map (λ (e : String Global × Entry). e.1) es) place ≡ found
     → option_map (λ (l : List ℕ × Layout). l.1)
-        (slice_get (map (λ (e : String Global × Entry). (string_bytes e.0, e.1.layout)) es) place)
-      ≡ option_map (λ (e : Entry). e.layout) found
+    (slice_get (map (λ (e : String Global × Entry). (string_bytes e.0, e.1.layout)) es) place)
+    ≡ option_map (λ (e : Entry). e.layout) found
 same_layout [] place found is = ap (option_map (λ (e : Entry). e.layout)) is
 same_layout (e ∷ es) zero found is = ap (option_map (λ (e : Entry). e.layout)) is
 same_layout (e ∷ es) (suc place) found is = same_layout es place found is

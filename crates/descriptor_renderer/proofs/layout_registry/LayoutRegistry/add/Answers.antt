@@ -28,8 +28,8 @@ pub returns-clause-counted : goal.returns-clause-counted
 returns-clause-counted g c = λ generations counted.
     let mid = c.put-place.new.self in
     added_counted (number_of mid) c.put-place.result c.args.layout c.hold.result (slots_of c.reserve.new.self.table)
-      (slots_of mid) (slots_of c.hold.new.self) (generations_of c.reserve.new.self.table) c.put-place.ensures.puts
-      c.hold.ensures.renews generations (subst (AreCounted generations) (sym c.reserve.ensures.slots) counted)
+    (slots_of mid) (slots_of c.hold.new.self) (generations_of c.reserve.new.self.table) c.put-place.ensures.puts
+    c.hold.ensures.renews generations (subst (AreCounted generations) (sym c.reserve.ensures.slots) counted)
 
 pub returns-clause-grows : goal.returns-clause-grows
 returns-clause-grows g c =

@@ -43,9 +43,9 @@ invariant_of-self-then-places-clause-own g c =
     let means = g.D.DescriptorDevice.meaning in
     let same = c.add_layout.ensures.slots ∙ c.reserve_layout.ensures.slots in
     own_added means (generations_in c.add_layout.new.self) (layout_slots old.layouts) (layout_slots c.add.new.self)
-      (slots_in c.add_layout.new.self) c.in-Ok.ensures.stay
-      (own_as means (layout_slots old.layouts) old.store c.add_layout.new.self
-         (c.add_layout.ensures.generations ∙ c.reserve_layout.ensures.stays.generations) same old.own)
+    (slots_in c.add_layout.new.self) c.in-Ok.ensures.stay
+    (own_as means (layout_slots old.layouts) old.store c.add_layout.new.self
+    (c.add_layout.ensures.generations ∙ c.reserve_layout.ensures.stays.generations) same old.own)
 
 pub invariant_of-self-then-places-clause-lists : goal.invariant_of-self-then-places-clause-lists
 invariant_of-self-then-places-clause-lists g c =
@@ -68,9 +68,9 @@ invariant_of-self-else-places-clause-own g c =
     let old = c.args.self.now in
     let means = g.D.DescriptorDevice.meaning in
     own_added means (generations_in c.reserve_layout.new.self) (layout_slots old.layouts) (layout_slots c.add.new.self)
-      (slots_in c.reserve_layout.new.self) c.in-Ok.ensures.stay
-      (own_as means (layout_slots old.layouts) old.store c.reserve_layout.new.self
-         c.reserve_layout.ensures.stays.generations c.reserve_layout.ensures.slots old.own)
+    (slots_in c.reserve_layout.new.self) c.in-Ok.ensures.stay
+    (own_as means (layout_slots old.layouts) old.store c.reserve_layout.new.self
+    c.reserve_layout.ensures.stays.generations c.reserve_layout.ensures.slots old.own)
 
 pub invariant_of-self-else-places-clause-lists : goal.invariant_of-self-else-places-clause-lists
 invariant_of-self-else-places-clause-lists g c =

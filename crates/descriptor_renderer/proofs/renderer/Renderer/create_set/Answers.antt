@@ -38,10 +38,10 @@ returns-in-Ok-clause-creates g c =
       set = named.set;
       own =
           own_known g.D.DescriptorDevice.meaning (generations_in c.create.new.self) (layout_slots old.layouts)
-            (slots_in c.create.new.self) own handle.place c.place.result named.set known named.here
-            (named.of_layout
-             ∙ ap (λ generations. current generations c.place.result) (sym c.create.ensures.stays.generations))
-            here;
+          (slots_in c.create.new.self) own handle.place c.place.result named.set known named.here
+          (named.of_layout
+          ∙ ap (λ generations. current generations c.place.result) (sym c.create.ensures.stays.generations))
+          here;
       names = subst (λ n. Names handle named.set (sets_of n old.frame old.is_open (slots_in old.store)) (sets_of n old.frame old.is_open (slots_in c.create.new.self))) old.numbers_sets (named.names old.frame old.is_open refl);
     })
 

@@ -49,10 +49,10 @@ returns-in-Ok-clause-creates g c =
             let h = slice_index_or given i e in
             let same = ap (λ (h : SetHandle). h.place) (same_default given i e (record { renderer = 0; place = 0; generation = 0 }) lt) in
             own_known g.D.DescriptorDevice.meaning (generations_in c.create_each.new.self) (layout_slots old.layouts)
-              new own h.place c.place.result x known (found_set old.renderer old.frame old.is_open new h x found)
-              (ap (λ p. came_under (slot_at new p)) same ∙ named.of_layout i lt
-               ∙ ap (λ generations. current generations c.place.result) (sym c.create_each.ensures.stays.generations))
-              here;
+            new own h.place c.place.result x known (found_set old.renderer old.frame old.is_open new h x found)
+            (ap (λ p. came_under (slot_at new p)) same ∙ named.of_layout i lt
+            ∙ ap (λ generations. current generations c.place.result) (sym c.create_each.ensures.stays.generations))
+            here;
       },
       subst (λ n. HoldAtLast n (current_in c.args.layout.slot.place old.store) given (slots_in old.store) new) old.numbers_sets (subst (λ p. HoldAtLast (number_of old.store) (current_in p old.store) given (slots_in old.store) new) c.place.ensures creates.4),
     )

@@ -39,10 +39,10 @@ returns-in-Ok-clause-draws g c =
       set = named.set;
       own =
           own_known g.D.DescriptorDevice.meaning (generations_in c.draw.new.self) (layout_slots old.layouts)
-            (slots_in c.draw.new.self) own handle.place c.place.result named.set known named.here
-            (named.of_layout
-             ∙ ap (λ generations. current generations c.place.result) (sym c.draw.ensures.stays.generations))
-            here;
+          (slots_in c.draw.new.self) own handle.place c.place.result named.set known named.here
+          (named.of_layout
+          ∙ ap (λ generations. current generations c.place.result) (sym c.draw.ensures.stays.generations))
+          here;
       names = subst (λ n. Names handle named.set (sets_of n old.frame old.is_open (slots_in old.store)) (sets_of n old.frame old.is_open (slots_in c.draw.new.self))) old.numbers_sets (named.names old.frame old.is_open live);
     })
 

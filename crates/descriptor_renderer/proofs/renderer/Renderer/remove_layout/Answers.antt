@@ -22,7 +22,7 @@ gone g c =
     let layouts = layout_slots c.args.self.now.layouts in
     let within = layout_within layouts c.place.result c.in-Some.removed (here g c) in
     subst (λ p. slot_at (layout_slots c.remove.new.self) p ≡ vacated (slot_at layouts p)) (sym c.place.ensures) (
-        ap (λ l. slot_at l c.args.layout.slot.place) (c.in-Some.ensures.slots refl) ∙ slot_set layouts c.args.layout.slot.place (vacated (slot_at layouts c.args.layout.slot.place)) (let at = c.place.ensures in omega arith))
+    ap (λ l. slot_at l c.args.layout.slot.place) (c.in-Some.ensures.slots refl) ∙ slot_set layouts c.args.layout.slot.place (vacated (slot_at layouts c.args.layout.slot.place)) (let at = c.place.ensures in omega arith))
 
 others : (g : Over) (c : After-place g) (n : ℕ) → n ≢ c.place.result → slot_at (layout_slots c.remove.new.self) n ≡ slot_at (layout_slots c.args.self.now.layouts) n
 others g c n ne =
@@ -48,11 +48,11 @@ invariant_of-self-clause-own g c =
     let removes = c.remove_layout.ensures.removes in
     let d = (goal.at.invariant_of-self-clause-own g c).After-place in
     let past :
-        (p : ℕ) → (slot_at new p).layout ≡ c.place.result
-        → (slot_at new p).layout_generation < removed_at c.place.result (generations_in old.store) c.place.result =
-        λ p at.
-          subst (λ (generations : ℕ → ℕ). (slot_at new p).layout_generation < generations c.place.result)
-            removes.generations (removes.past p at) in
+    (p : ℕ) → (slot_at new p).layout ≡ c.place.result
+    → (slot_at new p).layout_generation < removed_at c.place.result (generations_in old.store) c.place.result =
+    λ p at.
+    subst (λ (generations : ℕ → ℕ). (slot_at new p).layout_generation < generations c.place.result)
+    removes.generations (removes.past p at) in
     subst (λ generations. AreOwn g.D.DescriptorDevice.meaning generations fewer new) (sym removes.generations) (own_removed g.D.DescriptorDevice.meaning c.place.result (generations_in old.store) (layout_slots old.layouts) fewer (others g d) (slots_in old.store) new removes.turns past old.own)
 
 pub invariant_of-self-clause-counted : goal.invariant_of-self-clause-counted

@@ -29,15 +29,15 @@ returns-in-Ok-clause-gets g c = record {
   set = c.in-Ok.set;
   puts =
       subst
-        (λ generations.
-           Puts generations c.args.layout c.in-Ok.set c.put.result (slots_of c.args.self.now.table)
-             (slots_of c.put.new.self))
-        (sym c.put.ensures.generations)
-        (subst
-           (λ l.
-              Puts (generations_of c.reserve.new.self) c.args.layout c.in-Ok.set c.put.result l
-                (slots_of c.put.new.self))
-           c.reserve.ensures.slots c.put.ensures.puts);
+      (λ generations.
+      Puts generations c.args.layout c.in-Ok.set c.put.result (slots_of c.args.self.now.table)
+      (slots_of c.put.new.self))
+      (sym c.put.ensures.generations)
+      (subst
+      (λ l.
+      Puts (generations_of c.reserve.new.self) c.args.layout c.in-Ok.set c.put.result l
+      (slots_of c.put.new.self))
+      c.reserve.ensures.slots c.put.ensures.puts);
   own = c.in-Ok.ensures.own;
   hands_out = c.in-Ok.ensures.hands_out;
 }

@@ -19,21 +19,21 @@ cleared g c = record {
 pub returns-else-kept_total-eq0-clause-asks : goal.returns-else-kept_total-eq0-clause-asks
 returns-else-kept_total-eq0-clause-asks g c =
     λ few.
-      on_ok (Asks c.args.known.now.layout c.args.many c.cleanup.new.self c.ask_for-in-Err.new.self)
-        (AsksAtLast c.args.known.now.layout (c.args.many - kept_of c.args.layout c.args.self.now) c.args.many
-           c.args.self.now c.ask_for-in-Err.new.self)
-        c.ask_for-in-Err.result c.ask_for-in-Err.ensures.asks
-        (λ asks.
-           inr
-             (c.cleanup.new.self, cleared g (goal.at.returns-else-kept_total-eq0-clause-asks g c).After-cleanup, asks))
+    on_ok (Asks c.args.known.now.layout c.args.many c.cleanup.new.self c.ask_for-in-Err.new.self)
+    (AsksAtLast c.args.known.now.layout (c.args.many - kept_of c.args.layout c.args.self.now) c.args.many
+    c.args.self.now c.ask_for-in-Err.new.self)
+    c.ask_for-in-Err.result c.ask_for-in-Err.ensures.asks
+    (λ asks.
+    inr
+    (c.cleanup.new.self, cleared g (goal.at.returns-else-kept_total-eq0-clause-asks g c).After-cleanup, asks))
 
 pub returns-else-kept_total-eq0-clause-refused : goal.returns-else-kept_total-eq0-clause-refused
 returns-else-kept_total-eq0-clause-refused g c =
     if_err (λ error. IsRefused c.args.known.now.layout c.args.many error c.cleanup.new.self c.ask_for-in-Err.new.self)
-      (λ error.
-         IsRefusedAtLast c.args.known.now.layout (c.args.many - kept_of c.args.layout c.args.self.now) c.args.many error
-           c.args.self.now c.ask_for-in-Err.new.self)
-      c.ask_for-in-Err.result c.ask_for-in-Err.ensures.refused (λ error refused. record {
-  none = ap (count is_kept) refused.slots ∙ none_left (slots_in c.ask_for.new.self) (slots_in c.cleanup.new.self) c.cleanup.ensures.cleaned;
-  why = inr (c.cleanup.new.self, cleared g (goal.at.returns-else-kept_total-eq0-clause-refused g c).After-cleanup, refused);
-})
+    (λ error.
+    IsRefusedAtLast c.args.known.now.layout (c.args.many - kept_of c.args.layout c.args.self.now) c.args.many error
+    c.args.self.now c.ask_for-in-Err.new.self)
+    c.ask_for-in-Err.result c.ask_for-in-Err.ensures.refused (λ error refused. record {
+      none = ap (count is_kept) refused.slots ∙ none_left (slots_in c.ask_for.new.self) (slots_in c.cleanup.new.self) c.cleanup.ensures.cleaned;
+      why = inr (c.cleanup.new.self, cleared g (goal.at.returns-else-kept_total-eq0-clause-refused g c).After-cleanup, refused);
+    })

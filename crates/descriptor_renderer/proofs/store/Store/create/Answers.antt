@@ -42,8 +42,8 @@ invariant_of-self-clause-accounted g c =
 pub returns-clause-named : goal.returns-clause-named
 returns-clause-named g c =
     named (ComesOf g.D.DescriptorDevice.meaning c.args.known.now.layout c.args.layout) (number_of c.args.self.now)
-      (generations_in c.args.self.now) c.args.layout c.in_ok-place.place Held c.hold.result (slots_in c.args.self.now)
-      (slots_of c.hold.new.self) (handles g (goal.at.returns-clause-named g c).After-hold)
+    (generations_in c.args.self.now) c.args.layout c.in_ok-place.place Held c.hold.result (slots_in c.args.self.now)
+    (slots_of c.hold.new.self) (handles g (goal.at.returns-clause-named g c).After-hold)
 
 pub returns-clause-kept : goal.returns-clause-kept
 returns-clause-kept g c = λ some. (c.hold.result, refl, kept_handle c.args.layout c.in_ok-place.place Held c.hold.result c.args.self.now c.take.new.self _ (c.in_ok-place.ensures.kept some) (renews g (goal.at.returns-clause-kept g c).After-hold) refl)
@@ -58,10 +58,10 @@ returns-clause-settles g c =
     let comes = ComesOf g.D.DescriptorDevice.meaning c.args.known.now.layout c.args.layout in
     let h = handles g (goal.at.returns-clause-settles g c).After-hold in
     arrived comes 0 c.args.self.now _
-      (handled_arrives comes (number_of c.args.self.now) (generations_in c.args.self.now) c.args.layout
-         c.in_ok-place.place Held c.hold.result (slots_in c.args.self.now) (slots_of c.hold.new.self) h 0 refl
-         (omega arith))
-      (ap (λ v. v.items) c.take.ensures.coming ∙ c.requires.rest.none_coming) c.requires.rest
+    (handled_arrives comes (number_of c.args.self.now) (generations_in c.args.self.now) c.args.layout
+    c.in_ok-place.place Held c.hold.result (slots_in c.args.self.now) (slots_of c.hold.new.self) h 0 refl
+    (omega arith))
+    (ap (λ v. v.items) c.take.ensures.coming ∙ c.requires.rest.none_coming) c.requires.rest
 
 pub returns-in_err-place-clause-grows : goal.returns-in_err-place-clause-grows
 returns-in_err-place-clause-grows g c = grow_refused c.args.known.now.layout 1 1 c.in_err-place.field-0.0 c.args.self.now c.take.new.self c.in_err-place.ensures.refused
@@ -69,5 +69,5 @@ returns-in_err-place-clause-grows g c = grow_refused c.args.known.now.layout 1 1
 pub returns-clause-grows : goal.returns-clause-grows
 returns-clause-grows g c =
     grow_taken c.args.known.now.layout (number_of c.args.self.now) c.args.layout c.in_ok-place.place Held c.hold.result
-      c.args.self.now c.take.new.self (slots_of c.hold.new.self) (λ s. refl) c.in_ok-place.ensures.kept
-      c.in_ok-place.ensures.comes (renews g (goal.at.returns-clause-grows g c).After-hold)
+    c.args.self.now c.take.new.self (slots_of c.hold.new.self) (λ s. refl) c.in_ok-place.ensures.kept
+    c.in_ok-place.ensures.comes (renews g (goal.at.returns-clause-grows g c).After-hold)

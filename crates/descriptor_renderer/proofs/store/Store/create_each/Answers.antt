@@ -19,15 +19,15 @@ brings g c = brought c.args.known.now.layout c.args.layout c.args.many c.args.se
 all_held :
     (g : Over) (c : After-hold_coming g)
     → (given : List SetHandle) × (c.hold_coming.new.handles.items ≡ c.args.handles.now.items ++ given)
-      × (length given ≡ c.args.many)
-      × HoldEach (number_of c.args.self.now) (current_in c.args.layout c.args.self.now) given
-          (slots_in c.bring.new.self) (slots_in c.hold_coming.new.self)
+    × (length given ≡ c.args.many)
+    × HoldEach (number_of c.args.self.now) (current_in c.args.layout c.args.self.now) given
+    (slots_in c.bring.new.self) (slots_in c.hold_coming.new.self)
 all_held g c =
     let h =
-        held_then c.args.layout (c.args.many - c.len.result) (length (coming_in c.hold_kept.new.self).items)
-          c.args.handles.now.items c.hold_kept.new.handles.items c.hold_coming.new.handles.items c.bring.new.self
-          c.hold_kept.new.self c.hold_coming.new.self c.hold_kept.ensures.stays c.hold_kept.ensures.holds
-          c.hold_coming.ensures.holds in
+    held_then c.args.layout (c.args.many - c.len.result) (length (coming_in c.hold_kept.new.self).items)
+    c.args.handles.now.items c.hold_kept.new.handles.items c.hold_coming.new.handles.items c.bring.new.self
+    c.hold_kept.new.self c.hold_coming.new.self c.hold_kept.ensures.stays c.hold_kept.ensures.holds
+    c.hold_coming.ensures.holds in
     let same = ap (λ v. length v.items) c.hold_kept.ensures.coming in
     let few = (brings g c).few in
     let count = c.len.ensures in
@@ -64,10 +64,10 @@ returns-clause-settles g c =
     let comes = ComesOf g.D.DescriptorDevice.meaning c.args.known.now.layout c.args.layout in
     let h = all_held g c in
     arrived comes 0 c.args.self.now c.hold_coming.new.self
-      (holds_arrives (number_of c.args.self.now) (current_in c.args.layout c.args.self.now) h.0
-         (slots_in c.args.self.now) (slots_in c.bring.new.self) (slots_in c.hold_coming.new.self) (brings g c).clear h.3
-         comes 0 (come g c))
-      c.hold_coming.ensures.none c.requires.rest
+    (holds_arrives (number_of c.args.self.now) (current_in c.args.layout c.args.self.now) h.0
+    (slots_in c.args.self.now) (slots_in c.bring.new.self) (slots_in c.hold_coming.new.self) (brings g c).clear h.3
+    comes 0 (come g c))
+    c.hold_coming.ensures.none c.requires.rest
 
 pub returns-in_err-bring-clause-grows : goal.returns-in_err-bring-clause-grows
 returns-in_err-bring-clause-grows g c = grow_refused c.args.known.now.layout _ c.args.many c.in_err-bring.field-0.0 c.args.self.now c.bring.new.self c.in_err-bring.ensures.refused

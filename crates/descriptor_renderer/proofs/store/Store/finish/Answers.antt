@@ -41,9 +41,9 @@ returns-clause-none_due g c =
     let new = slots_of c.give.new.self.table in
     let most = c.args.self.now.table.most in
     back_not_due (generations_of c.args.self.now.table) c.args.frame most old new
-      (came_back (is_due c.args.frame) (generations_of c.args.self.now.table) most old (slots_of c.settle_due.new.self)
-         new (due_full c.args.frame) (none_goes old c.requires.rest.placed) c.settle_due.ensures.turns
-         c.give.ensures.gives.turns)
+    (came_back (is_due c.args.frame) (generations_of c.args.self.now.table) most old (slots_of c.settle_due.new.self)
+    new (due_full c.args.frame) (none_goes old c.requires.rest.placed) c.settle_due.ensures.turns
+    c.give.ensures.gives.turns)
 
 pub returns-clause-settles : goal.returns-clause-settles
 returns-clause-settles g c =
@@ -52,6 +52,6 @@ returns-clause-settles g c =
     let most = c.args.self.now.table.most in
     let turns = came_back (is_due c.args.frame) (generations_of c.args.self.now.table) most old (slots_of c.settle_due.new.self) new (due_full c.args.frame) (none_goes old c.requires.rest.placed) c.settle_due.ensures.turns c.give.ensures.gives.turns in
     settled 0 c.args.self.now c.give.new.self
-      (follow_turns 0 (is_due c.args.frame) (IsBack (generations_of c.args.self.now.table) most) old new turns
-         (follows_back 0 (generations_of c.args.self.now.table) most new))
-      (ap (λ v. v.items) c.give.ensures.coming ∙ c.requires.rest.none_coming) c.requires.rest
+    (follow_turns 0 (is_due c.args.frame) (IsBack (generations_of c.args.self.now.table) most) old new turns
+    (follows_back 0 (generations_of c.args.self.now.table) most new))
+    (ap (λ v. v.items) c.give.ensures.coming ∙ c.requires.rest.none_coming) c.requires.rest

@@ -54,10 +54,10 @@ returns-clause-settles g c =
     let once = c.if-not-take_each.ensures.once.0 refl in
     let back = back_each handles old (slots_of c.take_each.new.self) took c.args.self.now.table.number (generations_of c.take_each.new.self) most (slots_of c.settle_each.new.self) new once c.requires.rest.placed c.settle_each.ensures.turns c.give.ensures.gives.turns in
     settled 0 c.args.self.now c.give.new.self
-      (follow_each 0 handles old new
-         (λ i lt.
-            let p = place_at handles i in
-            follows_back 0 (generations_of c.take_each.new.self) most new (slot_at old p) (slot_at new p)
-              (back.named i lt))
-         back.rest)
-      (ap (λ v. v.items) c.give.ensures.coming ∙ c.requires.rest.none_coming) c.requires.rest
+    (follow_each 0 handles old new
+    (λ i lt.
+    let p = place_at handles i in
+    follows_back 0 (generations_of c.take_each.new.self) most new (slot_at old p) (slot_at new p)
+    (back.named i lt))
+    back.rest)
+    (ap (λ v. v.items) c.give.ensures.coming ∙ c.requires.rest.none_coming) c.requires.rest

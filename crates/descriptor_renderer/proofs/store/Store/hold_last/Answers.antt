@@ -66,13 +66,13 @@ returns-clause-table g c =
     let puts = c.put-place.ensures.puts in
     let room = subst (λ n. HasRoom n c.args.self.now.table) (fewer g h) c.requires.table in
     room_stays (length c.pop.new.self.items) c.put-place.new.self c.hold.new.self c.hold.ensures.stays
-      (ap length r.slots ∙ length-set put c.put-place.result (renewed Held (slot_at put c.put-place.result)))
-      (usable_renewed (number_of c.args.self.now) c.put-place.result Held c.hold.result put (slots_of c.hold.new.self) r
-         puts.within (ap (λ s. s.used) puts.here) refl)
-      (c.put-place.ensures.reserve (length c.pop.new.self.items) room)
+    (ap length r.slots ∙ length-set put c.put-place.result (renewed Held (slot_at put c.put-place.result)))
+    (usable_renewed (number_of c.args.self.now) c.put-place.result Held c.hold.result put (slots_of c.hold.new.self) r
+    puts.within (ap (λ s. s.used) puts.here) refl)
+    (c.put-place.ensures.reserve (length c.pop.new.self.items) room)
 
 pub returns-clause-grows : goal.returns-clause-grows
 returns-clause-grows g c =
     grow_new (number_of c.args.self.now) (generations_in c.args.self.now) c.args.layout c.put-place.result c.in-Some.set
-      Held c.hold.result (slots_in c.args.self.now) (slots_of c.put-place.new.self) (slots_of c.hold.new.self)
-      (λ s. refl) c.put-place.ensures.puts (renews g (goal.at.returns-clause-grows g c).After-hold)
+    Held c.hold.result (slots_in c.args.self.now) (slots_of c.put-place.new.self) (slots_of c.hold.new.self)
+    (λ s. refl) c.put-place.ensures.puts (renews g (goal.at.returns-clause-grows g c).After-hold)

@@ -24,9 +24,9 @@ renews g c = subst (λ n. Renews n c.in-Some.place Held c.hold.result (slots_of 
 same_sets : (g : Over) (c : After-hold g) → sets_in (slots_of c.hold.new.self) ≡ sets_in (slots_in c.args.self.now)
 same_sets g c =
     renewed_sets (number_of c.args.self.now) c.in-Some.place Held c.hold.result (slots_of c.take_kept.new.self)
-      (slots_of c.hold.new.self) (renews g c)
+    (slots_of c.hold.new.self) (renews g c)
     ∙ picked_sets (is_kept_of c.args.layout) c.in-Some.place (slots_in c.args.self.now) (slots_of c.take_kept.new.self)
-        c.in-Some.ensures.picks
+    c.in-Some.ensures.picks
 
 pub unreachable-requires : goal.unreachable-requires
 unreachable-requires g c =
@@ -50,9 +50,9 @@ pub returns-clause-holds : goal.returns-clause-holds
 returns-clause-holds g c =
     let h = (goal.at.returns-clause-holds g c).After-hold in
     let fills =
-        kept_fills NoneComes (number_of c.args.self.now) (generations_in c.args.self.now) c.args.layout c.in-Some.place
-          Held c.hold.result (slots_in c.args.self.now) (slots_of c.take_kept.new.self) (slots_of c.hold.new.self)
-          (λ q within. (c.args.self.now.table.known q within).kept) c.in-Some.ensures.picks (renews g h) in
+    kept_fills NoneComes (number_of c.args.self.now) (generations_in c.args.self.now) c.args.layout c.in-Some.place
+    Held c.hold.result (slots_in c.args.self.now) (slots_of c.take_kept.new.self) (slots_of c.hold.new.self)
+    (λ q within. (c.args.self.now.table.known q within).kept) c.in-Some.ensures.picks (renews g h) in
     (c.hold.result, c.push_reserved.ensures.items, hold_one NoneComes (number_of c.args.self.now) (generations_in c.args.self.now) c.args.layout c.in-Some.place c.hold.result (slots_in c.args.self.now) (slots_of c.hold.new.self) fills)
 
 pub returns-clause-fewer : goal.returns-clause-fewer
@@ -61,8 +61,8 @@ returns-clause-fewer g c = kept_fewer c.args.layout c.in-Some.place (number_of c
 pub returns-clause-grows : goal.returns-clause-grows
 returns-clause-grows g c =
     grow_kept (is_kept_of c.args.layout) c.in-Some.place (number_of c.args.self.now) c.in-Some.place Held c.hold.result
-      (slots_in c.args.self.now) (slots_of c.take_kept.new.self) (slots_of c.hold.new.self) c.in-Some.ensures.picks
-      (renews g (goal.at.returns-clause-grows g c).After-hold)
+    (slots_in c.args.self.now) (slots_of c.take_kept.new.self) (slots_of c.hold.new.self) c.in-Some.ensures.picks
+    (renews g (goal.at.returns-clause-grows g c).After-hold)
 
 pub returns-clause-table : goal.returns-clause-table
 returns-clause-table g c = λ n room.

@@ -13,14 +13,14 @@ cleared g c = record { refused = c.ask.new.self; error = c.in-Err.error; first =
 pub returns-else-kept_total-eq0-clause-gets : goal.returns-else-kept_total-eq0-clause-gets
 returns-else-kept_total-eq0-clause-gets g c =
     if_ok (λ place. Gets c.args.known.now.layout c.args.layout place c.cleanup.new.self c.ask-in-Err.new.self)
-      (λ place. GetsAtLast c.args.known.now.layout c.args.layout place c.args.self.now c.ask-in-Err.new.self)
-      c.ask-in-Err.result c.ask-in-Err.ensures.gets (λ place gets. inr (c.cleanup.new.self, cleared g c, gets))
+    (λ place. GetsAtLast c.args.known.now.layout c.args.layout place c.args.self.now c.ask-in-Err.new.self)
+    c.ask-in-Err.result c.ask-in-Err.ensures.gets (λ place gets. inr (c.cleanup.new.self, cleared g c, gets))
 
 pub returns-else-kept_total-eq0-clause-refused : goal.returns-else-kept_total-eq0-clause-refused
 returns-else-kept_total-eq0-clause-refused g c =
     if_err (λ error. IsRefused c.args.known.now.layout 1 error c.cleanup.new.self c.ask-in-Err.new.self)
-      (λ error. IsRefusedAtLast c.args.known.now.layout 1 1 error c.args.self.now c.ask-in-Err.new.self)
-      c.ask-in-Err.result c.ask-in-Err.ensures.refused (λ error refused. record {
-  none = ap (count is_kept) refused.slots ∙ none_left (slots_in c.ask.new.self) (slots_in c.cleanup.new.self) c.cleanup.ensures.cleaned;
-  why = inr (c.cleanup.new.self, cleared g c, refused);
-})
+    (λ error. IsRefusedAtLast c.args.known.now.layout 1 1 error c.args.self.now c.ask-in-Err.new.self)
+    c.ask-in-Err.result c.ask-in-Err.ensures.refused (λ error refused. record {
+      none = ap (count is_kept) refused.slots ∙ none_left (slots_in c.ask.new.self) (slots_in c.cleanup.new.self) c.cleanup.ensures.cleaned;
+      why = inr (c.cleanup.new.self, cleared g c, refused);
+    })

@@ -29,11 +29,11 @@ invariant_of-self-in-Ok g c =
     record {
       owed =
           ∥∥₁_map old.owed
-            (λ o.
-               moved _ _ (old.log.owed + length sets) c.put.new.self.owed put.ledger
-                 (c.put.ensures.owed ∙ ap (λ (n : ℕ). n + c.len-count.result) c.reserve.ensures.owed
-                  ∙ ap (λ (n : ℕ). old.log.owed + n) (c.len-count.ensures ∙ sym many))
-                 (allocated (ledger_of old.device) old.log.owed c.args.pool.now.id gives.pool sets gives.is_live o));
+          (λ o.
+          moved _ _ (old.log.owed + length sets) c.put.new.self.owed put.ledger
+          (c.put.ensures.owed ∙ ap (λ (n : ℕ). n + c.len-count.result) c.reserve.ensures.owed
+          ∙ ap (λ (n : ℕ). old.log.owed + n) (c.len-count.ensures ∙ sym many))
+          (allocated (ledger_of old.device) old.log.owed c.args.pool.now.id gives.pool sets gives.is_live o));
     }
 
 pub invariant_of-self-in-Err-1 : goal.invariant_of-self-in-Err-1
@@ -43,9 +43,9 @@ invariant_of-self-in-Err-1 g c =
     record {
       owed =
           ∥∥₁_map old.owed
-            (λ o.
-               refused (ledger_of old.device) _ c.args.pool.now.id (pool_refusals c.in-Err.error) gives.pool _
-                 gives.is_live (ap (λ (l : Ledger). l.pools) c.in-Err.ensures.err.ledger)
-                 (moved (ledger_of old.device) (ledger_of old.device) old.log.owed c.reserve.new.self.owed refl
-                    c.reserve.ensures.owed o));
+          (λ o.
+          refused (ledger_of old.device) _ c.args.pool.now.id (pool_refusals c.in-Err.error) gives.pool _
+          gives.is_live (ap (λ (l : Ledger). l.pools) c.in-Err.ensures.err.ledger)
+          (moved (ledger_of old.device) (ledger_of old.device) old.log.owed c.reserve.new.self.owed refl
+          c.reserve.ensures.owed o));
     }

@@ -39,12 +39,12 @@ returns-in-Ok-clause-keeps g c = record {
     agree = c.in-Ok.ensures.keeps.agree;
     held =
         rw (c.append.ensures, c.reserve.ensures.sets)
-          (all_held_more g.D.DescriptorDevice.meaning.set_name c.args.self.now.slots.sets.items c.in-Ok.sets.items
-             (state_of g.D.DescriptorDevice.meaning.pool_name c.args.self.now.allocator
-                (g.D.DescriptorDevice.ledger c.args.device.now))
-             (state_of g.D.DescriptorDevice.meaning.pool_name c.allocate_for.new.self
-                (g.D.DescriptorDevice.ledger c.allocate_for.new.device))
-             c.requires.ready.held c.in-Ok.ensures.hands_out.given);
+        (all_held_more g.D.DescriptorDevice.meaning.set_name c.args.self.now.slots.sets.items c.in-Ok.sets.items
+        (state_of g.D.DescriptorDevice.meaning.pool_name c.args.self.now.allocator
+        (g.D.DescriptorDevice.ledger c.args.device.now))
+        (state_of g.D.DescriptorDevice.meaning.pool_name c.allocate_for.new.self
+        (g.D.DescriptorDevice.ledger c.allocate_for.new.device))
+        c.requires.ready.held c.in-Ok.ensures.hands_out.given);
     meant = c.requires.ready.meant;
   };
   allocator = c.in-Ok.ensures.keeps;

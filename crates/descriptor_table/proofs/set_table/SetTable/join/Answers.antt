@@ -13,11 +13,11 @@ overflow_add-chain g c =
     let few = s.sized.few in
     let is = read_frame s.frames.items c.args.at c.index_mut-chain.result.now c.requires.within c.index_mut-chain.ensures.value in
     let more =
-        join_more s.slots.items s.next.items s.frames.items s.framed s.rising c.args.at c.args.place
-          c.index_mut-chain.result.now (used_for c.args.used (slot_at s.slots.items c.args.place)) c.requires.within is
-          c.requires.taken.taken.within c.requires.taken.taken.taken
-          (ap (λ (d : FrameChain). is_of d.frame (used_for c.args.used (slot_at s.slots.items c.args.place))) is
-           ∙ c.requires.goes) in
+    join_more s.slots.items s.next.items s.frames.items s.framed s.rising c.args.at c.args.place
+    c.index_mut-chain.result.now (used_for c.args.used (slot_at s.slots.items c.args.place)) c.requires.within is
+    c.requires.taken.taken.within c.requires.taken.taken.taken
+    (ap (λ (d : FrameChain). is_of d.frame (used_for c.args.used (slot_at s.slots.items c.args.place))) is
+    ∙ c.requires.goes) in
     omega arith
 
 pub invariant_of-self-clause-linked : goal.invariant_of-self-clause-linked
@@ -27,9 +27,9 @@ invariant_of-self-clause-linked g c =
     let read = read_slot s.slots.items c.args.place c.index_mut-2.result.now c.requires.taken.taken.within c.index_mut-2.ensures.value in
     let new = used_for c.args.used c.index_mut-2.result.now in
     wait_linked s.slots.items s.next.items s.chains.items s.linked c.args.place new c.index_mut-chain.result.now.first
-      c.requires.taken.taken.within c.requires.taken.taken.taken
-      (in_no_list (frame_at s.frames.items c.args.at).frame new
-         (ap (λ w. is_of (frame_at s.frames.items c.args.at).frame (used_for c.args.used w)) read ∙ c.requires.goes))
+    c.requires.taken.taken.within c.requires.taken.taken.taken
+    (in_no_list (frame_at s.frames.items c.args.at).frame new
+    (ap (λ w. is_of (frame_at s.frames.items c.args.at).frame (used_for c.args.used w)) read ∙ c.requires.goes))
 
 pub invariant_of-self-clause-framed : goal.invariant_of-self-clause-framed
 invariant_of-self-clause-framed g c =
@@ -38,10 +38,10 @@ invariant_of-self-clause-framed g c =
     let read = read_slot s.slots.items c.args.place c.index_mut-2.result.now c.requires.taken.taken.within c.index_mut-2.ensures.value in
     let new = used_for c.args.used c.index_mut-2.result.now in
     join_framed s.slots.items s.next.items s.frames.items s.framed s.rising c.args.at c.args.place
-      c.index_mut-chain.result.now new c.requires.within is c.requires.taken.taken.within s.sized.links
-      c.requires.taken.taken.taken
-      (ap (λ (d : FrameChain). is_of d.frame new) is
-       ∙ ap (λ w. is_of (frame_at s.frames.items c.args.at).frame (used_for c.args.used w)) read ∙ c.requires.goes)
+    c.index_mut-chain.result.now new c.requires.within is c.requires.taken.taken.within s.sized.links
+    c.requires.taken.taken.taken
+    (ap (λ (d : FrameChain). is_of d.frame new) is
+    ∙ ap (λ w. is_of (frame_at s.frames.items c.args.at).frame (used_for c.args.used w)) read ∙ c.requires.goes)
 
 pub invariant_of-self-clause-rising : goal.invariant_of-self-clause-rising
 invariant_of-self-clause-rising g c =

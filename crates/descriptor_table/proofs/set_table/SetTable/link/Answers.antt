@@ -12,12 +12,12 @@ overflow_add-chain g c =
     let s = c.args.self.now in
     let few = s.sized.few in
     let more =
-        link_more s.slots.items s.next.items s.chains.items c.args.list c.index_mut-chain.result.now s.linked
-          (sym
-             (read_chain s.chains.items c.args.list c.index_mut-chain.result.now c.requires.list
-                c.index_mut-chain.ensures.value))
-          c.args.place (used_for c.args.used (slot_at s.slots.items c.args.place)) c.requires.taken.within
-          c.requires.taken.taken c.requires.goes in
+    link_more s.slots.items s.next.items s.chains.items c.args.list c.index_mut-chain.result.now s.linked
+    (sym
+    (read_chain s.chains.items c.args.list c.index_mut-chain.result.now c.requires.list
+    c.index_mut-chain.ensures.value))
+    c.args.place (used_for c.args.used (slot_at s.slots.items c.args.place)) c.requires.taken.within
+    c.requires.taken.taken c.requires.goes in
     omega arith
 
 pub invariant_of-self-clause-linked : goal.invariant_of-self-clause-linked
@@ -25,21 +25,21 @@ invariant_of-self-clause-linked g c =
     let s = c.args.self.now in
     let read = read_slot s.slots.items c.args.place c.index_mut-2.result.now c.requires.taken.within c.index_mut-2.ensures.value in
     link_linked s.slots.items s.next.items s.chains.items c.args.list c.index_mut-chain.result.now s.linked
-      (sym
-         (read_chain s.chains.items c.args.list c.index_mut-chain.result.now c.requires.list
-            c.index_mut-chain.ensures.value))
-      c.args.place (used_for c.args.used c.index_mut-2.result.now) c.requires.taken.within s.sized.links c.requires.list
-      c.requires.taken.taken (ap (λ w. is_in c.args.list (used_for c.args.used w)) read ∙ c.requires.goes)
+    (sym
+    (read_chain s.chains.items c.args.list c.index_mut-chain.result.now c.requires.list
+    c.index_mut-chain.ensures.value))
+    c.args.place (used_for c.args.used c.index_mut-2.result.now) c.requires.taken.within s.sized.links c.requires.list
+    c.requires.taken.taken (ap (λ w. is_in c.args.list (used_for c.args.used w)) read ∙ c.requires.goes)
 
 pub invariant_of-self-clause-framed : goal.invariant_of-self-clause-framed
 invariant_of-self-clause-framed g c =
     let s = c.args.self.now in
     let read = read_slot s.slots.items c.args.place c.index_mut-2.result.now c.requires.taken.within c.index_mut-2.ensures.value in
     link_framed s.slots.items s.next.items s.frames.items s.framed c.args.place
-      (used_for c.args.used c.index_mut-2.result.now) c.index_mut-chain.result.now.first c.requires.taken.within
-      (taken_no_frame (slot_at s.slots.items c.args.place) c.requires.taken.taken)
-      (in_no_frame c.args.list (used_for c.args.used c.index_mut-2.result.now)
-         (ap (λ w. is_in c.args.list (used_for c.args.used w)) read ∙ c.requires.goes))
+    (used_for c.args.used c.index_mut-2.result.now) c.index_mut-chain.result.now.first c.requires.taken.within
+    (taken_no_frame (slot_at s.slots.items c.args.place) c.requires.taken.taken)
+    (in_no_frame c.args.list (used_for c.args.used c.index_mut-2.result.now)
+    (ap (λ w. is_in c.args.list (used_for c.args.used w)) read ∙ c.requires.goes))
 
 pub invariant_of-self-clause-counted : goal.invariant_of-self-clause-counted
 invariant_of-self-clause-counted g c =
@@ -59,11 +59,11 @@ pub invariant_of-self-clause-few : goal.invariant_of-self-clause-few
 invariant_of-self-clause-few g c =
     let s = c.args.self.now in
     few_set s.most s.chains.items c.args.list
-      (record { first = c.args.place; count = c.index_mut-chain.result.now.count + 1 }) s.few c.requires.list
-      (λ two.
-         let few = c.requires.few two in
-         let same =
-             ap (λ (d : Chain). d.count)
-               (read_chain s.chains.items c.args.list c.index_mut-chain.result.now c.requires.list
-                  c.index_mut-chain.ensures.value) in
-         omega arith)
+    (record { first = c.args.place; count = c.index_mut-chain.result.now.count + 1 }) s.few c.requires.list
+    (λ two.
+    let few = c.requires.few two in
+    let same =
+    ap (λ (d : Chain). d.count)
+    (read_chain s.chains.items c.args.list c.index_mut-chain.result.now c.requires.list
+    c.index_mut-chain.ensures.value) in
+    omega arith)

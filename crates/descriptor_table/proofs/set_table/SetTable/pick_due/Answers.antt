@@ -25,12 +25,12 @@ returns-then-chain-frame-clause-picks g c =
     record {
       none =
           none_due s.slots.items s.next.items s.frames.items s.framed s.rising c.args.frame
-            (λ i lt.
-               elim (below_or i (c.len-count.result - 1)) [
-                 inl b ↦ (let h = s.rising.falls i (c.len-count.result - 1) b (omega arith) in omega arith)
-                 | inr a ↦ (
-                     let e : i ≡ c.len-count.result - 1 = omega arith in
-                     let h = ap (λ i. (frame_at s.frames.items i).frame) e in omega arith)
-               ]);
-      slots = refl
+          (λ i lt.
+          elim (below_or i (c.len-count.result - 1)) [
+            | inl b ↦ (let h = s.rising.falls i (c.len-count.result - 1) b (omega arith) in omega arith)
+            | inr a ↦ (
+                let e : i ≡ c.len-count.result - 1 = omega arith in
+                let h = ap (λ i. (frame_at s.frames.items i).frame) e in omega arith)
+          ]);
+      slots = refl;
     }

@@ -48,10 +48,10 @@ invariant_of-self-clause-linked g c =
     let s = c.args.self.now in
     let d = (goal.at.invariant_of-self-clause-linked g c).After-index_mut-chain in
     out_linked s.slots.items s.next.items s.chains.items s.linked c.index_mut-chain.result.now.first
-      (used_for Taken c.index_mut.result.now) (inside g d)
-      (in_no_list (frame_at s.frames.items (length s.frames.items - 1)).frame
-         (slot_at s.slots.items c.index_mut-chain.result.now.first) (waits g d))
-      (λ k. refl)
+    (used_for Taken c.index_mut.result.now) (inside g d)
+    (in_no_list (frame_at s.frames.items (length s.frames.items - 1)).frame
+    (slot_at s.slots.items c.index_mut-chain.result.now.first) (waits g d))
+    (λ k. refl)
 
 pub invariant_of-self-clause-framed : goal.invariant_of-self-clause-framed
 invariant_of-self-clause-framed g c =
@@ -62,10 +62,10 @@ invariant_of-self-clause-framed g c =
     let i = inside g d in
     let links = s.sized.links in
     shorten_framed s.slots.items s.next.items s.frames.items s.framed s.rising (c.len-last.result - 1)
-      c.index.result.now c.index_mut-chain.result.now c.index_mut.result.now (let ok = s.frames.ok in omega arith)
-      (read_frame s.frames.items (c.len-last.result - 1) c.index_mut-chain.result.now
-         (let ok = s.frames.ok in omega arith) c.index_mut-chain.ensures.value)
-      (get_or_read s.next.items c.index_mut-chain.result.now.first c.index.result.now (omega arith) c.index.ensures 0)
+    c.index.result.now c.index_mut-chain.result.now c.index_mut.result.now (let ok = s.frames.ok in omega arith)
+    (read_frame s.frames.items (c.len-last.result - 1) c.index_mut-chain.result.now
+    (let ok = s.frames.ok in omega arith) c.index_mut-chain.ensures.value)
+    (get_or_read s.next.items c.index_mut-chain.result.now.first c.index.result.now (omega arith) c.index.ensures 0)
 
 pub invariant_of-self-clause-rising : goal.invariant_of-self-clause-rising
 invariant_of-self-clause-rising g c =
@@ -77,16 +77,16 @@ invariant_of-self-clause-rising g c =
     let ok = s.frames.ok in
     let count = ap (λ (d : FrameChain). d.count) (is_last g d) in
     has_set s.frames.items (c.len-last.result - 1)
-      (record {
-         frame = c.index_mut-chain.result.now.frame;
-         first = c.index.result.now;
-         count = c.index_mut-chain.result.now.count - 1
-       })
-      s.rising (omega arith)
-      (ap (λ (d : FrameChain). d.frame)
-         (read_frame s.frames.items (c.len-last.result - 1) c.index_mut-chain.result.now (omega arith)
-            c.index_mut-chain.ensures.value))
-      (omega arith)
+    (record {
+      frame = c.index_mut-chain.result.now.frame;
+      first = c.index.result.now;
+      count = c.index_mut-chain.result.now.count - 1;
+    })
+    s.rising (omega arith)
+    (ap (λ (d : FrameChain). d.frame)
+    (read_frame s.frames.items (c.len-last.result - 1) c.index_mut-chain.result.now (omega arith)
+    c.index_mut-chain.ensures.value))
+    (omega arith)
 
 pub invariant_of-self-clause-known : goal.invariant_of-self-clause-known
 invariant_of-self-clause-known g c =

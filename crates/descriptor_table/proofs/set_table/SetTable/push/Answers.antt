@@ -51,34 +51,34 @@ invariant_of-self-clause-linked g c =
     let s = c.args.self.now in
     let new : Slot g.row.T.Denot = record { generation = 0; layout = c.args.layout; layout_generation = c.generation-layout_generation.result; used = Taken; leaves = false; set = Some c.args.set } in
     subst (λ (l : List (Slot g.row.T.Denot)). AreLinked l c.push_reserved-2.new.self.items s.chains.items)
-      (sym c.push_reserved.ensures.items)
-      (subst (λ (l : List ℕ). AreLinked (s.slots.items ++ new ∷ []) l s.chains.items)
-         (sym c.push_reserved-2.ensures.items)
-         (linked_grown s.slots.items s.next.items s.chains.items new refl s.linked))
+    (sym c.push_reserved.ensures.items)
+    (subst (λ (l : List ℕ). AreLinked (s.slots.items ++ new ∷ []) l s.chains.items)
+    (sym c.push_reserved-2.ensures.items)
+    (linked_grown s.slots.items s.next.items s.chains.items new refl s.linked))
 
 pub invariant_of-self-clause-framed : goal.invariant_of-self-clause-framed
 invariant_of-self-clause-framed g c =
     let s = c.args.self.now in
     let new : Slot g.row.T.Denot = record { generation = 0; layout = c.args.layout; layout_generation = c.generation-layout_generation.result; used = Taken; leaves = false; set = Some c.args.set } in
     subst (λ (l : List (Slot g.row.T.Denot)). AreFramed l c.push_reserved-2.new.self.items s.frames.items)
-      (sym c.push_reserved.ensures.items)
-      (subst (λ (l : List ℕ). AreFramed (s.slots.items ++ new ∷ []) l s.frames.items)
-         (sym c.push_reserved-2.ensures.items)
-         (framed_grown s.slots.items s.next.items s.frames.items new refl s.framed))
+    (sym c.push_reserved.ensures.items)
+    (subst (λ (l : List ℕ). AreFramed (s.slots.items ++ new ∷ []) l s.frames.items)
+    (sym c.push_reserved-2.ensures.items)
+    (framed_grown s.slots.items s.next.items s.frames.items new refl s.framed))
 
 pub invariant_of-self-clause-known : goal.invariant_of-self-clause-known
 invariant_of-self-clause-known g c =
     let s = c.args.self.now in
     let new : Slot g.row.T.Denot = record { generation = 0; layout = c.args.layout; layout_generation = c.generation-layout_generation.result; used = Taken; leaves = false; set = Some c.args.set } in
     subst (λ (l : List (Slot g.row.T.Denot)). HasLists l (length s.chains.items) (generations_of s))
-      (sym c.push_reserved.ensures.items)
-      (known_grown s.slots.items new (length s.chains.items) (generations_of s)
-         (record {
-            there = c.requires.layout;
-            before = (let e = c.generation-layout_generation.ensures in omega arith);
-            kept = λ kept. c.generation-layout_generation.ensures
-          })
-         s.known (length_push s.slots.items new))
+    (sym c.push_reserved.ensures.items)
+    (known_grown s.slots.items new (length s.chains.items) (generations_of s)
+    (record {
+      there = c.requires.layout;
+      before = (let e = c.generation-layout_generation.ensures in omega arith);
+      kept = λ kept. c.generation-layout_generation.ensures;
+    })
+    s.known (length_push s.slots.items new))
 
 pub returns-clause-puts : goal.returns-clause-puts
 returns-clause-puts g c =

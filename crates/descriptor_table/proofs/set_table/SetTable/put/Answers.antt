@@ -13,21 +13,21 @@ pub returns-in-Some-clause-puts : goal.returns-in-Some-clause-puts
 returns-in-Some-clause-puts g c =
     let picks = c.in-Some.ensures.picks in
     subst
-      (λ generations.
-         Puts generations c.args.layout c.args.set c.in-Some.place (slots_of c.args.self.now)
-           (slots_of c.fill.new.self))
-      c.in-Some.ensures.stays.generations
-      (puts_again (generations_of c.pick.new.self) c.args.layout c.in-Some.place c.args.set (slots_of c.args.self.now)
-         (slots_of c.pick.new.self) (slots_of c.fill.new.self) picks.within picks.was picks.slots c.fill.ensures.slots)
+    (λ generations.
+    Puts generations c.args.layout c.args.set c.in-Some.place (slots_of c.args.self.now)
+    (slots_of c.fill.new.self))
+    c.in-Some.ensures.stays.generations
+    (puts_again (generations_of c.pick.new.self) c.args.layout c.in-Some.place c.args.set (slots_of c.args.self.now)
+    (slots_of c.pick.new.self) (slots_of c.fill.new.self) picks.within picks.was picks.slots c.fill.ensures.slots)
 
 pub returns-clause-puts : goal.returns-clause-puts
 returns-clause-puts g c =
     let none = c.in_default.ensures.picks.slots in
     subst
-      (λ generations.
-         Puts generations c.args.layout c.args.set c.push.result (slots_of c.args.self.now) (slots_of c.push.new.self))
-      c.in_default.ensures.stays.generations
-      (subst
-         (λ l.
-            Puts (generations_of c.pick.new.self) c.args.layout c.args.set c.push.result l (slots_of c.push.new.self))
-         none c.push.ensures.puts)
+    (λ generations.
+    Puts generations c.args.layout c.args.set c.push.result (slots_of c.args.self.now) (slots_of c.push.new.self))
+    c.in_default.ensures.stays.generations
+    (subst
+    (λ l.
+    Puts (generations_of c.pick.new.self) c.args.layout c.args.set c.push.result l (slots_of c.push.new.self))
+    none c.push.ensures.puts)

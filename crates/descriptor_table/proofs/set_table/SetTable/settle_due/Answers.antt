@@ -28,11 +28,11 @@ loop-place-preserved g c =
     record {
       turning =
           turn_step (is_due c.args.frame) (IsSettled generations most) (slots_of c.args.self.now) now new p
-            (used_for (next_use generations most mid p) (slot_at now p)) inv.turning picks.within picks.was
-            (settled_set generations most now mid new p picks.within out picks.slots is)
-            (settled_grows generations most now mid new p picks.within out picks.slots is)
-            (settled_not_due generations c.args.frame most now)
-            (settled_here generations most now mid new p picks.within out picks.slots is);
+          (used_for (next_use generations most mid p) (slot_at now p)) inv.turning picks.within picks.was
+          (settled_set generations most now mid new p picks.within out picks.slots is)
+          (settled_grows generations most now mid new p picks.within out picks.slots is)
+          (settled_not_due generations c.args.frame most now)
+          (settled_here generations most now mid new p picks.within out picks.slots is);
       stays = stays_more c.args.self.now c.loop-place.self c.settle.new.self inv.stays (stays_more c.loop-place.self c.pick_due.new.self c.settle.new.self c.in-Some.ensures.stays c.settle.ensures.stays);
     }
 
@@ -48,11 +48,11 @@ loop-place-smaller g c =
     let is = settled g (goal.at.loop-place-smaller g c).After-settle in
     let out = due_not_listed c.args.frame (slot_at now p) picks.was in
     one_fewer (is_due c.args.frame) now new p (used_for (next_use generations most mid p) (slot_at now p)) picks.within
-      picks.was
-      (settled_not_due generations c.args.frame most new (slot_at now p)
-         (used_for (next_use generations most mid p) (slot_at now p))
-         (settled_here generations most now mid new p picks.within out picks.slots is))
-      (settled_set generations most now mid new p picks.within out picks.slots is)
+    picks.was
+    (settled_not_due generations c.args.frame most new (slot_at now p)
+    (used_for (next_use generations most mid p) (slot_at now p))
+    (settled_here generations most now mid new p picks.within out picks.slots is))
+    (settled_set generations most now mid new p picks.within out picks.slots is)
 
 pub returns-clause-turns : goal.returns-clause-turns
 returns-clause-turns g c =

@@ -46,7 +46,7 @@ returns-clause-turns g c =
     let now = slots_of c.loop-index.self in
     let end = c.loop-index-test.false in
     turn_end is_taken (IsSettled (generations_of c.args.self.now) c.args.self.now.most) old now inv.turning
-      (none_taken (IsSettled (generations_of c.args.self.now) c.args.self.now.most) (length c.args.handles.now)
-         (place_at c.args.handles.now) old now inv.turning
-         (settled_not_taken (generations_of c.args.self.now) c.args.self.now.most (slots_of c.loop-index.self))
-         c.requires.taken (λ i lt. inv.done i (omega arith)))
+    (none_taken (IsSettled (generations_of c.args.self.now) c.args.self.now.most) (length c.args.handles.now)
+    (place_at c.args.handles.now) old now inv.turning
+    (settled_not_taken (generations_of c.args.self.now) c.args.self.now.most (slots_of c.loop-index.self))
+    c.requires.taken (λ i lt. inv.done i (omega arith)))

@@ -27,8 +27,8 @@ invariant_of-self-clause-linked g c =
     let read = read_slot s.slots.items c.args.place c.index_mut.result.now c.requires.taken.taken.within c.index_mut.ensures.value in
     let new = used_for c.args.used c.index_mut.result.now in
     out_linked s.slots.items s.next.items s.chains.items s.linked c.args.place new c.requires.taken.taken.within
-      (taken_no_list (slot_at s.slots.items c.args.place) c.requires.taken.taken.taken)
-      (in_no_list c.args.frame new (ap (λ w. is_of c.args.frame (used_for c.args.used w)) read ∙ c.requires.goes))
+    (taken_no_list (slot_at s.slots.items c.args.place) c.requires.taken.taken.taken)
+    (in_no_list c.args.frame new (ap (λ w. is_of c.args.frame (used_for c.args.used w)) read ∙ c.requires.goes))
 
 pub invariant_of-self-clause-framed : goal.invariant_of-self-clause-framed
 invariant_of-self-clause-framed g c =
@@ -36,9 +36,9 @@ invariant_of-self-clause-framed g c =
     let read = read_slot s.slots.items c.args.place c.index_mut.result.now c.requires.taken.taken.within c.index_mut.ensures.value in
     let new = used_for c.args.used c.index_mut.result.now in
     subst (λ l. AreFramed (set s.slots.items c.args.place new) s.next.items l) (sym c.in-Ok.ensures.items)
-      (start_framed s.slots.items s.next.items s.frames.items s.framed s.rising c.args.at c.args.place c.args.frame new
-         c.requires.within c.requires.later c.requires.earlier c.requires.taken.taken.within
-         c.requires.taken.taken.taken (ap (λ w. is_of c.args.frame (used_for c.args.used w)) read ∙ c.requires.goes))
+    (start_framed s.slots.items s.next.items s.frames.items s.framed s.rising c.args.at c.args.place c.args.frame new
+    c.requires.within c.requires.later c.requires.earlier c.requires.taken.taken.within
+    c.requires.taken.taken.taken (ap (λ w. is_of c.args.frame (used_for c.args.used w)) read ∙ c.requires.goes))
 
 pub invariant_of-self-clause-rising : goal.invariant_of-self-clause-rising
 invariant_of-self-clause-rising g c =

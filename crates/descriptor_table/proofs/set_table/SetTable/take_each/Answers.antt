@@ -42,9 +42,9 @@ loop-index-preserved g c =
     record {
       some =
           take_more c.args.self.now.number c.args.handles.now c.loop-index.index (slots_of c.args.self.now)
-            (slots_of c.loop-index.self) inv.some (handle g d) c.loop-index-test.true
-            (handle_at c.args.handles.now c.loop-index.index c.loop-index-test.true)
-            (sym (holds g d) ∙ c.if-not-holds.false) (slots_of c.assign.new.self) c.assign.ensures.slots;
+          (slots_of c.loop-index.self) inv.some (handle g d) c.loop-index-test.true
+          (handle_at c.args.handles.now c.loop-index.index c.loop-index-test.true)
+          (sym (holds g d) ∙ c.if-not-holds.false) (slots_of c.assign.new.self) c.assign.ensures.slots;
       stays = stays_more c.args.self.now c.loop-index.self c.assign.new.self inv.stays c.assign.ensures.stays;
     }
 

@@ -9,20 +9,20 @@ use Rattle.descriptor_trace.proofs.traced.TracedDescriptorDeviceScriptLayoutRawP
 pub overflow_sub-before : goal.overflow_sub-before
 overflow_sub-before g c =
     (release_counted g.I.Iterator.next_gives set_id c.args.pool.now.id c.dealloc_descriptor_sets.new.pool.id
-       c.live_sets-before.result c.live_sets-after.result c.args.sets.now c.dealloc_descriptor_sets.new.sets
-       (ledger_of c.args.self.now.device) (ledger_of c.dealloc_descriptor_sets.new.self)
-       c.dealloc_descriptor_sets.ensures.released (c.requires.live [] c.args.sets.now refl)
-       c.dealloc_descriptor_sets.ensures.name c.live_sets-before.ensures.live c.live_sets-after.ensures.live).0
+    c.live_sets-before.result c.live_sets-after.result c.args.sets.now c.dealloc_descriptor_sets.new.sets
+    (ledger_of c.args.self.now.device) (ledger_of c.dealloc_descriptor_sets.new.self)
+    c.dealloc_descriptor_sets.ensures.released (c.requires.live [] c.args.sets.now refl)
+    c.dealloc_descriptor_sets.ensures.name c.live_sets-before.ensures.live c.live_sets-after.ensures.live).0
 
 pub returns-clause-written : goal.returns-clause-written
 returns-clause-written g c =
     let r = c.dealloc_descriptor_sets.ensures.released in
     let counted =
-        (release_counted g.I.Iterator.next_gives set_id c.args.pool.now.id c.dealloc_descriptor_sets.new.pool.id
-           c.live_sets-before.result c.live_sets-after.result c.args.sets.now c.dealloc_descriptor_sets.new.sets
-           (ledger_of c.args.self.now.device) (ledger_of c.dealloc_descriptor_sets.new.self) r
-           (c.requires.live [] c.args.sets.now refl) c.dealloc_descriptor_sets.ensures.name
-           c.live_sets-before.ensures.live c.live_sets-after.ensures.live).1 in
+    (release_counted g.I.Iterator.next_gives set_id c.args.pool.now.id c.dealloc_descriptor_sets.new.pool.id
+    c.live_sets-before.result c.live_sets-after.result c.args.sets.now c.dealloc_descriptor_sets.new.sets
+    (ledger_of c.args.self.now.device) (ledger_of c.dealloc_descriptor_sets.new.self) r
+    (c.requires.live [] c.args.sets.now refl) c.dealloc_descriptor_sets.ensures.name
+    c.live_sets-before.ensures.live c.live_sets-after.ensures.live).1 in
     let w = c.write_release.ensures.written in
     let many = c.live_sets-before.result - c.live_sets-after.result in
     let line : release_line c.id.result many ≡ release_line (pool_id c.args.pool.now) (length r.items) = ap (λ pool. release_line pool many) (c.id.ensures ∙ c.dealloc_descriptor_sets.ensures.name) ∙ ap (release_line (pool_id c.args.pool.now)) counted in

@@ -19,17 +19,17 @@ module _ (g : _) (c : In-Ok g) where
   -- under the layout's key
   taken :
       Takes g.D.DescriptorDevice.meaning (layout_key g.D.DescriptorDevice.meaning c.args.request.now.layout.now)
-        c.args.request.now.count came c.in-Ok.ended
-        (side c.args.self.now (g.D.DescriptorDevice.ledger c.args.device.now))
-        (side c.serve_if_allowed-served.new.self (g.D.DescriptorDevice.ledger c.serve_if_allowed-served.new.device))
+      c.args.request.now.count came c.in-Ok.ended
+      (side c.args.self.now (g.D.DescriptorDevice.ledger c.args.device.now))
+      (side c.serve_if_allowed-served.new.self (g.D.DescriptorDevice.ledger c.serve_if_allowed-served.new.device))
   taken =
       subst
-        (λ (x : Key × List (DescriptorSet g.row.S.Denot)).
-           Takes g.D.DescriptorDevice.meaning x.0 c.args.request.now.count x.1 c.in-Ok.ended
-             (side c.args.self.now (g.D.DescriptorDevice.ledger c.args.device.now))
-             (side c.serve_if_allowed-served.new.self
-                (g.D.DescriptorDevice.ledger c.serve_if_allowed-served.new.device)))
-        (λ i. (c.args.request.now.same i, is_put i)) c.in-Ok.ensures.taken
+      (λ (x : Key × List (DescriptorSet g.row.S.Denot)).
+      Takes g.D.DescriptorDevice.meaning x.0 c.args.request.now.count x.1 c.in-Ok.ended
+      (side c.args.self.now (g.D.DescriptorDevice.ledger c.args.device.now))
+      (side c.serve_if_allowed-served.new.self
+      (g.D.DescriptorDevice.ledger c.serve_if_allowed-served.new.device)))
+      (λ i. (c.args.request.now.same i, is_put i)) c.in-Ok.ensures.taken
 
   -- and the keys
   gained : keys_of c.serve_if_allowed-served.new.self ≡ with_key (layout_key g.D.DescriptorDevice.meaning c.args.request.now.layout.now) (keys_of c.args.self.now)
@@ -39,15 +39,15 @@ module _ (g : _) (c : In-Ok g) where
 returned :
     (g : _) (c : After-free_after g)
     → Returns g.D.DescriptorDevice.meaning (came g (goal.at-After-free_after g c).In-Ok)
-        (side c.serve_if_allowed-served.new.self (g.D.DescriptorDevice.ledger c.serve_if_allowed-served.new.device))
-        (side c.free_after.new.allocator (g.D.DescriptorDevice.ledger c.free_after.new.device))
+    (side c.serve_if_allowed-served.new.self (g.D.DescriptorDevice.ledger c.serve_if_allowed-served.new.device))
+    (side c.free_after.new.allocator (g.D.DescriptorDevice.ledger c.free_after.new.device))
 returned g c =
     subst
-      (λ (n : ℕ).
-         Returns g.D.DescriptorDevice.meaning (drop n (g.K.SetPlaces.items c.into_sets-sets.result))
-           (side c.serve_if_allowed-served.new.self (g.D.DescriptorDevice.ledger c.serve_if_allowed-served.new.device))
-           (side c.free_after.new.allocator (g.D.DescriptorDevice.ledger c.free_after.new.device)))
-      c.count-first.ensures c.free_after.ensures.returns
+    (λ (n : ℕ).
+    Returns g.D.DescriptorDevice.meaning (drop n (g.K.SetPlaces.items c.into_sets-sets.result))
+    (side c.serve_if_allowed-served.new.self (g.D.DescriptorDevice.ledger c.serve_if_allowed-served.new.device))
+    (side c.free_after.new.allocator (g.D.DescriptorDevice.ledger c.free_after.new.device)))
+    c.count-first.ensures c.free_after.ensures.returns
 
 pub free_after-requires-clause-agree : goal.free_after-requires-clause-agree
 free_after-requires-clause-agree g c = record { rows = c.in-Ok.ensures.within.rows; books = taken_agree c.in-Ok.ensures.taken c.requires.agree.books }
@@ -55,26 +55,26 @@ free_after-requires-clause-agree g c = record { rows = c.in-Ok.ensures.within.ro
 pub free_after-requires-clause-outstanding : goal.free_after-requires-clause-outstanding
 free_after-requires-clause-outstanding g c =
     subst
-      (λ (n : ℕ).
-         AreOutstanding
-           (items_of g.D.DescriptorDevice.meaning.set_name (drop n (g.K.SetPlaces.items c.into_sets-sets.result)))
-           (state_of g.D.DescriptorDevice.meaning.pool_name c.serve_if_allowed-served.new.self
-              (g.D.DescriptorDevice.ledger c.serve_if_allowed-served.new.device)))
-      (sym c.count-first.ensures)
-      (taken_given (taken g (goal.at.free_after-requires-clause-outstanding g c).In-Ok) c.requires.agree.books)
+    (λ (n : ℕ).
+    AreOutstanding
+    (items_of g.D.DescriptorDevice.meaning.set_name (drop n (g.K.SetPlaces.items c.into_sets-sets.result)))
+    (state_of g.D.DescriptorDevice.meaning.pool_name c.serve_if_allowed-served.new.self
+    (g.D.DescriptorDevice.ledger c.serve_if_allowed-served.new.device)))
+    (sym c.count-first.ensures)
+    (taken_given (taken g (goal.at.free_after-requires-clause-outstanding g c).In-Ok) c.requires.agree.books)
 
 pub returns-in-Err-clause-hands_out : goal.returns-in-Err-clause-hands_out
 returns-in-Err-clause-hands_out g c =
     hands_none c.in-Err.ensures.allocator c.in-Err.ensures.ledger c.requires.agree c.in-Err.error c.requires.some
     (subst
-       (λ (k : Key).
-          IsDeclined
-            (call_of g.D.DescriptorDevice.meaning k c.args.request.now.count
-               (side c.args.self.now (g.D.DescriptorDevice.ledger c.args.device.now))
-               (side c.serve_if_allowed-served.new.self
-                  (g.D.DescriptorDevice.ledger c.serve_if_allowed-served.new.device))
-               (Err c.in-Err.error)))
-       c.args.request.now.same c.in-Err.ensures.declined)
+    (λ (k : Key).
+    IsDeclined
+    (call_of g.D.DescriptorDevice.meaning k c.args.request.now.count
+    (side c.args.self.now (g.D.DescriptorDevice.ledger c.args.device.now))
+    (side c.serve_if_allowed-served.new.self
+    (g.D.DescriptorDevice.ledger c.serve_if_allowed-served.new.device))
+    (Err c.in-Err.error)))
+    c.args.request.now.same c.in-Err.ensures.declined)
 
 pub returns-in-Err-clause-keeps : goal.returns-in-Err-clause-keeps
 returns-in-Err-clause-keeps g c =

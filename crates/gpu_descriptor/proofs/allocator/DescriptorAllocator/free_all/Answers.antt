@@ -8,8 +8,8 @@ use Rattle.gpu_descriptor.proofs.allocator.DescriptorAllocator.free_all.Goals as
 pub free_from-requires-clause-outstanding : goal.free_from-requires-clause-outstanding
 free_from-requires-clause-outstanding g c xs t y =
     out_front g.D.DescriptorDevice.meaning.set_name xs (into_iter_items t) c.args.sets.items
-      (state_of g.D.DescriptorDevice.meaning.pool_name c.args.self.now (g.D.DescriptorDevice.ledger c.args.device.now))
-      (sym c.into_iter-back.ensures.rest ∙ taken_front c.into_iter-back.result xs t y) c.requires.outstanding
+    (state_of g.D.DescriptorDevice.meaning.pool_name c.args.self.now (g.D.DescriptorDevice.ledger c.args.device.now))
+    (sym c.into_iter-back.ensures.rest ∙ taken_front c.into_iter-back.result xs t y) c.requires.outstanding
 
 pub returns-clause-returns : goal.returns-clause-returns
 returns-clause-returns g c =

@@ -11,9 +11,9 @@ pub loop-ahead-init : goal.loop-ahead-init
 loop-ahead-init g c = record {
   freed =
       freed_none g.D.DescriptorDevice.meaning g.I.Iterator.next_gives g.I.Iterator.can_next g.I.Iterator.remaining
-        c.args.sets.now c.args.self.now (g.D.DescriptorDevice.ledger c.args.device.now) c.next-ahead.result
-        c.next-ahead.new.self c.requires.agree.books c.requires.ends c.next-ahead.ensures.steps
-        c.next-ahead.ensures.goes;
+      c.args.sets.now c.args.self.now (g.D.DescriptorDevice.ledger c.args.device.now) c.next-ahead.result
+      c.next-ahead.new.self c.requires.agree.books c.requires.ends c.next-ahead.ensures.steps
+      c.next-ahead.ensures.goes;
   limit = λ i. c.args.self.now.limit;
   most = λ i. c.args.self.now.most;
   looks = λ i. c.args.self.now.looks;
@@ -23,8 +23,8 @@ loop-ahead-init g c = record {
 in_hand :
     (g : _) (c : In-Some g)
     → Freed g.D.DescriptorDevice.meaning g.I.Iterator.next_gives g.I.Iterator.can_next g.I.Iterator.remaining
-        c.args.sets.now c.args.self.now (g.D.DescriptorDevice.ledger c.args.device.now) c.loop-ahead.self
-        (g.D.DescriptorDevice.ledger c.loop-ahead.device) (Some c.in-Some.first) c.loop-ahead.sets
+    c.args.sets.now c.args.self.now (g.D.DescriptorDevice.ledger c.args.device.now) c.loop-ahead.self
+    (g.D.DescriptorDevice.ledger c.loop-ahead.device) (Some c.in-Some.first) c.loop-ahead.sets
 in_hand g c = rw c.in-Some.is at c.loop-ahead.invariant.freed
 
 pub release_run-ahead-requires-clause-outstanding : goal.release_run-ahead-requires-clause-outstanding
@@ -38,8 +38,8 @@ loop-ahead-preserved g c =
     record {
       freed =
           freed_more g.D.DescriptorDevice.meaning g.I.Iterator.next_gives g.I.Iterator.can_next g.I.Iterator.remaining
-            c.args.sets.now c.args.self.now (g.D.DescriptorDevice.ledger c.args.device.now) c.loop-ahead.self
-            (g.D.DescriptorDevice.ledger c.loop-ahead.device) c.in-Some.first c.loop-ahead.sets
+          c.args.sets.now c.args.self.now (g.D.DescriptorDevice.ledger c.args.device.now) c.loop-ahead.self
+          (g.D.DescriptorDevice.ledger c.loop-ahead.device) c.in-Some.first c.loop-ahead.sets
           c.requires.agree.books c.requires.outstanding r _ _ _ _ c.release_run-ahead.ensures.ran c.release_run-ahead.ensures.keys c.release_run-ahead.ensures.goes c.release_run-ahead.ensures.rises c.release_run-ahead.ensures.few;
       limit = c.release_run-ahead.ensures.limit ∙ c.loop-ahead.invariant.limit;
       most = c.release_run-ahead.ensures.most ∙ c.loop-ahead.invariant.most;
@@ -52,9 +52,9 @@ loop-ahead-smaller g c = rw c.in-Some.is (less g.D.DescriptorDevice.meaning g.I.
 pub returns-clause-frees : goal.returns-clause-frees
 returns-clause-frees g c =
     freed_all g.D.DescriptorDevice.meaning g.I.Iterator.next_gives g.I.Iterator.can_next g.I.Iterator.remaining
-      c.args.sets.now c.args.self.now (g.D.DescriptorDevice.ledger c.args.device.now) c.loop-ahead.self
-      (g.D.DescriptorDevice.ledger c.loop-ahead.device) c.loop-ahead.sets c.loop-ahead.invariant.looks
-      (rw c.in_default.is at c.loop-ahead.invariant.freed)
+    c.args.sets.now c.args.self.now (g.D.DescriptorDevice.ledger c.args.device.now) c.loop-ahead.self
+    (g.D.DescriptorDevice.ledger c.loop-ahead.device) c.loop-ahead.sets c.loop-ahead.invariant.looks
+    (rw c.in_default.is at c.loop-ahead.invariant.freed)
 
 pub returns-clause-keeps : goal.returns-clause-keeps
 returns-clause-keeps g c =

@@ -56,10 +56,10 @@ release_sets-ahead-requires-clause-taken g c = λ xs t gave have.
     let before = g.D.DescriptorDevice.ledger c.args.device.now in
     let out = c.requires.outstanding xs t gave in
     let lie =
-        lie_at name set_name c.args.self.now before es was c.self.inside.table.next_id c.self.inside.table.rising
-          c.args.first.key.is c.args.first.id c.args.first.number (owner g at.After-pair_mut-bucket) xs
-          (out_back set_name (c.args.first ∷ []) xs (c.args.first ∷ xs) (state_of name c.args.self.now before) refl out)
-          have in
+    lie_at name set_name c.args.self.now before es was c.self.inside.table.next_id c.self.inside.table.rising
+    c.args.first.key.is c.args.first.id c.args.first.number (owner g at.After-pair_mut-bucket) xs
+    (out_back set_name (c.args.first ∷ []) xs (c.args.first ∷ xs) (state_of name c.args.self.now before) refl out)
+    have in
     row_taken name set_name c.args.self.now before es was c.requires.agree c.args.first r.test r.same c.pair_mut-bucket.result.1.now r.at xs lie out
 
 pub destroy_empty_front-requires-clause-room : goal.destroy_empty_front-requires-clause-room
@@ -120,10 +120,10 @@ pub invariant_of-self-inside-2 : goal.invariant_of-self-inside-2
 invariant_of-self-inside-2 g c =
     let es = c.self.inside.table.buckets.entries in
     let same =
-        ids_put es c.place_of_id-place.result c.pair_mut-bucket.result.1.now c.destroy_empty_front.new.self
-          (value_at es c.place_of_id-place.result _ _ c.pair_mut-bucket.ensures.value)
-          (ap (λ (b : Bucket). b.id)
-             (c.destroy_empty_front.ensures.books ∙ ap (trimmed_bucket 1) c.release_sets-ahead.ensures.ran.2.books)) in
+    ids_put es c.place_of_id-place.result c.pair_mut-bucket.result.1.now c.destroy_empty_front.new.self
+    (value_at es c.place_of_id-place.result _ _ c.pair_mut-bucket.ensures.value)
+    (ap (λ (b : Bucket). b.id)
+    (c.destroy_empty_front.ensures.books ∙ ap (trimmed_bucket 1) c.release_sets-ahead.ensures.ran.2.books)) in
     record {
       rising = ap (λ (ids : List ℕ). rise_below c.self.inside.table.next_id ids) same ∙ c.self.inside.table.rising;
       distinct = subst (IsDistinct key_eq) (sym (keys_at es c.place_of_id-place.result c.destroy_empty_front.new.self)) c.self.inside.table.distinct;
@@ -157,9 +157,9 @@ returns-clause-ran g c =
     let distinct = distinct_rows name es c.self.inside.table.distinct in
     let came = ends_at name set_name c.args.self.now before es was c.self.inside.table.next_id c.self.inside.table.rising c.args.first.key.is c.args.first.id c.args.first.number (owner g at.After-pair_mut-bucket) g.I.Iterator.next_gives c.args.first _ _ ran.0 _ c.requires.outstanding ran.1 in
     let state =
-        row_ran name set_name c.args.self.now before es was c.requires.agree c.args.first row.test row.same
-          c.pair_mut-bucket.result.1.now row.at ran.0 came.0 c.destroy_empty_front.new.self after _ _ ran.2 front.books
-          front.ledger c.self.inside.max_update_after_bind_descriptors_in_all_pools _ left.wrote in
+    row_ran name set_name c.args.self.now before es was c.requires.agree c.args.first row.test row.same
+    c.pair_mut-bucket.result.1.now row.at ran.0 came.0 c.destroy_empty_front.new.self after _ _ ran.2 front.books
+    front.ledger c.self.inside.max_update_after_bind_descriptors_in_all_pools _ left.wrote in
     record {
       sets = ran.0;
       came = came;

@@ -32,11 +32,11 @@ serve-requires-clause-bound g c =
 pub returns-in_err-ended-clause-declined : goal.returns-in_err-ended-clause-declined
 returns-in_err-ended-clause-declined g c =
     rw (passed c.from_residual.result c.in_err-ended.field-0.0 c.from_residual.ensures.1)
-      (declined_unserved g.D.DescriptorDevice.meaning c.self.view_is (opened c.self.invariant) c.self.inside.table.distinct _ c.args.request.now.key c.requires.some c.would_exceed_limit.ensures c.if-would_exceed_limit.false
+    (declined_unserved g.D.DescriptorDevice.meaning c.self.view_is (opened c.self.invariant) c.self.inside.table.distinct _ c.args.request.now.key c.requires.some c.would_exceed_limit.ensures c.if-would_exceed_limit.false
     c.would_exceed_64_bits.ensures c.if-would_exceed_64_bits.false
-      (seen_again _ c.self.view_is _ c.in_err-ended.ensures.entries
-         (ap (λ b. b.looks.count) c.in_err-ended.ensures.budget) (ap (λ b. b.most) c.in_err-ended.ensures.budget))
-      c.in_err-ended.ensures.ledger c.in_err-ended.field-0.0 c.in_err-ended.ensures.refused)
+    (seen_again _ c.self.view_is _ c.in_err-ended.ensures.entries
+    (ap (λ b. b.looks.count) c.in_err-ended.ensures.budget) (ap (λ b. b.most) c.in_err-ended.ensures.budget))
+    c.in_err-ended.ensures.ledger c.in_err-ended.field-0.0 c.in_err-ended.ensures.refused)
 
 -- so many came
 many : (g : _) (c : After-from-taken g) → c.from-taken.result ≡ length (appended (g.K.SetPlaces.items c.args.sink.now.sets) (g.K.SetPlaces.items c.serve.new.sink.sets))
@@ -70,13 +70,13 @@ overflow_add-self-2 g c =
 counted :
     (g : _) (c : After-marked_descriptors_of_sets-descriptors g)
     → IsConsistent c.self.inside.max_update_after_bind_descriptors_in_all_pools
-        (c.self.inside.update_after_bind_descriptors + c.marked_descriptors_of_sets-descriptors.result)
-        c.serve.new.budget.room (c.self.inside.outstanding + c.from-taken.result) c.serve.new.self.buckets.entries
+    (c.self.inside.update_after_bind_descriptors + c.marked_descriptors_of_sets-descriptors.result)
+    c.serve.new.budget.room (c.self.inside.outstanding + c.from-taken.result) c.serve.new.self.buckets.entries
 counted g c =
     counted_now c.serve.new.self.buckets.entries c.in_ok-ended.ensures.served c.self.view_is (opened c.self.invariant)
-      c.would_exceed_limit.ensures c.if-would_exceed_limit.false
-      (many g (goal.at-After-marked_descriptors_of_sets-descriptors g c).After-from-taken)
-      c.marked_descriptors_of_sets-descriptors.ensures c.serve.ensures.room
+    c.would_exceed_limit.ensures c.if-would_exceed_limit.false
+    (many g (goal.at-After-marked_descriptors_of_sets-descriptors g c).After-from-taken)
+    c.marked_descriptors_of_sets-descriptors.ensures c.serve.ensures.room
 
 pub invariant_of-self-2 : goal.invariant_of-self-2
 invariant_of-self-2 g c = closed (counted g (goal.at.invariant_of-self-2 g c).After-marked_descriptors_of_sets-descriptors)

@@ -36,11 +36,11 @@ destroy_empty-requires-clause-room g c =
 pub invariant_of-self-inside : goal.invariant_of-self-inside
 invariant_of-self-inside g c =
     let same =
-        ids_put c.loop-place.self-inside.table.buckets.entries c.loop-place.place c.pair_mut-bucket.result.1.now
-          c.destroy_empty.new.self
-          (value_at c.loop-place.self-inside.table.buckets.entries c.loop-place.place _ _
-             c.pair_mut-bucket.ensures.value)
-          (ap (λ (b : Bucket). b.id) c.destroy_empty.ensures.books) in
+    ids_put c.loop-place.self-inside.table.buckets.entries c.loop-place.place c.pair_mut-bucket.result.1.now
+    c.destroy_empty.new.self
+    (value_at c.loop-place.self-inside.table.buckets.entries c.loop-place.place _ _
+    c.pair_mut-bucket.ensures.value)
+    (ap (λ (b : Bucket). b.id) c.destroy_empty.ensures.books) in
     record {
       rising = ap (λ (ids : List ℕ). rise_below c.loop-place.self-inside.table.next_id ids) same ∙ c.loop-place.self-inside.table.rising;
       distinct = subst (IsDistinct key_eq) (sym (keys_at c.loop-place.self-inside.table.buckets.entries c.loop-place.place c.destroy_empty.new.self)) c.loop-place.self-inside.table.distinct;
@@ -99,13 +99,13 @@ returns g c =
     let less = h.ledger ∙ ap (λ l. ledger_less c.args.everywhere l (ledger c.args.device.now)) (take_all c.loop-place.place (rows_in name es) le) in
     let counted = counted_filter _ _ _ _ _ _ kept h.counted in
     let now : Allocations _ =
-        record {
-          limit = c.loop-place.self-inside.max_update_after_bind_descriptors_in_all_pools;
-          most = c.loop-place.self-inside.budget.most;
-          table = map row_of c.retain.new.self.entries;
-          looks = c.loop-place.self-inside.budget.looks.count;
-          comparisons = c.loop-place.self-inside.comparisons.count
-        } in
+    record {
+      limit = c.loop-place.self-inside.max_update_after_bind_descriptors_in_all_pools;
+      most = c.loop-place.self-inside.budget.most;
+      table = map row_of c.retain.new.self.entries;
+      looks = c.loop-place.self-inside.budget.looks.count;
+      comparisons = c.loop-place.self-inside.comparisons.count;
+    } in
     let clean = whole_clean c.args.everywhere name c.args.self.now (ledger c.args.device.now) (ledger c.loop-place.device) es c.loop-place.self-inside.table.buckets.entries _ c.loop-place.self-inside.max_update_after_bind_descriptors_in_all_pools was distinct rows less kept in
     record {
       sweeps = record {

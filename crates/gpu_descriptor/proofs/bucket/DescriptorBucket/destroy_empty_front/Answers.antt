@@ -38,10 +38,10 @@ pub loop-self-preserved : goal.loop-self-preserved
 loop-self-preserved g c =
     let d = (goal.at.loop-self-preserved g c).After-unwrap-front in
     let done =
-        turn g.D.DescriptorDevice.meaning.pool_name c.args.keep c.loop-self.invariant.stored.0 c.loop-self.self.id
-          c.loop-self.self.pools.items c.pop_front.new.self.items c.unwrap-front.result
-          (g.D.DescriptorDevice.ledger c.loop-self.device)
-          (g.D.DescriptorDevice.ledger c.destroy_descriptor_pool.new.self)
+    turn g.D.DescriptorDevice.meaning.pool_name c.args.keep c.loop-self.invariant.stored.0 c.loop-self.self.id
+    c.loop-self.self.pools.items c.pop_front.new.self.items c.unwrap-front.result
+    (g.D.DescriptorDevice.ledger c.loop-self.device)
+    (g.D.DescriptorDevice.ledger c.destroy_descriptor_pool.new.self)
     (front g d) c.pop_front.ensures.rest c.destroy_descriptor_pool.ensures c.loop-self.invariant.stored.1 in
     record {
       stored = (c.loop-self.invariant.stored.0, done.agree);

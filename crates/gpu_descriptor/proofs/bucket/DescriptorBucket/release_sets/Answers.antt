@@ -30,8 +30,8 @@ is_at g c = stands_at g.D.DescriptorDevice.meaning.pool_name c.args.first.number
 places : (g : _) (c : After-index_mut-pool g) → c.index_mut-pool.result.now.allocated + c.index_mut-pool.result.now.available ≤ greatest_pool_size
 places g c =
     place_fits c.args.first.key.is (bucket_of g.D.DescriptorDevice.meaning.pool_name c.args.self.now)
-      (g.D.DescriptorDevice.ledger c.args.device.now).pools c.place_of_pool-place.result
-      (entry_of g.D.DescriptorDevice.meaning.pool_name c.index_mut-pool.result.now) c.requires.stored (is_at g c).at
+    (g.D.DescriptorDevice.ledger c.args.device.now).pools c.place_of_pool-place.result
+    (entry_of g.D.DescriptorDevice.meaning.pool_name c.index_mut-pool.result.now) c.requires.stored (is_at g c).at
 
 -- the pool at the place
 read : (g : _) (c : After-index_mut-pool g) → slice_get c.args.self.now.pools.items c.place_of_pool-place.result ≡ Some c.index_mut-pool.result.now
@@ -57,12 +57,12 @@ module _ (g : _) (c : After-finish-count g) where
     counted =
         let t = c.dealloc_descriptor_sets.ensures.released in
         let d =
-            done g.I.Iterator.next_gives g.I.Iterator.can_next g.I.Iterator.remaining
-              g.D.DescriptorDevice.meaning.set_name _ c.args.first
-              (bucket_of g.D.DescriptorDevice.meaning.pool_name c.args.self.now)
-              (g.D.DescriptorDevice.ledger c.args.device.now).pools place e c.dealloc_descriptor_sets.new.sets t.items
-              t.gone refl refl refl refl c.requires.stored here.at (here.there c.args.self.now.id) c.requires.taken
-              t.drained taken in
+        done g.I.Iterator.next_gives g.I.Iterator.can_next g.I.Iterator.remaining
+        g.D.DescriptorDevice.meaning.set_name _ c.args.first
+        (bucket_of g.D.DescriptorDevice.meaning.pool_name c.args.self.now)
+        (g.D.DescriptorDevice.ledger c.args.device.now).pools place e c.dealloc_descriptor_sets.new.sets t.items
+        t.gone refl refl refl refl c.requires.stored here.at (here.there c.args.self.now.id) c.requires.taken
+        t.drained taken in
         let count = d.count in
         let long = d.long in
         let is = c.finish-count.ensures.count in
@@ -70,38 +70,40 @@ module _ (g : _) (c : After-finish-count g) where
 
     changed :
         map (entry_of g.D.DescriptorDevice.meaning.pool_name)
-          (set c.args.self.now.pools.items place
-             (record {
-                raw = c.dealloc_descriptor_sets.new.pool;
-                number = c.index_mut-pool.result.now.number;
-                capacity = c.index_mut-pool.result.now.capacity;
-                allocated = c.index_mut-pool.result.now.allocated - c.finish-count.result;
-                available = c.index_mut-pool.result.now.available + c.finish-count.result
-              }))
+        (set c.args.self.now.pools.items place
+        (record {
+          raw = c.dealloc_descriptor_sets.new.pool;
+          number = c.index_mut-pool.result.now.number;
+          capacity = c.index_mut-pool.result.now.capacity;
+          allocated = c.index_mut-pool.result.now.allocated - c.finish-count.result;
+          available = c.index_mut-pool.result.now.available + c.finish-count.result;
+        }))
         ≡ set (map (entry_of g.D.DescriptorDevice.meaning.pool_name) c.args.self.now.pools.items) place
-            (entry_less (length c.dealloc_descriptor_sets.ensures.released.gone) e)
+        (entry_less (length c.dealloc_descriptor_sets.ensures.released.gone) e)
     changed =
         changed_at g.D.DescriptorDevice.meaning.pool_name c.args.self.now.pools.items place c.index_mut-pool.result.now c.dealloc_descriptor_sets.new.pool c.finish-count.result (length c.dealloc_descriptor_sets.ensures.released.gone) c.dealloc_descriptor_sets.ensures.name counted.1
 
 pub dealloc_descriptor_sets-requires-clause-can : goal.dealloc_descriptor_sets-requires-clause-can
 dealloc_descriptor_sets-requires-clause-can g c =
     let d = (goal.at.dealloc_descriptor_sets-requires-clause-can g c).After-index_mut-pool in
-    let fits = places g d in
-    (c.requires.can, run_counts g.I.Iterator.next_gives g.I.Iterator.can_next g.I.Iterator.remaining
-       g.D.DescriptorDevice.meaning.set_name c.args.sets.now c.args.first
-       (bucket_of g.D.DescriptorDevice.meaning.pool_name c.args.self.now)
-       (g.D.DescriptorDevice.ledger c.args.device.now).pools
-       (entry_of g.D.DescriptorDevice.meaning.pool_name c.index_mut-pool.result.now)
-       ((is_at g d).there c.args.self.now.id) (omega arith) c.requires.taken)
+    let fits = places g d in (
+      c.requires.can,
+      run_counts g.I.Iterator.next_gives g.I.Iterator.can_next g.I.Iterator.remaining
+          g.D.DescriptorDevice.meaning.set_name c.args.sets.now c.args.first
+          (bucket_of g.D.DescriptorDevice.meaning.pool_name c.args.self.now)
+          (g.D.DescriptorDevice.ledger c.args.device.now).pools
+          (entry_of g.D.DescriptorDevice.meaning.pool_name c.index_mut-pool.result.now)
+          ((is_at g d).there c.args.self.now.id) (omega arith) c.requires.taken,
+    )
 
 pub dealloc_descriptor_sets-requires-clause-live : goal.dealloc_descriptor_sets-requires-clause-live
 dealloc_descriptor_sets-requires-clause-live g c =
     let d = (goal.at.dealloc_descriptor_sets-requires-clause-live g c).After-index_mut-pool in
     run_live g.I.Iterator.next_gives g.I.Iterator.can_next g.I.Iterator.remaining g.D.DescriptorDevice.meaning.set_name
-      (bucket_of g.D.DescriptorDevice.meaning.pool_name c.args.self.now) (g.D.DescriptorDevice.ledger c.args.device.now)
-      c.args.first c.place_of_pool-place.result
-      (entry_of g.D.DescriptorDevice.meaning.pool_name c.index_mut-pool.result.now) _ refl refl refl c.requires.stored
-      (is_at g d).at ((is_at g d).there c.args.self.now.id) c.requires.taken
+    (bucket_of g.D.DescriptorDevice.meaning.pool_name c.args.self.now) (g.D.DescriptorDevice.ledger c.args.device.now)
+    c.args.first c.place_of_pool-place.result
+    (entry_of g.D.DescriptorDevice.meaning.pool_name c.index_mut-pool.result.now) _ refl refl refl c.requires.stored
+    (is_at g d).at ((is_at g d).there c.args.self.now.id) c.requires.taken
 
 pub overflow_sub-pool : goal.overflow_sub-pool
 overflow_sub-pool g c =
@@ -147,13 +149,13 @@ invariant_of-self g c =
     let numbered = c.args.self.now.numbered in
     let some : 0 < c.index_mut-pool.result.now.available + c.finish-count.result = (let some = (counted g f (is_at g r)).2 in omega arith) in
     let new : DescriptorPool g.row.P.Denot =
-        record {
-          raw = c.dealloc_descriptor_sets.new.pool;
-          number = c.index_mut-pool.result.now.number;
-          capacity = c.index_mut-pool.result.now.capacity;
-          allocated = c.index_mut-pool.result.now.allocated - c.finish-count.result;
-          available = c.index_mut-pool.result.now.available + c.finish-count.result
-        } in
+    record {
+      raw = c.dealloc_descriptor_sets.new.pool;
+      number = c.index_mut-pool.result.now.number;
+      capacity = c.index_mut-pool.result.now.capacity;
+      allocated = c.index_mut-pool.result.now.allocated - c.finish-count.result;
+      available = c.index_mut-pool.result.now.available + c.finish-count.result;
+    } in
     let same = numbers_set c.args.self.now.pools.items c.place_of_pool-place.result c.index_mut-pool.result.now new (read g r) refl in
     let long = length-set c.args.self.now.pools.items c.place_of_pool-place.result new in
     let first : first_ordinal (slice_set c.args.self.now.pools.items c.place_of_pool-place.result new) ≡ first_ordinal c.args.self.now.pools.items = (λ i. number_after (same i) - long i) in
@@ -165,11 +167,11 @@ invariant_of-self g c =
       counted = omega arith;
       «open» =
           rw first
-            (listed_again (first_ordinal c.args.self.now.pools.items) c.args.self.now.pools.items
-               c.args.self.now.listed.items c.args.self.now.«open» c.place_of_pool-place.result
-               c.index_mut-pool.result.now new (read g r) ordinal
-               (ap (λ (n : ℕ). n + c.place_of_pool-place.result) c.first_ordinal.ensures.first) some
-               c.enter_new.new.listed.items c.enter_new.ensures.entered c.enter_new.ensures.stays);
+          (listed_again (first_ordinal c.args.self.now.pools.items) c.args.self.now.pools.items
+          c.args.self.now.listed.items c.args.self.now.«open» c.place_of_pool-place.result
+          c.index_mut-pool.result.now new (read g r) ordinal
+          (ap (λ (n : ℕ). n + c.place_of_pool-place.result) c.first_ordinal.ensures.first) some
+          c.enter_new.new.listed.items c.enter_new.ensures.entered c.enter_new.ensures.stays);
       capacity = (let long = length-set c.args.self.now.pools.items c.place_of_pool-place.result new in omega arith);
     }
 
@@ -190,11 +192,11 @@ returns-clause-ran g c =
     let es : List Entry = map (entry_of g.D.DescriptorDevice.meaning.pool_name) c.args.self.now.pools.items in
     let e = entry_of g.D.DescriptorDevice.meaning.pool_name c.index_mut-pool.result.now in
     let d =
-        done g.I.Iterator.next_gives g.I.Iterator.can_next g.I.Iterator.remaining g.D.DescriptorDevice.meaning.set_name
-          _ c.args.first (bucket_of g.D.DescriptorDevice.meaning.pool_name c.args.self.now)
-          (g.D.DescriptorDevice.ledger c.args.device.now).pools (place g f) e c.dealloc_descriptor_sets.new.sets t.items
-          t.gone refl refl refl refl c.requires.stored (is_at g r).at ((is_at g r).there c.args.self.now.id)
-          c.requires.taken t.drained (taken g f (is_at g r)) in
+    done g.I.Iterator.next_gives g.I.Iterator.can_next g.I.Iterator.remaining g.D.DescriptorDevice.meaning.set_name
+    _ c.args.first (bucket_of g.D.DescriptorDevice.meaning.pool_name c.args.self.now)
+    (g.D.DescriptorDevice.ledger c.args.device.now).pools (place g f) e c.dealloc_descriptor_sets.new.sets t.items
+    t.gone refl refl refl refl c.requires.stored (is_at g r).at ((is_at g r).there c.args.self.now.id)
+    c.requires.taken t.drained (taken g f (is_at g r)) in
     let m = sym d.run.aname in
     let h = c.finish-count.ensures.ahead in
     let v = sym d.run.name in
@@ -221,13 +223,13 @@ returns-clause-goes g c =
     let r = (goal.at.returns-clause-goes g c).After-index_mut-pool in
     let t = c.dealloc_descriptor_sets.ensures.released in
     let d =
-        done g.I.Iterator.next_gives g.I.Iterator.can_next g.I.Iterator.remaining g.D.DescriptorDevice.meaning.set_name
-          _ c.args.first (bucket_of g.D.DescriptorDevice.meaning.pool_name c.args.self.now)
-          (g.D.DescriptorDevice.ledger c.args.device.now).pools c.place_of_pool-place.result
-          (entry_of g.D.DescriptorDevice.meaning.pool_name c.index_mut-pool.result.now)
-          c.dealloc_descriptor_sets.new.sets t.items t.gone refl refl refl refl c.requires.stored (is_at g r).at
-          ((is_at g r).there c.args.self.now.id) c.requires.taken t.drained
-          (taken g (goal.at.returns-clause-goes g c).After-finish-count (is_at g r)) in
+    done g.I.Iterator.next_gives g.I.Iterator.can_next g.I.Iterator.remaining g.D.DescriptorDevice.meaning.set_name
+    _ c.args.first (bucket_of g.D.DescriptorDevice.meaning.pool_name c.args.self.now)
+    (g.D.DescriptorDevice.ledger c.args.device.now).pools c.place_of_pool-place.result
+    (entry_of g.D.DescriptorDevice.meaning.pool_name c.index_mut-pool.result.now)
+    c.dealloc_descriptor_sets.new.sets t.items t.gone refl refl refl refl c.requires.stored (is_at g r).at
+    ((is_at g r).there c.args.self.now.id) c.requires.taken t.drained
+    (taken g (goal.at.returns-clause-goes g c).After-finish-count (is_at g r)) in
     let m = sym d.run.aname in
     let h = c.finish-count.ensures.ahead in
     let v = sym d.run.name in
@@ -238,8 +240,8 @@ pub returns-clause-load : goal.returns-clause-load
 returns-clause-load g c = λ k.
     let r = (goal.at.returns-clause-load g c).After-index_mut-pool in
     stored_put k c.args.self.now.pools.items c.place_of_pool-place.result c.index_mut-pool.result.now
-      c.dealloc_descriptor_sets.new.pool (c.index_mut-pool.result.now.allocated - c.finish-count.result)
-      (c.index_mut-pool.result.now.available + c.finish-count.result) (is_at g r).within c.index_mut-pool.ensures.value
+    c.dealloc_descriptor_sets.new.pool (c.index_mut-pool.result.now.allocated - c.finish-count.result)
+    (c.index_mut-pool.result.now.available + c.finish-count.result) (is_at g r).within c.index_mut-pool.ensures.value
 
 pub returns-clause-few : goal.returns-clause-few
 returns-clause-few g c =

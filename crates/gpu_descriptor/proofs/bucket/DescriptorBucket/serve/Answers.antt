@@ -33,13 +33,13 @@ returns-clause-served g c =
     let m : Ledger = g.D.DescriptorDevice.ledger c.take.new.device in
     let name = g.D.DescriptorDevice.meaning.pool_name in
     subst
-      (λ (was : List (DescriptorSet g.row.S.Denot)).
-         IsServed g.D.DescriptorDevice.meaning c.args.budget.now.most key c.args.budget.now.room
-           c.args.request.now.count (appended was (g.K.SetPlaces.items c.take.new.sink.sets)) c.take.result
-           (bucket_of name c.args.self.now) (bucket_of name c.take.new.self) l m
-         × (c.take.new.self.total
-            ≡ c.args.self.now.total + length (appended was (g.K.SetPlaces.items c.take.new.sink.sets))))
-      c.make_room.ensures.sets (
+    (λ (was : List (DescriptorSet g.row.S.Denot)).
+    IsServed g.D.DescriptorDevice.meaning c.args.budget.now.most key c.args.budget.now.room
+    c.args.request.now.count (appended was (g.K.SetPlaces.items c.take.new.sink.sets)) c.take.result
+    (bucket_of name c.args.self.now) (bucket_of name c.take.new.self) l m
+    × (c.take.new.self.total
+    ≡ c.args.self.now.total + length (appended was (g.K.SetPlaces.items c.take.new.sink.sets))))
+    c.make_room.ensures.sets (
       record {
         numbers = (
             let below : c.next_number.result + c.args.request.now.count ≤ greatest_u64 = ltb-false greatest_u64 (c.next_number.result + c.args.request.now.count) (sym c.would_exceed_64_bits.ensures ∙ c.if-would_exceed_64_bits.false) in

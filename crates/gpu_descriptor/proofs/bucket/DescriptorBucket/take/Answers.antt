@@ -123,8 +123,8 @@ loop-sink-preserved g c =
 pub returns-in_err-map_err-clause-room : goal.returns-in_err-map_err-clause-room
 returns-in_err-map_err-clause-room g c =
     ap (λ n. c.args.budget.now.room + n)
-      (on_err c.take_from_existing.result
-         (λ e.
-            stopped_load g.D.DescriptorDevice.meaning.pool_name c.args.self.now.pools.items
-              c.take_from_existing.new.self.pools.items {error = e})
-         c.take_from_existing.ensures.stopped (sym c.in_err-map_err.ensures.variant))
+    (on_err c.take_from_existing.result
+    (λ e.
+    stopped_load g.D.DescriptorDevice.meaning.pool_name c.args.self.now.pools.items
+    c.take_from_existing.new.self.pools.items {error = e})
+    c.take_from_existing.ensures.stopped (sym c.in_err-map_err.ensures.variant))

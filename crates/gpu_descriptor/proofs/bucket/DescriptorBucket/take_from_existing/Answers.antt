@@ -39,10 +39,10 @@ is_bucket g c = λ i. bucket ((c.walk-walked.ensures.kept.4 ∙ c.new-view.ensur
 pub walk-walked-requires-clause-booked : goal.walk-walked-requires-clause-booked
 walk-walked-requires-clause-booked g c =
     subst
-      (λ (q : VecDeque (DescriptorPool g.row.P.Denot) Global).
-         AreBookedIn (key_of c.args.request.now.key) (g.D.DescriptorDevice.ledger c.args.device.now).pools
-           (map (entry_of g.D.DescriptorDevice.meaning.pool_name) q.items))
-      (sym c.new-view.ensures.pools) c.requires.booked
+    (λ (q : VecDeque (DescriptorPool g.row.P.Denot) Global).
+    AreBookedIn (key_of c.args.request.now.key) (g.D.DescriptorDevice.ledger c.args.device.now).pools
+    (map (entry_of g.D.DescriptorDevice.meaning.pool_name) q.items))
+    (sym c.new-view.ensures.pools) c.requires.booked
 
 pub returns-clause-walked : goal.returns-clause-walked
 returns-clause-walked g c =

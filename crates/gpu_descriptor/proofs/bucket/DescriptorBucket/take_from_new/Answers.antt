@@ -66,11 +66,18 @@ returns-in-Err-alloc_descriptor_sets-clause-err g c =
     let m' : Ledger = g.D.DescriptorDevice.ledger c.alloc_descriptor_sets.new.self in
     let m'' : Ledger = g.D.DescriptorDevice.ledger c.destroy_descriptor_pool.new.self in
     let gone : m'' ≡ after_destroy (name g d) m' = c.destroy_descriptor_pool.ensures ∙ ap (λ q. after_destroy q m') c.in-Err-alloc_descriptor_sets.ensures.name in
-    let err = c.in-Err-alloc_descriptor_sets.ensures.err in
-    (err.kept ∙ ap g.K.SetPlaces.items c.aim.ensures.sets, err.room
-     ∙ c.aim.ensures.left, c.reserve_pool.ensures.pools, c.reserve_pool.ensures.total, refl, not_grown (key g d)
-         (size g d) (name g d) c.in-Err-alloc_descriptor_sets.error (before g d) (created g d) m' m''
-         c.in-Ok.ensures.new_name (made g d) err.ledger gone, had_room (λ is. absurd (cc)) (fits g d))
+    let err = c.in-Err-alloc_descriptor_sets.ensures.err in (
+      err.kept ∙ ap g.K.SetPlaces.items c.aim.ensures.sets,
+      err.room
+          ∙ c.aim.ensures.left,
+      c.reserve_pool.ensures.pools,
+      c.reserve_pool.ensures.total,
+      refl,
+      not_grown (key g d)
+          (size g d) (name g d) c.in-Err-alloc_descriptor_sets.error (before g d) (created g d) m' m''
+          c.in-Ok.ensures.new_name (made g d) err.ledger gone,
+      had_room (λ is. absurd (cc)) (fits g d),
+    )
 
 pub returns-in-Ok-alloc_descriptor_sets-clause-grown : goal.returns-in-Ok-alloc_descriptor_sets-clause-grown
 returns-in-Ok-alloc_descriptor_sets-clause-grown g c =
@@ -108,20 +115,34 @@ returns-in_default-clause-err g c =
     (refl, refl, refl, refl, refl, none_asked (g.D.DescriptorDevice.ledger c.args.device.now) stop.NoRoomUnderLimit refl, (λ is. c.in_default.ensures.none, λ none. refl))
 
 pub returns-then-is_err-clause-err : goal.returns-then-is_err-clause-err
-returns-then-is_err-clause-err g c =
-    (refl, refl, c.reserve_pool.ensures.pools, c.reserve_pool.ensures.total, refl, none_asked
-       (g.D.DescriptorDevice.ledger c.args.device.now) stop.NoMemoryForPool refl, had_room (λ is. absurd (cc))
-       (one_fits c.args.budget.now.most (key_of c.args.request.now.key) c.args.budget.now.room c.args.self.now.total
-          c.args.sink.now.left c.in-Some.size c.in-Some.ensures.sets))
+returns-then-is_err-clause-err g c = (
+  refl,
+  refl,
+  c.reserve_pool.ensures.pools,
+  c.reserve_pool.ensures.total,
+  refl,
+  none_asked
+      (g.D.DescriptorDevice.ledger c.args.device.now) stop.NoMemoryForPool refl,
+  had_room (λ is. absurd (cc))
+      (one_fits c.args.budget.now.most (key_of c.args.request.now.key) c.args.budget.now.room c.args.self.now.total
+      c.args.sink.now.left c.in-Some.size c.in-Some.ensures.sets),
+)
 
 pub returns-in-Err-clause-err : goal.returns-in-Err-clause-err
 returns-in-Err-clause-err g c =
     let l : Ledger = g.D.DescriptorDevice.ledger c.args.device.now in
-    let m : Ledger = g.D.DescriptorDevice.ledger c.create_descriptor_pool.new.self in
-    (refl, refl, c.reserve_pool.ensures.pools, c.reserve_pool.ensures.total, refl, not_created c.in-Err.error l m
-       c.in-Err.ensures.err, had_room (λ is. absurd (cc))
-       (one_fits c.args.budget.now.most (key_of c.args.request.now.key) c.args.budget.now.room c.args.self.now.total
-          c.args.sink.now.left c.in-Some.size c.in-Some.ensures.sets))
+    let m : Ledger = g.D.DescriptorDevice.ledger c.create_descriptor_pool.new.self in (
+      refl,
+      refl,
+      c.reserve_pool.ensures.pools,
+      c.reserve_pool.ensures.total,
+      refl,
+      not_created c.in-Err.error l m
+          c.in-Err.ensures.err,
+      had_room (λ is. absurd (cc))
+          (one_fits c.args.budget.now.most (key_of c.args.request.now.key) c.args.budget.now.room c.args.self.now.total
+          c.args.sink.now.left c.in-Some.size c.in-Some.ensures.sets),
+    )
 
 pub returns-in-Err-clause-looks : goal.returns-in-Err-clause-looks
 returns-in-Err-clause-looks g c =
@@ -148,11 +169,11 @@ pub returns-in-Ok-alloc_descriptor_sets-clause-own : goal.returns-in-Ok-alloc_de
 returns-in-Ok-alloc_descriptor_sets-clause-own g c =
     let put = c.in-Ok-alloc_descriptor_sets.ensures.ok in
     λ first before.
-      put_own g.D.DescriptorDevice.meaning c.args.request.now.layout.now (g.K.SetPlaces.items c.aim.new.self.sets)
-        (key_of c.aim.new.self.key.now) c.aim.new.self.id c.aim.new.self.number put.sets c.new.ensures.layout put.kept
-        put.own first
-        (none_own g.D.DescriptorDevice.meaning c.args.request.now.layout.now (ap g.K.SetPlaces.items c.aim.ensures.sets)
-           first before)
+    put_own g.D.DescriptorDevice.meaning c.args.request.now.layout.now (g.K.SetPlaces.items c.aim.new.self.sets)
+    (key_of c.aim.new.self.key.now) c.aim.new.self.id c.aim.new.self.number put.sets c.new.ensures.layout put.kept
+    put.own first
+    (none_own g.D.DescriptorDevice.meaning c.args.request.now.layout.now (ap g.K.SetPlaces.items c.aim.ensures.sets)
+    first before)
 
 pub returns-in-Err-alloc_descriptor_sets-clause-own : goal.returns-in-Err-alloc_descriptor_sets-clause-own
 returns-in-Err-alloc_descriptor_sets-clause-own g c = none_own g.D.DescriptorDevice.meaning c.args.request.now.layout.now (c.in-Err-alloc_descriptor_sets.ensures.err.kept ∙ ap g.K.SetPlaces.items c.aim.ensures.sets)

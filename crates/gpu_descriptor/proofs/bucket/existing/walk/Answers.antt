@@ -25,9 +25,9 @@ loop-sink-init g c = record {
   long = refl;
   walk =
       rw c.requires.left
-        (open_walk_start g.D.DescriptorDevice.meaning.pool_name (key_of c.args.request.now.key) c.args.request.now.count
-           c.args.view.now.id c.args.view.now.offset c.args.view.now.pools.now.items c.args.view.now.listed.now.items
-           (g.D.DescriptorDevice.ledger c.args.device.now) c.requires.listed);
+      (open_walk_start g.D.DescriptorDevice.meaning.pool_name (key_of c.args.request.now.key) c.args.request.now.count
+      c.args.view.now.id c.args.view.now.offset c.args.view.now.pools.now.items c.args.view.now.listed.now.items
+      (g.D.DescriptorDevice.ledger c.args.device.now) c.requires.listed);
   space = refl;
   kept = (refl, refl, refl, refl, refl);
   own = λ first before. before;
@@ -77,9 +77,9 @@ module _ (g : _) (c : In_ok-ask g) where
 
   asked :
       IsAsked (key_of c.args.request.now.key) c.loop-sink.sink.left names
-        (entry_of g.D.DescriptorDevice.meaning.pool_name c.in-Some.pool.now)
-        (entry_of g.D.DescriptorDevice.meaning.pool_name c.ask.new.pool)
-        (g.D.DescriptorDevice.ledger c.loop-sink.device) (g.D.DescriptorDevice.ledger c.ask.new.device)
+      (entry_of g.D.DescriptorDevice.meaning.pool_name c.in-Some.pool.now)
+      (entry_of g.D.DescriptorDevice.meaning.pool_name c.ask.new.pool)
+      (g.D.DescriptorDevice.ledger c.loop-sink.device) (g.D.DescriptorDevice.ledger c.ask.new.device)
   asked = rw c.newest.ensures.left at c.in_ok-ask.ensures.asked.3
 
   less : c.ask.new.sink.left + length names ≡ c.loop-sink.sink.left
@@ -89,9 +89,9 @@ module _ (g : _) (c : In_ok-ask g) where
   sets =
       c.in_ok-ask.ensures.asked.1
       ∙ ap (λ x. (g.K.SetPlaces.items c.newest.new.sink.sets) ++ x)
-          (aimed_at c.newest.new.sink.number raws c.in-Some.ensures.key c.in-Some.ensures.id)
+      (aimed_at c.newest.new.sink.number raws c.in-Some.ensures.key c.in-Some.ensures.id)
       ∙ ap (λ x. x ++ map (set_at (key_of c.args.request.now.key) c.loop-sink.view.id c.newest.new.sink.number) raws)
-          (c.newest.ensures.sets ∙ c.loop-sink.invariant.sets)
+      (c.newest.ensures.sets ∙ c.loop-sink.invariant.sets)
       ∙ append_assoc (g.K.SetPlaces.items c.args.sink.now.sets) c.loop-sink.invariant.put _
 
   -- under the pool's own number

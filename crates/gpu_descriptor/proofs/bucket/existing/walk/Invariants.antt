@@ -12,9 +12,9 @@ invariant-loop-sink g l = record {
   long : length l.view.pools.now.items ≡ length l.initial.view.pools.now.items;
   walk :
       OpenWalk g.D.DescriptorDevice.meaning.pool_name (key_of l.request.key) l.request.count l.view.id l.view.offset
-        l.sink.left (items_of g.D.DescriptorDevice.meaning.set_name put)
-        (map (entry_of g.D.DescriptorDevice.meaning.pool_name) l.initial.view.pools.now.items) l.view.pools.now.items
-        l.view.listed.now.items (g.D.DescriptorDevice.ledger l.initial.device) (g.D.DescriptorDevice.ledger l.device);
+      l.sink.left (items_of g.D.DescriptorDevice.meaning.set_name put)
+      (map (entry_of g.D.DescriptorDevice.meaning.pool_name) l.initial.view.pools.now.items) l.view.pools.now.items
+      l.view.listed.now.items (g.D.DescriptorDevice.ledger l.initial.device) (g.D.DescriptorDevice.ledger l.device);
   space : deque_capacity l.view.listed.now ≡ deque_capacity l.initial.view.listed.now;
   kept : KeepsView l.initial.view l.view;
   own : PutsOfLayout g.D.DescriptorDevice.meaning l.request.layout.now (g.K.SetPlaces.items l.initial.sink.sets) (g.K.SetPlaces.items l.sink.sets);

@@ -17,7 +17,7 @@ use Rattle.gpu_descriptor.proofs.key_table.KeyTable.serve_absent.Goals as goal
 put_new :
     {X S : Type 0} (eq : BucketKey → BucketKey → Bool) → ((k l : BucketKey) → eq k l ≡ key_eq (key_of k) (key_of l))
     → (m : IndexMap BucketKey (DescriptorBucket X) S) (k : BucketKey) (v : DescriptorBucket X)
-        (es new : List (BucketKey × DescriptorBucket X))
+    (es new : List (BucketKey × DescriptorBucket X))
     → new ≡ insert_entry eq es k v → es ≡ m.entries → lookup (is_of (key_of k)) m.entries ≡ None
     → new ≡ m.entries ++ (k, v) ∷ []
 put_new eq same m k v es new put kept none = put ∙ ap (λ l. insert_entry eq l k v) kept ∙ insert_entry-new eq m k v (lookup_same (eq k) (is_of (key_of k)) (same k) m.entries ∙ none)

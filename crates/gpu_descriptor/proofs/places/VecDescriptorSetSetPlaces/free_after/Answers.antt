@@ -19,8 +19,8 @@ returns-clause-returns g c =
     let f = c.free_from.ensures.frees in
     let all = all_given drain_steps drain_items (λ s t x at. at.0) (λ s t at. at.0) _ f.sets _ f.drained in
     subst
-      (λ (xs : List (DescriptorSet g.row.S.Denot)).
-         Returns g.D.DescriptorDevice.meaning xs
-           (side c.args.allocator.now (g.D.DescriptorDevice.ledger c.args.device.now))
-           (side c.free_from.new.self (g.D.DescriptorDevice.ledger c.free_from.new.device)))
-      (all ∙ rest g (goal.at.returns-clause-returns g c).After-drain-back) f.returns
+    (λ (xs : List (DescriptorSet g.row.S.Denot)).
+    Returns g.D.DescriptorDevice.meaning xs
+    (side c.args.allocator.now (g.D.DescriptorDevice.ledger c.args.device.now))
+    (side c.free_from.new.self (g.D.DescriptorDevice.ledger c.free_from.new.device)))
+    (all ∙ rest g (goal.at.returns-clause-returns g c).After-drain-back) f.returns
