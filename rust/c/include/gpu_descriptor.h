@@ -29,8 +29,8 @@
  * for the same layout under a new name, before it asks the driver for new ones. gd_keep says how many
  * are kept, at first all. A kept set isn't outstanding. Its descriptors are those that were written to
  * it last, and what they refer to may be destroyed by now. So write each set that you get, before you
- * bind it. A validation layer reports a new set that is bound without being written, but not one that
- * was kept: so keep none in a debug build.
+ * bind it. A validation layer reports a new set that is bound without being written, and one that is freed
+ * while the device uses it, but of a set that was kept it sees neither: so keep none in a debug build.
  *
  * Pointers must be valid, and arrays at least as long as their count. NULL is GD_NULL_POINTER, unless
  * the count is 0. A gd_allocator is zeroed, or gd_create wrote it.
@@ -66,13 +66,17 @@
  */
 #define GD_ABI 2u
 
+/* A function of a header. It is static in C++ too: a shared object exports none, whatever its optimisation. */
+#define GD_INLINE static inline
+
 #ifdef __cplusplus
+#if __cplusplus < 201703L && (!defined(_MSVC_LANG) || _MSVC_LANG < 201703L)
+#error "gpu_descriptor.h needs C++17"
+#endif
 #define GD_NOEXCEPT noexcept
-#define GD_INLINE inline
 extern "C" {
 #else
 #define GD_NOEXCEPT
-#define GD_INLINE static inline
 #endif
 
 /* The result of a call. */
@@ -142,7 +146,8 @@ enum {
 typedef struct gd_pool_info {
     uint32_t max_sets;         /* how many sets it holds at most, at least 1 */
     uint32_t flags;            /* GD_FREE_DESCRIPTOR_SET, and GD_UPDATE_AFTER_BIND or not */
-    uint32_t counts[GD_KINDS]; /* how many descriptors all of its sets have at most */
+    uint32_t counts[GD_KINDS]; /* how many descriptors all of its sets have at most; one sampler if they
+                                  have none */
 } gd_pool_info;
 
 /*
@@ -307,8 +312,9 @@ gd_status gd_add_layout(gd_allocator allocator, uint64_t handle, const uint32_t 
 /*
  * Removes a layout: call it before you destroy the layout, as the driver may give its handle to another.
  * From then on it is GD_BAD_LAYOUT, also once other layouts were added. Its kept sets go back to the
- * driver. Its outstanding sets stay valid until they are freed, and then go back to the driver too. It
- * allocates nothing. The time is linear in the number of its kept sets.
+ * driver. Its outstanding sets stay valid until they are freed, and then go back to the driver too. The last
+ * pool for its counts and flags stays, and counts against the limit, until gd_trim or gd_cleanup. It allocates
+ * nothing. The time is linear in the number of its kept sets.
  *
  * GD_BAD_LAYOUT, GD_BAD_ALLOCATOR, GD_BUSY, GD_INTERNAL_ERROR.
  */
@@ -318,8 +324,10 @@ gd_status gd_remove_layout(gd_allocator allocator, gd_layout layout);
  * Allocates 'count' sets, all or none: kept ones of this layout first, the others new, in one request. If
  * it fails, 'sets' is zeroed, and freeing such a set is GD_BAD_SET.
  *
- * If new sets are refused while any sets are kept, these are freed and empty pools destroyed, as by
- * gd_cleanup, and all 'count' are asked for once more. It fails only if they are refused again.
+ * If new sets are refused while sets of any layout are kept, all kept sets are freed and empty pools
+ * destroyed, as by gd_cleanup, and all 'count' are asked for once more. It fails only if they are refused
+ * again, or if none was kept. In that case empty pools stay, and count against the limit: gd_trim destroys
+ * them.
  *
  * GD_OUT_OF_DEVICE_MEMORY, GD_OUT_OF_HOST_MEMORY, GD_FRAGMENTATION, GD_DEVICE_LOST, GD_BAD_RESULT,
  * GD_NULL_POINTER, GD_BAD_LAYOUT, GD_BAD_ALLOCATOR, GD_BUSY, GD_INTERNAL_ERROR.
@@ -337,7 +345,8 @@ gd_status gd_free(gd_allocator allocator, const gd_set *sets, uint32_t count);
 
 /*
  * Frees all outstanding sets, those that wait for a frame too, and all kept ones; it keeps none. The
- * device must no longer use them. It allocates nothing.
+ * device must no longer use them. The layouts stay, and so do the last pools for their counts and flags. It
+ * allocates nothing.
  *
  * GD_BAD_ALLOCATOR, GD_BUSY, GD_INTERNAL_ERROR.
  */

@@ -16,7 +16,8 @@
  * gd::allocator frees all of its sets, which the device must no longer use, and destroys it; an owner of sets
  * that lives longer does nothing at its end. A gd::allocator ends before vkDestroyDevice.
  *
- * A destructor has no status. It waits for other threads' calls. If no call waits
+ * A destructor has no status. If one of an owner's sets was freed elsewhere, its end fails, and all of its sets
+ * stay outstanding until gd_free_all. It waits for other threads' calls. If no call waits
  * (GD_EXTERNALLY_SYNCHRONIZED, or a library without std) and one of another thread runs, the sets stay
  * outstanding until gd_free_all, and the allocator isn't destroyed: so keep the lock that orders your calls
  * while owners end. The same happens in one of the device's four functions: no owner may end there.
@@ -34,6 +35,10 @@
 struct VkDescriptorSet_T;
 
 namespace gd {
+
+/* The ABI's number, so that two shared objects over headers of two ABIs don't share a function. */
+inline namespace abi_2 {
+static_assert(GD_ABI == 2u, "the namespace has the number of the ABI");
 
 #if defined(VK_USE_64_BIT_PTR_DEFINES) ? (VK_USE_64_BIT_PTR_DEFINES == 1) : (UINTPTR_MAX == UINT64_MAX)
 using vk_descriptor_set = VkDescriptorSet_T *;
@@ -283,7 +288,7 @@ class frame {
     uint64_t number() const noexcept { return number_; }
     uint32_t size() const noexcept { return count_; }
 
-    /* gd_allocate. The sets are the frame's. */
+    /* gd_allocate. The sets are the frame's: if one is freed elsewhere, the frame can't end. */
     gd_status allocate(gd_layout layout, uint32_t count, gd_set *to) noexcept {
         if (!reserve(count)) {
             for (uint32_t index = 0; index < count; index++)
@@ -307,6 +312,9 @@ class frame {
             count_ = 0;
         return status;
     }
+
+    /* Gives up the ownership of its sets. */
+    void release() noexcept { count_ = 0; }
 
     /* Ends this frame, and begins another one in its memory. If that fails, it is still this one. */
     gd_status begin(uint64_t number) noexcept {
@@ -347,6 +355,7 @@ class frame {
     uint32_t count_ = 0, room_ = 0;
 };
 
+} // namespace abi_2
 } // namespace gd
 
 #endif

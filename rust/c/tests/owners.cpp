@@ -215,6 +215,8 @@ void draw_frames() {
     it.device.is_full = false;
     CHECK(frame.allocate(it.layout, 1, drawn) == GD_OK && gd_free_all(it.allocator.raw()) == GD_OK);
     CHECK(frame.begin(7) == GD_BAD_SET && frame.number() == 6 && frame.size() == 1);
+    frame.release();
+    CHECK(frame.begin(7) == GD_OK && frame.number() == 7 && frame.size() == 0);
 }
 
 void own_allocators() {

@@ -192,6 +192,15 @@ inside_another() {
   [ "$(cat "$room/shown")" = plugin ] && "$room/loaded" "$room/plugin.so" plugin
 }
 
+# One in C++, without optimisation, exports no function of a header under its name in C.
+inside_in_cpp() {
+  g++ "${of_cpp[@]}" -O0 -fPIC -shared -I"$include" rust/c/tests/linking/plugin.cpp "$1/lib/libgpu_descriptor_c.a" \
+    -o "$room/plugin_cpp.so" || return
+  nm -D --defined-only "$room/plugin_cpp.so" | sed 's/.* //' >"$room/shown"
+  cat "$room/shown"
+  ! grep -q '^gd' "$room/shown" && "$room/loaded" "$room/plugin_cpp.so" plugin
+}
+
 try_linking() {
   local prefix=$room/$1 of=$2
   step "name of the shared library$of" versioned "$prefix"
@@ -202,5 +211,6 @@ try_linking() {
   step "a header with one more function of the device$of" meets "$prefix" 30 's/^    gd_free_sets free_sets;/&void (*later)(void);/'
   step "beside another library of Rust's$of" beside_another "$prefix"
   step "inside of a shared object$of" inside_another "$prefix"
+  step "inside of one in C++$of" inside_in_cpp "$prefix"
   step "the shared library is loaded and unloaded$of" "$room/loaded" "$prefix/lib/libgpu_descriptor_c.so" gd_version
 }
