@@ -86,7 +86,10 @@ impl Gpu {
     /// The pools that were destroyed last, in their order.
     pub fn last_destroyed(&self, count: usize) -> Vec<usize> {
         let destroyed = self.destroyed.borrow();
-        destroyed.range(destroyed.len() - count..).copied().collect()
+        destroyed
+            .range(destroyed.len() - count..)
+            .copied()
+            .collect()
     }
 
     pub fn is_empty(&self) -> bool {
