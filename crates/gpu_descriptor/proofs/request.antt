@@ -16,6 +16,7 @@ pub mod PoolCreated
 pub mod Promises
 pub mod Requested
 pub mod Rollback
+pub mod Serving
 pub mod Shares
 pub mod StateAgrees
 pub mod TakenAgrees

@@ -1,9 +1,12 @@
 //! The keys under which pools are kept.
 ghost use Rattle.std.specs.Prelude.{◌≡◌, ◌<◌, ◌^◌, IsTrue};
 ghost use Rattle.gpu_descriptor_types.specs.Counts.{kinds};
+ghost use Rattle.gpu_descriptor.specs.Caller.Flags.{is_marked};
 ghost use Rattle.gpu_descriptor.specs.Model.Load.{set_descriptors, pool_descriptors};
 ghost use Rattle.gpu_descriptor.specs.Inner.KeyOf.{key_of};
 
+use crate::flags::DescriptorSetLayoutCreateFlags;
+use bitflags::Flags;
 use gpu_descriptor_types::DescriptorTotalCount;
 
 /// The counts of a layout, and whether it is marked as update-after-bind. Layouts of one key share
@@ -67,6 +70,17 @@ fn are_same_counts(a: &DescriptorTotalCount, b: &DescriptorTotalCount) -> bool
 }
 
 impl BucketKey {
+    /// The key of a layout with these counts and flags.
+    #[inline]
+    pub(crate) fn of(counts: &DescriptorTotalCount, flags: DescriptorSetLayoutCreateFlags) -> Self
+        ensures { key_of result ≡ record { counts = kinds counts.now; marked = is_marked flags } }
+    {
+        BucketKey {
+            counts: *counts,
+            update_after_bind: flags.contains(DescriptorSetLayoutCreateFlags::UPDATE_AFTER_BIND),
+        }
+    }
+
     /// Whether it is this key, in fewer instructions than `==`.
     #[inline]
     pub(crate) fn is(&self, other: &BucketKey) -> bool

@@ -11,7 +11,7 @@ ghost use Rattle.gpu_descriptor.specs.Inner.Buckets.{AreBookedIn};
 ghost use Rattle.gpu_descriptor.specs.Inner.Ids.{is_of, rise_below, stored_ids};
 ghost use Rattle.gpu_descriptor.specs.Inner.KeyOf.{key_of};
 ghost use Rattle.gpu_descriptor.specs.Inner.OpenPools.{CountsLooks};
-ghost use Rattle.gpu_descriptor.specs.Inner.Serves.{IsUnserved, ServesKey};
+ghost use Rattle.gpu_descriptor.specs.Inner.Serves.{ServesRequest};
 ghost use Rattle.gpu_descriptor.specs.Inner.Stored.{books_in, row_of, stored_keys};
 ghost use Rattle.gpu_descriptor.specs.Model.Books.{key_eq, sum_over};
 ghost use Rattle.gpu_descriptor.specs.Model.Load.{bucket_load, sets_out};
@@ -136,34 +136,16 @@ impl<P: Drop> KeyTable<P> {
             (key_of request.now.key)).pools }
         requires bound { sum_over sets_out (map row_of self.old.buckets.entries) + request.now.count
             < 2 ^ 64 }
-        ensures served { IfOk result (λ ended. ServesKey D.meaning budget.old.most
-            (key_of request.now.key) budget.old.room request.now.count
-            (appended (K.items sink.old.sets) (K.items sink.new.sets)) ended
-            (map row_of self.old.buckets.entries) (map row_of self.new.buckets.entries)
-            (D.ledger device.old) (D.ledger device.new)) }
-        ensures front { OnOk result (K.items sink.new.sets ≡ K.items sink.old.sets
-            ++ appended (K.items sink.old.sets) (K.items sink.new.sets)) }
-        ensures left { OnOk result (length (appended (K.items sink.old.sets) (K.items sink.new.sets))
-            + sink.new.left ≡ request.now.count) }
-        ensures own { OnOk result (PutsOfLayout D.meaning request.now.layout.now
-            (K.items sink.old.sets) (K.items sink.new.sets)) }
-        ensures sets { OnErr result (K.items sink.new.sets ≡ K.items sink.old.sets) }
-        ensures refused { IfErr result (λ e. IsUnserved request.now.count e (books_in
-            D.meaning.pool_name (map row_of self.old.buckets.entries) (key_of request.now.key))) }
-        ensures most { budget.new.most ≡ budget.old.most }
-        ensures looks { CountsLooks budget.old.looks.count budget.new.looks.count
-            (D.ledger device.old) (D.ledger device.new) }
-        ensures room { budget.new.room + sum_over bucket_load (map row_of self.new.buckets.entries)
-            ≡ budget.old.room + sum_over bucket_load (map row_of self.old.buckets.entries) }
-        ensures keys { OnOk result (stored_keys self.new.buckets.entries
-            ≡ with_key (key_of request.now.key) (stored_keys self.old.buckets.entries)) }
-        ensures entries { OnErr result (self.new.buckets.entries ≡ self.old.buckets.entries) }
-        ensures budget { OnErr result (budget.new ≡ budget.old) }
-        ensures ledger { OnErr result (D.ledger device.new ≡ D.ledger device.old) }
+        ensures serves { ServesRequest D.meaning request.now.layout.now (key_of request.now.key)
+            request.now.count sink.new.left result self.old.buckets.entries
+            self.new.buckets.entries budget.old budget.new (K.items sink.old.sets)
+            (K.items sink.new.sets) (D.ledger device.old) (D.ledger device.new) }
     {
         if let Some(place) = self.place_of_key(&request.key) {
             self.last = place;
-            return self.buckets[place].serve(device, request, budget, sink);
+            let bucket = &mut self.buckets[place];
+            bucket.prepare(request.count, sink)?;
+            return Ok(bucket.take(device, request, budget, sink));
         }
         self.serve_absent(device, request, budget, sink)
     }
@@ -181,30 +163,10 @@ impl<P: Drop> KeyTable<P> {
         requires absent { lookup (is_of (key_of request.now.key)) self.old.buckets.entries ≡ None }
         requires bound { sum_over sets_out (map row_of self.old.buckets.entries) + request.now.count
             < 2 ^ 64 }
-        ensures served { IfOk result (λ ended. ServesKey D.meaning budget.old.most
-            (key_of request.now.key) budget.old.room request.now.count
-            (appended (K.items sink.old.sets) (K.items sink.new.sets)) ended
-            (map row_of self.old.buckets.entries) (map row_of self.new.buckets.entries)
-            (D.ledger device.old) (D.ledger device.new)) }
-        ensures front { OnOk result (K.items sink.new.sets ≡ K.items sink.old.sets
-            ++ appended (K.items sink.old.sets) (K.items sink.new.sets)) }
-        ensures left { OnOk result (length (appended (K.items sink.old.sets) (K.items sink.new.sets))
-            + sink.new.left ≡ request.now.count) }
-        ensures own { OnOk result (PutsOfLayout D.meaning request.now.layout.now
-            (K.items sink.old.sets) (K.items sink.new.sets)) }
-        ensures sets { OnErr result (K.items sink.new.sets ≡ K.items sink.old.sets) }
-        ensures refused { IfErr result (λ e. IsUnserved request.now.count e (books_in
-            D.meaning.pool_name (map row_of self.old.buckets.entries) (key_of request.now.key))) }
-        ensures most { budget.new.most ≡ budget.old.most }
-        ensures looks { CountsLooks budget.old.looks.count budget.new.looks.count
-            (D.ledger device.old) (D.ledger device.new) }
-        ensures room { budget.new.room + sum_over bucket_load (map row_of self.new.buckets.entries)
-            ≡ budget.old.room + sum_over bucket_load (map row_of self.old.buckets.entries) }
-        ensures keys { OnOk result (stored_keys self.new.buckets.entries
-            ≡ with_key (key_of request.now.key) (stored_keys self.old.buckets.entries)) }
-        ensures entries { OnErr result (self.new.buckets.entries ≡ self.old.buckets.entries) }
-        ensures budget { OnErr result (budget.new ≡ budget.old) }
-        ensures ledger { OnErr result (D.ledger device.new ≡ D.ledger device.old) }
+        ensures serves { ServesRequest D.meaning request.now.layout.now (key_of request.now.key)
+            request.now.count sink.new.left result self.old.buckets.entries
+            self.new.buckets.entries budget.old budget.new (K.items sink.old.sets)
+            (K.items sink.new.sets) (D.ledger device.old) (D.ledger device.new) }
     {
         if self.buckets.reserve(1).is_err() {
             return Err(AllocationError::OutOfHostMemory);
@@ -219,11 +181,12 @@ impl<P: Drop> KeyTable<P> {
             listed: VecDeque::new(request.alloc),
             total: 0,
         };
-        let served = bucket.serve(device, request, budget, sink)?;
+        bucket.prepare(request.count, sink)?;
+        let ended = bucket.take(device, request, budget, sink);
         match self.buckets.insert(request.key, bucket) {
             Ok(_) => {
                 self.next_id += 1;
-                Ok(served)
+                Ok(ended)
             }
             Err(_) => unreachable!(),
         }

@@ -1,5 +1,11 @@
 //! A layout, with what a request of its sets takes beside it.
+ghost use Rattle.std.specs.Prelude.{◌≡◌};
+ghost use Rattle.gpu_descriptor_types.specs.Counts.{kinds};
+ghost use Rattle.gpu_descriptor.specs.Caller.Flags.{is_marked};
+ghost use Rattle.gpu_descriptor.specs.Inner.KeyOf.{key_of};
+
 use crate::flags::DescriptorSetLayoutCreateFlags;
+use crate::key::BucketKey;
 use gpu_descriptor_types::DescriptorTotalCount;
 
 /// A layout of a device, with the counts and the flags that it was made with.
@@ -8,4 +14,14 @@ pub struct SetLayout<L> {
     pub layout: L,
     pub counts: DescriptorTotalCount,
     pub flags: DescriptorSetLayoutCreateFlags,
+}
+
+impl<L> SetLayout<L> {
+    /// The key of its pools.
+    #[inline]
+    pub(crate) fn key(&self) -> BucketKey
+        ensures { key_of result ≡ record { counts = kinds self.now.counts; marked = is_marked self.now.flags } }
+    {
+        BucketKey::of(&self.counts, self.flags)
+    }
 }

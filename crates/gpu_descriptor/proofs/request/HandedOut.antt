@@ -1,5 +1,5 @@
 -- All that is promised of a request, from what it took: kept, given back, declined, or for no sets.
-use Rattle.gpu_descriptor.proofs.Common.{◌≡◌, ◌≤◌, ℕ, ◌+◌, ◌<◌, List, Option, None, Some, Result, Ok, Err, sym, ap, ◌∙◌}
+use Rattle.gpu_descriptor.proofs.Common.{◌≡◌, ◌≤◌, true, false, is_some, ℕ, ◌+◌, ◌<◌, List, Option, None, Some, Result, Ok, Err, sym, ap, ◌∙◌}
 use Rattle.gpu_descriptor.proofs.Common.{arith, side, Meaning, Ledger, Counters, AllocationError, DescriptorSet, Stop}
 use Rattle.gpu_descriptor.proofs.Common.{Agree, outstanding, HasDistinctKeys, Key, Allocations, run_digits, Grant}
 use Rattle.gpu_descriptor.proofs.Common.{granted, items_in, stop_error, call_of, Returns, with_key, items_of, Agrees}
@@ -41,11 +41,10 @@ module _ {L P S : Type 0} {means : Meaning L P S} {k : Key} {count : ℕ} (sets 
     (looks : new.looks + before.counters.asked ≡ old.looks + after.counters.asked) (comparisons : new.comparisons ≡ old.comparisons) (some : 0 < count) where
   pub hands_all : {x : Unit {0}} → ended ≡ Ok x → HandsOut means k count (Ok sets) (side old before) (side new after)
   hands_all is =
-      let all = kept t agree.books agree.rows some is in
+      let all = kept t agree.books some is in
       let outcome = all.0 in
       record {
         outcome = outcome;
-        nothing = λ zero. absurd (omega arith);
         many = kept_many t agree.books is;
         given = taken_out t agree.books;
         of_key = taken_own t agree.books;
@@ -57,7 +56,7 @@ module _ {L P S : Type 0} {means : Meaning L P S} {k : Key} {count : ℕ} (sets 
         other_keys = taken_others t agree.books;
         keys = rw all.1 keys;
         looks = looks;
-        declined = tt;
+        declined = λ none. absurd (let bad : true ≡ false = sym all.1 ∙ ap is_some none in cc);
         searches = tt;
         comparisons_stay = comparisons;
         compared = omega arith;
@@ -66,13 +65,12 @@ module _ {L P S : Type 0} {means : Meaning L P S} {k : Key} {count : ℕ} (sets 
   -- the sets went back
   pub hands_back : {last : Allocations P} {final : Ledger} → HasDistinctKeys (table_of means.pool_name new) → Returns means sets (side new after) (side last final) → {why : Stop} → ended ≡ Err why → HandsOut means k count (Err (stop_error why)) (side old before) (side last final)
   hands_back still r is =
-      let went = went_back t agree.books agree.rows still some r.back is in
+      let went = went_back t agree.books still some r.back is in
       let outcome = went.0 in
       let asked = ap (λ (c : Counters). c.asked) r.back.counters in
       let gone : run_digits (granted k count went.1 (state_of means.pool_name old before)) (items_in k went.1.id went.1.parts) ≡ run_digits (state_of means.pool_name new after) (items_of means.set_name sets) = λ i. run_digits (went.4 i) (went.3 i) in
       record {
         outcome = outcome;
-        nothing = λ zero. absurd (omega arith);
         many = tt;
         given = tt;
         of_key = tt;
@@ -95,7 +93,6 @@ module _ {L P S : Type 0} {means : Meaning L P S} {k : Key} {count : ℕ} {old n
   pub hands_none : Agrees means.pool_name old before → (error : AllocationError) → 0 < count → IsDeclined (call_of means k count (side old before) (side new after) (Err error)) → HandsOut means k count (Err error) (side old before) (side new after)
   hands_none agree error some declined = let outcome = declined.0 in record {
     outcome = outcome;
-    nothing = λ zero. absurd (omega arith);
     many = tt;
     given = tt;
     of_key = tt;

@@ -61,7 +61,7 @@ module _ (c : Call) (d : IsDone c) where
   pub done_filled : 0 < length d.grant.fresh → AreFilled c
   done_filled more = by_list d.fresh
     where
-      by_list : IsFreshList c.most k (c.limit - d.pooled) (out_then c d.grant) (wanting c d.grant) d.grant.fresh → AreFilled c
+      by_list : IsFreshList c.most k (c.limit - c.pooled) (out_then c d.grant) (wanting c d.grant) d.grant.fresh → AreFilled c
       by_list (no_fresh zero_wanted empty) = (let e = ap length empty in absurd (omega arith))
       by_list (some_fresh front last is short sized le given) =
           let shares : List Entry = all_shared d.grant.refused c.count (c.old.books k).pools in

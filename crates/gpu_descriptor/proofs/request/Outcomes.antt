@@ -1,5 +1,4 @@
 -- A request that took sets is as the definitions say: kept whole, or given back.
-use Rattle.gpu_descriptor.proofs.request.Requested.{load_is, pool_load_is, out_is}
 use Rattle.gpu_descriptor.proofs.Common.{fun_ext, ◌≡◌, ℕ, ◌+◌, ◌-◌, ◌<◌, Some, is_some, true, List, [], ◌∷◌, length}
 use Rattle.gpu_descriptor.proofs.Common.{arith, Result, Ok, Err, OnOk, refl, sym, ap, ◌∙◌, subst, length-map, side}
 use Rattle.gpu_descriptor.proofs.Common.{Meaning, Ledger, no_rise, AllocationError, DescriptorSet, Stop, State, Item}
@@ -88,19 +87,17 @@ module _ {L P S : Type 0} {means : Meaning L P S} {k : Key} {count : ℕ} {sets 
       let lost = subst (λ t. KeepsForeign t s) as_granted (granted_loses_none k count had.g s agree had.grant had.made) in
       others_stay means.pool_name old new before after keeps lost
 
-  pub proceeds : HasDistinctKeys (table_of means.pool_name old) → 0 < count → (last : Allocations P) (final : Ledger) (answer : Result (List Item) AllocationError) → Proceeds (call_of means k count (side old before) (side last final) answer)
-  proceeds distinct some last final answer = record {
+  pub proceeds : 0 < count → (last : Allocations P) (final : Ledger) (answer : Result (List Item) AllocationError) → Proceeds (call_of means k count (side old before) (side last final) answer)
+  proceeds some last final answer = record {
     some = some;
-    limit = record { load = marked_load_of old; is_load = load_is means old before distinct; within = t.within };
+    limit = t.within;
     numbers = t.serves.served.numbers;
-    out = outstanding_of old;
-    is_out = out_is means old before distinct;
     sets = t.fits;
   }
 
   -- ---- the sets went back
 
-  module _ (distinct : HasDistinctKeys (table_of means.pool_name old)) (still : HasDistinctKeys (table_of means.pool_name new)) (some : 0 < count) {last : Allocations P} {final : Ledger} (back : GivesBack means sets (runs items) (side new after) (side last final)) where
+  module _ (still : HasDistinctKeys (table_of means.pool_name new)) (some : 0 < count) {last : Allocations P} {final : Ledger} (back : GivesBack means sets (runs items) (side new after) (side last final)) where
     -- which of the new allocator's pools go
     gone : pools_gone (keys_of new) items (state_of means.pool_name new after) ≡ pools_gone (k ∷ []) items (state_of means.pool_name new after)
     gone = ap (λ (keys : List Key). pools_gone keys items (state_of means.pool_name new after)) (keys_table means.pool_name new.table) ∙ only_key k items (state_of means.pool_name new after) (table_of means.pool_name new) still (λ l. refl) taken_own
@@ -121,11 +118,9 @@ module _ {L P S : Type 0} {means : Meaning L P S} {k : Key} {count : ℕ} {sets 
 
       rolls : StopsAt why old.most k room count g (s.books k).pools → Rolls why
       rolls at = (
-        stopped (proceeds distinct some last final _) (record {
+        stopped (proceeds some last final _) (record {
           why = why;
           grant = g;
-          pooled = pool_load_of old;
-          is_pooled = pool_load_is means old before distinct;
           at = at;
           back = record {
             taken = taken.grant;
@@ -186,12 +181,10 @@ module _ {L P S : Type 0} {means : Meaning L P S} {k : Key} {count : ℕ} {sets 
       let many = kept_many is in
       (t.serves.out ∙ ap (λ n. outstanding_of old + n) many, t.serves.load ∙ ap (λ n. marked_load_of old + set_descriptors k n) many)
 
-  pub kept : HasDistinctKeys (table_of means.pool_name old) → 0 < count → {x : Unit {0}} → ended ≡ Ok x → (o : Allocates (call_of means k count (side old before) (side new after) (Ok items))) × (is_some (taken_by o) ≡ true)
-  kept distinct some is =
+  pub kept : 0 < count → {x : Unit {0}} → ended ≡ Ok x → (o : Allocates (call_of means k count (side old before) (side new after) (Ok items))) × (is_some (taken_by o) ≡ true)
+  kept some is =
       let all = all_of is in (
-        done (proceeds distinct some new after _) (record {
-          pooled = pool_load_of old;
-          is_pooled = pool_load_is means old before distinct;
+        done (proceeds some new after _) (record {
           grant = all.0;
           taken = all.1.grant;
           all = all.2;

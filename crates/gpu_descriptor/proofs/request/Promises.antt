@@ -83,14 +83,14 @@ prefix_short c s why room back front more =
     pools_short c s.grant (omega arith) (prefix_below c.most c.key room _ _ s.grant.fresh front.sized front.full short) (rw back.answer tt) (length s.grant.fresh + (stop_rise why).created) (omega arith) (omega arith)
 
 -- a list that gave all
-done_short : (c : Call) (d : IsDone c) → IsFreshList c.most c.key (c.limit - d.pooled) (out_then c d.grant) (wanting c d.grant) d.grant.fresh → 0 < length d.grant.fresh → IsShort c d.grant
+done_short : (c : Call) (d : IsDone c) → IsFreshList c.most c.key (c.limit - c.pooled) (out_then c d.grant) (wanting c d.grant) d.grant.fresh → 0 < length d.grant.fresh → IsShort c d.grant
 done_short c d (no_fresh zero_wanted empty) some = (let e = ap length empty in absurd (omega arith))
 done_short c d (some_fresh front last parts short sized le given) some =
     let g : Grant = d.grant in
     let m : ℕ = pool_size_floor c.key.counts in
-    let whole_sized = subst (AreSized c.most c.key (c.limit - d.pooled) (out_then c g) (wanting c g)) parts sized in
-    let all = few c.most c.key (c.limit - d.pooled) _ _ front short.sized short.full short.short m (inr (refl, last_fits c.most c.key _ _ _ front last whole_sized)) in
-    let below = subst (AreBelowTwice (out_then c g) (wanting c g)) (sym parts) (list_below c.most c.key (c.limit - d.pooled) (out_then c g) (wanting c g) front last whole_sized short.full short.short) in
+    let whole_sized = subst (AreSized c.most c.key (c.limit - c.pooled) (out_then c g) (wanting c g)) parts sized in
+    let all = few c.most c.key (c.limit - c.pooled) _ _ front short.sized short.full short.short m (inr (refl, last_fits c.most c.key _ _ _ front last whole_sized)) in
+    let below = subst (AreBelowTwice (out_then c g) (wanting c g)) (sym parts) (list_below c.most c.key (c.limit - c.pooled) (out_then c g) (wanting c g) front last whole_sized short.full short.short) in
     let less = short.short in
     let long = ap length parts ∙ length-append front (last ∷ []) in
     let same : length g.fresh ≡ suc (length front) = omega arith in
@@ -110,7 +110,7 @@ fits : {why : Stop} {one room : ℕ} → (why ≡ stop.NoRoomUnderLimit) ↔ (ro
 fits {one = one} {room = room} told other = elim (cases_lt room one) [ inl lt ↦ absurd (other (told.1 lt)) | inr le ↦ le ]
 
 module _ (c : Call) where
-  stop_short : (s : IsStopped c) (why : Stop) → IsBack c s.grant why → StopsAt why c.most c.key (c.limit - s.pooled) c.count s.grant (c.old.books c.key).pools → c.before.created < c.after.created → IsShort c s.grant
+  stop_short : (s : IsStopped c) (why : Stop) → IsBack c s.grant why → StopsAt why c.most c.key (c.limit - c.pooled) c.count s.grant (c.old.books c.key).pools → c.before.created < c.after.created → IsShort c s.grant
   stop_short s (stop.ExistingPoolRefused e) back at more =
       let n = ap (λ (k : Counters). k.created) back.counters in
       let none = alloc_creates e in

@@ -1,17 +1,15 @@
 -- What a request leaves of an allocator: why it is declined before the walk, and what it took.
-use Rattle.gpu_descriptor.proofs.sums.TableSums.{adds_up, outstanding_of-table, marked_load_of-table, pool_load_of-table}
-use Rattle.gpu_descriptor.specs.Model.Books.{AddsUp}
 use Rattle.gpu_descriptor.proofs.Common.{side, Meaning, greatest_u64, [], ◌≡◌, ℕ, ◌+◌, ◌-◌, ◌*◌, ◌<◌, ◌≤◌, ◌&&◌, Bool}
 use Rattle.gpu_descriptor.proofs.Common.{true, false, List, map, length, sum, Option, Result, Err, inl, inr, refl, sym}
 use Rattle.gpu_descriptor.proofs.Common.{ap, subst, ◌∙◌, arith, mul-le-mul_right, cases_Bool, and_parts, ltb-true}
 use Rattle.gpu_descriptor.proofs.Common.{ltb-false, IsDistinct, nat_lt, ◌⊎◌, kinds, Ledger, AllocationError, BucketKey}
 use Rattle.gpu_descriptor.proofs.Common.{DescriptorSet, DescriptorBucket, Stop, Key, key_eq, Bucket, BucketOf}
 use Rattle.gpu_descriptor.proofs.Common.{HasDistinctKeys, books_of, next_number, sum_over, key_of, Allocations}
-use Rattle.gpu_descriptor.proofs.Common.{bucket_load, descriptors_out, set_descriptors, sets_out, IsWithinLimit}
+use Rattle.gpu_descriptor.proofs.Common.{bucket_load, set_descriptors, IsWithinLimit}
 use Rattle.gpu_descriptor.proofs.Common.{call_of, IsDeclined, IsUnserved, IsSound, ServesKey, Takes, named_row}
 use Rattle.gpu_descriptor.proofs.Common.{state_of, table_of, outstanding_of, marked_load_of, pool_load_of, IsConsistent}
 use Rattle.gpu_descriptor.proofs.Common.{row_of, stored_keys, books_in}
-use Rattle.gpu_descriptor.specs.declared.errors.AllocationError.TheVariants.{Fragmentation}
+use Rattle.gpu_descriptor.specs.declared.errors.AllocationError.TheVariants.{Fragmentation, OutOfHostMemory}
 use Rattle.gpu_descriptor.specs.Model.Outcomes.Allocates.{above_limit, past_bound, no_memory_at_start}
 use Rattle.gpu_descriptor.proofs.table.TableBooks.{rows_are, distinct_rows}
 
@@ -61,40 +59,26 @@ module _ {P : Type 0} {a : Allocations P} {max looks compared marked room out : 
   pub keeps_limit : (name : P → ℕ) → IsSound name a
   keeps_limit name = record { rows = rows_apart es is name apart; load = load_within es is counted; pool_load = pool_load_within es is counted }
 
--- what callers see adds up over the books
-module _ {L P S : Type 0} (means : Meaning L P S) (a : Allocations P) (before : Ledger) (distinct : HasDistinctKeys (table_of means.pool_name a)) where
-  pub load_is : AddsUp descriptors_out (state_of means.pool_name a before).books (marked_load_of a)
-  load_is = adds_up means.pool_name a descriptors_out distinct (marked_load_of-table means.pool_name a)
-
-  pub pool_load_is : AddsUp bucket_load (state_of means.pool_name a before).books (pool_load_of a)
-  pool_load_is = adds_up means.pool_name a bucket_load distinct (pool_load_of-table means.pool_name a)
-
-  pub out_is : AddsUp sets_out (state_of means.pool_name a before).books (outstanding_of a)
-  out_is = adds_up means.pool_name a sets_out distinct (outstanding_of-table means.pool_name a)
-
 -- ---- the tests of a request, over the fields of an allocator
 
 module _ {L P S : Type 0} (means : Meaning L P S) {a : Allocations P} {max looks compared marked room out : ℕ}
     {most : Option ℕ} {es : List (BucketKey × DescriptorBucket P)} (is : seen max most looks compared es ≡ a)
-    (counted : IsConsistent max marked room out es) (apart : IsDistinct key_eq (stored_keys es)) (before : Ledger)
+    (counted : IsConsistent max marked room out es) (before : Ledger)
     (key : BucketKey) {count : ℕ} (some : 0 < count) {above : Bool} (test : above ≡ (key.update_after_bind && nat_lt a.limit (count * sum (kinds key.counts) + marked_load_of a))) where
   abbrev Declines : AllocationError → Type 0
   Declines error = IsDeclined (call_of means (key_of key) count (side a before) (side a before) (Err error))
 
-  distinct : HasDistinctKeys (table_of means.pool_name a)
-  distinct = rows_apart es is means.pool_name apart
-
   pub declined_by_limit : above ≡ true → Declines Fragmentation
   declined_by_limit passed =
       let both = and_parts key.update_after_bind (nat_lt a.limit (count * sum (kinds key.counts) + marked_load_of a)) (sym test ∙ passed) in
-      (above_limit some (record { marked = both.0; load = marked_load_of a; is_load = load_is means a before distinct; above = ltb-true a.limit (count * sum (kinds key.counts) + marked_load_of a) both.1 }) refl (record { state = refl; counters = refl }), refl)
+      (above_limit some (record { marked = both.0; above = ltb-true a.limit (count * sum (kinds key.counts) + marked_load_of a) both.1 }) refl (record { state = refl; counters = refl }), refl)
 
   module _ (below : above ≡ false) {past : Bool} (bounded : past ≡ nat_lt greatest_u64 (out + count)) where
     in_limit : (answer : Result _ AllocationError) → IsWithinLimit (call_of means (key_of key) count (side a before) (side a before) answer)
-    in_limit answer = record { load = marked_load_of a; is_load = load_is means a before distinct; within = within_of key.update_after_bind a.limit (count * sum (kinds key.counts) + marked_load_of a) (sym test ∙ below) }
+    in_limit answer = within_of key.update_after_bind a.limit (count * sum (kinds key.counts) + marked_load_of a) (sym test ∙ below)
 
     declined_past : (greatest_u64 < next_number ((state_of means.pool_name a before).books (key_of key)) + count) ⊎ (greatest_u64 < outstanding_of a + count) → Declines Fragmentation
-    declined_past more = (past_bound some (in_limit _) (record { out = outstanding_of a; is_out = out_is means a before distinct; past = more }) refl (record { state = refl; counters = refl }), refl)
+    declined_past more = (past_bound some (in_limit (Err Fragmentation)) more refl (record { state = refl; counters = refl }), refl)
 
     pub declined_by_bound : past ≡ true → Declines Fragmentation
     declined_by_bound passed =
@@ -103,13 +87,13 @@ module _ {L P S : Type 0} (means : Meaning L P S) {a : Allocations P} {max looks
         let is_out = counted.is_out in
         declined_past (inr (omega arith))
 
-    pub declined_unserved : past ≡ false → {b : Allocations P} {after : Ledger} → b ≡ a → after ≡ before → (e : AllocationError) → IsUnserved count e (books_in means.pool_name (map row_of es) (key_of key)) → IsDeclined (call_of means (key_of key) count (side a before) (side b after) (Err e))
-    declined_unserved kept_in same kept e why = rw (same, kept) (elim (subst (λ (b : Bucket). IsUnserved count e b) (sym (books_at a es (table_is es is) means.pool_name before (key_of key))) why) [
+    pub declined_unserved : past ≡ false → {b : Allocations P} {after : Ledger} → b ≡ a → after ≡ before → (e : AllocationError) → IsUnserved count (next_number (books_in means.pool_name (map row_of es) (key_of key))) e → IsDeclined (call_of means (key_of key) count (side a before) (side b after) (Err e))
+    declined_unserved kept_in same kept e why = rw (same, kept) (elim (subst (λ (b : Bucket). IsUnserved count (next_number b) e) (sym (books_at a es (table_is es is) means.pool_name before (key_of key))) why) [
       | inl memory ↦ (
           let fits = ltb-false greatest_u64 (out + count) (sym bounded ∙ kept_in) in
           let all = ap outstanding_of is in
           let is_out = counted.is_out in
-          rw memory.0 (no_memory_at_start (record { some = some; limit = in_limit _; numbers = memory.1; out = outstanding_of a; is_out = out_is means a before distinct; sets = omega arith }) refl (record { state = refl; counters = refl }), refl))
+          rw memory.0 (no_memory_at_start (record { some = some; limit = in_limit (Err OutOfHostMemory); numbers = memory.1; sets = omega arith }) refl (record { state = refl; counters = refl }), refl))
       | inr many ↦ rw many.0 (declined_past (inl many.1))
     ])
 

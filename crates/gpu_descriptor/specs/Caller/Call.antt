@@ -5,7 +5,7 @@ use Rattle.gpu_descriptor_types.specs.Side.{Side}
 use Rattle.gpu_descriptor.specs.declared.errors.AllocationError.{AllocationError}
 use Rattle.gpu_descriptor.specs.Model.Books.{Key}
 use Rattle.gpu_descriptor.specs.Model.Agreement.{Item}
-use Rattle.gpu_descriptor.specs.Caller.States.{state_of}
+use Rattle.gpu_descriptor.specs.Caller.States.{marked_load_of, outstanding_of, pool_load_of, state_of}
 use Rattle.gpu_descriptor.specs.Caller.Values.{Allocations}
 use Rattle.gpu_descriptor.specs.Model.Outcomes.{Call}
 
@@ -22,6 +22,9 @@ module _ {L P S : Type 0} (means : Meaning L P S) where
     count = count;
     limit = old.value.limit;
     most = old.value.most;
+    out = outstanding_of old.value;
+    load = marked_load_of old.value;
+    pooled = pool_load_of old.value;
     old = state_of means.pool_name old.value old.ledger;
     new = state_of means.pool_name new.value new.ledger;
     before = old.ledger.counters;

@@ -1,6 +1,6 @@
--- What a request for sets leaves of an allocator and of the ledger.
+-- What a request for sets leaves of an allocator, of the ledger, and of the list that its sets are appended to.
 use Rattle.gpu_descriptor.specs.Model.Grants.{granted, items_in}
-use Rattle.std.specs.Prelude.{◌≡◌, ℕ, ◌+◌, ◌≤◌, List, length, IfOk, IfErr, MatchOption, None, OnOk, OnErr, Result, if◌then◌else◌, is_some}
+use Rattle.std.specs.Prelude.{◌≡◌, ℕ, ◌+◌, ◌≤◌, ◌++◌, List, length, IfOk, IfErr, MatchOption, None, OnOk, OnErr, Result, if◌then◌else◌, is_some}
 use Rattle.gpu_descriptor_types.specs.Meaning.{Meaning}
 use Rattle.gpu_descriptor_types.specs.Side.{Side}
 use Rattle.gpu_descriptor.specs.declared.errors.AllocationError.{AllocationError}
@@ -9,11 +9,12 @@ use Rattle.gpu_descriptor.specs.Model.Books.{Key}
 use Rattle.gpu_descriptor.specs.Model.Load.{set_descriptors}
 use Rattle.gpu_descriptor.specs.Model.Outcomes.{Allocates, taken_by}
 use Rattle.gpu_descriptor.specs.Model.Promises.{AreOfKey, AreOutBesides, CreatesOnlyWhereShort, KeepsOtherKeys, KeepsOutstanding}
-use Rattle.gpu_descriptor.specs.Caller.Call.{call_of, map_ok}
+use Rattle.gpu_descriptor.specs.Caller.Call.{call_of, layout_key, map_ok}
 use Rattle.gpu_descriptor.specs.Caller.Causes.{HasCause}
 use Rattle.gpu_descriptor.specs.Caller.Comparisons.{run_digits}
 use Rattle.gpu_descriptor.specs.Caller.Keys.{with_key}
-use Rattle.gpu_descriptor.specs.Caller.Sets.{items_of}
+use Rattle.gpu_descriptor.specs.Caller.SetLists.{appended}
+use Rattle.gpu_descriptor.specs.Caller.Sets.{AreOfLayout, items_of}
 use Rattle.gpu_descriptor.specs.Caller.States.{keys_of, marked_load_of, outstanding_of, state_of}
 use Rattle.gpu_descriptor.specs.Caller.Values.{Allocations}
 
@@ -21,8 +22,6 @@ use Rattle.gpu_descriptor.specs.Caller.Values.{Allocations}
 pub record HandsOut {L P S : Type 0} (means : Meaning L P S) (k : Key) (count : ℕ) (answer : Result (List (DescriptorSet S)) AllocationError) (old new : Side (Allocations P)) : Type 0 where
   -- everything at once: which of its outcomes the request had
   pub outcome : Allocates (call_of means k count old new (map_ok (items_of means.set_name) answer))
-  -- no sets change nothing
-  pub nothing : count ≡ 0 → (new.value ≡ old.value) × (new.ledger ≡ old.ledger)
   -- as many sets as were asked for
   pub many : IfOk answer (λ sets. length sets ≡ count)
   -- exactly the sets of the result are outstanding besides those before
@@ -45,10 +44,17 @@ pub record HandsOut {L P S : Type 0} (means : Meaning L P S) (k : Key) (count : 
   pub keys : keys_of new.value ≡ (if is_some (taken_by outcome) then with_key k (keys_of old.value) else keys_of old.value)
   -- a look for each call that asks a pool
   pub looks : new.value.looks + old.ledger.counters.asked ≡ old.value.looks + new.ledger.counters.asked
-  -- a request that ended before the walk changes nothing
-  pub declined : OnErr answer (taken_by outcome ≡ None → (new.value ≡ old.value) × (new.ledger ≡ old.ledger))
+  -- a request that ended before the walk changes nothing, as one for no sets does
+  pub declined : taken_by outcome ≡ None → (new.value ≡ old.value) × (new.ledger ≡ old.ledger)
   -- a rollback compares no more than a release of its sets, and no other request compares
   pub searches : OnErr answer (MatchOption (taken_by outcome) (new.value.comparisons ≡ old.value.comparisons) (λ g. new.value.comparisons ≤ old.value.comparisons + run_digits (granted k count g (state_of means.pool_name old.value old.ledger)) (items_in k g.id g.parts)))
   pub comparisons_stay : OnOk answer (new.value.comparisons ≡ old.value.comparisons)
   -- the number of comparisons never falls
   pub compared : old.value.comparisons ≤ new.value.comparisons
+
+-- a request of so many sets of a layout appended them to a list
+pub record HandsInto {L P S : Type 0} (means : Meaning L P S) (layout : L) (count : ℕ) (answer : Result (Unit {0}) AllocationError) (had has : List (DescriptorSet S)) (old new : Side (Allocations P)) : Type 0 where
+  pub hands_out : HandsOut means (layout_key means layout) count (map_ok (λ done. appended had has) answer) old new
+  pub front : OnOk answer (has ≡ had ++ appended had has)
+  pub own : OnOk answer (AreOfLayout means layout (appended had has))
+  pub sets_stay : OnErr answer (has ≡ had)

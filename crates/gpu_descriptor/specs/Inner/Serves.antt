@@ -1,20 +1,26 @@
 -- What a request took of one key, before any of it is freed: in the bucket, in the table, and of an allocator.
 use Rattle.gpu_descriptor_types.specs.Bounds.{greatest_u64}
-use Rattle.std.specs.Prelude.{◌≡◌, ℕ, ◌+◌, ◌-◌, ◌*◌, ◌<◌, ◌≤◌, ◌⊎◌, true, if◌then◌else◌, List, length, sum, Option, Result, OnOk, None}
+use Rattle.std.specs.Prelude.{◌≡◌, ℕ, ◌+◌, ◌-◌, ◌*◌, ◌<◌, ◌≤◌, ◌⊎◌, ◌++◌, true, if◌then◌else◌, List, length, map, sum, Option, Result, IfErr, IfOk, OnErr, OnOk, None}
 use Rattle.gpu_descriptor_types.specs.Ledger.{Ledger}
 use Rattle.gpu_descriptor_types.specs.Meaning.{Meaning}
 use Rattle.gpu_descriptor_types.specs.Side.{Side}
-use Rattle.gpu_descriptor.specs.Model.Load.{descriptors_out, set_descriptors, sets_out}
+use Rattle.gpu_descriptor.specs.Model.Load.{bucket_load, descriptors_out, set_descriptors, sets_out}
+use Rattle.gpu_descriptor.specs.declared.bucket.DescriptorBucket.{DescriptorBucket}
+use Rattle.gpu_descriptor.specs.declared.budget.Budget.{Budget}
 use Rattle.gpu_descriptor.specs.declared.errors.AllocationError.{AllocationError}
 use Rattle.gpu_descriptor.specs.declared.errors.AllocationError.TheVariants.{OutOfHostMemory, Fragmentation}
+use Rattle.gpu_descriptor.specs.declared.key.BucketKey.{BucketKey}
 use Rattle.gpu_descriptor.specs.declared.set.DescriptorSet.{DescriptorSet}
 use Rattle.gpu_descriptor.specs.declared.bucket.stop.Stop.{Stop}
 use Rattle.gpu_descriptor.specs.Model.Books.{Key, key_eq, Bucket, BucketOf, HasDistinctKeys, next_number, sum_over}
 use Rattle.gpu_descriptor.specs.Model.Outcomes.{Call, Allocates, taken_by}
-use Rattle.gpu_descriptor.specs.Caller.Sets.{items_of}
+use Rattle.gpu_descriptor.specs.Caller.Keys.{with_key}
+use Rattle.gpu_descriptor.specs.Caller.SetLists.{appended}
+use Rattle.gpu_descriptor.specs.Caller.Sets.{PutsOfLayout, items_of}
 use Rattle.gpu_descriptor.specs.Caller.States.{outstanding_of, marked_load_of, pool_load_of, table_of}
 use Rattle.gpu_descriptor.specs.Caller.Values.{Allocations}
-use Rattle.gpu_descriptor.specs.Inner.Stored.{books_in}
+use Rattle.gpu_descriptor.specs.Inner.OpenPools.{CountsLooks}
+use Rattle.gpu_descriptor.specs.Inner.Stored.{books_in, row_of, stored_keys}
 use Rattle.gpu_descriptor.specs.Inner.Grow.{IsTaken}
 
 -- no key of an allocator has two rows, and both loads keep its limit
@@ -24,6 +30,12 @@ pub record IsSound {P : Type 0} (name : P → ℕ) (a : Allocations P) : Type 0 
   pub pool_load : pool_load_of a ≤ a.limit
 
 module _ {L P S : Type 0} (means : Meaning L P S) where
+  -- sets of a layout were appended to a list, and so many of them are left to come
+  pub record Appends (layout : L) (count left : ℕ) (old new : List (DescriptorSet S)) : Type 0 where
+    pub front : new ≡ old ++ appended old new
+    pub own : PutsOfLayout means layout old new
+    pub rest : length (appended old new) + left ≡ count
+
   module _ (most : Option ℕ) (k : Key) (room count : ℕ) (sets : List (DescriptorSet S)) (ended : Result (Unit {0}) Stop) where
     -- a request had these sets of a bucket
     pub record IsServed (old new : Bucket) (before after : Ledger) : Type 0 where
@@ -51,5 +63,24 @@ abbrev pub IsDeclined : Call → Type 0
 IsDeclined c = (outcome : Allocates c) × (taken_by outcome ≡ None)
 
 -- nothing was taken: an allocation failed, or the numbers of the key's pools would pass 64 bits
-abbrev pub IsUnserved : ℕ → AllocationError → Bucket → Type 0
-IsUnserved count e b = ((e ≡ OutOfHostMemory) × (next_number b + count ≤ greatest_u64)) ⊎ ((e ≡ Fragmentation) × (greatest_u64 < next_number b + count))
+abbrev pub IsUnserved : (count next : ℕ) → AllocationError → Type 0
+IsUnserved count next e = ((e ≡ OutOfHostMemory) × (next + count ≤ greatest_u64)) ⊎ ((e ≡ Fragmentation) × (greatest_u64 < next + count))
+
+module _ {L P S : Type 0} (means : Meaning L P S) where
+  -- a table was asked for sets of a key
+  pub record ServesRequest
+      (layout : L) (k : Key) (count left : ℕ) (result : Result (Result (Unit {0}) Stop) AllocationError) (old new : List (BucketKey × DescriptorBucket P))
+      (was is : Budget) (had has : List (DescriptorSet S)) (before after : Ledger) : Type 0 where
+    pub served : IfOk result (λ ended. ServesKey means was.most k was.room count (appended had has) ended (map row_of old) (map row_of new) before after)
+    pub appends : OnOk result (Appends means layout count left had has)
+    pub keys : OnOk result (stored_keys new ≡ with_key k (stored_keys old))
+    pub refused : IfErr result (IsUnserved count (next_number (books_in means.pool_name (map row_of old) k)))
+    -- an error changes nothing
+    pub sets : OnErr result (has ≡ had)
+    pub entries : OnErr result (new ≡ old)
+    pub budget : OnErr result (is ≡ was)
+    pub ledger : OnErr result (after ≡ before)
+    -- what new pools of a marked key have is taken of the room
+    pub room : is.room + sum_over bucket_load (map row_of new) ≡ was.room + sum_over bucket_load (map row_of old)
+    pub most : is.most ≡ was.most
+    pub looks : CountsLooks was.looks.count is.looks.count before after

@@ -8,10 +8,10 @@ use Rattle.gpu_descriptor.specs.declared.errors.AllocationError.TheVariants.{Out
 use Rattle.gpu_descriptor_types.specs.Ledger.{Counters, no_rise, create_refused, alloc_refused, pool_refusals}
 use Rattle.gpu_descriptor.specs.declared.bucket.stop.Stop.{Stop}
 use Rattle.gpu_descriptor.specs.declared.bucket.stop.Stop.TheVariants as stop
-use Rattle.gpu_descriptor.specs.Model.Books.{Key, Entry, next_number, AddsUp}
+use Rattle.gpu_descriptor.specs.Model.Books.{Key, Entry, next_number}
 use Rattle.gpu_descriptor.specs.Model.Agreement.{State, Item}
 use Rattle.gpu_descriptor.specs.Model.Release.{released, pools_gone}
-use Rattle.gpu_descriptor.specs.Model.Load.{allocated_in, pool_descriptors, sets_out, descriptors_out, bucket_load}
+use Rattle.gpu_descriptor.specs.Model.Load.{allocated_in, pool_descriptors}
 use Rattle.gpu_descriptor.specs.Model.Runs.{runs}
 use Rattle.gpu_descriptor.specs.Model.Shares.{rest, is_asked, all_shared, asked_count, refused_count}
 use Rattle.gpu_descriptor.specs.Model.FreshPools.{IsFreshPrefix, IsFreshList, room_after}
@@ -68,6 +68,10 @@ pub record Call : Type 0 where
   pub limit : ℕ
   -- how many descriptors a new pool has at most, unless what is wanting needs more
   pub most : Option ℕ
+  -- before it: how many sets were out, the marked load, and the pool load
+  pub out : ℕ
+  pub load : ℕ
+  pub pooled : ℕ
   pub old : State
   pub new : State
   pub before : Counters
@@ -134,38 +138,28 @@ module _ (c : Call) where
 
   pub record IsAboveLimit : Type 0 where
     pub marked : c.key.marked ≡ true
-    pub load : ℕ
-    pub is_load : AddsUp descriptors_out c.old.books load
-    pub above : c.limit < c.count * sum c.key.counts + load
+    pub above : c.limit < c.count * sum c.key.counts + c.load
 
-  pub record IsWithinLimit : Type 0 where
-    pub load : ℕ
-    pub is_load : AddsUp descriptors_out c.old.books load
-    pub within : c.key.marked ≡ true → c.count * sum c.key.counts + load ≤ c.limit
+  abbrev pub IsWithinLimit : Type 0
+  IsWithinLimit = c.key.marked ≡ true → c.count * sum c.key.counts + c.load ≤ c.limit
 
   -- pool numbers, or the number of sets that are out, would pass 64 bits
-  pub record IsPastBound : Type 0 where
-    pub out : ℕ
-    pub is_out : AddsUp sets_out c.old.books out
-    pub past : (greatest_u64 < next_number (c.old.books c.key) + c.count) ⊎ (greatest_u64 < out + c.count)
+  abbrev pub IsPastBound : Type 0
+  IsPastBound = (greatest_u64 < next_number (c.old.books c.key) + c.count) ⊎ (greatest_u64 < c.out + c.count)
 
   -- the tests before the walk are passed
   pub record Proceeds : Type 0 where
     pub some : 0 < c.count
     pub limit : IsWithinLimit
     pub numbers : next_number (c.old.books c.key) + c.count ≤ greatest_u64
-    pub out : ℕ
-    pub is_out : AddsUp sets_out c.old.books out
-    pub sets : out + c.count ≤ greatest_u64
+    pub sets : c.out + c.count ≤ greatest_u64
 
   -- all sets were had
   pub record IsDone : Type 0 where
     pub grant : Grant
     pub taken : IsGrant grant
     pub all : grant.skipped ≡ 0
-    pub pooled : ℕ
-    pub is_pooled : AddsUp bucket_load c.old.books pooled
-    pub fresh : IsFreshList c.most c.key (c.limit - pooled) (out_then grant) (wanting grant) grant.fresh
+    pub fresh : IsFreshList c.most c.key (c.limit - c.pooled) (out_then grant) (wanting grant) grant.fresh
     pub answer : c.answer ≡ Ok (items_in c.key grant.id grant.parts)
     pub state : c.new ≡ granted c.key c.count grant c.old
     pub counters : c.after ≡ risen (grant_rise c.count grant (c.old.books c.key).pools) c.before
@@ -181,10 +175,7 @@ module _ (c : Call) where
   pub record IsStopped : Type 0 where
     pub why : Stop
     pub grant : Grant
-    -- the pool load before
-    pub pooled : ℕ
-    pub is_pooled : AddsUp bucket_load c.old.books pooled
-    pub at : StopsAt why c.most c.key (c.limit - pooled) c.count grant (c.old.books c.key).pools
+    pub at : StopsAt why c.most c.key (c.limit - c.pooled) c.count grant (c.old.books c.key).pools
     pub back : IsBack grant why
 
   pub data Allocates : Type 0 where

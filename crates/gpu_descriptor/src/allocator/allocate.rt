@@ -12,6 +12,7 @@ ghost use Rattle.gpu_descriptor.specs.Caller.States.{Agrees};
 use super::DescriptorAllocator;
 use crate::errors::AllocationError;
 use crate::flags::DescriptorSetLayoutCreateFlags;
+use crate::key::BucketKey;
 use crate::set::DescriptorSet;
 use gpu_descriptor_types::{DescriptorDevice, DescriptorTotalCount};
 use std::vec::Vec;
@@ -62,15 +63,9 @@ impl<P: Drop, S: Drop> DescriptorAllocator<P, S> {
         ensures keeps { Keeps D.meaning (side self.old (D.ledger device.old))
             (side self.new (D.ledger device.new)) }
     {
+        let key = BucketKey::of(layout_descriptor_count, flags);
         let none = Vec::new(self.alloc);
-        let (sets, answer) = self.append_sets(
-            device,
-            layout,
-            flags,
-            layout_descriptor_count,
-            count,
-            none,
-        );
+        let (sets, answer) = self.append_sets(device, layout, key, count, none);
         answer?;
         Ok(sets)
     }

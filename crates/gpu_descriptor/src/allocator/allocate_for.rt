@@ -3,7 +3,7 @@ ghost use Rattle.std.specs.Prelude.{◌≡◌, ◌++◌, [], ◌∷◌, IfOk, On
 ghost use Rattle.gpu_descriptor_types.specs.Meaning.{IsOfLayout};
 ghost use Rattle.gpu_descriptor_types.specs.Side.{side};
 ghost use Rattle.gpu_descriptor.specs.Caller.Call.{layout_key, map_ok};
-ghost use Rattle.gpu_descriptor.specs.Caller.HandsOut.{HandsOut};
+ghost use Rattle.gpu_descriptor.specs.Caller.HandsOut.{HandsInto, HandsOut};
 ghost use Rattle.gpu_descriptor.specs.Caller.Keeps.{Keeps};
 ghost use Rattle.gpu_descriptor.specs.Caller.SetLayouts.{IsMeant};
 ghost use Rattle.gpu_descriptor.specs.Caller.SetLists.{appended};
@@ -52,26 +52,14 @@ impl<P: Drop, S: Drop> DescriptorAllocator<P, S> {
         requires agree { Agrees D.meaning.pool_name self.old (D.ledger device.old) }
 
         // The request's sets are those that were appended.
-        ensures hands_out { HandsOut D.meaning (layout_key D.meaning layout.now.layout) count
-            (map_ok (λ done. appended sets.old.items sets.new.items) result)
-            (side self.old (D.ledger device.old)) (side self.new (D.ledger device.new)) }
-        ensures front { OnOk result (sets.new.items
-            ≡ sets.old.items ++ appended sets.old.items sets.new.items) }
-        ensures own { OnOk result (AreOfLayout D.meaning layout.now.layout
-            (appended sets.old.items sets.new.items)) }
-        ensures sets_stay { OnErr result (sets.new.items ≡ sets.old.items) }
+        ensures appends { HandsInto D.meaning layout.now.layout count result sets.old.items
+            sets.new.items (side self.old (D.ledger device.old))
+            (side self.new (D.ledger device.new)) }
         ensures keeps { Keeps D.meaning (side self.old (D.ledger device.old))
             (side self.new (D.ledger device.new)) }
     {
         let given = replace(sets, Vec::new(self.alloc));
-        let (given, answer) = self.append_sets(
-            device,
-            &layout.layout,
-            layout.flags,
-            &layout.counts,
-            count,
-            given,
-        );
+        let (given, answer) = self.append_sets(device, &layout.layout, layout.key(), count, given);
         *sets = given;
         answer
     }
@@ -91,14 +79,7 @@ impl<P: Drop, S: Drop> DescriptorAllocator<P, S> {
         ensures keeps { Keeps D.meaning (side self.old (D.ledger device.old))
             (side self.new (D.ledger device.new)) }
     {
-        let (set, answer) = self.append_sets(
-            device,
-            &layout.layout,
-            layout.flags,
-            &layout.counts,
-            1,
-            None,
-        );
+        let (set, answer) = self.append_sets(device, &layout.layout, layout.key(), 1, None);
         answer?;
         match set {
             Some(set) => Ok(set),

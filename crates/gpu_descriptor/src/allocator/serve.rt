@@ -5,7 +5,7 @@ ghost use Rattle.gpu_descriptor_types.specs.Counts.{kinds};
 ghost use Rattle.gpu_descriptor_types.specs.Side.{side};
 ghost use Rattle.gpu_descriptor.specs.Caller.Call.{call_of, layout_key, map_ok};
 ghost use Rattle.gpu_descriptor.specs.Caller.Flags.{is_marked};
-ghost use Rattle.gpu_descriptor.specs.Caller.HandsOut.{HandsOut};
+ghost use Rattle.gpu_descriptor.specs.Caller.HandsOut.{HandsInto};
 ghost use Rattle.gpu_descriptor.specs.Caller.Keeps.{Keeps};
 ghost use Rattle.gpu_descriptor.specs.Caller.Keys.{with_key};
 ghost use Rattle.gpu_descriptor.specs.Caller.SetLists.{appended};
@@ -13,7 +13,7 @@ ghost use Rattle.gpu_descriptor.specs.Caller.Sets.{AreOfLayout, PutsOfLayout};
 ghost use Rattle.gpu_descriptor.specs.Caller.States.{Agrees, keys_of, marked_load_of};
 ghost use Rattle.gpu_descriptor.specs.Inner.KeyOf.{key_of};
 ghost use Rattle.gpu_descriptor.specs.Inner.OpenPools.{CountsLooks};
-ghost use Rattle.gpu_descriptor.specs.Inner.Serves.{IsDeclined, IsSound, Takes};
+ghost use Rattle.gpu_descriptor.specs.Inner.Serves.{Appends, IsDeclined, IsSound, Takes};
 
 use super::DescriptorAllocator;
 use crate::bucket::request::SetRequest;
@@ -29,30 +29,22 @@ use gpu_descriptor_types::{DescriptorDevice, DescriptorTotalCount};
 use std::marker::PhantomData;
 
 impl<P: Drop, S> DescriptorAllocator<P, S> {
-    /// Appends the sets of a request to a list, and returns that. On an error it has the sets that it
-    /// had. See `allocate`.
+    /// Appends sets of a layout to a list, and returns that. On an error it has the sets that it had.
+    /// See `allocate`.
     #[inline]
     pub(super) fn append_sets<L, D: DescriptorDevice<L, P, S>, K: SetPlaces<S>>(
         &mut self,
         device: &mut D,
         layout: &L,
-        flags: DescriptorSetLayoutCreateFlags,
-        layout_descriptor_count: &DescriptorTotalCount,
+        key: BucketKey,
         count: u32,
         sets: K,
     ) -> (K, Result<(), AllocationError>)
-        requires counts { kinds layout_descriptor_count.now ≡ D.meaning.counts layout.now }
-        requires mark { is_marked flags ≡ D.meaning.mark layout.now }
+        requires key { key_of key ≡ layout_key D.meaning layout.now }
         requires agree { Agrees D.meaning.pool_name self.old (D.ledger device.old) }
-
-        ensures hands_out { HandsOut D.meaning (layout_key D.meaning layout.now) count
-            (map_ok (λ done. appended (K.items sets) (K.items result.0)) result.1)
-            (side self.old (D.ledger device.old)) (side self.new (D.ledger device.new)) }
-        ensures front { OnOk result.1 (K.items result.0
-            ≡ K.items sets ++ appended (K.items sets) (K.items result.0)) }
-        ensures own { OnOk result.1 (AreOfLayout D.meaning layout.now
-            (appended (K.items sets) (K.items result.0))) }
-        ensures sets { OnErr result.1 (K.items result.0 ≡ K.items sets) }
+        ensures appends { HandsInto D.meaning layout.now count result.1 (K.items sets)
+            (K.items result.0) (side self.old (D.ledger device.old))
+            (side self.new (D.ledger device.new)) }
         ensures keeps { Keeps D.meaning (side self.old (D.ledger device.old))
             (side self.new (D.ledger device.new)) }
     {
@@ -65,13 +57,9 @@ impl<P: Drop, S> DescriptorAllocator<P, S> {
             );
             return (sets, Ok(()));
         }
-        let update_after_bind = flags.contains(DescriptorSetLayoutCreateFlags::UPDATE_AFTER_BIND);
         let request = SetRequest {
             layout,
-            key: BucketKey {
-                counts: *layout_descriptor_count,
-                update_after_bind,
-            },
+            key,
             count,
             alloc: self.alloc,
             device: PhantomData,
@@ -89,15 +77,9 @@ impl<P: Drop, S> DescriptorAllocator<P, S> {
     ) -> (K, Result<(), AllocationError>)
         requires some { 0 < request.now.count }
         requires agree { Agrees D.meaning.pool_name self.old (D.ledger device.old) }
-        ensures hands_out { HandsOut D.meaning (layout_key D.meaning request.now.layout.now)
-            request.now.count
-            (map_ok (λ done. appended (K.items sets) (K.items result.0)) result.1)
-            (side self.old (D.ledger device.old)) (side self.new (D.ledger device.new)) }
-        ensures front { OnOk result.1 (K.items result.0
-            ≡ K.items sets ++ appended (K.items sets) (K.items result.0)) }
-        ensures own { OnOk result.1 (AreOfLayout D.meaning request.now.layout.now
-            (appended (K.items sets) (K.items result.0))) }
-        ensures sets { OnErr result.1 (K.items result.0 ≡ K.items sets) }
+        ensures appends { HandsInto D.meaning request.now.layout.now request.now.count result.1
+            (K.items sets) (K.items result.0) (side self.old (D.ledger device.old))
+            (side self.new (D.ledger device.new)) }
         ensures keeps { Keeps D.meaning (side self.old (D.ledger device.old))
             (side self.new (D.ledger device.new)) }
     {
@@ -133,10 +115,8 @@ impl<P: Drop, S> DescriptorAllocator<P, S> {
         ensures taken { IfOk result (λ ended. Takes D.meaning (key_of request.now.key)
             request.now.count (appended (K.items sink.old.sets) (K.items sink.new.sets)) ended
             (side self.old (D.ledger device.old)) (side self.new (D.ledger device.new))) }
-        ensures front { OnOk result (K.items sink.new.sets ≡ K.items sink.old.sets
-            ++ appended (K.items sink.old.sets) (K.items sink.new.sets)) }
-        ensures own { OnOk result (PutsOfLayout D.meaning request.now.layout.now
-            (K.items sink.old.sets) (K.items sink.new.sets)) }
+        ensures appends { OnOk result (Appends D.meaning request.now.layout.now request.now.count
+            sink.new.left (K.items sink.old.sets) (K.items sink.new.sets)) }
         ensures sets { OnErr result (K.items sink.new.sets ≡ K.items sink.old.sets) }
         ensures declined { IfErr result (λ e. IsDeclined (call_of D.meaning (key_of request.now.key)
             request.now.count (side self.old (D.ledger device.old))

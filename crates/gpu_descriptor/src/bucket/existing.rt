@@ -10,6 +10,7 @@ ghost use Rattle.gpu_descriptor.specs.Inner.Buckets.{IsBookedIn, AreBookedIn};
 ghost use Rattle.gpu_descriptor.specs.Inner.Grow.{IsTaken};
 ghost use Rattle.gpu_descriptor.specs.Inner.KeyOf.{key_of};
 ghost use Rattle.gpu_descriptor.specs.Inner.OpenPools.{CountsLooks, IsListed, KeepsView, bucket_in};
+ghost use Rattle.gpu_descriptor.specs.Inner.Serves.{Appends};
 ghost use Rattle.gpu_descriptor.specs.Inner.SetAt.{set_at};
 ghost use Rattle.gpu_descriptor.specs.Inner.OpenNumbers.{stored_numbers};
 ghost use Rattle.gpu_descriptor.specs.Inner.Stored.{bucket_of, entry_of};
@@ -139,17 +140,13 @@ impl<P> DescriptorBucket<P> {
             (appended (K.items sink.old.sets) (K.items sink.new.sets)))
             (bucket_of D.meaning.pool_name self.old) (bucket_of D.meaning.pool_name self.new)
             (D.ledger device.old) (D.ledger device.new)) }
-        ensures own { PutsOfLayout D.meaning request.now.layout.now (K.items sink.old.sets)
-            (K.items sink.new.sets) }
+        ensures appends { Appends D.meaning request.now.layout.now request.now.count sink.new.left
+            (K.items sink.old.sets) (K.items sink.new.sets) }
         ensures id_stays { self.new.id ≡ self.old.id }
         ensures numbers_stay { stored_numbers self.new.pools.items
             ≡ stored_numbers self.old.pools.items }
-        ensures front { K.items sink.new.sets ≡ K.items sink.old.sets
-            ++ appended (K.items sink.old.sets) (K.items sink.new.sets) }
         ensures total { self.new.total ≡ self.old.total
             + length (appended (K.items sink.old.sets) (K.items sink.new.sets)) }
-        ensures left { length (appended (K.items sink.old.sets) (K.items sink.new.sets))
-            + sink.new.left ≡ request.now.count }
         ensures looks { CountsLooks looks.old.count looks.new.count
             (D.ledger device.old) (D.ledger device.new) }
     {

@@ -8,9 +8,10 @@ ghost use Rattle.gpu_descriptor.specs.Inner.Buckets.{AreBookedIn};
 ghost use Rattle.gpu_descriptor.specs.Inner.Grow.{IsTaken};
 ghost use Rattle.gpu_descriptor.specs.Inner.KeyOf.{key_of};
 ghost use Rattle.gpu_descriptor.specs.Inner.OpenPools.{CountsLooks};
-ghost use Rattle.gpu_descriptor.specs.Inner.Serves.{IsServed, IsUnserved};
+ghost use Rattle.gpu_descriptor.specs.Inner.Serves.{Appends, IsUnserved};
 ghost use Rattle.gpu_descriptor.specs.Inner.Stored.{bucket_of, stored_load};
-ghost use Rattle.gpu_descriptor.specs.Model.Books.{next_number};
+ghost use Rattle.gpu_descriptor.specs.Model.Books.{number_after};
+ghost use Rattle.gpu_descriptor.specs.Inner.OpenNumbers.{stored_numbers};
 
 use crate::bucket::request_sink::RequestSink;
 use crate::bucket::stop::Stop;
@@ -37,56 +38,33 @@ pub(crate) struct SetRequest<'a, L, P, S, D: DescriptorDevice<L, P, S>> {
 }
 
 impl<P: Drop> DescriptorBucket<P> {
-    /// Takes sets for a request. On an error nothing was taken. The inner result says whether all
-    /// came, or why the request stopped. Room for the sets is made first.
+    /// Makes room for the sets of a request, which are then left to come, unless the numbers of so many
+    /// new pools would exceed 64 bits.
     #[inline(always)]
-    pub(crate) fn serve<'k, L, S, D: DescriptorDevice<L, P, S>, K: SetPlaces<S>>(
-        &mut self,
-        device: &mut D,
-        request: &'k SetRequest<'_, L, P, S, D>,
-        budget: &mut Budget,
-        sink: &mut RequestSink<'k, S, K>,
-    ) -> Result<Result<(), Stop>, AllocationError>
-        requires booked { AreBookedIn (key_of request.now.key) (D.ledger device.old).pools
-            (bucket_of D.meaning.pool_name self.old).pools }
-        requires bound { self.old.total + request.now.count < 2 ^ 64 }
-        ensures served { IfOk result (λ ended. IsServed D.meaning budget.old.most
-            (key_of request.now.key) budget.old.room request.now.count
-            (appended (K.items sink.old.sets) (K.items sink.new.sets)) ended
-            (bucket_of D.meaning.pool_name self.old) (bucket_of D.meaning.pool_name self.new)
-            (D.ledger device.old) (D.ledger device.new) × (self.new.total ≡ self.old.total
-            + length (appended (K.items sink.old.sets) (K.items sink.new.sets)))) }
-        ensures front { OnOk result (K.items sink.new.sets ≡ K.items sink.old.sets
-            ++ appended (K.items sink.old.sets) (K.items sink.new.sets)) }
-        ensures left { OnOk result (length (appended (K.items sink.old.sets) (K.items sink.new.sets))
-            + sink.new.left ≡ request.now.count) }
-        ensures own { OnOk result (PutsOfLayout D.meaning request.now.layout.now
-            (K.items sink.old.sets) (K.items sink.new.sets)) }
-        ensures sets { OnErr result (K.items sink.new.sets ≡ K.items sink.old.sets) }
-        ensures id_stays { self.new.id ≡ self.old.id }
-        ensures refused { IfErr result (λ e. IsUnserved request.now.count e
-            (bucket_of D.meaning.pool_name self.old)) }
-        ensures most { budget.new.most ≡ budget.old.most }
-        ensures looks { CountsLooks budget.old.looks.count budget.new.looks.count
-            (D.ledger device.old) (D.ledger device.new) }
-        ensures room { budget.new.room + stored_load (key_of request.now.key) self.new.pools.items
-            ≡ budget.old.room + stored_load (key_of request.now.key) self.old.pools.items }
-        ensures budget { OnErr result (budget.new ≡ budget.old) }
-        ensures bucket { OnErr result (self.new ≡ self.old) }
-        ensures ledger { OnErr result (D.ledger device.new ≡ D.ledger device.old) }
+    pub(crate) fn prepare<S, K: SetPlaces<S>>(
+        &self,
+        count: u32,
+        sink: &mut RequestSink<'_, S, K>,
+    ) -> Result<(), AllocationError>
+        ensures sets { K.items sink.new.sets ≡ K.items sink.old.sets }
+        ensures left { OnOk result (sink.new.left ≡ count) }
+        ensures numbers { OnOk result (number_after (stored_numbers self.now.pools.items) + count
+            < 2 ^ 64) }
+        ensures refused { IfErr result (IsUnserved count (number_after
+            (stored_numbers self.now.pools.items))) }
     {
-        if would_exceed_64_bits(self.next_number(), request.count) {
+        if would_exceed_64_bits(self.next_number(), count) {
             return Err(AllocationError::Fragmentation);
         }
-        if sink.make_room(request.count).is_err() {
+        if sink.make_room(count).is_err() {
             return Err(AllocationError::OutOfHostMemory);
         }
-        Ok(self.take(device, request, budget, sink))
+        Ok(())
     }
 
     /// Takes as many sets as the sink has left: from the existing pools, and then from new ones.
     #[inline(always)]
-    fn take<'k, L, S, D: DescriptorDevice<L, P, S>, K: SetPlaces<S>>(
+    pub(crate) fn take<'k, L, S, D: DescriptorDevice<L, P, S>, K: SetPlaces<S>>(
         &mut self,
         device: &mut D,
         request: &'k SetRequest<'_, L, P, S, D>,
@@ -96,7 +74,7 @@ impl<P: Drop> DescriptorBucket<P> {
         requires booked { AreBookedIn (key_of request.now.key) (D.ledger device.old).pools
             (bucket_of D.meaning.pool_name self.old).pools }
         requires bound { self.old.total + request.now.count < 2 ^ 64 }
-        requires numbers { next_number (bucket_of D.meaning.pool_name self.old) + request.now.count
+        requires numbers { number_after (stored_numbers self.old.pools.items) + request.now.count
             < 2 ^ 64 }
         requires left { sink.old.left ≡ request.now.count }
         ensures taken { IsTaken result budget.old.most (key_of request.now.key) budget.old.room
@@ -105,15 +83,11 @@ impl<P: Drop> DescriptorBucket<P> {
             (appended (K.items sink.old.sets) (K.items sink.new.sets)))
             (bucket_of D.meaning.pool_name self.old) (bucket_of D.meaning.pool_name self.new)
             (D.ledger device.old) (D.ledger device.new) }
-        ensures own { PutsOfLayout D.meaning request.now.layout.now (K.items sink.old.sets)
-            (K.items sink.new.sets) }
+        ensures appends { Appends D.meaning request.now.layout.now request.now.count sink.new.left
+            (K.items sink.old.sets) (K.items sink.new.sets) }
         ensures id_stays { self.new.id ≡ self.old.id }
-        ensures front { K.items sink.new.sets ≡ K.items sink.old.sets
-            ++ appended (K.items sink.old.sets) (K.items sink.new.sets) }
         ensures total { self.new.total ≡ self.old.total
             + length (appended (K.items sink.old.sets) (K.items sink.new.sets)) }
-        ensures left { length (appended (K.items sink.old.sets) (K.items sink.new.sets))
-            + sink.new.left ≡ request.now.count }
         ensures all { OnOk result (sink.new.left ≡ 0) }
         ensures room { budget.new.room + stored_load (key_of request.now.key) self.new.pools.items
             ≡ budget.old.room + stored_load (key_of request.now.key) self.old.pools.items }

@@ -19,6 +19,6 @@ returns-clause-own g c =
     (AreOfLayout means layout
     (appended (option_to_list {X = DescriptorSet g.row.S.Denot} None)
     (option_to_list c.append_sets-set.result.0))))
-    answered c.append_sets-set.ensures.own in
+    answered c.append_sets-set.ensures.appends.own in
     let one : AreOfLayout means layout (c.in-Some.set ∷ []) = subst (λ (o : Option (DescriptorSet g.row.S.Denot)). AreOfLayout means layout (appended (option_to_list {X = DescriptorSet g.row.S.Denot} None) (option_to_list o))) c.in-Some.is came in
     one 0 c.in-Some.set (omega arith)

@@ -1,4 +1,4 @@
-use Rattle.gpu_descriptor.proofs.Common.{◌≡◌, ℕ, List, drop, subst, sym, Err, side, DescriptorSet, Key, items_of, call_of, layout_key, with_key, AreOutstanding, AreOfLayout, state_of, IsDeclined, Takes, Returns}
+use Rattle.gpu_descriptor.proofs.Common.{◌≡◌, ◌++◌, ℕ, List, drop, take, take_at, subst, sym, ap, ◌∙◌, Err, side, DescriptorSet, Key, items_of, call_of, layout_key, with_key, AreOutstanding, AreOfLayout, state_of, IsDeclined, Takes, Returns}
 use Rattle.gpu_descriptor.specs.Caller.SetLists.{appended}
 use Rattle.gpu_descriptor.specs.Caller.States.{keys_of}
 use Rattle.gpu_descriptor.proofs.request.Outcomes.{taken_agree, taken_given}
@@ -35,6 +35,9 @@ module _ (g : _) (c : In-Ok g) where
   gained : keys_of c.serve_if_allowed-served.new.self ≡ with_key (layout_key g.D.DescriptorDevice.meaning c.args.request.now.layout.now) (keys_of c.args.self.now)
   gained = subst (λ (k : Key). keys_of c.serve_if_allowed-served.new.self ≡ with_key k (keys_of c.args.self.now)) c.args.request.now.same c.in-Ok.ensures.keys
 
+  front : g.K.SetPlaces.items c.into_sets-sets.result ≡ g.K.SetPlaces.items c.args.sets ++ came
+  front = ap g.K.SetPlaces.items c.into_sets-sets.ensures ∙ c.in-Ok.ensures.appends.front ∙ (λ i. g.K.SetPlaces.items (c.new-sink.ensures i) ++ is_put i)
+
 -- and went back
 returned :
     (g : _) (c : After-free_after g)
@@ -63,40 +66,50 @@ free_after-requires-clause-outstanding g c =
     (sym c.count-first.ensures)
     (taken_given (taken g (goal.at.free_after-requires-clause-outstanding g c).In-Ok) c.requires.agree.books)
 
-pub returns-in-Err-clause-hands_out : goal.returns-in-Err-clause-hands_out
-returns-in-Err-clause-hands_out g c =
-    hands_none c.in-Err.ensures.allocator c.in-Err.ensures.ledger c.requires.agree c.in-Err.error c.requires.some
-    (subst
-    (λ (k : Key).
-    IsDeclined
-    (call_of g.D.DescriptorDevice.meaning k c.args.request.now.count
-    (side c.args.self.now (g.D.DescriptorDevice.ledger c.args.device.now))
-    (side c.serve_if_allowed-served.new.self
-    (g.D.DescriptorDevice.ledger c.serve_if_allowed-served.new.device))
-    (Err c.in-Err.error)))
-    c.args.request.now.same c.in-Err.ensures.declined)
+pub returns-in-Err-clause-appends : goal.returns-in-Err-clause-appends
+returns-in-Err-clause-appends g c = record {
+  hands_out = hands_none c.in-Err.ensures.allocator c.in-Err.ensures.ledger c.requires.agree c.in-Err.error c.requires.some
+      (subst
+      (λ (k : Key).
+      IsDeclined
+      (call_of g.D.DescriptorDevice.meaning k c.args.request.now.count
+      (side c.args.self.now (g.D.DescriptorDevice.ledger c.args.device.now))
+      (side c.serve_if_allowed-served.new.self
+      (g.D.DescriptorDevice.ledger c.serve_if_allowed-served.new.device))
+      (Err c.in-Err.error)))
+      c.args.request.now.same c.in-Err.ensures.declined);
+  front = tt;
+  own = tt;
+  sets_stay = ap g.K.SetPlaces.items c.into_sets-sets.ensures ∙ c.in-Err.ensures.sets ∙ ap g.K.SetPlaces.items c.new-sink.ensures;
+}
 
 pub returns-in-Err-clause-keeps : goal.returns-in-Err-clause-keeps
 returns-in-Err-clause-keeps g c =
     keeps_still c.in-Err.ensures.allocator c.in-Err.ensures.ledger c.requires.agree c.in-Err.ensures.within.load c.in-Err.ensures.within.pool_load
 
-pub returns-in-Ok-ended-clause-hands_out : goal.returns-in-Ok-ended-clause-hands_out
-returns-in-Ok-ended-clause-hands_out g c =
-    let r = (goal.at.returns-in-Ok-ended-clause-hands_out g c).In-Ok in
-    hands_all (came g r) (taken g r) c.requires.agree (gained g r) c.in-Ok.ensures.looks c.in-Ok.ensures.comparisons_stay c.requires.some c.in-Ok-ended.is
-
-pub returns-in-Ok-ended-clause-own : goal.returns-in-Ok-ended-clause-own
-returns-in-Ok-ended-clause-own g c =
-    subst (AreOfLayout g.D.DescriptorDevice.meaning c.args.request.now.layout.now) (is_put g (goal.at.returns-in-Ok-ended-clause-own g c).In-Ok) (own_behind g.D.DescriptorDevice.meaning c.args.request.now.layout.now c.in-Ok.ensures.own)
+pub returns-in-Ok-ended-clause-appends : goal.returns-in-Ok-ended-clause-appends
+returns-in-Ok-ended-clause-appends g c =
+    let r = (goal.at.returns-in-Ok-ended-clause-appends g c).In-Ok in
+    record {
+      hands_out = hands_all (came g r) (taken g r) c.requires.agree (gained g r) c.in-Ok.ensures.looks c.in-Ok.ensures.comparisons_stay c.requires.some c.in-Ok-ended.is;
+      front = front g r;
+      own = subst (AreOfLayout g.D.DescriptorDevice.meaning c.args.request.now.layout.now) (is_put g r) (own_behind g.D.DescriptorDevice.meaning c.args.request.now.layout.now c.in-Ok.ensures.appends.own);
+      sets_stay = tt;
+    }
 
 pub returns-in-Ok-ended-clause-keeps : goal.returns-in-Ok-ended-clause-keeps
 returns-in-Ok-ended-clause-keeps g c =
     keeps_all c.in-Ok.ensures.taken c.requires.agree.books c.in-Ok.ensures.within.rows c.in-Ok.ensures.limit c.in-Ok.ensures.most c.in-Ok.ensures.within.load c.in-Ok.ensures.within.pool_load
 
-pub returns-in-Err-ended-clause-hands_out : goal.returns-in-Err-ended-clause-hands_out
-returns-in-Err-ended-clause-hands_out g c =
-    let r = (goal.at.returns-in-Err-ended-clause-hands_out g c).In-Ok in
-    rw c.error_of.ensures (hands_back (came g r) (taken g r) c.requires.agree (gained g r) c.in-Ok.ensures.looks c.in-Ok.ensures.comparisons_stay c.requires.some c.in-Ok.ensures.within.rows (returned g (goal.at.returns-in-Err-ended-clause-hands_out g c).After-free_after) c.in-Err-ended.is)
+pub returns-in-Err-ended-clause-appends : goal.returns-in-Err-ended-clause-appends
+returns-in-Err-ended-clause-appends g c =
+    let r = (goal.at.returns-in-Err-ended-clause-appends g c).In-Ok in
+    record {
+      hands_out = rw c.error_of.ensures (hands_back (came g r) (taken g r) c.requires.agree (gained g r) c.in-Ok.ensures.looks c.in-Ok.ensures.comparisons_stay c.requires.some c.in-Ok.ensures.within.rows (returned g (goal.at.returns-in-Err-ended-clause-appends g c).After-free_after) c.in-Err-ended.is);
+      front = tt;
+      own = tt;
+      sets_stay = c.free_after.ensures.items ∙ ap (take c.count-first.result) (front g r) ∙ take_at (g.K.SetPlaces.items c.args.sets) (came g r) c.count-first.result (sym c.count-first.ensures);
+    }
 
 pub returns-in-Err-ended-clause-keeps : goal.returns-in-Err-ended-clause-keeps
 returns-in-Err-ended-clause-keeps g c =

@@ -10,11 +10,11 @@ use Rattle.gpu_descriptor.proofs.allocator.DescriptorAllocator.serve_if_allowed.
 
 pub returns-then-would_exceed_limit-clause-declined : goal.returns-then-would_exceed_limit-clause-declined
 returns-then-would_exceed_limit-clause-declined g c =
-    declined_by_limit g.D.DescriptorDevice.meaning c.self.view_is (opened c.self.invariant) c.self.inside.table.distinct _ c.args.request.now.key c.requires.some c.would_exceed_limit.ensures c.if-would_exceed_limit.true
+    declined_by_limit g.D.DescriptorDevice.meaning c.self.view_is (opened c.self.invariant) _ c.args.request.now.key c.requires.some c.would_exceed_limit.ensures c.if-would_exceed_limit.true
 
 pub returns-then-would_exceed_64_bits-clause-declined : goal.returns-then-would_exceed_64_bits-clause-declined
 returns-then-would_exceed_64_bits-clause-declined g c =
-    declined_by_bound g.D.DescriptorDevice.meaning c.self.view_is (opened c.self.invariant) c.self.inside.table.distinct _ c.args.request.now.key c.requires.some c.would_exceed_limit.ensures c.if-would_exceed_limit.false
+    declined_by_bound g.D.DescriptorDevice.meaning c.self.view_is (opened c.self.invariant) _ c.args.request.now.key c.requires.some c.would_exceed_limit.ensures c.if-would_exceed_limit.false
     c.would_exceed_64_bits.ensures c.if-would_exceed_64_bits.true
 
 pub serve-requires-clause-booked : goal.serve-requires-clause-booked
@@ -32,19 +32,19 @@ serve-requires-clause-bound g c =
 pub returns-in_err-ended-clause-declined : goal.returns-in_err-ended-clause-declined
 returns-in_err-ended-clause-declined g c =
     rw (passed c.from_residual.result c.in_err-ended.field-0.0 c.from_residual.ensures.1)
-    (declined_unserved g.D.DescriptorDevice.meaning c.self.view_is (opened c.self.invariant) c.self.inside.table.distinct _ c.args.request.now.key c.requires.some c.would_exceed_limit.ensures c.if-would_exceed_limit.false
+    (declined_unserved g.D.DescriptorDevice.meaning c.self.view_is (opened c.self.invariant) _ c.args.request.now.key c.requires.some c.would_exceed_limit.ensures c.if-would_exceed_limit.false
     c.would_exceed_64_bits.ensures c.if-would_exceed_64_bits.false
-    (seen_again _ c.self.view_is _ c.in_err-ended.ensures.entries
-    (ap (λ b. b.looks.count) c.in_err-ended.ensures.budget) (ap (λ b. b.most) c.in_err-ended.ensures.budget))
-    c.in_err-ended.ensures.ledger c.in_err-ended.field-0.0 c.in_err-ended.ensures.refused)
+    (seen_again _ c.self.view_is _ c.in_err-ended.ensures.serves.entries
+    (ap (λ b. b.looks.count) c.in_err-ended.ensures.serves.budget) (ap (λ b. b.most) c.in_err-ended.ensures.serves.budget))
+    c.in_err-ended.ensures.serves.ledger c.in_err-ended.field-0.0 c.in_err-ended.ensures.serves.refused)
 
 -- so many came
 many : (g : _) (c : After-from-taken g) → c.from-taken.result ≡ length (appended (g.K.SetPlaces.items c.args.sink.now.sets) (g.K.SetPlaces.items c.serve.new.sink.sets))
-many g c = (let left = c.in_ok-ended.ensures.left in let came = c.from-taken.ensures in omega arith)
+many g c = (let left = c.in_ok-ended.ensures.serves.appends.rest in let came = c.from-taken.ensures in omega arith)
 
 -- the descriptors of what came keep the limit
 fits : (g : _) (c : After-from-taken g) → set_descriptors (key_of c.args.request.now.key) c.from-taken.result + c.self.inside.update_after_bind_descriptors ≤ c.self.inside.max_update_after_bind_descriptors_in_all_pools
-fits g c = given_fits c.serve.new.self.buckets.entries c.in_ok-ended.ensures.served c.self.view_is (opened c.self.invariant) c.would_exceed_limit.ensures c.if-would_exceed_limit.false (many g c)
+fits g c = given_fits c.serve.new.self.buckets.entries c.in_ok-ended.ensures.serves.served c.self.view_is (opened c.self.invariant) c.would_exceed_limit.ensures c.if-would_exceed_limit.false (many g c)
 
 pub marked_descriptors_of_sets-descriptors-requires : goal.marked_descriptors_of_sets-descriptors-requires
 marked_descriptors_of_sets-descriptors-requires g c =
@@ -73,20 +73,20 @@ counted :
     (c.self.inside.update_after_bind_descriptors + c.marked_descriptors_of_sets-descriptors.result)
     c.serve.new.budget.room (c.self.inside.outstanding + c.from-taken.result) c.serve.new.self.buckets.entries
 counted g c =
-    counted_now c.serve.new.self.buckets.entries c.in_ok-ended.ensures.served c.self.view_is (opened c.self.invariant)
+    counted_now c.serve.new.self.buckets.entries c.in_ok-ended.ensures.serves.served c.self.view_is (opened c.self.invariant)
     c.would_exceed_limit.ensures c.if-would_exceed_limit.false
     (many g (goal.at-After-marked_descriptors_of_sets-descriptors g c).After-from-taken)
-    c.marked_descriptors_of_sets-descriptors.ensures c.serve.ensures.room
+    c.marked_descriptors_of_sets-descriptors.ensures c.serve.ensures.serves.room
 
 pub invariant_of-self-2 : goal.invariant_of-self-2
 invariant_of-self-2 g c = closed (counted g (goal.at.invariant_of-self-2 g c).After-marked_descriptors_of_sets-descriptors)
 
 pub returns-clause-taken : goal.returns-clause-taken
 returns-clause-taken g c =
-    takes_of c.serve.new.self.buckets.entries c.in_ok-ended.ensures.served c.self.view_is (opened c.self.invariant) c.would_exceed_limit.ensures c.if-would_exceed_limit.false c.would_exceed_64_bits.ensures c.if-would_exceed_64_bits.false
+    takes_of c.serve.new.self.buckets.entries c.in_ok-ended.ensures.serves.served c.self.view_is (opened c.self.invariant) c.would_exceed_limit.ensures c.if-would_exceed_limit.false c.would_exceed_64_bits.ensures c.if-would_exceed_64_bits.false
 
 pub returns-clause-keys : goal.returns-clause-keys
-returns-clause-keys g c = keys_seen (key_of c.args.request.now.key) c.args.self.now (seen 0 None 0 0 c.serve.new.self.buckets.entries) c.self.inside.table.buckets.entries c.serve.new.self.buckets.entries (table_is _ c.self.view_is) refl c.in_ok-ended.ensures.keys
+returns-clause-keys g c = keys_seen (key_of c.args.request.now.key) c.args.self.now (seen 0 None 0 0 c.serve.new.self.buckets.entries) c.self.inside.table.buckets.entries c.serve.new.self.buckets.entries (table_is _ c.self.view_is) refl c.in_ok-ended.ensures.serves.keys
 
 pub returns-clause-within : goal.returns-clause-within
 returns-clause-within g c = keeps_limit refl (counted g (goal.at.returns-clause-within g c).After-marked_descriptors_of_sets-descriptors) c.serve.new.self.distinct g.D.DescriptorDevice.meaning.pool_name
@@ -98,4 +98,4 @@ pub returns-then-would_exceed_64_bits-clause-within : goal.returns-then-would_ex
 returns-then-would_exceed_64_bits-clause-within g c = keeps_limit c.self.view_is (opened c.self.invariant) c.self.inside.table.distinct g.D.DescriptorDevice.meaning.pool_name
 
 pub returns-in_err-ended-clause-within : goal.returns-in_err-ended-clause-within
-returns-in_err-ended-clause-within g c = rw c.in_err-ended.ensures.entries (keeps_limit refl (opened c.self.invariant) c.self.inside.table.distinct g.D.DescriptorDevice.meaning.pool_name)
+returns-in_err-ended-clause-within g c = rw c.in_err-ended.ensures.serves.entries (keeps_limit refl (opened c.self.invariant) c.self.inside.table.distinct g.D.DescriptorDevice.meaning.pool_name)

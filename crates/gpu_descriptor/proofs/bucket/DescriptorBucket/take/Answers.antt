@@ -41,21 +41,20 @@ loop-sink-init g c =
     let known = on_ok c.take_from_existing.result c.take_from_existing.ensures.walked (sym c.in_ok-map_err.ensures.variant) in
     let total = c.take_from_existing.ensures.total in
     record {
-      given = c.take_from_existing.ensures.left;
+      given = c.take_from_existing.ensures.appends.rest;
       total = total;
-      front = c.take_from_existing.ensures.front;
+      front = c.take_from_existing.ensures.appends.front;
       id_stays = c.take_from_existing.ensures.id_stays;
-      numbers = (let same = ap number_after c.take_from_existing.ensures.numbers_stay in let all = c.take_from_existing.ensures.left in omega arith);
-      growing = grow_start known c.take_from_existing.ensures.id_stays (let out = allocated_entries name c.args.self.now.pools.items in let counted = c.args.self.now.counted in let all = c.take_from_existing.ensures.left in omega arith);
+      numbers = (let same = ap number_after c.take_from_existing.ensures.numbers_stay in let all = c.take_from_existing.ensures.appends.rest in omega arith);
+      growing = grow_start known c.take_from_existing.ensures.id_stays (let out = allocated_entries name c.args.self.now.pools.items in let counted = c.args.self.now.counted in let all = c.take_from_existing.ensures.appends.rest in omega arith);
       load = ap (λ n. c.args.budget.now.room + n) (walked_load name c.args.self.now.pools.items c.take_from_existing.new.self.pools.items known);
-      own = c.take_from_existing.ensures.own;
+      own = c.take_from_existing.ensures.appends.own;
       most = λ i. c.args.budget.now.most;
       looks = c.take_from_existing.ensures.looks;
     }
 
 pub take_from_new-requires-clause-numbers : goal.take_from_new-requires-clause-numbers
 take_from_new-requires-clause-numbers g c =
-    let is = ap number_after (numbers_stored g.D.DescriptorDevice.meaning.pool_name c.args.self.now.pools.items) in
     let few = c.loop-sink.invariant.numbers in
     let fits = c.requires.numbers in
     omega arith

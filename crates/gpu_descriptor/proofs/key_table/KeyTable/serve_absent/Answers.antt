@@ -1,7 +1,7 @@
 use Rattle.gpu_descriptor.proofs.Common.{ℕ, List, lookup, BucketKey, DescriptorBucket, map-append, greatest_u64, ◌≡◌}
 use Rattle.gpu_descriptor.proofs.Common.{◌+◌, ◌≤◌, ◌++◌, ◌∷◌, [], Bool, None, inl, refl, sym, ap, ◌∙◌, subst, arith}
 use Rattle.gpu_descriptor.proofs.Common.{rules, map, Bucket, key_eq, no_pools, next_number, key_of, is_of, rise_below}
-use Rattle.gpu_descriptor.proofs.Common.{stored_ids, books_in, entry_of, stored_load, row_of, IsUnserved}
+use Rattle.gpu_descriptor.proofs.Common.{stored_ids, books_in, entry_of, stored_load, stored_numbers, row_of, IsUnserved, DescriptorPool, number_after}
 use Rattle.gpu_descriptor.proofs.table.Rising.{one_more}
 use Rattle.gpu_descriptor.proofs.table.RowAt.{lookup_same}
 use Rattle.indexmap.specs.IndexMap.{IndexMap, insert_entry}
@@ -10,6 +10,8 @@ use Rattle.gpu_descriptor.proofs.cleanup.KeyOrder.{keys_put}
 use Rattle.gpu_descriptor.proofs.sums.Loads.{pools_end}
 use Rattle.gpu_descriptor.proofs.request.Passed.{passed}
 use Rattle.gpu_descriptor.proofs.request.InTable.{missing, serves_new}
+use Rattle.gpu_descriptor.proofs.request.Serving.{is_served, unserved}
+use Rattle.gpu_descriptor.specs.declared.errors.AllocationError.TheVariants.{OutOfHostMemory}
 use Rattle.gpu_descriptor.proofs.table.TableBooks.{distinct_stored}
 use Rattle.gpu_descriptor.proofs.key_table.KeyTable.serve_absent.Goals.{Start, In-Ok}
 use Rattle.gpu_descriptor.proofs.key_table.KeyTable.serve_absent.Goals as goal
@@ -26,49 +28,51 @@ put_new eq same m k v es new put kept none = put ∙ ap (λ l. insert_entry eq l
 absent : (g : _) (c : Start g) → books_in g.D.DescriptorDevice.meaning.pool_name (map row_of c.args.self.now.buckets.entries) (key_of c.args.request.now.key) ≡ no_pools
 absent g c = missing g.D.DescriptorDevice.meaning.pool_name (key_of c.args.request.now.key) c.args.self.now.buckets.entries _ (λ k. search rules) (c.requires.absent)
 
-pub returns-then-is_err-clause-refused : goal.returns-then-is_err-clause-refused
-returns-then-is_err-clause-refused g c =
-    let is = absent g (goal.at.returns-then-is_err-clause-refused g c).Start in
-    inl (refl, subst (λ (b : Bucket). next_number b + c.args.request.now.count ≤ greatest_u64) (sym is) (let n = c.requires.bound in omega arith))
+-- and its pools may have as many more numbers
+no_numbers : (g : _) (c : Start g) → IsUnserved c.args.request.now.count (next_number (books_in g.D.DescriptorDevice.meaning.pool_name (map row_of c.args.self.now.buckets.entries) (key_of c.args.request.now.key))) OutOfHostMemory
+no_numbers g c = inl (refl, subst (λ (b : Bucket). next_number b + c.args.request.now.count ≤ greatest_u64) (sym (absent g c)) (let n = c.requires.bound in omega arith))
 
-pub returns-then-self-clause-refused : goal.returns-then-self-clause-refused
-returns-then-self-clause-refused g c =
-    let is = absent g (goal.at.returns-then-self-clause-refused g c).Start in
-    inl (refl, subst (λ (b : Bucket). next_number b + c.args.request.now.count ≤ greatest_u64) (sym is) (let n = c.requires.bound in omega arith))
+pub returns-then-is_err : goal.returns-then-is_err
+returns-then-is_err g c = record { serves = unserved c.args.self.now.buckets.entries refl (no_numbers g (goal.at.returns-then-is_err g c).Start) refl c.reserve.ensures.entries }
 
-pub returns-in_err-served-clause-refused : goal.returns-in_err-served-clause-refused
-returns-in_err-served-clause-refused g c =
-    let is = absent g (goal.at.returns-in_err-served-clause-refused g c).Start in
-    let given : Bucket → Bucket = λ b. record b { id = c.args.self.now.next_id } in
-    let empty : given no_pools ≡ record { id = c.args.self.now.next_id; pools = map (entry_of g.D.DescriptorDevice.meaning.pool_name) c.new.result.items } = λ i. record { id = c.args.self.now.next_id; pools = map (entry_of g.D.DescriptorDevice.meaning.pool_name) (sym c.new.ensures.items i) } in
-    rw (passed c.from_residual.result c.in_err-served.field-0.0 c.from_residual.ensures.1) (subst (λ (b : Bucket). IsUnserved c.args.request.now.count c.in_err-served.field-0.0 b) (sym (ap given is ∙ empty)) c.in_err-served.ensures.refused)
+pub returns-then-self : goal.returns-then-self
+returns-then-self g c = record { serves = unserved c.args.self.now.buckets.entries refl (no_numbers g (goal.at.returns-then-self g c).Start) refl c.reserve.ensures.entries }
+
+pub returns-in_err-prepare : goal.returns-in_err-prepare
+returns-in_err-prepare g c =
+    let is = absent g (goal.at.returns-in_err-prepare g c).Start in
+    record {
+      serves = unserved c.args.self.now.buckets.entries (passed c.from_residual.result c.in_err-prepare.field-0.0 c.from_residual.ensures.1)
+          (subst (λ (n : ℕ). IsUnserved c.args.request.now.count n c.in_err-prepare.field-0.0) (ap (λ (ps : List (DescriptorPool g.row.P.Denot)). number_after (stored_numbers ps)) c.new.ensures.items ∙ sym (ap next_number is)) c.in_err-prepare.ensures.refused) c.prepare.ensures.sets c.reserve.ensures.entries;
+    }
 
 -- the new key goes last
-put : (g : _) (c : In-Ok g) → c.insert.new.self.entries ≡ c.args.self.now.buckets.entries ++ (c.args.request.now.key, c.serve.new.self) ∷ []
+put : (g : _) (c : In-Ok g) → c.insert.new.self.entries ≡ c.args.self.now.buckets.entries ++ (c.args.request.now.key, c.take-ended.new.self) ∷ []
 put g c =
-    put_new _ (λ k l. search rules) c.args.self.now.buckets c.args.request.now.key c.serve.new.self c.reserve.new.self.entries c.insert.new.self.entries c.in-Ok.ensures.entries c.reserve.ensures.entries
+    put_new _ (λ k l. search rules) c.args.self.now.buckets c.args.request.now.key c.take-ended.new.self c.reserve.new.self.entries c.insert.new.self.entries c.in-Ok.ensures.entries c.reserve.ensures.entries
     c.requires.absent
 
-pub returns-clause-served : goal.returns-clause-served
-returns-clause-served g c =
-    serves_new c.args.request.now.key c.serve.new.self c.in_ok-served.ensures.served.0 c.in_ok-served.ensures.served.1 c.args.self.now.buckets.entries
-    (is_of (key_of c.args.request.now.key)) (λ k. search rules) (c.requires.absent) (put g (goal.at.returns-clause-served g c).In-Ok) (λ i. record { id = c.args.self.now.next_id; pools = map (entry_of g.D.DescriptorDevice.meaning.pool_name) (c.new.ensures.items i) }) refl
-
-pub returns-clause-room : goal.returns-clause-room
-returns-clause-room g c =
-    let empty : stored_load (key_of c.args.request.now.key) c.new.result.items ≡ 0 = ap (stored_load (key_of c.args.request.now.key)) c.new.ensures.items in
-    let moved = c.serve.ensures.room in
-    rw (put g (goal.at.returns-clause-room g c).In-Ok) (pools_end c.args.request.now.key c.args.self.now.buckets.entries c.serve.new.self c.serve.new.budget.room c.args.budget.now.room (omega arith))
-
-pub returns-clause-keys : goal.returns-clause-keys
-returns-clause-keys g c = keys_put (key_of c.args.request.now.key) c.args.request.now.key c.args.self.now.buckets.entries c.insert.new.self.entries c.serve.new.self refl c.requires.absent (put g (goal.at.returns-clause-keys g c).In-Ok)
+pub returns : goal.returns
+returns g c =
+    let es = c.args.self.now.buckets.entries in
+    let key = key_of c.args.request.now.key in
+    let added = put g (goal.at.returns g c).In-Ok in
+    let empty : stored_load key c.new.result.items ≡ 0 = ap (stored_load key) c.new.ensures.items in
+    let moved = c.take-ended.ensures.room in
+    record {
+      serves = is_served es c.args.self.now.next_id c.new.result.items 0 c.take-ended.new.self c.prepare.ensures.sets c.in_ok-prepare.ensures.numbers c.take-ended.ensures.appends c.take-ended.ensures.all c.take-ended.ensures.total c.take-ended.ensures.taken
+          (λ served total. serves_new c.args.request.now.key c.take-ended.new.self served total es (is_of key) (λ k. search rules) c.requires.absent added (λ i. record { id = c.args.self.now.next_id; pools = map (entry_of g.D.DescriptorDevice.meaning.pool_name) (c.new.ensures.items i) }) refl)
+          (keys_put key c.args.request.now.key es c.insert.new.self.entries c.take-ended.new.self refl c.requires.absent added)
+          (rw added (pools_end c.args.request.now.key es c.take-ended.new.self c.take-ended.new.budget.room c.args.budget.now.room (omega arith)))
+          c.take-ended.ensures.most c.take-ended.ensures.looks;
+    }
 
 pub invariant_of-self-in-Ok : goal.invariant_of-self-in-Ok
 invariant_of-self-in-Ok g c =
     let next = c.args.self.now.next_id in
     let es = c.args.self.now.buckets.entries in
     let ids : stored_ids c.insert.new.self.entries ≡ stored_ids es ++ next ∷ [] =
-    ap stored_ids (put g (goal.at.invariant_of-self-in-Ok g c).In-Ok) ∙ map-append _ es _ ∙ ap (λ (n : ℕ). stored_ids es ++ n ∷ []) c.serve.ensures.id_stays in
+    ap stored_ids (put g (goal.at.invariant_of-self-in-Ok g c).In-Ok) ∙ map-append _ es _ ∙ ap (λ (n : ℕ). stored_ids es ++ n ∷ []) c.take-ended.ensures.id_stays in
     record {
       rising = ap (rise_below (next + 1)) ids ∙ one_more next (next + 1) (stored_ids es) refl c.args.self.now.rising;
       distinct = distinct_stored _ (λ k l. search rules) c.insert.new.self.entries c.insert.ensures.unique;

@@ -1,0 +1,63 @@
+-- What a table leaves of a request for sets of one of its keys.
+use Rattle.gpu_descriptor.proofs.Common.{◌≡◌, ◌+◌, ◌<◌, ◌^◌, ℕ, List, length, map, Result, Ok, Err, OnOk, sym, ap, arith, subst}
+use Rattle.gpu_descriptor.proofs.Common.{Meaning, Ledger, AllocationError, BucketKey, DescriptorBucket, DescriptorPool, DescriptorSet, Stop, entry_of}
+use Rattle.gpu_descriptor.proofs.Common.{Key, next_number, number_after, sum_over, bucket_load, items_of, bucket_of, books_in, row_of}
+use Rattle.gpu_descriptor.proofs.Common.{stored_numbers, stored_keys, with_key, CountsLooks, IsTaken, IsServed, IsUnserved, ServesKey}
+use Rattle.std.proofs.lemmas.Result.{on_ok_weaker}
+use Rattle.gpu_descriptor.specs.declared.budget.Budget.{Budget}
+use Rattle.gpu_descriptor.specs.Inner.Serves.{Appends, ServesRequest}
+use Rattle.gpu_descriptor.specs.Caller.SetLists.{appended}
+use Rattle.gpu_descriptor.proofs.table.Exact.{bucket}
+use Rattle.gpu_descriptor.proofs.release.StoredNumbers.{numbers_stored}
+
+-- the number of the next pool, as the books have it
+pub next : {P : Type 0} (name : P → ℕ) (id : ℕ) (pools : List (DescriptorPool P)) → number_after (stored_numbers pools) ≡ next_number (bucket id (map (entry_of name) pools))
+next name id pools = sym (ap number_after (numbers_stored name pools))
+
+module _ {L P S : Type 0} {means : Meaning L P S} {k : Key} {count left : ℕ} {layout : L} (es : List (BucketKey × DescriptorBucket P)) {fs : List (BucketKey × DescriptorBucket P)} {was : Budget} {had has : List (DescriptorSet S)} where
+  -- an error changes nothing
+  pub unserved : {r : Result (Result (Unit {0}) Stop) AllocationError} {e : AllocationError} {l : Ledger} → r ≡ Err e → IsUnserved count (next_number (books_in means.pool_name (map row_of es) k)) e → has ≡ had → fs ≡ es → ServesRequest means layout k count left r es fs was was had has l l
+  unserved {l = l} is why sets entries = rw is (record {
+    served = tt;
+    appends = tt;
+    keys = tt;
+    refused = why;
+    sets = sets;
+    entries = entries;
+    budget = λ i. was;
+    ledger = λ i. l;
+    room = ap (λ (xs : List (BucketKey × DescriptorBucket P)). was.room + sum_over bucket_load (map row_of xs)) entries;
+    most = λ i. was.most;
+    looks = λ i. was.looks.count + l.counters.asked;
+  })
+
+  -- a bucket gave what it took, once room had been made for it
+  module _
+      {ended : Result (Unit {0}) Stop} {before after : Ledger} {roomy : List (DescriptorSet S)} (id : ℕ) (pools : List (DescriptorPool P)) (many : ℕ) (new : DescriptorBucket P) (made : roomy ≡ had) (fits : number_after (stored_numbers pools) + count < 2 ^ 64)
+      (appends : Appends means layout count left roomy has) (all : OnOk ended (left ≡ 0)) (total : new.total ≡ many + length (appended roomy has))
+      (taken : IsTaken ended was.most k was.room count (items_of means.set_name (appended roomy has)) (bucket id (map (entry_of means.pool_name) pools)) (bucket_of means.pool_name new) before after) where
+    pub is_served : {is : Budget}
+        → (IsServed means was.most k was.room count (appended had has) ended (bucket id (map (entry_of means.pool_name) pools)) (bucket_of means.pool_name new) before after → new.total ≡ many + length (appended had has) → ServesKey means was.most k was.room count (appended had has) ended (map row_of es) (map row_of fs) before after)
+        → stored_keys fs ≡ with_key k (stored_keys es) → is.room + sum_over bucket_load (map row_of fs) ≡ was.room + sum_over bucket_load (map row_of es) → is.most ≡ was.most → CountsLooks was.looks.count is.looks.count before after
+        → ServesRequest means layout k count left (Ok ended) es fs was is had has before after
+    is_served serves keys room most looks =
+        let here = subst (λ (xs : List (DescriptorSet S)). Appends means layout count left xs has × (new.total ≡ many + length (appended xs has)) × IsTaken ended was.most k was.room count (items_of means.set_name (appended xs has)) (bucket id (map (entry_of means.pool_name) pools)) (bucket_of means.pool_name new) before after) made (appends, total, taken) in
+        let rest = here.0.rest in
+        record {
+          served = serves (record {
+            numbers = (let is = next means.pool_name id pools in omega arith);
+            few = omega arith;
+            all = on_ok_weaker ended (λ none. (omega arith)) all;
+            taken = here.2;
+          }) here.1;
+          appends = here.0;
+          keys = keys;
+          refused = tt;
+          sets = tt;
+          entries = tt;
+          budget = tt;
+          ledger = tt;
+          room = room;
+          most = most;
+          looks = looks;
+        }
