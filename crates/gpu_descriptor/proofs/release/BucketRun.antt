@@ -2,8 +2,8 @@
 use Rattle.gpu_descriptor.proofs.Common.{entry_at, greatest_pool_size, ◌≡◌, ℕ, zero, suc, ◌+◌, ◌-◌, ◌<◌, ◌≤◌, List, []}
 use Rattle.gpu_descriptor.proofs.Common.{◌∷◌, length, map, sum_by, set, get_or, slice_get, Option, Some, option_map}
 use Rattle.gpu_descriptor.proofs.Common.{inl, inr, refl, sym, ap, ◌∙◌, arith, IfSome, slice_get-map, slice_get_read}
-use Rattle.gpu_descriptor.proofs.Common.{length-map, sum_by-cons, CanFree, Pool, live_sets, LiveSet, times, AreIn}
-use Rattle.gpu_descriptor.proofs.Common.{DescriptorPool, live_in, flags_of, IsAsBooked, Key, Entry, Bucket, ∥∥₁_elim}
+use Rattle.gpu_descriptor.proofs.Common.{length-map, sum_by-cons, Pool, live_sets, LiveSet, times, AreIn}
+use Rattle.gpu_descriptor.proofs.Common.{DescriptorPool, live_in, IsAsBooked, Key, Entry, Bucket, ∥∥₁_elim}
 use Rattle.gpu_descriptor.proofs.Common.{∥∥₁_map, props, common_steps, AreBookedIn, IsTakenAt, entry_less, pool_less}
 use Rattle.gpu_descriptor.proofs.Common.{entry_of}
 use Rattle.gpu_descriptor.proofs.foreign.LedgerPools.{taken_from, with_pool_same, with_pool_other, size_minus, only_these}
@@ -41,10 +41,6 @@ pub are_taken :
 are_taken k b pools i e names ls stored at are live =
     let booked = stored.each i e at in
     grind (arith, common_steps)
-
--- sets of a marked key's pools and of others may go back singly
-pub can_free : (k : Key) → CanFree (flags_of k)
-can_free k = grind arith
 
 -- the sets that a call took of the place are the key's sets of their names
 pub took_these : (k : Key) (b : Bucket) (pools : ℕ → Option Pool) (i : ℕ) (e : Entry) (names : List ℕ) (ls : List LiveSet) → AreBookedIn k pools b.pools → slice_get b.pools i ≡ Some e → AreTaken names (live_in pools e.pool) ls → ls ≡ live_sets k.counts names

@@ -4,9 +4,9 @@ use Rattle.gpu_descriptor.proofs.Common.{map, slice_get, refl, sym, ap, subst, �
 use Rattle.gpu_descriptor.proofs.Common.{OnSome, Count, HoldsAlong, IsFinite, IsNearerEnd, Yields, YieldsThen, and_from}
 use Rattle.gpu_descriptor.proofs.Common.{length-map, Pool, Ledger, AreLive, live_sets, CanFree, LiveSet, DescriptorSet}
 use Rattle.gpu_descriptor.proofs.Common.{live_in, Key, Entry, Bucket, Run, AreBookedIn, IsTakenAt, names_of, RunStep}
-use Rattle.gpu_descriptor.proofs.Common.{CountsFrom, EndsRun, AllPass}
+use Rattle.gpu_descriptor.proofs.Common.{CountsFrom, EndsRun, AllPass, flags_of}
 use Rattle.gpu_descriptor.specs.Inner.RunSteps.{at_place}
-use Rattle.gpu_descriptor.proofs.release.BucketRun.{AreTaken, can_free, can_take, took_these, length_names}
+use Rattle.gpu_descriptor.proofs.release.BucketRun.{AreTaken, can_take, took_these, length_names}
 use Rattle.gpu_descriptor.proofs.release.RunTaken.{Whole, whole, front}
 
 pub at_own : {S : Type 0} (x : DescriptorSet S) → at_place x.id x.number x ≡ true
@@ -16,6 +16,10 @@ at_own x = and_from _ _ (eq-eqb x.id x.id refl) (eq-eqb x.number x.number refl)
 pub names : {S : Type 0} (name : S → ℕ) (xs : List (DescriptorSet S)) → map name (map (λ x. x.raw) xs) ≡ names_of name xs
 names name [] = refl
 names name (x ∷ xs) = ap (λ ns. name x.raw ∷ ns) (names name xs)
+
+-- the device may take single sets of marked and of other pools
+can_free : (k : Key) → CanFree (flags_of k)
+can_free k = grind arith
 
 module _ {T S : Type 0} (steps : T → Option (DescriptorSet S) → T → Type 0) (can : T → Type 0) (left : T → Count) (name : S → ℕ) where
   -- whatever run comes, its sets are in the place
