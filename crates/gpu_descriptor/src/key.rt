@@ -14,7 +14,7 @@ use gpu_descriptor_types::DescriptorTotalCount;
 #[derive(Clone, Copy, Debug, PartialEq, Eq, Hash)]
 pub(crate) struct BucketKey {
     pub(crate) counts: DescriptorTotalCount,
-    pub(crate) update_after_bind: bool,
+    pub(crate) marked: bool,
 }
 
 /// Whether two numbers are these. They are compared as one number of 64 bits.
@@ -77,7 +77,7 @@ impl BucketKey {
     {
         BucketKey {
             counts: *counts,
-            update_after_bind: flags.contains(DescriptorSetLayoutCreateFlags::UPDATE_AFTER_BIND),
+            marked: flags.contains(DescriptorSetLayoutCreateFlags::UPDATE_AFTER_BIND),
         }
     }
 
@@ -86,7 +86,7 @@ impl BucketKey {
     pub(crate) fn is(&self, other: &BucketKey) -> bool
         ensures { IsTrue result → key_of self.now ≡ key_of other.now }
     {
-        self.update_after_bind == other.update_after_bind
+        self.marked == other.marked
             && are_same_counts(&self.counts, &other.counts)
     }
 
@@ -96,7 +96,7 @@ impl BucketKey {
         requires { set_descriptors (key_of self.now) sets < 2 ^ 64 }
         ensures { result ≡ set_descriptors (key_of self.now) sets }
     {
-        if self.update_after_bind {
+        if self.marked {
             sets * self.counts.total()
         } else {
             0
@@ -110,7 +110,7 @@ impl BucketKey {
         requires { pool_descriptors (key_of self.now) sets < 2 ^ 32 }
         ensures { result ≡ pool_descriptors (key_of self.now) sets }
     {
-        if self.update_after_bind {
+        if self.marked {
             (u64::from(sets) * self.counts.total()).max(1) as u32
         } else {
             0

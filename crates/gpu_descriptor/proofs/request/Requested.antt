@@ -64,18 +64,18 @@ module _ {P : Type 0} {a : Allocations P} {max looks compared marked room out : 
 module _ {L P S : Type 0} (means : Meaning L P S) {a : Allocations P} {max looks compared marked room out : ℕ}
     {most : Option ℕ} {es : List (BucketKey × DescriptorBucket P)} (is : seen max most looks compared es ≡ a)
     (counted : IsConsistent max marked room out es) (before : Ledger)
-    (key : BucketKey) {count : ℕ} (some : 0 < count) {above : Bool} (test : above ≡ (key.update_after_bind && nat_lt a.limit (count * sum (kinds key.counts) + marked_load_of a))) where
+    (key : BucketKey) {count : ℕ} (some : 0 < count) {above : Bool} (test : above ≡ (key.marked && nat_lt a.limit (count * sum (kinds key.counts) + marked_load_of a))) where
   abbrev Declines : AllocationError → Type 0
   Declines error = IsDeclined (call_of means (key_of key) count (side a before) (side a before) (Err error))
 
   pub declined_by_limit : above ≡ true → Declines Fragmentation
   declined_by_limit passed =
-      let both = and_parts key.update_after_bind (nat_lt a.limit (count * sum (kinds key.counts) + marked_load_of a)) (sym test ∙ passed) in
+      let both = and_parts key.marked (nat_lt a.limit (count * sum (kinds key.counts) + marked_load_of a)) (sym test ∙ passed) in
       (above_limit some (record { marked = both.0; above = ltb-true a.limit (count * sum (kinds key.counts) + marked_load_of a) both.1 }) refl (record { state = refl; counters = refl }), refl)
 
   module _ (below : above ≡ false) {past : Bool} (bounded : past ≡ nat_lt greatest_u64 (out + count)) where
     in_limit : (answer : Result _ AllocationError) → IsWithinLimit (call_of means (key_of key) count (side a before) (side a before) answer)
-    in_limit answer = within_of key.update_after_bind a.limit (count * sum (kinds key.counts) + marked_load_of a) (sym test ∙ below)
+    in_limit answer = within_of key.marked a.limit (count * sum (kinds key.counts) + marked_load_of a) (sym test ∙ below)
 
     declined_past : (greatest_u64 < next_number ((state_of means.pool_name a before).books (key_of key)) + count) ⊎ (greatest_u64 < outstanding_of a + count) → Declines Fragmentation
     declined_past more = (past_bound some (in_limit (Err Fragmentation)) more refl (record { state = refl; counters = refl }), refl)
@@ -100,13 +100,13 @@ module _ {L P S : Type 0} (means : Meaning L P S) {a : Allocations P} {max looks
 -- a request that passed them, and took what its key has
 module _ {L P S : Type 0} {means : Meaning L P S} {most : Option ℕ} {key : BucketKey} {room count : ℕ} {sets : List (DescriptorSet S)} {ended : Result (Unit {0}) Stop} {es : List (BucketKey × DescriptorBucket P)} (fs : List (BucketKey × DescriptorBucket P)) {before after : Ledger}
     (s : ServesKey means most (key_of key) room count sets ended (map row_of es) (map row_of fs) before after) {a : Allocations P} {max looks compared marked out : ℕ} (is : seen max most looks compared es ≡ a) (counted : IsConsistent max marked room out es)
-    {above : Bool} (test : above ≡ (key.update_after_bind && nat_lt a.limit (count * sum (kinds key.counts) + marked_load_of a))) (below : above ≡ false) where
-  sets_within : key.update_after_bind ≡ true → count * sum (kinds key.counts) + marked_load_of a ≤ a.limit
-  sets_within = within_of key.update_after_bind a.limit (count * sum (kinds key.counts) + marked_load_of a) (sym test ∙ below)
+    {above : Bool} (test : above ≡ (key.marked && nat_lt a.limit (count * sum (kinds key.counts) + marked_load_of a))) (below : above ≡ false) where
+  sets_within : key.marked ≡ true → count * sum (kinds key.counts) + marked_load_of a ≤ a.limit
+  sets_within = within_of key.marked a.limit (count * sum (kinds key.counts) + marked_load_of a) (sym test ∙ below)
 
   -- their descriptors keep the limit
   pub given_fits : {given : ℕ} → given ≡ length sets → set_descriptors (key_of key) given + marked ≤ max
-  given_fits {given} long = elim (cases_Bool key.update_after_bind) [
+  given_fits {given} long = elim (cases_Bool key.marked) [
     | inl on ↦ (
         let few = s.served.few in
         let all = sets_within on in

@@ -4,4 +4,4 @@ use Rattle.gpu_descriptor.specs.declared.key.BucketKey.{BucketKey}
 use Rattle.gpu_descriptor.specs.Model.Books.{Key}
 
 abbrev pub key_of : BucketKey → Key
-key_of k = record { counts = kinds k.counts; marked = k.update_after_bind }
+key_of k = record { counts = kinds k.counts; marked = k.marked }

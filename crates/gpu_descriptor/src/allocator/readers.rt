@@ -59,7 +59,7 @@ impl<P, S> DescriptorAllocator<P, S> {
     {
         let key = BucketKey {
             counts: *counts,
-            update_after_bind,
+            marked: update_after_bind,
         };
         match self.table.buckets.get(&key) {
             Some(bucket) => bucket.pools.len(),
@@ -80,7 +80,7 @@ impl<P, S> DescriptorAllocator<P, S> {
     {
         let key = BucketKey {
             counts: *counts,
-            update_after_bind,
+            marked: update_after_bind,
         };
         let bucket = self.table.buckets.get(&key)?;
         let pool = bucket.pools.get(index)?;

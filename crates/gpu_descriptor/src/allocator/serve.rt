@@ -150,12 +150,12 @@ impl<P: Drop, S> DescriptorAllocator<P, S> {
 impl<P, S> DescriptorAllocator<P, S> {
     /// Whether `count` sets more would exceed the limit on marked descriptors.
     fn would_exceed_limit(&self, key: &BucketKey, count: u32) -> bool
-        ensures { result ≡ (key.now.update_after_bind && nat_lt (self.now.limit)
+        ensures { result ≡ (key.now.marked && nat_lt (self.now.limit)
             (count * sum (kinds key.now.counts) + marked_load_of self.now)) }
     {
         let unused = self.max_update_after_bind_descriptors_in_all_pools
             - self.update_after_bind_descriptors;
-        key.update_after_bind
+        key.marked
             && u128::from(count) * u128::from(key.counts.total()) > u128::from(unused)
     }
 }

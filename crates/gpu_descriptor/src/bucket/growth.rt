@@ -33,13 +33,13 @@ use gpu_descriptor_types::{
 use std::alloc::AllocError;
 
 /// The flags of a new pool: sets are freed singly, and it takes marked sets if its key is marked.
-fn pool_flags(update_after_bind: bool) -> DescriptorPoolCreateFlags
-    ensures { bits result ≡ pool_flags_of update_after_bind }
+fn pool_flags(marked: bool) -> DescriptorPoolCreateFlags
+    ensures { bits result ≡ pool_flags_of marked }
 {
     let mut flags = DescriptorPoolCreateFlags::FREE_DESCRIPTOR_SET;
     flags.set(
         DescriptorPoolCreateFlags::UPDATE_AFTER_BIND,
-        update_after_bind,
+        marked,
     );
     flags
 }
@@ -61,7 +61,7 @@ fn unbounded_size(
         (kinds key.now.counts)) }
     ensures none { IfNone result (room < pool_descriptors (key_of key.now) 1) }
 {
-    if key.update_after_bind {
+    if key.marked {
         cut_pool_size(&key.counts, total, wanted, room)
     } else {
         Some(new_pool_size(&key.counts, total, wanted))
@@ -138,7 +138,7 @@ impl<P> DescriptorBucket<P> {
         if self.reserve_pool().is_err() {
             return Err(Stop::NoMemoryForPool);
         }
-        let flags = pool_flags(key.update_after_bind);
+        let flags = pool_flags(key.marked);
         let mut raw = match device.create_descriptor_pool(&counts, size, flags) {
             Ok(raw) => raw,
             Err(error) => return Err(Stop::PoolNotCreated(error)),

@@ -5,13 +5,13 @@ use Rattle.gpu_descriptor.proofs.allocator.DescriptorAllocator.pool.Goals as goa
 
 pub returns-in_err-bucket : goal.returns-in_err-bucket
 returns-in_err-bucket g c =
-    let k : Key = key_of (record { counts = c.args.counts.now; update_after_bind = c.args.update_after_bind }) in
+    let k : Key = key_of (record { counts = c.args.counts.now; marked = c.args.update_after_bind }) in
     let here = seen_at _ k (λ l. search rules) c.args.self.now c.self.inside.table.buckets.entries (ap (λ (a : Allocations _). a.table) c.self.view_is) (sym c.get.ensures.value ∙ ap option_copied c.in_err-bucket.was) in
     record { view = c.from_residual.ensures ∙ ap (λ (b : BucketOf _). view_in b c.args.index) (sym here) }
 
 pub returns-in_err-pool : goal.returns-in_err-pool
 returns-in_err-pool g c =
-    let k : Key = key_of (record { counts = c.args.counts.now; update_after_bind = c.args.update_after_bind }) in
+    let k : Key = key_of (record { counts = c.args.counts.now; marked = c.args.update_after_bind }) in
     let q = c.in_ok-bucket.bucket.now.pools in
     let long = q.ok.0 in
     let short : length q.items ≤ c.args.index = elim (cases_lt c.args.index q.len) [
@@ -24,7 +24,7 @@ returns-in_err-pool g c =
 
 pub returns : goal.returns
 returns g c =
-    let k : Key = key_of (record { counts = c.args.counts.now; update_after_bind = c.args.update_after_bind }) in
+    let k : Key = key_of (record { counts = c.args.counts.now; marked = c.args.update_after_bind }) in
     let lt : c.args.index < length c.in_ok-bucket.bucket.now.pools.items = (let lt = c.in_ok-pool.ensures.variant.0 refl in omega (arith, c.in_ok-bucket.bucket.now.pools.ok.0)) in
     let b = c.in_ok-bucket.bucket.now in
     let here = seen_at _ k (λ l. search rules) c.args.self.now c.self.inside.table.buckets.entries (ap (λ (a : Allocations _). a.table) c.self.view_is) (sym c.get.ensures.value ∙ ap option_copied c.in_ok-bucket.was) in

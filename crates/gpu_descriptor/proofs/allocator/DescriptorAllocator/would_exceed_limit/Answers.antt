@@ -10,7 +10,7 @@ returns-then-key g c =
     let load : inside.update_after_bind_descriptors ≡ marked_load_of c.args.self.now = (opened c.self.invariant).is_load ∙ ap marked_load_of c.self.view_is in
     let within = (opened c.self.invariant).within in
     let product : c.from.result * c.from-then-key.result ≡ c.args.count * sum (kinds c.args.key.now.counts) = ap (λ n. n * c.from-then-key.result) c.from.ensures ∙ ap (λ n. c.args.count * n) (c.from-then-key.ensures ∙ c.total.ensures.sum) in
-    above-limit c.args.key.now.update_after_bind c.from-then-key-2.result (c.from.result * c.from-then-key.result)
+    above-limit c.args.key.now.marked c.from-then-key-2.result (c.from.result * c.from-then-key.result)
     c.args.self.now.limit inside.update_after_bind_descriptors (marked_load_of c.args.self.now)
     (c.args.count * sum (kinds c.args.key.now.counts)) c.if-key.true
     (c.from-then-key-2.ensures ∙ ap (λ n. n - inside.update_after_bind_descriptors) limit) load (omega arith) product
