@@ -52,7 +52,7 @@ pub use Rattle.gpu_descriptor.specs.Caller.Keys.{keys_with_pools, with_key}
 pub use Rattle.gpu_descriptor.specs.Caller.Others.{is_named}
 pub use Rattle.gpu_descriptor.specs.Caller.Sets.{AreOfLayout, item_of, items_of}
 pub use Rattle.gpu_descriptor.specs.Caller.States.{Agrees, marked_load_of, named, named_bucket, named_row, outstanding_of, pool_load_of, state_of, table_of}
-pub use Rattle.gpu_descriptor.specs.Inner.Buckets.{AreBookedIn, IsBookedIn, front_but, has_pools, ledger_but, ledger_without, trimmed_bucket, trimmed_ledger}
+pub use Rattle.gpu_descriptor.specs.Inner.Buckets.{AreBookedIn, IsBookedIn, front_but, has_pools, ledger_but, ledger_without, bucket_but_front, ledger_but_front}
 pub use Rattle.gpu_descriptor.specs.Inner.Grow.{IsGrown, IsTaken}
 pub use Rattle.gpu_descriptor.specs.Inner.Ids.{is_of, rise_below, stored_ids}
 pub use Rattle.gpu_descriptor.specs.Inner.OpenNumbers.{IsEntered, first_ordinal, free_in, open_numbers, stored_numbers}

@@ -1,7 +1,7 @@
-//! What the layers below use of the allocator.
+//! What a request uses of its allocator beside the table.
 use gpu_descriptor_types::Tally;
 
-/// What the layers below use of the allocator.
+/// The room under the limit, the looks, and the bound on a new pool.
 #[derive(Debug, Drop)]
 pub(crate) struct Budget {
     /// What the limit leaves for descriptors of further pools of marked layouts.

@@ -86,8 +86,7 @@ impl BucketKey {
     pub(crate) fn is(&self, other: &BucketKey) -> bool
         ensures { IsTrue result → key_of self.now ≡ key_of other.now }
     {
-        self.marked == other.marked
-            && are_same_counts(&self.counts, &other.counts)
+        self.marked == other.marked && are_same_counts(&self.counts, &other.counts)
     }
 
     /// How many descriptors so many sets of the key have, if it is marked; else 0.

@@ -41,7 +41,7 @@ pub(crate) struct KeyTable<P> {
     /// No key gets this id, or one above it.
     pub(crate) end_id: u64,
 
-    /// The place of the last call's key, which is a hint.
+    /// The place of the key that was found last, which is a hint.
     pub(crate) last: usize,
     ghost rising: { rise_below next_id (stored_ids buckets.entries) ≡ true },
     ghost distinct: { IsDistinct key_eq (stored_keys buckets.entries) } by { IsDistinct-prop key_eq

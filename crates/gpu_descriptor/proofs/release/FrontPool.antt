@@ -2,17 +2,17 @@
 use Rattle.gpu_descriptor.proofs.Common.{◌≡◌, ◌≢◌, ℕ, suc, ◌<◌, ◌≤◌, true, List, [], ◌∷◌, length, map, drop, get_or}
 use Rattle.gpu_descriptor.proofs.Common.{Option, None, inl, inr, refl, sym, ap, ◌∙◌, arith, eq-eqb, cases_eq}
 use Rattle.gpu_descriptor.proofs.Common.{length-map, Pool, Ledger, HasNoSets, after_destroy, DescriptorPool, Key, Entry}
-use Rattle.gpu_descriptor.proofs.Common.{Bucket, AreBookedIn, front_but, trimmed_bucket, trimmed_ledger, ledger_without}
+use Rattle.gpu_descriptor.proofs.Common.{Bucket, AreBookedIn, front_but, bucket_but_front, ledger_but_front, ledger_without}
 use Rattle.gpu_descriptor.proofs.Common.{is_empty, entry_of}
 use Rattle.gpu_descriptor.proofs.table.Exact.{bucket}
 use Rattle.gpu_descriptor.proofs.release.Fronts.{trim_yes, trim_short}
 use Rattle.gpu_descriptor.proofs.release.Places.{size_pos}
 use Rattle.gpu_descriptor.proofs.foreign.LedgerPools.{with_pool, with_pool_other}
 
-pub step_books : (keep id : ℕ) (x : Entry) (es : List Entry) → keep ≤ length es → is_empty x ≡ true → trimmed_bucket keep (bucket id es) ≡ trimmed_bucket keep (bucket id (x ∷ es))
+pub step_books : (keep id : ℕ) (x : Entry) (es : List Entry) → keep ≤ length es → is_empty x ≡ true → bucket_but_front keep (bucket id es) ≡ bucket_but_front keep (bucket id (x ∷ es))
 step_books keep id x es le empty = grind (arith, trim_yes)
 
-pub step_ledger : (keep id : ℕ) (x : Entry) (es : List Entry) (l : Ledger) → keep ≤ length es → is_empty x ≡ true → trimmed_ledger keep (bucket id es) (after_destroy x.pool l) ≡ trimmed_ledger keep (bucket id (x ∷ es)) l
+pub step_ledger : (keep id : ℕ) (x : Entry) (es : List Entry) (l : Ledger) → keep ≤ length es → is_empty x ≡ true → ledger_but_front keep (bucket id es) (after_destroy x.pool l) ≡ ledger_but_front keep (bucket id (x ∷ es)) l
 step_ledger keep id x es l le empty = grind (arith, trim_yes)
 
 pub front_unused : (k : Key) (x : Entry) (es : List Entry) (l : Ledger) → AreBookedIn k l.pools (x ∷ es) → x.allocated ≡ 0 → HasNoSets x.pool l
@@ -61,8 +61,8 @@ module _ {P : Type 0} (name : P → ℕ) (keep : ℕ) where
   -- what the turn leaves
   pub record Turned (k : Key) (id : ℕ) (items news : List (DescriptorPool P)) (before after : Ledger) : Type 0 where
     pub agree : stored k news after.pools
-    pub books : trimmed_bucket keep (bucket id (map (entry_of name) news)) ≡ trimmed_bucket keep (bucket id (map (entry_of name) items))
-    pub ledger : trimmed_ledger keep (bucket id (map (entry_of name) news)) after ≡ trimmed_ledger keep (bucket id (map (entry_of name) items)) before
+    pub books : bucket_but_front keep (bucket id (map (entry_of name) news)) ≡ bucket_but_front keep (bucket id (map (entry_of name) items))
+    pub ledger : ledger_but_front keep (bucket id (map (entry_of name) news)) after ≡ ledger_but_front keep (bucket id (map (entry_of name) items)) before
 
   pub turn : (k : Key) (id : ℕ) (items news : List (DescriptorPool P)) (p : DescriptorPool P) (l after : Ledger) → IsFront items p → news ≡ drop 1 items → after ≡ after_destroy (name p.raw) l → stored k items l.pools → Turned k id items news l after
   turn k id [] news p l after front new taken agree = (let bad = front.long in absurd (omega arith))

@@ -2,7 +2,7 @@
 use Rattle.gpu_descriptor.proofs.Common.{◌≡◌, ℕ, zero, suc, ◌+◌, ◌-◌, ◌<◌, ◌≤◌, true, false, min, List, [], ◌∷◌, length}
 use Rattle.gpu_descriptor.proofs.Common.{map, drop, slice_get, Some, inl, inr, refl, sym, ap, ◌∙◌, arith, drop-drop}
 use Rattle.gpu_descriptor.proofs.Common.{prefix_len, cases_Bool, cases_lt, drop-map, Entry}
-use Rattle.gpu_descriptor.proofs.Common.{Bucket, entry_at, rises, numbers_of, common_steps, trimmed_bucket}
+use Rattle.gpu_descriptor.proofs.Common.{Bucket, entry_at, rises, numbers_of, common_steps, bucket_but_front}
 use Rattle.gpu_descriptor.proofs.Common.{entry_less, bucket_less, is_empty, empty_front, spent_front, without_front}
 use Rattle.gpu_descriptor.proofs.lists.AtPlaces.{get_drop}
 use Rattle.gpu_descriptor.proofs.lists.Numbers.{entry_at-found, entry_at-named, numbers_drop, rises_drop}
@@ -74,15 +74,15 @@ pub without-without : (m n : ℕ) (b : Bucket) → without_front n (without_fron
 without-without m n b = grind (arith, drop-drop)
 
 -- The front after a second subtraction is the front after the first, and then the front of what that leaves
-pub spent_front-less : (g : ℕ → ℕ) (b : Bucket) → spent_front (bucket_less g b) ≡ spent_front b + spent_front (bucket_less g (trimmed_bucket 1 b))
+pub spent_front-less : (g : ℕ → ℕ) (b : Bucket) → spent_front (bucket_less g b) ≡ spent_front b + spent_front (bucket_less g (bucket_but_front 1 b))
 spent_front-less g b = grind (arith, drop-map, trim-map)
 
 -- THE LAW FOR ONE KEY: two parts, the front gone after each, leave what both at once leave
-pub one_key : (f g : ℕ → ℕ) (b : Bucket) → trimmed_bucket 1 (bucket_less g (trimmed_bucket 1 (bucket_less f b))) ≡ trimmed_bucket 1 (bucket_less (λ p. f p + g p) b)
+pub one_key : (f g : ℕ → ℕ) (b : Bucket) → bucket_but_front 1 (bucket_less g (bucket_but_front 1 (bucket_less f b))) ≡ bucket_but_front 1 (bucket_less (λ p. f p + g p) b)
 one_key f g b =
     let c = bucket_less f b in
     let d = bucket_less (λ p. f p + g p) b in
     let twice : bucket_less g c ≡ d = less-less f g b in
-    let part : bucket_less g (trimmed_bucket 1 c) ≡ without_front (spent_front c) d = less-without g (spent_front c) c ∙ ap (without_front (spent_front c)) twice in
-    let sizes : spent_front d ≡ spent_front c + spent_front (bucket_less g (trimmed_bucket 1 c)) = ap spent_front (sym twice) ∙ spent_front-less g c in
+    let part : bucket_less g (bucket_but_front 1 c) ≡ without_front (spent_front c) d = less-without g (spent_front c) c ∙ ap (without_front (spent_front c)) twice in
+    let sizes : spent_front d ≡ spent_front c + spent_front (bucket_less g (bucket_but_front 1 c)) = ap spent_front (sym twice) ∙ spent_front-less g c in
     grind (arith, common_steps, without-without)

@@ -4,7 +4,7 @@ use Rattle.gpu_descriptor.proofs.Common.{refl, sym, ap, subst, ◌∙◌, fun_ex
 use Rattle.gpu_descriptor.proofs.Common.{after_release, live_sets, BucketKey, DescriptorSet, DescriptorBucket, Agree}
 use Rattle.gpu_descriptor.proofs.Common.{AreOutstanding, Key, key_eq, Bucket, no_pools, books_of, HasDistinctKeys}
 use Rattle.gpu_descriptor.proofs.Common.{key_of, Allocations, AreBookedIn, IsTakenAt, Releases, names_of, bucket_back}
-use Rattle.gpu_descriptor.proofs.Common.{trimmed_bucket, trimmed_ledger, more_destroyed, more_released, released}
+use Rattle.gpu_descriptor.proofs.Common.{bucket_but_front, ledger_but_front, more_destroyed, more_released, released}
 use Rattle.gpu_descriptor.proofs.Common.{pools_gone, search_digits, items_of, named_row, state_of, AllPass, books_in}
 use Rattle.gpu_descriptor.proofs.Common.{row_of, bucket_of}
 use Rattle.gpu_descriptor.specs.Caller.States.{keys_of}
@@ -34,13 +34,13 @@ module _ {P S : Type 0} (name : P → ℕ) (set_name : S → ℕ) (a : Allocatio
 
     -- the run went back, and then the front went
     module _ (xs : List (DescriptorSet S)) (have : AllPass (lies_at x.key.is x.number) xs) (w : DescriptorBucket P) (after : Ledger) (between : Bucket) (during : Ledger) (back : Releases x.key.is x.number (names_of set_name (x ∷ xs)) (bucket_of name bucket) l between during)
-        (front : bucket_of name w ≡ trimmed_bucket 1 between) (gone : after ≡ trimmed_ledger 1 between during) where
+        (front : bucket_of name w ≡ bucket_but_front 1 between) (gone : after ≡ ledger_but_front 1 between during) where
       here : Releases x.key.is x.number (names_of set_name (x ∷ xs)) ((state_of name a l).books x.key.is) l between during
       here = subst (λ b. Releases x.key.is x.number (names_of set_name (x ∷ xs)) b l between during) (sym (at_key (Some bucket) found)) back
 
       -- the ledger in one step
-      ledger : after ≡ trimmed_ledger 1 (bucket_back ((state_of name a l).books x.key.is) here.place (length (names_of set_name (x ∷ xs))) here.entry) (after_release here.entry.pool (live_sets x.key.is.counts (names_of set_name (x ∷ xs))) l)
-      ledger = gone ∙ (λ i. trimmed_ledger 1 (here.books i) (here.ledger i))
+      ledger : after ≡ ledger_but_front 1 (bucket_back ((state_of name a l).books x.key.is) here.place (length (names_of set_name (x ∷ xs))) here.entry) (after_release here.entry.pool (live_sets x.key.is.counts (names_of set_name (x ∷ xs))) l)
+      ledger = gone ∙ (λ i. ledger_but_front 1 (here.books i) (here.ledger i))
 
       pub row_ran : (limit : ℕ) (fs : List (BucketKey × DescriptorBucket P)) → fs ≡ set_value test es w → state_of name (record { limit = limit; most = None; table = map row_of fs; looks = 0; comparisons = 0 }) after ≡ released (items_of set_name (x ∷ xs)) (state_of name a l)
       row_ran limit fs wrote =
@@ -55,7 +55,7 @@ module _ {P S : Type 0} (name : P → ℕ) (set_name : S → ℕ) (a : Allocatio
           let b = bucket_back (s.books k) here.place (length (names_of set_name (x ∷ xs))) here.entry in
           let pools : after.pools ≡ trimmed_pools b (taken_from l.pools here.entry.pool (live_sets k.counts (names_of set_name (x ∷ xs)))) = ap (λ (m : Ledger). m.pools) ledger ∙ ap (trimmed_pools b) (release_pools here.entry.pool (live_sets k.counts (names_of set_name (x ∷ xs))) l) in
           let left : state_of name new after ≡ record { books = put_books s.books k (bucket_of name w); ledger = after.pools } = λ i. record { books = books i; ledger = after.pools } in
-          left ∙ whole_run set_name s agree x xs have here.place here.entry here.at here.named (bucket_of name w) after.pools (front ∙ ap (trimmed_bucket 1) here.books) pools
+          left ∙ whole_run set_name s agree x xs have here.place here.entry here.at here.named (bucket_of name w) after.pools (front ∙ ap (bucket_but_front 1) here.books) pools
 
       pub row_counted : HasDistinctKeys (rows_in name es) → after.counters ≡ more_destroyed (pools_gone (keys_of a) (items_of set_name (x ∷ xs)) (state_of name a l)) (more_released 1 l.counters)
       row_counted distinct =

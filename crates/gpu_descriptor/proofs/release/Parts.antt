@@ -5,7 +5,7 @@ use Rattle.gpu_descriptor.proofs.Common.{ap, ◌∙◌, arith, take-add, if◌th
 use Rattle.gpu_descriptor.proofs.Common.{and_from, false_from_ne_true, take-map, set_of, State, Item, item_eq, count_of}
 use Rattle.gpu_descriptor.proofs.Common.{AreOutstanding, Agree, Key, key_eq, Entry, Bucket, Pool, LiveSet, set_eq}
 use Rattle.gpu_descriptor.proofs.Common.{count_by-append, count_by_alike, count_by_none, any_from, any_found}
-use Rattle.gpu_descriptor.proofs.Common.{list_any-append, trimmed_bucket, lies_in, entry_less, bucket_less, pool_less}
+use Rattle.gpu_descriptor.proofs.Common.{list_any-append, bucket_but_front, lies_in, entry_less, bucket_less, pool_less}
 use Rattle.gpu_descriptor.proofs.Common.{spent_front, without_front, in_front, released}
 use Rattle.gpu_descriptor.proofs.lists.Numbers.{entry_at-found}
 use Rattle.gpu_descriptor.proofs.release.Fronts.{less-less, less-without, one_key, spent_front-less}
@@ -26,7 +26,7 @@ books_law true false f g b quiet =
     let c = bucket_less f b in
     let d = bucket_less (λ p. f p + g p) b in
     less-without g (spent_front c) c ∙ ap (without_front (spent_front c)) (less-less f g b) ∙ ap (λ (x : Bucket). without_front (spent_front x) d) (sym (quiet refl))
-books_law false true f g b quiet = ap (trimmed_bucket 1) (less-less f g b)
+books_law false true f g b quiet = ap (bucket_but_front 1) (less-less f g b)
 books_law false false f g b quiet = less-less f g b
 
 -- a pool of a name
@@ -55,13 +55,13 @@ goes_law true true f g b pool quiet =
     let c = bucket_less f b in
     let d = bucket_less (λ p. f p + g p) b in
     let twice : bucket_less g c ≡ d = less-less f g b in
-    let sizes : spent_front d ≡ spent_front c + spent_front (bucket_less g (trimmed_bucket 1 c)) = ap spent_front (sym twice) ∙ spent_front-less g c in
-    let rest : without_front (spent_front c) d ≡ bucket_less g (trimmed_bucket 1 c) = ap (without_front (spent_front c)) (sym twice) ∙ sym (less-without g (spent_front c) c) in
+    let sizes : spent_front d ≡ spent_front c + spent_front (bucket_less g (bucket_but_front 1 c)) = ap spent_front (sym twice) ∙ spent_front-less g c in
+    let rest : without_front (spent_front c) d ≡ bucket_less g (bucket_but_front 1 c) = ap (without_front (spent_front c)) (sym twice) ∙ sym (less-without g (spent_front c) c) in
     ap (λ (n : ℕ). in_front n d pool) sizes
-    ∙ in_front-add (spent_front c) (spent_front (bucket_less g (trimmed_bucket 1 c))) d pool
-    ∙ ap (λ (x : Bool). x || in_front (spent_front (bucket_less g (trimmed_bucket 1 c))) (without_front (spent_front c) d) pool)
+    ∙ in_front-add (spent_front c) (spent_front (bucket_less g (bucket_but_front 1 c))) d pool
+    ∙ ap (λ (x : Bool). x || in_front (spent_front (bucket_less g (bucket_but_front 1 c))) (without_front (spent_front c) d) pool)
     (ap (λ (x : Bucket). in_front (spent_front c) x pool) (sym twice) ∙ in_front-less g (spent_front c) c pool)
-    ∙ ap (λ (x : Bucket). goes c pool || in_front (spent_front (bucket_less g (trimmed_bucket 1 c))) x pool) rest
+    ∙ ap (λ (x : Bucket). goes c pool || in_front (spent_front (bucket_less g (bucket_but_front 1 c))) x pool) rest
 goes_law true false f g b pool quiet = ap (λ (x : Bucket). goes x pool) (quiet refl) ∙ or-false (goes (bucket_less f b) pool)
 goes_law false true f g b pool quiet = ap (λ (x : Bucket). goes x pool) (sym (less-less f g b))
 goes_law false false f g b pool quiet = refl

@@ -6,7 +6,7 @@ use Rattle.gpu_descriptor.proofs.Common.{cases_Bool, cases_eq, and_parts, and_fr
 use Rattle.gpu_descriptor.proofs.Common.{sum_by-cons, Pool, live_sets, LiveSet, set_eq, times, bool_iff, any_found}
 use Rattle.gpu_descriptor.proofs.Common.{any_from, count_by_yes, count_by_no, DescriptorSet, set_of, State, Item}
 use Rattle.gpu_descriptor.proofs.Common.{item_eq, count_of, live_in, AreOutstanding, Agree, Key, key_eq, Entry, Bucket}
-use Rattle.gpu_descriptor.proofs.Common.{entry_at, common_steps, IsTakenAt, names_of, bucket_back, trimmed_bucket}
+use Rattle.gpu_descriptor.proofs.Common.{entry_at, common_steps, IsTakenAt, names_of, bucket_back, bucket_but_front}
 use Rattle.gpu_descriptor.proofs.Common.{entry_less, pool_less, given_back, fronts_gone, released, spent_front}
 use Rattle.gpu_descriptor.proofs.Common.{pools_gone, in_front, item_of, items_of, AllPass}
 use Rattle.gpu_descriptor.specs.Inner.RunSteps.{lies_at}
@@ -136,7 +136,7 @@ module _ {S : Type 0} (name : S → ℕ) where
 
   -- THE FRONT OF THE RUN'S KEY
   pub front_run : (x : DescriptorSet S) (xs : List (DescriptorSet S)) → AllPass (lies_at x.key.is x.number) xs → (books : Key → Bucket) (b : Bucket) (pools : ℕ → Option Pool)
-      → fronts_gone (items_of name (x ∷ xs)) (record { books = put_books books x.key.is b; ledger = pools }) ≡ record { books = put_books books x.key.is (trimmed_bucket 1 b); ledger = trimmed_pools b pools }
+      → fronts_gone (items_of name (x ∷ xs)) (record { books = put_books books x.key.is b; ledger = pools }) ≡ record { books = put_books books x.key.is (bucket_but_front 1 b); ledger = trimmed_pools b pools }
   front_run x xs have books b pools =
       let k = x.key.is in
       let m = items_of name (x ∷ xs) in
@@ -147,11 +147,11 @@ module _ {S : Type 0} (name : S → ℕ) where
       let only : (l : Key) → names_key m l ≡ true → k ≡ l = λ l h.
       let who = any_found item_exact (λ u. key_eq u.key l) m h in
       sym (run who.0 who.1).0 ∙ key_exact.same who.0.key l who.2 in
-      let books_are : (fronts_gone m s).books ≡ put_books books k (trimmed_bucket 1 b) = fun_ext (λ l. elim (cases_Bool (key_eq k l)) [
+      let books_are : (fronts_gone m s).books ≡ put_books books k (bucket_but_front 1 b) = fun_ext (λ l. elim (cases_Bool (key_eq k l)) [
         | inl is ↦ (
             let same = key_exact.same k l is in
-            let here : put_books books k (trimmed_bucket 1 b) l ≡ trimmed_bucket 1 b = rw is refl in
-            let there : (fronts_gone m s).books k ≡ trimmed_bucket 1 b = rw named (ap (trimmed_bucket 1) own) in
+            let here : put_books books k (bucket_but_front 1 b) l ≡ bucket_but_front 1 b = rw is refl in
+            let there : (fronts_gone m s).books k ≡ bucket_but_front 1 b = rw named (ap (bucket_but_front 1) own) in
             ap (fronts_gone m s).books (sym same) ∙ there ∙ sym here)
         | inr other ↦ (
             let unnamed : names_key m l ≡ false = false_from_ne_true (names_key m l) (λ h. let bad : true ≡ false = sym (ap (key_eq k) (sym (only l h)) ∙ key_exact.self k) ∙ other in cc) in
@@ -170,7 +170,7 @@ module _ {S : Type 0} (name : S → ℕ) where
   -- THE STATE AFTER ONE RUN
   pub whole_run : (s : State) → Agree s → (x : DescriptorSet S) (xs : List (DescriptorSet S)) → AllPass (lies_at x.key.is x.number) xs → (i : ℕ) (e : Entry) → slice_get (s.books x.key.is).pools i ≡ Some e → e.number ≡ x.number
       → (c : Bucket) (pools : ℕ → Option Pool)
-      → c ≡ trimmed_bucket 1 (bucket_back (s.books x.key.is) i (length (names_of name (x ∷ xs))) e)
+      → c ≡ bucket_but_front 1 (bucket_back (s.books x.key.is) i (length (names_of name (x ∷ xs))) e)
       → pools
       ≡ trimmed_pools (bucket_back (s.books x.key.is) i (length (names_of name (x ∷ xs))) e)
       (taken_from s.ledger e.pool (live_sets x.key.is.counts (names_of name (x ∷ xs))))
@@ -179,7 +179,7 @@ module _ {S : Type 0} (name : S → ℕ) where
       let k = x.key.is in
       let b = bucket_back (s.books k) i (length (names_of name (x ∷ xs))) e in
       let after = taken_from s.ledger e.pool (live_sets k.counts (names_of name (x ∷ xs))) in
-      let left : ◌≡◌ {A = State} (record { books = put_books s.books k c; ledger = pools }) (record { books = put_books s.books k (trimmed_bucket 1 b); ledger = trimmed_pools b after }) = λ z. record { books = put_books s.books k (is z); ledger = are z } in
+      let left : ◌≡◌ {A = State} (record { books = put_books s.books k c; ledger = pools }) (record { books = put_books s.books k (bucket_but_front 1 b); ledger = trimmed_pools b after }) = λ z. record { books = put_books s.books k (is z); ledger = are z } in
       left ∙ sym (front_run x xs have s.books b after) ∙ ap (fronts_gone (items_of name (x ∷ xs))) (sym (given_run s agree x xs have i e at named))
 
   -- what is 0 at all other keys adds up to what it is at one that is there once

@@ -238,7 +238,7 @@ grow_stop why {most} {k} {start} {n} {id} {old = old} {m = m} some s same_sets s
 )
   where
     stops_at : (why : Stop) → IsFreshPrefix most k start (allocated_in (all_shared s.refused n old)) (rest s.refused n old) s.fresh → StopsAtNew why k (room_after k start s.fresh) → StopsAt why most k start n (all_so_far id s.refused s.fresh s.parts) old
-    stops_at (stop.ExistingPoolRefused e) front none = absurd none
+    stops_at (stop.ExistingPoolWithoutMemory e) front none = absurd none
     stops_at why front none = (refl, front, none)
 
 -- ---- the descriptors of a key's pools, as a request goes on

@@ -5,7 +5,7 @@ use Rattle.gpu_descriptor.proofs.Common.{length-map, map-set, length-set, slice_
 use Rattle.gpu_descriptor.proofs.Common.{cases_lt, slice_get, option_map, Ledger, Counters, DescriptorPool, Item, Key}
 use Rattle.gpu_descriptor.proofs.Common.{Entry, DeviceAllocationError, AreBookedIn, IsBookedIn, free_in, open_numbers}
 use Rattle.gpu_descriptor.proofs.Common.{entry_of, IsAsked, IsNoMemory, IsTaken, items_at}
-use Rattle.gpu_descriptor.specs.declared.bucket.stop.Stop.TheVariants.{ExistingPoolRefused}
+use Rattle.gpu_descriptor.specs.declared.bucket.stop.Stop.TheVariants.{ExistingPoolWithoutMemory}
 use Rattle.gpu_descriptor.proofs.table.Exact.{bucket}
 use Rattle.gpu_descriptor.proofs.lists.OpenList.{listed_closes, listed_stays}
 use Rattle.gpu_descriptor.proofs.lists.OpenNumbers.{IsNewestOpen, newest_open, open_all_none}
@@ -106,7 +106,7 @@ module _ {P : Type 0} {name : P → ℕ} {k : Key} {n id first wanting : ℕ} {o
             })
 
         pub open_walk_stop : {own : ℕ} (room : ℕ) (error : DeviceAllocationError) (m' : Ledger) → id ≡ own → entry_of name q ≡ entry_of name p → IsNoMemory wanting (entry_of name p) error m m'
-            → IsTaken (Err (ExistingPoolRefused error)) None k room n out (bucket own old) (bucket id (map (entry_of name) (slice_set items place q))) l m'
+            → IsTaken (Err (ExistingPoolWithoutMemory error)) None k room n out (bucket own old) (bucket id (map (entry_of name) (slice_set items place q))) l m'
         open_walk_stop room error m' ids same none = rw (sym ids, map-set (entry_of name) items place q) (walk_stop k room n id place wanting out old (map (entry_of name) items) l m m' (entry_of name p) (entry_of name q) error walk_reaches was entry_at_place same none)
 
         pub listed_now_same : entry_of name q ≡ entry_of name p → numbers ≡ open_numbers first (free_in (slice_set items place q))

@@ -39,7 +39,7 @@ had_taken (Ok x) most k room n items old new l m t = record { g = t.0; grant = t
 had_taken (Err why) most k room n items old new l m t = record { g = t.0; grant = t.2.grant; made = made_before why t.3; came = t.2.came; bucket = t.2.bucket; ledger = t.4.pools ∙ t.2.pools }
   where
     made_before : (why : Stop) → StopsAt why most k room n t.0 old.pools → AreMade t.0.fresh
-    made_before (stop.ExistingPoolRefused e) at = subst AreMade (sym at.no_fresh) tt
+    made_before (stop.ExistingPoolWithoutMemory e) at = subst AreMade (sym at.no_fresh) tt
     made_before why at = made_prefix most k t.0.fresh _ _ _ at.1.sized at.1.full
 
 module _ {L P S : Type 0} {means : Meaning L P S} {k : Key} {count : ℕ} {sets : List (DescriptorSet S)} {ended : Result (Unit {0}) Stop} {old new : Allocations P} {before after : Ledger}

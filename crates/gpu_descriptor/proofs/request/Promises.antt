@@ -111,7 +111,7 @@ fits {one = one} {room = room} told other = elim (cases_lt room one) [ inl lt �
 
 module _ (c : Call) where
   stop_short : (s : IsStopped c) (why : Stop) → IsBack c s.grant why → StopsAt why c.most c.key (c.limit - c.pooled) c.count s.grant (c.old.books c.key).pools → c.before.created < c.after.created → IsShort c s.grant
-  stop_short s (stop.ExistingPoolRefused e) back at more =
+  stop_short s (stop.ExistingPoolWithoutMemory e) back at more =
       let n = ap (λ (k : Counters). k.created) back.counters in
       let none = alloc_creates e in
       let f = ap length at.no_fresh in

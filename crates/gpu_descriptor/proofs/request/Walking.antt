@@ -6,7 +6,7 @@ use Rattle.gpu_descriptor.proofs.Common.{Key, Entry, Bucket, Item, Pool, Ledger,
 use Rattle.gpu_descriptor.proofs.Common.{set_at, update_apart, items_of, Part, items_at, pool_with, ledger_with, rest}
 use Rattle.gpu_descriptor.proofs.Common.{all_shared, IsBookedIn, AreBookedIn, IsAsked, IsNoMemory, HasTaken, IsWalked}
 use Rattle.gpu_descriptor.proofs.Common.{IsTaken, option_map}
-use Rattle.gpu_descriptor.specs.declared.bucket.stop.Stop.TheVariants.{ExistingPoolRefused}
+use Rattle.gpu_descriptor.specs.declared.bucket.stop.Stop.TheVariants.{ExistingPoolWithoutMemory}
 use Rattle.std.proofs.Math.Seq.{take-length}
 use Rattle.gpu_descriptor.proofs.table.Exact.{bucket}
 use Rattle.gpu_descriptor.proofs.request.Asks.{none_with, same_counters, skipped}
@@ -85,7 +85,7 @@ walk_end ids s = rw (sym ids) (record { grant = so_far _ 0 s.refused s.parts; al
 
 pub walk_stop : (k : Key) (room n id i wanting : ℕ) (items : List Item) (old new : List Entry) (l m m' : Ledger) (e f : Entry) (error : DeviceAllocationError)
     → Walking k n id (suc i) wanting items old new l m → slice_get old i ≡ Some e → slice_get new i ≡ Some e → f ≡ e → IsNoMemory wanting e error m m'
-    → IsTaken (Err (ExistingPoolRefused error)) None k room n items (bucket id old) (bucket id (slice_set new i f)) l m'
+    → IsTaken (Err (ExistingPoolWithoutMemory error)) None k room n items (bucket id old) (bucket id (slice_set new i f)) l m'
 walk_stop k room n id i wanting items old new l m m' e f error s was is same none = (
   so_far id (suc i) s.refused s.parts,
   m,

@@ -28,7 +28,7 @@ pub record IsRefused (why : Stop) (before after : Ledger) : Type 0 where
 pub record IsNoMemory (wanted : ℕ) (e : Entry) (error : DeviceAllocationError) (before after : Ledger) : Type 0 where
   pub asked : nat_lt 0 e.available && nat_lt 0 wanted ≡ true
   pub memory : pool_refusals error ≡ 0
-  pub refused : IsRefused (stop.ExistingPoolRefused error) before after
+  pub refused : IsRefused (stop.ExistingPoolWithoutMemory error) before after
 
 -- a request of n sets took so much of a key's pools, and these sets came
 pub record HasTaken (k : Key) (n : ℕ) (g : Grant) (items : List Item) (old new : Bucket) (before after : Ledger) : Type 0 where

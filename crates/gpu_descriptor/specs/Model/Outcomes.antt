@@ -82,7 +82,7 @@ pub record Call : Type 0 where
 
 -- what the request returns then
 abbrev pub stop_error : Stop → AllocationError
-stop_error (stop.ExistingPoolRefused error) = error_of_alloc error
+stop_error (stop.ExistingPoolWithoutMemory error) = error_of_alloc error
 stop_error stop.NoRoomUnderLimit = Fragmentation
 stop_error stop.NoMemoryForPool = OutOfHostMemory
 stop_error (stop.PoolNotCreated error) = error_of_create error
@@ -90,7 +90,7 @@ stop_error (stop.NewPoolRefused error) = error_of_alloc error
 
 -- by how much it raises the counters. A new pool that refused was created and destroyed
 abbrev pub stop_rise : Stop → Counters
-stop_rise (stop.ExistingPoolRefused e) = alloc_refused e no_rise
+stop_rise (stop.ExistingPoolWithoutMemory e) = alloc_refused e no_rise
 stop_rise stop.NoRoomUnderLimit = no_rise
 stop_rise stop.NoMemoryForPool = no_rise
 stop_rise (stop.PoolNotCreated e) = create_refused e no_rise
@@ -109,12 +109,12 @@ pub record EndsAtPool (n : ℕ) (pools : List Entry) (error : DeviceAllocationEr
 
 -- no new pool came: for want of room exactly if not even one of one set fits
 abbrev pub StopsAtNew : Stop → Key → ℕ → Type 0
-StopsAtNew (stop.ExistingPoolRefused e) k room = ⊥
+StopsAtNew (stop.ExistingPoolWithoutMemory e) k room = ⊥
 StopsAtNew why k room = (why ≡ stop.NoRoomUnderLimit) ↔ (room < pool_descriptors k 1)
 
 -- what had been taken then: of the existing pools, or of all these and a prefix of new ones
 abbrev pub StopsAt : Stop → Option ℕ → Key → (room n : ℕ) → Grant → List Entry → Type 0
-StopsAt (stop.ExistingPoolRefused e) most k room n g old = EndsAtPool n old e g
+StopsAt (stop.ExistingPoolWithoutMemory e) most k room n g old = EndsAtPool n old e g
 StopsAt why most k room n g old = (g.skipped ≡ 0) × IsFreshPrefix most k room (allocated_in (all_shared g.refused n old)) (rest g.refused n old) g.fresh × StopsAtNew why k (room_after k room g.fresh)
 
 -- ---- the outcomes

@@ -1,12 +1,11 @@
 //! Handing out sets of a layout that is kept with its counts and flags.
-ghost use Rattle.std.specs.Prelude.{◌≡◌, ◌++◌, [], ◌∷◌, IfOk, OnOk, OnErr};
+ghost use Rattle.std.specs.Prelude.{[], ◌∷◌, IfOk};
 ghost use Rattle.gpu_descriptor_types.specs.Meaning.{IsOfLayout};
 ghost use Rattle.gpu_descriptor_types.specs.Side.{side};
 ghost use Rattle.gpu_descriptor.specs.Caller.Call.{layout_key, map_ok};
 ghost use Rattle.gpu_descriptor.specs.Caller.HandsOut.{HandsInto, HandsOut};
 ghost use Rattle.gpu_descriptor.specs.Caller.Keeps.{Keeps};
 ghost use Rattle.gpu_descriptor.specs.Caller.SetLayouts.{IsMeant};
-ghost use Rattle.gpu_descriptor.specs.Caller.SetLists.{appended};
 ghost use Rattle.gpu_descriptor.specs.Caller.Sets.{AreOfLayout, raw_of};
 ghost use Rattle.gpu_descriptor.specs.Caller.States.{Agrees};
 
@@ -35,7 +34,10 @@ impl<P: Drop, S: Drop> DescriptorAllocator<P, S> {
         ensures keeps { Keeps D.meaning (side self.old (D.ledger device.old))
             (side self.new (D.ledger device.new)) }
     {
-        self.allocate(device, &layout.layout, layout.flags, &layout.counts, count)
+        let none = Vec::new(self.alloc);
+        let (sets, answer) = self.append_sets(device, &layout.layout, layout.key(), count, none);
+        answer?;
+        Ok(sets)
     }
 
     /// The same as `allocate_for`, but the sets are appended to a vector. It grows only if it has no

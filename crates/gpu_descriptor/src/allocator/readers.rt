@@ -18,8 +18,7 @@ impl<P, S> DescriptorAllocator<P, S> {
         self.outstanding
     }
 
-    /// How many descriptors the outstanding sets of layouts have that are marked as
-    /// update-after-bind.
+    /// How many descriptors the outstanding sets of update-after-bind layouts have.
     pub fn update_after_bind_descriptors(&self) -> u32
         ensures sum { result ≡ marked_load_of self.now }
         ensures within { result ≤ self.now.limit }

@@ -3,13 +3,11 @@ ghost use Rattle.std.specs.Prelude.{◌≡◌, ◌+◌, ◌*◌, ◌<◌, ◌++�
 ghost use Rattle.std.specs.Prelude.{IfOk, IfErr, OnOk, OnErr};
 ghost use Rattle.gpu_descriptor_types.specs.Counts.{kinds};
 ghost use Rattle.gpu_descriptor_types.specs.Side.{side};
-ghost use Rattle.gpu_descriptor.specs.Caller.Call.{call_of, layout_key, map_ok};
-ghost use Rattle.gpu_descriptor.specs.Caller.Flags.{is_marked};
+ghost use Rattle.gpu_descriptor.specs.Caller.Call.{call_of, layout_key};
 ghost use Rattle.gpu_descriptor.specs.Caller.HandsOut.{HandsInto};
 ghost use Rattle.gpu_descriptor.specs.Caller.Keeps.{Keeps};
 ghost use Rattle.gpu_descriptor.specs.Caller.Keys.{with_key};
 ghost use Rattle.gpu_descriptor.specs.Caller.SetLists.{appended};
-ghost use Rattle.gpu_descriptor.specs.Caller.Sets.{AreOfLayout, PutsOfLayout};
 ghost use Rattle.gpu_descriptor.specs.Caller.States.{Agrees, keys_of, marked_load_of};
 ghost use Rattle.gpu_descriptor.specs.Inner.KeyOf.{key_of};
 ghost use Rattle.gpu_descriptor.specs.Inner.OpenPools.{CountsLooks};
@@ -21,11 +19,9 @@ use crate::bucket::request_sink::RequestSink;
 use crate::bucket::stop::{Stop, error_of};
 use crate::bucket::would_exceed_64_bits;
 use crate::errors::AllocationError;
-use crate::flags::DescriptorSetLayoutCreateFlags;
 use crate::key::BucketKey;
 use crate::places::SetPlaces;
-use bitflags::Flags;
-use gpu_descriptor_types::{DescriptorDevice, DescriptorTotalCount};
+use gpu_descriptor_types::DescriptorDevice;
 use std::marker::PhantomData;
 
 impl<P: Drop, S> DescriptorAllocator<P, S> {
@@ -99,9 +95,8 @@ impl<P: Drop, S> DescriptorAllocator<P, S> {
         }
     }
 
-    /// Takes the sets of a request and counts those that came, unless all of them would exceed the
-    /// limit or 64 bits. On an error nothing was taken. Where the inner result says that the request
-    /// stopped short, the sets that came are the caller's to free.
+    /// Takes the sets of a request, and counts those that came. On an error nothing was taken. If the
+    /// inner result is an error, the request stopped short, and the caller frees what came.
     ///
     /// New pools are held against the limit where they are created, by the room in the budget.
     fn serve_if_allowed<'k, L, D: DescriptorDevice<L, P, S>, K: SetPlaces<S>>(
@@ -155,7 +150,6 @@ impl<P, S> DescriptorAllocator<P, S> {
     {
         let unused = self.max_update_after_bind_descriptors_in_all_pools
             - self.update_after_bind_descriptors;
-        key.marked
-            && u128::from(count) * u128::from(key.counts.total()) > u128::from(unused)
+        key.marked && u128::from(count) * u128::from(key.counts.total()) > u128::from(unused)
     }
 }

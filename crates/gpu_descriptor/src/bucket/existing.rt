@@ -3,7 +3,7 @@ ghost use Rattle.std.specs.Prelude.{◌≡◌, ◌+◌, ◌<◌, ◌≤◌, ◌+
 ghost use Rattle.std.specs.Prelude.{IfErr, OnOk, Err, None};
 ghost use Rattle.std.specs.VecDeque.{deque_capacity};
 ghost use Rattle.gpu_descriptor.specs.declared.set.DescriptorSet.{DescriptorSet};
-ghost use Rattle.gpu_descriptor.specs.declared.bucket.stop.Stop.TheVariants.{ExistingPoolRefused};
+ghost use Rattle.gpu_descriptor.specs.declared.bucket.stop.Stop.TheVariants.{ExistingPoolWithoutMemory};
 ghost use Rattle.gpu_descriptor.specs.Caller.SetLists.{appended};
 ghost use Rattle.gpu_descriptor.specs.Caller.Sets.{PutsOfLayout, items_of};
 ghost use Rattle.gpu_descriptor.specs.Inner.Buckets.{IsBookedIn, AreBookedIn};
@@ -24,9 +24,10 @@ use crate::bucket::{DescriptorBucket, DescriptorPool};
 use crate::places::SetPlaces;
 use gpu_descriptor_types::{DescriptorDevice, DeviceAllocationError, Layouts, Tally};
 
-/// Asks a pool for what it has of the sets that are left to come.
+/// Asks a pool with known free places for what it has of the sets that are left to come.
 ///
-/// Where the pool refuses, its places are no longer known, and none came.
+/// A pool that refuses as fragmented or full has no known free places from then on. Want of memory is
+/// returned. Neither gives a set.
 #[inline]
 fn ask<L, P, S, D: DescriptorDevice<L, P, S>, K: SetPlaces<S>>(
     device: &mut D,
@@ -36,6 +37,8 @@ fn ask<L, P, S, D: DescriptorDevice<L, P, S>, K: SetPlaces<S>>(
 ) -> Result<(), DeviceAllocationError>
     requires booked { IsBookedIn (key_of request.now.key) (D.ledger device.old).pools
         (entry_of D.meaning.pool_name pool.old) }
+    requires some { 0 < sink.old.left }
+    requires free { 0 < pool.old.available }
     ensures asked { OnOk result ((put : List S) ×
         (K.items sink.new.sets ≡ K.items sink.old.sets ++ map (set_at (key_of sink.old.key.now)
         sink.old.id sink.old.number) put) × (sink.new.left + length put ≡ sink.old.left) ×
@@ -50,9 +53,6 @@ fn ask<L, P, S, D: DescriptorDevice<L, P, S>, K: SetPlaces<S>>(
         (entry_of D.meaning.pool_name pool.old) e (D.ledger device.old) (D.ledger device.new)) }
 {
     let count = sink.left.min(pool.available);
-    if count == 0 {
-        return Ok(());
-    }
     match device.alloc_descriptor_sets(&mut pool.raw, Layouts::new(request.layout, count), sink) {
         Ok(()) => {
             pool.allocated += count;
@@ -70,8 +70,7 @@ fn ask<L, P, S, D: DescriptorDevice<L, P, S>, K: SetPlaces<S>>(
     }
 }
 
-/// Asks the pools for sets that have known free places, the newest first, until none are left to
-/// come.
+/// Asks the pools with known free places, the newest first, until no set is left to come.
 #[inline(always)]
 fn walk<'k, L, P, S, D: DescriptorDevice<L, P, S>, K: SetPlaces<S>>(
     device: &mut D,
@@ -91,7 +90,7 @@ fn walk<'k, L, P, S, D: DescriptorDevice<L, P, S>, K: SetPlaces<S>>(
         (D.ledger device.old) (D.ledger device.new)) }
     ensures stopped { IfErr result (λ e. (put : List (DescriptorSet S)) ×
         (K.items sink.new.sets ≡ K.items sink.old.sets ++ put) ×
-        (length put + sink.new.left ≡ request.now.count) × IsTaken (Err (ExistingPoolRefused e))
+        (length put + sink.new.left ≡ request.now.count) × IsTaken (Err (ExistingPoolWithoutMemory e))
         None (key_of request.now.key) 0 request.now.count (items_of D.meaning.set_name put)
         (bucket_in D.meaning.pool_name view.old) (bucket_in D.meaning.pool_name view.new)
         (D.ledger device.old) (D.ledger device.new)) }
@@ -134,7 +133,7 @@ impl<P> DescriptorBucket<P> {
             (appended (K.items sink.old.sets) (K.items sink.new.sets)))
             (bucket_of D.meaning.pool_name self.old) (bucket_of D.meaning.pool_name self.new)
             (D.ledger device.old) (D.ledger device.new)) }
-        ensures stopped { IfErr result (λ e. IsTaken (Err (ExistingPoolRefused e))
+        ensures stopped { IfErr result (λ e. IsTaken (Err (ExistingPoolWithoutMemory e))
             None (key_of request.now.key) 0 request.now.count
             (items_of D.meaning.set_name
             (appended (K.items sink.old.sets) (K.items sink.new.sets)))

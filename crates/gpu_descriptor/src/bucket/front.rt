@@ -2,7 +2,7 @@
 ghost use Rattle.std.specs.Prelude.{◌≡◌, ◌+◌, ◌<◌, ◌^◌, drop, false, true};
 ghost use Rattle.std.specs.VecDeque.{deque_capacity};
 ghost use Rattle.gpu_descriptor.specs.Model.Books.{Key};
-ghost use Rattle.gpu_descriptor.specs.Inner.Buckets.{AreBookedIn, trimmed_bucket, trimmed_ledger};
+ghost use Rattle.gpu_descriptor.specs.Inner.Buckets.{AreBookedIn, bucket_but_front, ledger_but_front};
 ghost use Rattle.gpu_descriptor.specs.Inner.KeyOf.{key_of};
 ghost use Rattle.gpu_descriptor.specs.Inner.Stored.{bucket_of, stored_load};
 
@@ -37,9 +37,9 @@ impl<P> DescriptorBucket<P> {
         requires room { room.old + stored_load (key_of key.now) self.old.pools.items < 2 ^ 32 }
         requires stored { (k : Key) × AreBookedIn k (D.ledger device.old).pools
             (bucket_of D.meaning.pool_name self.old).pools }
-        ensures books { bucket_of D.meaning.pool_name self.new ≡ trimmed_bucket keep
+        ensures books { bucket_of D.meaning.pool_name self.new ≡ bucket_but_front keep
             (bucket_of D.meaning.pool_name self.old) }
-        ensures ledger { D.ledger device.new ≡ trimmed_ledger keep
+        ensures ledger { D.ledger device.new ≡ ledger_but_front keep
             (bucket_of D.meaning.pool_name self.old) (D.ledger device.old) }
         ensures total { self.new.total ≡ self.old.total }
         ensures room { room.new + stored_load (key_of key.now) self.new.pools.items

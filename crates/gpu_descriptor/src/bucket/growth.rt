@@ -37,17 +37,14 @@ fn pool_flags(marked: bool) -> DescriptorPoolCreateFlags
     ensures { bits result ≡ pool_flags_of marked }
 {
     let mut flags = DescriptorPoolCreateFlags::FREE_DESCRIPTOR_SET;
-    flags.set(
-        DescriptorPoolCreateFlags::UPDATE_AFTER_BIND,
-        marked,
-    );
+    flags.set(DescriptorPoolCreateFlags::UPDATE_AFTER_BIND, marked);
     flags
 }
 
-/// The counts of a key's next pool without a bound on its descriptors, and how many sets it holds;
-/// `None` where the limit leaves no room for one.
+/// The counts of a key's next pool within the limit, and how many sets it holds; `None` if the limit
+/// leaves no room for one.
 #[inline]
-fn unbounded_size(
+fn size_in_room(
     key: &BucketKey,
     total: u64,
     wanted: u32,
@@ -68,7 +65,7 @@ fn unbounded_size(
     }
 }
 
-/// The same with the bound, where there is one.
+/// The counts and the sets of a key's next pool, within the limit and the bound.
 #[inline]
 fn next_size(
     key: &BucketKey,
@@ -87,14 +84,15 @@ fn next_size(
         × (pool_descriptors (key_of key.now) pool.1 < 2 ^ 32)) }
     ensures none { IfNone result (room < pool_descriptors (key_of key.now) 1) }
 {
-    let size = unbounded_size(key, total, wanted, room)?;
+    let size = size_in_room(key, total, wanted, room)?;
     Some(bounded_pool_size(&key.counts, size, wanted, most))
 }
 
 impl<P> DescriptorBucket<P> {
     /// Creates a pool, and takes what it has of the sets that are left to come.
     ///
-    /// A pool of a marked key takes of the room what descriptors it has.
+    /// A pool of a marked key takes of the room what descriptors it has. A pool that refuses is
+    /// destroyed.
     #[inline(never)]
     pub(crate) fn take_from_new<'k, L, S, D: DescriptorDevice<L, P, S>, K: SetPlaces<S>>(
         &mut self,
@@ -183,7 +181,7 @@ impl<P> DescriptorBucket<P> {
         self.listed.reserve(wanting)
     }
 
-    /// Appends a new pool.
+    /// Appends a new pool, counts its sets, and lists it if it has free places.
     fn push(&mut self, pool: DescriptorPool<P>)
         requires number { pool.number ≡ number_after (stored_numbers self.old.pools.items) }
         requires numbers { pool.number + 1 < 2 ^ 64 }

@@ -96,7 +96,7 @@ impl<P: Drop> DescriptorBucket<P> {
             (D.ledger device.old) (D.ledger device.new) }
     {
         self.take_from_existing(device, request, &mut budget.looks, sink)
-            .map_err(Stop::ExistingPoolRefused)?;
+            .map_err(Stop::ExistingPoolWithoutMemory)?;
         while sink.left > 0 {
             self.take_from_new(device, request, budget, sink)?;
         }

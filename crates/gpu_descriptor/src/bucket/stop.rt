@@ -10,7 +10,7 @@ use gpu_descriptor_types::{CreatePoolError, DeviceAllocationError};
 #[derive(Clone, Copy)]
 pub(crate) enum Stop {
     /// An existing pool returned that memory is wanting.
-    ExistingPoolRefused(DeviceAllocationError),
+    ExistingPoolWithoutMemory(DeviceAllocationError),
 
     /// The limit leaves no room for a new pool.
     NoRoomUnderLimit,
@@ -30,7 +30,7 @@ pub(crate) fn error_of(stop: Stop) -> AllocationError
     ensures { result ≡ stop_error stop }
 {
     match stop {
-        Stop::ExistingPoolRefused(error) => error_of_pool(error),
+        Stop::ExistingPoolWithoutMemory(error) => error_of_pool(error),
         Stop::NoRoomUnderLimit => AllocationError::Fragmentation,
         Stop::NoMemoryForPool => AllocationError::OutOfHostMemory,
         Stop::PoolNotCreated(error) => AllocationError::from(error),

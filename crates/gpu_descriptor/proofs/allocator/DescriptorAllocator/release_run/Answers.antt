@@ -1,4 +1,4 @@
-use Rattle.gpu_descriptor.proofs.Common.{length, trimmed_bucket, ◌≡◌, ◌+◌, ◌-◌, ℕ, arith, refl, sym, ap, ◌∙◌, List, [], ◌∷◌, Some, subst, IsDistinct, Bucket, Key, key_eq, key_of, Allocations, DescriptorSet, items_of, state_of, binary_digits, rise_below, stored_load, set_descriptors}
+use Rattle.gpu_descriptor.proofs.Common.{length, bucket_but_front, ◌≡◌, ◌+◌, ◌-◌, ℕ, arith, refl, sym, ap, ◌∙◌, List, [], ◌∷◌, Some, subst, IsDistinct, Bucket, Key, key_eq, key_of, Allocations, DescriptorSet, items_of, state_of, binary_digits, rise_below, stored_load, set_descriptors}
 use Rattle.indexmap.specs.Layout.{set_value_at}
 use Rattle.gpu_descriptor.proofs.callers.HeldSets.{out_back, out_less}
 use Rattle.gpu_descriptor.proofs.release.LentRow.{row_open, row_stored, row_taken, row_ran, row_counted}
@@ -123,7 +123,7 @@ invariant_of-self-inside-2 g c =
     ids_put es c.place_of_id-place.result c.pair_mut-bucket.result.1.now c.destroy_empty_front.new.self
     (value_at es c.place_of_id-place.result _ _ c.pair_mut-bucket.ensures.value)
     (ap (λ (b : Bucket). b.id)
-    (c.destroy_empty_front.ensures.books ∙ ap (trimmed_bucket 1) c.release_sets-ahead.ensures.ran.2.books)) in
+    (c.destroy_empty_front.ensures.books ∙ ap (bucket_but_front 1) c.release_sets-ahead.ensures.ran.2.books)) in
     record {
       rising = ap (λ (ids : List ℕ). rise_below c.self.inside.table.next_id ids) same ∙ c.self.inside.table.rising;
       distinct = subst (IsDistinct key_eq) (sym (keys_at es c.place_of_id-place.result c.destroy_empty_front.new.self)) c.self.inside.table.distinct;

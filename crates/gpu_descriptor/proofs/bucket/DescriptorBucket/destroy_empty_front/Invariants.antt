@@ -1,4 +1,4 @@
-use Rattle.gpu_descriptor.proofs.Common.{◌≡◌, ◌+◌, length, Key, key_of, AreBookedIn, trimmed_bucket, trimmed_ledger, bucket_of, stored_load}
+use Rattle.gpu_descriptor.proofs.Common.{◌≡◌, ◌+◌, length, Key, key_of, AreBookedIn, bucket_but_front, ledger_but_front, bucket_of, stored_load}
 use Rattle.gpu_descriptor.proofs.bucket.DescriptorBucket.destroy_empty_front.Given as goal
 
 -- what is left to drop is what there was to drop
@@ -8,8 +8,8 @@ invariant-loop-self g l =
     let name = g.D.DescriptorDevice.meaning.pool_name in
     record {
       stored : (k : Key) × AreBookedIn k (ledger l.device).pools (bucket_of name l.self).pools;
-      books : trimmed_bucket l.fn.keep (bucket_of name l.self) ≡ trimmed_bucket l.fn.keep (bucket_of name l.fn.self);
-      ledger : trimmed_ledger l.fn.keep (bucket_of name l.self) (ledger l.device) ≡ trimmed_ledger l.fn.keep (bucket_of name l.fn.self) (ledger l.fn.device);
+      books : bucket_but_front l.fn.keep (bucket_of name l.self) ≡ bucket_but_front l.fn.keep (bucket_of name l.fn.self);
+      ledger : ledger_but_front l.fn.keep (bucket_of name l.self) (ledger l.device) ≡ ledger_but_front l.fn.keep (bucket_of name l.fn.self) (ledger l.fn.device);
       total : l.self.total ≡ l.fn.self.total;
       room : l.room + stored_load (key_of l.fn.key) l.self.pools.items ≡ l.fn.room + stored_load (key_of l.fn.key) l.fn.self.pools.items;
     }

@@ -6,7 +6,7 @@ use Rattle.gpu_descriptor.proofs.Common.{number_after, numbers_of, stored_load, 
 use Rattle.std.specs.Result.{is_ok}
 use mathlib.Core.Bool.{true≢false}
 use Rattle.gpu_descriptor.proofs.sums.PoolsLoad.{pools_load}
-use Rattle.gpu_descriptor.specs.declared.bucket.stop.Stop.TheVariants.{ExistingPoolRefused}
+use Rattle.gpu_descriptor.specs.declared.bucket.stop.Stop.TheVariants.{ExistingPoolWithoutMemory}
 use Rattle.gpu_descriptor.proofs.lists.Appended.{appended_more, front_more}
 use Rattle.gpu_descriptor.proofs.lists.Numbers.{next_push}
 use Rattle.gpu_descriptor.proofs.release.StoredNumbers.{numbers_stored}
@@ -23,7 +23,7 @@ module _ {P : Type 0} (name : P → ℕ) {k : Key} {n id own : ℕ} {items : Lis
   walked_load : {wanting : ℕ} → IsWalked k n wanting items (bucket id (map (entry_of name) old)) (bucket own (map (entry_of name) new)) l m → stored_load k new ≡ stored_load k old
   walked_load w = (let a = load_entries name k old in let b = load_entries name k new in let same = load_walked k n w.grant (bucket id (map (entry_of name) old)) (bucket own (map (entry_of name) new)) l m items w.taken w.no_fresh in omega arith)
 
-  stopped_load : {error : DeviceAllocationError} → IsTaken (Err (ExistingPoolRefused error)) None k 0 n items (bucket id (map (entry_of name) old)) (bucket own (map (entry_of name) new)) l m → stored_load k new ≡ stored_load k old
+  stopped_load : {error : DeviceAllocationError} → IsTaken (Err (ExistingPoolWithoutMemory error)) None k 0 n items (bucket id (map (entry_of name) old)) (bucket own (map (entry_of name) new)) l m → stored_load k new ≡ stored_load k old
   stopped_load t = (let a = load_entries name k old in let b = load_entries name k new in let same = load_walked k n t.0 (bucket id (map (entry_of name) old)) (bucket own (map (entry_of name) new)) l t.1 items t.2 t.3.no_fresh in omega arith)
 
 -- what is known of an Ok, and of an Err

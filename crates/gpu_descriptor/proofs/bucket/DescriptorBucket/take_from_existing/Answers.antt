@@ -6,7 +6,7 @@ use Rattle.gpu_descriptor.proofs.Common.{entry_of, free_in, number_after, number
 use Rattle.gpu_descriptor.proofs.Common.{stored_numbers, IsWalked}
 use Rattle.std.specs.declared.collections.VecDeque.{VecDeque}
 use Rattle.std.proofs.lemmas.Result.{IfErr-weaker, on_ok_weaker}
-use Rattle.gpu_descriptor.specs.declared.bucket.stop.Stop.TheVariants.{ExistingPoolRefused}
+use Rattle.gpu_descriptor.specs.declared.bucket.stop.Stop.TheVariants.{ExistingPoolWithoutMemory}
 use Rattle.gpu_descriptor.proofs.request.FreshNumbers.{numbers_walked}
 use Rattle.gpu_descriptor.proofs.request.Growing.{allocated_walked}
 use Rattle.gpu_descriptor.proofs.lists.Appended.{appended_is}
@@ -26,7 +26,7 @@ module _ {S : Type 0} (name : S → ℕ) (was : List (DescriptorSet S)) {now : L
     walked_as : {wanting : ℕ} → IsWalked k n wanting (items_of name put) old new l m → IsWalked k n wanting (items_of name (appended was now)) older newer l m
     walked_as w = rw (sym first, sym last, sym all) w
 
-    stopped_as : {error : DeviceAllocationError} → IsTaken (Err (ExistingPoolRefused error)) None k 0 n (items_of name put) old new l m → IsTaken (Err (ExistingPoolRefused error)) None k 0 n (items_of name (appended was now)) older newer l m
+    stopped_as : {error : DeviceAllocationError} → IsTaken (Err (ExistingPoolWithoutMemory error)) None k 0 n (items_of name put) old new l m → IsTaken (Err (ExistingPoolWithoutMemory error)) None k 0 n (items_of name (appended was now)) older newer l m
     stopped_as t = rw (sym first, sym last, sym all) t
 
 -- the bucket before and after, as the view has it
@@ -62,7 +62,7 @@ module _ {S : Type 0} (name : S → ℕ) (was now : List (DescriptorSet S)) wher
   module _ (k : Key) (n left : ℕ) (old new : Bucket) (l m : Ledger) where
     more : (r : Result (Unit {0}) DeviceAllocationError)
         → OnOk r ((put : List (DescriptorSet S)) × (now ≡ was ++ put) × (length put + left ≡ n) × IsWalked k n left (items_of name put) old new l m)
-        → IfErr r (λ e. (put : List (DescriptorSet S)) × (now ≡ was ++ put) × (length put + left ≡ n) × IsTaken (Err (ExistingPoolRefused e)) None k 0 n (items_of name put) old new l m)
+        → IfErr r (λ e. (put : List (DescriptorSet S)) × (now ≡ was ++ put) × (length put + left ≡ n) × IsTaken (Err (ExistingPoolWithoutMemory e)) None k 0 n (items_of name put) old new l m)
         → (allocated_in new.pools ≡ allocated_in old.pools + length (appended was now)) × (length (appended was now) + left ≡ n) × (numbers_of new.pools ≡ numbers_of old.pools)
     more (Ok done) walked stopped = (
       allocated_walked k n walked.3.grant old new l m _ walked.3.taken walked.3.no_fresh ∙ ap (λ j. allocated_in old.pools + j) (long walked.0 walked.1),

@@ -1,13 +1,8 @@
 use Rattle.gpu_descriptor.proofs.Common.{◌≡◌, ℕ, ◌+◌, ◌-◌, ◌<◌, ◌≤◌, List, [], length, map, refl, sym, ap, ◌∙◌, subst, arith, min, length-map, append-nil, if◌then◌else◌, Ledger, after_alloc, live_sets, pool_refusals, Entry, Key, key_of, entry_of, IsBookedIn, IsAsked}
 use Rattle.gpu_descriptor.proofs.request.PlacesFree.{can_give}
 use Rattle.gpu_descriptor.proofs.request.OwnLayout.{none_own, put_own}
-use Rattle.gpu_descriptor.proofs.request.Asks.{same_entry, skipped, given, refuses}
+use Rattle.gpu_descriptor.proofs.request.Asks.{same_entry, given, refuses}
 use Rattle.gpu_descriptor.proofs.bucket.existing.ask.Goals as goal
-
-pub returns-then-count-eq0-clause-asked : goal.returns-then-count-eq0-clause-asked
-returns-then-count-eq0-clause-asked g c =
-    let none : min c.args.sink.now.left c.args.pool.now.available ≡ 0 = (let a = c.min-count.ensures in let b = c.if-count-eq0.true in omega arith) in
-    ([], sym (append-nil (g.K.SetPlaces.items c.args.sink.now.sets)), omega arith, skipped (key_of c.args.request.now.key) c.args.sink.now.left (entry_of g.D.DescriptorDevice.meaning.pool_name c.args.pool.now) (g.D.DescriptorDevice.ledger c.args.device.now) none)
 
 pub alloc_descriptor_sets-requires-clause-fits : goal.alloc_descriptor_sets-requires-clause-fits
 alloc_descriptor_sets-requires-clause-fits g c =
@@ -28,7 +23,7 @@ returns-in-Ok-clause-asked g c =
     let names : List ℕ = map g.D.DescriptorDevice.meaning.set_name put.sets in
     let many : length put.sets ≡ c.min-count.result = put.many ∙ c.new.ensures.left in
     let long : length names ≡ min c.args.sink.now.left e.available = length-map put.sets g.D.DescriptorDevice.meaning.set_name ∙ many ∙ count in
-    let some : 0 < min c.args.sink.now.left e.available = (let ne = c.if-count-eq0.false in omega arith) in
+    let some : 0 < min c.args.sink.now.left e.available = (let free = c.requires.free in let wanted = c.requires.some in omega arith) in
     let counts : g.D.DescriptorDevice.meaning.counts c.args.request.now.layout.now ≡ key.counts = sym (ap (λ (k : Key). k.counts) c.args.request.now.same) in
     let is : m ≡ after_alloc e.pool (live_sets key.counts names) l = put.ledger ∙ ap (λ cs. after_alloc e.pool (live_sets cs names) l) (ap g.D.DescriptorDevice.meaning.counts c.new.ensures.layout ∙ counts) in
     let was = given key c.args.sink.now.left names e l m some long is in
@@ -46,7 +41,7 @@ returns-then-is_of_pool-clause-asked g c =
     let e : Entry = entry_of g.D.DescriptorDevice.meaning.pool_name c.args.pool.now in
     let l : Ledger = g.D.DescriptorDevice.ledger c.args.device.now in
     let m : Ledger = g.D.DescriptorDevice.ledger c.alloc_descriptor_sets.new.self in
-    let some : 0 < min c.args.sink.now.left e.available = (let ne = c.if-count-eq0.false in omega arith) in
+    let some : 0 < min c.args.sink.now.left e.available = (let free = c.requires.free in let wanted = c.requires.some in omega arith) in
     let of_pool : pool_refusals c.in-Err.error ≡ 1 = c.is_of_pool.ensures ∙ ap (λ b. if b then 1 else 0) c.if-is_of_pool.true in
     let was = refuses key c.args.sink.now.left c.in-Err.error e l m some of_pool err.ledger in
     let now : record e { available = 0 }

@@ -2,7 +2,7 @@ use Rattle.gpu_descriptor.proofs.Common.{◌≡◌, ℕ, ◌+◌, ◌++◌, List
 use Rattle.gpu_descriptor.proofs.Common.{sym, ap, ◌∙◌, arith, append_assoc, length-append, length-map, append-nil}
 use Rattle.gpu_descriptor.proofs.Common.{map-append, length-set, BucketKey, DescriptorSet, Key, key_of, set_at}
 use Rattle.gpu_descriptor.proofs.Common.{items_at, items_of, entry_of, newest_place, IsAsked}
-use Rattle.gpu_descriptor.proofs.request.OpenWalk.{open_walk_start, open_walk_more, open_walk_stop, walk_sated, walk_empty, next_is_booked, listed_now_closed, listed_now_open, listed_now_same, one_asked}
+use Rattle.gpu_descriptor.proofs.request.OpenWalk.{has_free, open_walk_start, open_walk_more, open_walk_stop, walk_sated, walk_empty, next_is_booked, listed_now_closed, listed_now_open, listed_now_same, one_asked}
 use Rattle.gpu_descriptor.proofs.request.OwnLayout.{none_own}
 use Rattle.gpu_descriptor.proofs.request.Passed.{passed}
 use Rattle.gpu_descriptor.proofs.request.Walking.{walk_end, items_of-sets_at}
@@ -47,7 +47,11 @@ returns-clause-walked g c =
 
 pub ask-requires : goal.ask-requires
 ask-requires g c =
-    record { booked = next_is_booked c.requires.booked c.loop-sink.invariant.walk c.loop-sink-test.true _ _ c.in-Some.ensures.last _ c.in-Some.ensures.value }
+    record {
+      booked = next_is_booked c.requires.booked c.loop-sink.invariant.walk c.loop-sink-test.true _ _ c.in-Some.ensures.last _ c.in-Some.ensures.value;
+      some = (let left = c.newest.ensures.left in let more = c.loop-sink-test.true in omega arith);
+      free = has_free c.requires.booked c.loop-sink.invariant.walk c.loop-sink-test.true _ _ c.in-Some.ensures.last _ c.in-Some.ensures.value;
+    }
 
 pub returns-in_err-ask-clause-stopped : goal.returns-in_err-ask-clause-stopped
 returns-in_err-ask-clause-stopped g c =
