@@ -27,7 +27,7 @@ pub(crate) struct KeyTable<P> {
     /// No key gets this id, or one above it.
     pub(crate) end_id: u64,
 
-    /// The place of the last call's key, which is a hint.
+    /// The place of the key that was found last, which is a hint.
     pub(crate) last: usize,
 }
 
@@ -107,7 +107,9 @@ impl<P> KeyTable<P> {
     {
         if let Some(place) = self.place_of_key(&request.key) {
             self.last = place;
-            return self.buckets[place].serve(device, request, budget, sink);
+            let bucket = &mut self.buckets[place];
+            bucket.prepare(request.count, sink)?;
+            return Ok(bucket.take(device, request, budget, sink));
         }
         self.serve_absent(device, request, budget, sink)
     }
@@ -136,11 +138,12 @@ impl<P> KeyTable<P> {
             listed: VecDeque::new(request.alloc),
             total: 0,
         };
-        let served = bucket.serve(device, request, budget, sink)?;
+        bucket.prepare(request.count, sink)?;
+        let ended = bucket.take(device, request, budget, sink);
         match self.buckets.insert(request.key, bucket) {
             Ok(_) => {
                 self.next_id += 1;
-                Ok(served)
+                Ok(ended)
             }
             Err(_) => unreachable!(),
         }

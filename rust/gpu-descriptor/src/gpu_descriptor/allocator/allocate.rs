@@ -4,6 +4,7 @@
 use super::DescriptorAllocator;
 use crate::gpu_descriptor::errors::AllocationError;
 use crate::gpu_descriptor::flags::DescriptorSetLayoutCreateFlags;
+use crate::gpu_descriptor::key::BucketKey;
 use crate::gpu_descriptor::set::DescriptorSet;
 use crate::gpu_descriptor_types::{DescriptorDevice, DescriptorTotalCount};
 use crate::kit::vec::Vec;
@@ -16,8 +17,9 @@ impl<P, S> DescriptorAllocator<P, S> {
     /// most once, and each for at most as many sets as it is known to have places for. A pool that
     /// refuses as fragmented or full is passed over. For the sets that are still wanting new pools are
     /// created. `new_pool_size` says how many sets a new pool has; for a marked (update-after-bind)
-    /// layout `cut_pool_size` cuts this number to the room that the limit leaves. A request for 0 sets
-    /// changes nothing and allocates nothing.
+    /// layout `cut_pool_size` cuts this number to the room that the limit leaves, and then
+    /// `bounded_pool_size` to the bound of `set_most_pool_descriptors`. A request for 0 sets changes
+    /// nothing and allocates nothing.
     ///
     /// If the request can't be met, a new pool that refused its sets is destroyed, and all sets that
     /// the request took are freed, in the order in which they came: neighbours of one pool by one
@@ -45,15 +47,9 @@ impl<P, S> DescriptorAllocator<P, S> {
         count: u32,
     ) -> Result<Vec<DescriptorSet<S>>, AllocationError>
     {
+        let key = BucketKey::of(layout_descriptor_count, flags);
         let none = Vec::new(self.alloc);
-        let (sets, answer) = self.append_sets(
-            device,
-            layout,
-            flags,
-            layout_descriptor_count,
-            count,
-            none,
-        );
+        let (sets, answer) = self.append_sets(device, layout, key, count, none);
         answer?;
         Ok(sets)
     }

@@ -18,7 +18,10 @@ impl<P, S> DescriptorAllocator<P, S> {
         count: u32,
     ) -> Result<Vec<DescriptorSet<S>>, AllocationError>
     {
-        self.allocate(device, &layout.layout, layout.flags, &layout.counts, count)
+        let none = Vec::new(self.alloc);
+        let (sets, answer) = self.append_sets(device, &layout.layout, layout.key(), count, none);
+        answer?;
+        Ok(sets)
     }
 
     /// The same as `allocate_for`, but the sets are appended to a vector. It grows only if it has no
@@ -33,14 +36,7 @@ impl<P, S> DescriptorAllocator<P, S> {
     ) -> Result<(), AllocationError>
     {
         let given = replace(sets, Vec::new(self.alloc));
-        let (given, answer) = self.append_sets(
-            device,
-            &layout.layout,
-            layout.flags,
-            &layout.counts,
-            count,
-            given,
-        );
+        let (given, answer) = self.append_sets(device, &layout.layout, layout.key(), count, given);
         *sets = given;
         answer
     }
@@ -52,14 +48,7 @@ impl<P, S> DescriptorAllocator<P, S> {
         layout: &SetLayout<L>,
     ) -> Result<DescriptorSet<S>, AllocationError>
     {
-        let (set, answer) = self.append_sets(
-            device,
-            &layout.layout,
-            layout.flags,
-            &layout.counts,
-            1,
-            None,
-        );
+        let (set, answer) = self.append_sets(device, &layout.layout, layout.key(), 1, None);
         answer?;
         match set {
             Some(set) => Ok(set),

@@ -13,8 +13,7 @@ impl<P, S> DescriptorAllocator<P, S> {
         self.outstanding
     }
 
-    /// How many descriptors the outstanding sets of layouts have that are marked as
-    /// update-after-bind.
+    /// How many descriptors the outstanding sets of update-after-bind layouts have.
     pub fn update_after_bind_descriptors(&self) -> u32
     {
         self.update_after_bind_descriptors
@@ -46,7 +45,7 @@ impl<P, S> DescriptorAllocator<P, S> {
     {
         let key = BucketKey {
             counts: *counts,
-            update_after_bind,
+            marked: update_after_bind,
         };
         match self.table.buckets.get(&key) {
             Some(bucket) => bucket.pools.len(),
@@ -65,7 +64,7 @@ impl<P, S> DescriptorAllocator<P, S> {
     {
         let key = BucketKey {
             counts: *counts,
-            update_after_bind,
+            marked: update_after_bind,
         };
         let bucket = self.table.buckets.get(&key)?;
         let pool = bucket.pools.get(index)?;

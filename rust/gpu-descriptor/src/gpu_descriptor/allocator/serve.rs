@@ -7,22 +7,20 @@ use crate::gpu_descriptor::bucket::request_sink::RequestSink;
 use crate::gpu_descriptor::bucket::stop::{Stop, error_of};
 use crate::gpu_descriptor::bucket::would_exceed_64_bits;
 use crate::gpu_descriptor::errors::AllocationError;
-use crate::gpu_descriptor::flags::DescriptorSetLayoutCreateFlags;
 use crate::gpu_descriptor::key::BucketKey;
 use crate::gpu_descriptor::places::SetPlaces;
-use crate::gpu_descriptor_types::{DescriptorDevice, DescriptorTotalCount};
+use crate::gpu_descriptor_types::DescriptorDevice;
 use crate::kit::marker::PhantomData;
 
 impl<P, S> DescriptorAllocator<P, S> {
-    /// Appends the sets of a request to a list, and returns that. On an error it has the sets that it
-    /// had. See `allocate`.
+    /// Appends sets of a layout to a list, and returns that. On an error it has the sets that it had.
+    /// See `allocate`.
     #[inline]
     pub(super) fn append_sets<L, D: DescriptorDevice<L, P, S>, K: SetPlaces<S>>(
         &mut self,
         device: &mut D,
         layout: &L,
-        flags: DescriptorSetLayoutCreateFlags,
-        layout_descriptor_count: &DescriptorTotalCount,
+        key: BucketKey,
         count: u32,
         sets: K,
     ) -> (K, Result<(), AllocationError>)
@@ -30,13 +28,9 @@ impl<P, S> DescriptorAllocator<P, S> {
         if count == 0 {
             return (sets, Ok(()));
         }
-        let update_after_bind = flags.contains(DescriptorSetLayoutCreateFlags::UPDATE_AFTER_BIND);
         let request = SetRequest {
             layout,
-            key: BucketKey {
-                counts: *layout_descriptor_count,
-                update_after_bind,
-            },
+            key,
             count,
             alloc: self.alloc,
             device: PhantomData,
@@ -69,9 +63,8 @@ impl<P, S> DescriptorAllocator<P, S> {
         }
     }
 
-    /// Takes the sets of a request and counts those that came, unless all of them would exceed the
-    /// limit or 64 bits. On an error nothing was taken. Where the inner result says that the request
-    /// stopped short, the sets that came are the caller's to free.
+    /// Takes the sets of a request, and counts those that came. On an error nothing was taken. If the
+    /// inner result is an error, the request stopped short, and the caller frees what came.
     ///
     /// New pools are held against the limit where they are created, by the room in the budget.
     fn serve_if_allowed<'k, L, D: DescriptorDevice<L, P, S>, K: SetPlaces<S>>(
@@ -102,7 +95,6 @@ impl<P, S> DescriptorAllocator<P, S> {
     {
         let unused = self.max_update_after_bind_descriptors_in_all_pools
             - self.update_after_bind_descriptors;
-        key.update_after_bind
-            && u128::from(count) * u128::from(key.counts.total_u64()) > u128::from(unused)
+        key.marked && u128::from(count) * u128::from(key.counts.total_u64()) > u128::from(unused)
     }
 }

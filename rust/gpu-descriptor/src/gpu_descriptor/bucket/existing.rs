@@ -9,9 +9,10 @@ use crate::gpu_descriptor::bucket::{DescriptorBucket, DescriptorPool};
 use crate::gpu_descriptor::places::SetPlaces;
 use crate::gpu_descriptor_types::{DescriptorDevice, DeviceAllocationError, Layouts};
 
-/// Asks a pool for what it has of the sets that are left to come.
+/// Asks a pool with known free places for what it has of the sets that are left to come.
 ///
-/// Where the pool refuses, its places are no longer known, and none came.
+/// A pool that refuses as fragmented or full has no known free places from then on. Want of memory is
+/// returned. Neither gives a set.
 #[inline]
 fn ask<L, P, S, D: DescriptorDevice<L, P, S>, K: SetPlaces<S>>(
     device: &mut D,
@@ -21,9 +22,6 @@ fn ask<L, P, S, D: DescriptorDevice<L, P, S>, K: SetPlaces<S>>(
 ) -> Result<(), DeviceAllocationError>
 {
     let count = sink.left.min(pool.available);
-    if count == 0 {
-        return Ok(());
-    }
     match device.alloc_descriptor_sets(&mut pool.raw, Layouts::new(request.layout, count), sink) {
         Ok(()) => {
             pool.allocated += count;
@@ -41,8 +39,7 @@ fn ask<L, P, S, D: DescriptorDevice<L, P, S>, K: SetPlaces<S>>(
     }
 }
 
-/// Asks the pools for sets that have known free places, the newest first, until none are left to
-/// come.
+/// Asks the pools with known free places, the newest first, until no set is left to come.
 #[inline(always)]
 fn walk<'k, L, P, S, D: DescriptorDevice<L, P, S>, K: SetPlaces<S>>(
     device: &mut D,

@@ -15,34 +15,31 @@ use crate::gpu_descriptor_types::{
 use crate::kit::alloc::AllocError;
 
 /// The flags of a new pool: sets are freed singly, and it takes marked sets if its key is marked.
-fn pool_flags(update_after_bind: bool) -> DescriptorPoolCreateFlags
+fn pool_flags(marked: bool) -> DescriptorPoolCreateFlags
 {
     let mut flags = DescriptorPoolCreateFlags::FREE_DESCRIPTOR_SET;
-    flags.set(
-        DescriptorPoolCreateFlags::UPDATE_AFTER_BIND,
-        update_after_bind,
-    );
+    flags.set(DescriptorPoolCreateFlags::UPDATE_AFTER_BIND, marked);
     flags
 }
 
-/// The counts of a key's next pool without a bound on its descriptors, and how many sets it holds;
-/// `None` where the limit leaves no room for one.
+/// The counts of a key's next pool within the limit, and how many sets it holds; `None` if the limit
+/// leaves no room for one.
 #[inline]
-fn unbounded_size(
+fn size_in_room(
     key: &BucketKey,
     total: u64,
     wanted: u32,
     room: u32,
 ) -> Option<(DescriptorTotalCount, u32)>
 {
-    if key.update_after_bind {
+    if key.marked {
         cut_pool_size(&key.counts, total, wanted, room)
     } else {
         Some(new_pool_size(&key.counts, total, wanted))
     }
 }
 
-/// The same with the bound, where there is one.
+/// The counts and the sets of a key's next pool, within the limit and the bound.
 #[inline]
 fn next_size(
     key: &BucketKey,
@@ -52,14 +49,15 @@ fn next_size(
     most: Option<u64>,
 ) -> Option<(DescriptorTotalCount, u32)>
 {
-    let size = unbounded_size(key, total, wanted, room)?;
+    let size = size_in_room(key, total, wanted, room)?;
     Some(bounded_pool_size(&key.counts, size, wanted, most))
 }
 
 impl<P> DescriptorBucket<P> {
     /// Creates a pool, and takes what it has of the sets that are left to come.
     ///
-    /// A pool of a marked key takes of the room what descriptors it has.
+    /// A pool of a marked key takes of the room what descriptors it has. A pool that refuses is
+    /// destroyed.
     #[inline(never)]
     pub(crate) fn take_from_new<'k, L, S, D: DescriptorDevice<L, P, S>, K: SetPlaces<S>>(
         &mut self,
@@ -77,7 +75,7 @@ impl<P> DescriptorBucket<P> {
         if self.reserve_pool().is_err() {
             return Err(Stop::NoMemoryForPool);
         }
-        let flags = pool_flags(key.update_after_bind);
+        let flags = pool_flags(key.marked);
         let mut raw = match device.create_descriptor_pool(&counts, size, flags) {
             Ok(raw) => raw,
             Err(error) => return Err(Stop::PoolNotCreated(error)),
@@ -115,7 +113,7 @@ impl<P> DescriptorBucket<P> {
         self.listed.reserve(wanting)
     }
 
-    /// Appends a new pool.
+    /// Appends a new pool, counts its sets, and lists it if it has free places.
     fn push(&mut self, pool: DescriptorPool<P>)
     {
         let ordinal = pool.number;

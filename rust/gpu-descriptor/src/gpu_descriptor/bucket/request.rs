@@ -25,29 +25,27 @@ pub(crate) struct SetRequest<'a, L, P, S, D: DescriptorDevice<L, P, S>> {
 }
 
 impl<P> DescriptorBucket<P> {
-    /// Takes sets for a request. On an error nothing was taken. The inner result says whether all
-    /// came, or why the request stopped. Room for the sets is made first.
+    /// Makes room for the sets of a request, which are then left to come, unless the numbers of so many
+    /// new pools would exceed 64 bits.
     #[inline(always)]
-    pub(crate) fn serve<'k, L, S, D: DescriptorDevice<L, P, S>, K: SetPlaces<S>>(
-        &mut self,
-        device: &mut D,
-        request: &'k SetRequest<'_, L, P, S, D>,
-        budget: &mut Budget,
-        sink: &mut RequestSink<'k, S, K>,
-    ) -> Result<Result<(), Stop>, AllocationError>
+    pub(crate) fn prepare<S, K: SetPlaces<S>>(
+        &self,
+        count: u32,
+        sink: &mut RequestSink<'_, S, K>,
+    ) -> Result<(), AllocationError>
     {
-        if would_exceed_64_bits(self.next_number(), request.count) {
+        if would_exceed_64_bits(self.next_number(), count) {
             return Err(AllocationError::Fragmentation);
         }
-        if sink.make_room(request.count).is_err() {
+        if sink.make_room(count).is_err() {
             return Err(AllocationError::OutOfHostMemory);
         }
-        Ok(self.take(device, request, budget, sink))
+        Ok(())
     }
 
     /// Takes as many sets as the sink has left: from the existing pools, and then from new ones.
     #[inline(always)]
-    fn take<'k, L, S, D: DescriptorDevice<L, P, S>, K: SetPlaces<S>>(
+    pub(crate) fn take<'k, L, S, D: DescriptorDevice<L, P, S>, K: SetPlaces<S>>(
         &mut self,
         device: &mut D,
         request: &'k SetRequest<'_, L, P, S, D>,
@@ -56,7 +54,7 @@ impl<P> DescriptorBucket<P> {
     ) -> Result<(), Stop>
     {
         self.take_from_existing(device, request, sink)
-            .map_err(Stop::ExistingPoolRefused)?;
+            .map_err(Stop::ExistingPoolWithoutMemory)?;
         while sink.left > 0 {
             self.take_from_new(device, request, budget, sink)?;
         }

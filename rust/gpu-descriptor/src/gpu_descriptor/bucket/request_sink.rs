@@ -15,6 +15,8 @@ pub(crate) struct RequestSink<'k, S, K: SetPlaces<S>> {
 
     /// How many sets are left to come.
     pub(crate) left: u32,
+
+    /// Only contracts read it.
     pub(crate) key: &'k BucketKey,
     pub(crate) id: u64,
     pub(crate) number: u64,

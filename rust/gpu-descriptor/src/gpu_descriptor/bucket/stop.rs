@@ -8,7 +8,7 @@ use crate::gpu_descriptor_types::{CreatePoolError, DeviceAllocationError};
 #[derive(Clone, Copy)]
 pub(crate) enum Stop {
     /// An existing pool returned that memory is wanting.
-    ExistingPoolRefused(DeviceAllocationError),
+    ExistingPoolWithoutMemory(DeviceAllocationError),
 
     /// The limit leaves no room for a new pool.
     NoRoomUnderLimit,
@@ -27,7 +27,7 @@ pub(crate) enum Stop {
 pub(crate) fn error_of(stop: Stop) -> AllocationError
 {
     match stop {
-        Stop::ExistingPoolRefused(error) => error_of_pool(error),
+        Stop::ExistingPoolWithoutMemory(error) => error_of_pool(error),
         Stop::NoRoomUnderLimit => AllocationError::Fragmentation,
         Stop::NoMemoryForPool => AllocationError::OutOfHostMemory,
         Stop::PoolNotCreated(error) => AllocationError::from(error),
