@@ -1,6 +1,6 @@
 -- How a run of lines ends.
-use Rattle.std.proofs.Common.{◌≡◌, if◌then◌else◌, ℕ, ◌+◌, ◌-◌, ◌<◌, ◌≤◌, ◌⊎◌, ◌||◌, inl, inr, Bool, true, false, IsTrue}
-use Rattle.std.proofs.Common.{IsFalse, not, List, [], ◌∷◌, ◌++◌, Option, None, Some, Result, Ok, Err, OnOk, OnErr}
+use Rattle.std.proofs.Common.{◌≡◌, if◌then◌else◌, ℕ, ◌+◌, ◌-◌, ◌<◌, ◌≤◌, ◌⊎◌, inl, inr, Bool, true, false}
+use Rattle.std.proofs.Common.{List, [], ◌∷◌, ◌++◌, Option, None, Some, Result, Ok, Err, OnOk}
 use Rattle.std.proofs.Common.{IfErr, drop, take, slice_range, length, length-take, append-nil, subst, refl, sym, ap}
 use Rattle.std.proofs.Common.{◌∙◌, arith}
 use Rattle.std.specs.Bool.{⊤}
@@ -8,8 +8,7 @@ use Rattle.std.specs.List.{position_or_len}
 use Rattle.std.specs.Io.BufRead.{strip_last}
 use Rattle.std.specs.Io.KnownBytes.{Appends, IsAtEnd, prepend_known}
 use Rattle.std.proofs.KnownBytes.{Appends-trans}
-use Rattle.descriptor_words.specs.Fault.{IfFault, faulty}
-use Rattle.descriptor_words.specs.Words.{is_byte, is_silent, words}
+use Rattle.descriptor_words.specs.Words.{is_byte, words}
 use Rattle.descriptor_words.specs.declared.fault.Fault.{Fault}
 use Rattle.descriptor_words.specs.declared.fault.Fault.TheVariants.{LineTooLong}
 use Rattle.descriptor_words.specs.declared.fault.Refusal.{Refusal}
@@ -19,7 +18,7 @@ use Rattle.descriptor_lines.specs.LineBuffers.{buffered, bytes_at, unread}
 use Rattle.descriptor_lines.specs.LineStates.{LineState}
 use Rattle.descriptor_lines.specs.Lines.{BeginsTooLong, LosesLine, after_end, before_end, lines_of}
 use Rattle.descriptor_lines.specs.Outcomes.{AppendsPrefix, IsNoFault, said_of}
-use Rattle.descriptor_lines.specs.Programs.{CanRun, DoesLine, IsFresh, IsReasonFor, IsUnchanged, KeepsDevice, begun}
+use Rattle.descriptor_lines.specs.Programs.{CanRun, DoesLine, IsFresh, IsNotRun, KeepsDevice}
 use Rattle.descriptor_lines.specs.Transcripts.{ComesTo, IsAnswered, IsFaultOfLine, IsRefused, Writes, WritesFromStart, words_in}
 use Rattle.descriptor_lines.specs.declared.exit.Exit.{Exit}
 use Rattle.descriptor_lines.specs.declared.exit.Exit.TheVariants.{BadLine, Done, NoMemory, ReadFault, WriteFault}
@@ -43,53 +42,35 @@ Takes number None rest outcome text old new = ⊤
 Takes number (Some bytes) rest outcome text old new =
     (line : List ℕ) × IsTaken number line bytes rest outcome text old new
 
-has_begun : (was now silent : Bool) → now ≡ (was || not silent) → IsFalse silent → IsTrue now
-has_begun was now silent is speaks = grind (arith)
-
 -- what a line that was run is answered
 run_answer :
     (number : ℕ) (outcome : Result Unit Refusal) (line text : List ℕ) (old new : LineState) → IsNoFault outcome
-    → length line ≤ 4096 → OnOk outcome (DoesLine (words_in line) text old new) → OnErr outcome (IsUnchanged old new)
-    → new.has_begun ≡ (old.has_begun || not (is_silent (words_in line)))
-    → OnErr outcome (IsFalse (is_silent (words_in line))) → IfErr outcome (IsReasonFor old (words_in line)) → CanRun new
+    → length line ≤ 4096 → OnOk outcome (DoesLine (words_in line) text old new)
+    → IfErr outcome (λ reason. IsNotRun reason (words_in line) old new) → CanRun new
     → IsAnswered line (said_of number outcome text) old new
-run_answer number (Ok done) line text old new fine short does same started speaks own ready = record { short = short; answer = inl does; ready = ready }
-run_answer number (Err refusal.NoMemory) line text old new fine short does same started speaks own ready = record {
-  short = short;
-  answer = inr (record { speaks = speaks; reason = own; said = refl; unchanged = same; begun = has_begun _ _ _ started speaks });
-  ready = ready;
-}
-run_answer number (Err (refusal.Fault fault)) line text old new fine short does same started speaks own ready = absurd (cc)
-
--- what is wrong with a line that was refused
-run_fault : (outcome : Result Unit Refusal) (line : List ℕ) (old : LineState) (fault : Fault) → outcome ≡ Err (refusal.Fault fault) → length line ≤ 4096 → IfErr outcome (IsReasonFor old (words_in line)) → IsFaultOfLine old line fault
-run_fault outcome line old fault is short own = inr (short, rw is at own)
-
--- a line that was refused leaves the device alone
-left_alone : (outcome : Result Unit Refusal) (old new : LineState) (fault : Fault) → outcome ≡ Err (refusal.Fault fault) → IfErr outcome (λ reason. IfFault reason (λ _. new ≡ begun old)) → KeepsDevice old new
-left_alone outcome old new fault is stays = (let same : new ≡ begun old = rw is at stays in record { script = ap (λ (p : LineState). p.script) same; ledger = ap (λ (p : LineState). p.ledger) same })
+run_answer number (Ok done) line text old new fine short does other ready = record { short = short; answer = inl does; ready = ready }
+run_answer number (Err refusal.NoMemory) line text old new fine short does other ready = record { short = short; answer = inr (other, refl); ready = ready }
+run_answer number (Err (refusal.Fault fault)) line text old new fine short does other ready = absurd (cc)
 
 -- a line that was run
-pub takes_run :
+takes_run :
     (number : ℕ) (left rest : Option (List ℕ)) (line : List ℕ) (outcome : Result Unit Refusal) (text : List ℕ)
     (old new : LineState)
     → IsFirstOf line left → LosesLine left rest → length line ≤ 4096
-    → OnOk outcome (DoesLine (words_in line) text old new) → OnErr outcome (IsUnchanged old new)
-    → new.has_begun ≡ (old.has_begun || not (is_silent (words_in line)))
-    → OnErr outcome (IsFalse (is_silent (words_in line))) → IfErr outcome (IsReasonFor old (words_in line))
-    → IfErr outcome (λ reason. IfFault reason (λ _. new ≡ begun old)) → CanRun new
+    → OnOk outcome (DoesLine (words_in line) text old new)
+    → IfErr outcome (λ reason. IsNotRun reason (words_in line) old new) → CanRun new
     → Takes number left rest outcome text old new
-takes_run number None rest line outcome text old new first loses short does same started speaks own stays ready = tt
-takes_run number (Some bytes) None line outcome text old new first loses short does same started speaks own stays ready = absurd loses
-takes_run number (Some bytes) (Some others) line outcome text old new first loses short does same started speaks own stays ready = (
+takes_run number None rest line outcome text old new first loses short does other ready = tt
+takes_run number (Some bytes) None line outcome text old new first loses short does other ready = absurd loses
+takes_run number (Some bytes) (Some others) line outcome text old new first loses short does other ready = (
   line,
   record {
     some = loses.0;
     first = first;
     loses = λ _. loses;
-    answered = λ fine. run_answer number outcome line text old new fine short does same started speaks own ready;
-    wrong = λ fault is. run_fault outcome line old fault is short own;
-    device = λ fault is. left_alone outcome old new fault is stays;
+    answered = λ fine. run_answer number outcome line text old new fine short does other ready;
+    wrong = λ fault is. inr (short, (rw is at other).reason_is);
+    device = λ fault is. let same = (rw is at other).unchanged in record { script = same.script; ledger = same.session.ledger };
   },
 )
 
@@ -99,13 +80,11 @@ pub takes_span :
     (outcome : Result Unit Refusal) (text : List ℕ) (old new : LineState)
     → IsFirstOf (bytes_at buffer span) left → LosesLine left rest → span.end - span.start ≤ 4096
     → line ≡ strip_last 13 (bytes_at buffer span) → OnOk outcome (DoesLine (words line) text old new)
-    → OnErr outcome (IsUnchanged old new) → new.has_begun ≡ (old.has_begun || not (is_silent (words line)))
-    → OnErr outcome (IsFalse (is_silent (words line))) → IfErr outcome (IsReasonFor old (words line))
-    → IfErr outcome (λ reason. IfFault reason (λ _. new ≡ begun old)) → CanRun new
+    → IfErr outcome (λ reason. IsNotRun reason (words line) old new) → CanRun new
     → Takes number left rest outcome text old new
-takes_span number buffer span left rest line outcome text old new first loses short is does same started speaks own stays ready =
+takes_span number buffer span left rest line outcome text old new first loses short is does other ready =
     let few : length (bytes_at buffer span) ≤ 4096 = omega (arith, length-take (span.end - span.start) (drop span.start buffer.bytes.items)) in
-    takes_run number left rest (bytes_at buffer span) outcome text old new first loses few (rw is at does) same (rw is at started) (rw is at speaks) (rw is at own) stays ready
+    takes_run number left rest (bytes_at buffer span) outcome text old new first loses few (rw is at does) (rw is at other) ready
 
 -- a line that is too long
 pub takes_long : (number : ℕ) (left rest : Option (List ℕ)) (outcome : Result Unit Refusal) (text : List ℕ) (p : LineState) → outcome ≡ Err (refusal.Fault LineTooLong) → BeginsTooLong left → Takes number left rest outcome text p p

@@ -1,7 +1,7 @@
 -- Sessions that are ready, and the replies of their steps.
-use Rattle.std.proofs.Common.{All, ◌≡◌, ◌≢◌, ℕ, zero, suc, zero-le, ◌+◌, ◌-◌, ◌<◌, ◌≤◌, ◌^◌, List, [], ◌∷◌, ◌++◌, length, length-append, map, get_or, slice_index_or, Option, None, Some, IsSome, subst, refl, sym, ap, ◌∙◌, arith}
+use Rattle.std.proofs.Common.{All, ◌≡◌, ◌≢◌, ℕ, zero, suc, zero-le, ◌+◌, ◌-◌, ◌<◌, ◌≤◌, ◌^◌, List, [], ◌∷◌, ◌++◌, length, length-append, map, get_or, Option, None, Some, IsSome, refl, sym, ap, ◌∙◌, arith}
 use Rattle.std.proofs.lemmas.List.{get_or-append_right, length-map}
-use Rattle.std.proofs.lemmas.List.Elements.{All-cons, All-nil}
+use Rattle.std.proofs.lemmas.List.Elements.{All-nil}
 use Rattle.gpu_descriptor_types.specs.Ledger.{Ledger}
 use Rattle.gpu_descriptor.specs.Caller.SetLayouts.{IsMeant}
 use Rattle.gpu_descriptor.specs.Caller.States.{state_of}
@@ -9,8 +9,7 @@ use Rattle.gpu_descriptor.proofs.callers.NewAllocators.{new_agrees}
 use Rattle.gpu_descriptor.proofs.release.Places.{none_out}
 use Rattle.descriptor_script.specs.Scripted.Raw.{pool_id, script_meaning}
 use Rattle.descriptor_script.specs.Sessions.Session.{IsReady, allocator_of, layouts_of, sets_of}
-use Rattle.descriptor_script.specs.Sessions.SessionRun.{RunsTo}
-use Rattle.descriptor_script.specs.Sessions.Steps.{IsAsBefore, IsTurnedAway, StepsTo}
+use Rattle.descriptor_script.specs.Sessions.Steps.{IsAsBefore, StepsTo}
 use Rattle.descriptor_script.specs.declared.answer.Answer.{Answer}
 use Rattle.descriptor_script.specs.declared.command.Command.{Command}
 use Rattle.descriptor_script.specs.declared.command.Command.TheVariants.{Allocate}
@@ -23,7 +22,7 @@ use Rattle.descriptor_lines.specs.Programs.{CanRun}
 use Rattle.descriptor_lines.specs.Replies.{LineSession, HasAnswer}
 use Rattle.descriptor_lines.specs.ReplyTexts.{sets_asked, sets_given}
 use Rattle.descriptor_lines.specs.declared.layouts.Layouts.{Layouts}
-use Rattle.gpu_descriptor_types.specs.Side.{Side, side}
+use Rattle.gpu_descriptor_types.specs.Side.{side}
 
 -- a new session can make a step on any device
 pub new_is_ready : (s : LineSession) (l : Ledger) (max : ℕ) → allocator_of s ≡ record { limit = max; most = None; table = []; looks = 0; comparisons = 0 } → layouts_of s ≡ [] → sets_of s ≡ [] → IsReady script_meaning (side s l)
@@ -63,18 +62,6 @@ module _ {X : Type 0} where
 -- a step of a session, where pools, sets and layouts mean what they carry
 abbrev Steps : Command → Reply → LineSession → LineSession → Ledger → Ledger → Type 0
 Steps command reply old new before after = StepsTo script_meaning command reply (side old before) (side new after)
-
--- the one step of a run of one command
-pub step_of_one : (command : Command) (replies : List Reply) (reply : Reply) (old new : LineSession) (before after : Ledger) → RunsTo script_meaning (command ∷ []) replies (side old before) (side new after) → reply ≡ slice_index_or replies 0 reply → Steps command reply old new before after
-step_of_one command [] reply old new before after run is = absurd run
-step_of_one command (r ∷ []) reply old new before after run is = subst (λ (s : Side LineSession). StepsTo script_meaning command reply (side old before) s) (sym run.2) (rw is run.1.0)
-step_of_one command (r ∷ s ∷ rest) reply old new before after run is = absurd run.2
-
--- so all replies of the run are turned away where its reply is
-pub all_turned_away : (command : Command) (replies : List Reply) (reply : Reply) (old new : LineSession) (before after : Ledger) → RunsTo script_meaning (command ∷ []) replies (side old before) (side new after) → reply ≡ slice_index_or replies 0 reply → IsTurnedAway reply → All IsTurnedAway replies
-all_turned_away command [] reply old new before after run is away = absurd run
-all_turned_away command (r ∷ []) reply old new before after run is away = All-cons IsTurnedAway r [] (rw (← is) away) (All-nil IsTurnedAway)
-all_turned_away command (r ∷ s ∷ rest) reply old new before after run is away = absurd run.2
 
 -- a reply that memory is wanting changes nothing
 pub no_memory_changes_nothing : (command : Command) (old new : LineSession) (before after : Ledger) → Steps command NoMemory old new before after → IsAsBefore (side old before) (side new after)

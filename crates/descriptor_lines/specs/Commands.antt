@@ -1,10 +1,8 @@
 -- What the parser knows of the command of a line.
-use Rattle.std.specs.Prelude.{◌≡◌, ◌<◌, ℕ, Bool, List, [], ◌∷◌, None, IsFalse}
-use Rattle.gpu_descriptor_types.specs.Bounds.{greatest_u32}
+use Rattle.std.specs.Prelude.{◌≡◌, ◌<◌, ℕ, None}
 use Rattle.descriptor_script.specs.declared.command.Command as session
 use Rattle.descriptor_script.specs.declared.command.Command.TheVariants as step
 use Rattle.descriptor_lines.specs.LayoutTable.{layout_named, layout_count}
-use Rattle.descriptor_words.specs.Numbers.{WritesNumberWithin, value_of}
 use Rattle.descriptor_lines.specs.declared.command.Command.{Command}
 use Rattle.descriptor_lines.specs.declared.command.Command.TheVariants.{Limit, Layout, Alloc}
 use Rattle.descriptor_lines.specs.declared.layouts.Layouts.{Layouts}
@@ -19,16 +17,6 @@ IsRunnable layouts (Limit max) = layout_count layouts ≡ 0
 IsRunnable layouts (Layout name layout) = layout_named layouts name.now ≡ None
 IsRunnable layouts (Alloc layout count) = layout < layout_count layouts
 IsRunnable layouts _ = Unit {0}
-
--- a limit comes before all other commands
-abbrev pub IsInTime : Bool → Command → Type 0
-IsInTime has_begun (Limit max) = IsFalse has_begun
-IsInTime has_begun _ = Unit {0}
-
--- there is one word, which writes this number
-abbrev pub IsNumberOf : List (List ℕ) → ℕ → Type 0
-IsNumberOf (word ∷ []) number = WritesNumberWithin greatest_u32 word × (number ≡ value_of word)
-IsNumberOf _ number = ⊥
 
 -- the session, with so many layouts, has the one that the command asks for
 abbrev pub IsKnown : ℕ → session.Command → Type 0

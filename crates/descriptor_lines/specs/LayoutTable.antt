@@ -1,7 +1,7 @@
 -- The layouts by name.
-use Rattle.std.specs.Prelude.{◌≡◌, ℕ, List, map, length, Option, slice_get}
+use Rattle.std.specs.Prelude.{◌≡◌, ℕ, List, map, length, Option, bytes_eq, string_bytes}
 use Rattle.std.specs.Option.{option_map}
-use Rattle.indexmap.specs.IndexMap.{get_by_text}
+use Rattle.indexmap.specs.IndexMap.{get_by_text, index_of_by}
 use Rattle.descriptor_lines.specs.FirstLayouts.{listed}
 use Rattle.descriptor_lines.specs.declared.layouts.Layout.{Layout}
 use Rattle.descriptor_lines.specs.declared.layouts.Layouts.{Layouts}
@@ -19,9 +19,9 @@ module _ (layouts : Layouts) where
   abbrev pub layout_named : List ℕ → Option Layout
   layout_named name = option_map (λ e. e.layout) (get_by_text layouts.by_name name)
 
-  -- the layout at this place
-  abbrev pub layout_at : ℕ → Option Layout
-  layout_at place = option_map (λ l. l.1) (slice_get layouts_in place)
+  -- its place, in this order
+  abbrev pub place_named : List ℕ → Option ℕ
+  place_named name = index_of_by (λ key. bytes_eq name (string_bytes key)) layouts.by_name
 
   abbrev pub layout_count : ℕ
   layout_count = length layouts.by_name.entries

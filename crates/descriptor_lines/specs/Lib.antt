@@ -1,5 +1,4 @@
 pub mod Answers
-pub mod Arguments
 pub mod Commands
 pub mod Exit
 pub mod FirstLayouts
@@ -7,6 +6,7 @@ pub mod LayoutTable
 pub mod LineBuffers
 pub mod LineStates
 pub mod Lines
+pub mod Orders
 pub mod Outcomes
 pub mod Programs
 pub mod Replies

@@ -1,31 +1,26 @@
 -- What a line does to what the lines before it made.
-use Rattle.std.specs.Prelude.{◌≡◌, ◌⊎◌, ◌++◌, ◌∷◌, [], ℕ, List, length, map, sum, true, IsTrue, IsFalse}
+use Rattle.std.specs.Prelude.{◌≡◌, ◌⊎◌, ◌++◌, ◌∷◌, [], ℕ, List, Option, None, Some, IsOkAnd, IsSome, OnErr, OnOk, Result, Err, length, map, sum, true, IsTrue, IsFalse}
 use Rattle.gpu_descriptor_types.specs.Bounds.{greatest_u32}
-use Rattle.gpu_descriptor_types.specs.Counts.{kinds}
 use Rattle.gpu_descriptor.specs.Caller.Values.{without_keys}
 use Rattle.descriptor_script.specs.Scripted.Device.{empty_ledger}
 use Rattle.descriptor_script.specs.Scripted.Raw.{script_meaning}
 use Rattle.descriptor_script.specs.Sessions.Session.{IsReady, KeepsSession, allocator_of, layouts_of, sets_of}
-use Rattle.descriptor_script.specs.Sessions.Steps.{IsAsBefore, IsTurnedAway, StepsTo}
-use Rattle.descriptor_script.specs.declared.command.Command.{Command}
-use Rattle.descriptor_script.specs.declared.command.Command.TheVariants.{Allocate, Free, Cleanup}
+use Rattle.descriptor_script.specs.Sessions.Steps.{AllocatesTo, FreesTo, IsAsBefore, IsTurnedAway, StepsTo}
+use Rattle.descriptor_script.specs.declared.command.Command.TheVariants as session
 use Rattle.descriptor_script.specs.declared.command.Reply.{Reply}
 use Rattle.descriptor_script.specs.declared.raw.ScriptLayout.{ScriptLayout}
 use Rattle.descriptor_lines.specs.Answers.{AnswersSize, layout_answer, limit_answer, script_answer}
-use Rattle.descriptor_lines.specs.Arguments.{IsCommandOf, IsRefusalOf}
-use Rattle.descriptor_lines.specs.Commands.{IsInTime}
 use Rattle.descriptor_lines.specs.LayoutTable.{SameLayouts, layout_count, layouts_in}
+use Rattle.descriptor_lines.specs.FirstLayouts.{key_of}
 use Rattle.descriptor_lines.specs.LineStates.{LineState}
+use Rattle.descriptor_lines.specs.Orders.{BeginsList, Order, Limit, Layout as NewLayout, Size, Script, Alloc, Free, Cleanup, Show, line_in}
+use Rattle.descriptor_lines.specs.Replies.{LineSession}
 use Rattle.descriptor_lines.specs.ReplyTexts.{text_of_reply}
 use Rattle.descriptor_lines.specs.Shown.{show_answer}
-use Rattle.descriptor_words.specs.Words.{is_silent}
-use Rattle.descriptor_words.specs.Fault.{faulty}
 use Rattle.descriptor_words.specs.declared.fault.Refusal.{Refusal}
 use Rattle.descriptor_words.specs.declared.fault.Refusal.TheVariants as refusal
-use Rattle.descriptor_lines.specs.declared.command.Command as line
-use Rattle.descriptor_lines.specs.declared.command.Command.TheVariants as step
 use Rattle.descriptor_lines.specs.declared.layouts.Layout.{Layout}
-use Rattle.gpu_descriptor_types.specs.Side.{side}
+use Rattle.gpu_descriptor_types.specs.Side.{Side, side}
 
 -- the layout that the device sees
 abbrev pub scripted : Layout → ScriptLayout
@@ -76,43 +71,61 @@ pub record AddsLayout (name : List ℕ) (layout : Layout) (old new : LineState) 
   pub sets : sets_of new.session ≡ sets_of old.session
   pub device : KeepsDevice old new
 
--- the session of the program did the command, and the text is the answer to its reply
-pub record Does (command : Command) (text : List ℕ) (old new : LineState) : Type 0 where
+-- the session of the program made a step, and the text is the answer to its reply
+pub record Does (Step : Reply → Side LineSession → Side LineSession → Type 0) (text : List ℕ) (old new : LineState) : Type 0 where
   pub reply : Reply
   pub said : text ≡ text_of_reply (sets_of new.session) reply
-  pub step : StepsTo script_meaning command reply (side old.session old.ledger) (side new.session new.ledger)
+  pub step : Step reply (side old.session old.ledger) (side new.session new.ledger)
   -- no word is read if the device is not asked
   pub turned_away : IsTurnedAway reply → new.script ≡ old.script
   -- limit and layouts stay
   pub keeps : KeepsSession script_meaning (side old.session old.ledger) (side new.session new.ledger)
   pub layouts : SameLayouts old.layouts new.layouts
 
--- what the command of a line does, and its answer, if no allocation fails
-abbrev pub DoesCommand : line.Command → List ℕ → LineState → LineState → Type 0
-DoesCommand (step.Limit max) text old new = Begins max old new × (text ≡ limit_answer max)
-DoesCommand (step.Layout name layout) text old new =
-    AddsLayout name.now layout old new × (text ≡ layout_answer name.now (sum (kinds layout.counts)))
-DoesCommand (step.Size counts total wanted) text old new =
-    (new ≡ old) × AnswersSize (kinds counts) total wanted text
-DoesCommand (step.Script script) text old new =
-    (new ≡ record old { script = script.items }) × (text ≡ script_answer (length script.items))
-DoesCommand (step.Alloc layout count) text old new = Does (Allocate layout count) text old new
-DoesCommand (step.Free tickets) text old new = Does (Free tickets) text old new
-DoesCommand step.Cleanup text old new = Does Cleanup text old new
-DoesCommand step.Show text old new = (new ≡ old) × (text ≡ show_answer old)
+-- this was done, or an allocation failed and nothing changed; and the program can run on
+pub record RunsAs {E : Type 0} (Done : List ℕ → LineState → LineState → Type 0) (result : Result Unit E) (text : List ℕ) (old new : LineState) : Type 0 where
+  pub done : OnOk result (Done text old new)
+  pub err : OnErr result (IsUnchanged old new)
+  pub ready : CanRun new
+  pub begun : new.has_begun ≡ old.has_begun
 
--- why a line is not run: a fault of its words; or an allocation failed, to read them or to run the command that they give
-abbrev pub IsReasonFor : LineState → List (List ℕ) → Refusal → Type 0
-IsReasonFor p words (refusal.Fault fault) = IsRefusalOf p.layouts p.has_begun words (faulty fault)
-IsReasonFor p words refusal.NoMemory =
-    IsRefusalOf p.layouts p.has_begun words refusal.NoMemory ⊎ ((command : line.Command) × IsCommandOf p.layouts words command × IsInTime p.has_begun command)
+-- what a command does, and its answer, if no allocation fails
+abbrev pub DoesOrder : Order → List ℕ → LineState → LineState → Type 0
+DoesOrder (Limit max) text old new = Begins max old new × (text ≡ limit_answer max)
+DoesOrder (NewLayout name key) text old new =
+    (layout : Layout) × (key_of layout ≡ key) × AddsLayout name layout old new × (text ≡ layout_answer name (sum key.counts))
+DoesOrder (Size counts total wanted) text old new = (new ≡ old) × AnswersSize counts total wanted text
+DoesOrder (Script script) text old new =
+    (new ≡ record old { script = script }) × (text ≡ script_answer (length script))
+DoesOrder (Alloc place count) text old new =
+    Does (λ reply before after. AllocatesTo script_meaning place count before after reply) text old new
+DoesOrder (Free tickets) text old new =
+    Does (λ reply before after. FreesTo script_meaning tickets before after reply) text old new
+DoesOrder Cleanup text old new = Does (StepsTo script_meaning session.Cleanup) text old new
+DoesOrder Show text old new = (new ≡ old) × (text ≡ show_answer old)
 
 -- a line gave a command, and from then on one had come
 abbrev pub begun : LineState → LineState
 begun p = record p { has_begun = true }
 
--- what a line does, and its answer, if no allocation fails: nothing if it is silent, and else what its command does
+-- what a line does that asks for this, or is silent, and its answer, if no allocation fails
+abbrev pub DoesAsked : Option Order → List ℕ → LineState → LineState → Type 0
+DoesAsked None text old new = (text ≡ []) × (new ≡ old)
+DoesAsked (Some order) text old new = DoesOrder order text (begun old) new × IsTrue new.has_begun
+
+-- what a line of these words does
 abbrev pub DoesLine : List (List ℕ) → List ℕ → LineState → LineState → Type 0
 DoesLine words text old new =
-    (IsTrue (is_silent words) × (text ≡ []) × (new ≡ old))
-    ⊎ ((command : line.Command) × IsCommandOf old.layouts words command × IsInTime old.has_begun command × DoesCommand command text (begun old) new × IsTrue new.has_begun)
+    IsOkAnd (line_in old.layouts old.has_begun words) (λ asked. DoesAsked asked text old new)
+
+-- why a line is not run: a fault of its words; or an allocation failed, to run its command or to read its words
+abbrev pub IsReasonFor : LineState → List (List ℕ) → Refusal → Type 0
+IsReasonFor p words (refusal.Fault fault) = line_in p.layouts p.has_begun words ≡ Err fault
+IsReasonFor p words refusal.NoMemory =
+    IsOkAnd (line_in p.layouts p.has_begun words) IsSome ⊎ BeginsList words
+
+-- a line of these words is not run for this reason
+pub record IsNotRun (reason : Refusal) (words : List (List ℕ)) (old new : LineState) : Type 0 where
+  pub reason_is : IsReasonFor old words reason
+  pub unchanged : IsUnchanged old new
+  pub begun : IsTrue new.has_begun

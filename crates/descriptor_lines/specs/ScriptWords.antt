@@ -1,8 +1,10 @@
 -- The words of a script.
-use Rattle.std.specs.Prelude.{◌≡◌, ℕ, List, codes, All}
+use Rattle.std.specs.Prelude.{ℕ, List, [], ◌∷◌, ◌++◌, Result, codes, ok_or}
+use Rattle.std.specs.Prelude.{Ok as Read}
 use Rattle.descriptor_script.specs.declared.answer.Answer.{Answer}
 use Rattle.descriptor_script.specs.declared.answer.Answer.TheVariants.{Ok, Device, Host, Frag, Pool}
-use Rattle.descriptor_words.specs.Words.{AtWord}
+use Rattle.descriptor_words.specs.Fault.{◌>>=◌}
+use Rattle.descriptor_words.specs.Words.{in_turn, named}
 use Rattle.descriptor_words.specs.declared.fault.Fault.{Fault}
 use Rattle.descriptor_words.specs.declared.fault.Fault.TheVariants.{BadAnswerWord}
 
@@ -14,12 +16,16 @@ word_of_answer Host = codes "host"
 word_of_answer Frag = codes "frag"
 word_of_answer Pool = codes "pool"
 
--- the word is one of the five
-abbrev pub IsAnswerWord : List ℕ → Type 0
-IsAnswerWord word = (answer : Answer) × (word ≡ word_of_answer answer)
+abbrev pub answer_in : List ℕ → Result Answer Fault
+answer_in word =
+    ok_or (named word_of_answer (Ok ∷ Device ∷ Host ∷ Frag ∷ Pool ∷ []) word) BadAnswerWord
 
--- what is wrong with the words of a script: the first word that is none of them
-abbrev pub IsFaultOfScript : List (List ℕ) → Fault → Type 0
-IsFaultOfScript words BadAnswerWord =
-    AtWord (λ before word. All IsAnswerWord before × ¬ IsAnswerWord word) words
-IsFaultOfScript words _ = ⊥
+-- the answers with that of one word more
+abbrev pub with_answer : List Answer → List ℕ → Result (List Answer) Fault
+with_answer answers word = do
+  answer ← answer_in word
+  Read (answers ++ answer ∷ [])
+
+-- the answers that the words say, one after the other
+abbrev pub script_in : List (List ℕ) → Result (List Answer) Fault
+script_in words = in_turn with_answer [] words

@@ -1,21 +1,20 @@
 -- What a run of the program writes: the answers of the lines of its input, in order, up to the end or the line that stopped it.
-use Rattle.std.specs.Prelude.{◌≡◌, ◌⊎◌, ◌≤◌, ◌<◌, ◌+◌, ◌++◌, ◌∷◌, [], ℕ, List, Option, IfSome, IsTrue, IsFalse, length}
+use Rattle.std.specs.Prelude.{◌≡◌, ◌⊎◌, ◌≤◌, ◌<◌, ◌+◌, ◌++◌, ◌∷◌, [], ℕ, List, Option, Err, IfSome, length}
 use Rattle.std.specs.Io.BufRead.{strip_last}
 use Rattle.std.specs.Io.KnownBytes.{Appends, IsAtEnd, Keeps}
 use Rattle.gpu_descriptor_types.specs.Ledger.{Ledger}
 use Rattle.descriptor_script.specs.Scripted.Device.{empty_ledger}
 use Rattle.descriptor_script.specs.declared.answer.Answer.{Answer}
-use Rattle.descriptor_words.specs.Fault.{faulty}
-use Rattle.descriptor_words.specs.Words.{is_silent, words}
+use Rattle.descriptor_words.specs.Words.{words}
 use Rattle.descriptor_words.specs.declared.fault.Fault.{Fault}
 use Rattle.descriptor_words.specs.declared.fault.Fault.TheVariants.{LineTooLong}
 use Rattle.descriptor_words.specs.declared.fault.Refusal.TheVariants as refusal
 use Rattle.descriptor_lines.specs.Answers.{fault_line, no_memory}
-use Rattle.descriptor_lines.specs.Arguments.{IsRefusalOf}
 use Rattle.descriptor_lines.specs.LineStates.{LineState}
 use Rattle.descriptor_lines.specs.Lines.{lines_of, longest_line}
+use Rattle.descriptor_lines.specs.Orders.{line_in}
 use Rattle.descriptor_lines.specs.Outcomes.{EndsInFault}
-use Rattle.descriptor_lines.specs.Programs.{CanRun, DoesLine, IsFresh, IsReasonFor, IsUnchanged, KeepsDevice}
+use Rattle.descriptor_lines.specs.Programs.{CanRun, DoesLine, IsFresh, IsNotRun, KeepsDevice}
 use Rattle.descriptor_lines.specs.declared.exit.Exit.{Exit}
 use Rattle.descriptor_lines.specs.declared.exit.Exit.TheVariants.{Done, BadLine, ReadFault, WriteFault, NoMemory}
 
@@ -23,18 +22,10 @@ use Rattle.descriptor_lines.specs.declared.exit.Exit.TheVariants.{Done, BadLine,
 abbrev pub words_in : List ℕ → List (List ℕ)
 words_in line = words (strip_last 13 line)
 
--- an allocation to run a line of these words failed
-pub record LacksMemory (words : List (List ℕ)) (text : List ℕ) (old new : LineState) : Type 0 where
-  pub speaks : IsFalse (is_silent words)
-  pub reason : IsReasonFor old words refusal.NoMemory
-  pub said : text ≡ no_memory
-  pub unchanged : IsUnchanged old new
-  pub begun : IsTrue new.has_begun
-
 -- a line is answered by a text: it does what its words say, or an allocation to run it failed
 pub record IsAnswered (line text : List ℕ) (old new : LineState) : Type 0 where
   pub short : length line ≤ longest_line
-  pub answer : DoesLine (words_in line) text old new ⊎ LacksMemory (words_in line) text old new
+  pub answer : DoesLine (words_in line) text old new ⊎ (IsNotRun refusal.NoMemory (words_in line) old new × (text ≡ no_memory))
   -- the session has the layouts of the lines, and its books agree with the device
   pub ready : CanRun new
 
@@ -42,7 +33,7 @@ pub record IsAnswered (line text : List ℕ) (old new : LineState) : Type 0 wher
 abbrev pub IsFaultOfLine : LineState → List ℕ → Fault → Type 0
 IsFaultOfLine p line fault =
     ((longest_line < length line) × (fault ≡ LineTooLong))
-    ⊎ ((length line ≤ longest_line) × IsRefusalOf p.layouts p.has_begun (words_in line) (faulty fault))
+    ⊎ ((length line ≤ longest_line) × (line_in p.layouts p.has_begun (words_in line) ≡ Err fault))
 
 -- a faulty line is answered by the line of its fault, with its number, and leaves the device alone
 pub record IsRefused (number : ℕ) (line text : List ℕ) (old new : LineState) : Type 0 where

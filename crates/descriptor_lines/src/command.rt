@@ -1,10 +1,10 @@
 //! The commands that lines give.
-ghost use Rattle.std.specs.Prelude.{◌≡◌, ◌≢◌, ◌↔◌, [], Bool, IsTrue, IsFalse, IfOk, IfErr, IfSome};
-ghost use Rattle.std.specs.Prelude.{OnOk, Ok, None};
-ghost use Rattle.descriptor_lines.specs.Arguments.{GiveCommand, IsCommandOf, IsFaultOfLimit};
-ghost use Rattle.descriptor_lines.specs.Arguments.{IsRefusalOf, IsRefusalOfWords};
-ghost use Rattle.descriptor_lines.specs.Commands.{IsInTime, IsNumberOf, IsRunnable};
-ghost use Rattle.descriptor_words.specs.Fault.{IsFaultAnd, faulty};
+ghost use Rattle.std.specs.Prelude.{◌≡◌, ◌↔◌, IsTrue, IsFalse, IfOk, IfSome, OnOk, Ok, Err, None};
+ghost use Rattle.std.specs.Prelude.{option_map};
+ghost use Rattle.descriptor_lines.specs.Orders.{BeginsList, HasList, alloc_in, limit_in, line_in};
+ghost use Rattle.descriptor_lines.specs.Orders.{nothing_in, order_in, order_of, size_in};
+ghost use Rattle.descriptor_lines.specs.Commands.{IsRunnable};
+ghost use Rattle.descriptor_words.specs.Fault.{Reads, read_as};
 ghost use Rattle.descriptor_lines.specs.LayoutTable.{layout_count};
 ghost use Rattle.descriptor_words.specs.Words.{words as words_of, words_left, is_silent};
 
@@ -77,10 +77,9 @@ impl<'a> Command<'a> {
         has_begun: bool,
     ) -> Result<Option<Command<'a>>, Refusal>
         requires fresh { IsFalse has_begun → layout_count layouts.now ≡ 0 }
-        ensures refusal { IfErr result (IsRefusalOf layouts.now has_begun (words_of line.now)) }
-        ensures command { IfOk result (λ command. IfSome command
-            (IsCommandOf layouts.now (words_of line.now))) }
-        ensures in_time { IfOk result (λ command. IfSome command (IsInTime has_begun)) }
+        ensures reads { Reads (option_map order_of) result
+            (line_in layouts.now has_begun (words_of line.now)) }
+        ensures memory { result ≡ Err Refusal.NoMemory → BeginsList (words_of line.now) }
         ensures silent { result ≡ Ok None ↔ IsTrue (is_silent (words_of line.now)) }
         ensures runnable { IfOk result (λ command. IfSome command (IsRunnable layouts.now)) }
     {
@@ -106,24 +105,20 @@ fn parse_words<'a>(
     has_begun: bool,
 ) -> Result<Command<'a>, Refusal>
     requires fresh { IsFalse has_begun → layout_count layouts.now ≡ 0 }
-    ensures refusal { IfErr result (IsRefusalOfWords layouts.now has_begun keyword
-        (words_left words.entry)) }
-    ensures command { IfOk result (GiveCommand layouts.now keyword (words_left words.entry)) }
-    ensures in_time { IfOk result (IsInTime has_begun) }
+    ensures reads { Reads order_of result
+        (order_in layouts.now has_begun keyword (words_left words.entry)) }
+    ensures memory { result ≡ Err Refusal.NoMemory → HasList keyword }
     ensures runnable { IfOk result (IsRunnable layouts.now) }
 {
     match keyword {
-        Keyword::Limit => {
-            let max = parse_limit(words, has_begun)?;
-            Ok(Command::Limit { max })
-        }
-        Keyword::Layout => parse_layout(words, layouts),
-        Keyword::Size => parse_size(words, layouts),
+        Keyword::Limit => Ok(parse_limit(words, has_begun)?),
+        Keyword::Layout => Ok(parse_layout(words, layouts)?),
+        Keyword::Size => Ok(parse_size(words, layouts)?),
         Keyword::Script => {
             let script = parse_script(alloc, words)?;
             Ok(Command::Script { script })
         }
-        Keyword::Alloc => parse_alloc(words, layouts),
+        Keyword::Alloc => Ok(parse_alloc(words, layouts)?),
         Keyword::Free => {
             let tickets = parse_free(alloc, words)?;
             Ok(Command::Free { tickets })
@@ -140,26 +135,23 @@ fn parse_words<'a>(
 }
 
 /// `limit N`.
-fn parse_limit(mut words: Words<'_>, has_begun: bool) -> Result<u32, Refusal>
-    ensures fault { IfErr result (λ reason. IsFaultAnd reason
-        (IsFaultOfLimit has_begun (words_left words.entry))) }
+fn parse_limit<'a>(mut words: Words<'a>, has_begun: bool) -> Result<Command<'a>, Fault>
+    ensures reads { read_as order_of result ≡ limit_in has_begun (words_left words.entry) }
     ensures in_time { OnOk result (IsFalse has_begun) }
-    ensures value { IfOk result (IsNumberOf (words_left words.entry)) }
 {
     if has_begun {
-        return Err(Refusal::Fault(Fault::LimitNotFirst));
+        return Err(Fault::LimitNotFirst);
     }
     let (Some(max), None) = (words.next(), words.next()) else {
-        return Err(Refusal::Fault(Fault::BadWordCount));
+        return Err(Fault::BadWordCount);
     };
-    Ok(parse_u32(max)?)
+    let max = parse_u32(max)?;
+    Ok(Command::Limit { max })
 }
 
 /// `size NAME TOTAL WANTED`.
-fn parse_size<'a>(mut words: Words<'a>, layouts: &Layouts) -> Result<Command<'a>, Refusal>
-    ensures fault { (has_begun : Bool) → IfErr result (IsRefusalOfWords layouts.now has_begun
-        Keyword.Size (words_left words.entry)) }
-    ensures value { IfOk result (GiveCommand layouts.now Keyword.Size (words_left words.entry)) }
+fn parse_size<'a>(mut words: Words<'a>, layouts: &Layouts) -> Result<Command<'a>, Fault>
+    ensures reads { read_as order_of result ≡ size_in layouts.now (words_left words.entry) }
     ensures runnable { IfOk result (IsRunnable layouts.now) }
 {
     let (Some(name), Some(total), Some(wanted), None) = (
@@ -168,7 +160,7 @@ fn parse_size<'a>(mut words: Words<'a>, layouts: &Layouts) -> Result<Command<'a>
         words.next(),
         words.next(),
     ) else {
-        return Err(Refusal::Fault(Fault::BadWordCount));
+        return Err(Fault::BadWordCount);
     };
     let name = descriptor_words::name(name).ok_or(Fault::BadName)?;
     let counts = layouts.get(name).ok_or(Fault::NoSuchLayout)?.counts;
@@ -182,14 +174,12 @@ fn parse_size<'a>(mut words: Words<'a>, layouts: &Layouts) -> Result<Command<'a>
 }
 
 /// `alloc NAME N`.
-fn parse_alloc<'a>(mut words: Words<'a>, layouts: &Layouts) -> Result<Command<'a>, Refusal>
-    ensures fault { (has_begun : Bool) → IfErr result (IsRefusalOfWords layouts.now has_begun
-        Keyword.Alloc (words_left words.entry)) }
-    ensures value { IfOk result (GiveCommand layouts.now Keyword.Alloc (words_left words.entry)) }
+fn parse_alloc<'a>(mut words: Words<'a>, layouts: &Layouts) -> Result<Command<'a>, Fault>
+    ensures reads { read_as order_of result ≡ alloc_in layouts.now (words_left words.entry) }
     ensures runnable { IfOk result (IsRunnable layouts.now) }
 {
     let (Some(name), Some(count), None) = (words.next(), words.next(), words.next()) else {
-        return Err(Refusal::Fault(Fault::BadWordCount));
+        return Err(Fault::BadWordCount);
     };
     let name = descriptor_words::name(name).ok_or(Fault::BadName)?;
     let layout = layouts.place(name).ok_or(Fault::NoSuchLayout)?;
@@ -198,13 +188,11 @@ fn parse_alloc<'a>(mut words: Words<'a>, layouts: &Layouts) -> Result<Command<'a
 }
 
 /// The end of a line whose command has no arguments.
-fn expect_end(mut words: Words<'_>) -> Result<(), Refusal>
-    ensures end { OnOk result (words_left words.entry ≡ []) }
-    ensures fault { IfErr result (λ reason. (reason ≡ faulty Fault.BadWordCount)
-        × (words_left words.entry ≢ [])) }
+fn expect_end(mut words: Words<'_>) -> Result<(), Fault>
+    ensures { result ≡ nothing_in (words_left words.entry) }
 {
     if words.next().is_some() {
-        return Err(Refusal::Fault(Fault::BadWordCount));
+        return Err(Fault::BadWordCount);
     }
     Ok(())
 }

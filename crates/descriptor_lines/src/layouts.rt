@@ -1,6 +1,6 @@
 //! The layouts that the lines made, by name.
 ghost use Rattle.std.specs.Prelude.{◌≡◌, ◌+◌, ◌<◌, ◌≤◌, ◌↔◌, ◌++◌, ◌∷◌, [], IsTrue, IfOk, IfSome};
-ghost use Rattle.std.specs.Prelude.{Contains, map, OnOk, None, is_some, string_bytes};
+ghost use Rattle.std.specs.Prelude.{Contains, map, OnOk, None, string_bytes};
 ghost use Rattle.descriptor_lines.specs.FirstLayouts.{TellFirsts};
 
 use gpu_descriptor_types::DescriptorTotalCount;
@@ -37,7 +37,7 @@ pub struct Layouts {
 }
 
 impl Layouts {
-    ghost use Rattle.descriptor_lines.specs.LayoutTable.{layout_at, layout_count};
+    ghost use Rattle.descriptor_lines.specs.LayoutTable.{layout_count, place_named};
     ghost use Rattle.descriptor_lines.specs.LayoutTable.{layout_named, layouts_in, most_layouts};
     ghost use Rattle.descriptor_lines.specs.LayoutTable.{SameLayouts};
     ghost use Rattle.indexmap.specs.IndexMap.{spare};
@@ -67,10 +67,8 @@ impl Layouts {
 
     /// The place of the layout of this name, in the order in which they came.
     pub fn place(&self, name: &str) -> Option<usize>
-        ensures found { is_some result ≡ is_some (layout_named self.now name.now) }
+        ensures place { result ≡ place_named self.now name.now }
         ensures within { IfSome result (λ place. place < layout_count self.now) }
-        ensures layout { IfSome result (λ place. layout_at self.now place
-            ≡ layout_named self.now name.now) }
     {
         self.by_name.get_index_of(name)
     }

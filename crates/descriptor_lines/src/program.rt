@@ -1,18 +1,16 @@
 //! The program: lines in, answers out.
 ghost use Rattle.gpu_descriptor_types.specs.Ledger.{Ledger};
 ghost use Rattle.descriptor_script.specs.declared.answer.Answer.{Answer};
-ghost use Rattle.std.specs.Prelude.{◌≡◌, ◌≢◌, ◌||◌, List, [], not, IsTrue, IsFalse, IfErr, OnOk, OnErr};
+ghost use Rattle.std.specs.Prelude.{◌≡◌, ◌≢◌, List, [], IsFalse, IfErr, OnOk};
 ghost use Rattle.std.specs.Prelude.{string_bytes};
 ghost use Rattle.std.specs.Io.KnownBytes.{IsAtEnd};
 ghost use Rattle.descriptor_script.specs.Scripted.Device.{empty_ledger};
-ghost use Rattle.descriptor_words.specs.Fault.{IfFault};
 ghost use Rattle.descriptor_lines.specs.Outcomes.{EndsInFault};
 ghost use Rattle.descriptor_lines.specs.LineBuffers.{most_reads, unread};
 ghost use Rattle.descriptor_lines.specs.LineStates.{line_state};
-ghost use Rattle.descriptor_lines.specs.Programs.{CanRun, DoesLine, IsFresh, IsReasonFor};
-ghost use Rattle.descriptor_lines.specs.Programs.{IsUnchanged, begun};
+ghost use Rattle.descriptor_lines.specs.Programs.{CanRun, DoesLine, IsFresh, IsNotRun};
 ghost use Rattle.descriptor_lines.specs.Transcripts.{RunsLines, Writes};
-ghost use Rattle.descriptor_words.specs.Words.{words, is_silent};
+ghost use Rattle.descriptor_words.specs.Words.{words};
 
 mod output;
 mod run;
@@ -74,16 +72,8 @@ impl<D: LineDevice> Program<D> {
         ensures ready { CanRun (line_state D.ledger D.script self.new) }
         ensures does { OnOk result (DoesLine (words line.now) (string_bytes answer.new)
             (line_state D.ledger D.script self.old) (line_state D.ledger D.script self.new)) }
-        ensures err { OnErr result (IsUnchanged (line_state D.ledger D.script self.old)
-            (line_state D.ledger D.script self.new)) }
-        ensures begun { self.new.has_begun ≡ (self.old.has_begun || not
-            (is_silent (words line.now))) }
-        ensures faulty { IfErr result (λ reason. IfFault reason (λ _.
-            line_state D.ledger D.script self.new
-            ≡ begun (line_state D.ledger D.script self.old))) }
-        ensures own { IfErr result (IsReasonFor (line_state D.ledger D.script self.old)
-            (words line.now)) }
-        ensures speaks { OnErr result (IsFalse (is_silent (words line.now))) }
+        ensures not_run { IfErr result (λ reason. IsNotRun reason (words line.now)
+            (line_state D.ledger D.script self.old) (line_state D.ledger D.script self.new)) }
     {
         self.device.hear(line);
         match Command::parse(self.alloc, line, &self.layouts, self.has_begun) {

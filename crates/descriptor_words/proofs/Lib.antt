@@ -1,5 +1,3 @@
-pub mod FaultLemmas
-pub mod KindLemmas
 pub mod NameLemmas
 pub mod NumberLemmas
 pub mod TicketLemmas

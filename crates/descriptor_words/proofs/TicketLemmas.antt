@@ -1,11 +1,11 @@
 -- Tickets in a row, one by one.
-use Rattle.std.proofs.Common.{◌≡◌, ℕ, zero, suc, ◌+◌, ◌-◌, [], List, ◌∷◌, ◌++◌, length, length-append, sym, ap, ◌∙◌, arith}
+use Rattle.std.proofs.Common.{◌≡◌, ℕ, zero, suc, ◌+◌, ◌-◌, [], ◌∷◌, ◌++◌, length, ap, ◌∙◌, arith}
 use Rattle.std.proofs.lemmas.Grind.{common_steps}
 use Rattle.std.proofs.lemmas.Bool.Decides.{nat_tests}
-use Rattle.std.proofs.lemmas.List.{flat_map_more, length-reverse}
+use Rattle.std.proofs.lemmas.List.{length-reverse}
 use Rattle.std.proofs.lemmas.List.FromFn.{length-range_with_len}
-use Rattle.std.specs.List.{flat_map, range_with_len}
-use Rattle.descriptor_words.specs.Tickets.{tickets_between, tickets_of}
+use Rattle.std.specs.List.{range_with_len}
+use Rattle.descriptor_words.specs.Tickets.{tickets_between}
 
 range_more : (a n : ℕ) → range_with_len a (suc n) ≡ range_with_len a n ++ (a + n) ∷ []
 range_more a zero = ap (λ x. x ∷ []) (let e : a ≡ a + 0 = omega arith in e)
@@ -19,8 +19,3 @@ rising_more first n = ap (range_with_len first) (let e : n + 1 ≡ suc n = omega
 -- how many tickets there are from the one to the other, with both
 pub count_between : (first last : ℕ) → length (tickets_between first last) ≡ (first - last) + (last - first) + 1
 count_between first last = grind (arith, common_steps, nat_tests, length-range_with_len, length-reverse {A = ℕ})
-
--- the tickets with one word more
-pub count_more : (words : List (List ℕ)) (word : List ℕ) → length (flat_map tickets_of (words ++ word ∷ [])) ≡ length (flat_map tickets_of words) + length (tickets_of word)
-count_more words word =
-    ap length (sym (flat_map_more tickets_of [] words word)) ∙ length-append (flat_map tickets_of words) (tickets_of word)

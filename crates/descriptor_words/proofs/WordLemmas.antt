@@ -1,14 +1,12 @@
 -- The first word of a line, and the others.
-use Rattle.std.proofs.Common.{◌≡◌, ℕ, ◌+◌, ◌<◌, ◌≤◌, ◌⊎◌, inl, inr, true, false, List, [], ◌∷◌, ◌++◌, map, length, take, drop, get_or, slice_index, filter, unwrap_or, position, length-take, refl, Bor, arith, ap, sym, ◌∙◌}
+use Rattle.std.proofs.Common.{◌≡◌, ℕ, ◌+◌, ◌<◌, ◌≤◌, ◌⊎◌, inl, inr, true, false, List, [], ◌∷◌, length, take, drop, get_or, slice_index, filter, unwrap_or, position, length-take, refl, arith, ap, sym, ◌∙◌}
 use Rattle.std.specs.List.{position_or_len, slice_split}
 use Rattle.std.proofs.lemmas.Bool.{cases_lt}
 use Rattle.std.proofs.lemmas.Bool.Decides.{nat_tests}
 use Rattle.std.proofs.lemmas.List.Splits.{slice_split_first, slice_split_none}
 use Rattle.std.proofs.lemmas.List.Sums.{passes_at_first, fails_before_first, prefix_len-le-length}
 use Rattle.std.proofs.lemmas.List.{drop_more, take_all, drop_all, length-take-le}
-use Rattle.std.specs.Iterator.{Yields, YieldsFirstBy}
-use Rattle.descriptor_words.specs.Words.{AtWord, words, words_left, is_blank, has_bytes}
-use Rattle.descriptor_words.specs.declared.text.Words.{Words}
+use Rattle.descriptor_words.specs.Words.{words, is_blank, has_bytes}
 
 words-blank : (byte : ℕ) (line : List ℕ) → is_blank byte ≡ true → words (byte ∷ line) ≡ words line
 words-blank byte line blank = simp blank
@@ -53,21 +51,16 @@ words_split line word others end ends front back begins some =
     let line_some : 0 < length line = omega (arith, rw front at some, length-take end line) in
     rw (front, back, is) (words_first line line_some (begins line_some))
 
--- the iterator gave these words, and others are left
-abbrev pub Gave : Words → List (Bor (List ℕ)) → Words → Type 0
-Gave start given left = Yields (YieldsFirstBy (λ word. word.now) words_left) start given left
+-- from a place on the word has these bytes
+abbrev pub Spells : List ℕ → ℕ → List ℕ → Type 0
+Spells word place [] = Unit {0}
+Spells word place (byte ∷ bytes) = (get_or word place 0 ≡ byte) × Spells word (place + 1) bytes
 
-pub words_given : (given : List (Bor (List ℕ))) (start left : Words) → Gave start given left → words_left start ≡ map (λ word. word.now) given ++ words_left left
-words_given [] start left gave = ap words_left gave
-words_given (word ∷ given) start left gave =
-    gave.1 ∙ ap (λ others. word.now ∷ others) (words_given given gave.0 left gave.2)
+spelled_from : (word bytes : List ℕ) (place : ℕ) → length word ≡ place + length bytes → Spells word place bytes → drop place word ≡ bytes
+spelled_from word [] place size spells = drop_all place word (omega arith)
+spelled_from word (byte ∷ bytes) place size (is, others) =
+    drop_more word place 0 (omega arith) ∙ ap (λ first. first ∷ drop (place + 1) word) is ∙ ap (λ rest. byte ∷ rest) (spelled_from word bytes (place + 1) (omega arith) others)
 
--- the next word stands behind those that were given
-pub at_next : (P : List (List ℕ) → List ℕ → Type 0) (words : List (List ℕ)) (given : List (Bor (List ℕ))) (start left after : Words) (word : List ℕ) → Gave start given left → words_left start ≡ words → words_left left ≡ word ∷ words_left after → P (map (λ word. word.now) given) word → AtWord P words
-at_next P words given start left after word gave is next holds = record {
-  before = map (λ word. word.now) given;
-  word = word;
-  after = words_left after;
-  split = sym is ∙ words_given given start left gave ∙ ap (λ others. map (λ word. word.now) given ++ others) next;
-  holds = holds;
-}
+-- a word is what its bytes spell
+pub spelled : (word bytes : List ℕ) → length word ≡ length bytes → Spells word 0 bytes → word ≡ bytes
+spelled word bytes size spells = spelled_from word bytes 0 (omega arith) spells

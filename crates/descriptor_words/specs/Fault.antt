@@ -1,5 +1,5 @@
--- What the output says of each fault.
-use Rattle.std.specs.Prelude.{ℕ, List, codes}
+-- What the output says of each fault, and how a fault ends the reading of words.
+use Rattle.std.specs.Prelude.{◌≡◌, ℕ, List, Result, Ok, Err, codes}
 use Rattle.descriptor_words.specs.declared.fault.Fault.{Fault}
 use Rattle.descriptor_words.specs.declared.fault.Fault.TheVariants.{LineTooLong, UnknownCommand, LimitNotFirst, BadWordCount, BadName, NameIsTaken, NoSuchLayout, BadMark, BadKind, KindTwice, BadNumber, BadAnswerWord, TooManyTickets, TooManyLayouts}
 use Rattle.descriptor_words.specs.declared.fault.Refusal.{Refusal}
@@ -21,16 +21,19 @@ words_of_fault BadAnswerWord = codes "bad answer word"
 words_of_fault TooManyTickets = codes "too many tickets"
 words_of_fault TooManyLayouts = codes "too many layouts"
 
--- the line is refused for this fault
-abbrev pub faulty : Fault → Refusal
-faulty fault = refusal.Fault fault
+-- what comes next, if nothing is wrong so far: so the first fault counts
+infixl 10 ◌>>=◌
+abbrev pub ◌>>=◌ : {A B : Type 0} → Result A Fault → (A → Result B Fault) → Result B Fault
+Ok x >>= next = next x
+Err fault >>= next = Err fault
 
--- if it is for a fault, this holds of the fault
-abbrev pub IfFault : Refusal → (Fault → Type 0) → Type 0
-IfFault (refusal.Fault fault) P = P fault
-IfFault refusal.NoMemory P = Unit {0}
+-- a value that was read, as the definitions see it
+abbrev pub read_as : {A B : Type 0} → (A → B) → Result A Fault → Result B Fault
+read_as view (Ok x) = Ok (view x)
+read_as view (Err fault) = Err fault
 
--- it is for a fault, of which this holds
-abbrev pub IsFaultAnd : Refusal → (Fault → Type 0) → Type 0
-IsFaultAnd (refusal.Fault fault) P = P fault
-IsFaultAnd refusal.NoMemory P = ⊥
+-- what was read, as the definitions see it, is this value or this fault, if no allocation failed
+abbrev pub Reads : {A B : Type 0} → (A → B) → Result A Refusal → Result B Fault → Type 0
+Reads view (Ok x) given = given ≡ Ok (view x)
+Reads view (Err (refusal.Fault fault)) given = given ≡ Err fault
+Reads view (Err refusal.NoMemory) given = Unit {0}

@@ -1,5 +1,6 @@
 -- The words that commands begin with.
-use Rattle.std.specs.Prelude.{◌≢◌, ℕ, List, codes}
+use Rattle.std.specs.Prelude.{ℕ, List, [], ◌∷◌, Option, codes}
+use Rattle.descriptor_words.specs.Words.{named}
 use Rattle.descriptor_words.specs.declared.keyword.Keyword.{Keyword}
 use Rattle.descriptor_words.specs.declared.keyword.Keyword.TheVariants.{Limit, Layout, Size, Script, Alloc, Free, Cleanup, Show}
 
@@ -14,6 +15,7 @@ word_of_keyword Free = codes "free"
 word_of_keyword Cleanup = codes "cleanup"
 word_of_keyword Show = codes "show"
 
--- the word is none of a command
-abbrev pub IsNoKeyword : List ℕ → Type 0
-IsNoKeyword word = (keyword : Keyword) → word ≢ word_of_keyword keyword
+-- the command that a word begins
+abbrev pub keyword_of : List ℕ → Option Keyword
+keyword_of word =
+    named word_of_keyword (Limit ∷ Layout ∷ Size ∷ Script ∷ Alloc ∷ Free ∷ Cleanup ∷ Show ∷ []) word

@@ -1,58 +1,36 @@
 -- The names of the kinds of descriptors, and the words that give their counts.
-use Rattle.std.specs.Prelude.{◌≡◌, ◌≢◌, ℕ, List, [], ◌∷◌, codes, map, All, AllPairs, Contains, Some, slice_get, slice_index}
-use Rattle.std.specs.List.{before_first, after_first}
+use Rattle.std.specs.Prelude.{ℕ, Bool, true, false, List, [], ◌∷◌, Option, Result, Ok, Err, bytes_eq, codes, ok_or, position, replicate, set, slice_index_or, if◌then◌else◌}
 use Rattle.gpu_descriptor_types.specs.Bounds.{greatest_u32}
-use Rattle.descriptor_words.specs.Numbers.{WritesNumberWithin, value_of}
-use Rattle.descriptor_words.specs.Words.{AtWord, is_byte}
+use Rattle.descriptor_words.specs.Fault.{◌>>=◌}
+use Rattle.descriptor_words.specs.Numbers.{number_in}
+use Rattle.descriptor_words.specs.Words.{around, in_turn}
 use Rattle.descriptor_words.specs.declared.fault.Fault.{Fault}
-use Rattle.descriptor_words.specs.declared.fault.Fault.TheVariants.{BadKind, KindTwice, BadNumber}
+use Rattle.descriptor_words.specs.declared.fault.Fault.TheVariants.{BadKind, KindTwice}
 
 -- in the order of the fields of the counts
 abbrev pub kind_names : List (List ℕ)
 kind_names =
     codes "sampler" ∷ codes "combined_image_sampler" ∷ codes "sampled_image" ∷ codes "storage_image" ∷ codes "uniform_texel_buffer" ∷ codes "storage_texel_buffer" ∷ codes "uniform_buffer" ∷ codes "storage_buffer" ∷ codes "uniform_buffer_dynamic" ∷ codes "storage_buffer_dynamic" ∷ codes "input_attachment" ∷ codes "acceleration_structure" ∷ codes "inline_uniform_block_bytes" ∷ codes "inline_uniform_block_bindings" ∷ []
 
--- what is before the first `=` of a word
-abbrev pub kind_of : List ℕ → List ℕ
-kind_of word = before_first (is_byte 61) word
+-- the place of the kind of this name
+unfoldable pub place_of_kind : List ℕ → Option ℕ
+place_of_kind word = position (λ name. bytes_eq name word) kind_names
 
--- what is after it
-abbrev pub count_in : List ℕ → List ℕ
-count_in word = after_first (is_byte 61) word
+-- which kinds the words named, and the counts that they gave
+abbrev pub Given : Type 0
+Given = List Bool × List ℕ
 
--- the word has a `=`, with a kind before the first
-pub record NamesKind (word : List ℕ) : Type 0 where
-  pub equals : Contains word 61
-  pub kind : Contains kind_names (kind_of word)
+-- a word more, `KIND=N`
+abbrev pub with_count : Given → List ℕ → Result Given Fault
+with_count (given, counts) word = do
+  parts ← ok_or (around 61 word) BadKind
+  place ← ok_or (place_of_kind parts.0) BadKind
+  new ← if slice_index_or given place false then Err KindTwice else Ok place
+  count ← number_in greatest_u32 parts.1
+  Ok (set given place true, set counts place count)
 
--- the word gives a count
-abbrev pub GivesCount : List ℕ → Type 0
-GivesCount word = WritesNumberWithin greatest_u32 (count_in word)
-
--- each word gives the count of a kind, and no two of the same
-pub record AreKinds (words : List (List ℕ)) : Type 0 where
-  pub kinds : All NamesKind words
-  pub counts : All GivesCount words
-  pub once : AllPairs (λ kind other. kind ≢ other) (map kind_of words)
-
--- an earlier word gave the kind of this
-abbrev pub IsAgain : List (List ℕ) → List ℕ → Type 0
-IsAgain before word = Contains (map kind_of before) (kind_of word)
-
--- what is wrong with the words that give counts: the first word at fault names no kind, or names one again, or gives no count
-abbrev pub IsFaultOfKinds : List (List ℕ) → Fault → Type 0
-IsFaultOfKinds words BadKind = AtWord (λ before word. AreKinds before × ¬ NamesKind word) words
-IsFaultOfKinds words KindTwice =
-    AtWord (λ before word. AreKinds before × NamesKind word × IsAgain before word) words
-IsFaultOfKinds words BadNumber =
-    AtWord (λ before word. AreKinds before × NamesKind word × ¬ IsAgain before word × ¬ GivesCount word) words
-IsFaultOfKinds words _ = ⊥
-
--- the kind at this place has this name
-abbrev pub IsKindAt : ℕ → List ℕ → Type 0
-IsKindAt place name = slice_get kind_names place ≡ Some name
-
--- the words give these counts, and 0 if no word names the kind
-pub record GiveCounts (words : List (List ℕ)) (counts : List ℕ) : Type 0 where
-  pub named : All (λ word. (place : ℕ) → IsKindAt place (kind_of word) → slice_index counts place ≡ value_of (count_in word)) words
-  pub unnamed : (place : ℕ) (name : List ℕ) → IsKindAt place name → ¬ Contains (map kind_of words) name → slice_index counts place ≡ 0
+-- the counts that the words give, each kind at most once, and 0 of a kind that they don't name
+abbrev pub counts_in : List (List ℕ) → Result (List ℕ) Fault
+counts_in words = do
+  given ← in_turn with_count (replicate 14 false, replicate 14 0) words
+  Ok given.1

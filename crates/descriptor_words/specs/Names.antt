@@ -1,14 +1,18 @@
 -- What a name is.
-use Rattle.std.specs.Prelude.{◌≡◌, ℕ, ◌≤◌, ◌⊎◌, List, length, All}
-use Rattle.std.specs.Int.{IsInRange}
+use Rattle.std.specs.Prelude.{ℕ, Bool, List, Result, length, nat_le, ok_or, ◌==◌, ◌&&◌, ◌||◌}
+use Rattle.std.specs.Bool.{then_some}
+use Rattle.std.specs.Char.{is_ascii_alphanumeric}
+use Rattle.std.specs.List.{list_all}
+use Rattle.descriptor_words.specs.declared.fault.Fault.{Fault}
+use Rattle.descriptor_words.specs.declared.fault.Fault.TheVariants.{BadName}
 
 -- A to Z, a to z, 0 to 9, `_` and `-`
-abbrev pub IsNameByte : ℕ → Type 0
-IsNameByte byte =
-    IsInRange 65 90 byte ⊎ IsInRange 97 122 byte ⊎ IsInRange 48 57 byte ⊎ (byte ≡ 95) ⊎ (byte ≡ 45)
+abbrev pub is_name_byte : ℕ → Bool
+is_name_byte byte = is_ascii_alphanumeric byte || byte == 95 || byte == 45
 
 -- 1 to 32 such bytes
-pub record IsName (word : List ℕ) : Type 0 where
-  pub some : 1 ≤ length word
-  pub at_most_thirty_two : length word ≤ 32
-  pub bytes : All IsNameByte word
+unfoldable pub is_name : List ℕ → Bool
+is_name word = nat_le 1 (length word) && nat_le (length word) 32 && list_all is_name_byte word
+
+abbrev pub name_in : List ℕ → Result (List ℕ) Fault
+name_in word = ok_or (then_some (is_name word) word) BadName

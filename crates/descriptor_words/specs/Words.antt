@@ -1,6 +1,8 @@
 -- The words of a line.
-use Rattle.std.specs.Prelude.{◌≡◌, ℕ, Bool, true, false, List, [], ◌∷◌, ◌++◌, ◌==◌, ◌||◌, filter, slice_index}
-use Rattle.std.specs.List.{slice_split}
+use Rattle.std.specs.Prelude.{ℕ, Bool, true, false, List, [], ◌∷◌, Option, None, Some, Result, Ok, ◌==◌, ◌||◌, bytes_eq, filter, find, is_some, position, slice_index, if◌then◌else◌}
+use Rattle.std.specs.List.{after_first, before_first, slice_split}
+use Rattle.descriptor_words.specs.Fault.{◌>>=◌}
+use Rattle.descriptor_words.specs.declared.fault.Fault.{Fault}
 use Rattle.descriptor_words.specs.declared.text.Words.{Words}
 
 -- a space or a tab
@@ -20,6 +22,15 @@ words line = filter has_bytes (slice_split is_blank line)
 abbrev pub is_byte : ℕ → ℕ → Bool
 is_byte value byte = byte == value
 
+-- what stands before and after the first byte of this value, if the word has one
+abbrev pub around : ℕ → List ℕ → Option (List ℕ × List ℕ)
+around value word =
+    if is_some (position (is_byte value) word) then Some (before_first (is_byte value) word, after_first (is_byte value) word) else None
+
+-- the first of these that has the word for its name
+abbrev pub named : {A : Type 0} → (A → List ℕ) → List A → List ℕ → Option A
+named name all word = find (λ one. bytes_eq word (name one)) all
+
 -- the words that are still to come
 abbrev pub words_left : Words → List (List ℕ)
 words_left left = words left.rest.now
@@ -29,10 +40,7 @@ abbrev pub is_silent : List (List ℕ) → Bool
 is_silent [] = true
 is_silent (word ∷ words) = slice_index word 0 == 35
 
--- this holds of a word, with the words before it
-pub record AtWord (P : List (List ℕ) → List ℕ → Type 0) (words : List (List ℕ)) : Type 0 where
-  pub before : List (List ℕ)
-  pub word : List ℕ
-  pub after : List (List ℕ)
-  pub split : words ≡ before ++ word ∷ after
-  pub holds : P before word
+-- what a step makes of the words, one after the other, up to the first fault
+abbrev pub in_turn : {A : Type 0} → (A → List ℕ → Result A Fault) → A → List (List ℕ) → Result A Fault
+in_turn step so_far [] = Ok so_far
+in_turn step so_far (word ∷ words) = step so_far word >>= λ more. in_turn step more words

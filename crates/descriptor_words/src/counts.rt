@@ -1,9 +1,10 @@
 //! Words that give the counts of a layout.
-ghost use Rattle.std.specs.Prelude.{◌≡◌, ◌↔◌, IsOk, IfOk, IfErr, OnOk};
+ghost use Rattle.std.specs.Prelude.{◌≡◌};
 ghost use Rattle.gpu_descriptor_types.specs.Counts.{kinds};
-ghost use Rattle.descriptor_words.specs.Kinds.{AreKinds, GiveCounts, IsFaultOfKinds};
+ghost use Rattle.descriptor_words.specs.Fault.{read_as};
+ghost use Rattle.descriptor_words.specs.Kinds.{counts_in};
 ghost use Rattle.gpu_descriptor_types.specs.Bounds.{greatest_u32};
-ghost use Rattle.descriptor_words.specs.Numbers.{WritesNumberWithin, value_of};
+ghost use Rattle.descriptor_words.specs.Numbers.{number_in};
 ghost use Rattle.descriptor_words.specs.Words.{words_left};
 
 use crate::fault::Fault;
@@ -13,9 +14,7 @@ use gpu_descriptor_types::DescriptorTotalCount;
 
 /// The counts out of words `KIND=N`, each kind at most once.
 pub fn parse_counts(words: Words<'_>) -> Result<DescriptorTotalCount, Fault>
-    ensures fault { IfErr result (IsFaultOfKinds (words_left words.entry)) }
-    ensures accepted { OnOk result (AreKinds (words_left words.entry)) }
-    ensures counts { IfOk result (λ counts. GiveCounts (words_left words.entry) (kinds counts)) }
+    ensures { read_as kinds result ≡ counts_in (words_left words.entry) }
 {
     let mut counts = DescriptorTotalCount::default();
     let mut is_named = [false; text::KIND_COUNT];
@@ -33,9 +32,7 @@ pub fn parse_counts(words: Words<'_>) -> Result<DescriptorTotalCount, Fault>
 
 /// The number of 32 bits that a word writes.
 pub fn parse_u32(word: &[u8]) -> Result<u32, Fault>
-    ensures accepted { IsOk result ↔ WritesNumberWithin greatest_u32 word.now }
-    ensures value { IfOk result (λ number. number ≡ value_of word.now) }
-    ensures fault { IfErr result (λ fault. fault ≡ Fault.BadNumber) }
+    ensures { result ≡ number_in greatest_u32 word.now }
 {
     let number = text::number_within(word, u64::from(u32::MAX)).ok_or(Fault::BadNumber)?;
     Ok(number as u32)

@@ -1,6 +1,6 @@
 //! The words that commands begin with.
-ghost use Rattle.std.specs.Prelude.{◌≡◌, IfSome, IfNone};
-ghost use Rattle.descriptor_words.specs.Keywords.{IsNoKeyword, word_of_keyword};
+ghost use Rattle.std.specs.Prelude.{◌≡◌};
+ghost use Rattle.descriptor_words.specs.Keywords.{keyword_of};
 
 /// The first word of a line with a command.
 #[derive(Clone, Copy, Debug)]
@@ -18,8 +18,7 @@ pub enum Keyword {
 impl Keyword {
     /// The command that a word begins.
     pub fn of_word(word: &[u8]) -> Option<Keyword>
-        ensures some { IfSome result (λ keyword. word.now ≡ word_of_keyword keyword) }
-        ensures none { IfNone result (IsNoKeyword word.now) }
+        ensures { result ≡ keyword_of word.now }
     {
         match word {
             b"limit" => Some(Keyword::Limit),

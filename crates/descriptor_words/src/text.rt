@@ -1,12 +1,15 @@
 //! The parts of a line: words, numbers, names and kinds.
-ghost use Rattle.std.specs.Prelude.{◌≡◌, ℕ, ◌≤◌, ◌<◌, ◌≢◌, ◌↔◌, ◌++◌, ◌∷◌, length, All, Contains};
-ghost use Rattle.std.specs.Prelude.{IsTrue, is_some, IsSome, IfSome, IfNone, position, slice_get};
-ghost use Rattle.std.specs.Prelude.{slice_index, Some, false};
+ghost use Rattle.std.specs.Prelude.{◌≡◌, ℕ, ◌≤◌, ◌<◌, ◌↔◌, ◌++◌, ◌∷◌, length, option_map};
+ghost use Rattle.std.specs.Prelude.{IsTrue, IsSome, IfSome, position, slice_get};
+ghost use Rattle.std.specs.Prelude.{slice_index, Contains, Some, false};
+ghost use Rattle.std.specs.Bool.{then_some};
 ghost use Rattle.std.specs.Iterator.{YieldsFirstBy, item_count};
-ghost use Rattle.std.specs.List.{before_first, after_first};
-ghost use Rattle.descriptor_words.specs.Kinds.{kind_names};
-ghost use Rattle.descriptor_words.specs.Names.{IsName, IsNameByte};
-ghost use Rattle.descriptor_words.specs.Numbers.{WritesNumberWithin, value_of};
+ghost use Rattle.descriptor_words.specs.Kinds.{kind_names, place_of_kind};
+ghost use Rattle.descriptor_words.specs.Names.{is_name as is_name_of};
+ghost use Rattle.descriptor_words.specs.Names.{is_name_byte as is_name_byte_of};
+ghost use Rattle.descriptor_words.specs.Numbers.{is_number as is_number_of};
+ghost use Rattle.descriptor_words.specs.Numbers.{number_within as number_within_of};
+ghost use Rattle.descriptor_words.specs.Words.{around as around_of};
 ghost use Rattle.descriptor_words.specs.Words.{words as words_of, is_blank as is_blank_of, is_byte};
 ghost use Rattle.descriptor_words.specs.Words.{words_left};
 
@@ -99,22 +102,25 @@ fn first_blank(line: &[u8]) -> Option<usize>
     line.iter().position(|byte| is_blank(*byte))
 }
 
+/// Whether a word is a number: 1 to 20 digits, leading zeros allowed.
+fn is_number(word: &[u8]) -> bool
+    ensures { result ≡ is_number_of word.now }
+{
+    !word.is_empty() && word.len() <= MAX_DIGITS && word.iter().all(|byte| byte.is_ascii_digit())
+}
+
 /// The number that a word writes: 1 to 20 digits, leading zeros allowed, of a value up to
 /// `greatest`.
-#[tactic(auto, using(crate::proofs::NumberLemmas::value_more, crate::proofs::NumberLemmas::too_great))]
+#[tactic(auto, using(crate::proofs::NumberLemmas::value_more, crate::proofs::NumberLemmas::digit_at, crate::proofs::NumberLemmas::too_great), unfolding(crate::specs::Numbers::number_within))]
 pub fn number_within(word: &[u8], greatest: u64) -> Option<u64>
-    ensures accepted { IsSome result ↔ WritesNumberWithin greatest word.now }
-    ensures value { IfSome result (λ number. number ≡ value_of word.now) }
+    ensures number { result ≡ number_within_of greatest word.now }
     ensures within { IfSome result (λ number. number ≤ greatest) }
 {
-    if word.is_empty() || MAX_DIGITS < word.len() {
+    if !is_number(word) {
         return None;
     }
     let mut value = 0u64;
     for byte in word {
-        if !byte.is_ascii_digit() {
-            return None;
-        }
         value = value.checked_mul(10)?.checked_add(u64::from(*byte - b'0'))?;
     }
     (value <= greatest).then_some(value)
@@ -122,14 +128,14 @@ pub fn number_within(word: &[u8], greatest: u64) -> Option<u64>
 
 /// Whether a byte may stand in a name.
 fn is_name_byte(byte: u8) -> bool
-    ensures { IsTrue result ↔ IsNameByte byte }
+    ensures { result ≡ is_name_byte_of byte }
 {
     byte.is_ascii_alphanumeric() || byte == b'_' || byte == b'-'
 }
 
 /// Whether a word is a name: 1 to 32 letters, digits, `_` and `-` of ASCII.
 fn is_name(word: &[u8]) -> bool
-    ensures { IsTrue result ↔ IsName word.now }
+    ensures { result ≡ is_name_of word.now }
 {
     !word.is_empty() && word.len() <= MAX_NAME_LEN && word.iter().all(|byte| is_name_byte(*byte))
 }
@@ -137,8 +143,8 @@ fn is_name(word: &[u8]) -> bool
 /// The word as a name: 1 to 32 letters, digits, `_` and `-` of ASCII.
 #[tactic(auto, using(crate::proofs::NameLemmas::text_from_name))]
 pub fn name(word: &[u8]) -> Option<&str>
-    ensures accepted { IsSome result ↔ IsName word.now }
-    ensures value { IfSome result (λ name. name.now ≡ word.now) }
+    ensures { option_map (λ name. name.now) result
+        ≡ then_some (is_name_of word.now) word.now }
 {
     if is_name(word) {
         str::from_utf8(word).ok()
@@ -157,16 +163,10 @@ pub fn kind_name(place: usize) -> &'static str
 
 /// The place of the kind of this name, in the order of the fields of the counts.
 pub fn kind(word: &[u8]) -> Option<usize>
+    ensures place { result ≡ place_of_kind word.now }
     ensures within { IfSome result (λ place. place < 14) }
-    ensures named { IfSome result (λ place. slice_get kind_names place ≡ Some word.now) }
-    ensures unnamed { IfNone result (¬ Contains kind_names word.now) }
 {
-    for (place, name) in KIND_NAMES.iter().enumerate() {
-        if name.as_bytes() == word {
-            return Some(place);
-        }
-    }
-    None
+    KIND_NAMES.iter().position(|name| name.as_bytes() == word)
 }
 
 /// The place of the first byte of this value.
@@ -179,10 +179,8 @@ pub fn first_of(word: &[u8], value: u8) -> Option<usize>
 
 /// What stands before and after the first byte of this value, where the word has one.
 pub fn around(word: &[u8], value: u8) -> Option<(&[u8], &[u8])>
-    ensures found { IsSome result ↔ Contains word.now value }
-    ensures at { is_some result ≡ is_some (position (is_byte value) word.now) }
-    ensures before { IfSome result (λ parts. parts.0.now ≡ before_first (is_byte value) word.now) }
-    ensures after { IfSome result (λ parts. parts.1.now ≡ after_first (is_byte value) word.now) }
+    ensures { option_map (λ parts. (parts.0.now, parts.1.now)) result
+        ≡ around_of value word.now }
 {
     let place = first_of(word, value)?;
     Some((&word[..place], &word[place + 1..]))

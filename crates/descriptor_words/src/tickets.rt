@@ -1,13 +1,12 @@
 //! The tickets of a line that gives sets back.
-ghost use Rattle.std.specs.Prelude.{◌≡◌, ◌≢◌, ◌+◌, ◌^◌, ◌≤◌, ◌<◌, ◌↔◌, ◌++◌, vec_len, vec_capacity};
-ghost use Rattle.std.specs.Prelude.{◌-◌, IsOk, IfOk, IfErr, OnOk, Err, length, reverse};
-ghost use Rattle.std.specs.List.{flat_map, range_with_len};
-ghost use Rattle.descriptor_words.specs.Fault.{IfFault, faulty};
+ghost use Rattle.std.specs.Prelude.{◌≡◌, ◌+◌, ◌-◌, ◌^◌, ◌≤◌, ◌++◌, vec_len, vec_capacity};
+ghost use Rattle.std.specs.Prelude.{OnOk, reverse};
+ghost use Rattle.std.specs.List.{range_with_len};
+ghost use Rattle.descriptor_words.specs.Fault.{Reads, read_as};
 ghost use Rattle.gpu_descriptor_types.specs.Bounds.{greatest_u64};
-ghost use Rattle.descriptor_words.specs.Numbers.{WritesNumberWithin, value_of};
-ghost use Rattle.descriptor_words.specs.Tickets.{AreTickets, IsFaultOfFree, WritesTickets};
-ghost use Rattle.descriptor_words.specs.Tickets.{first_side, last_side, most_tickets};
-ghost use Rattle.descriptor_words.specs.Tickets.{tickets_between, tickets_of};
+ghost use Rattle.descriptor_words.specs.Numbers.{number_in};
+ghost use Rattle.descriptor_words.specs.Tickets.{joined, most_tickets, sides as sides_of};
+ghost use Rattle.descriptor_words.specs.Tickets.{tickets_between, tickets_in, tickets_of};
 ghost use Rattle.descriptor_words.specs.Words.{words_left};
 
 use crate::fault::{Fault, Refusal};
@@ -30,12 +29,7 @@ struct Span {
 ///
 /// The fault is that of the first word that is wrong, or with which the tickets are too many.
 pub fn parse_free(alloc: Global, words: Words<'_>) -> Result<Vec<usize>, Refusal>
-    ensures fault { IfErr result (λ reason. IfFault reason
-        (IsFaultOfFree (words_left words.entry))) }
-    ensures accepted { OnOk result (AreTickets (words_left words.entry)) }
-    ensures tickets { IfOk result (λ tickets. tickets.items
-        ≡ flat_map tickets_of (words_left words.entry)) }
-    ensures few { IfOk result (λ tickets. vec_len tickets ≤ most_tickets) }
+    ensures { Reads (λ tickets. tickets.items) result (tickets_in (words_left words.entry)) }
 {
     let mut tickets = Vec::new(alloc);
     for word in words {
@@ -46,10 +40,8 @@ pub fn parse_free(alloc: Global, words: Words<'_>) -> Result<Vec<usize>, Refusal
 
 /// The tickets of a word: one, `T`, or a range, `A-B`.
 fn parse_span(word: &[u8]) -> Result<Span, Fault>
-    ensures accepted { IsOk result ↔ WritesTickets word.now }
-    ensures first { IfOk result (λ span. span.first ≡ value_of (first_side word.now)) }
-    ensures last { IfOk result (λ span. span.last ≡ value_of (last_side word.now)) }
-    ensures fault { IfErr result (λ fault. fault ≡ Fault.BadNumber) }
+    ensures { read_as (λ span. tickets_between span.first span.last) result
+        ≡ tickets_of word.now }
 {
     let (first, last) = sides(word);
     Ok(Span {
@@ -60,8 +52,7 @@ fn parse_span(word: &[u8]) -> Result<Span, Fault>
 
 /// What stands before and after the first `-`, or the word twice where it has none.
 fn sides(word: &[u8]) -> (&[u8], &[u8])
-    ensures first { result.0.now ≡ first_side word.now }
-    ensures last { result.1.now ≡ last_side word.now }
+    ensures { (result.0.now, result.1.now) ≡ sides_of word.now }
 {
     match text::around(word, b'-') {
         Some(sides) => sides,
@@ -70,9 +61,7 @@ fn sides(word: &[u8]) -> (&[u8], &[u8])
 }
 
 fn parse_ticket(word: &[u8]) -> Result<usize, Fault>
-    ensures accepted { IsOk result ↔ WritesNumberWithin greatest_u64 word.now }
-    ensures value { IfOk result (λ ticket. ticket ≡ value_of word.now) }
-    ensures fault { IfErr result (λ fault. fault ≡ Fault.BadNumber) }
+    ensures { result ≡ number_in greatest_u64 word.now }
 {
     let ticket = text::number_within(word, u64::MAX).ok_or(Fault::BadNumber)?;
     Ok(ticket as usize)
@@ -83,13 +72,8 @@ fn parse_ticket(word: &[u8]) -> Result<usize, Fault>
 #[tactic(auto, using(crate::proofs::TicketLemmas::count_between))]
 fn add_tickets(tickets: &mut Vec<usize>, span: Span) -> Result<(), Refusal>
     requires { vec_len tickets.old ≤ most_tickets }
-    ensures fault { IfErr result (λ reason. IfFault reason (λ fault. fault
-        ≡ Fault.TooManyTickets)) }
-    ensures too_many { result ≡ Err (faulty Fault.TooManyTickets)
-        ↔ (most_tickets < vec_len tickets.old + length (tickets_between span.first
-        span.last)) }
-    ensures added { OnOk result (tickets.new.items ≡ tickets.old.items ++ tickets_between span.first
-        span.last) }
+    ensures added { Reads (λ _. tickets.new.items) result
+        (joined tickets.old.items (tickets_between span.first span.last)) }
     ensures few { OnOk result (vec_len tickets.new ≤ most_tickets) }
 {
     let steps = span.first.abs_diff(span.last);

@@ -1,15 +1,15 @@
 //! The commands, run.
-ghost use Rattle.std.specs.Prelude.{◌≡◌, ◌++◌, [], None, IsTrue, OnOk, OnErr, length, sum};
-ghost use Rattle.std.specs.Prelude.{string_bytes};
+ghost use Rattle.std.specs.Prelude.{◌≡◌, [], None, IsTrue, OnOk, string_bytes};
 ghost use Rattle.gpu_descriptor_types.specs.Counts.{kinds};
-ghost use Rattle.descriptor_lines.specs.Answers.{AnswersSize, layout_answer as layout_answer_of};
-ghost use Rattle.descriptor_lines.specs.Answers.{limit_answer as limit_answer_of};
-ghost use Rattle.descriptor_lines.specs.Answers.{script_answer as script_answer_of};
+ghost use Rattle.descriptor_lines.specs.Answers.{AnswersSize};
 ghost use Rattle.descriptor_lines.specs.Commands.{IsKnown, IsRunnable};
+ghost use Rattle.descriptor_lines.specs.FirstLayouts.{key_of};
 ghost use Rattle.descriptor_lines.specs.LayoutTable.{layout_count, layout_named};
 ghost use Rattle.descriptor_lines.specs.LineStates.{line_state};
-ghost use Rattle.descriptor_lines.specs.Programs.{AddsLayout, Begins, CanRun, Does, DoesCommand};
-ghost use Rattle.descriptor_lines.specs.Programs.{IsUnchanged};
+ghost use Rattle.descriptor_lines.specs.Orders.{Limit, Layout as NewLayout, Script, order_of};
+ghost use Rattle.descriptor_lines.specs.Programs.{CanRun, Does, DoesOrder, RunsAs};
+ghost use Rattle.descriptor_script.specs.Scripted.Raw.{script_meaning};
+ghost use Rattle.descriptor_script.specs.Sessions.Steps.{StepsTo};
 
 use super::Program;
 use crate::answer;
@@ -33,12 +33,8 @@ impl<D: LineDevice> Program<D> {
         requires begun { IsTrue self.old.has_begun }
         requires runnable { IsRunnable self.old.layouts command }
         requires empty { string_bytes answer.old ≡ [] }
-        ensures ready { CanRun (line_state D.ledger D.script self.new) }
-        ensures does { OnOk result (DoesCommand command.entry (string_bytes answer.new)
-            (line_state D.ledger D.script self.old) (line_state D.ledger D.script self.new)) }
-        ensures err { OnErr result (IsUnchanged (line_state D.ledger D.script self.old)
-            (line_state D.ledger D.script self.new)) }
-        ensures begun { IsTrue self.new.has_begun }
+        ensures runs { RunsAs (DoesOrder (order_of command.entry)) result (string_bytes answer.new)
+            (line_state D.ledger D.script self.old) (line_state D.ledger D.script self.new) }
     {
         match command {
             Command::Limit { max } => self.begin(max, answer),
@@ -58,25 +54,20 @@ impl<D: LineDevice> Program<D> {
         }
     }
 
-    /// Begins with this limit on marked descriptors.
+    /// Begins with this limit on marked descriptors, and puts the answer into the empty text.
     fn begin(&mut self, max: u32, answer: &mut String) -> Result<(), AllocError>
         requires ready { CanRun (line_state D.ledger D.script self.old) }
-        requires empty { layout_count self.old.layouts ≡ 0 }
-        ensures ready { CanRun (line_state D.ledger D.script self.new) }
-        ensures begins { OnOk result (Begins max (line_state D.ledger D.script self.old)
-            (line_state D.ledger D.script self.new)) }
-        ensures answered { OnOk result (string_bytes answer.new ≡ string_bytes answer.old
-            ++ limit_answer_of max) }
-        ensures err { OnErr result (IsUnchanged (line_state D.ledger D.script self.old)
-            (line_state D.ledger D.script self.new)) }
-        ensures begun { self.new.has_begun ≡ self.old.has_begun }
+        requires fresh { layout_count self.old.layouts ≡ 0 }
+        requires empty { string_bytes answer.old ≡ [] }
+        ensures runs { RunsAs (DoesOrder (Limit max)) result (string_bytes answer.new)
+            (line_state D.ledger D.script self.old) (line_state D.ledger D.script self.new) }
     {
         answer::limit_answer(answer, max)?;
         self.session = Session::new(self.alloc, max);
         Ok(())
     }
 
-    /// Keeps a layout, and puts the answer after the text.
+    /// Keeps a layout, and puts the answer into the empty text.
     fn add_layout(
         &mut self,
         name: &str,
@@ -86,14 +77,10 @@ impl<D: LineDevice> Program<D> {
         requires ready { CanRun (line_state D.ledger D.script self.old) }
         requires begun { IsTrue self.old.has_begun }
         requires absent { layout_named self.old.layouts name.now ≡ None }
-        ensures ready { CanRun (line_state D.ledger D.script self.new) }
-        ensures adds { OnOk result (AddsLayout name.now layout
-            (line_state D.ledger D.script self.old) (line_state D.ledger D.script self.new)) }
-        ensures answered { OnOk result (string_bytes answer.new ≡ string_bytes answer.old
-            ++ layout_answer_of name.now (sum (kinds layout.counts))) }
-        ensures err { OnErr result (IsUnchanged (line_state D.ledger D.script self.old)
-            (line_state D.ledger D.script self.new)) }
-        ensures begun { self.new.has_begun ≡ self.old.has_begun }
+        requires empty { string_bytes answer.old ≡ [] }
+        ensures runs { RunsAs (DoesOrder (NewLayout name.now (key_of layout))) result
+            (string_bytes answer.new) (line_state D.ledger D.script self.old)
+            (line_state D.ledger D.script self.new) }
     {
         answer::layout_answer(answer, name, &layout.counts)?;
         let name = self.layouts.kept_name(name)?;
@@ -109,17 +96,12 @@ impl<D: LineDevice> Program<D> {
         }
     }
 
-    /// Gives the device a new script.
+    /// Gives the device a new script, and puts the answer into the empty text.
     fn load(&mut self, script: Vec<Answer>, answer: &mut String) -> Result<(), AllocError>
         requires ready { CanRun (line_state D.ledger D.script self.old) }
-        ensures ready { CanRun (line_state D.ledger D.script self.new) }
-        ensures loads { OnOk result (line_state D.ledger D.script self.new
-            ≡ record (line_state D.ledger D.script self.old) { script = script.items }) }
-        ensures answered { OnOk result (string_bytes answer.new ≡ string_bytes answer.old
-            ++ script_answer_of (length script.items)) }
-        ensures err { OnErr result (IsUnchanged (line_state D.ledger D.script self.old)
-            (line_state D.ledger D.script self.new)) }
-        ensures begun { self.new.has_begun ≡ self.old.has_begun }
+        requires empty { string_bytes answer.old ≡ [] }
+        ensures runs { RunsAs (DoesOrder (Script script.items)) result (string_bytes answer.new)
+            (line_state D.ledger D.script self.old) (line_state D.ledger D.script self.new) }
     {
         answer::script_answer(answer, script.len())?;
         self.device.load(script);
@@ -131,17 +113,13 @@ impl<D: LineDevice> Program<D> {
         requires ready { CanRun (line_state D.ledger D.script self.old) }
         requires known { IsKnown (layout_count self.old.layouts) command }
         requires empty { string_bytes answer.old ≡ [] }
-        ensures ready { CanRun (line_state D.ledger D.script self.new) }
-        ensures does { OnOk result (Does command (string_bytes answer.new)
-            (line_state D.ledger D.script self.old) (line_state D.ledger D.script self.new)) }
-        ensures err { OnErr result (IsUnchanged (line_state D.ledger D.script self.old)
-            (line_state D.ledger D.script self.new)) }
-        ensures begun { self.new.has_begun ≡ self.old.has_begun }
+        ensures runs { RunsAs (Does (StepsTo script_meaning command)) result
+            (string_bytes answer.new) (line_state D.ledger D.script self.old)
+            (line_state D.ledger D.script self.new) }
     {
         // The answer has its memory before the command is run.
         answer.reserve(answer::reserve_for(&command))?;
-        let replies = self.session.run(&mut self.device, &[command])?;
-        match replies[0] {
+        match self.session.step(&mut self.device, &command) {
             Reply::NoMemory => Err(AllocError),
             reply => {
                 answer::reply_answer(answer, &self.session, &reply);

@@ -93,17 +93,14 @@ fn parse_words<'a>(
 ) -> Result<Command<'a>, Refusal>
 {
     match keyword {
-        Keyword::Limit => {
-            let max = parse_limit(words, has_begun)?;
-            Ok(Command::Limit { max })
-        }
-        Keyword::Layout => parse_layout(words, layouts),
-        Keyword::Size => parse_size(words, layouts),
+        Keyword::Limit => Ok(parse_limit(words, has_begun)?),
+        Keyword::Layout => Ok(parse_layout(words, layouts)?),
+        Keyword::Size => Ok(parse_size(words, layouts)?),
         Keyword::Script => {
             let script = parse_script(alloc, words)?;
             Ok(Command::Script { script })
         }
-        Keyword::Alloc => parse_alloc(words, layouts),
+        Keyword::Alloc => Ok(parse_alloc(words, layouts)?),
         Keyword::Free => {
             let tickets = parse_free(alloc, words)?;
             Ok(Command::Free { tickets })
@@ -120,19 +117,20 @@ fn parse_words<'a>(
 }
 
 /// `limit N`.
-fn parse_limit(mut words: Words<'_>, has_begun: bool) -> Result<u32, Refusal>
+fn parse_limit<'a>(mut words: Words<'a>, has_begun: bool) -> Result<Command<'a>, Fault>
 {
     if has_begun {
-        return Err(Refusal::Fault(Fault::LimitNotFirst));
+        return Err(Fault::LimitNotFirst);
     }
     let (Some(max), None) = (words.next(), words.next()) else {
-        return Err(Refusal::Fault(Fault::BadWordCount));
+        return Err(Fault::BadWordCount);
     };
-    Ok(parse_u32(max)?)
+    let max = parse_u32(max)?;
+    Ok(Command::Limit { max })
 }
 
 /// `size NAME TOTAL WANTED`.
-fn parse_size<'a>(mut words: Words<'a>, layouts: &Layouts) -> Result<Command<'a>, Refusal>
+fn parse_size<'a>(mut words: Words<'a>, layouts: &Layouts) -> Result<Command<'a>, Fault>
 {
     let (Some(name), Some(total), Some(wanted), None) = (
         words.next(),
@@ -140,7 +138,7 @@ fn parse_size<'a>(mut words: Words<'a>, layouts: &Layouts) -> Result<Command<'a>
         words.next(),
         words.next(),
     ) else {
-        return Err(Refusal::Fault(Fault::BadWordCount));
+        return Err(Fault::BadWordCount);
     };
     let name = crate::descriptor_words::name(name).ok_or(Fault::BadName)?;
     let counts = layouts.get(name).ok_or(Fault::NoSuchLayout)?.counts;
@@ -154,10 +152,10 @@ fn parse_size<'a>(mut words: Words<'a>, layouts: &Layouts) -> Result<Command<'a>
 }
 
 /// `alloc NAME N`.
-fn parse_alloc<'a>(mut words: Words<'a>, layouts: &Layouts) -> Result<Command<'a>, Refusal>
+fn parse_alloc<'a>(mut words: Words<'a>, layouts: &Layouts) -> Result<Command<'a>, Fault>
 {
     let (Some(name), Some(count), None) = (words.next(), words.next(), words.next()) else {
-        return Err(Refusal::Fault(Fault::BadWordCount));
+        return Err(Fault::BadWordCount);
     };
     let name = crate::descriptor_words::name(name).ok_or(Fault::BadName)?;
     let layout = layouts.place(name).ok_or(Fault::NoSuchLayout)?;
@@ -166,10 +164,10 @@ fn parse_alloc<'a>(mut words: Words<'a>, layouts: &Layouts) -> Result<Command<'a
 }
 
 /// The end of a line whose command has no arguments.
-fn expect_end(mut words: Words<'_>) -> Result<(), Refusal>
+fn expect_end(mut words: Words<'_>) -> Result<(), Fault>
 {
     if words.next().is_some() {
-        return Err(Refusal::Fault(Fault::BadWordCount));
+        return Err(Fault::BadWordCount);
     }
     Ok(())
 }

@@ -80,18 +80,21 @@ fn first_blank(line: &[u8]) -> Option<usize>
     line.iter().position(|byte| is_blank(*byte))
 }
 
+/// Whether a word is a number: 1 to 20 digits, leading zeros allowed.
+fn is_number(word: &[u8]) -> bool
+{
+    !word.is_empty() && word.len() <= MAX_DIGITS && word.iter().all(|byte| byte.is_ascii_digit())
+}
+
 /// The number that a word writes: 1 to 20 digits, leading zeros allowed, of a value up to
 /// `greatest`.
 pub fn number_within(word: &[u8], greatest: u64) -> Option<u64>
 {
-    if word.is_empty() || MAX_DIGITS < word.len() {
+    if !is_number(word) {
         return None;
     }
     let mut value = 0u64;
     for byte in word {
-        if !byte.is_ascii_digit() {
-            return None;
-        }
         value = value.checked_mul(10)?.checked_add(u64::from(*byte - b'0'))?;
     }
     (value <= greatest).then_some(value)
@@ -128,12 +131,7 @@ pub fn kind_name(place: usize) -> &'static str
 /// The place of the kind of this name, in the order of the fields of the counts.
 pub fn kind(word: &[u8]) -> Option<usize>
 {
-    for (place, name) in KIND_NAMES.iter().enumerate() {
-        if name.as_bytes() == word {
-            return Some(place);
-        }
-    }
-    None
+    KIND_NAMES.iter().position(|name| name.as_bytes() == word)
 }
 
 /// The place of the first byte of this value.

@@ -11,8 +11,9 @@ use Rattle.descriptor_words.specs.declared.fault.Refusal.{Refusal}
 use Rattle.descriptor_words.specs.declared.fault.Refusal.TheVariants as refusal
 use Rattle.descriptor_lines.proofs.EndLemmas.{Takes, ends_at_fault, ends_done, ends_early, ends_unread, ends_unwritten, stands_on, takes_long, takes_span}
 use Rattle.descriptor_lines.proofs.TranscriptLemmas.{stands_first}
+use Rattle.descriptor_lines.proofs.program.run_to_end.Given.{Over}
 use Rattle.descriptor_lines.proofs.program.run_to_end.Goals as goal
-use Rattle.descriptor_lines.proofs.program.run_to_end.Goals.{in-Ok-Some, in-Err-LineTooLong}
+use Rattle.descriptor_lines.proofs.program.run_to_end.Goals.{After-has_lost, in-Ok-Some, in-Err-LineTooLong}
 
 -- a run that ended at a fault said so behind the answers before it
 ends_in_fault : (number : ℕ) (outcome : Result Unit Refusal) (text answers : List ℕ) (a b c : Option (List ℕ)) → ¬ (IsNoFault outcome) → Appends a b answers → Appends b c (said_of number outcome text) → EndsInFault a c
@@ -29,6 +30,19 @@ has_memory : (exit : Exit) → (exit ≡ BadLine) ⊎ (exit ≡ WriteFault) → 
 has_memory exit (inl bad) none = cc
 has_memory exit (inr bad) none = cc
 
+-- what came of the line that was read
+takes : (g : Over) (c : After-has_lost g) → Takes c.loop-number.number (unread c.loop-number.lines (g.R.Read.remaining c.loop-number.input)) (unread c.next_line.new.self (g.R.Read.remaining c.next_line.new.input)) c.match-next_line.outcome (string_bytes c.match-next_line.answer) (line_state g.D.DescriptorDevice.ledger g.D.LineDevice.script c.loop-number.program) (line_state g.D.DescriptorDevice.ledger g.D.LineDevice.script c.match-next_line.program)
+takes g c = elim
+    c.match-next_line.branch [
+      | in-Ok-Some w ↦ let ran =
+          w.run_line-outcome.ensures in let found =
+          w.in-Ok-Some.ensures in rw (w.program-is, w.answer-is, w.outcome-is)
+          (takes_span _ c.next_line.new.self w.in-Ok-Some.span _ _ _ _ _ _ _
+          (rw w.in-Ok-Some.field-0-is at found.line) (rw w.in-Ok-Some.field-0-is at found.rest)
+          (rw w.in-Ok-Some.field-0-is at found.short) w.line.ensures.bytes ran.does ran.not_run ran.ready)
+      | in-Err-LineTooLong w ↦ rw (w.program-is, w.answer-is) (takes_long _ _ _ _ _ _ w.outcome-is (c.next_line.ensures.too_long (w.in-Err-LineTooLong.is ∙ ap Err w.in-Err-LineTooLong.field-0-is)))
+    ]
+
 pub loop-number-init : goal.loop-number-init
 loop-number-init g c = record {
   ready = c.requires.ready;
@@ -41,28 +55,13 @@ loop-number-init g c = record {
 pub loop-number-preserved : goal.loop-number-preserved
 loop-number-preserved g c =
     let (text, grown, stands) = c.loop-number.invariant.answers in
-    let takes : Takes c.loop-number.number (unread c.loop-number.lines (g.R.Read.remaining c.loop-number.input))
-    (unread c.next_line.new.self (g.R.Read.remaining c.next_line.new.input)) c.match-next_line.outcome
-    (string_bytes c.match-next_line.answer)
-    (line_state g.D.DescriptorDevice.ledger g.D.LineDevice.script c.loop-number.program)
-    (line_state g.D.DescriptorDevice.ledger g.D.LineDevice.script c.match-next_line.program) = elim
-    c.match-next_line.branch [
-      | in-Ok-Some w ↦ let ran =
-          w.run_line-outcome.ensures in let found =
-          w.in-Ok-Some.ensures in rw (w.program-is, w.answer-is, w.outcome-is)
-          (takes_span _ c.next_line.new.self w.in-Ok-Some.span _ _ _ _ _ _ _
-          (rw w.in-Ok-Some.field-0-is at found.line) (rw w.in-Ok-Some.field-0-is at found.rest)
-          (rw w.in-Ok-Some.field-0-is at found.short) w.line.ensures.bytes ran.does ran.err ran.begun
-          ran.speaks ran.own ran.faulty ran.ready)
-      | in-Err-LineTooLong w ↦ rw (w.program-is, w.answer-is) (takes_long _ _ _ _ _ _ w.outcome-is (c.next_line.ensures.too_long (w.in-Err-LineTooLong.is ∙ ap Err w.in-Err-LineTooLong.field-0-is)))
-    ] in
     record {
       ready = elim c.match-next_line.branch [
         | in-Ok-Some w ↦ rw w.program-is w.run_line-outcome.ensures.ready
         | in-Err-LineTooLong w ↦ rw w.program-is c.loop-number.invariant.ready
       ];
       empty = c.in_default.ensures.emptied;
-      answers = (_, Appends-trans _ _ _ _ _ grown c.in_default.ensures.answered, stands_on _ _ _ _ _ _ _ _ _ _ stands takes c.in_default.ensures.ok);
+      answers = (_, Appends-trans _ _ _ _ _ grown c.in_default.ensures.answered, stands_on _ _ _ _ _ _ _ _ _ _ stands (takes g c.before.before.before.before.before.before) c.in_default.ensures.ok);
       sees = c.next_line.ensures.sees c.loop-number.invariant.sees;
       whole = λ _. sym c.has_lost.ensures ∙ c.if-has_lost.false;
     }
@@ -70,42 +69,12 @@ loop-number-preserved g c =
 pub returns-in_default-clause-writes : goal.returns-in_default-clause-writes
 returns-in_default-clause-writes g c =
     let (text, grown, stands) = c.loop-number.invariant.answers in
-    let takes : Takes c.loop-number.number (unread c.loop-number.lines (g.R.Read.remaining c.loop-number.input))
-    (unread c.next_line.new.self (g.R.Read.remaining c.next_line.new.input)) c.match-next_line.outcome
-    (string_bytes c.match-next_line.answer)
-    (line_state g.D.DescriptorDevice.ledger g.D.LineDevice.script c.loop-number.program)
-    (line_state g.D.DescriptorDevice.ledger g.D.LineDevice.script c.match-next_line.program) = elim
-    c.match-next_line.branch [
-      | in-Ok-Some w ↦ let ran =
-          w.run_line-outcome.ensures in let found =
-          w.in-Ok-Some.ensures in rw (w.program-is, w.answer-is, w.outcome-is)
-          (takes_span _ c.next_line.new.self w.in-Ok-Some.span _ _ _ _ _ _ _
-          (rw w.in-Ok-Some.field-0-is at found.line) (rw w.in-Ok-Some.field-0-is at found.rest)
-          (rw w.in-Ok-Some.field-0-is at found.short) w.line.ensures.bytes ran.does ran.err ran.begun
-          ran.speaks ran.own ran.faulty ran.ready)
-      | in-Err-LineTooLong w ↦ rw (w.program-is, w.answer-is) (takes_long _ _ _ _ _ _ w.outcome-is (c.next_line.ensures.too_long (w.in-Err-LineTooLong.is ∙ ap Err w.in-Err-LineTooLong.field-0-is)))
-    ] in
-    ends_unread _ _ _ _ _ _ _ _ (stands_on _ _ _ _ _ _ _ _ _ _ stands takes c.in_default.ensures.ok) (Appends-trans _ _ _ _ _ grown c.in_default.ensures.answered)
+    ends_unread _ _ _ _ _ _ _ _ (stands_on _ _ _ _ _ _ _ _ _ _ stands (takes g c.before.before.before.before.before.before) c.in_default.ensures.ok) (Appends-trans _ _ _ _ _ grown c.in_default.ensures.answered)
 
 pub returns-then-has_lost-clause-writes : goal.returns-then-has_lost-clause-writes
 returns-then-has_lost-clause-writes g c =
     let (text, grown, stands) = c.loop-number.invariant.answers in
-    let takes : Takes c.loop-number.number (unread c.loop-number.lines (g.R.Read.remaining c.loop-number.input))
-    (unread c.next_line.new.self (g.R.Read.remaining c.next_line.new.input)) c.match-next_line.outcome
-    (string_bytes c.match-next_line.answer)
-    (line_state g.D.DescriptorDevice.ledger g.D.LineDevice.script c.loop-number.program)
-    (line_state g.D.DescriptorDevice.ledger g.D.LineDevice.script c.match-next_line.program) = elim
-    c.match-next_line.branch [
-      | in-Ok-Some w ↦ let ran =
-          w.run_line-outcome.ensures in let found =
-          w.in-Ok-Some.ensures in rw (w.program-is, w.answer-is, w.outcome-is)
-          (takes_span _ c.next_line.new.self w.in-Ok-Some.span _ _ _ _ _ _ _
-          (rw w.in-Ok-Some.field-0-is at found.line) (rw w.in-Ok-Some.field-0-is at found.rest)
-          (rw w.in-Ok-Some.field-0-is at found.short) w.line.ensures.bytes ran.does ran.err ran.begun
-          ran.speaks ran.own ran.faulty ran.ready)
-      | in-Err-LineTooLong w ↦ rw (w.program-is, w.answer-is) (takes_long _ _ _ _ _ _ w.outcome-is (c.next_line.ensures.too_long (w.in-Err-LineTooLong.is ∙ ap Err w.in-Err-LineTooLong.field-0-is)))
-    ] in
-    ends_unwritten _ _ _ _ _ _ _ _ _ _ _ _ _ stands takes grown (record { prefix = []; unwritten = _; split = refl; grown = Appends-nil _ })
+    ends_unwritten _ _ _ _ _ _ _ _ _ _ _ _ _ stands (takes g c.before) grown (record { prefix = []; unwritten = _; split = refl; grown = Appends-nil _ })
 
 pub returns-in-Ok-None-clause-done : goal.returns-in-Ok-None-clause-done
 returns-in-Ok-None-clause-done g c = λ _. (rw c.in-Ok-None.field-0-is at c.in-Ok-None.ensures.end) c.loop-number.invariant.sees
@@ -124,27 +93,12 @@ pub returns-in-Err-clause-writes : goal.returns-in-Err-clause-writes
 returns-in-Err-clause-writes g c =
     let (text, grown, stands) = c.loop-number.invariant.answers in
     let said = c.in-Err.ensures in
-    let takes : Takes c.loop-number.number (unread c.loop-number.lines (g.R.Read.remaining c.loop-number.input))
-    (unread c.next_line.new.self (g.R.Read.remaining c.next_line.new.input)) c.match-next_line.outcome
-    (string_bytes c.match-next_line.answer)
-    (line_state g.D.DescriptorDevice.ledger g.D.LineDevice.script c.loop-number.program)
-    (line_state g.D.DescriptorDevice.ledger g.D.LineDevice.script c.match-next_line.program) = elim
-    c.match-next_line.branch [
-      | in-Ok-Some w ↦ let ran =
-          w.run_line-outcome.ensures in let found =
-          w.in-Ok-Some.ensures in rw (w.program-is, w.answer-is, w.outcome-is)
-          (takes_span _ c.next_line.new.self w.in-Ok-Some.span _ _ _ _ _ _ _
-          (rw w.in-Ok-Some.field-0-is at found.line) (rw w.in-Ok-Some.field-0-is at found.rest)
-          (rw w.in-Ok-Some.field-0-is at found.short) w.line.ensures.bytes ran.does ran.err ran.begun
-          ran.speaks ran.own ran.faulty ran.ready)
-      | in-Err-LineTooLong w ↦ rw (w.program-is, w.answer-is) (takes_long _ _ _ _ _ _ w.outcome-is (c.next_line.ensures.too_long (w.in-Err-LineTooLong.is ∙ ap Err w.in-Err-LineTooLong.field-0-is)))
-    ] in
     ends_early _ _ _ c.in-Err.exit _ _ said.err
     (λ bad.
     ends_at_fault _ _ _ _ _ _ _ _ _ _ _ _ _ (c.answer_line.ensures.bad_line (c.in-Err.is ∙ ap Err bad)) stands
-    takes grown (c.answer_line.ensures.told (c.in-Err.is ∙ ap Err bad)))
+    (takes g c.before.before.before.before.before) grown (c.answer_line.ensures.told (c.in-Err.is ∙ ap Err bad)))
     (λ broken.
-    ends_unwritten _ _ _ _ _ _ _ _ _ _ _ _ _ stands takes grown
+    ends_unwritten _ _ _ _ _ _ _ _ _ _ _ _ _ stands (takes g c.before.before.before.before.before) grown
     (c.answer_line.ensures.broken (c.in-Err.is ∙ ap Err broken)))
 
 pub returns-in-Err-clause-done : goal.returns-in-Err-clause-done

@@ -1,13 +1,9 @@
-use Rattle.std.proofs.Common.{◌≡◌, below_more, sym, ◌∙◌, rules, arith}
-use Rattle.std.proofs.lemmas.Bool.{false≢true}
-use Rattle.std.proofs.lemmas.Slice.Eq.{bytes_eq-Decides}
+use Rattle.std.proofs.Common.{rules, bytes_eq}
+use Rattle.std.proofs.lemmas.Iterator.{YieldsList-from_slice}
+use Rattle.std.proofs.lemmas.Iterator.Search.{position_from_yields_List}
+use Rattle.descriptor_words.specs.Kinds.{place_of_kind}
 use Rattle.descriptor_words.proofs.text.kind.Goals as goal
 
-pub loop-place-preserved : goal.loop-place-preserved
-loop-place-preserved c =
-    below_more _ _ c.loop-place.invariant (λ same.
-    let text : c.as_bytes.result.now ≡ c.args.word.now = search rules in
-    false≢true (sym c.if-eq.false ∙ c.eq.ensures ∙ (bytes_eq-Decides c.as_bytes.result.now c.args.word.now).1 text))
-
-pub returns-clause-unnamed : goal.returns-clause-unnamed
-returns-clause-unnamed c = λ (place, inside, same). c.loop-place.invariant place (omega arith) same
+pub returns-clause-place : goal.returns-clause-place
+unfolding place_of_kind
+returns-clause-place c = position_from_yields_List {all = _} (λ name. bytes_eq name.now c.args.word.now) _ _ _ c.position.ensures.ran (YieldsList-from_slice _ c.iter.ensures.rest) (λ x b q k. search rules)

@@ -1,8 +1,7 @@
-use Rattle.std.proofs.Common.{◌≡◌, ℕ, ◌<◌, slice_index, take}
-use Rattle.std.specs.Char.{IsAsciiDigit}
+use Rattle.std.proofs.Common.{◌≡◌, take}
 use Rattle.descriptor_words.specs.Numbers.{value_of}
 use Rattle.descriptor_words.proofs.text.number_within.Given as goal
 
 abbrev pub invariant-loop-byte : goal.invariant-loop-byte
 invariant-loop-byte l =
-    (l.value ≡ value_of (take l.byte-index l.word)) × ((k : ℕ) → k < l.byte-index → IsAsciiDigit (slice_index l.word k))
+    l.value ≡ value_of (take l.byte-index l.word)

@@ -1,11 +1,10 @@
-use Rattle.std.proofs.Common.{◌≡◌, ◌≤◌, map, vec_len, All}
-use Rattle.std.specs.List.{flat_map}
-use Rattle.descriptor_words.specs.Tickets.{WritesTickets, most_tickets, tickets_of}
+use Rattle.std.proofs.Common.{◌≡◌, ◌≤◌, vec_len}
+use Rattle.descriptor_words.specs.Tickets.{most_tickets, tickets_in, with_word}
+use Rattle.descriptor_words.specs.Words.{in_turn, words_left}
 use Rattle.descriptor_words.proofs.tickets.parse_free.Given as goal
 
 abbrev pub invariant-loop-word : goal.invariant-loop-word
 invariant-loop-word l = record {
-  items : l.tickets.items ≡ flat_map tickets_of (map (λ word. word.now) l.yielded);
+  rest : tickets_in (words_left l.fn.words) ≡ in_turn with_word l.tickets.items (words_left l.word-iterator);
   few : vec_len l.tickets ≤ most_tickets;
-  written : All WritesTickets (map (λ word. word.now) l.yielded);
 }

@@ -3,22 +3,22 @@
 
 use super::Command;
 use crate::descriptor_lines::layouts::{Layout, Layouts};
-use crate::descriptor_words::{Fault, Refusal, Words, parse_counts};
+use crate::descriptor_words::{Fault, Words, parse_counts};
 
 /// `layout NAME plain` or `mark`, and the kinds with their counts.
-pub fn parse_layout<'a>(mut words: Words<'a>, layouts: &Layouts) -> Result<Command<'a>, Refusal>
+pub fn parse_layout<'a>(mut words: Words<'a>, layouts: &Layouts) -> Result<Command<'a>, Fault>
 {
     let (Some(name), Some(mark)) = (words.next(), words.next()) else {
-        return Err(Refusal::Fault(Fault::BadWordCount));
+        return Err(Fault::BadWordCount);
     };
     let name = crate::descriptor_words::name(name).ok_or(Fault::BadName)?;
     if layouts.get(name).is_some() {
-        return Err(Refusal::Fault(Fault::NameIsTaken));
+        return Err(Fault::NameIsTaken);
     }
     let mark = parse_mark(mark)?;
     let counts = parse_counts(words)?;
     if layouts.is_full() {
-        return Err(Refusal::Fault(Fault::TooManyLayouts));
+        return Err(Fault::TooManyLayouts);
     }
     let layout = Layout { counts, mark };
     Ok(Command::Layout { name, layout })

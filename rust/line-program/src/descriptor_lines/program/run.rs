@@ -38,7 +38,7 @@ impl<D: LineDevice> Program<D> {
         }
     }
 
-    /// Begins with this limit on marked descriptors.
+    /// Begins with this limit on marked descriptors, and puts the answer into the empty text.
     fn begin(&mut self, max: u32, answer: &mut String) -> Result<(), AllocError>
     {
         answer::limit_answer(answer, max)?;
@@ -46,7 +46,7 @@ impl<D: LineDevice> Program<D> {
         Ok(())
     }
 
-    /// Keeps a layout, and puts the answer after the text.
+    /// Keeps a layout, and puts the answer into the empty text.
     fn add_layout(
         &mut self,
         name: &str,
@@ -68,7 +68,7 @@ impl<D: LineDevice> Program<D> {
         }
     }
 
-    /// Gives the device a new script.
+    /// Gives the device a new script, and puts the answer into the empty text.
     fn load(&mut self, script: Vec<Answer>, answer: &mut String) -> Result<(), AllocError>
     {
         answer::script_answer(answer, script.len())?;
@@ -81,8 +81,7 @@ impl<D: LineDevice> Program<D> {
     {
         // The answer has its memory before the command is run.
         answer.reserve(answer::reserve_for(&command))?;
-        let replies = self.session.run(&mut self.device, &[command])?;
-        match replies[0] {
+        match self.session.step(&mut self.device, &command) {
             Reply::NoMemory => Err(AllocError),
             reply => {
                 answer::reply_answer(answer, &self.session, &reply);
