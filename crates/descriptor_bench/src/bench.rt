@@ -1,7 +1,7 @@
 //! An allocator and its device, and the moves that workloads are made of.
 ghost use Rattle.std.specs.Prelude.{IfOk, IfErr};
 ghost use Rattle.gpu_descriptor.specs.Model.Agreement.{AreOutstanding};
-ghost use Rattle.gpu_descriptor.specs.Model.Promises.{AreOutBesides, KeepsOutstanding};
+ghost use Rattle.gpu_descriptor.specs.Model.Promises.{AreOutBesides};
 ghost use Rattle.gpu_descriptor.specs.Caller.Sets.{AreOfLayout, items_of};
 ghost use Rattle.gpu_descriptor.specs.Caller.States.{Agrees};
 ghost use Rattle.gpu_descriptor.proofs.callers.OneAgreement.{Agrees-prop};
@@ -24,7 +24,7 @@ pub struct Bench {
 }
 
 impl Bench {
-    ghost use Rattle.descriptor_bench.specs.Bench.{bench_state};
+    ghost use Rattle.descriptor_bench.specs.Bench.{KeepsSets, bench_state};
 
     /// An allocator without keys, under the greatest limit, and a device with memory for so many
     /// pools.
@@ -44,8 +44,7 @@ impl Bench {
         ensures own { IfOk result (λ sets. AreOfLayout bench_meaning layout.now sets.items) }
         ensures given { IfOk result (λ sets. AreOutBesides (items_of set_name sets.items)
             (bench_state self.old) (bench_state self.new)) }
-        ensures back { IfErr result (λ _. KeepsOutstanding (bench_state self.old)
-            (bench_state self.new)) }
+        ensures back { IfErr result (λ _. KeepsSets self.old self.new) }
     {
         self.allocator.allocate(
             &mut self.device,
@@ -67,7 +66,7 @@ impl Bench {
 
     /// Takes sets, and gives them back.
     pub fn round(&mut self, layout: &Layout, count: u32) -> Result<(), AllocationError>
-        ensures { KeepsOutstanding (bench_state self.old) (bench_state self.new) }
+        ensures { KeepsSets self.old self.new }
     {
         match self.take(layout, count) {
             Ok(sets) => {

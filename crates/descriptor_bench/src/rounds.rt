@@ -1,9 +1,9 @@
 //! Moves that are made again and again.
 ghost use Rattle.std.specs.Prelude.{◌≡◌, ◌<◌, ◌++◌, List, length, OnOk};
 ghost use Rattle.gpu_descriptor.specs.declared.set.DescriptorSet.{DescriptorSet as GivenSet};
-ghost use Rattle.gpu_descriptor.specs.Model.Promises.{AreOutBesides, KeepsOutstanding};
+ghost use Rattle.gpu_descriptor.specs.Model.Promises.{AreOutBesides};
 ghost use Rattle.gpu_descriptor.specs.Caller.Sets.{items_of};
-ghost use Rattle.descriptor_bench.specs.Bench.{bench_state};
+ghost use Rattle.descriptor_bench.specs.Bench.{KeepsSets, bench_state};
 ghost use Rattle.descriptor_bench.specs.Sets.{set_name};
 ghost use Rattle.descriptor_bench.specs.declared.counted_set.CountedSet.{CountedSet};
 
@@ -16,7 +16,7 @@ use gpu_descriptor::{AllocationError, DescriptorSet};
 impl Bench {
     /// So many rounds.
     pub fn rounds(&mut self, layout: &Layout, count: u32, times: u32) -> Result<(), AllocationError>
-        ensures { KeepsOutstanding (bench_state self.old) (bench_state self.new) }
+        ensures { KeepsSets self.old self.new }
     {
         for _ in 0..times {
             self.round(layout, count)?;
@@ -27,7 +27,7 @@ impl Bench {
     /// So many rounds of one set, of each layout in turn.
     pub fn rounds_in_turn(&mut self, layouts: &[Layout], times: u32) -> Result<(), AllocationError>
         requires { 0 < length layouts.now }
-        ensures { KeepsOutstanding (bench_state self.old) (bench_state self.new) }
+        ensures { KeepsSets self.old self.new }
     {
         for turn in 0..times {
             self.round(&layouts[turn as usize % layouts.len()], 1)?;
@@ -42,7 +42,7 @@ impl Bench {
         count: u32,
         times: u32,
     ) -> Result<(), anyhow::Error>
-        ensures { KeepsOutstanding (bench_state self.old) (bench_state self.new) }
+        ensures { KeepsSets self.old self.new }
     {
         for _ in 0..times {
             match self.round(layout, count) {

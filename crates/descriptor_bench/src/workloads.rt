@@ -1,7 +1,6 @@
 //! What each workload does, and how long that takes.
 ghost use Rattle.std.specs.Prelude.{OnOk};
-ghost use Rattle.gpu_descriptor.specs.Model.Promises.{KeepsOutstanding};
-ghost use Rattle.descriptor_bench.specs.Bench.{bench_state};
+ghost use Rattle.descriptor_bench.specs.Bench.{KeepsSets};
 
 use crate::bench::Bench;
 use crate::layout::Layout;
@@ -22,7 +21,7 @@ impl Bench {
         workload: Workload,
         n: u32,
     ) -> Result<Duration, anyhow::Error>
-        ensures { OnOk result (KeepsOutstanding (bench_state self.old) (bench_state self.new)) }
+        ensures { OnOk result (KeepsSets self.old self.new) }
     {
         match workload {
             Workload::Single => self.of_one_layout(clock, &Layout::of_samplers(1), 1, n),
@@ -49,7 +48,7 @@ impl Bench {
         count: u32,
         times: u32,
     ) -> Result<Duration, anyhow::Error>
-        ensures { OnOk result (KeepsOutstanding (bench_state self.old) (bench_state self.new)) }
+        ensures { OnOk result (KeepsSets self.old self.new) }
     {
         let start = Instant::now(clock)?;
         self.rounds(layout, count, times)?;
@@ -62,7 +61,7 @@ impl Bench {
         alloc: Global,
         n: u32,
     ) -> Result<Duration, anyhow::Error>
-        ensures { OnOk result (KeepsOutstanding (bench_state self.old) (bench_state self.new)) }
+        ensures { OnOk result (KeepsSets self.old self.new) }
     {
         let mut held = Vec::new(alloc);
         self.take_each(&Layout::of_samplers(1), 1, n, &mut held)?;
@@ -73,7 +72,7 @@ impl Bench {
     }
 
     fn keys(&mut self, clock: &impl Clock, n: u32) -> Result<Duration, anyhow::Error>
-        ensures { OnOk result (KeepsOutstanding (bench_state self.old) (bench_state self.new)) }
+        ensures { OnOk result (KeepsSets self.old self.new) }
     {
         let mut layouts = [Layout::of_samplers(1); 64];
         for i in 0..64u32 {
@@ -86,7 +85,7 @@ impl Bench {
     }
 
     fn rollback(&mut self, clock: &impl Clock, n: u32) -> Result<Duration, anyhow::Error>
-        ensures { OnOk result (KeepsOutstanding (bench_state self.old) (bench_state self.new)) }
+        ensures { OnOk result (KeepsSets self.old self.new) }
     {
         let layout = Layout::of_samplers(TWO_A_POOL);
         let start = Instant::now(clock)?;
@@ -95,7 +94,7 @@ impl Bench {
     }
 
     fn full(&mut self, clock: &impl Clock, alloc: Global, n: u32) -> Result<Duration, anyhow::Error>
-        ensures { OnOk result (KeepsOutstanding (bench_state self.old) (bench_state self.new)) }
+        ensures { OnOk result (KeepsSets self.old self.new) }
     {
         let layout = Layout::of_samplers(TWO_A_POOL);
         let filling = self.take(&layout, n.saturating_mul(2))?;
@@ -109,7 +108,7 @@ impl Bench {
     }
 
     fn drained(&mut self, clock: &impl Clock, n: u32) -> Result<Duration, anyhow::Error>
-        ensures { OnOk result (KeepsOutstanding (bench_state self.old) (bench_state self.new)) }
+        ensures { OnOk result (KeepsSets self.old self.new) }
     {
         let filling = self.take(&Layout::of_samplers(TWO_A_POOL), n.saturating_mul(2))?;
         let start = Instant::now(clock)?;

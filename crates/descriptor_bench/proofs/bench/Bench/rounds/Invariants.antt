@@ -1,6 +1,5 @@
-use Rattle.gpu_descriptor.specs.Model.Promises.{KeepsOutstanding}
-use Rattle.descriptor_bench.specs.Bench.{bench_state}
+use Rattle.descriptor_bench.specs.Bench.{KeepsSets}
 use Rattle.descriptor_bench.proofs.bench.Bench.rounds.Given as goal
 
 abbrev pub invariant-loop : goal.invariant-loop
-invariant-loop l = KeepsOutstanding (bench_state l.fn.self) (bench_state l.self)
+invariant-loop l = KeepsSets l.fn.self l.self
