@@ -16,12 +16,12 @@ use Rattle.descriptor_script.specs.declared.command.Command.TheVariants.{Allocat
 use Rattle.descriptor_script.specs.declared.command.Reply.{Reply}
 use Rattle.descriptor_script.specs.declared.command.Reply.TheVariants.{Sets, BadLayout, NoMemory}
 use Rattle.descriptor_lines.specs.Commands.{IsKnown}
-use Rattle.descriptor_lines.specs.LayoutTable.{layout_count, layouts_in}
+use Rattle.descriptor_lines.specs.LayoutTables.{layout_count, layouts_in}
 use Rattle.descriptor_lines.specs.LineStates.{LineState}
 use Rattle.descriptor_lines.specs.Programs.{CanRun}
 use Rattle.descriptor_lines.specs.Replies.{LineSession, HasAnswer}
 use Rattle.descriptor_lines.specs.ReplyTexts.{sets_asked, sets_given}
-use Rattle.descriptor_lines.specs.declared.layouts.Layouts.{Layouts}
+use Rattle.descriptor_lines.specs.declared.layouts.LayoutTable.{LayoutTable}
 use Rattle.gpu_descriptor_types.specs.Side.{side}
 
 -- a new session can make a step on any device
@@ -97,10 +97,10 @@ nil_from_length [] none = refl
 nil_from_length (x ∷ xs) none = absurd (omega arith)
 
 -- no layout is in a table of none
-pub none_in : (layouts : Layouts) → layout_count layouts ≡ 0 → layouts_in layouts ≡ []
+pub none_in : (layouts : LayoutTable) → layout_count layouts ≡ 0 → layouts_in layouts ≡ []
 none_in layouts none = rw (nil_from_length layouts.by_name.entries none) refl
 
-pub none_counted : (layouts : Layouts) → layouts_in layouts ≡ [] → layout_count layouts ≡ 0
+pub none_counted : (layouts : LayoutTable) → layouts_in layouts ≡ [] → layout_count layouts ≡ 0
 none_counted layouts none = sym (length-map layouts.by_name.entries _) ∙ ap length none
 
 -- the session has as many layouts as the table

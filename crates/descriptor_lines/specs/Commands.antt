@@ -2,17 +2,17 @@
 use Rattle.std.specs.Prelude.{◌≡◌, ◌<◌, ℕ, None}
 use Rattle.descriptor_script.specs.declared.command.Command as session
 use Rattle.descriptor_script.specs.declared.command.Command.TheVariants as step
-use Rattle.descriptor_lines.specs.LayoutTable.{layout_named, layout_count}
+use Rattle.descriptor_lines.specs.LayoutTables.{layout_named, layout_count}
 use Rattle.descriptor_lines.specs.declared.command.Command.{Command}
 use Rattle.descriptor_lines.specs.declared.command.Command.TheVariants.{Limit, Layout, Alloc}
-use Rattle.descriptor_lines.specs.declared.layouts.Layouts.{Layouts}
+use Rattle.descriptor_lines.specs.declared.layouts.LayoutTable.{LayoutTable}
 
 -- the most sets of a line that asks for sets
 abbrev pub most_sets : ℕ
 most_sets = 1000000
 
 -- the command can be run with these layouts
-abbrev pub IsRunnable : Layouts → Command → Type 0
+abbrev pub IsRunnable : LayoutTable → Command → Type 0
 IsRunnable layouts (Limit max) = layout_count layouts ≡ 0
 IsRunnable layouts (Layout name layout) = layout_named layouts name.now ≡ None
 IsRunnable layouts (Alloc layout count) = layout < layout_count layouts

@@ -4,13 +4,13 @@ use Rattle.std.specs.Option.{option_map}
 use Rattle.indexmap.specs.IndexMap.{get_by_text, index_of_by}
 use Rattle.descriptor_lines.specs.FirstLayouts.{listed}
 use Rattle.descriptor_lines.specs.declared.layouts.Layout.{Layout}
-use Rattle.descriptor_lines.specs.declared.layouts.Layouts.{Layouts}
+use Rattle.descriptor_lines.specs.declared.layouts.LayoutTable.{LayoutTable}
 
 -- the most layouts that there may be
 abbrev pub most_layouts : ℕ
 most_layouts = 1024
 
-module _ (layouts : Layouts) where
+module _ (layouts : LayoutTable) where
   -- the layouts with their names, in the order in which they came
   abbrev pub layouts_in : List (List ℕ × Layout)
   layouts_in = map listed layouts.by_name.entries
@@ -27,5 +27,5 @@ module _ (layouts : Layouts) where
   layout_count = length layouts.by_name.entries
 
 -- the same layouts under the same names, in the same order
-abbrev pub SameLayouts : Layouts → Layouts → Type 0
+abbrev pub SameLayouts : LayoutTable → LayoutTable → Type 0
 SameLayouts old new = new.by_name.entries ≡ old.by_name.entries

@@ -2,7 +2,7 @@ pub mod Answers
 pub mod Commands
 pub mod Exit
 pub mod FirstLayouts
-pub mod LayoutTable
+pub mod LayoutTables
 pub mod LineBuffers
 pub mod LineStates
 pub mod Lines

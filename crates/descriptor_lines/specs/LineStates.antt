@@ -3,12 +3,12 @@ use Rattle.std.specs.Prelude.{Bool, List}
 use Rattle.gpu_descriptor_types.specs.Ledger.{Ledger}
 use Rattle.descriptor_script.specs.declared.answer.Answer.{Answer}
 use Rattle.descriptor_lines.specs.Replies.{LineSession}
-use Rattle.descriptor_lines.specs.declared.layouts.Layouts.{Layouts}
+use Rattle.descriptor_lines.specs.declared.layouts.LayoutTable.{LayoutTable}
 use Rattle.descriptor_lines.specs.declared.program.Program.{Program}
 
 -- a state between two lines
 pub record LineState : Type 0 where
-  pub layouts : Layouts
+  pub layouts : LayoutTable
   pub session : LineSession
   -- the words that the device has still to read
   pub script : List Answer

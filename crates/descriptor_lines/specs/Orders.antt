@@ -6,11 +6,11 @@ use Rattle.gpu_descriptor_types.specs.Counts.{kinds}
 use Rattle.descriptor_script.specs.declared.answer.Answer.{Answer}
 use Rattle.descriptor_lines.specs.Commands.{most_sets}
 use Rattle.descriptor_lines.specs.FirstLayouts.{key_of}
-use Rattle.descriptor_lines.specs.LayoutTable.{layout_count, layout_named, most_layouts, place_named}
+use Rattle.descriptor_lines.specs.LayoutTables.{layout_count, layout_named, most_layouts, place_named}
 use Rattle.descriptor_lines.specs.ScriptWords.{script_in}
 use Rattle.descriptor_lines.specs.declared.command.Command.{Command}
 use Rattle.descriptor_lines.specs.declared.command.Command.TheVariants as command
-use Rattle.descriptor_lines.specs.declared.layouts.Layouts.{Layouts}
+use Rattle.descriptor_lines.specs.declared.layouts.LayoutTable.{LayoutTable}
 use Rattle.descriptor_words.specs.Fault.{◌>>=◌}
 use Rattle.descriptor_words.specs.Keywords.{keyword_of}
 use Rattle.descriptor_words.specs.Kinds.{counts_in}
@@ -65,7 +65,7 @@ limit_in false (max ∷ []) = do
   Ok (Limit max)
 limit_in false words = Err BadWordCount
 
-module _ (layouts : Layouts) where
+module _ (layouts : LayoutTable) where
   -- the words of `layout`
   abbrev pub layout_in : List (List ℕ) → Result Order Fault
   layout_in (name ∷ mark ∷ words) = do

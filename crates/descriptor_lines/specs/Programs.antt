@@ -10,7 +10,7 @@ use Rattle.descriptor_script.specs.declared.command.Command.TheVariants as sessi
 use Rattle.descriptor_script.specs.declared.command.Reply.{Reply}
 use Rattle.descriptor_script.specs.declared.raw.ScriptLayout.{ScriptLayout}
 use Rattle.descriptor_lines.specs.Answers.{AnswersSize, layout_answer, limit_answer, script_answer}
-use Rattle.descriptor_lines.specs.LayoutTable.{SameLayouts, layout_count, layouts_in}
+use Rattle.descriptor_lines.specs.LayoutTables.{SameLayouts, layout_count, layouts_in}
 use Rattle.descriptor_lines.specs.FirstLayouts.{key_of}
 use Rattle.descriptor_lines.specs.LineStates.{LineState}
 use Rattle.descriptor_lines.specs.Orders.{BeginsList, Order, Limit, Layout as NewLayout, Size, Script, Alloc, Free, Cleanup, Show, line_in}

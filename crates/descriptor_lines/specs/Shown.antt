@@ -10,7 +10,7 @@ use Rattle.descriptor_script.specs.Sessions.Tickets.{held_sets}
 use Rattle.descriptor_script.specs.declared.raw.RawPool.{RawPool}
 use Rattle.descriptor_lines.specs.Answers.{device_answer, held_answer, pool_answer}
 use Rattle.descriptor_lines.specs.FirstLayouts.{first_layouts, key_of}
-use Rattle.descriptor_lines.specs.LayoutTable.{layouts_in}
+use Rattle.descriptor_lines.specs.LayoutTables.{layouts_in}
 use Rattle.descriptor_lines.specs.LineStates.{LineState}
 use Rattle.descriptor_lines.specs.declared.layouts.Layout.{Layout}
 

@@ -5,13 +5,13 @@ ghost use Rattle.descriptor_lines.specs.Orders.{BeginsList, HasList, alloc_in, l
 ghost use Rattle.descriptor_lines.specs.Orders.{nothing_in, order_in, order_of, size_in};
 ghost use Rattle.descriptor_lines.specs.Commands.{IsRunnable};
 ghost use Rattle.descriptor_words.specs.Fault.{Reads, read_as};
-ghost use Rattle.descriptor_lines.specs.LayoutTable.{layout_count};
+ghost use Rattle.descriptor_lines.specs.LayoutTables.{layout_count};
 ghost use Rattle.descriptor_words.specs.Words.{words as words_of, words_left, is_silent};
 
 mod layout;
 mod script;
 
-use crate::layouts::{Layout, Layouts};
+use crate::layouts::{Layout, LayoutTable};
 use descriptor_script::Answer;
 use descriptor_words::{Fault, Keyword, Refusal, Words, number_within, parse_free, parse_u32};
 use gpu_descriptor_types::DescriptorTotalCount;
@@ -73,7 +73,7 @@ impl<'a> Command<'a> {
     pub fn parse(
         alloc: Global,
         line: &'a [u8],
-        layouts: &Layouts,
+        layouts: &LayoutTable,
         has_begun: bool,
     ) -> Result<Option<Command<'a>>, Refusal>
         requires fresh { IsFalse has_begun → layout_count layouts.now ≡ 0 }
@@ -101,7 +101,7 @@ fn parse_words<'a>(
     alloc: Global,
     keyword: Keyword,
     words: Words<'a>,
-    layouts: &Layouts,
+    layouts: &LayoutTable,
     has_begun: bool,
 ) -> Result<Command<'a>, Refusal>
     requires fresh { IsFalse has_begun → layout_count layouts.now ≡ 0 }
@@ -150,7 +150,7 @@ fn parse_limit<'a>(mut words: Words<'a>, has_begun: bool) -> Result<Command<'a>,
 }
 
 /// `size NAME TOTAL WANTED`.
-fn parse_size<'a>(mut words: Words<'a>, layouts: &Layouts) -> Result<Command<'a>, Fault>
+fn parse_size<'a>(mut words: Words<'a>, layouts: &LayoutTable) -> Result<Command<'a>, Fault>
     ensures reads { read_as order_of result ≡ size_in layouts.now (words_left words.entry) }
     ensures runnable { IfOk result (IsRunnable layouts.now) }
 {
@@ -174,7 +174,7 @@ fn parse_size<'a>(mut words: Words<'a>, layouts: &Layouts) -> Result<Command<'a>
 }
 
 /// `alloc NAME N`.
-fn parse_alloc<'a>(mut words: Words<'a>, layouts: &Layouts) -> Result<Command<'a>, Fault>
+fn parse_alloc<'a>(mut words: Words<'a>, layouts: &LayoutTable) -> Result<Command<'a>, Fault>
     ensures reads { read_as order_of result ≡ alloc_in layouts.now (words_left words.entry) }
     ensures runnable { IfOk result (IsRunnable layouts.now) }
 {

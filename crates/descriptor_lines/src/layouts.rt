@@ -30,22 +30,22 @@ pub struct Entry {
 
 /// The layouts by name, in the order in which they came.
 #[derive(Drop)]
-pub struct Layouts {
+pub struct LayoutTable {
     alloc: Global,
     by_name: IndexMap<String, Entry>,
     ghost told: { TellFirsts by_name.entries },
 }
 
-impl Layouts {
-    ghost use Rattle.descriptor_lines.specs.LayoutTable.{layout_count, place_named};
-    ghost use Rattle.descriptor_lines.specs.LayoutTable.{layout_named, layouts_in, most_layouts};
-    ghost use Rattle.descriptor_lines.specs.LayoutTable.{SameLayouts};
+impl LayoutTable {
+    ghost use Rattle.descriptor_lines.specs.LayoutTables.{layout_count, place_named};
+    ghost use Rattle.descriptor_lines.specs.LayoutTables.{layout_named, layouts_in, most_layouts};
+    ghost use Rattle.descriptor_lines.specs.LayoutTables.{SameLayouts};
     ghost use Rattle.indexmap.specs.IndexMap.{spare};
 
     pub fn new(alloc: Global) -> Self
         ensures { layouts_in result ≡ [] }
     {
-        Layouts {
+        LayoutTable {
             alloc,
             by_name: IndexMap::new(alloc),
         }

@@ -20,7 +20,7 @@ use crate::command::Command;
 use crate::device::LineDevice;
 use crate::exit::Exit;
 use crate::input::{InputFault, LineBuffer, MAX_READS};
-use crate::layouts::Layouts;
+use crate::layouts::LayoutTable;
 use descriptor_script::{RawPool, RawSet, ScriptLayout, ScriptedDevice, Session};
 use descriptor_words::{Fault, Refusal};
 use output::answer_line;
@@ -39,7 +39,7 @@ pub type LineSession = Session<ScriptLayout, RawPool, RawSet>;
 #[derive(Drop)]
 pub struct Program<D> {
     alloc: Global,
-    layouts: Layouts,
+    layouts: LayoutTable,
     session: LineSession,
     device: D,
 
@@ -58,7 +58,7 @@ impl<D: LineDevice> Program<D> {
     {
         Program {
             alloc,
-            layouts: Layouts::new(alloc),
+            layouts: LayoutTable::new(alloc),
             session: Session::new(alloc, u32::MAX),
             device,
             has_begun: false,

@@ -4,3 +4,4 @@ pub mod Session
 pub mod SessionRun
 pub mod Steps
 pub mod Tickets
+pub mod Visits

@@ -1,5 +1,6 @@
-//! A device that answers by a script, for tests and for programs without a graphics card, and
-//! sessions that run commands on any device.
+//! Sessions, which hold sets by ticket and run commands on any device; the headline, which says of
+//! such runs what the allocator promises; and a device that answers by a script, for tests and for
+//! programs without a graphics card.
 #![tactic(auto)]
 
 mod answer;

@@ -6,9 +6,9 @@ ghost use Rattle.gpu_descriptor.specs.Caller.States.{state_of};
 ghost use Rattle.gpu_descriptor.specs.Model.Agreement.{HasNoKeys, HasNoPools};
 ghost use Rattle.descriptor_script.specs.Sessions.Session.{IsReady, KeepsSession, allocator_of};
 ghost use Rattle.descriptor_script.specs.Sessions.Session.{sets_of};
-ghost use Rattle.descriptor_script.specs.Sessions.SessionRun.{VisitsTo};
 ghost use Rattle.descriptor_script.specs.Sessions.Steps.{Cleans};
 ghost use Rattle.descriptor_script.specs.Sessions.Tickets.{held_sets};
+ghost use Rattle.descriptor_script.specs.Sessions.Visits.{VisitsTo};
 
 use crate::{Command, Reply, Session};
 use gpu_descriptor::DescriptorDevice;

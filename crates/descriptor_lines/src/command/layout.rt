@@ -6,11 +6,11 @@ ghost use Rattle.descriptor_words.specs.Fault.{read_as};
 ghost use Rattle.descriptor_words.specs.Words.{words_left};
 
 use super::Command;
-use crate::layouts::{Layout, Layouts};
+use crate::layouts::{Layout, LayoutTable};
 use descriptor_words::{Fault, Words, parse_counts};
 
 /// `layout NAME plain` or `mark`, and the kinds with their counts.
-pub fn parse_layout<'a>(mut words: Words<'a>, layouts: &Layouts) -> Result<Command<'a>, Fault>
+pub fn parse_layout<'a>(mut words: Words<'a>, layouts: &LayoutTable) -> Result<Command<'a>, Fault>
     ensures reads { read_as order_of result ≡ layout_in layouts.now (words_left words.entry) }
     ensures runnable { IfOk result (IsRunnable layouts.now) }
 {

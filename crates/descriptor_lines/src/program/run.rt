@@ -4,7 +4,7 @@ ghost use Rattle.gpu_descriptor_types.specs.Counts.{kinds};
 ghost use Rattle.descriptor_lines.specs.Answers.{AnswersSize};
 ghost use Rattle.descriptor_lines.specs.Commands.{IsKnown, IsRunnable};
 ghost use Rattle.descriptor_lines.specs.FirstLayouts.{key_of};
-ghost use Rattle.descriptor_lines.specs.LayoutTable.{layout_count, layout_named};
+ghost use Rattle.descriptor_lines.specs.LayoutTables.{layout_count, layout_named};
 ghost use Rattle.descriptor_lines.specs.LineStates.{line_state};
 ghost use Rattle.descriptor_lines.specs.Orders.{Limit, Layout as NewLayout, Script, order_of};
 ghost use Rattle.descriptor_lines.specs.Programs.{CanRun, Does, DoesOrder, RunsAs};

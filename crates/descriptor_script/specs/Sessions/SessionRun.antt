@@ -3,7 +3,7 @@ use Rattle.std.specs.Prelude.{◌≡◌, List, [], ◌∷◌}
 use Rattle.gpu_descriptor_types.specs.Meaning.{Meaning}
 use Rattle.gpu_descriptor_types.specs.Side.{Side}
 use Rattle.descriptor_script.specs.Sessions.Session.{KeepsSession}
-use Rattle.descriptor_script.specs.Sessions.Steps.{Cleans, OfStep, StepsTo}
+use Rattle.descriptor_script.specs.Sessions.Steps.{OfStep, StepsTo}
 use Rattle.descriptor_script.specs.declared.command.Command.{Command}
 use Rattle.descriptor_script.specs.declared.command.Reply.{Reply}
 use Rattle.descriptor_script.specs.declared.session.Session.{Session}
@@ -20,7 +20,3 @@ module _ {L P S : Type 0} (means : Meaning L P S) where
   -- each state comes of the one before it by a step, as the reply says, and has what every command keeps
   abbrev pub RunsTo : List Command → List Reply → Side (Session L P S) → Side (Session L P S) → Type 0
   RunsTo = Runs (λ command reply old new. StepsTo means command reply old new × KeepsSession means old new)
-
-  -- the commands were run, and then the session cleaned up
-  abbrev pub VisitsTo : List Command → List Reply → Side (Session L P S) → Side (Session L P S) → Type 0
-  VisitsTo commands replies old new = (used : Side (Session L P S)) × RunsTo commands replies old used × Cleans means used new

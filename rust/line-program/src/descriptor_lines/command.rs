@@ -4,7 +4,7 @@
 mod layout;
 mod script;
 
-use crate::descriptor_lines::layouts::{Layout, Layouts};
+use crate::descriptor_lines::layouts::{Layout, LayoutTable};
 use crate::descriptor_script::Answer;
 use crate::descriptor_words::{Fault, Keyword, Refusal, Words, number_within, parse_free, parse_u32};
 use crate::gpu_descriptor_types::DescriptorTotalCount;
@@ -66,7 +66,7 @@ impl<'a> Command<'a> {
     pub fn parse(
         alloc: Global,
         line: &'a [u8],
-        layouts: &Layouts,
+        layouts: &LayoutTable,
         has_begun: bool,
     ) -> Result<Option<Command<'a>>, Refusal>
     {
@@ -88,7 +88,7 @@ fn parse_words<'a>(
     alloc: Global,
     keyword: Keyword,
     words: Words<'a>,
-    layouts: &Layouts,
+    layouts: &LayoutTable,
     has_begun: bool,
 ) -> Result<Command<'a>, Refusal>
 {
@@ -130,7 +130,7 @@ fn parse_limit<'a>(mut words: Words<'a>, has_begun: bool) -> Result<Command<'a>,
 }
 
 /// `size NAME TOTAL WANTED`.
-fn parse_size<'a>(mut words: Words<'a>, layouts: &Layouts) -> Result<Command<'a>, Fault>
+fn parse_size<'a>(mut words: Words<'a>, layouts: &LayoutTable) -> Result<Command<'a>, Fault>
 {
     let (Some(name), Some(total), Some(wanted), None) = (
         words.next(),
@@ -152,7 +152,7 @@ fn parse_size<'a>(mut words: Words<'a>, layouts: &Layouts) -> Result<Command<'a>
 }
 
 /// `alloc NAME N`.
-fn parse_alloc<'a>(mut words: Words<'a>, layouts: &Layouts) -> Result<Command<'a>, Fault>
+fn parse_alloc<'a>(mut words: Words<'a>, layouts: &LayoutTable) -> Result<Command<'a>, Fault>
 {
     let (Some(name), Some(count), None) = (words.next(), words.next(), words.next()) else {
         return Err(Fault::BadWordCount);

@@ -27,15 +27,15 @@ pub struct Entry {
 }
 
 /// The layouts by name, in the order in which they came.
-pub struct Layouts {
+pub struct LayoutTable {
     alloc: Global,
     by_name: IndexMap<String, Entry>,
 }
 
-impl Layouts {
+impl LayoutTable {
     pub fn new(alloc: Global) -> Self
     {
-        Layouts {
+        LayoutTable {
             alloc,
             by_name: IndexMap::new(alloc),
         }

@@ -9,7 +9,7 @@ use crate::descriptor_lines::command::Command;
 use crate::descriptor_lines::device::LineDevice;
 use crate::descriptor_lines::exit::Exit;
 use crate::descriptor_lines::input::{InputFault, LineBuffer, MAX_READS};
-use crate::descriptor_lines::layouts::Layouts;
+use crate::descriptor_lines::layouts::LayoutTable;
 use crate::descriptor_script::{RawPool, RawSet, ScriptLayout, ScriptedDevice, Session};
 use crate::descriptor_words::{Fault, Refusal};
 use output::answer_line;
@@ -27,7 +27,7 @@ pub type LineSession = Session<ScriptLayout, RawPool, RawSet>;
 /// What the lines so far made.
 pub struct Program<D> {
     alloc: Global,
-    layouts: Layouts,
+    layouts: LayoutTable,
     session: LineSession,
     device: D,
 
@@ -41,7 +41,7 @@ impl<D: LineDevice> Program<D> {
     {
         Program {
             alloc,
-            layouts: Layouts::new(alloc),
+            layouts: LayoutTable::new(alloc),
             session: Session::new(alloc, u32::MAX),
             device,
             has_begun: false,

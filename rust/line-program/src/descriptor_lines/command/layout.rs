@@ -2,11 +2,11 @@
 //! The command that makes a layout.
 
 use super::Command;
-use crate::descriptor_lines::layouts::{Layout, Layouts};
+use crate::descriptor_lines::layouts::{Layout, LayoutTable};
 use crate::descriptor_words::{Fault, Words, parse_counts};
 
 /// `layout NAME plain` or `mark`, and the kinds with their counts.
-pub fn parse_layout<'a>(mut words: Words<'a>, layouts: &Layouts) -> Result<Command<'a>, Fault>
+pub fn parse_layout<'a>(mut words: Words<'a>, layouts: &LayoutTable) -> Result<Command<'a>, Fault>
 {
     let (Some(name), Some(mark)) = (words.next(), words.next()) else {
         return Err(Fault::BadWordCount);

@@ -1,12 +1,12 @@
 use Rattle.std.proofs.Common.{◌≡◌, ℕ, inl, inr, Global, String, List, [], ◌∷◌, Contains, map, string_bytes, subst, refl, ap, sym, ◌∙◌}
 use Rattle.std.proofs.lemmas.Bool.{false≢true}
 use Rattle.std.specs.Map.{values_of}
-use Rattle.descriptor_lines.specs.LayoutTable.{layouts_in}
+use Rattle.descriptor_lines.specs.LayoutTables.{layouts_in}
 use Rattle.descriptor_lines.specs.declared.layouts.Entry.{Entry}
 use Rattle.descriptor_lines.specs.declared.layouts.Layout.{Layout}
 use Rattle.descriptor_lines.proofs.LayoutLemmas.{contains_cases, contains_first, contains_more, contains_none, layout_eq, layout_eq_self, same_layout}
-use Rattle.descriptor_lines.proofs.layouts.Layouts.is_new.Invariants.{layouts_left}
-use Rattle.descriptor_lines.proofs.layouts.Layouts.is_new.Goals as goal
+use Rattle.descriptor_lines.proofs.layouts.LayoutTable.is_new.Invariants.{layouts_left}
+use Rattle.descriptor_lines.proofs.layouts.LayoutTable.is_new.Goals as goal
 
 in_values : (es : List (String Global × Entry)) → map (λ (n : List ℕ × Layout). n.1) (map (λ (e : String Global × Entry). (string_bytes e.0, e.1.layout)) es) ≡ layouts_left (values_of es)
 in_values [] = refl

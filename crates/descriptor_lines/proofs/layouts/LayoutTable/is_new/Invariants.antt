@@ -1,8 +1,8 @@
 use Rattle.std.proofs.Common.{List, Contains, map}
-use Rattle.descriptor_lines.specs.LayoutTable.{layouts_in}
+use Rattle.descriptor_lines.specs.LayoutTables.{layouts_in}
 use Rattle.descriptor_lines.specs.declared.layouts.Entry.{Entry}
 use Rattle.descriptor_lines.specs.declared.layouts.Layout.{Layout}
-use Rattle.descriptor_lines.proofs.layouts.Layouts.is_new.Given as goal
+use Rattle.descriptor_lines.proofs.layouts.LayoutTable.is_new.Given as goal
 
 -- the layouts that are still to come
 abbrev pub layouts_left : List Entry → List Layout

@@ -5,11 +5,11 @@ use Rattle.std.specs.String.{string_eq}
 use Rattle.indexmap.specs.IndexMap.{insert_entry}
 use Rattle.indexmap.proofs.CallerLemmas.{insert_entry-new}
 use Rattle.descriptor_lines.specs.FirstLayouts.{TellFirsts, listed}
-use Rattle.descriptor_lines.specs.LayoutTable.{layout_named}
+use Rattle.descriptor_lines.specs.LayoutTables.{layout_named}
 use Rattle.descriptor_lines.specs.declared.layouts.Entry.{Entry}
-use Rattle.descriptor_lines.specs.declared.layouts.Layouts.{Layouts}
+use Rattle.descriptor_lines.specs.declared.layouts.LayoutTable.{LayoutTable}
 use Rattle.descriptor_lines.proofs.FirstLayoutLemmas.{tell_more}
-use Rattle.descriptor_lines.proofs.layouts.Layouts.push.Goals as goal
+use Rattle.descriptor_lines.proofs.layouts.LayoutTable.push.Goals as goal
 
 none_from_mapped : {X Y : Type 0} (f : X → Y) (o : Option X) → option_map f o ≡ None → o ≡ None
 none_from_mapped f None none = refl
@@ -20,7 +20,7 @@ on_ok (Ok x) P is holds = holds
 on_ok (Err e) P is holds = (cc)
 
 -- the entry of a layout with a new name stands last
-last_entry : (layouts : Layouts) (name : String Global) (entry : Entry) → layout_named layouts (string_bytes name) ≡ None → insert_entry string_eq layouts.by_name.entries name entry ≡ layouts.by_name.entries ++ (name, entry) ∷ []
+last_entry : (layouts : LayoutTable) (name : String Global) (entry : Entry) → layout_named layouts (string_bytes name) ≡ None → insert_entry string_eq layouts.by_name.entries name entry ≡ layouts.by_name.entries ++ (name, entry) ∷ []
 last_entry layouts name entry absent = insert_entry-new string_eq layouts.by_name name entry (none_from_mapped _ _ absent)
 
 pub returns : goal.returns

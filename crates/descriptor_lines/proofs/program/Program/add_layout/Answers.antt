@@ -6,7 +6,7 @@ use Rattle.descriptor_script.specs.Scripted.Raw.{script_meaning}
 use Rattle.descriptor_script.specs.Sessions.Session.{layouts_of}
 use Rattle.gpu_descriptor_types.specs.Counts.{kinds}
 use Rattle.descriptor_lines.specs.Answers.{layout_answer}
-use Rattle.descriptor_lines.specs.LayoutTable.{layouts_in}
+use Rattle.descriptor_lines.specs.LayoutTables.{layouts_in}
 use Rattle.descriptor_lines.specs.Programs.{scripted}
 use Rattle.descriptor_lines.proofs.SessionLemmas.{same_is_ready}
 use Rattle.descriptor_lines.proofs.program.Program.add_layout.Goals as goal
