@@ -9,7 +9,6 @@ use Rattle.std.specs.Io.BufRead.{strip_last}
 use Rattle.std.specs.Io.KnownBytes.{Appends, IsAtEnd, prepend_known}
 use Rattle.std.proofs.KnownBytes.{Appends-trans}
 use Rattle.descriptor_words.specs.Words.{is_byte, words}
-use Rattle.descriptor_words.specs.declared.fault.Fault.{Fault}
 use Rattle.descriptor_words.specs.declared.fault.Fault.TheVariants.{LineTooLong}
 use Rattle.descriptor_words.specs.declared.fault.Refusal.{Refusal}
 use Rattle.descriptor_words.specs.declared.fault.Refusal.TheVariants as refusal
@@ -18,8 +17,8 @@ use Rattle.descriptor_lines.specs.LineBuffers.{buffered, bytes_at, unread}
 use Rattle.descriptor_lines.specs.LineStates.{LineState}
 use Rattle.descriptor_lines.specs.Lines.{BeginsTooLong, LosesLine, after_end, before_end, lines_of}
 use Rattle.descriptor_lines.specs.Outcomes.{AppendsPrefix, IsNoFault, said_of}
-use Rattle.descriptor_lines.specs.Programs.{CanRun, DoesLine, IsFresh, IsNotRun, KeepsDevice}
-use Rattle.descriptor_lines.specs.Transcripts.{ComesTo, IsAnswered, IsFaultOfLine, IsRefused, Writes, WritesFromStart, words_in}
+use Rattle.descriptor_lines.specs.Programs.{CanRun, DoesLine, IsFresh, IsNotRun}
+use Rattle.descriptor_lines.specs.Transcripts.{ComesTo, IsAnswered, IsRefused, Writes, WritesFromStart, words_in}
 use Rattle.descriptor_lines.specs.declared.exit.Exit.{Exit}
 use Rattle.descriptor_lines.specs.declared.exit.Exit.TheVariants.{BadLine, Done, NoMemory, ReadFault, WriteFault}
 use Rattle.descriptor_lines.specs.declared.input.LineBuffer.{LineBuffer}
@@ -28,51 +27,49 @@ use Rattle.descriptor_lines.proofs.TranscriptLemmas.{IsFirstOf, Stands, lines_sp
 
 -- ---- what comes of a line
 
+-- the line is refused at a fault, and else it is answered and gone
+abbrev Came : ℕ → List ℕ → List ℕ → Option (List ℕ) → Result Unit Refusal → List ℕ → LineState → LineState → Type 0
+Came number line bytes rest (Err (refusal.Fault fault)) text old new = IsRefused number line (fault_line number fault) old new
+Came number line bytes rest outcome text old new = LosesLine (Some bytes) rest × IsAnswered line (said_of number outcome text) old new
+
 -- a line that was taken from the front of these bytes, and what came of it
 pub record IsTaken (number : ℕ) (line bytes : List ℕ) (rest : Option (List ℕ)) (outcome : Result Unit Refusal) (text : List ℕ) (old new : LineState) : Type 0 where
   pub some : 0 < length bytes
   pub first : line ≡ before_end bytes
-  pub loses : IsNoFault outcome → LosesLine (Some bytes) rest
-  pub answered : IsNoFault outcome → IsAnswered line (said_of number outcome text) old new
-  pub wrong : (fault : Fault) → outcome ≡ Err (refusal.Fault fault) → IsFaultOfLine old line fault
-  pub device : (fault : Fault) → outcome ≡ Err (refusal.Fault fault) → KeepsDevice old new
+  pub came : Came number line bytes rest outcome text old new
 
 abbrev pub Takes : ℕ → Option (List ℕ) → Option (List ℕ) → Result Unit Refusal → List ℕ → LineState → LineState → Type 0
 Takes number None rest outcome text old new = ⊤
 Takes number (Some bytes) rest outcome text old new =
     (line : List ℕ) × IsTaken number line bytes rest outcome text old new
 
--- what a line that was run is answered
-run_answer :
-    (number : ℕ) (outcome : Result Unit Refusal) (line text : List ℕ) (old new : LineState) → IsNoFault outcome
-    → length line ≤ 4096 → OnOk outcome (DoesLine (words_in line) text old new)
-    → IfErr outcome (λ reason. IsNotRun reason (words_in line) old new) → CanRun new
-    → IsAnswered line (said_of number outcome text) old new
-run_answer number (Ok done) line text old new fine short does other ready = record { short = short; answer = inl does; ready = ready }
-run_answer number (Err refusal.NoMemory) line text old new fine short does other ready = record { short = short; answer = inr (other, refl); ready = ready }
-run_answer number (Err (refusal.Fault fault)) line text old new fine short does other ready = absurd (cc)
+module _ (number : ℕ) (line bytes : List ℕ) (rest : Option (List ℕ)) where
+  module _ (text : List ℕ) (old new : LineState) where
+    -- what comes of a line that was run
+    came_of : (outcome : Result Unit Refusal) → LosesLine (Some bytes) rest → length line ≤ 4096 → OnOk outcome (DoesLine (words_in line) text old new) → IfErr outcome (λ reason. IsNotRun reason (words_in line) old new) → CanRun new → Came number line bytes rest outcome text old new
+    came_of (Ok done) loses short does other ready = (loses, record { short = short; answer = inl does; ready = ready })
+    came_of (Err refusal.NoMemory) loses short does other ready = (loses, record { short = short; answer = inr (other, refl); ready = ready })
+    came_of (Err (refusal.Fault fault)) loses short does other ready = record {
+      fault = fault;
+      wrong = inr (short, other.reason_is);
+      said = refl;
+      device = record { script = other.unchanged.script; ledger = other.unchanged.session.ledger };
+    }
 
--- a line that was run
-takes_run :
-    (number : ℕ) (left rest : Option (List ℕ)) (line : List ℕ) (outcome : Result Unit Refusal) (text : List ℕ)
-    (old new : LineState)
-    → IsFirstOf line left → LosesLine left rest → length line ≤ 4096
-    → OnOk outcome (DoesLine (words_in line) text old new)
-    → IfErr outcome (λ reason. IsNotRun reason (words_in line) old new) → CanRun new
-    → Takes number left rest outcome text old new
-takes_run number None rest line outcome text old new first loses short does other ready = tt
-takes_run number (Some bytes) None line outcome text old new first loses short does other ready = absurd loses
-takes_run number (Some bytes) (Some others) line outcome text old new first loses short does other ready = (
-  line,
-  record {
-    some = loses.0;
-    first = first;
-    loses = λ _. loses;
-    answered = λ fine. run_answer number outcome line text old new fine short does other ready;
-    wrong = λ fault is. inr (short, (rw is at other).reason_is);
-    device = λ fault is. let same = (rw is at other).unchanged in record { script = same.script; ledger = same.session.ledger };
-  },
-)
+    answered : (outcome : Result Unit Refusal) → IsNoFault outcome → Came number line bytes rest outcome text old new → LosesLine (Some bytes) rest × IsAnswered line (said_of number outcome text) old new
+    answered (Ok done) fine came = came
+    answered (Err refusal.NoMemory) fine came = came
+    answered (Err (refusal.Fault fault)) fine came = absurd (cc)
+
+    refused : (outcome : Result Unit Refusal) → ¬ (IsNoFault outcome) → Came number line bytes rest outcome text old new → IsRefused number line (said_of number outcome text) old new
+    refused (Ok done) faulty came = absurd (faulty tt)
+    refused (Err refusal.NoMemory) faulty came = absurd (faulty refl)
+    refused (Err (refusal.Fault fault)) faulty came = came
+
+    is_said : (outcome : Result Unit Refusal) → Came number line bytes rest outcome text old new → IsAnswered line (said_of number outcome text) old new ⊎ IsRefused number line (said_of number outcome text) old new
+    is_said (Ok done) came = inl came.1
+    is_said (Err refusal.NoMemory) came = inl came.1
+    is_said (Err (refusal.Fault fault)) came = inr came
 
 -- a line at its place in the buffer, run
 pub takes_span :
@@ -82,9 +79,13 @@ pub takes_span :
     → line ≡ strip_last 13 (bytes_at buffer span) → OnOk outcome (DoesLine (words line) text old new)
     → IfErr outcome (λ reason. IsNotRun reason (words line) old new) → CanRun new
     → Takes number left rest outcome text old new
-takes_span number buffer span left rest line outcome text old new first loses short is does other ready =
-    let few : length (bytes_at buffer span) ≤ 4096 = omega (arith, length-take (span.end - span.start) (drop span.start buffer.bytes.items)) in
-    takes_run number left rest (bytes_at buffer span) outcome text old new first loses few (rw is at does) (rw is at other) ready
+takes_span number buffer span None rest line outcome text old new first loses short is does other ready = tt
+takes_span number buffer span (Some bytes) None line outcome text old new first loses short is does other ready = absurd loses
+takes_span number buffer span (Some bytes) (Some others) line outcome text old new first loses short is does other ready =
+    let few : length (bytes_at buffer span) ≤ 4096 = omega (arith, length-take (span.end - span.start) (drop span.start buffer.bytes.items)) in (
+      bytes_at buffer span,
+      record { some = loses.0; first = first; came = came_of number (bytes_at buffer span) bytes (Some others) text old new outcome loses few (rw is at does) (rw is at other) ready },
+    )
 
 -- a line that is too long
 pub takes_long : (number : ℕ) (left rest : Option (List ℕ)) (outcome : Result Unit Refusal) (text : List ℕ) (p : LineState) → outcome ≡ Err (refusal.Fault LineTooLong) → BeginsTooLong left → Takes number left rest outcome text p p
@@ -94,10 +95,7 @@ takes_long number (Some bytes) rest outcome text p is long = (
   record {
     some = omega (arith, length-take (position_or_len (is_byte 10) bytes) bytes);
     first = refl;
-    loses = λ fine. absurd (let none = rw is at fine in cc);
-    answered = λ fine. absurd (let none = rw is at fine in cc);
-    wrong = λ fault same. inl (long, (let both = sym same ∙ is in cc));
-    device = λ fault same. record { script = refl; ledger = refl };
+    came = rw is (record { fault = LineTooLong; wrong = inl (long, refl); said = refl; device = record { script = refl; ledger = refl } });
   },
 )
 
@@ -111,7 +109,8 @@ pub stands_on :
 stands_on None left rest start old new answers text number outcome at takes fine = tt
 stands_on (Some bytes) None rest start old new answers text number outcome at takes fine = absurd at
 stands_on (Some bytes) (Some left) rest start old new answers text number outcome at (line, taken) fine =
-    stands_next (Some bytes) (Some left) rest start old new answers (said_of number outcome text) line number at taken.first (taken.loses fine) (taken.answered fine)
+    let (loses, came) = answered number line left rest text old new outcome fine taken.came in
+    stands_next (Some bytes) (Some left) rest start old new answers (said_of number outcome text) line number at taken.first loses came
 
 -- ---- the ends
 
@@ -150,45 +149,19 @@ at_line Says bytes left line said start p answers number (before, all, next, at)
       says = subst (λ n. Says n line said p) next says;
     }
 
-ends_refused :
-    (known left rest : Option (List ℕ)) (start p now : LineState) (answers text : List ℕ) (number : ℕ)
-    (outcome : Result Unit Refusal) (fault : Fault) (old mid new : Option (List ℕ))
-    → outcome ≡ Err (refusal.Fault fault) → Stands known start answers number left p
-    → Takes number left rest outcome text p now → Appends old mid answers
-    → Appends mid new (said_of number outcome text) → Writes known start BadLine old new now
-ends_refused None left rest start p now answers text number outcome fault old mid new is at takes before said = tt
-ends_refused (Some bytes) None rest start p now answers text number outcome fault old mid new is at takes before said = absurd at
-ends_refused (Some bytes) (Some left) rest start p now answers text number outcome fault old mid new is at (line, taken) before said =
-    let last : said_of number outcome text ≡ fault_line number fault = ap (λ o. said_of number o text) is in (
-      answers ++ said_of number outcome text,
-      at_line (λ n l t q. IsRefused n l t q now) bytes left line (said_of number outcome text) start p answers number at taken.some taken.first (record { fault = fault; wrong = taken.wrong fault is; said = last; device = taken.device fault is }),
-      Appends-trans old mid new answers _ before said,
-    )
-
-is_fault : (outcome : Result Unit Refusal) → ¬ (IsNoFault outcome) → (fault : Fault) × (outcome ≡ Err (refusal.Fault fault))
-is_fault (Ok done) faulty = absurd (faulty tt)
-is_fault (Err refusal.NoMemory) faulty = absurd (faulty refl)
-is_fault (Err (refusal.Fault fault)) faulty = (fault, refl)
-
 -- a faulty line was the last
 pub ends_at_fault :
     (known left rest : Option (List ℕ)) (start p now : LineState) (answers text : List ℕ) (number : ℕ)
     (outcome : Result Unit Refusal) (old mid new : Option (List ℕ))
     → ¬ (IsNoFault outcome) → Stands known start answers number left p → Takes number left rest outcome text p now
     → Appends old mid answers → Appends mid new (said_of number outcome text) → Writes known start BadLine old new now
-ends_at_fault known left rest start p now answers text number outcome old mid new faulty at takes before said =
-    let (fault, is) = is_fault outcome faulty in
-    ends_refused known left rest start p now answers text number outcome fault old mid new is at takes before said
-
-is_said :
-    (number : ℕ) (line bytes : List ℕ) (rest : Option (List ℕ)) (outcome : Result Unit Refusal) (text : List ℕ)
-    (old new : LineState)
-    → IsTaken number line bytes rest outcome text old new
-    → IsAnswered line (said_of number outcome text) old new
-    ⊎ IsRefused number line (said_of number outcome text) old new
-is_said number line bytes rest (Ok done) text old new taken = inl (taken.answered tt)
-is_said number line bytes rest (Err refusal.NoMemory) text old new taken = inl (taken.answered refl)
-is_said number line bytes rest (Err (refusal.Fault fault)) text old new taken = inr (record { fault = fault; wrong = taken.wrong fault refl; said = refl; device = taken.device fault refl })
+ends_at_fault None left rest start p now answers text number outcome old mid new faulty at takes before said = tt
+ends_at_fault (Some bytes) None rest start p now answers text number outcome old mid new faulty at takes before said = absurd at
+ends_at_fault (Some bytes) (Some left) rest start p now answers text number outcome old mid new faulty at (line, taken) before said = (
+  answers ++ said_of number outcome text,
+  at_line (λ n l t q. IsRefused n l t q now) bytes left line (said_of number outcome text) start p answers number at taken.some taken.first (refused number line left rest text p now outcome faulty taken.came),
+  Appends-trans old mid new answers _ before said,
+)
 
 -- a write failed
 pub ends_unwritten :
@@ -205,7 +178,7 @@ ends_unwritten (Some bytes) (Some left) rest start p now answers text number out
       bytes left line wrote.prefix start p answers number at taken.some taken.first (
         wrote.unwritten,
         subst (λ t. IsAnswered line t p now ⊎ IsRefused number line t p now) wrote.split
-            (is_said number line left rest outcome text p now taken),
+            (is_said number line left rest text p now outcome taken.came),
       ),
   Appends-trans old mid new answers _ before wrote.grown,
 )
