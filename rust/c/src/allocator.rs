@@ -5,7 +5,7 @@
 //! they have in C, that a `gd_set` has the handle of its set, and that a layout is known by the host's handle.
 
 use crate::abi::{GdLayout, GdSet, GdStatus};
-use crate::descriptor_renderer::{LayoutHandle, RenderError, Renderer, SetHandle};
+use crate::descriptor_renderer::{DestroyError, LayoutHandle, RenderError, Renderer, SetHandle};
 use crate::device::{HostDevice, HostPool};
 use crate::gpu_descriptor::{
     AllocationError, DescriptorSetLayoutCreateFlags, DescriptorTotalCount, SetLayout,
@@ -49,11 +49,17 @@ fn handle_of(owner: u64, name: u64) -> SetHandle {
     }
 }
 
+/// The renderer's handle of a layout with this name.
+#[inline]
+fn layout_of(owner: u64, name: u64) -> LayoutHandle {
+    let slot = handle_of(owner, name);
+    LayoutHandle { slot }
+}
+
 /// The host's handle of a known layout, by its name.
-fn layout_of(id: u64, renderer: &HostRenderer) -> impl Fn(u64) -> u64 {
+fn by_name(id: u64, renderer: &HostRenderer) -> impl Fn(u64) -> u64 {
     move |name| {
-        let slot = handle_of(id, name);
-        let it = renderer.layout(LayoutHandle { slot });
+        let it = renderer.layout(layout_of(id, name));
         it.expect("a known layout is there").layout
     }
 }
@@ -119,8 +125,7 @@ impl Allocator {
     /// The name of a layout with this handle, these counts and flags.
     fn known_layout(&self, layout: &SetLayout<u64>) -> Option<u64> {
         self.known.find(layout.layout, |name| {
-            let slot = handle_of(self.id, name);
-            let it = self.renderer.layout(LayoutHandle { slot });
+            let it = self.renderer.layout(layout_of(self.id, name));
             it.is_some_and(|it| {
                 (it.layout, it.flags, it.counts) == (layout.layout, layout.flags, layout.counts)
             })
@@ -130,7 +135,7 @@ impl Allocator {
     /// Adds a layout, and returns its name.
     fn new_layout(&mut self, layout: SetLayout<u64>) -> Result<u64, GdStatus> {
         let (id, renderer, handle) = (self.id, &self.renderer, layout.layout);
-        if self.known.reserve(layout_of(id, renderer)).is_err() {
+        if self.known.reserve(by_name(id, renderer)).is_err() {
             return Err(GdStatus::OUT_OF_HOST_MEMORY);
         }
         let Ok(LayoutHandle { slot }) = self.renderer.add_layout(layout) else {
@@ -142,11 +147,11 @@ impl Allocator {
 
     /// Removes a layout. It allocates nothing.
     pub fn remove_layout(&mut self, layout: GdLayout) -> GdStatus {
-        let slot = handle_of(layout.owner, layout.index);
-        let Ok(removed) = self.renderer.remove_layout(LayoutHandle { slot }) else {
+        let handle = layout_of(layout.owner, layout.index);
+        let Ok(removed) = self.renderer.remove_layout(handle) else {
             return GdStatus::BAD_LAYOUT;
         };
-        let handle_of = layout_of(self.id, &self.renderer);
+        let handle_of = by_name(self.id, &self.renderer);
         self.known.remove(removed.layout, layout.index, handle_of);
         GdStatus::OK
     }
@@ -160,8 +165,7 @@ impl Allocator {
         put: impl Fn(usize, GdSet),
     ) -> GdStatus {
         self.renderer.device().cause.set(GdStatus::OK);
-        let slot = handle_of(layout.owner, layout.index);
-        match self.create(LayoutHandle { slot }, count, put) {
+        match self.create(layout_of(layout.owner, layout.index), count, put) {
             Ok(()) => GdStatus::OK,
             Err(error) => self.status_of(error),
         }
@@ -235,53 +239,46 @@ impl Allocator {
         }
     }
 
-    /// Notes the handles of a host's sets, of which there are no more than are held. Whether each that
-    /// is held has the host's handle.
+    /// Reads a host's sets into `handles`. Whether they are held, each under its handle.
     #[inline]
-    fn note(&mut self, count: u32, get: impl Fn(usize) -> GdSet) -> bool {
-        let Allocator {
-            renderer,
-            handles,
-            held,
-            ..
-        } = self;
-        if count as usize > *held {
+    fn read(&mut self, count: u32, get: impl Fn(usize) -> GdSet) -> bool {
+        let count = count as usize;
+        if count > self.held {
             return false;
         }
-        assert!(
-            count as usize <= handles.capacity(),
-            "no memory was reserved"
-        );
-        let mut are_same = true;
-        handles.0.clear();
-        handles.0.extend((0..count as usize).map(|at| {
-            let GdSet {
-                handle,
-                name,
-                owner,
-            } = get(at);
-            let set = handle_of(owner, name);
-            if renderer.set(set) != Some(&handle) {
-                are_same = false;
+        assert!(count <= self.handles.capacity(), "no memory was reserved");
+        let mut are_held = true;
+        self.handles.0.clear();
+        // A loop of pushes would compare the capacity for each set.
+        self.handles.0.extend((0..count).map(get).map(|it| {
+            let set = handle_of(it.owner, it.name);
+            if self.renderer.set(set) != Some(&it.handle) {
+                are_held = false;
             }
             set
         }));
-        are_same
+        are_held
+    }
+
+    /// Lets a host's sets go by a call of the renderer, which takes all or none.
+    #[inline]
+    fn release(
+        &mut self,
+        count: u32,
+        get: impl Fn(usize) -> GdSet,
+        call: impl FnOnce(&mut HostRenderer, &[SetHandle]) -> Result<(), DestroyError>,
+    ) -> GdStatus {
+        if !self.read(count, get) || call(&mut self.renderer, &self.handles).is_err() {
+            return GdStatus::BAD_SET;
+        }
+        self.held -= count as usize;
+        GdStatus::OK
     }
 
     /// Frees sets. It allocates nothing.
     #[inline]
     pub fn free(&mut self, count: u32, get: impl Fn(usize) -> GdSet) -> GdStatus {
-        if !self.note(count, get) {
-            return GdStatus::BAD_SET;
-        }
-        match self.renderer.free_sets(&self.handles) {
-            Ok(()) => {
-                self.held -= count as usize;
-                GdStatus::OK
-            }
-            Err(_) => GdStatus::BAD_SET,
-        }
+        self.release(count, get, |renderer, sets| renderer.free_sets(sets))
     }
 
     /// Frees all sets, those that wait and those that are kept too. It allocates nothing.
@@ -292,16 +289,9 @@ impl Allocator {
 
     /// Lets sets wait for the end of a frame. It allocates nothing.
     pub fn free_after(&mut self, count: u32, get: impl Fn(usize) -> GdSet, frame: u64) -> GdStatus {
-        if !self.note(count, get) {
-            return GdStatus::BAD_SET;
-        }
-        match self.renderer.destroy_sets(&self.handles, frame) {
-            Ok(()) => {
-                self.held -= count as usize;
-                GdStatus::OK
-            }
-            Err(_) => GdStatus::BAD_SET,
-        }
+        self.release(count, get, |renderer, sets| {
+            renderer.destroy_sets(sets, frame)
+        })
     }
 
     /// Keeps or frees the sets that wait for this frame or an earlier one. It allocates nothing.

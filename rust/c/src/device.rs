@@ -165,9 +165,9 @@ impl HostDevice {
         }
     }
 
-    /// Notes a status that is no reason of the allocator's. A lost device stays lost.
+    /// Sets the cause to a status that is no reason of the allocator's. A lost device stays lost.
     #[cold]
-    fn note(&self, status: GdStatus) {
+    fn set_cause(&self, status: GdStatus) {
         if status == GdStatus::DEVICE_LOST {
             self.cause.set(status);
         } else if self.cause.get() == GdStatus::OK {
@@ -218,7 +218,7 @@ impl DescriptorDevice<u64, HostPool, u64> for HostDevice {
                 Err(CreatePoolError::Fragmentation)
             }
             _ => {
-                self.note(status);
+                self.set_cause(status);
                 Err(CreatePoolError::OutOfHostMemory)
             }
         }
@@ -257,7 +257,7 @@ impl DescriptorDevice<u64, HostPool, u64> for HostDevice {
             GdStatus::FRAGMENTATION => Err(DeviceAllocationError::FragmentedPool),
             GdStatus::OUT_OF_POOL_MEMORY => Err(DeviceAllocationError::OutOfPoolMemory),
             _ => {
-                self.note(status);
+                self.set_cause(status);
                 Err(DeviceAllocationError::OutOfHostMemory)
             }
         }

@@ -32,6 +32,46 @@ fn is_missing(sets: *const GdSet, count: u32) -> bool {
     sets.is_null() && count > 0
 }
 
+/// Makes a call that an allocator never refuses.
+///
+/// # Safety
+///
+/// As the header says.
+unsafe fn run(allocator: GdAllocator, call: impl FnOnce(&mut Allocator)) -> GdStatus {
+    // SAFETY: as above.
+    unsafe {
+        slot::enter(allocator, |it| {
+            call(it);
+            GdStatus::OK
+        })
+    }
+}
+
+/// Makes a call, and writes its answer to a place of the host's.
+///
+/// # Safety
+///
+/// As the header says.
+unsafe fn ask<T>(
+    allocator: GdAllocator,
+    place: *mut T,
+    call: impl FnOnce(&mut Allocator) -> Result<T, GdStatus>,
+) -> GdStatus {
+    if place.is_null() {
+        return GdStatus::NULL_POINTER;
+    }
+    // SAFETY: as above.
+    unsafe {
+        slot::enter(allocator, |it| match call(it) {
+            Ok(answer) => {
+                place.write(answer);
+                GdStatus::OK
+            }
+            Err(status) => status,
+        })
+    }
+}
+
 /// A part of the crate's version.
 const fn number(text: &str) -> u32 {
     match u32::from_str_radix(text, 10) {
@@ -122,20 +162,14 @@ pub unsafe extern "C" fn gd_add_layout(
     flags: u32,
     layout: *mut GdLayout,
 ) -> GdStatus {
-    if counts.is_null() || layout.is_null() {
+    if counts.is_null() {
         return GdStatus::NULL_POINTER;
     }
     // SAFETY: the header's.
     unsafe {
-        slot::enter(allocator, |it| {
+        ask(allocator, layout, |it| {
             let counts = counts.cast::<[u32; 14]>().read();
-            match it.add_layout(handle, &counts, flags) {
-                Ok(known) => {
-                    layout.write(known);
-                    GdStatus::OK
-                }
-                Err(status) => status,
-            }
+            it.add_layout(handle, &counts, flags)
         })
     }
 }
@@ -185,12 +219,7 @@ pub unsafe extern "C" fn gd_free(
 #[unsafe(no_mangle)]
 pub unsafe extern "C" fn gd_free_all(allocator: GdAllocator) -> GdStatus {
     // SAFETY: the header's.
-    unsafe {
-        slot::enter(allocator, |it| {
-            it.free_all();
-            GdStatus::OK
-        })
-    }
+    unsafe { run(allocator, |it| it.free_all()) }
 }
 
 #[unsafe(no_mangle)]
@@ -214,23 +243,13 @@ pub unsafe extern "C" fn gd_free_after(
 #[unsafe(no_mangle)]
 pub unsafe extern "C" fn gd_frame_done(allocator: GdAllocator, frame: u64) -> GdStatus {
     // SAFETY: the header's.
-    unsafe {
-        slot::enter(allocator, |it| {
-            it.frame_done(frame);
-            GdStatus::OK
-        })
-    }
+    unsafe { run(allocator, |it| it.frame_done(frame)) }
 }
 
 #[unsafe(no_mangle)]
 pub unsafe extern "C" fn gd_keep(allocator: GdAllocator, most: u32) -> GdStatus {
     // SAFETY: the header's.
-    unsafe {
-        slot::enter(allocator, |it| {
-            it.keep(most);
-            GdStatus::OK
-        })
-    }
+    unsafe { run(allocator, |it| it.keep(most)) }
 }
 
 #[unsafe(no_mangle)]
@@ -239,34 +258,19 @@ pub unsafe extern "C" fn gd_set_most_pool_descriptors(
     most: u64,
 ) -> GdStatus {
     // SAFETY: the header's.
-    unsafe {
-        slot::enter(allocator, |it| {
-            it.set_most_pool_descriptors(most);
-            GdStatus::OK
-        })
-    }
+    unsafe { run(allocator, |it| it.set_most_pool_descriptors(most)) }
 }
 
 #[unsafe(no_mangle)]
 pub unsafe extern "C" fn gd_cleanup(allocator: GdAllocator) -> GdStatus {
     // SAFETY: the header's.
-    unsafe {
-        slot::enter(allocator, |it| {
-            it.cleanup();
-            GdStatus::OK
-        })
-    }
+    unsafe { run(allocator, |it| it.cleanup()) }
 }
 
 #[unsafe(no_mangle)]
 pub unsafe extern "C" fn gd_trim(allocator: GdAllocator) -> GdStatus {
     // SAFETY: the header's.
-    unsafe {
-        slot::enter(allocator, |it| {
-            it.trim();
-            GdStatus::OK
-        })
-    }
+    unsafe { run(allocator, |it| it.trim()) }
 }
 
 #[unsafe(no_mangle)]
@@ -274,16 +278,8 @@ pub unsafe extern "C" fn gd_get_statistics(
     allocator: GdAllocator,
     statistics: *mut GdStatistics,
 ) -> GdStatus {
-    if statistics.is_null() {
-        return GdStatus::NULL_POINTER;
-    }
     // SAFETY: the header's.
-    unsafe {
-        slot::enter(allocator, |it| {
-            statistics.write(it.statistics());
-            GdStatus::OK
-        })
-    }
+    unsafe { ask(allocator, statistics, |it| Ok(it.statistics())) }
 }
 
 #[unsafe(no_mangle)]
@@ -292,19 +288,8 @@ pub unsafe extern "C" fn gd_kept(
     layout: GdLayout,
     sets: *mut u64,
 ) -> GdStatus {
-    if sets.is_null() {
-        return GdStatus::NULL_POINTER;
-    }
     // SAFETY: the header's.
-    unsafe {
-        slot::enter(allocator, |it| match it.kept(layout) {
-            Some(kept) => {
-                sets.write(kept);
-                GdStatus::OK
-            }
-            None => GdStatus::BAD_LAYOUT,
-        })
-    }
+    unsafe { ask(allocator, sets, |it| it.kept(layout)) }
 }
 
 #[unsafe(no_mangle)]
@@ -313,19 +298,8 @@ pub unsafe extern "C" fn gd_get_layout_statistics(
     layout: GdLayout,
     statistics: *mut GdLayoutStatistics,
 ) -> GdStatus {
-    if statistics.is_null() {
-        return GdStatus::NULL_POINTER;
-    }
     // SAFETY: the header's.
-    unsafe {
-        slot::enter(allocator, |it| match it.layout_statistics(layout) {
-            Some(numbers) => {
-                statistics.write(numbers);
-                GdStatus::OK
-            }
-            None => GdStatus::BAD_LAYOUT,
-        })
-    }
+    unsafe { ask(allocator, statistics, |it| it.layout_statistics(layout)) }
 }
 
 /// A buffer of the host's, and how long the text would be that was written to it.
@@ -379,38 +353,20 @@ pub unsafe extern "C" fn gd_write_statistics(
     }
 }
 
-/// Writes a number of an allocator.
-///
-/// # Safety
-///
-/// As the header says.
-unsafe fn read(allocator: GdAllocator, number: *mut u64, read: fn(&Allocator) -> u64) -> GdStatus {
-    if number.is_null() {
-        return GdStatus::NULL_POINTER;
-    }
-    // SAFETY: as above.
-    unsafe {
-        slot::enter(allocator, |it| {
-            number.write(read(it));
-            GdStatus::OK
-        })
-    }
-}
-
 #[unsafe(no_mangle)]
 pub unsafe extern "C" fn gd_outstanding(allocator: GdAllocator, sets: *mut u64) -> GdStatus {
     // SAFETY: the header's.
-    unsafe { read(allocator, sets, Allocator::outstanding) }
+    unsafe { ask(allocator, sets, |it| Ok(it.outstanding())) }
 }
 
 #[unsafe(no_mangle)]
 pub unsafe extern "C" fn gd_waiting(allocator: GdAllocator, sets: *mut u64) -> GdStatus {
     // SAFETY: the header's.
-    unsafe { read(allocator, sets, Allocator::waiting) }
+    unsafe { ask(allocator, sets, |it| Ok(it.waiting())) }
 }
 
 #[unsafe(no_mangle)]
 pub unsafe extern "C" fn gd_pool_count(allocator: GdAllocator, pools: *mut u64) -> GdStatus {
     // SAFETY: the header's.
-    unsafe { read(allocator, pools, Allocator::pools) }
+    unsafe { ask(allocator, pools, |it| Ok(it.pools())) }
 }

@@ -1,11 +1,11 @@
 //! Numbers of an allocator, and the same as JSON. They are what the renderer's readers return, and what the
 //! device counts of its pools.
 
-use super::{Allocator, handle_of};
-use crate::abi::{GdLayout, GdLayoutStatistics, GdStatistics};
+use super::{Allocator, layout_of};
+use crate::abi::{GdLayout, GdLayoutStatistics, GdStatistics, GdStatus};
 use crate::descriptor_renderer::LayoutHandle;
 use crate::gpu_descriptor::DescriptorSetLayoutCreateFlags;
-use core::fmt::{Result, Write};
+use core::fmt::{self, Write};
 
 /// The kinds in the order of the header.
 const KINDS: [&str; 14] = [
@@ -28,8 +28,7 @@ const KINDS: [&str; 14] = [
 impl Allocator {
     /// The handles of all layouts, in no order.
     fn layouts(&self) -> impl Iterator<Item = LayoutHandle> {
-        let slots = self.known.names().map(|name| handle_of(self.id, name));
-        slots.map(|slot| LayoutHandle { slot })
+        self.known.names().map(|name| layout_of(self.id, name))
     }
 
     pub fn statistics(&self) -> GdStatistics {
@@ -52,22 +51,22 @@ impl Allocator {
         }
     }
 
-    /// The renderer's handle of a layout; `None` if it isn't one of this allocator.
-    fn known_handle(&self, layout: GdLayout) -> Option<LayoutHandle> {
-        let slot = handle_of(layout.owner, layout.index);
-        let layout = LayoutHandle { slot };
-        self.renderer.layout(layout).map(|_| layout)
+    /// The renderer's handle of a layout, if it is one of this allocator.
+    fn known_handle(&self, layout: GdLayout) -> Result<LayoutHandle, GdStatus> {
+        let handle = layout_of(layout.owner, layout.index);
+        let known = self.renderer.layout(handle);
+        known.map(|_| handle).ok_or(GdStatus::BAD_LAYOUT)
     }
 
     /// How many sets of a layout are kept.
-    pub fn kept(&self, layout: GdLayout) -> Option<u64> {
+    pub fn kept(&self, layout: GdLayout) -> Result<u64, GdStatus> {
         let handle = self.known_handle(layout)?;
-        Some(self.renderer.kept_count(handle).into())
+        Ok(self.renderer.kept_count(handle).into())
     }
 
-    pub fn layout_statistics(&self, layout: GdLayout) -> Option<GdLayoutStatistics> {
+    pub fn layout_statistics(&self, layout: GdLayout) -> Result<GdLayoutStatistics, GdStatus> {
         let handle = self.known_handle(layout)?;
-        Some(self.numbers_of(handle))
+        Ok(self.numbers_of(handle))
     }
 
     /// It goes over the pools.
@@ -87,7 +86,7 @@ impl Allocator {
     }
 
     /// Writes the numbers as JSON.
-    pub fn write_statistics(&self, text: &mut impl Write) -> Result {
+    pub fn write_statistics(&self, text: &mut impl Write) -> fmt::Result {
         let numbers = self.statistics();
         write!(text, "{{\"version\": \"{}\"", env!("CARGO_PKG_VERSION"))?;
         let members = [
@@ -122,8 +121,8 @@ impl Allocator {
     }
 
     /// Writes a layout. A handle has 64 bits, and a number of JSON may have fewer: so it is a text.
-    fn write_layout(&self, handle: LayoutHandle, text: &mut impl Write) -> Result {
-        let layout = self.renderer.layout(handle).ok_or(core::fmt::Error)?;
+    fn write_layout(&self, handle: LayoutHandle, text: &mut impl Write) -> fmt::Result {
+        let layout = self.renderer.layout(handle).ok_or(fmt::Error)?;
         let is_marked = layout
             .flags
             .contains(DescriptorSetLayoutCreateFlags::UPDATE_AFTER_BIND);
@@ -150,7 +149,7 @@ impl Allocator {
 }
 
 /// Members of an object, after others.
-fn write_members(text: &mut impl Write, members: &[(&str, u64)]) -> Result {
+fn write_members(text: &mut impl Write, members: &[(&str, u64)]) -> fmt::Result {
     for (name, number) in members {
         write!(text, ", \"{name}\": {number}")?;
     }

@@ -77,3 +77,33 @@ fn a_call_inside_is_busy() {
         }
     }
 }
+
+/// A call that waits for the one that destroys the allocator has seen its id, and comes too late even so.
+#[cfg(feature = "std")]
+#[test]
+fn a_call_that_waits_for_the_end_comes_too_late() {
+    #[derive(Clone, Copy)]
+    struct Sent(GdAllocator);
+
+    // SAFETY: any thread may call an allocator.
+    unsafe impl Send for Sent {}
+
+    impl Sent {
+        fn call(self) -> GdStatus {
+            // SAFETY: `create` made it.
+            unsafe { enter(self.0, |_| GdStatus::OK) }
+        }
+    }
+
+    let (allocator, mut late) = (Sent(created()), None);
+    // SAFETY: `create` made it.
+    let status = unsafe {
+        destroy(allocator.0, |_| {
+            late = Some(std::thread::spawn(move || allocator.call()));
+            std::thread::sleep(std::time::Duration::from_millis(200));
+            GdStatus::OK
+        })
+    };
+    assert_eq!(status, GdStatus::OK);
+    assert_eq!(late.unwrap().join().unwrap(), GdStatus::BAD_ALLOCATOR);
+}
