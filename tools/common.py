@@ -51,6 +51,36 @@ def need(command, why):
         skip(f"the command {command} is missing: {why}")
 
 
+class Counts:
+    """How many checks passed and failed."""
+
+    def __init__(self):
+        self.passed = 0
+        self.failed = 0
+
+    def say(self, is_fine, text):
+        self.passed += is_fine
+        self.failed += not is_fine
+        print(text if is_fine else f"FAILED: {text}", flush=True)
+
+    def end(self):
+        """Says how many, and is the exit code."""
+        print(f"{self.passed} passed, {self.failed} failed")
+        return 1 if self.failed or not self.passed else 0
+
+
+def report(checks):
+    """Says what is wrong, of checks with a name and a fault, or several or none; and ends as counts do."""
+    counts = Counts()
+    for name, faults in checks:
+        found = [faults] if isinstance(faults, str) else [*(faults or ())]
+        for fault in found:
+            print(f"FAILED: {name}: {fault}", flush=True)
+        counts.passed += not found
+        counts.failed += bool(found)
+    return counts.end()
+
+
 def is_built(file):
     """Whether a file is there, and newer than all sources of the crates."""
     sources = [f"{TOP}/crates.txt", *glob.glob(f"{TOP}/crates/*/src/**/*.rt", recursive=True)]
@@ -176,38 +206,38 @@ class BadEdit(Exception):
 
 
 class EditText(NamedTuple):
-    """What a file of an edit has: its replacements, (file, old, new) in order, and its other lines."""
+    """What a file of an edit has: its replacements, (file, old, new) in order, and by their word its other lines."""
     pairs: list
-    error: str | None
-    functions: list
-    clauses: list
+    lines: dict
+
+    def line(self, word):
+        """The only line with this word."""
+        if len(self.lines[word]) != 1:
+            raise BadEdit(f"it has not one line '{word}:'")
+        return self.lines[word][0]
 
 
 def read_edit(path):
-    """Reads an edit. Beside replacements it may have a line 'error:', lines 'function:' and lines 'clause:'."""
+    """Reads an edit. An old text of several lines has a line 'old:' for each."""
     with open(path, encoding="utf-8") as it:
         lines = [line.partition(":") for line in it.read().splitlines() if line.strip()]
-    file, old, error, pairs, functions, clauses = None, None, None, [], [], []
+    file, old, pairs, others = None, [], [], {"error": [], "function": [], "clause": [], "test": []}
     for key, _, value in lines:
         value = value[1:] if value.startswith(" ") else value
         if key == "file":
             file = value
-        elif key == "error":
-            error = value
-        elif key == "function":
-            functions.append(value)
-        elif key == "clause":
-            clauses.append(value)
+        elif key in others:
+            others[key].append(value)
         elif key == "old":
-            old = value
+            old.append(value)
         elif key == "new" and file and old:
-            pairs.append((file, old, value))
-            old = None
+            pairs.append((file, "\n".join(old), value))
+            old = []
         else:
             raise BadEdit(f"the line '{key}:' is out of place")
     if not pairs:
         raise BadEdit("it has no 'old:' and 'new:' pair")
-    return EditText(pairs, error, functions, clauses)
+    return EditText(pairs, others)
 
 
 def edited(crate, pairs, texts=()):
@@ -224,6 +254,18 @@ def edited(crate, pairs, texts=()):
         written.add(f"{file}:{before.count(chr(10)) + 1}")
         texts[file] = before + new + after
     return texts, written
+
+
+def replace(folder, texts):
+    """Writes files of a folder, and returns their old texts."""
+    kept = {}
+    for file, text in texts.items():
+        with open(f"{folder}/{file}", "r+", encoding="utf-8") as it:
+            kept[file] = it.read()
+            it.seek(0)
+            it.truncate()
+            it.write(text)
+    return kept
 
 
 if __name__ == "__main__":
