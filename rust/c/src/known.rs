@@ -36,19 +36,22 @@ impl Known {
         (handle.wrapping_mul(0x9e37_79b9_7f4a_7c15) >> (64 - bits)) as usize
     }
 
+    /// The first cell from a handle's home on for which this is true. There is one.
+    fn first(&self, handle: u64, is_found: impl Fn(u64) -> bool) -> usize {
+        let mut at = self.home(handle);
+        while !is_found(self.cells[at]) {
+            at = self.wrapped(at + 1);
+        }
+        at
+    }
+
     /// The first name from a handle's home on for which this is true.
     pub fn find(&self, handle: u64, is_same: impl Fn(u64) -> bool) -> Option<u64> {
         if self.count == 0 {
             return None;
         }
-        let mut at = self.home(handle);
-        while self.cells[at] != 0 {
-            if is_same(self.cells[at]) {
-                return Some(self.cells[at]);
-            }
-            at = self.wrapped(at + 1);
-        }
-        None
+        let at = self.first(handle, |name| name == 0 || is_same(name));
+        Some(self.cells[at]).filter(|name| *name != 0)
     }
 
     /// Makes room for one more name. On an error nothing changed.
@@ -68,10 +71,7 @@ impl Known {
     }
 
     fn enter(&mut self, handle: u64, name: u64) {
-        let mut at = self.home(handle);
-        while self.cells[at] != 0 {
-            at = self.wrapped(at + 1);
-        }
+        let at = self.first(handle, |it| it == 0);
         self.cells.0[at] = name;
     }
 
@@ -88,10 +88,7 @@ impl Known {
 
     /// Takes a name out that was put in under this handle.
     pub fn remove(&mut self, handle: u64, name: u64, handle_of: impl Fn(u64) -> u64) {
-        let mut at = self.home(handle);
-        while self.cells[at] != name {
-            at = self.wrapped(at + 1);
-        }
+        let at = self.first(handle, |it| it == name);
         self.close(at, handle_of);
         self.count -= 1;
     }
