@@ -1,4 +1,4 @@
-//! A whole test of a renderer, to begin with.
+//! One whole test of a renderer, which shows its calls: read it first.
 use descriptor_renderer::Renderer;
 use descriptor_script::{Answer, ScriptLayout, ScriptedDevice, refuse_at};
 use gpu_descriptor::DescriptorTotalCount;

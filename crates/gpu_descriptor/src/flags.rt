@@ -1,4 +1,4 @@
-//! How a layout was created.
+//! The flags of a layout.
 ghost use Rattle.std.specs.Prelude.{⊤, [], ◌∷◌, codes};
 
 use bitflags::{Flag, Flags, bitflag_items};

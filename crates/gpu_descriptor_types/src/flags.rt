@@ -1,4 +1,4 @@
-//! How a pool is created.
+//! The flags of a new pool.
 ghost use Rattle.std.specs.Prelude.{⊤, [], ◌∷◌, codes};
 
 use bitflags::{Flag, Flags, bitflag_items};

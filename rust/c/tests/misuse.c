@@ -1,5 +1,5 @@
-// Each misuse that can be seen is a status, and changes nothing. All is done twice: all sets are kept,
-// and none is.
+// Each misuse by the program, or by its device, that can be seen is a status, and changes nothing. All is
+// done twice: all sets are kept, and none is.
 #include "gpu_descriptor.h"
 #include "host.h"
 #include <string.h>
