@@ -1,16 +1,22 @@
 -- What is outstanding and in use, when sets are retired and go back.
-use Rattle.std.proofs.Common.{◌≡◌, ℕ, ◌+◌, ◌-◌, ◌≤◌, List, [], ◌++◌, IfOk, OnErr, Result, Ok, Err, ap, ◌∙◌, arith}
+use Rattle.std.proofs.Common.{◌≡◌, ℕ, ◌+◌, ◌-◌, ◌≤◌, List, [], ◌++◌, IfOk, OnErr, Result, Ok, Err, refl, ap, ◌∙◌, arith}
 use Rattle.gpu_descriptor.specs.declared.errors.AllocationError.{AllocationError}
-use Rattle.gpu_descriptor.specs.Caller.Call.{map_ok}
+use Rattle.std.proofs.lemmas.Result.{IfOk-weaker}
+use Rattle.gpu_descriptor.specs.Caller.Call.{layout_key, map_ok}
+use Rattle.gpu_descriptor.specs.Caller.HandsOut.{HandsOut}
+use Rattle.gpu_descriptor.specs.Caller.Keeps.{Keeps}
+use Rattle.gpu_descriptor.specs.Caller.Values.{Allocations}
+use Rattle.gpu_descriptor_types.specs.Meaning.{Meaning}
+use Rattle.gpu_descriptor_types.specs.Side.{side}
 use Rattle.gpu_descriptor.specs.Model.Agreement.{AreOutstanding, Item, State, count_of, outstanding}
 use Rattle.gpu_descriptor.specs.Model.Promises.{AreOutBesides, KeepsOutstanding}
 use Rattle.gpu_descriptor_types.specs.Ledger.{Ledger}
-use Rattle.gpu_descriptor.specs.Caller.Sets.{items_of}
+use Rattle.gpu_descriptor.specs.Caller.Sets.{AreOfLayout, items_of}
 use Rattle.gpu_descriptor.specs.Caller.States.{state_of}
 use Rattle.gpu_descriptor.specs.declared.set.DescriptorSet.{DescriptorSet}
 use Rattle.gpu_descriptor.proofs.callers.HeldSets.{count_parts}
-use Rattle.descriptor_frames.specs.Frames.{AreInUse, AreRetiredOut, Retires, allocator_of, retired_of, state_in}
-use Rattle.descriptor_frames.specs.Retired.{retired_sets}
+use Rattle.descriptor_frames.specs.Frames.{AreInUse, AreRetiredOut, HandsOutForUse, KeepsRetired, Retires, allocator_of, retired_items, retired_of, state_in}
+use Rattle.descriptor_frames.specs.Retired.{AreInOrder, retired_sets}
 use Rattle.descriptor_frames.specs.declared.manager.FrameManager.{FrameManager}
 
 -- ---- a list in two parts
@@ -75,38 +81,42 @@ retires_counted pool_name set_name old new l xs same more out used =
 pub none_retired : {P S : Type 0} (pool_name : P → ℕ) (set_name : S → ℕ) (m : FrameManager P S) (l : Ledger) → retired_of m ≡ [] → AreRetiredOut pool_name set_name m l
 none_retired pool_name set_name m l is = record { out = λ t. (let none = ap (λ rs. count_of t (items_of set_name (retired_sets rs))) is in omega arith) }
 
--- sets that come out join those in use
-pub together :
-    {P S X : Type 0} (pool_name : P → ℕ) (set_name : S → ℕ) (sets_in : X → List (DescriptorSet S))
-    (r : Result X AllocationError) (old new : FrameManager P S) (before after : Ledger)
-    → retired_of new ≡ retired_of old
-    → IfOk (map_ok sets_in r)
-    (λ sets. AreOutBesides (items_of set_name sets) (state_in pool_name old before) (state_in pool_name new after))
-    → AreRetiredOut pool_name set_name old before
-    → IfOk r
-    (λ x.
-    (used all : List (DescriptorSet S)) → all ≡ used ++ sets_in x
-    → AreInUse pool_name set_name (items_of set_name used) old before
-    → AreInUse pool_name set_name (items_of set_name all) new after)
-together pool_name set_name sets_in (Ok x) old new before after same more out = λ used all is are. record {
-  used = λ t. (
-      let both = count_whole set_name used (sets_in x) all is t in
-      let came = more t in
-      let kept = ap (λ rs. count_of t (items_of set_name (retired_sets rs))) same in
-      let waiting = out.out t in
-      let first = are.used t in
-      omega arith);
-}
-together pool_name set_name sets_in (Err e) old new before after same more out = tt
-
 -- ---- calls of the allocator
 
+-- what holds of a value holds of what is made of it
+pub on_made : {X Y : Type 0} (f : X → Y) (P : Y → Type 0) (r : Result X AllocationError) → IfOk r (λ x. P (f x)) → IfOk (map_ok f r) P
+on_made f P (Ok x) holds = holds
+on_made f P (Err e) holds = tt
+
 -- what a request leaves outstanding
-pub still_out : {S E : Type 0} (name : S → ℕ) (r : Result (List (DescriptorSet S)) E) (m : List Item) (s t : State) → IfOk r (λ sets. AreOutBesides (items_of name sets) s t) → OnErr r (KeepsOutstanding s t) → AreOutstanding m s → AreOutstanding m t
+still_out : {S E : Type 0} (name : S → ℕ) (r : Result (List (DescriptorSet S)) E) (m : List Item) (s t : State) → IfOk r (λ sets. AreOutBesides (items_of name sets) s t) → OnErr r (KeepsOutstanding s t) → AreOutstanding m s → AreOutstanding m t
 still_out name (Ok sets) m s t more same out u = (let a = more u in let b = out u in omega arith)
 still_out name (Err e) m s t more same out u = (let a = same u in let b = out u in omega arith)
 
 -- what a refused request leaves in use
-pub still_in_use : {X Y : Type 0} (f : X → Y) (r : Result X AllocationError) (m : List Item) (s t : State) → OnErr (map_ok f r) (KeepsOutstanding s t) → OnErr r ((u : Item) → outstanding t u - count_of u m ≡ outstanding s u - count_of u m)
-still_in_use f (Ok x) m s t same = tt
-still_in_use f (Err e) m s t same = λ u. ap (λ n. n - count_of u m) (same u)
+still_in_use : {X E : Type 0} (r : Result X E) (m : List Item) (s t : State) → OnErr r (KeepsOutstanding s t) → OnErr r ((u : Item) → outstanding t u - count_of u m ≡ outstanding s u - count_of u m)
+still_in_use (Ok x) m s t same = tt
+still_in_use (Err e) m s t same = λ u. ap (λ n. n - count_of u m) (same u)
+
+-- the manager has another allocator after a call
+module _ {L P S : Type 0} (means : Meaning L P S) (m : FrameManager P S) (a : Allocations P) (ordered : AreInOrder (retired_of m) m.greatest) (before after : Ledger) where
+  pub keeps_retired :
+      Keeps means (side m.allocator before) (side a after)
+      → (AreRetiredOut means.pool_name means.set_name m before → AreOutstanding (retired_items means.set_name m) (state_of means.pool_name a after)) → KeepsRetired means (side m before) (side (record m { allocator = a; ordered = ordered }) after)
+  keeps_retired keeps out = record { allocator = keeps; list = refl; reserve = refl; greatest = refl; outstanding = λ o. record { out = out o } }
+
+  pub hands_out_for_use :
+      (layout : L) (count : ℕ) (r : Result (List (DescriptorSet S)) AllocationError)
+      → HandsOut means (layout_key means layout) count r (side m.allocator before) (side a after)
+      → IfOk r (AreOfLayout means layout) → Keeps means (side m.allocator before) (side a after) → HandsOutForUse means layout count r (side m before) (side (record m { allocator = a; ordered = ordered }) after)
+  hands_out_for_use layout count r hands own keeps =
+      let retired = retired_items means.set_name m in
+      let old = state_in means.pool_name m before in
+      let new = state_of means.pool_name a after in
+      record {
+        hands_out = hands;
+        own = own;
+        keeps = keeps_retired keeps (λ o. still_out means.set_name r retired old new hands.given hands.back o.out);
+        in_use = λ o. IfOk-weaker r _ _ (λ sets more t. (let waiting = o.out t in let came = more t in omega arith)) hands.given;
+        in_use_stay = still_in_use r retired old new hands.back;
+      }

@@ -1,8 +1,7 @@
 //! The manager: an allocator, and the sets that wait until the device is done with their frame.
-ghost use Rattle.std.specs.Prelude.{◌≡◌, ℕ, [], length};
+ghost use Rattle.std.specs.Prelude.{◌≡◌, ℕ, length};
 ghost use Rattle.gpu_descriptor_types.specs.Ledger.{Ledger};
 ghost use Rattle.gpu_descriptor.specs.Caller.States.{Agrees, outstanding_of};
-ghost use Rattle.gpu_descriptor.specs.Caller.Values.{without_keys};
 ghost use Rattle.descriptor_frames.specs.Retired.{AreInOrder};
 
 mod allocate;
@@ -30,22 +29,13 @@ pub struct FrameManager<P, S> {
 }
 
 impl<P, S> FrameManager<P, S> {
-    ghost use Rattle.descriptor_frames.specs.Frames.{AreRetiredOut, allocator_of, greatest_of};
+    ghost use Rattle.descriptor_frames.specs.Frames.{AreRetiredOut, IsNewManager, allocator_of, greatest_of};
     ghost use Rattle.descriptor_frames.specs.Frames.{reserve_of, retired_of};
 
     /// A manager without sets, whose allocator has this limit on update-after-bind descriptors. It
     /// allocates nothing.
     pub fn new(alloc: Global, max: u32) -> Self
-        ensures allocator { allocator_of result ≡ without_keys max }
-        ensures list { retired_of result ≡ [] }
-
-        // On any device.
-        ensures agree { (pool_name : P → ℕ) (l : Ledger)
-            → Agrees pool_name (allocator_of result) l }
-        ensures retired { (pool_name : P → ℕ) (set_name : S → ℕ) (l : Ledger)
-            → AreRetiredOut pool_name set_name result l }
-
-        ensures greatest { greatest_of result ≡ 0 }
+        ensures { IsNewManager max result }
     {
         FrameManager::with_ids(alloc, max, 0..u64::MAX)
     }
@@ -53,16 +43,7 @@ impl<P, S> FrameManager<P, S> {
     /// The same as `new`, but the ids of its allocator's keys are taken from this range, as by
     /// `DescriptorAllocator::with_ids`.
     pub fn with_ids(alloc: Global, max: u32, ids: Range<u64>) -> Self
-        ensures allocator { allocator_of result ≡ without_keys max }
-        ensures list { retired_of result ≡ [] }
-
-        // On any device.
-        ensures agree { (pool_name : P → ℕ) (l : Ledger)
-            → Agrees pool_name (allocator_of result) l }
-        ensures retired { (pool_name : P → ℕ) (set_name : S → ℕ) (l : Ledger)
-            → AreRetiredOut pool_name set_name result l }
-
-        ensures greatest { greatest_of result ≡ 0 }
+        ensures { IsNewManager max result }
     {
         FrameManager {
             allocator: DescriptorAllocator::with_ids(alloc, max, ids),

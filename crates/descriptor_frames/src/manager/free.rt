@@ -39,10 +39,8 @@ impl<P, S> FrameManager<P, S> {
             (side (allocator_of self.new) (D.ledger device.new))) × LeavesUse D.meaning.pool_name
             D.meaning.set_name self.old self.new (D.ledger device.old) (D.ledger device.new)
             (items_of D.meaning.set_name freed.sets) }
-        ensures keeps { Keeps D.meaning (side (allocator_of self.old) (D.ledger device.old))
-            (side (allocator_of self.new) (D.ledger device.new)) }
-        ensures retired { KeepsRetired D.meaning.pool_name D.meaning.set_name self.old self.new
-            (D.ledger device.old) (D.ledger device.new) }
+        ensures keeps { KeepsRetired D.meaning (side self.old (D.ledger device.old))
+            (side self.new (D.ledger device.new)) }
     {
         self.allocator.free_from(device, sets);
     }
@@ -105,11 +103,8 @@ impl<P, S: Drop> FrameManager<P, S> {
         ensures returns { Returns D.meaning sets.items
             (side (allocator_of self.old) (D.ledger device.old))
             (side (allocator_of self.new) (D.ledger device.new)) }
-        ensures keeps { Keeps D.meaning (side (allocator_of self.old) (D.ledger device.old))
-            (side (allocator_of self.new) (D.ledger device.new)) }
-
-        ensures retired { KeepsRetired D.meaning.pool_name D.meaning.set_name self.old self.new
-            (D.ledger device.old) (D.ledger device.new) }
+        ensures keeps { KeepsRetired D.meaning (side self.old (D.ledger device.old))
+            (side self.new (D.ledger device.new)) }
         ensures in_use { LeavesUse D.meaning.pool_name D.meaning.set_name self.old self.new
             (D.ledger device.old) (D.ledger device.new) (items_of D.meaning.set_name sets.items) }
     {
@@ -126,11 +121,8 @@ impl<P: Drop, S> FrameManager<P, S> {
         requires agree { Agrees D.meaning.pool_name (allocator_of self.old) (D.ledger device.old) }
         ensures cleans_up { CleansUp D.meaning (side (allocator_of self.old) (D.ledger device.old))
             (side (allocator_of self.new) (D.ledger device.new)) }
-        ensures keeps { Keeps D.meaning (side (allocator_of self.old) (D.ledger device.old))
-            (side (allocator_of self.new) (D.ledger device.new)) }
-
-        ensures retired { KeepsRetired D.meaning.pool_name D.meaning.set_name self.old self.new
-            (D.ledger device.old) (D.ledger device.new) }
+        ensures keeps { KeepsRetired D.meaning (side self.old (D.ledger device.old))
+            (side self.new (D.ledger device.new)) }
         ensures in_use { KeepsInUse D.meaning.pool_name D.meaning.set_name self.old self.new
             (D.ledger device.old) (D.ledger device.new) }
     {
@@ -143,11 +135,8 @@ impl<P: Drop, S> FrameManager<P, S> {
         requires agree { Agrees D.meaning.pool_name (allocator_of self.old) (D.ledger device.old) }
         ensures trims { TrimsPools D.meaning (side (allocator_of self.old) (D.ledger device.old))
             (side (allocator_of self.new) (D.ledger device.new)) }
-        ensures keeps { Keeps D.meaning (side (allocator_of self.old) (D.ledger device.old))
-            (side (allocator_of self.new) (D.ledger device.new)) }
-
-        ensures retired { KeepsRetired D.meaning.pool_name D.meaning.set_name self.old self.new
-            (D.ledger device.old) (D.ledger device.new) }
+        ensures keeps { KeepsRetired D.meaning (side self.old (D.ledger device.old))
+            (side self.new (D.ledger device.new)) }
         ensures in_use { KeepsInUse D.meaning.pool_name D.meaning.set_name self.old self.new
             (D.ledger device.old) (D.ledger device.new) }
     {
