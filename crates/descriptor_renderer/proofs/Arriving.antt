@@ -6,7 +6,7 @@ use Rattle.descriptor_table.specs.Slots.{frame_in, frame_of, in_list, slot_at}
 use Rattle.descriptor_table.specs.Tables.{came_under, is_held_use, is_waiting_use}
 use Rattle.descriptor_table.specs.declared.slot.Slot.{Slot}
 use Rattle.descriptor_table.specs.declared.slot.Use.{Use}
-use Rattle.descriptor_renderer.specs.Stores.{IsAtRest, Settles, coming_in, is_placed, slots_in}
+use Rattle.descriptor_renderer.specs.Stores.{IsAtRest, KeepsStore, Settles, coming_in, is_placed, slots_in}
 use Rattle.descriptor_renderer.specs.declared.store.Store.{Store}
 use Rattle.descriptor_renderer.proofs.Cleared.{Clears}
 
@@ -61,9 +61,10 @@ module _ {T : Type 0} where
     same_arrives o n e = subst (Arrives comes f o) (sym e) (record { set = λ x is. inl (is, refl); placed = λ was. was; frame = λ g le up. up })
 
 module _ {L P S D : Type 0} {d : Ghosts D L P S} where
-  pub arrived : (comes : ℕ → DescriptorSet S → Type 0) (f : ℕ) (old new : Store L P S D d) → ((p : ℕ) → Arrives comes f (slot_at (slots_in old) p) (slot_at (slots_in new) p)) → (coming_in new).items ≡ [] → IsAtRest old → Settles comes f old new
-  arrived comes f old new arrives none rest = record {
+  pub arrived : (comes : ℕ → DescriptorSet S → Type 0) (f : ℕ) (old new : Store L P S D d) → ((p : ℕ) → Arrives comes f (slot_at (slots_in old) p) (slot_at (slots_in new) p)) → (coming_in new).items ≡ [] → IsAtRest old → KeepsStore old new → Settles comes f old new
+  arrived comes f old new arrives none rest stays = record {
     sets = λ p x e. (arrives p).set x e;
     rest = record { none_coming = none; placed = λ p. (arrives p).placed (rest.placed p) };
     frames = λ g le up p. (arrives p).frame g le (up p);
+    stays = stays;
   }

@@ -13,7 +13,7 @@ use Rattle.descriptor_table.specs.declared.slot.Use.{Use}
 use Rattle.descriptor_table.specs.declared.slot.Use.TheVariants.{Held, Drawn, Waits, Kept, Going, Taken, Vacant}
 use Rattle.descriptor_table.proofs.Chains.{and_true}
 use Rattle.descriptor_table.proofs.Holding.{named_or}
-use Rattle.descriptor_renderer.specs.Stores.{AreNamed, HoldEach, NoneComes, SetsCome, StoreStays, current_in, is_free, most_of, number_of, slots_in}
+use Rattle.descriptor_renderer.specs.Stores.{AreNamed, HoldEach, NoneComes, SetsCome, KeepsStore, current_in, is_free, most_of, number_of, slots_in}
 use Rattle.descriptor_renderer.specs.declared.store.Store.{Store}
 use Rattle.descriptor_renderer.proofs.Arriving.{Arrives, arrives_then, clears_arrives, same_arrives, used_placed}
 use Rattle.descriptor_renderer.proofs.Cleared.{Clears}
@@ -202,10 +202,10 @@ module _ {S : Type 0} where
   ]) b
 
 module _ {L P S D : Type 0} {d : Ghosts D L P S} where
-  pub store_same : (s : Store L P S D d) → StoreStays (most_of s) s s
+  pub store_same : (s : Store L P S D d) → KeepsStore s s
   store_same s = record { number = refl; lists = refl; generations = refl; limit = refl; bound = refl; besides = refl; keeps = refl }
 
-  pub stays_then : (old mid new : Store L P S D d) → StoreStays (most_of old) old mid → StoreStays (most_of mid) mid new → StoreStays (most_of old) old new
+  pub stays_then : (old mid new : Store L P S D d) → KeepsStore old mid → KeepsStore mid new → KeepsStore old new
   stays_then old mid new a b = record {
     number = b.number ∙ a.number;
     lists = b.lists ∙ a.lists;
@@ -217,13 +217,13 @@ module _ {L P S D : Type 0} {d : Ghosts D L P S} where
   }
 
   -- the number and the layouts are as they were
-  pub held_stays : (layout : ℕ) (handles : List SetHandle) (mid new : List (Slot (DescriptorSet S))) (old now : Store L P S D d) → StoreStays (most_of old) old now → HoldEach (number_of now) (current_in layout now) handles mid new → HoldEach (number_of old) (current_in layout old) handles mid new
+  pub held_stays : (layout : ℕ) (handles : List SetHandle) (mid new : List (Slot (DescriptorSet S))) (old now : Store L P S D d) → KeepsStore old now → HoldEach (number_of now) (current_in layout now) handles mid new → HoldEach (number_of old) (current_in layout old) handles mid new
   held_stays layout handles mid new old now stays holds = subst (λ generations. HoldEach (number_of old) (current generations layout) handles mid new) stays.generations (subst (λ number. HoldEach number (current_in layout now) handles mid new) stays.number holds)
 
   -- more handles were given
   pub held_then :
       (layout n m : ℕ) (start now then : List SetHandle) (old mid new : Store L P S D d)
-      → StoreStays (most_of old) old mid
+      → KeepsStore old mid
       → ((given : List SetHandle) × (now ≡ start ++ given) × (length given ≡ n)
       × HoldEach (number_of old) (current_in layout old) given (slots_in old) (slots_in mid))
       → ((given : List SetHandle) × (then ≡ now ++ given) × (length given ≡ m)
@@ -244,7 +244,7 @@ module _ {L P S D : Type 0} {d : Ghosts D L P S} where
 
   pub held_next :
       (layout n : ℕ) (start now then : List SetHandle) (old mid new : Store L P S D d)
-      → StoreStays (most_of old) old mid
+      → KeepsStore old mid
       → ((given : List SetHandle) × (now ≡ start ++ given) × (length given ≡ n)
       × HoldEach (number_of old) (current_in layout old) given (slots_in old) (slots_in mid))
       → ((handle : SetHandle) × (then ≡ now ++ handle ∷ [])

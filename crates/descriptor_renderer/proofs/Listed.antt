@@ -1,8 +1,8 @@
 -- Held sets that come back by their handles.
-use Rattle.std.proofs.Common.{◌≡◌, ◌≢◌, ℕ, ◌<◌, ◌&&◌, Bool, true, false, List, length, is_some, inl, inr, sym, ap, subst, ◌∙◌}
+use Rattle.std.proofs.Common.{arith, ◌≡◌, ◌≢◌, ℕ, ◌<◌, ◌&&◌, Bool, true, false, List, length, is_some, inl, inr, sym, ap, subst, ◌∙◌}
 use Rattle.descriptor_table.specs.Sets.{AreHeldOnce, sets_in}
 use Rattle.descriptor_table.specs.Slots.{goes, slot_at}
-use Rattle.descriptor_table.specs.Tables.{IsSettled, TookEach, Turns, Vacates, WaitsFor, is_held_use, is_taken, place_at, used_for}
+use Rattle.descriptor_table.specs.Tables.{AreAllTaken, IsSettled, TookEach, Turns, Vacates, WaitsFor, is_held_use, is_taken, place_at, used_for}
 use Rattle.descriptor_table.specs.declared.handle.SetHandle.{SetHandle}
 use Rattle.descriptor_table.specs.declared.slot.Slot.{Slot}
 use Rattle.descriptor_table.specs.declared.slot.Use.TheVariants.{Waits}
@@ -22,11 +22,14 @@ pub record BackEach {T : Type 0} (handles : List SetHandle) (generations : ℕ �
 
 module _ {T : Type 0} (handles : List SetHandle) (old now : List (Slot T)) (took : TookEach handles (length handles) old now) where
   -- those that were taken are those of the handles
-  pub took_named : ArePlaced old → (p : ℕ) → is_taken (slot_at now p) ≡ true → (i : ℕ) × (i < length handles) × (place_at handles i ≡ p)
-  took_named placed p e = elim (named_or (length handles) (place_at handles) p) [
-    | inl found ↦ found
-    | inr apart ↦ absurd (let no : true ≡ false = sym e ∙ ap is_taken (took.rest p apart) ∙ none_taken old placed p in cc)
-  ]
+  pub took_named : ArePlaced old → AreAllTaken handles now
+  took_named placed = record {
+    within = λ i lt. (let there = took.within i lt in let long = took.long in omega arith);
+    all = λ p e. elim (named_or (length handles) (place_at handles) p) [
+      | inl found ↦ found
+      | inr apart ↦ absurd (let no : true ≡ false = sym e ∙ ap is_taken (took.rest p apart) ∙ none_taken old placed p in cc)
+    ];
+  }
 
   pub took_sets : sets_in now ≡ sets_in old
   took_sets = same_sets old now took.long (λ p. elim (named_or (length handles) (place_at handles) p) [

@@ -1,5 +1,5 @@
 -- The sets of a renderer stay of their layouts, and what refusals leave.
-use Rattle.std.proofs.Common.{◌≡◌, ℕ, zero, suc, ◌+◌, ◌<◌, ◌≢◌, ◌&&◌, Bool, true, false, List, length, if◌then◌else◌, Option, Some, None, is_some, inl, inr, refl, sym, ap, subst, ◌∙◌, arith, IfSome}
+use Rattle.std.proofs.Common.{◌≡◌, ℕ, zero, suc, ◌+◌, ◌<◌, ◌≤◌, ◌≢◌, ◌&&◌, Bool, true, false, List, length, if◌then◌else◌, Option, Some, None, is_some, inl, inr, refl, sym, ap, subst, ◌∙◌, arith, IfSome}
 use Rattle.gpu_descriptor_types.specs.Meaning.{Meaning, IsOfLayout}
 use Rattle.gpu_descriptor_types.specs.declared.device.DescriptorDevice.{Ghosts}
 use Rattle.gpu_descriptor.specs.declared.errors.AllocationError.{AllocationError}
@@ -13,8 +13,8 @@ use Rattle.descriptor_table.specs.declared.handle.SetHandle.{SetHandle}
 use Rattle.descriptor_table.specs.declared.slot.Slot.{Slot}
 use Rattle.descriptor_table.proofs.Counting.{below_or}
 use Rattle.descriptor_renderer.specs.LayoutRegistries.{layout_at, layout_slots, registry_of}
-use Rattle.descriptor_renderer.specs.Own.{AreCounted, AreOwn, IsOwn}
-use Rattle.descriptor_renderer.specs.Stores.{ComesOf, IsRefusedAtLast, NoneComes, Settles, generations_in, lists_for, slots_in}
+use Rattle.descriptor_renderer.specs.Own.{AreCounted, AreOwn, HasSetsOf, IsOwn}
+use Rattle.descriptor_renderer.specs.Stores.{ComesOf, IsRefusedAtLast, IsUpTo, SettlesTo, coming_in, generations_in, is_placed, lists_for, lists_in, number_of, slots_in}
 use Rattle.descriptor_renderer.specs.declared.layout_registry.LayoutHandle.{LayoutHandle}
 use Rattle.descriptor_renderer.specs.declared.layout_registry.LayoutRegistry.{LayoutRegistry}
 use Rattle.descriptor_renderer.specs.declared.store.Store.{Store}
@@ -24,34 +24,59 @@ use Rattle.descriptor_renderer.proofs.Showing.{cleaned_names}
 pub same_some : {T : Type 0} (x y : T) → Some x ≡ Some y → x ≡ y
 same_some x y e = ap (λ o. elim o [ None ↦ x | Some z ↦ z ]) e
 
+module _ {L P S : Type 0} (means : Meaning L P S) where
+  -- a set of a layout that is there
+  module _ (generations : ℕ → ℕ) (layouts : List (Slot (SetLayout L))) (slots : List (Slot (DescriptorSet S))) (own : AreOwn means generations layouts slots) where
+    pub own_known : (p n : ℕ) (x : DescriptorSet S) (known : SetLayout L) → (slot_at slots p).set ≡ Some x → came_under (slot_at slots p) ≡ current generations n → (slot_at layouts n).set ≡ Some known → IsOfLayout means known.layout x.raw
+    own_known p n x known full at here = (own p n x full at).own known here
+
+  -- a set that comes is of its layout
+  pub own_comes : (number : ℕ) (layouts : List (Slot (SetLayout L))) (known : SetLayout L) → (slot_at layouts number).set ≡ Some known → (n : ℕ) (x : DescriptorSet S) → ComesOf means known.layout number n x → IsOwn means layouts n x
+  own_comes number layouts known here n x comes =
+      let there = ap (λ n. (slot_at layouts n).set) comes.0 ∙ here in
+      record { there = ap is_some there; own = λ other is. subst (λ (l : SetLayout L). IsOfLayout means l.layout x.raw) (same_some known other (sym there ∙ is)) comes.1 }
+
+  -- with one layout more, the sets that are there are of theirs
+  pub own_added :
+      (generations : ℕ → ℕ) (layouts more : List (Slot (SetLayout L))) (slots : List (Slot (DescriptorSet S)))
+      → ((n : ℕ) (known : SetLayout L) → (slot_at layouts n).set ≡ Some known → (slot_at more n).set ≡ Some known)
+      → AreOwn means generations layouts slots → AreOwn means generations more slots
+  own_added generations layouts more slots stay own p n x full at =
+      let is = own p n x full at in
+      let was = some_of (slot_at layouts n).set is.there in
+      let there = stay n was.0 was.1 in
+      record { there = ap is_some there; own = λ known now. is.own known (was.1 ∙ sym there ∙ now) }
+
 module _ {L P S D : Type 0} {d : Ghosts D L P S} where
-  -- sets that stay, and those that leave
-  pub own_stays : (f : ℕ) (layouts : List (Slot (SetLayout L))) (old new : Store L P S D d) → Settles NoneComes f old new → generations_in new ≡ generations_in old → AreOwn d.meaning (generations_in old) layouts (slots_in old) → AreOwn d.meaning (generations_in new) layouts (slots_in new)
-  own_stays f layouts old new settles same own p n x full at = elim (settles.sets p x full) [
-    | inl stays ↦ own p n x stays.0 (sym stays.1 ∙ at ∙ ap (λ generations. current generations n) same)
-    | inr comes ↦ absurd comes
-  ]
+  -- sets stay, leave or come
+  module _ {most : ℕ} (comes : ℕ → DescriptorSet S → Type 0) (f : ℕ) (layouts : List (Slot (SetLayout L))) (frame number : ℕ) (old new : Store L P S D d) where
+    pub sets_settle : SettlesTo (generations_in old) most comes f old new → f ≤ frame → ((n : ℕ) (x : DescriptorSet S) → comes n x → IsOwn d.meaning layouts n x) → HasSetsOf layouts frame number old → HasSetsOf layouts frame number new
+    sets_settle settles le own was = record {
+      rest = settles.rest;
+      own = λ p n x full at. elim (settles.sets p x full) [
+        | inl stays ↦ was.own p n x stays.0 (sym stays.1 ∙ at ∙ ap (λ generations. current generations n) settles.stays.generations)
+        | inr come ↦ own n x (subst (λ n. comes n x) (ap (λ (u : ℕ × ℕ). u.0) at) come)
+      ];
+      counted = subst (λ generations. AreCounted generations layouts) (sym settles.stays.generations) was.counted;
+      rising = settles.frames frame le was.rising;
+      lists = settles.stays.lists ∙ was.lists;
+      number = settles.stays.number ∙ was.number;
+    }
 
-  -- and those that come, which are of this layout
-  module _ (f number : ℕ) (layouts : List (Slot (SetLayout L))) (known : SetLayout L) (old new : Store L P S D d) (here : (slot_at layouts number).set ≡ Some known) where
-    pub own_comes : Settles (ComesOf d.meaning known.layout number) f old new → generations_in new ≡ generations_in old → AreOwn d.meaning (generations_in old) layouts (slots_in old) → AreOwn d.meaning (generations_in new) layouts (slots_in new)
-    own_comes settles same own p n x full at = elim (settles.sets p x full) [
-      | inl stays ↦ own p n x stays.0 (sym stays.1 ∙ at ∙ ap (λ generations. current generations n) same)
-      | inr comes ↦
-          let number_of : n ≡ number = sym (ap (λ (u : ℕ × ℕ). u.0) at) ∙ comes.0 in
-          let there = ap (λ n. (slot_at layouts n).set) number_of ∙ here in
-          record {
-            there = ap is_some there;
-            own = λ other is. subst (λ (l : SetLayout L). IsOfLayout d.meaning l.layout x.raw) (same_some known other (sym there ∙ is)) comes.1;
-          }
-    ]
-
-  -- the slots and the layouts are as they were
-  pub own_as : (means : Meaning L P S) (layouts : List (Slot (SetLayout L))) (old new : Store L P S D d) → generations_in new ≡ generations_in old → slots_in new ≡ slots_in old → AreOwn means (generations_in old) layouts (slots_in old) → AreOwn means (generations_in new) layouts (slots_in new)
-  own_as means layouts old new same slots own = subst (AreOwn means (generations_in new) layouts) (sym slots) (subst (λ generations. AreOwn means generations layouts (slots_in old)) (sym same) own)
-
-  pub counted_stays : (layouts : List (Slot (SetLayout L))) (old new : Store L P S D d) → generations_in new ≡ generations_in old → AreCounted (generations_in old) layouts → AreCounted (generations_in new) layouts
-  counted_stays layouts old new same = subst (λ generations. AreCounted generations layouts) (sym same)
+  -- the sets are as they were, and their layouts are there
+  module _ (layouts more : List (Slot (SetLayout L))) (frame number : ℕ) (old new : Store L P S D d) where
+    pub sets_as :
+        slots_in new ≡ slots_in old → generations_in new ≡ generations_in old → (coming_in new).items ≡ (coming_in old).items
+        → number_of new ≡ number_of old → lists_in new ≡ lists_for (length more) → ((n : ℕ) (known : SetLayout L) → (slot_at layouts n).set ≡ Some known → (slot_at more n).set ≡ Some known)
+        → (AreCounted (generations_in new) layouts → AreCounted (generations_in new) more) → HasSetsOf layouts frame number old → HasSetsOf more frame number new
+    sets_as slots generations coming numbers lists stay counted was = record {
+      rest = record { none_coming = coming ∙ was.rest.none_coming; placed = λ p. ap (λ l. is_placed (slot_at l p)) slots ∙ was.rest.placed p };
+      own = own_added d.meaning (generations_in new) layouts more (slots_in new) stay (subst (AreOwn d.meaning (generations_in new) layouts) (sym slots) (subst (λ generations. AreOwn d.meaning generations layouts (slots_in old)) (sym generations) was.own));
+      counted = counted (subst (λ generations. AreCounted generations layouts) (sym generations) was.counted);
+      rising = subst (IsUpTo frame) (sym slots) was.rising;
+      lists = lists;
+      number = numbers ∙ was.number;
+    }
 
   -- a refusal changes no names
   pub refused_names : (layout : L) (first last : ℕ) (error : AllocationError) (old new : Store L P S D d) → IsRefusedAtLast layout first last error old new → (number frame : ℕ) (opened : Bool) → KeepNames (sets_of number frame opened (slots_in old)) (sets_of number frame opened (slots_in new))
@@ -112,20 +137,3 @@ module _ {X : Type 0} (layouts : List (Slot X)) (n : ℕ) (x : X) (here : (slot_
 -- the layout of a handle is at its place
 pub layout_here : {L P S D : Type 0} {d : Ghosts D L P S} (r : LayoutRegistry L P S D d) (h : LayoutHandle) (known : SetLayout L) (place : ℕ) → place ≡ h.slot.place → layout_at r h ≡ Some known → (slot_at (layout_slots r) place).set ≡ Some known
 layout_here r h known place at e = ap (λ n. (slot_at (layout_slots r) n).set) at ∙ found_set (registry_of r) 0 false (layout_slots r) h.slot known e
-
-module _ {L P S : Type 0} (means : Meaning L P S) where
-  -- a set of a layout that is there
-  module _ (generations : ℕ → ℕ) (layouts : List (Slot (SetLayout L))) (slots : List (Slot (DescriptorSet S))) (own : AreOwn means generations layouts slots) where
-    pub own_known : (p n : ℕ) (x : DescriptorSet S) (known : SetLayout L) → (slot_at slots p).set ≡ Some x → came_under (slot_at slots p) ≡ current generations n → (slot_at layouts n).set ≡ Some known → IsOfLayout means known.layout x.raw
-    own_known p n x known full at here = (own p n x full at).own known here
-
-  -- with one layout more, the sets that are there are of theirs
-  pub own_added :
-      (generations : ℕ → ℕ) (layouts more : List (Slot (SetLayout L))) (slots : List (Slot (DescriptorSet S)))
-      → ((n : ℕ) (known : SetLayout L) → (slot_at layouts n).set ≡ Some known → (slot_at more n).set ≡ Some known)
-      → AreOwn means generations layouts slots → AreOwn means generations more slots
-  own_added generations layouts more slots stay own p n x full at =
-      let is = own p n x full at in
-      let was = some_of (slot_at layouts n).set is.there in
-      let there = stay n was.0 was.1 in
-      record { there = ap is_some there; own = λ known now. is.own known (was.1 ∙ sym there ∙ now) }

@@ -1,7 +1,7 @@
 -- Sets that were given back are counted, and what becomes of all if there are none.
-use Rattle.std.proofs.Common.{◌≡◌, ℕ, ◌+◌, true, false, Bool, List, [], ◌∷◌, length, refl, sym, ap, ◌∙◌, arith}
+use Rattle.std.proofs.Common.{◌≡◌, ℕ, ◌+◌, true, false, Bool, List, [], ◌∷◌, length, None, refl, sym, ap, ◌∙◌, arith}
 use Rattle.std.specs.Borrow.{MutBor}
-use Rattle.std.specs.Iterator.{Yields}
+use Rattle.std.specs.Iterator.{Yields, YieldsThen}
 use Rattle.gpu_descriptor_types.specs.Ledger.{Ledger}
 use Rattle.gpu_descriptor_types.specs.Meaning.{Meaning}
 use Rattle.gpu_descriptor_types.specs.Side.{side}
@@ -42,13 +42,21 @@ module _ {S : Type 0} (name : S → ℕ) where
       let c = counts t (sets_in (slots_of u.now)) in
       omega arith
 
-  pub given_many : (test : Slot (DescriptorSet S) → Bool) (xs : List (DescriptorSet S)) (s u : MutBor (SetTable (DescriptorSet S))) → Yields (GivesFrom test) s xs u → length (sets_in (slots_of s.now)) ≡ length xs + length (sets_in (slots_of u.now))
+  given_many : (test : Slot (DescriptorSet S) → Bool) (xs : List (DescriptorSet S)) (s u : MutBor (SetTable (DescriptorSet S))) → Yields (GivesFrom test) s xs u → length (sets_in (slots_of s.now)) ≡ length xs + length (sets_in (slots_of u.now))
   given_many test xs s u y =
       let h = given_weigh (λ x. 1) test xs s u y in
       let a = tally_length (sets_in (slots_of s.now)) in
       let b = tally_length xs in
       let c = tally_length (sets_in (slots_of u.now)) in
       omega arith
+
+-- an iterator gave sets to its end
+module _ {S : Type 0} (name : S → ℕ) (test : Slot (DescriptorSet S) → Bool) (xs : List (DescriptorSet S)) (s u : MutBor (SetTable (DescriptorSet S))) (d : YieldsThen (GivesFrom test) s xs None u) where
+  pub all_count : (t : Item) → count_of t (items_of name (sets_in (slots_of s.now))) ≡ count_of t (items_of name xs) + count_of t (items_of name (sets_in (slots_of u.now)))
+  all_count t = given_count name test xs s d.0 d.1 t ∙ ap (λ l. count_of t (items_of name xs) + count_of t (items_of name (sets_in l))) (sym d.2.gives.slots.slots)
+
+  pub all_many : length (sets_in (slots_of s.now)) ≡ length xs + length (sets_in (slots_of u.now))
+  all_many = given_many name test xs s d.0 d.1 ∙ ap (λ l. length xs + length (sets_in l)) (sym d.2.gives.slots.slots)
 
 -- no set is given back
 pub returns_none : {L P S : Type 0} (means : Meaning L P S) (old : Allocations P) (before : Ledger) → Returns means [] (side old before) (side old before)

@@ -4,7 +4,7 @@ use Rattle.gpu_descriptor_types.specs.declared.device.DescriptorDevice.{Ghosts}
 use Rattle.descriptor_table.specs.Slots.{frame_of, slot_at}
 use Rattle.descriptor_table.specs.Tables.{came_under}
 use Rattle.descriptor_table.specs.declared.slot.Slot.{Slot}
-use Rattle.descriptor_renderer.specs.Stores.{IsAtRest, NoneComes, Settles, coming_in, is_placed, slots_in}
+use Rattle.descriptor_renderer.specs.Stores.{IsAtRest, NoneComes, SettlesTo, StoreStays, coming_in, is_placed, slots_in}
 use Rattle.descriptor_renderer.specs.declared.store.Store.{Store}
 
 -- a slot's set left, or is there under the same layout, and waits for no frame later than before, and than this one. If the slot was placed, it is
@@ -14,12 +14,13 @@ pub record Follows {T : Type 0} (f : ℕ) (o n : Slot T) : Type 0 where
   pub frame : (g : ℕ) → f ≤ g → frame_of o ≤ g → frame_of n ≤ g
 
 module _ {L P S D : Type 0} {d : Ghosts D L P S} where
-  pub settled : (f : ℕ) (old new : Store L P S D d) → ((p : ℕ) → Follows f (slot_at (slots_in old) p) (slot_at (slots_in new) p)) → (coming_in new).items ≡ [] → IsAtRest old → Settles NoneComes f old new
-  settled f old new follows none rest = record {
+  pub settled : {generations : ℕ → ℕ} {most : ℕ} (f : ℕ) (old new : Store L P S D d) → ((p : ℕ) → Follows f (slot_at (slots_in old) p) (slot_at (slots_in new) p)) → (coming_in new).items ≡ [] → IsAtRest old → StoreStays generations most old new → SettlesTo generations most NoneComes f old new
+  settled f old new follows none rest stays = record {
     sets = λ p x e. elim ((follows p).set) [
       | inl gone ↦ absurd (let no : Some x ≡ None = sym e ∙ gone in cc)
       | inr same ↦ inl (sym same.0 ∙ e, same.1)
     ];
     rest = record { none_coming = none; placed = λ p. (follows p).placed (rest.placed p) };
     frames = λ g le up p. (follows p).frame g le (up p);
+    stays = stays;
   }

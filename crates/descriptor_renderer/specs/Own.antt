@@ -1,12 +1,15 @@
 -- The sets of a renderer are of the layouts that they were asked for by.
-use Rattle.std.specs.Prelude.{◌≡◌, ℕ, ◌+◌, ◌<◌, true, List, Some, is_some, if◌then◌else◌}
+use Rattle.std.specs.Prelude.{◌≡◌, ℕ, ◌+◌, ◌<◌, true, List, length, Some, is_some, if◌then◌else◌}
 use Rattle.gpu_descriptor_types.specs.Meaning.{IsOfLayout, Meaning}
+use Rattle.gpu_descriptor_types.specs.declared.device.DescriptorDevice.{Ghosts}
 use Rattle.gpu_descriptor.specs.Caller.SetLayouts.{IsMeant}
 use Rattle.gpu_descriptor.specs.declared.layout.SetLayout.{SetLayout}
 use Rattle.gpu_descriptor.specs.declared.set.DescriptorSet.{DescriptorSet}
 use Rattle.descriptor_table.specs.Slots.{slot_at}
 use Rattle.descriptor_table.specs.Tables.{came_under, current}
 use Rattle.descriptor_table.specs.declared.slot.Slot.{Slot}
+use Rattle.descriptor_renderer.specs.Stores.{IsAtRest, IsUpTo, generations_in, lists_for, lists_in, number_of, slots_in}
+use Rattle.descriptor_renderer.specs.declared.store.Store.{Store}
 
 module _ {L P S : Type 0} (means : Meaning L P S) where
   -- each layout is meant
@@ -29,3 +32,12 @@ IsCounted removed s = (s.generation ≡ removed + (if is_some s.set then 1 else 
 -- so it is for each number
 abbrev pub AreCounted : {T : Type 0} → (ℕ → ℕ) → List (Slot T) → Type 0
 AreCounted generations layouts = (n : ℕ) → IsCounted (generations n) (slot_at layouts n)
+
+-- the sets of a store are at rest, of these layouts, and wait for no frame later than this one. Their handles have this number
+pub record HasSetsOf {L P S D : Type 0} {d : Ghosts D L P S} (layouts : List (Slot (SetLayout L))) (frame renderer : ℕ) (s : Store L P S D d) : Type 0 where
+  pub rest : IsAtRest s
+  pub own : AreOwn d.meaning (generations_in s) layouts (slots_in s)
+  pub counted : AreCounted (generations_in s) layouts
+  pub rising : IsUpTo frame (slots_in s)
+  pub lists : lists_in s ≡ lists_for (length layouts)
+  pub number : number_of s ≡ renderer

@@ -130,6 +130,10 @@ module _ {L P S D : Type 0} {d : Ghosts D L P S} where
     bound = bound_of r;
   }
 
+  -- all that is seen stays, but for the slots of sets
+  abbrev pub OnlySetsChange : Renderer L P S D d → Renderer L P S D d → Type 0
+  OnlySetsChange old new = seen new ≡ record (seen old) { slots = slots_of new }
+
   -- a set of the layout has the handle, which was never given; each other handle names what it named
   pub record Comes (layout : L) (handle : SetHandle) (old new : Renderer L P S D d) : Type 0 where
     pub set : DescriptorSet S

@@ -10,15 +10,18 @@ use Rattle.gpu_descriptor.specs.Caller.Call.{layout_key}
 use Rattle.gpu_descriptor.specs.Caller.CleansUp.{TrimsPools}
 use Rattle.gpu_descriptor.specs.Caller.Frees.{Returns}
 use Rattle.gpu_descriptor.specs.Caller.HandsOut.{HandsOut}
+use Rattle.gpu_descriptor.specs.Caller.Keeps.{Keeps}
+use Rattle.gpu_descriptor.specs.Caller.SetLayouts.{IsMeant}
 use Rattle.gpu_descriptor.specs.Caller.Sets.{AreOfLayout, items_of}
 use Rattle.gpu_descriptor.specs.Caller.Values.{Allocations}
 use Rattle.gpu_descriptor.specs.Model.Agreement.{Item, count_of}
 use Rattle.gpu_descriptor.specs.declared.errors.AllocationError.{AllocationError}
 use Rattle.gpu_descriptor.specs.declared.errors.AllocationError.TheVariants.{OutOfHostMemory}
+use Rattle.gpu_descriptor.specs.declared.layout.SetLayout.{SetLayout}
 use Rattle.gpu_descriptor.specs.declared.set.DescriptorSet.{DescriptorSet}
 use Rattle.descriptor_table.specs.Sets.{NameEach, Names, sets_in, sets_of}
 use Rattle.descriptor_table.specs.Slots.{frame_of, is_kept_of, is_live, slot_at}
-use Rattle.descriptor_table.specs.Tables.{Picks, Puts, Renews, Turns, Vacates, aged, came_under, count, current, generations_of, holds, is_kept, place_at, lists_of, removed_at, slots_of, stays, used_for, vacated, waits}
+use Rattle.descriptor_table.specs.Tables.{Grows, HasRoom, Picks, Puts, Renews, Turns, Vacates, aged, came_under, count, current, generations_of, holds, is_kept, place_at, lists_of, removed_at, slots_of, stays, used_for, vacated, waits}
 use Rattle.descriptor_table.specs.Tables as tables
 use Rattle.descriptor_table.specs.declared.handle.SetHandle.{SetHandle}
 use Rattle.descriptor_table.specs.declared.slot.Slot.{Slot}
@@ -92,6 +95,11 @@ NoneComes layout x = ⊥
 -- only sets of this layout come
 abbrev pub ComesOf : {L P S : Type 0} → Meaning L P S → L → ℕ → ℕ → DescriptorSet S → Type 0
 ComesOf means layout number other x = (other ≡ number) × IsOfLayout means layout x.raw
+
+-- sets were given back in one call, if there were any
+pub record GaveBack {L P S : Type 0} (means : Meaning L P S) (old new : Side (Allocations P)) : Type 0 where
+  pub sets : List (DescriptorSet S)
+  pub returns : Returns means sets old new
 
 module _ {S : Type 0} where
   -- each set was in its slot before, under its layout, or passes the test
@@ -167,27 +175,43 @@ module _ {L P S D : Type 0} {d : Ghosts D L P S} where
     pub none_coming : (coming_in s).items ≡ []
     pub placed : (p : ℕ) → is_placed (slot_at (slots_in s) p) ≡ true
 
-  -- number, lists, the layouts that have them, and what is none of the allocator's are as they were, and as many sets are kept at most as this
-  pub record StoreStays (most : ℕ) (old new : Store L P S D d) : Type 0 where
+  -- number, lists, limit and bound, and what is none of the allocator's are as they were. So many layouts of each number were removed, and so many sets of a layout are kept at most
+  pub record StoreStays (removed : ℕ → ℕ) (most : ℕ) (old new : Store L P S D d) : Type 0 where
     pub number : number_of new ≡ number_of old
     pub lists : lists_in new ≡ lists_in old
-    pub generations : generations_in new ≡ generations_in old
+    pub generations : generations_in new ≡ removed
     pub limit : limit_of new ≡ limit_of old
     pub bound : bound_of new ≡ bound_of old
     pub besides : pools_besides new ≡ pools_besides old
     pub keeps : most_of new ≡ most
 
+  -- all of these are as they were
+  abbrev pub KeepsStore : Store L P S D d → Store L P S D d → Type 0
+  KeepsStore old new = StoreStays (generations_in old) (most_of old) old new
+
   -- each set was in its slot before, under its layout, or passes the test; none is on its way, and none waits for a frame later than before, and than this one
-  pub record Settles (comes : ℕ → DescriptorSet S → Type 0) (frame : ℕ) (old new : Store L P S D d) : Type 0 where
+  pub record SettlesTo (removed : ℕ → ℕ) (most : ℕ) (comes : ℕ → DescriptorSet S → Type 0) (frame : ℕ) (old new : Store L P S D d) : Type 0 where
     pub sets : SetsCome comes (slots_in old) (slots_in new)
     pub rest : IsAtRest new
     pub frames : (f : ℕ) → frame ≤ f → IsUpTo f (slots_in old) → IsUpTo f (slots_in new)
+    pub stays : StoreStays removed most old new
+
+  abbrev pub Settles : (ℕ → DescriptorSet S → Type 0) → ℕ → Store L P S D d → Store L P S D d → Type 0
+  Settles comes frame old new = SettlesTo (generations_in old) (most_of old) comes frame old new
+
+  -- sets of the layout, which has this number, may be asked for
+  pub record CanTake (known : SetLayout L) (number : ℕ) (s : Store L P S D d) : Type 0 where
+    pub meant : IsMeant d.meaning known
+    pub layout : HasLayout number s
+    pub rest : IsAtRest s
 
   -- the sets that pass the test left their slots, and were given back in one call, if there were any
   pub record GivesBack (test : Slot (DescriptorSet S) → Bool) (old new : Store L P S D d) : Type 0 where
-    pub sets : List (DescriptorSet S)
-    pub returns : Returns d.meaning sets (side_of old) (side_of new)
+    pub back : GaveBack d.meaning (side_of old) (side_of new)
     pub turns : Turns test Vacates (slots_in old) (slots_in new)
+    pub keeps : Keeps d.meaning (side_of old) (side_of new)
+    pub stays : KeepsStore old new
+    pub coming : coming_in new ≡ coming_in old
 
   -- sets were given back, and then all empty pools went
   pub record Cleans (old new : Store L P S D d) : Type 0 where
@@ -259,8 +283,7 @@ module _ {L P S D : Type 0} {d : Ghosts D L P S} where
   -- the sets that pass the test came back, and those that are not kept were given back in one call, if there were any
   pub record ComeBack (test : Slot (DescriptorSet S) → Bool) (old new : Store L P S D d) : Type 0 where
     pub turns : Turns test (IsBack (generations_in old) (most_of old)) (slots_in old) (slots_in new)
-    pub sets : List (DescriptorSet S)
-    pub returns : Returns d.meaning sets (side_of old) (side_of new)
+    pub back : GaveBack d.meaning (side_of old) (side_of new)
 
   -- the kept sets of the layout were given back in one call, if there were any, and all other slots are as they were
   pub record Removes (layout : ℕ) (old new : Store L P S D d) : Type 0 where
@@ -268,29 +291,34 @@ module _ {L P S D : Type 0} {d : Ghosts D L P S} where
     -- one layout more of the number was removed. Each set that is left under the number came under one of these, so it isn't kept when it comes back
     pub generations : generations_in new ≡ removed_at layout (generations_in old)
     pub past : (p : ℕ) → (slot_at (slots_in new) p).layout ≡ layout → (slot_at (slots_in new) p).layout_generation < generations_in new layout
-    pub sets : List (DescriptorSet S)
+    pub back : GaveBack d.meaning (side_of old) (side_of new)
     -- these, and those that are left, are those that there were
-    pub gave : (t : Item) → count_of t (items_of d.meaning.set_name (sets_in (slots_in old))) ≡ count_of t (items_of d.meaning.set_name sets) + count_of t (items_of d.meaning.set_name (sets_in (slots_in new)))
-    pub returns : Returns d.meaning sets (side_of old) (side_of new)
+    pub gave : (t : Item) → count_of t (items_of d.meaning.set_name (sets_in (slots_in old))) ≡ count_of t (items_of d.meaning.set_name back.sets) + count_of t (items_of d.meaning.set_name (sets_in (slots_in new)))
 
   -- the sets of the handles came back, and those that are not kept were given back in one call, if there were any
   pub record FreesEach (handles : List SetHandle) (old new : Store L P S D d) : Type 0 where
     pub long : length (slots_in new) ≡ length (slots_in old)
     pub named : (i : ℕ) → i < length handles → IsBack (generations_in old) (most_of old) (slots_in new) (slot_at (slots_in old) (place_at handles i)) (slot_at (slots_in new) (place_at handles i))
     pub rest : (p : ℕ) → ((i : ℕ) → i < length handles → place_at handles i ≢ p) → slot_at (slots_in new) p ≡ slot_at (slots_in old) p
-    pub sets : List (DescriptorSet S)
-    pub returns : Returns d.meaning sets (side_of old) (side_of new)
+    pub back : GaveBack d.meaning (side_of old) (side_of new)
 
   -- kept sets were given back in one call, if there were any, and all else is as it was
   pub record Trims (old new : Store L P S D d) : Type 0 where
     pub turns : Turns is_kept MayLeave (slots_in old) (slots_in new)
-    pub sets : List (DescriptorSet S)
-    pub returns : Returns d.meaning sets (side_of old) (side_of new)
+    pub back : GaveBack d.meaning (side_of old) (side_of new)
 
   -- all sets were given back in one call, if there were any, and no handle is given again
   pub record FreesAll (old new : Store L P S D d) : Type 0 where
     pub long : length (slots_in new) ≡ length (slots_in old)
     pub none : (p : ℕ) → (slot_at (slots_in new) p).set ≡ None
     pub given : (p : ℕ) → (slot_at (slots_in new) p).generation ≡ (slot_at (slots_in old) p).generation
-    pub sets : List (DescriptorSet S)
-    pub returns : Returns d.meaning sets (side_of old) (side_of new)
+    pub back : GaveBack d.meaning (side_of old) (side_of new)
+
+  -- kept sets are held: the device isn't called, no set comes, and there is as much room as before
+  pub record HoldsKept (old new : Store L P S D d) : Type 0 where
+    pub side : side_of new ≡ side_of old
+    pub coming : coming_in new ≡ coming_in old
+    pub sets : SetsCome NoneComes (slots_in old) (slots_in new)
+    pub table : (n : ℕ) → HasRoom n old.table → HasRoom n new.table
+    pub grows : Grows (slots_in old) (slots_in new)
+    pub stays : KeepsStore old new

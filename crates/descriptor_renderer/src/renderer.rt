@@ -1,5 +1,5 @@
 //! The renderer: layouts that are added as it runs, sets of a frame, and sets that are held.
-ghost use Rattle.std.specs.Prelude.{◌≡◌, ◌≢◌, ◌≤◌, ◌↔◌, [], length};
+ghost use Rattle.std.specs.Prelude.{◌≡◌, ◌≢◌, ◌≤◌, ◌↔◌, []};
 ghost use Rattle.std.specs.Prelude.{IfErr, IfOk, IsErrOf, IsSome, None, OnErr, OnOk, Some, false, true};
 ghost use Rattle.std.specs.Option.{option_copied};
 ghost use Rattle.gpu_descriptor.specs.Caller.CleansUp.{TrimsPools};
@@ -7,10 +7,8 @@ ghost use Rattle.gpu_descriptor.specs.Caller.SetLayouts.{IsMeant};
 ghost use Rattle.descriptor_table.specs.Sets.{KeepNames};
 ghost use Rattle.descriptor_table.specs.Tables.{Grows, count, holds, is_kept, waits};
 ghost use Rattle.descriptor_renderer.specs.LayoutRegistries.{layout_slots, registry_of};
-ghost use Rattle.descriptor_renderer.specs.Own.{AreCounted, AreOwn};
-ghost use Rattle.descriptor_renderer.specs.Stores.{AreCleaned, Cleans, IsAtRest, IsUpTo, Removes, Trims};
-ghost use Rattle.descriptor_renderer.specs.Stores.{generations_in, lists_for, lists_in, slots_in};
-ghost use Rattle.descriptor_renderer.specs.Stores as stores;
+ghost use Rattle.descriptor_renderer.specs.Own.{HasSetsOf};
+ghost use Rattle.descriptor_renderer.specs.Stores.{AreCleaned, Cleans, Removes, Trims};
 
 mod frames;
 mod pools;
@@ -61,20 +59,15 @@ pub struct Renderer<L, P, S, D: DescriptorDevice<L, P, S>> {
 
     /// The last field, as the device in it is dropped last.
     store: Store<L, P, S, D>,
-    ghost rest: { IsAtRest store },
-    ghost own: { AreOwn D.meaning (generations_in store) (layout_slots layouts) (slots_in store) },
-    ghost counted: { AreCounted (generations_in store) (layout_slots layouts) },
+    ghost sets: { HasSetsOf (layout_slots layouts) frame renderer store },
     ghost begun: { is_open ≡ true → 1 ≤ frame },
-    ghost rising: { IsUpTo frame (slots_in store) },
-    ghost lists: { lists_in store ≡ lists_for (length (layout_slots layouts)) },
-    ghost numbers_sets: { stores.number_of store ≡ renderer },
     ghost numbers_layouts: { registry_of layouts ≡ renderer },
 }
 
 impl<L: Drop, P: Drop, S: Drop, D: DescriptorDevice<L, P, S>> Renderer<L, P, S, D> {
     ghost use Rattle.gpu_descriptor.specs.declared.layout.SetLayout.{SetLayout};
     ghost use Rattle.descriptor_renderer.specs.declared.layout_registry.LayoutHandle.{LayoutHandle};
-    ghost use Rattle.descriptor_renderer.specs.Renderers.{bound_of, frame_of, generations_of, is_open};
+    ghost use Rattle.descriptor_renderer.specs.Renderers.{OnlySetsChange, bound_of, frame_of, generations_of, is_open};
     ghost use Rattle.descriptor_renderer.specs.Renderers.{kept_of, layout_given, layout_of};
     ghost use Rattle.descriptor_renderer.specs.Renderers.{layouts_in, ledger_in, limit_of, most_of};
     ghost use Rattle.descriptor_renderer.specs.Renderers.{number_of, pools_besides, pools_in, seen};
@@ -189,7 +182,7 @@ impl<L: Drop, P: Drop, S: Drop, D: DescriptorDevice<L, P, S>> Renderer<L, P, S, 
         ensures names { KeepNames (sets_by self.old) (sets_by self.new) }
         ensures cleaned { AreCleaned (slots_of self.old) (slots_of self.new) }
         ensures cleans { Cleans (store_of self.old) (store_of self.new) }
-        ensures rest { seen self.new ≡ record (seen self.old) { slots = slots_of self.new } }
+        ensures rest { OnlySetsChange self.old self.new }
     {
         self.store.cleanup();
     }

@@ -6,7 +6,7 @@ ghost use Rattle.gpu_descriptor.specs.Caller.States.{Agrees, outstanding_of, sta
 ghost use Rattle.gpu_descriptor.proofs.callers.OneAgreement.{Agrees-prop};
 ghost use Rattle.descriptor_table.specs.Sets.{find, sets_in};
 ghost use Rattle.descriptor_table.specs.Slots.{generation_at, slot_at};
-ghost use Rattle.descriptor_table.specs.Tables.{count, holds, is_kept, lists_with, slots_of, waits};
+ghost use Rattle.descriptor_table.specs.Tables.{HasSettings, count, holds, is_kept, lists_with, settings_of, slots_of, waits};
 ghost use Rattle.descriptor_renderer.specs.Exact.{AreExactly};
 
 mod back;
@@ -44,9 +44,8 @@ pub(crate) struct Store<L, P, S, D: DescriptorDevice<L, P, S>> {
 }
 
 impl<L: Drop, P: Drop, S: Drop, D: DescriptorDevice<L, P, S>> Store<L, P, S, D> {
-    ghost use Rattle.descriptor_renderer.specs.Stores.{HasListRoom, IsAtRest, StoreStays, coming_in, kept_of, ledger_of};
-    ghost use Rattle.descriptor_renderer.specs.Stores.{bound_of, generations_in, limit_of, lists_in};
-    ghost use Rattle.descriptor_renderer.specs.Stores.{most_of, number_of};
+    ghost use Rattle.descriptor_renderer.specs.Stores.{HasListRoom, IsAtRest, KeepsStore, coming_in, kept_of, ledger_of};
+    ghost use Rattle.descriptor_renderer.specs.Stores.{bound_of, limit_of, lists_in, number_of};
     ghost use Rattle.descriptor_renderer.specs.Stores.{pools_besides, side_of, slots_in};
 
     /// No sets and no layouts, for the renderer of this number, over a new allocator with this limit on
@@ -57,10 +56,12 @@ impl<L: Drop, P: Drop, S: Drop, D: DescriptorDevice<L, P, S>> Store<L, P, S, D> 
         ensures besides { pools_besides result ≡ (D.ledger device).pools }
         ensures limit { limit_of result ≡ limit }
         ensures bound { bound_of result ≡ Some 65536 }
-        ensures number { number_of result ≡ number }
-        ensures most { most_of result ≡ u32.MAX }
-        ensures lists { lists_in result ≡ 0 }
-        ensures generations { generations_in result ≡ generation_at [] }
+        ensures settings { HasSettings (record {
+          number = number;
+          lists = 0;
+          generations = generation_at [];
+          most = u32.MAX;
+        }) result.table }
         ensures rest { IsAtRest result }
     {
         let mut allocator = DescriptorAllocator::new(alloc, limit);
@@ -80,7 +81,7 @@ impl<L: Drop, P: Drop, S: Drop, D: DescriptorDevice<L, P, S>> Store<L, P, S, D> 
         ensures slots { slots_in self.new ≡ slots_in self.old }
         ensures side { side_of self.new ≡ side_of self.old }
         ensures coming { coming_in self.new ≡ coming_in self.old }
-        ensures stays { StoreStays (most_of self.old) self.old self.new }
+        ensures stays { KeepsStore self.old self.new }
     {
         self.table.reserve_layout()
     }
@@ -88,12 +89,10 @@ impl<L: Drop, P: Drop, S: Drop, D: DescriptorDevice<L, P, S>> Store<L, P, S, D> 
     /// Adds a layout, over memory that was reserved.
     pub(crate) fn add_layout(&mut self)
         requires { HasListRoom self.old }
-        ensures lists { lists_in self.new ≡ lists_with (lists_in self.old) }
-        ensures generations { generations_in self.new ≡ generations_in self.old }
+        ensures settings { HasSettings (record (settings_of self.old.table)
+            { lists = lists_with (lists_in self.old) }) self.new.table }
         ensures slots { slots_in self.new ≡ slots_in self.old }
         ensures side { side_of self.new ≡ side_of self.old }
-        ensures number { number_of self.new ≡ number_of self.old }
-        ensures most { most_of self.new ≡ most_of self.old }
         ensures coming { coming_in self.new ≡ coming_in self.old }
     {
         self.table.add_layout();
@@ -103,14 +102,10 @@ impl<L: Drop, P: Drop, S: Drop, D: DescriptorDevice<L, P, S>> Store<L, P, S, D> 
     /// bounds none.
     pub(crate) fn set_most_pool_descriptors(&mut self, most: Option<u64>)
         ensures bound { bound_of self.new ≡ most }
-        ensures slots { slots_in self.new ≡ slots_in self.old }
+        ensures table { self.new.table ≡ self.old.table }
         ensures ledger { ledger_of self.new ≡ ledger_of self.old }
         ensures besides { pools_besides self.new ≡ pools_besides self.old }
-        ensures number { number_of self.new ≡ number_of self.old }
-        ensures lists { lists_in self.new ≡ lists_in self.old }
-        ensures generations { generations_in self.new ≡ generations_in self.old }
         ensures limit { limit_of self.new ≡ limit_of self.old }
-        ensures keeps { most_of self.new ≡ most_of self.old }
         ensures coming { coming_in self.new ≡ coming_in self.old }
     {
         self.allocator.set_most_pool_descriptors(most);

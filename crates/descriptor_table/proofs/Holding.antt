@@ -3,14 +3,14 @@ use Rattle.std.proofs.Common.{◌≡◌, ◌≢◌, ℕ, zero, suc, ◌+◌, ◌
 use Rattle.std.proofs.lemmas.List.{length-set}
 use Rattle.descriptor_table.specs.Sets.{AreHeldOnce, is_held}
 use Rattle.descriptor_table.specs.Slots.{IsNowhere, in_list, slot_at, waits_for}
-use Rattle.descriptor_table.specs.Tables.{TookEach, is_held_use, place_at, used_for, with_use}
+use Rattle.descriptor_table.specs.Tables.{TookEach, is_held_use, place_at, used_for}
 use Rattle.descriptor_table.specs.declared.handle.SetHandle.{SetHandle}
 use Rattle.descriptor_table.specs.declared.slot.Use.{Use}
 use Rattle.descriptor_table.specs.declared.slot.Use.TheVariants.{Held, Drawn, Waits, Kept, Going, Taken, Vacant}
 use Rattle.descriptor_table.specs.declared.slot.Slot.{Slot}
 use Rattle.descriptor_table.proofs.Chains.{and_true}
 use Rattle.descriptor_table.proofs.Counting.{same_or}
-use Rattle.descriptor_table.proofs.Listed.{other_slots, slot_set, test_within}
+use Rattle.descriptor_table.proofs.Listed.{other_slots, slot_set, test_within, with_use}
 
 nowhere_list : (u : Use) → IsNowhere u → (k layout generation : ℕ) (full : Bool) → in_list k u layout generation full ≡ false
 nowhere_list Held n k layout generation full = refl

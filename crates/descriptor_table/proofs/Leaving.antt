@@ -11,7 +11,7 @@ use Rattle.descriptor_table.specs.declared.giving.Due.{Due}
 use Rattle.descriptor_table.specs.declared.giving.Giving.{Giving}
 use Rattle.descriptor_table.specs.declared.set_table.SetTable.{SetTable}
 use Rattle.descriptor_table.specs.declared.slot.Slot.{Slot}
-use Rattle.descriptor_table.proofs.Turning.{Turning, stays_more, turn_end, turn_start, turn_step}
+use Rattle.descriptor_table.proofs.Turning.{Turning, stays_more, stays_same, turn_end, turn_start, turn_step}
 
 -- what sets weigh
 abbrev pub tally : {T : Type 0} → (T → ℕ) → List T → ℕ
@@ -46,7 +46,7 @@ module _ {T : Type 0} (weight : T → ℕ) where
   given_weigh test [] s t y = ap (λ (u : MutBor (SetTable T)). tally weight (sets_in (slots_of u.now))) y ∙ sym (zero-add (tally weight (sets_in (slots_of t.now))))
   given_weigh test (x ∷ xs) s t y =
       let u = y.0 in
-      let one = gives_weigh test x (slots_of s.now) (slots_of u.now) y.1.gives in
+      let one = gives_weigh test x (slots_of s.now) (slots_of u.now) y.1.gives.slots in
       let rest = given_weigh test xs u t y.2 in
       omega arith
 
@@ -81,14 +81,14 @@ module _ {T : Type 0} where
     given_turns (x ∷ xs) s t old y turning =
         let u = y.0 in
         let now = slots_of s.now in
-        let g = y.1.gives in
+        let g = y.1.gives.slots in
         given_turns xs u t old y.2 (turn_step test Vacates old now (slots_of u.now) g.place (vacated (slot_at now g.place)) turning g.within g.was g.slots (λ o n w. w) (λ o n w. ap test w ∙ out o) refl)
 
     given_stays : (xs : List T) (s t : MutBor (SetTable T)) → Yields (GivesFrom test) s xs t → (t.ghost_name ≡ s.ghost_name) × Stays s.now t.now
-    given_stays [] s t y = (ap (λ (u : MutBor (SetTable T)). u.ghost_name) (sym y), subst (λ (u : MutBor (SetTable T)). Stays s.now u.now) y (record { number = refl; most = refl; lists = refl; generations = refl; slots = refl; next = refl; frames = refl }))
+    given_stays [] s t y = (ap (λ (u : MutBor (SetTable T)). u.ghost_name) (sym y), subst (λ (u : MutBor (SetTable T)). Stays s.now u.now) y (stays_same s.now))
     given_stays (x ∷ xs) s t y =
         let rest = given_stays xs y.0 t y.2 in
-        (rest.0 ∙ y.1.same, stays_more s.now y.0.now t.now y.1.stays rest.1)
+        (rest.0 ∙ y.1.same, stays_more s.now y.0.now t.now y.1.gives.stays rest.1)
 
     -- all these sets were taken out
     pub given_all : (xs : List T) (s u : MutBor (SetTable T)) → YieldsThen (GivesFrom test) s xs None u → Turns test Vacates (slots_of s.now) (slots_of u.now) × (u.ghost_name ≡ s.ghost_name) × Stays s.now u.now
@@ -97,10 +97,10 @@ module _ {T : Type 0} where
         let last = d.2 in
         let old = slots_of s.now in
         let now = slots_of v.now in
-        let none = last.gives in
+        let none = last.gives.slots in
         let turning = given_turns xs s v old d.1 (turn_start test Vacates old) in
         let stays = given_stays xs s v d.1 in
-        (subst (Turns test Vacates old) (sym none.slots) (turn_end test Vacates old now turning none.none), last.same ∙ stays.0, stays_more s.now v.now u.now stays.1 last.stays)
+        (subst (Turns test Vacates old) (sym none.slots) (turn_end test Vacates old now turning none.none), last.same ∙ stays.0, stays_more s.now v.now u.now stays.1 last.gives.stays)
 
   -- the steps of each iterator are steps of its table
   pub going_steps : (xs : List T) (s t : Giving T) → Yields GivesNext s xs t → Yields (GivesFrom goes) s.table xs t.table

@@ -3,6 +3,8 @@ use Rattle.std.proofs.Common.{◌≡◌, ◌≢◌, ℕ, zero, suc, ◌+◌, ◌
 use Rattle.std.proofs.lemmas.List.{get_or-set_other, get_or-set_same, get_or_past, get_or_read, length-set}
 use Rattle.descriptor_table.specs.Places.{times, walk}
 use Rattle.descriptor_table.specs.Slots.{HasChains, Lists, slot_at}
+use Rattle.descriptor_table.specs.Tables.{used_for}
+use Rattle.descriptor_table.specs.declared.slot.Use.{Use}
 use Rattle.descriptor_table.specs.declared.slot.Use.TheVariants.{Taken}
 use Rattle.descriptor_table.specs.declared.slot.Slot.{Slot}
 use Rattle.descriptor_table.specs.declared.slot.Chain.{Chain}
@@ -29,6 +31,10 @@ walk_length zero next first = refl
 walk_length (suc n) next first = let h = walk_length n next (get_or next first 0) in omega arith
 
 module _ {T : Type 0} where
+  -- the slots, with one in use for this
+  abbrev pub with_use : ℕ → Use → List (Slot T) → List (Slot T)
+  with_use p u slots = set slots p (used_for u (slot_at slots p))
+
   pub slot_set : (slots : List (Slot T)) (p : ℕ) (s : Slot T) → p < length slots → slot_at (set slots p s) p ≡ s
   slot_set slots p s within = get_or-set_same slots p s (record { generation = 0; layout = 0; layout_generation = 0; used = Taken; leaves = false; set = None }) within
 

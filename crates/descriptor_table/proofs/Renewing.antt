@@ -2,7 +2,7 @@
 use Rattle.std.proofs.Common.{◌≡◌, ◌≢◌, ℕ, ◌+◌, ◌<◌, ◌≤◌, ◌==◌, ◌&&◌, Bool, true, false, not, nat_lt, List, length, set, Option, Some, None, is_some, inl, refl, sym, ap, ◌∙◌, arith, eqb-true, ltb-true}
 use Rattle.std.proofs.lemmas.List.{length-set, set-set}
 use Rattle.descriptor_table.specs.Slots.{goes, in_list, is_in, slot_at}
-use Rattle.descriptor_table.specs.Tables.{GivesFirst, HasRoom, Picks, Puts, Renews, Stays, count, is_usable, renewed, slots_of, usable_of, used_for, vacated, with_use}
+use Rattle.descriptor_table.specs.Tables.{GivesFirst, HasRoom, Picks, Puts, Renews, Stays, count, is_usable, renewed, slots_of, usable_of, used_for, vacated}
 use Rattle.descriptor_table.specs.declared.handle.SetHandle.{SetHandle}
 use Rattle.descriptor_table.specs.declared.set_table.SetTable.{SetTable}
 use Rattle.descriptor_table.specs.declared.slot.Use.{Use}
@@ -10,7 +10,7 @@ use Rattle.descriptor_table.specs.declared.slot.Use.TheVariants.{Held, Drawn, Wa
 use Rattle.descriptor_table.specs.declared.slot.Slot.{Slot}
 use Rattle.descriptor_table.proofs.Chains.{and_true, lists_apart, taken_no_list}
 use Rattle.descriptor_table.proofs.Counts.{bit, count_set, same_count}
-use Rattle.descriptor_table.proofs.Listed.{other_slots, slot_set}
+use Rattle.descriptor_table.proofs.Listed.{other_slots, slot_set, with_use}
 
 module _ {T : Type 0} where
   -- what is known of a vacant slot

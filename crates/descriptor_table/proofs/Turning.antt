@@ -3,7 +3,7 @@ use Rattle.std.proofs.Common.{◌≡◌, ◌≢◌, ℕ, zero, suc, ◌+◌, ◌
 use Rattle.std.proofs.lemmas.List.{length-set, set-set}
 use Rattle.std.proofs.lemmas.Bool.{ltb-false}
 use Rattle.descriptor_table.specs.Slots.{in_list, is_due, is_in, slot_at, waits_until}
-use Rattle.descriptor_table.specs.Tables.{IsSettled, Leaves, MayGo, PicksAbove, PicksFirst, Stays, Turns, WaitsFor, count, holds, if_held, if_taken, is_held_use, is_kept, is_taken, is_taken_use, may_stay, next_use, stays, used_for, with_use}
+use Rattle.descriptor_table.specs.Tables.{AtIf, IsSettled, KeepsSettings, MayGo, PicksAbove, PicksFirst, Stays, Turns, count, generations_of, holds, is_held_use, is_kept, is_taken, is_taken_use, may_stay, most_of, next_use, stays, used_for}
 use Rattle.descriptor_table.specs.declared.set_table.SetTable.{SetTable}
 use Rattle.descriptor_table.specs.declared.slot.Use.{Use}
 use Rattle.descriptor_table.specs.declared.slot.Use.TheVariants.{Held, Drawn, Waits, Kept, Going, Taken, Vacant}
@@ -11,7 +11,7 @@ use Rattle.descriptor_table.specs.declared.slot.Slot.{Slot}
 use Rattle.descriptor_table.proofs.Chains.{and_true, lists_apart}
 use Rattle.descriptor_table.proofs.Counting.{same_or}
 use Rattle.descriptor_table.proofs.Counts.{bit, count_set, none_count, same_count}
-use Rattle.descriptor_table.proofs.Listed.{other_slots, slot_set}
+use Rattle.descriptor_table.proofs.Listed.{other_slots, slot_set, with_use}
 
 taken_use : (u : Use) → is_taken_use u ≡ true → u ≡ Taken
 taken_use Held e = absurd (cc)
@@ -148,14 +148,20 @@ module _ {T : Type 0} where
 
   pub stays_more : (a b c : SetTable T) → Stays a b → Stays b c → Stays a c
   stays_more a b c one two = record {
-    number = two.number ∙ one.number;
-    most = two.most ∙ one.most;
-    lists = two.lists ∙ one.lists;
-    generations = two.generations ∙ one.generations;
+    settings = record {
+      number = two.settings.number ∙ one.settings.number;
+      lists = two.settings.lists ∙ one.settings.lists;
+      generations = two.settings.generations ∙ one.settings.generations;
+      most = two.settings.most ∙ one.settings.most;
+    };
     slots = two.slots ∙ one.slots;
     next = two.next ∙ one.next;
     frames = two.frames ∙ one.frames;
   }
+
+  -- with settings as they were, a set comes back to the same use
+  pub same_next : (a b : SetTable T) → KeepsSettings a b → (slots : List (Slot T)) (p : ℕ) → next_use (generations_of b) (most_of b) slots p ≡ next_use (generations_of a) (most_of a) slots p
+  same_next a b same slots p = ap (λ m. next_use (generations_of b) m slots p) same.most ∙ ap (λ generations. next_use generations (most_of a) slots p) same.generations
 
   -- a slot that passed the test doesn't any more
   pub one_fewer : (test : Slot T → Bool) (now new : List (Slot T)) (p : ℕ) (s : Slot T) → p < length now → test (slot_at now p) ≡ true → test s ≡ false → new ≡ set now p s → count test new < count test now
@@ -178,7 +184,7 @@ module _ {T : Type 0} where
     pub others : (q : ℕ) → test (slot_at now q) ≡ false → test (slot_at new q) ≡ false
 
   module _ (test : Slot T → Bool) (becomes : List (Slot T) → Slot T → Slot T → Type 0) (old now new : List (Slot T)) (p : ℕ) (u : Use) (turning : Turning test becomes old now) (within : p < length now) where
-    turn_one : new ≡ (if test (slot_at now p) then with_use p u now else now) → (test (slot_at now p) ≡ true → Turning test becomes old new) → test (used_for u (slot_at now p)) ≡ false → TurnsOne test becomes old now new p
+    turn_one : AtIf test p (used_for u) now new → (test (slot_at now p) ≡ true → Turning test becomes old new) → test (used_for u (slot_at now p)) ≡ false → TurnsOne test becomes old now new p
     turn_one is step out = by_test (test (slot_at now p)) refl
       where
         by_test : (b : Bool) → test (slot_at now p) ≡ b → TurnsOne test becomes old now new p
@@ -201,7 +207,7 @@ module _ {T : Type 0} where
               others = λ q none. ap (λ l. test (slot_at l q)) all ∙ none;
             }
 
-  pub settle_one : (generations : ℕ → ℕ) (most : ℕ) (old now new : List (Slot T)) (p : ℕ) → Turning is_taken (IsSettled generations most) old now → p < length now → new ≡ if_taken p (next_use generations most now p) now → TurnsOne is_taken (IsSettled generations most) old now new p
+  pub settle_one : (generations : ℕ → ℕ) (most : ℕ) (old now new : List (Slot T)) (p : ℕ) → Turning is_taken (IsSettled generations most) old now → p < length now → AtIf is_taken p (used_for (next_use generations most now p)) now new → TurnsOne is_taken (IsSettled generations most) old now new p
   settle_one generations most old now new p turning within is = turn_one is_taken (IsSettled generations most) old now new p (next_use generations most now p) turning within is step (settled_out (may_stay generations most now (slot_at now p)) (slot_at now p))
     where
       step : is_taken (slot_at now p) ≡ true → Turning is_taken (IsSettled generations most) old new
@@ -216,28 +222,21 @@ module _ {T : Type 0} where
           (settled_grows generations most now now new p within out left all) (settled_not_taken generations most now)
           (settled_here generations most now now new p within out left all)
 
-  pub wait_one : (frame : ℕ) (old now new : List (Slot T)) (p : ℕ) → Turning is_taken (WaitsFor frame) old now → p < length now → new ≡ if_taken p (Waits frame) now → TurnsOne is_taken (WaitsFor frame) old now new p
-  wait_one frame old now new p turning within is = turn_one is_taken (WaitsFor frame) old now new p (Waits frame) turning within is step refl
-    where
-      step : is_taken (slot_at now p) ≡ true → Turning is_taken (WaitsFor frame) old new
-      step e =
-          let all : new ≡ with_use p (Waits frame) now = is ∙ ap (λ b. if b then with_use p (Waits frame) now else now) e in
-          turn_step is_taken (WaitsFor frame) old now new p (used_for (Waits frame) (slot_at now p)) turning within e all (λ o n w. w) (λ o n w. ap is_taken w) refl
-
   -- a slot whose set is held goes
-  pub held_goes : (old mid new : List (Slot T)) (p : ℕ) (u : Use) (s : Slot T) → p < length old → s ≡ slot_at old p → s.used ≡ Held → is_some s.set ≡ true → mid ≡ set old p (used_for Taken s) → new ≡ with_use p u mid → new ≡ if_held p u old
+  pub held_goes : (old mid new : List (Slot T)) (p : ℕ) (u : Use) (s : Slot T) → p < length old → s ≡ slot_at old p → s.used ≡ Held → is_some s.set ≡ true → mid ≡ set old p (used_for Taken s) → new ≡ with_use p u mid → AtIf holds p (used_for u) old new
   held_goes old mid new p u s within is held full taken goes =
       let was : holds (slot_at old p) ≡ true = ap holds (sym is) ∙ ap (λ u. is_held_use u && is_some s.set) held ∙ full in
       let left : mid ≡ with_use p Taken old = taken ∙ ap (λ (s : Slot T). set old p (used_for Taken s)) is in
       goes ∙ ap (with_use p u) left ∙ use_again old p Taken u within ∙ sym (ap (λ b. if b then with_use p u old else old) was)
 
-  pub leave_one : (old now new : List (Slot T)) (p : ℕ) → Turning holds Leaves old now → p < length now → new ≡ if_held p Going now → TurnsOne holds Leaves old now new p
-  leave_one old now new p turning within is = turn_one holds Leaves old now new p Going turning within is step refl
+  -- a slot that passes the test comes to be in use for something, and doesn't pass it then
+  pub use_one : (test : Slot T → Bool) (u : Use) (old now new : List (Slot T)) (p : ℕ) → Turning test (λ l o n. n ≡ used_for u o) old now → p < length now → AtIf test p (used_for u) now new → ((s : Slot T) → test (used_for u s) ≡ false) → TurnsOne test (λ l o n. n ≡ used_for u o) old now new p
+  use_one test u old now new p turning within is out = turn_one test (λ l o n. n ≡ used_for u o) old now new p u turning within is step (out (slot_at now p))
     where
-      step : holds (slot_at now p) ≡ true → Turning holds Leaves old new
+      step : test (slot_at now p) ≡ true → Turning test (λ l o n. n ≡ used_for u o) old new
       step e =
-          let all : new ≡ with_use p Going now = is ∙ ap (λ b. if b then with_use p Going now else now) e in
-          turn_step holds Leaves old now new p (used_for Going (slot_at now p)) turning within e all (λ o n w. w) (λ o n w. ap holds w) refl
+          let all : new ≡ with_use p u now = is ∙ ap (λ b. if b then with_use p u now else now) e in
+          turn_step test (λ l o n. n ≡ used_for u o) old now new p (used_for u (slot_at now p)) turning within e all (λ o n w. w) (λ o n w. ap test w ∙ out o) refl
 
   -- a test that no slot passes, nor one past the end
   pub none_passes : (test : Slot T → Bool) (slots : List (Slot T)) → test (record { generation = 0; layout = 0; layout_generation = 0; used = Taken; leaves = false; set = None }) ≡ false → ((p : ℕ) → p < length slots → test (slot_at slots p) ≡ false) → (p : ℕ) → test (slot_at slots p) ≡ false
@@ -287,7 +286,7 @@ module _ {T : Type 0} where
   going_out k s two = ap (λ b. b && is_some s.set) (ne_eqb k 1 (λ e. omega arith))
 
   pub stays_same : (a : SetTable T) → Stays a a
-  stays_same a = record { number = refl; most = refl; lists = refl; generations = refl; slots = refl; next = refl; frames = refl }
+  stays_same a = record { settings = record { number = refl; lists = refl; generations = refl; most = refl }; slots = refl; next = refl; frames = refl }
 
   pub count_same : (test : Slot T → Bool) (l m : List (Slot T)) → length m ≡ length l → ((p : ℕ) → test (slot_at m p) ≡ test (slot_at l p)) → count test m ≡ count test l
   count_same test [] [] long same = refl

@@ -3,7 +3,7 @@ use Rattle.std.specs.Prelude.{◌≡◌, ℕ, length, Bool, Option}
 use Rattle.std.specs.Borrow.{MutBor}
 use Rattle.descriptor_table.specs.Sets.{sets_in}
 use Rattle.descriptor_table.specs.Slots.{goes, is_due}
-use Rattle.descriptor_table.specs.Tables.{GivesFirst, Stays, slots_of}
+use Rattle.descriptor_table.specs.Tables.{Changes, GivesFirst, slots_of}
 use Rattle.descriptor_table.specs.declared.giving.Due.{Due}
 use Rattle.descriptor_table.specs.declared.giving.Giving.{Giving}
 use Rattle.descriptor_table.specs.declared.set_table.SetTable.{SetTable}
@@ -13,8 +13,7 @@ module _ {T : Type 0} where
   -- the first of the sets that pass the test was taken out of its slot
   pub record GivesFrom (test : Slot T → Bool) (s : MutBor (SetTable T)) (r : Option T) (t : MutBor (SetTable T)) : Type 0 where
     pub same : t.ghost_name ≡ s.ghost_name
-    pub gives : GivesFirst test r (slots_of s.now) (slots_of t.now)
-    pub stays : Stays s.now t.now
+    pub gives : Changes (GivesFirst test r) s.now t.now
 
   -- the first of those that were let go
   pub record GivesNext (s : Giving T) (r : Option T) (t : Giving T) : Type 0 where

@@ -1,5 +1,5 @@
 -- What a caller sees of the slots: sets by handle.
-use Rattle.std.specs.Prelude.{◌≡◌, ◌≢◌, ℕ, ◌<◌, ◌==◌, ◌&&◌, nat_le, nat_lt, Bool, true, false, List, [], ◌∷◌, length, slice_index_or, is_some, if◌then◌else◌, Option, Some, None, IsSome}
+use Rattle.std.specs.Prelude.{◌≡◌, ◌≢◌, ℕ, ◌<◌, ◌==◌, ◌&&◌, nat_le, nat_lt, All, Bool, true, false, List, [], ◌∷◌, length, slice_index_or, is_some, if◌then◌else◌, Option, Some, None, IsSome}
 use Rattle.descriptor_table.specs.Slots.{is_live, slot_at}
 use Rattle.descriptor_table.specs.Tables.{is_held_use}
 use Rattle.descriptor_table.specs.declared.handle.SetHandle.{SetHandle}
@@ -9,6 +9,10 @@ use Rattle.descriptor_table.specs.declared.slot.Slot.{Slot}
 abbrev pub joined : {T : Type 0} → Option T → List T → List T
 joined None sets = sets
 joined (Some set) sets = set ∷ sets
+
+-- no handle is in the list twice
+abbrev pub AreOnce : List SetHandle → Type 0
+AreOnce handles = (i j : ℕ) (d : SetHandle) → i < j → j < length handles → slice_index_or handles i d ≢ slice_index_or handles j d
 
 -- the sets by handle
 pub record Sets (T : Type 0) : Type 0 where
@@ -53,11 +57,11 @@ module _ {T : Type 0} where
 
   -- the handles, none of which was ever given, name sets, and each other handle names what it named
   pub record NameEach (handles : List SetHandle) (old new : Sets T) : Type 0 where
-    pub never : (i : ℕ) (d : SetHandle) → i < length handles → old.given (slice_index_or handles i d) ≡ false
-    pub once : (i j : ℕ) (d : SetHandle) → i < j → j < length handles → slice_index_or handles i d ≢ slice_index_or handles j d
-    pub given : (i : ℕ) (d : SetHandle) → i < length handles → new.given (slice_index_or handles i d) ≡ true
-    pub named : (i : ℕ) (d : SetHandle) → i < length handles → IsSome (new.set (slice_index_or handles i d))
-    pub others : (other : SetHandle) → ((i : ℕ) (d : SetHandle) → i < length handles → slice_index_or handles i d ≢ other) → (new.set other ≡ old.set other) × (new.given other ≡ old.given other)
+    pub never : All (λ h. old.given h ≡ false) handles
+    pub once : AreOnce handles
+    pub given : All (λ h. new.given h ≡ true) handles
+    pub named : All (λ h. IsSome (new.set h)) handles
+    pub others : (other : SetHandle) → All (λ h. h ≢ other) handles → (new.set other ≡ old.set other) × (new.given other ≡ old.given other)
 
   -- each handle names what it named
   pub record KeepNames (old new : Sets T) : Type 0 where
@@ -66,14 +70,14 @@ module _ {T : Type 0} where
 
   -- the handles name nothing, and each other handle names what it named
   pub record LoseNames (handles : List SetHandle) (old new : Sets T) : Type 0 where
-    pub gone : (i : ℕ) (d : SetHandle) → i < length handles → new.set (slice_index_or handles i d) ≡ None
-    pub others : (other : SetHandle) → ((i : ℕ) (d : SetHandle) → i < length handles → slice_index_or handles i d ≢ other) → new.set other ≡ old.set other
+    pub gone : All (λ h. new.set h ≡ None) handles
+    pub others : (other : SetHandle) → All (λ h. h ≢ other) handles → new.set other ≡ old.set other
     pub given : (h : SetHandle) → new.given h ≡ old.given h
 
   -- each handle has a held set, and none is there twice
   pub record AreHeldOnce (number : ℕ) (slots : List (Slot T)) (handles : List SetHandle) : Type 0 where
-    pub held : (i : ℕ) (d : SetHandle) → i < length handles → is_held number slots (slice_index_or handles i d) ≡ true
-    pub once : (i j : ℕ) (d : SetHandle) → i < j → j < length handles → slice_index_or handles i d ≢ slice_index_or handles j d
+    pub held : All (λ h. is_held number slots h ≡ true) handles
+    pub once : AreOnce handles
 
 -- whether a handle of the list is of the place
 abbrev pub names_place : List SetHandle → ℕ → Bool

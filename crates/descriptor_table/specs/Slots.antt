@@ -11,61 +11,38 @@ use Rattle.descriptor_table.specs.declared.slot.FrameChain.{FrameChain}
 abbrev pub is_live : ℕ → Bool → Use → Bool
 is_live frame opened Held = true
 is_live frame opened (Drawn drawn) = opened && (drawn == frame)
-is_live frame opened (Waits waits) = false
-is_live frame opened Kept = false
-is_live frame opened Going = false
-is_live frame opened Taken = false
-is_live frame opened Vacant = false
+is_live frame opened _ = false
 
 -- whether a slot is in the list with this number: 0 vacant, 1 going, 2 and more kept of each layout
 abbrev pub in_list : ℕ → Use → ℕ → ℕ → Bool → Bool
-in_list k Held layout generation full = false
-in_list k (Drawn frame) layout generation full = false
-in_list k (Waits frame) layout generation full = false
 in_list k Kept layout generation full = (k == (layout + 2)) && (nat_lt generation 4294967295 && full)
 in_list k Going layout generation full = (k == 1) && full
-in_list k Taken layout generation full = false
 in_list k Vacant layout generation full = (k == 0) && (nat_lt generation 4294967295 && not full)
+in_list k _ layout generation full = false
 
 -- whether a set waits for this frame
 abbrev pub waits_for : ℕ → Use → Bool
-waits_for f Held = false
 waits_for f (Drawn frame) = f == frame
 waits_for f (Waits frame) = f == frame
-waits_for f Kept = false
-waits_for f Going = false
-waits_for f Taken = false
-waits_for f Vacant = false
+waits_for f _ = false
 
 -- whether a set waits for a frame up to this one
 abbrev pub waits_until : ℕ → Use → Bool
-waits_until f Held = false
 waits_until f (Drawn frame) = nat_le frame f
 waits_until f (Waits frame) = nat_le frame f
-waits_until f Kept = false
-waits_until f Going = false
-waits_until f Taken = false
-waits_until f Vacant = false
+waits_until f _ = false
 
 -- a set in such a use is in no list, and waits for no frame
 abbrev pub IsNowhere : Use → Type 0
 IsNowhere Held = ⊤
-IsNowhere (Drawn frame) = ⊥
-IsNowhere (Waits frame) = ⊥
-IsNowhere Kept = ⊥
-IsNowhere Going = ⊥
 IsNowhere Taken = ⊤
-IsNowhere Vacant = ⊥
+IsNowhere _ = ⊥
 
 -- the frame that a set waits for, or 0
 abbrev pub frame_in : Use → ℕ
-frame_in Held = 0
 frame_in (Drawn frame) = frame
 frame_in (Waits frame) = frame
-frame_in Kept = 0
-frame_in Going = 0
-frame_in Taken = 0
-frame_in Vacant = 0
+frame_in _ = 0
 
 abbrev pub chain_at : List Chain → ℕ → Chain
 chain_at chains k = slice_index_or chains k (record { first = 0; count = 0 })

@@ -1,6 +1,6 @@
 -- What becomes of the slots of a table.
 use Rattle.std.specs.Prelude.{◌≡◌, ◌≢◌, ℕ, zero, suc, ◌+◌, ◌-◌, ◌<◌, ◌≤◌, ◌⊎◌, ◌==◌, ◌&&◌, nat_lt, Bool, true, false, not, List, [], ◌∷◌, length, slice_index_or, slice_set, vec_capacity, is_some, if◌then◌else◌, Option, Some, None, MatchOption}
-use Rattle.descriptor_table.specs.Slots.{chain_at, generation_at, is_in, is_kept_of, slot_at}
+use Rattle.descriptor_table.specs.Slots.{chain_at, generation_at, is_in, is_kept_of, is_of, slot_at}
 use Rattle.descriptor_table.specs.declared.handle.SetHandle.{SetHandle}
 use Rattle.descriptor_table.specs.declared.set_table.SetTable.{SetTable}
 use Rattle.descriptor_table.specs.declared.slot.Use.{Use}
@@ -8,31 +8,17 @@ use Rattle.descriptor_table.specs.declared.slot.Use.TheVariants.{Held, Drawn, Wa
 use Rattle.descriptor_table.specs.declared.slot.Slot.{Slot}
 
 abbrev pub is_taken_use : Use → Bool
-is_taken_use Held = false
-is_taken_use (Drawn frame) = false
-is_taken_use (Waits frame) = false
-is_taken_use Kept = false
-is_taken_use Going = false
 is_taken_use Taken = true
-is_taken_use Vacant = false
+is_taken_use _ = false
 
 abbrev pub is_held_use : Use → Bool
 is_held_use Held = true
-is_held_use (Drawn frame) = false
-is_held_use (Waits frame) = false
-is_held_use Kept = false
-is_held_use Going = false
-is_held_use Taken = false
-is_held_use Vacant = false
+is_held_use _ = false
 
 abbrev pub is_waiting_use : Use → Bool
-is_waiting_use Held = false
 is_waiting_use (Drawn frame) = true
 is_waiting_use (Waits frame) = true
-is_waiting_use Kept = false
-is_waiting_use Going = false
-is_waiting_use Taken = false
-is_waiting_use Vacant = false
+is_waiting_use _ = false
 
 -- the place of the handle at a place of a list
 abbrev pub place_at : List SetHandle → ℕ → ℕ
@@ -51,6 +37,13 @@ abbrev pub lists_with : ℕ → ℕ
 lists_with zero = 3
 lists_with (suc n) = suc n + 1
 
+-- what a table has besides slots: the number of its renderer, how many lists there are, how many layouts of each number were removed, and how many sets of a layout are kept at most
+pub record Settings : Type 0 where
+  pub number : ℕ
+  pub lists : ℕ
+  pub generations : ℕ → ℕ
+  pub most : ℕ
+
 module _ {T : Type 0} where
   -- whether another set can come to a slot
   abbrev pub is_usable : Slot T → Bool
@@ -60,9 +53,13 @@ module _ {T : Type 0} where
   abbrev pub used_for : Use → Slot T → Slot T
   used_for u s = record s { used = u }
 
-  -- the slots, with one in use for this
-  abbrev pub with_use : ℕ → Use → List (Slot T) → List (Slot T)
-  with_use p u slots = slice_set slots p (used_for u (slot_at slots p))
+  -- one slot became this
+  abbrev pub At : ℕ → (Slot T → Slot T) → List (Slot T) → List (Slot T) → Type 0
+  At p becomes old new = new ≡ slice_set old p (becomes (slot_at old p))
+
+  -- one slot became this if it passed the test
+  abbrev pub AtIf : (Slot T → Bool) → ℕ → (Slot T → Slot T) → List (Slot T) → List (Slot T) → Type 0
+  AtIf test p becomes old new = new ≡ (if test (slot_at old p) then slice_set old p (becomes (slot_at old p)) else old)
 
   -- how many slots pass the test
   abbrev pub count : (Slot T → Bool) → List (Slot T) → ℕ
@@ -91,15 +88,31 @@ module _ {T : Type 0} where
   abbrev pub count_of : ℕ → SetTable T → ℕ
   count_of k t = (chain_at t.chains.items k).count
 
-  -- the number, the layouts, the most that is kept, and memory are as they were
+  abbrev pub settings_of : SetTable T → Settings
+  settings_of t = record { number = number_of t; lists = lists_of t; generations = generations_of t; most = most_of t }
+
+  -- the settings of the table are these
+  pub record HasSettings (settings : Settings) (t : SetTable T) : Type 0 where
+    pub number : number_of t ≡ settings.number
+    pub lists : lists_of t ≡ settings.lists
+    pub generations : generations_of t ≡ settings.generations
+    pub most : most_of t ≡ settings.most
+
+  -- the settings are as they were
+  abbrev pub KeepsSettings : SetTable T → SetTable T → Type 0
+  KeepsSettings old new = HasSettings (settings_of old) new
+
+  -- the settings and memory are as they were
   pub record Stays (old new : SetTable T) : Type 0 where
-    pub number : new.number ≡ old.number
-    pub most : new.most ≡ old.most
-    pub lists : lists_of new ≡ lists_of old
-    pub generations : generations_of new ≡ generations_of old
+    pub settings : KeepsSettings old new
     pub slots : vec_capacity new.slots ≡ vec_capacity old.slots
     pub next : vec_capacity new.next ≡ vec_capacity old.next
     pub frames : vec_capacity new.frames ≡ vec_capacity old.frames
+
+  -- the slots became what the relation says, and all else is as it was
+  pub record Changes (becomes : List (Slot T) → List (Slot T) → Type 0) (old new : SetTable T) : Type 0 where
+    pub slots : becomes (slots_of old) (slots_of new)
+    pub stays : Stays old new
 
   -- there is memory for a layout more
   pub record HasListRoom (t : SetTable T) : Type 0 where
@@ -131,11 +144,16 @@ module _ {T : Type 0} where
     pub taken : IsTaken p slots
     pub full : is_some (slot_at slots p).set ≡ true
 
+  -- a set that is in no list waits for the frame if it is in use for this
+  pub record CanWait (frame p : ℕ) (u : Use) (slots : List (Slot T)) : Type 0 where
+    pub taken : HasTaken p slots
+    pub goes : is_of frame (used_for u (slot_at slots p)) ≡ true
+
   -- the slot was in the list, or had its set wait, and left
   pub record Picks (test : Slot T → Bool) (p : ℕ) (old new : List (Slot T)) : Type 0 where
     pub was : test (slot_at old p) ≡ true
     pub within : p < length old
-    pub slots : new ≡ with_use p Taken old
+    pub slots : At p (used_for Taken) old new
 
   -- there is no such slot
   pub record PicksNone (test : Slot T → Bool) (old new : List (Slot T)) : Type 0 where
@@ -183,17 +201,9 @@ module _ {T : Type 0} where
     pub rest : (p : ℕ) → test (slot_at old p) ≡ false → slot_at new p ≡ slot_at old p
     pub here : (p : ℕ) → test (slot_at old p) ≡ true → becomes new (slot_at old p) (slot_at new p)
 
-  -- the slots, with one in use for this if a call has its set
-  abbrev pub if_taken : ℕ → Use → List (Slot T) → List (Slot T)
-  if_taken p u slots = if is_taken (slot_at slots p) then with_use p u slots else slots
-
   -- whether a slot has a set that is held
   abbrev pub holds : Slot T → Bool
   holds s = is_held_use s.used && is_some s.set
-
-  -- the slots, with one in use for this if its set is held
-  abbrev pub if_held : ℕ → Use → List (Slot T) → List (Slot T)
-  if_held p u slots = if holds (slot_at slots p) then with_use p u slots else slots
 
   -- whether a slot has a set that waits for a frame
   abbrev pub waits : Slot T → Bool
@@ -240,7 +250,7 @@ module _ {T : Type 0} where
   -- the set at a place has the handle, the next one of the place, and is in use for this
   pub record Renews (number p : ℕ) (u : Use) (handle : SetHandle) (old new : List (Slot T)) : Type 0 where
     pub is : handle ≡ record { renderer = number; place = p; generation = (slot_at old p).generation + 1 }
-    pub slots : new ≡ slice_set old p (renewed u (slot_at old p))
+    pub slots : At p (renewed u) old new
 
   -- a slot whose set was taken out
   abbrev pub vacated : Slot T → Slot T
@@ -252,7 +262,7 @@ module _ {T : Type 0} where
     pub within : place < length old
     pub was : test (slot_at old place) ≡ true
     pub full : (slot_at old place).set ≡ Some x
-    pub slots : new ≡ slice_set old place (vacated (slot_at old place))
+    pub slots : At place vacated old new
 
   -- no set passes the test
   pub record GivesNone (test : Slot T → Bool) (old new : List (Slot T)) : Type 0 where
@@ -269,6 +279,11 @@ module _ {T : Type 0} where
     pub within : (i : ℕ) → i < n → place_at handles i < length old
     pub named : (i : ℕ) → i < n → slot_at new (place_at handles i) ≡ used_for Taken (slot_at old (place_at handles i))
     pub rest : (p : ℕ) → ((i : ℕ) → i < n → place_at handles i ≢ p) → slot_at new p ≡ slot_at old p
+
+  -- the handles have places, and each set that a call has is at one of these
+  pub record AreAllTaken (handles : List SetHandle) (slots : List (Slot T)) : Type 0 where
+    pub within : (i : ℕ) → i < length handles → place_at handles i < length slots
+    pub all : (p : ℕ) → is_taken (slot_at slots p) ≡ true → (i : ℕ) × (i < length handles) × (place_at handles i ≡ p)
 
   -- each slot has lost the flag of new sets
   pub record AreAged (old new : List (Slot T)) : Type 0 where

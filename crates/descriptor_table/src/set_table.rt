@@ -62,16 +62,18 @@ pub struct SetTable<T> {
 
 impl<T> SetTable<T> {
     ghost use Rattle.descriptor_table.specs.Sets.{find, is_held};
-    ghost use Rattle.descriptor_table.specs.Tables.{HasPlaces, HasRoom, Stays, generations_of, lists_of};
-    ghost use Rattle.descriptor_table.specs.Tables.{most_of, number_of, slots_of};
+    ghost use Rattle.descriptor_table.specs.Tables.{HasPlaces, HasRoom, HasSettings, KeepsSettings};
+    ghost use Rattle.descriptor_table.specs.Tables.{number_of, slots_of};
 
     /// No sets, and no layouts. It allocates nothing.
     pub fn new(alloc: Global, number: u64) -> Self
         ensures slots { slots_of result ≡ [] }
-        ensures lists { lists_of result ≡ 0 }
-        ensures generations { generations_of result ≡ generation_at [] }
-        ensures number { number_of result ≡ number }
-        ensures most { most_of result ≡ u32.MAX }
+        ensures settings { HasSettings (record {
+          number = number;
+          lists = 0;
+          generations = generation_at [];
+          most = u32.MAX;
+        }) result }
     {
         SetTable {
             number,
@@ -128,10 +130,7 @@ impl<T> SetTable<T> {
         ensures room { OnOk result (HasRoom additional self.new) }
         ensures fits { HasRoom additional self.old → IsOk result }
         ensures slots { slots_of self.new ≡ slots_of self.old }
-        ensures lists { lists_of self.new ≡ lists_of self.old }
-        ensures generations { generations_of self.new ≡ generations_of self.old }
-        ensures number { number_of self.new ≡ number_of self.old }
-        ensures most { most_of self.new ≡ most_of self.old }
+        ensures settings { KeepsSettings self.old self.new }
     {
         let vacant = self.chain(VACANT).count;
         if additional <= vacant {
@@ -145,10 +144,7 @@ impl<T> SetTable<T> {
         ensures room { OnOk result (HasPlaces additional self.new) }
         ensures fits { HasPlaces additional self.old → IsOk result }
         ensures slots { slots_of self.new ≡ slots_of self.old }
-        ensures lists { lists_of self.new ≡ lists_of self.old }
-        ensures generations { generations_of self.new ≡ generations_of self.old }
-        ensures number { number_of self.new ≡ number_of self.old }
-        ensures most { most_of self.new ≡ most_of self.old }
+        ensures settings { KeepsSettings self.old self.new }
     {
         let places = self.slots.len() as u64 + u64::from(additional);
         if places > MOST {

@@ -18,7 +18,7 @@ impl<L: Drop, P: Drop, S: Drop, D: DescriptorDevice<L, P, S>> Renderer<L, P, S, 
     ghost use Rattle.gpu_descriptor.specs.declared.errors.AllocationError.{AllocationError};
     ghost use Rattle.descriptor_table.specs.declared.handle.SetHandle.{SetHandle};
     ghost use Rattle.descriptor_table.specs.declared.slot.Use.{Use};
-    ghost use Rattle.descriptor_renderer.specs.Renderers.{Comes, done_of, frame_of, is_open, kept_of};
+    ghost use Rattle.descriptor_renderer.specs.Renderers.{Comes, OnlySetsChange, done_of, frame_of, is_open, kept_of};
     ghost use Rattle.descriptor_renderer.specs.Renderers.{layout_of, seen, sets_by, side_of, slots_of};
     ghost use Rattle.descriptor_renderer.specs.Renderers.{store_of};
 
@@ -84,7 +84,6 @@ impl<L: Drop, P: Drop, S: Drop, D: DescriptorDevice<L, P, S>> Renderer<L, P, S, 
         ensures comes { kept_of layout self.old ≡ 0 → IfOk result (λ handle.
             IfSome (layout_of self.old layout) (λ known. HandlesNew known.layout layout.slot.place
             (Use.Drawn (frame_of self.old)) handle (store_of self.old) (store_of self.new))) }
-        ensures known { OnOk result (IsSome (layout_of self.old layout)) }
         ensures no_frame { (IsErrOf result RenderError.NoFrame) ↔ (is_open self.old ≡ false) }
         ensures no_layout { (IsErrOf result RenderError.NoLayout) ↔ ((is_open self.old ≡ true)
             × (layout_of self.old layout ≡ None)) }
@@ -96,7 +95,7 @@ impl<L: Drop, P: Drop, S: Drop, D: DescriptorDevice<L, P, S>> Renderer<L, P, S, 
         ensures early { ((IsErrOf result RenderError.NoFrame) ⊎ (IsErrOf result
             RenderError.NoLayout)) → (slots_of self.new ≡ slots_of self.old) × (side_of self.new
             ≡ side_of self.old) }
-        ensures rest { seen self.new ≡ record (seen self.old) { slots = slots_of self.new } }
+        ensures rest { OnlySetsChange self.old self.new }
     {
         if !self.is_open {
             return Err(RenderError::NoFrame);
@@ -127,7 +126,7 @@ impl<L: Drop, P: Drop, S: Drop, D: DescriptorDevice<L, P, S>> Renderer<L, P, S, 
         ensures none_due { (p : ℕ) → is_due (done_of frame self.old) (slot_at (slots_of self.new) p)
             ≡ false }
         ensures names { KeepNames (sets_by self.old) (sets_by self.new) }
-        ensures rest { seen self.new ≡ record (seen self.old) { slots = slots_of self.new } }
+        ensures rest { OnlySetsChange self.old self.new }
     {
         let done = self.done(frame);
         self.store.finish(done);

@@ -21,7 +21,7 @@ impl<L: Drop, P: Drop, S: Drop, D: DescriptorDevice<L, P, S>> Renderer<L, P, S, 
     ghost use Rattle.gpu_descriptor.specs.declared.errors.AllocationError.{AllocationError};
     ghost use Rattle.descriptor_table.specs.declared.handle.SetHandle.{SetHandle};
     ghost use Rattle.descriptor_table.specs.declared.slot.Use.{Use};
-    ghost use Rattle.descriptor_renderer.specs.Renderers.{ComeEach, Comes, HasNoMemory, frame_of};
+    ghost use Rattle.descriptor_renderer.specs.Renderers.{ComeEach, Comes, HasNoMemory, OnlySetsChange, frame_of};
     ghost use Rattle.descriptor_renderer.specs.Renderers.{kept_of, layout_of, number_of, seen, sets_by};
     ghost use Rattle.descriptor_renderer.specs.Renderers.{side_of, slots_of, store_of};
 
@@ -36,7 +36,6 @@ impl<L: Drop, P: Drop, S: Drop, D: DescriptorDevice<L, P, S>> Renderer<L, P, S, 
         ensures comes { kept_of layout self.old ≡ 0 → IfOk result (λ handle.
             IfSome (layout_of self.old layout) (λ known. HandlesNew known.layout layout.slot.place
             Use.Held handle (store_of self.old) (store_of self.new))) }
-        ensures known { OnOk result (IsSome (layout_of self.old layout)) }
         ensures needs_no_frame { ¬ (IsErrOf result RenderError.NoFrame) }
         ensures no_layout { (IsErrOf result RenderError.NoLayout) ↔ (layout_of self.old layout
             ≡ None) }
@@ -47,7 +46,7 @@ impl<L: Drop, P: Drop, S: Drop, D: DescriptorDevice<L, P, S>> Renderer<L, P, S, 
         ensures grows { Grows (slots_of self.old) (slots_of self.new) }
         ensures early { IsErrOf result RenderError.NoLayout → (slots_of self.new
             ≡ slots_of self.old) × (side_of self.new ≡ side_of self.old) }
-        ensures rest { seen self.new ≡ record (seen self.old) { slots = slots_of self.new } }
+        ensures rest { OnlySetsChange self.old self.new }
     {
         let Some(known) = self.layouts.get(layout) else {
             return Err(RenderError::NoLayout);
@@ -79,7 +78,6 @@ impl<L: Drop, P: Drop, S: Drop, D: DescriptorDevice<L, P, S>> Renderer<L, P, S, 
         ensures comes { kept_of layout self.old < many → OnOk result (IfSome
             (layout_of self.old layout) (λ known. BringsAtLast known.layout
             (many - kept_of layout self.old) many (store_of self.old) (store_of self.new))) }
-        ensures known { OnOk result (IsSome (layout_of self.old layout)) }
         ensures needs_no_frame { ¬ (IsErrOf result RenderError.NoFrame) }
         ensures no_layout { (IsErrOf result RenderError.NoLayout) ↔ (layout_of self.old layout
             ≡ None) }
@@ -92,7 +90,7 @@ impl<L: Drop, P: Drop, S: Drop, D: DescriptorDevice<L, P, S>> Renderer<L, P, S, 
         ensures handles { OnErr result (handles.new.items ≡ handles.old.items) }
         ensures early { IsErrOf result RenderError.NoLayout → (slots_of self.new
             ≡ slots_of self.old) × (side_of self.new ≡ side_of self.old) }
-        ensures rest { seen self.new ≡ record (seen self.old) { slots = slots_of self.new } }
+        ensures rest { OnlySetsChange self.old self.new }
     {
         let Some(known) = self.layouts.get(layout) else {
             return Err(RenderError::NoLayout);
@@ -120,7 +118,7 @@ impl<L: Drop, P: Drop, S: Drop, D: DescriptorDevice<L, P, S>> Renderer<L, P, S, 
             × ¬ (AreHeldOnce (number_of self.old) (slots_of self.old) sets.now)) }
         ensures stay { OnErr result ((slots_of self.new ≡ slots_of self.old)
             × (side_of self.new ≡ side_of self.old)) }
-        ensures rest { seen self.new ≡ record (seen self.old) { slots = slots_of self.new } }
+        ensures rest { OnlySetsChange self.old self.new }
     {
         if !self.store.free_each(sets) {
             return Err(DestroyError::NoSet);
@@ -137,7 +135,7 @@ impl<L: Drop, P: Drop, S: Drop, D: DescriptorDevice<L, P, S>> Renderer<L, P, S, 
         ensures no_set { (IsErrOf result DestroyError.NoSet) ↔ ((last_use ≤ frame_of self.old)
             × ¬ (AreHeldOnce (number_of self.old) (slots_of self.old) (set ∷ []))) }
         ensures stay { OnErr result (slots_of self.new ≡ slots_of self.old) }
-        ensures rest { seen self.new ≡ record (seen self.old) { slots = slots_of self.new } }
+        ensures rest { OnlySetsChange self.old self.new }
         ensures device { side_of self.new ≡ side_of self.old }
     {
         self.destroy_sets(&[set], last_use)
@@ -158,7 +156,7 @@ impl<L: Drop, P: Drop, S: Drop, D: DescriptorDevice<L, P, S>> Renderer<L, P, S, 
         ensures no_set { (IsErrOf result DestroyError.NoSet) ↔ ((last_use ≤ frame_of self.old)
             × ¬ (AreHeldOnce (number_of self.old) (slots_of self.old) sets.now)) }
         ensures stay { OnErr result (slots_of self.new ≡ slots_of self.old) }
-        ensures rest { seen self.new ≡ record (seen self.old) { slots = slots_of self.new } }
+        ensures rest { OnlySetsChange self.old self.new }
         ensures device { side_of self.new ≡ side_of self.old }
     {
         if last_use > self.frame {

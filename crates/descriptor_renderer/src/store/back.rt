@@ -1,7 +1,6 @@
 //! Sets that come back: they are kept, or go back to their pools.
 ghost use Rattle.std.specs.Prelude.{◌≡◌, ℕ, ◌+◌, ◌<◌, ◌≤◌, ◌↔◌, length, false, IsFalse, IsTrue};
 ghost use Rattle.gpu_descriptor.specs.Caller.CleansUp.{TrimsPools};
-ghost use Rattle.gpu_descriptor.specs.Caller.Keeps.{Keeps};
 
 use super::Store;
 use descriptor_table::{Due, Giving, SetHandle};
@@ -10,20 +9,17 @@ use gpu_descriptor::DescriptorDevice;
 impl<L: Drop, P: Drop, S: Drop, D: DescriptorDevice<L, P, S>> Store<L, P, S, D> {
     ghost use Rattle.descriptor_table.specs.Sets.{AreHeldOnce, sets_in};
     ghost use Rattle.descriptor_table.specs.Slots.{goes, is_due, slot_at};
+    ghost use Rattle.descriptor_table.specs.Tables.{removed_at};
     ghost use Rattle.descriptor_renderer.specs.Stores.{AreCleaned, Cleans, ComeBack, FreesAll, FreesEach};
-    ghost use Rattle.descriptor_renderer.specs.Stores.{GivesBack, HasLayout, IsAtRest, IsUpTo, NoneComes, Removes, Settles};
-    ghost use Rattle.descriptor_renderer.specs.Stores.{StoreStays, Trims, WaitEach, bound_of, coming_in};
-    ghost use Rattle.descriptor_renderer.specs.Stores.{generations_in, kept_of, ledger_of, limit_of};
-    ghost use Rattle.descriptor_renderer.specs.Stores.{lists_in, most_of, number_of, pools_besides};
-    ghost use Rattle.descriptor_renderer.specs.Stores.{side_of, slots_in};
+    ghost use Rattle.descriptor_renderer.specs.Stores.{GivesBack, HasLayout, IsAtRest, IsUpTo, NoneComes};
+    ghost use Rattle.descriptor_renderer.specs.Stores.{Removes, Settles, SettlesTo, Trims, WaitEach};
+    ghost use Rattle.descriptor_renderer.specs.Stores.{coming_in, generations_in, kept_of, ledger_of};
+    ghost use Rattle.descriptor_renderer.specs.Stores.{most_of, number_of, pools_besides, side_of, slots_in};
 
     /// Gives the sets that were let go back to their pools.
     #[inline]
     fn give(&mut self)
-        ensures gives { GivesBack goes self.old self.new }
-        ensures keeps { Keeps D.meaning (side_of self.old) (side_of self.new) }
-        ensures stays { StoreStays (most_of self.old) self.old self.new }
-        ensures coming { coming_in self.new ≡ coming_in self.old }
+        ensures { GivesBack goes self.old self.new }
     {
         if self.table.none_goes() {
             // A proof has what the allocator's invariant says only by a reader.
@@ -36,10 +32,7 @@ impl<L: Drop, P: Drop, S: Drop, D: DescriptorDevice<L, P, S>> Store<L, P, S, D> 
 
     /// Gives these sets back, one after another.
     fn give_each(&mut self)
-        ensures gives { GivesBack goes self.old self.new }
-        ensures keeps { Keeps D.meaning (side_of self.old) (side_of self.new) }
-        ensures stays { StoreStays (most_of self.old) self.old self.new }
-        ensures coming { coming_in self.new ≡ coming_in self.old }
+        ensures { GivesBack goes self.old self.new }
     {
         let mut giving = Giving {
             table: &mut self.table,
@@ -50,10 +43,7 @@ impl<L: Drop, P: Drop, S: Drop, D: DescriptorDevice<L, P, S>> Store<L, P, S, D> 
 
     /// Gives the sets that wait for a frame up to this one back to their pools.
     fn give_due(&mut self, frame: u64)
-        ensures gives { GivesBack (is_due frame) self.old self.new }
-        ensures keeps { Keeps D.meaning (side_of self.old) (side_of self.new) }
-        ensures stays { StoreStays (most_of self.old) self.old self.new }
-        ensures coming { coming_in self.new ≡ coming_in self.old }
+        ensures { GivesBack (is_due frame) self.old self.new }
     {
         let mut giving = Due {
             table: &mut self.table,
@@ -72,7 +62,6 @@ impl<L: Drop, P: Drop, S: Drop, D: DescriptorDevice<L, P, S>> Store<L, P, S, D> 
             → (ledger_of self.new).pools ≡ pools_besides self.old }
         ensures cleans { Cleans self.old self.new }
         ensures settles { Settles NoneComes 0 self.old self.new }
-        ensures stays { StoreStays (most_of self.old) self.old self.new }
         ensures coming { coming_in self.new ≡ coming_in self.old }
     {
         self.table.age();
@@ -87,7 +76,6 @@ impl<L: Drop, P: Drop, S: Drop, D: DescriptorDevice<L, P, S>> Store<L, P, S, D> 
         ensures trims { TrimsPools D.meaning (side_of self.old) (side_of self.new) }
         ensures slots { slots_in self.new ≡ slots_in self.old }
         ensures settles { Settles NoneComes 0 self.old self.new }
-        ensures stays { StoreStays (most_of self.old) self.old self.new }
     {
         self.allocator.trim(&mut self.device);
     }
@@ -98,7 +86,6 @@ impl<L: Drop, P: Drop, S: Drop, D: DescriptorDevice<L, P, S>> Store<L, P, S, D> 
         ensures back { ComeBack (is_due frame) self.old self.new }
         ensures none_due { (p : ℕ) → is_due frame (slot_at (slots_in self.new) p) ≡ false }
         ensures settles { Settles NoneComes 0 self.old self.new }
-        ensures stays { StoreStays (most_of self.old) self.old self.new }
     {
         if self.table.most() == 0 {
             self.give_due(frame);
@@ -118,7 +105,6 @@ impl<L: Drop, P: Drop, S: Drop, D: DescriptorDevice<L, P, S>> Store<L, P, S, D> 
         ensures none { IsFalse result → (slots_in self.new ≡ slots_in self.old)
             × (side_of self.new ≡ side_of self.old) }
         ensures settles { Settles NoneComes 0 self.old self.new }
-        ensures stays { StoreStays (most_of self.old) self.old self.new }
     {
         if !self.table.take_each(handles) {
             return false;
@@ -139,7 +125,6 @@ impl<L: Drop, P: Drop, S: Drop, D: DescriptorDevice<L, P, S>> Store<L, P, S, D> 
         ensures none { IsFalse result → slots_in self.new ≡ slots_in self.old }
         ensures side { side_of self.new ≡ side_of self.old }
         ensures settles { Settles NoneComes frame self.old self.new }
-        ensures stays { StoreStays (most_of self.old) self.old self.new }
     {
         if !self.table.take_each(handles) {
             return false;
@@ -153,8 +138,7 @@ impl<L: Drop, P: Drop, S: Drop, D: DescriptorDevice<L, P, S>> Store<L, P, S, D> 
         requires rest { IsAtRest self.old }
         ensures trims { Trims self.old self.new }
         ensures few { (layout : ℕ) → kept_of layout self.new ≤ most }
-        ensures settles { Settles NoneComes 0 self.old self.new }
-        ensures stays { StoreStays most self.old self.new }
+        ensures settles { SettlesTo (generations_in self.old) most NoneComes 0 self.old self.new }
     {
         self.table.trim(most);
         self.table.set_most(most);
@@ -168,13 +152,8 @@ impl<L: Drop, P: Drop, S: Drop, D: DescriptorDevice<L, P, S>> Store<L, P, S, D> 
         requires layout { HasLayout layout self.old }
         requires next { generations_in self.old layout < 4294967295 }
         ensures removes { Removes layout self.old self.new }
-        ensures settles { Settles NoneComes 0 self.old self.new }
-        ensures number { number_of self.new ≡ number_of self.old }
-        ensures lists { lists_in self.new ≡ lists_in self.old }
-        ensures limit { limit_of self.new ≡ limit_of self.old }
-        ensures bound { bound_of self.new ≡ bound_of self.old }
-        ensures besides { pools_besides self.new ≡ pools_besides self.old }
-        ensures keeps { most_of self.new ≡ most_of self.old }
+        ensures settles { SettlesTo (removed_at layout (generations_in self.old)) (most_of self.old)
+            NoneComes 0 self.old self.new }
     {
         self.table.let_kept_go(layout);
         self.table.remove_layout(layout);
@@ -188,7 +167,6 @@ impl<L: Drop, P: Drop, S: Drop, D: DescriptorDevice<L, P, S>> Store<L, P, S, D> 
         requires frames { IsUpTo frame (slots_in self.old) }
         ensures frees { FreesAll self.old self.new }
         ensures settles { Settles NoneComes 0 self.old self.new }
-        ensures stays { StoreStays (most_of self.old) self.old self.new }
     {
         self.table.age();
         self.table.settle_due(frame);

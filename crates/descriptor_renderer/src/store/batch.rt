@@ -12,10 +12,11 @@ use std::vec::Vec;
 impl<L: Drop, P: Drop, S: Drop, D: DescriptorDevice<L, P, S>> Store<L, P, S, D> {
     ghost use Rattle.descriptor_table.specs.Tables.{Grows, HasRoom};
     ghost use Rattle.descriptor_table.specs.declared.handle.SetHandle.{SetHandle};
-    ghost use Rattle.descriptor_renderer.specs.Stores.{AreNamed, Asks, AsksAtLast, BringsAtLast, ComesOf, HasLayout, HoldAtLast, HoldEach};
-    ghost use Rattle.descriptor_renderer.specs.Stores.{IsAtRest, IsRefused, IsRefusedAtLast, NoneComes, SetsCome, Settles};
-    ghost use Rattle.descriptor_renderer.specs.Stores.{StoreStays, coming_in, current_in, kept_of, most_of};
-    ghost use Rattle.descriptor_renderer.specs.Stores.{number_of, side_of, slots_in};
+    ghost use Rattle.descriptor_renderer.specs.Stores.{AreNamed, Asks, AsksAtLast, BringsAtLast, CanTake};
+    ghost use Rattle.descriptor_renderer.specs.Stores.{ComesOf, HasLayout, HoldAtLast, HoldEach, HoldsKept};
+    ghost use Rattle.descriptor_renderer.specs.Stores.{IsRefused, IsRefusedAtLast, KeepsStore, SetsCome};
+    ghost use Rattle.descriptor_renderer.specs.Stores.{Settles, coming_in, current_in, kept_of, number_of};
+    ghost use Rattle.descriptor_renderer.specs.Stores.{side_of, slots_in};
 
     /// Asks the allocator for so many sets of a layout, and for memory to put them into the table.
     fn ask_for(&mut self, known: &SetLayout<L>, many: u32) -> Result<(), AllocationError>
@@ -26,7 +27,7 @@ impl<L: Drop, P: Drop, S: Drop, D: DescriptorDevice<L, P, S>> Store<L, P, S, D> 
             self.new) }
         ensures none { OnErr result ((coming_in self.new).items ≡ []) }
         ensures table { OnOk result (HasRoom many self.new.table) }
-        ensures stays { StoreStays (most_of self.old) self.old self.new }
+        ensures stays { KeepsStore self.old self.new }
     {
         if self.table.reserve(many).is_err() {
             return Err(AllocationError::OutOfHostMemory);
@@ -38,9 +39,7 @@ impl<L: Drop, P: Drop, S: Drop, D: DescriptorDevice<L, P, S>> Store<L, P, S, D> 
     /// Asks for the sets that a request for so many needs besides the kept ones. If they are refused
     /// while sets are kept, these are given back, empty pools are destroyed, and all are asked for.
     fn bring(&mut self, known: &SetLayout<L>, layout: u32, many: u32) -> Result<(), AllocationError>
-        requires meant { IsMeant D.meaning known.now }
-        requires layout { HasLayout layout self.old }
-        requires rest { IsAtRest self.old }
+        requires { CanTake known.now layout self.old }
         ensures kept { many ≤ kept_of layout self.old → (result ≡ Ok tt) × (self.new ≡ self.old) }
         ensures asks { kept_of layout self.old < many → OnOk result (AsksAtLast known.now.layout
             (many - kept_of layout self.old) many self.old self.new) }
@@ -48,7 +47,7 @@ impl<L: Drop, P: Drop, S: Drop, D: DescriptorDevice<L, P, S>> Store<L, P, S, D> 
             (many - kept_of layout self.old) many error self.old self.new) }
         ensures none { OnErr result ((coming_in self.new).items ≡ []) }
         ensures table { OnOk result (HasRoom (length (coming_in self.new).items) self.new.table) }
-        ensures stays { StoreStays (most_of self.old) self.old self.new }
+        ensures stays { KeepsStore self.old self.new }
     {
         let kept = self.table.kept_count(layout);
         if many <= kept {
@@ -76,12 +75,7 @@ impl<L: Drop, P: Drop, S: Drop, D: DescriptorDevice<L, P, S>> Store<L, P, S, D> 
             (slots_in self.old) (slots_in self.new) }
         ensures fewer { kept_of layout self.new + 1 ≡ kept_of layout self.old }
         ensures room { vec_capacity handles.new ≡ vec_capacity handles.old }
-        ensures side { side_of self.new ≡ side_of self.old }
-        ensures coming { coming_in self.new ≡ coming_in self.old }
-        ensures sets { SetsCome NoneComes (slots_in self.old) (slots_in self.new) }
-        ensures table { (n : ℕ) → HasRoom n self.old.table → HasRoom n self.new.table }
-        ensures grows { Grows (slots_in self.old) (slots_in self.new) }
-        ensures stays { StoreStays (most_of self.old) self.old self.new }
+        ensures keeps { HoldsKept self.old self.new }
     {
         match self.table.take_kept(layout) {
             Some(place) => handles.push_reserved(self.table.hold(place)),
@@ -97,12 +91,7 @@ impl<L: Drop, P: Drop, S: Drop, D: DescriptorDevice<L, P, S>> Store<L, P, S, D> 
             × (length given ≡ many) × HoldEach (number_of self.old) (current_in layout self.old)
             given (slots_in self.old) (slots_in self.new) }
         ensures room { vec_capacity handles.new ≡ vec_capacity handles.old }
-        ensures side { side_of self.new ≡ side_of self.old }
-        ensures coming { coming_in self.new ≡ coming_in self.old }
-        ensures sets { SetsCome NoneComes (slots_in self.old) (slots_in self.new) }
-        ensures table { (n : ℕ) → HasRoom n self.old.table → HasRoom n self.new.table }
-        ensures grows { Grows (slots_in self.old) (slots_in self.new) }
-        ensures stays { StoreStays (most_of self.old) self.old self.new }
+        ensures keeps { HoldsKept self.old self.new }
     {
         for _ in 0..many {
             self.hold_next(layout, handles);
@@ -129,7 +118,7 @@ impl<L: Drop, P: Drop, S: Drop, D: DescriptorDevice<L, P, S>> Store<L, P, S, D> 
             → SetsCome (ComesOf D.meaning known layout) (slots_in self.old) (slots_in self.new) }
         ensures table { HasRoom (length (coming_in self.new).items) self.new.table }
         ensures grows { Grows (slots_in self.old) (slots_in self.new) }
-        ensures stays { StoreStays (most_of self.old) self.old self.new }
+        ensures stays { KeepsStore self.old self.new }
     {
         match self.coming.pop() {
             Some(set) => {
@@ -155,7 +144,7 @@ impl<L: Drop, P: Drop, S: Drop, D: DescriptorDevice<L, P, S>> Store<L, P, S, D> 
         ensures sets { (known : L) → AreOfLayout D.meaning known (coming_in self.old).items
             → SetsCome (ComesOf D.meaning known layout) (slots_in self.old) (slots_in self.new) }
         ensures grows { Grows (slots_in self.old) (slots_in self.new) }
-        ensures stays { StoreStays (most_of self.old) self.old self.new }
+        ensures stays { KeepsStore self.old self.new }
     {
         for _ in 0..self.coming.len() {
             self.hold_last(layout, handles);
@@ -171,9 +160,7 @@ impl<L: Drop, P: Drop, S: Drop, D: DescriptorDevice<L, P, S>> Store<L, P, S, D> 
         many: u32,
         handles: &mut Vec<SetHandle>,
     ) -> Result<(), AllocationError>
-        requires meant { IsMeant D.meaning known.now }
-        requires layout { HasLayout layout self.old }
-        requires rest { IsAtRest self.old }
+        requires can { CanTake known.now layout self.old }
         requires room { vec_len handles.old + many ≤ vec_capacity handles.old }
         ensures creates { OnOk result ((given : List SetHandle)
             × (handles.new.items ≡ handles.old.items ++ given) × (length given ≡ many)
@@ -189,7 +176,6 @@ impl<L: Drop, P: Drop, S: Drop, D: DescriptorDevice<L, P, S>> Store<L, P, S, D> 
         ensures handles { OnErr result (handles.new.items ≡ handles.old.items) }
         ensures settles { Settles (ComesOf D.meaning known.now.layout layout) 0 self.old self.new }
         ensures grows { Grows (slots_in self.old) (slots_in self.new) }
-        ensures stays { StoreStays (most_of self.old) self.old self.new }
     {
         self.bring(known, layout, many)?;
         let kept = many - self.coming.len() as u32;

@@ -10,11 +10,10 @@ impl<L: Drop, P: Drop, S: Drop, D: DescriptorDevice<L, P, S>> Store<L, P, S, D> 
     ghost use Rattle.descriptor_table.specs.Tables.{Grows};
     ghost use Rattle.descriptor_table.specs.declared.handle.SetHandle.{SetHandle};
     ghost use Rattle.descriptor_table.specs.declared.slot.Use.{Use};
-    ghost use Rattle.descriptor_renderer.specs.Stores.{ComesOf, Gets, GetsAtLast, HandlesKept};
-    ghost use Rattle.descriptor_renderer.specs.Stores.{HandlesNew, HasLayout, IsAtRest, IsNamed};
-    ghost use Rattle.descriptor_renderer.specs.Stores.{IsRefused, IsRefusedAtLast, Settles, StoreStays};
-    ghost use Rattle.descriptor_renderer.specs.Stores.{TakesKept, coming_in, current_in, kept_of};
-    ghost use Rattle.descriptor_renderer.specs.Stores.{most_of, number_of, slots_in};
+    ghost use Rattle.descriptor_renderer.specs.Stores.{CanTake, ComesOf, Gets, GetsAtLast, HandlesKept};
+    ghost use Rattle.descriptor_renderer.specs.Stores.{HandlesNew, HasLayout, IsNamed, IsRefused};
+    ghost use Rattle.descriptor_renderer.specs.Stores.{IsRefusedAtLast, KeepsStore, Settles, TakesKept};
+    ghost use Rattle.descriptor_renderer.specs.Stores.{coming_in, current_in, kept_of, number_of, slots_in};
 
     /// Asks the allocator for a set of a layout, and puts it into the table. Gives its place.
     #[inline]
@@ -24,7 +23,7 @@ impl<L: Drop, P: Drop, S: Drop, D: DescriptorDevice<L, P, S>> Store<L, P, S, D> 
         ensures gets { IfOk result (λ place. Gets known.now.layout layout place self.old self.new) }
         ensures refused { IfErr result (λ error. IsRefused known.now.layout 1 error self.old
             self.new) }
-        ensures stays { StoreStays (most_of self.old) self.old self.new }
+        ensures stays { KeepsStore self.old self.new }
         ensures coming { coming_in self.new ≡ coming_in self.old }
     {
         if self.table.reserve(1).is_err() {
@@ -39,14 +38,12 @@ impl<L: Drop, P: Drop, S: Drop, D: DescriptorDevice<L, P, S>> Store<L, P, S, D> 
     /// Takes a new set of a layout. If it is refused while sets are kept, they are given back, empty
     /// pools are destroyed, and it is asked for once more. Gives its place.
     fn take_new(&mut self, known: &SetLayout<L>, layout: u32) -> Result<usize, AllocationError>
-        requires meant { IsMeant D.meaning known.now }
-        requires layout { HasLayout layout self.old }
-        requires rest { IsAtRest self.old }
+        requires { CanTake known.now layout self.old }
         ensures gets { IfOk result (λ place. GetsAtLast known.now.layout layout place self.old
             self.new) }
         ensures refused { IfErr result (λ error. IsRefusedAtLast known.now.layout 1 1 error self.old
             self.new) }
-        ensures stays { StoreStays (most_of self.old) self.old self.new }
+        ensures stays { KeepsStore self.old self.new }
         ensures coming { coming_in self.new ≡ coming_in self.old }
     {
         match self.ask(known, layout) {
@@ -65,15 +62,13 @@ impl<L: Drop, P: Drop, S: Drop, D: DescriptorDevice<L, P, S>> Store<L, P, S, D> 
     /// is one of `DescriptorAllocator::allocate_one`, and comes only if no set is kept of any layout.
     #[inline]
     fn take(&mut self, known: &SetLayout<L>, layout: u32) -> Result<usize, AllocationError>
-        requires meant { IsMeant D.meaning known.now }
-        requires layout { HasLayout layout self.old }
-        requires rest { IsAtRest self.old }
+        requires { CanTake known.now layout self.old }
         ensures refused { IfErr result (λ error. IsRefusedAtLast known.now.layout 1 1 error self.old
             self.new) }
         ensures kept { 0 < kept_of layout self.old → TakesKept layout result self.old self.new }
         ensures comes { kept_of layout self.old ≡ 0 → IfOk result (λ place.
             GetsAtLast known.now.layout layout place self.old self.new) }
-        ensures stays { StoreStays (most_of self.old) self.old self.new }
+        ensures stays { KeepsStore self.old self.new }
         ensures coming { coming_in self.new ≡ coming_in self.old }
     {
         if self.table.kept_count(layout) == 0 {
@@ -93,9 +88,7 @@ impl<L: Drop, P: Drop, S: Drop, D: DescriptorDevice<L, P, S>> Store<L, P, S, D> 
         layout: u32,
         frame: u64,
     ) -> Result<SetHandle, AllocationError>
-        requires meant { IsMeant D.meaning known.now }
-        requires layout { HasLayout layout self.old }
-        requires rest { IsAtRest self.old }
+        requires { CanTake known.now layout self.old }
         ensures named { IfOk result (λ handle. IsNamed (number_of self.old)
             (current_in layout self.old) (Use.Drawn frame) handle (slots_in self.old)
             (slots_in self.new)) }
@@ -107,7 +100,6 @@ impl<L: Drop, P: Drop, S: Drop, D: DescriptorDevice<L, P, S>> Store<L, P, S, D> 
             self.new) }
         ensures settles { Settles (ComesOf D.meaning known.now.layout layout) frame self.old self.new }
         ensures grows { Grows (slots_in self.old) (slots_in self.new) }
-        ensures stays { StoreStays (most_of self.old) self.old self.new }
     {
         let place = self.take(known, layout)?;
         Ok(self.table.draw(place, frame))
@@ -120,9 +112,7 @@ impl<L: Drop, P: Drop, S: Drop, D: DescriptorDevice<L, P, S>> Store<L, P, S, D> 
         known: &SetLayout<L>,
         layout: u32,
     ) -> Result<SetHandle, AllocationError>
-        requires meant { IsMeant D.meaning known.now }
-        requires layout { HasLayout layout self.old }
-        requires rest { IsAtRest self.old }
+        requires { CanTake known.now layout self.old }
         ensures named { IfOk result (λ handle. IsNamed (number_of self.old)
             (current_in layout self.old) Use.Held handle (slots_in self.old) (slots_in self.new)) }
         ensures kept { 0 < kept_of layout self.old → (handle : SetHandle) × (result ≡ Ok handle)
@@ -133,7 +123,6 @@ impl<L: Drop, P: Drop, S: Drop, D: DescriptorDevice<L, P, S>> Store<L, P, S, D> 
             self.new) }
         ensures settles { Settles (ComesOf D.meaning known.now.layout layout) 0 self.old self.new }
         ensures grows { Grows (slots_in self.old) (slots_in self.new) }
-        ensures stays { StoreStays (most_of self.old) self.old self.new }
     {
         let place = self.take(known, layout)?;
         Ok(self.table.hold(place))

@@ -7,10 +7,11 @@ use crate::slot::Use;
 
 impl<T> SetTable<T> {
     ghost use Rattle.descriptor_table.specs.Slots.{is_due, is_in, is_kept_of, slot_at};
-    ghost use Rattle.descriptor_table.specs.Tables.{HasTaken, Leaves, MayGo, PicksAbove, Stays, Turns};
-    ghost use Rattle.descriptor_table.specs.Tables.{IsSettled, WaitsFor, count, holds, if_held, if_taken};
-    ghost use Rattle.descriptor_table.specs.Tables.{generations_of, is_kept, is_taken, lists_of, may_stay};
-    ghost use Rattle.descriptor_table.specs.Tables.{most_of, next_use, place_at, slots_of, with_use};
+    ghost use Rattle.descriptor_table.specs.Tables.{AreAllTaken, At, AtIf, Changes, HasTaken};
+    ghost use Rattle.descriptor_table.specs.Tables.{IsSettled, Leaves, MayGo, PicksAbove, Turns};
+    ghost use Rattle.descriptor_table.specs.Tables.{WaitsFor, count, generations_of, holds, is_kept};
+    ghost use Rattle.descriptor_table.specs.Tables.{is_taken, lists_of, may_stay, most_of, next_use};
+    ghost use Rattle.descriptor_table.specs.Tables.{slots_of, used_for};
 
     /// Whether a set that comes back is kept.
     #[inline]
@@ -30,9 +31,8 @@ impl<T> SetTable<T> {
     #[inline]
     fn settle(&mut self, place: usize)
         requires { HasTaken place (slots_of self.old) }
-        ensures slots { slots_of self.new ≡ with_use place (next_use (generations_of self.old)
-            (most_of self.old) (slots_of self.old) place) (slots_of self.old) }
-        ensures stays { Stays self.old self.new }
+        ensures { Changes (At place (used_for (next_use (generations_of self.old)
+            (most_of self.old) (slots_of self.old) place))) self.old self.new }
     {
         if self.stays(place) {
             let list = self.slots[place].layout as usize + KEPT;
@@ -44,9 +44,8 @@ impl<T> SetTable<T> {
 
     /// The sets that wait for a frame up to this one are kept or go.
     pub fn settle_due(&mut self, frame: u64)
-        ensures turns { Turns (is_due frame) (IsSettled (generations_of self.old) (most_of self.old))
-            (slots_of self.old) (slots_of self.new) }
-        ensures stays { Stays self.old self.new }
+        ensures { Changes (Turns (is_due frame) (IsSettled (generations_of self.old)
+            (most_of self.old))) self.old self.new }
     {
         while let Some(place) = self.pick_due(frame) {
             self.settle(place);
@@ -57,9 +56,8 @@ impl<T> SetTable<T> {
     #[inline]
     fn settle_taken(&mut self, place: usize)
         requires { place < length (slots_of self.old) }
-        ensures slots { slots_of self.new ≡ if_taken place (next_use (generations_of self.old)
-            (most_of self.old) (slots_of self.old) place) (slots_of self.old) }
-        ensures stays { Stays self.old self.new }
+        ensures { Changes (AtIf is_taken place (used_for (next_use (generations_of self.old)
+            (most_of self.old) (slots_of self.old) place))) self.old self.new }
     {
         if !self.has_taken(place) {
             return;
@@ -83,13 +81,9 @@ impl<T> SetTable<T> {
 
     /// The sets of handles, which were taken, are kept or go. There are no others that were taken.
     pub fn settle_each(&mut self, handles: &[SetHandle])
-        requires within { (i : ℕ) → i < length handles.now → place_at handles.now i
-            < length (slots_of self.old) }
-        requires taken { (p : ℕ) → is_taken (slot_at (slots_of self.old) p) ≡ true → (i : ℕ)
-            × (i < length handles.now) × (place_at handles.now i ≡ p) }
-        ensures turns { Turns is_taken (IsSettled (generations_of self.old) (most_of self.old))
-            (slots_of self.old) (slots_of self.new) }
-        ensures stays { Stays self.old self.new }
+        requires taken { AreAllTaken handles.now (slots_of self.old) }
+        ensures { Changes (Turns is_taken (IsSettled (generations_of self.old)
+            (most_of self.old))) self.old self.new }
     {
         for index in 0..handles.len() {
             self.settle_taken(handles[index].place as usize);
@@ -100,8 +94,7 @@ impl<T> SetTable<T> {
     #[inline]
     fn wait_taken(&mut self, place: usize, frame: u64)
         requires { place < length (slots_of self.old) }
-        ensures slots { slots_of self.new ≡ if_taken place (Use.Waits frame) (slots_of self.old) }
-        ensures stays { Stays self.old self.new }
+        ensures { Changes (AtIf is_taken place (used_for (Use.Waits frame))) self.old self.new }
     {
         if !self.has_taken(place) {
             return;
@@ -111,12 +104,8 @@ impl<T> SetTable<T> {
 
     /// The sets of handles, which were taken, wait for a frame. There are no others that were taken.
     pub fn wait_each(&mut self, handles: &[SetHandle], frame: u64)
-        requires within { (i : ℕ) → i < length handles.now → place_at handles.now i
-            < length (slots_of self.old) }
-        requires taken { (p : ℕ) → is_taken (slot_at (slots_of self.old) p) ≡ true → (i : ℕ)
-            × (i < length handles.now) × (place_at handles.now i ≡ p) }
-        ensures turns { Turns is_taken (WaitsFor frame) (slots_of self.old) (slots_of self.new) }
-        ensures stays { Stays self.old self.new }
+        requires taken { AreAllTaken handles.now (slots_of self.old) }
+        ensures { Changes (Turns is_taken (WaitsFor frame)) self.old self.new }
     {
         for index in 0..handles.len() {
             self.wait_taken(handles[index].place as usize, frame);
@@ -127,8 +116,7 @@ impl<T> SetTable<T> {
     #[inline]
     fn let_go_at(&mut self, place: usize)
         requires { place < length (slots_of self.old) }
-        ensures slots { slots_of self.new ≡ if_held place Use.Going (slots_of self.old) }
-        ensures stays { Stays self.old self.new }
+        ensures { Changes (AtIf holds place (used_for Use.Going)) self.old self.new }
     {
         let slot = &mut self.slots[place];
         match slot.used {
@@ -146,8 +134,7 @@ impl<T> SetTable<T> {
 
     /// Lets all held sets go.
     pub fn let_held_go(&mut self)
-        ensures turns { Turns holds Leaves (slots_of self.old) (slots_of self.new) }
-        ensures stays { Stays self.old self.new }
+        ensures { Changes (Turns holds Leaves) self.old self.new }
     {
         for place in 0..self.slots.len() {
             self.let_go_at(place);
@@ -157,8 +144,7 @@ impl<T> SetTable<T> {
     /// Takes a kept set of a list, if more than so many are kept.
     #[inline]
     fn pick_above(&mut self, list: usize, most: u32) -> Option<usize>
-        ensures picks { PicksAbove list most result (slots_of self.old) (slots_of self.new) }
-        ensures stays { Stays self.old self.new }
+        ensures { Changes (PicksAbove list most result) self.old self.new }
     {
         if self.chain(list).count <= most {
             return None;
@@ -170,9 +156,8 @@ impl<T> SetTable<T> {
     fn trim_list(&mut self, list: usize, most: u32)
         requires list { 2 ≤ list }
         requires within { list < lists_of self.old }
-        ensures turns { Turns (is_in list) MayGo (slots_of self.old) (slots_of self.new) }
+        ensures turns { Changes (Turns (is_in list) MayGo) self.old self.new }
         ensures few { count (is_in list) (slots_of self.new) ≤ most }
-        ensures stays { Stays self.old self.new }
     {
         while let Some(place) = self.pick_above(list, most) {
             self.link(GOING, place, Use::Going);
@@ -182,18 +167,16 @@ impl<T> SetTable<T> {
     /// Lets the kept sets of a layout go.
     pub fn let_kept_go(&mut self, layout: u32)
         requires { layout + 2 < lists_of self.old }
-        ensures turns { Turns (is_kept_of layout) Leaves (slots_of self.old) (slots_of self.new) }
+        ensures turns { Changes (Turns (is_kept_of layout) Leaves) self.old self.new }
         ensures none { (p : ℕ) → is_kept_of layout (slot_at (slots_of self.new) p) ≡ false }
-        ensures stays { Stays self.old self.new }
     {
         self.trim_list(layout as usize + KEPT, 0);
     }
 
     /// Lets kept sets go, but so many of each layout.
     pub fn trim(&mut self, most: u32)
-        ensures turns { Turns is_kept MayGo (slots_of self.old) (slots_of self.new) }
+        ensures turns { Changes (Turns is_kept MayGo) self.old self.new }
         ensures few { (layout : ℕ) → count (is_kept_of layout) (slots_of self.new) ≤ most }
-        ensures stays { Stays self.old self.new }
     {
         for list in KEPT..self.chains.len() {
             self.trim_list(list, most);

@@ -7,8 +7,8 @@ use crate::slot::{FrameChain, Use};
 
 impl<T> SetTable<T> {
     ghost use Rattle.descriptor_table.specs.Slots.{frame_at, is_due, is_of, slot_at};
-    ghost use Rattle.descriptor_table.specs.Tables.{HasTaken, Picks, PicksFirst, Stays};
-    ghost use Rattle.descriptor_table.specs.Tables.{slots_of, used_for, with_use};
+    ghost use Rattle.descriptor_table.specs.Tables.{At, CanWait, Changes, HasTaken, Picks, PicksFirst};
+    ghost use Rattle.descriptor_table.specs.Tables.{slots_of, used_for};
 
     /// How many lists are of later frames.
     fn place_of_frame(&self, frame: u64) -> usize
@@ -23,10 +23,8 @@ impl<T> SetTable<T> {
     /// Lets a set wait for a frame. The list of the open frame is the first.
     #[inline]
     pub(super) fn wait(&mut self, place: usize, frame: u64, used: Use)
-        requires taken { HasTaken place (slots_of self.old) }
-        requires goes { is_of frame (used_for used (slot_at (slots_of self.old) place)) ≡ true }
-        ensures slots { slots_of self.new ≡ with_use place used (slots_of self.old) }
-        ensures stays { Stays self.old self.new }
+        requires { CanWait frame place used (slots_of self.old) }
+        ensures { Changes (At place (used_for used)) self.old self.new }
     {
         if self.is_of_frame(0, frame) {
             self.join(0, place, used);
@@ -37,10 +35,8 @@ impl<T> SetTable<T> {
 
     /// Lets a set wait for a frame, whose list is looked for.
     fn wait_before(&mut self, place: usize, frame: u64, used: Use)
-        requires taken { HasTaken place (slots_of self.old) }
-        requires goes { is_of frame (used_for used (slot_at (slots_of self.old) place)) ≡ true }
-        ensures slots { slots_of self.new ≡ with_use place used (slots_of self.old) }
-        ensures stays { Stays self.old self.new }
+        requires { CanWait frame place used (slots_of self.old) }
+        ensures { Changes (At place (used_for used)) self.old self.new }
     {
         let at = self.place_of_frame(frame);
         if self.is_of_frame(at, frame) {
@@ -69,8 +65,7 @@ impl<T> SetTable<T> {
         requires taken { HasTaken place (slots_of self.old) }
         requires goes { is_of (frame_at self.old.frames.items at).frame
             (used_for used (slot_at (slots_of self.old) place)) ≡ true }
-        ensures slots { slots_of self.new ≡ with_use place used (slots_of self.old) }
-        ensures stays { Stays self.old self.new }
+        ensures { Changes (At place (used_for used)) self.old self.new }
     {
         let chain = &mut self.frames[at];
         self.next[place] = chain.first;
@@ -87,8 +82,7 @@ impl<T> SetTable<T> {
             → (frame_at self.old.frames.items i).frame < frame }
         requires taken { HasTaken place (slots_of self.old) }
         requires goes { is_of frame (used_for used (slot_at (slots_of self.old) place)) ≡ true }
-        ensures slots { slots_of self.new ≡ with_use place used (slots_of self.old) }
-        ensures stays { Stays self.old self.new }
+        ensures { Changes (At place (used_for used)) self.old self.new }
     {
         let chain = FrameChain {
             frame,
@@ -104,8 +98,7 @@ impl<T> SetTable<T> {
     /// Takes a set that waits for a frame up to this one, if there is one.
     #[inline]
     pub(super) fn pick_due(&mut self, frame: u64) -> Option<usize>
-        ensures picks { PicksFirst (is_due frame) result (slots_of self.old) (slots_of self.new) }
-        ensures stays { Stays self.old self.new }
+        ensures { Changes (PicksFirst (is_due frame) result) self.old self.new }
     {
         let count = self.frames.len();
         if count == 0 {
@@ -126,10 +119,8 @@ impl<T> SetTable<T> {
     fn pick_last(&mut self) -> usize
         requires some { 0 < length self.old.frames.items }
         requires one { (frame_at self.old.frames.items (length self.old.frames.items - 1)).count ≡ 1 }
-        ensures picks { Picks (is_of (frame_at self.old.frames.items
-            (length self.old.frames.items - 1)).frame) result (slots_of self.old)
-            (slots_of self.new) }
-        ensures stays { Stays self.old self.new }
+        ensures { Changes (Picks (is_of (frame_at self.old.frames.items
+            (length self.old.frames.items - 1)).frame) result) self.old self.new }
     {
         match self.frames.pop() {
             Some(chain) => {
@@ -146,10 +137,8 @@ impl<T> SetTable<T> {
     fn pick_first(&mut self) -> usize
         requires some { 0 < length self.old.frames.items }
         requires more { 1 < (frame_at self.old.frames.items (length self.old.frames.items - 1)).count }
-        ensures picks { Picks (is_of (frame_at self.old.frames.items
-            (length self.old.frames.items - 1)).frame) result (slots_of self.old)
-            (slots_of self.new) }
-        ensures stays { Stays self.old self.new }
+        ensures { Changes (Picks (is_of (frame_at self.old.frames.items
+            (length self.old.frames.items - 1)).frame) result) self.old self.new }
     {
         let last = self.frames.len() - 1;
         let chain = &mut self.frames[last];

@@ -9,7 +9,8 @@ impl<T> SetTable<T> {
     ghost use Rattle.descriptor_table.specs.declared.slot.Slot.{Slot};
     ghost use Rattle.descriptor_table.specs.Sets.{AreHeldOnce};
     ghost use Rattle.descriptor_table.specs.Slots.{IsNowhere, slot_at};
-    ghost use Rattle.descriptor_table.specs.Tables.{Stays, TookEach, number_of, place_at, slots_of, with_use};
+    ghost use Rattle.descriptor_table.specs.Tables.{At, Changes, Stays, TookEach, number_of};
+    ghost use Rattle.descriptor_table.specs.Tables.{slots_of, used_for};
 
     /// The set of a slot that is in no list is in use for something else, and in none then.
     #[inline]
@@ -17,8 +18,7 @@ impl<T> SetTable<T> {
         requires within { place < length (slots_of self.old) }
         requires was { IsNowhere (slot_at (slots_of self.old) place).used }
         requires used { IsNowhere used }
-        ensures slots { slots_of self.new ≡ with_use place used (slots_of self.old) }
-        ensures stays { Stays self.old self.new }
+        ensures { Changes (At place (used_for used)) self.old self.new }
     {
         self.slots[place].used = used;
     }

@@ -8,9 +8,9 @@ use std::alloc::AllocError;
 
 impl<T> SetTable<T> {
     ghost use Rattle.descriptor_table.specs.Slots.{chain_at, is_kept_of, slot_at};
-    ghost use Rattle.descriptor_table.specs.Tables.{AreAged, HasListRoom, Stays, aged, generations_of};
-    ghost use Rattle.descriptor_table.specs.Tables.{lists_of, lists_with, most_of, number_of, removed_at};
-    ghost use Rattle.descriptor_table.specs.Tables.{slots_of};
+    ghost use Rattle.descriptor_table.specs.Tables.{AreAged, At, Changes, HasListRoom, HasSettings};
+    ghost use Rattle.descriptor_table.specs.Tables.{KeepsSettings, aged, generations_of, lists_of};
+    ghost use Rattle.descriptor_table.specs.Tables.{lists_with, removed_at, settings_of, slots_of};
 
     /// Whether a layout was added.
     #[inline]
@@ -33,10 +33,7 @@ impl<T> SetTable<T> {
         ensures room { OnOk result (HasListRoom self.new) }
         ensures fits { HasListRoom self.old → IsOk result }
         ensures slots { self.new.slots ≡ self.old.slots }
-        ensures lists { lists_of self.new ≡ lists_of self.old }
-        ensures generations { generations_of self.new ≡ generations_of self.old }
-        ensures number { number_of self.new ≡ number_of self.old }
-        ensures most { most_of self.new ≡ most_of self.old }
+        ensures settings { KeepsSettings self.old self.new }
     {
         self.chains.reserve(KEPT + 1)?;
         self.generations.reserve(KEPT + 1)
@@ -46,13 +43,11 @@ impl<T> SetTable<T> {
     fn add_list(&mut self)
         requires chains { lists_of self.old < vec_capacity self.old.chains }
         requires generations { lists_of self.old < vec_capacity self.old.generations }
-        ensures lists { lists_of self.new ≡ lists_of self.old + 1 }
+        ensures settings { HasSettings (record (settings_of self.old)
+            { lists = lists_of self.old + 1 }) self.new }
         ensures room { vec_capacity self.new.chains ≡ vec_capacity self.old.chains }
         ensures more { vec_capacity self.new.generations ≡ vec_capacity self.old.generations }
         ensures slots { self.new.slots ≡ self.old.slots }
-        ensures same { generations_of self.new ≡ generations_of self.old }
-        ensures number { number_of self.new ≡ number_of self.old }
-        ensures most { most_of self.new ≡ most_of self.old }
     {
         self.chains.push_reserved(Chain { first: 0, count: 0 });
         self.generations.push_reserved(0);
@@ -61,11 +56,9 @@ impl<T> SetTable<T> {
     /// Adds a layout, over memory that was reserved.
     pub fn add_layout(&mut self)
         requires room { HasListRoom self.old }
-        ensures lists { lists_of self.new ≡ lists_with (lists_of self.old) }
-        ensures generations { generations_of self.new ≡ generations_of self.old }
+        ensures settings { HasSettings (record (settings_of self.old)
+            { lists = lists_with (lists_of self.old) }) self.new }
         ensures slots { self.new.slots ≡ self.old.slots }
-        ensures number { number_of self.new ≡ number_of self.old }
-        ensures most { most_of self.new ≡ most_of self.old }
     {
         if self.chains.len() > 0 {
             self.add_list();
@@ -80,17 +73,14 @@ impl<T> SetTable<T> {
     #[inline]
     fn age_at(&mut self, place: usize)
         requires { place < length (slots_of self.old) }
-        ensures slots { slots_of self.new ≡ slice_set (slots_of self.old) place
-            (aged (slot_at (slots_of self.old) place)) }
-        ensures stays { Stays self.old self.new }
+        ensures { Changes (At place aged) self.old self.new }
     {
         self.slots[place].leaves = true;
     }
 
     /// The sets that there are aren't kept when they come back.
     pub fn age(&mut self)
-        ensures aged { AreAged (slots_of self.old) (slots_of self.new) }
-        ensures stays { Stays self.old self.new }
+        ensures { Changes AreAged self.old self.new }
     {
         for place in 0..self.slots.len() {
             self.age_at(place);
@@ -103,14 +93,11 @@ impl<T> SetTable<T> {
         requires layout { layout + 2 < lists_of self.old }
         requires none_kept { (p : ℕ) → is_kept_of layout (slot_at (slots_of self.old) p) ≡ false }
         requires next { generations_of self.old layout < 4294967295 }
-        ensures generations { generations_of self.new ≡ removed_at layout
-            (generations_of self.old) }
+        ensures settings { HasSettings (record (settings_of self.old)
+            { generations = removed_at layout (generations_of self.old) }) self.new }
         ensures past { (p : ℕ) → (slot_at (slots_of self.new) p).layout ≡ layout → (slot_at
             (slots_of self.new) p).layout_generation < generations_of self.new layout }
         ensures slots { self.new.slots ≡ self.old.slots }
-        ensures lists { lists_of self.new ≡ lists_of self.old }
-        ensures number { number_of self.new ≡ number_of self.old }
-        ensures most { most_of self.new ≡ most_of self.old }
     {
         self.generations[layout as usize + KEPT] += 1;
     }
@@ -118,11 +105,8 @@ impl<T> SetTable<T> {
     /// Keeps at most so many sets of a layout from now on. No more are kept now.
     pub fn set_most(&mut self, most: u32)
         requires { (k : ℕ) → 2 ≤ k → (chain_at self.old.chains.items k).count ≤ most }
-        ensures most { most_of self.new ≡ most }
+        ensures settings { HasSettings (record (settings_of self.old) { most = most }) self.new }
         ensures slots { self.new.slots ≡ self.old.slots }
-        ensures lists { lists_of self.new ≡ lists_of self.old }
-        ensures generations { generations_of self.new ≡ generations_of self.old }
-        ensures number { number_of self.new ≡ number_of self.old }
     {
         self.most = most;
     }

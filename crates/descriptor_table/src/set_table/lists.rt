@@ -6,9 +6,9 @@ use crate::slot::{Chain, Use};
 
 impl<T> SetTable<T> {
     ghost use Rattle.descriptor_table.specs.Slots.{chain_at, goes, is_in, is_kept_of, slot_at};
-    ghost use Rattle.descriptor_table.specs.Tables.{IsTaken, PicksFirst, Stays, count, count_of};
-    ghost use Rattle.descriptor_table.specs.Tables.{generations_of, is_kept, lists_of, most_of};
-    ghost use Rattle.descriptor_table.specs.Tables.{slots_of, used_for, with_use};
+    ghost use Rattle.descriptor_table.specs.Tables.{At, Changes, IsTaken, PicksFirst, count, count_of};
+    ghost use Rattle.descriptor_table.specs.Tables.{generations_of, is_kept, lists_of};
+    ghost use Rattle.descriptor_table.specs.Tables.{most_of, slots_of, used_for};
 
     /// A list by its number. One that there isn't has no slots.
     #[inline]
@@ -35,8 +35,7 @@ impl<T> SetTable<T> {
     /// Takes the first slot of a list out of it.
     #[inline]
     pub(super) fn pick(&mut self, list: usize) -> Option<usize>
-        ensures picks { PicksFirst (is_in list) result (slots_of self.old) (slots_of self.new) }
-        ensures stays { Stays self.old self.new }
+        ensures { Changes (PicksFirst (is_in list) result) self.old self.new }
     {
         let chain = self.chains.get_mut(list)?;
         if chain.count == 0 {
@@ -59,8 +58,7 @@ impl<T> SetTable<T> {
             → (slot_at (slots_of self.old) place).layout_generation ≡ generations_of self.old
             (slot_at (slots_of self.old) place).layout }
         requires few { 2 ≤ list → count_of list self.old < most_of self.old }
-        ensures slots { slots_of self.new ≡ with_use place used (slots_of self.old) }
-        ensures stays { Stays self.old self.new }
+        ensures { Changes (At place (used_for used)) self.old self.new }
     {
         let chain = &mut self.chains[list];
         self.next[place] = chain.first;
@@ -72,9 +70,7 @@ impl<T> SetTable<T> {
     /// Takes a kept set of a layout.
     #[inline]
     pub fn take_kept(&mut self, layout: u32) -> Option<usize>
-        ensures picks { PicksFirst (is_kept_of layout) result (slots_of self.old)
-            (slots_of self.new) }
-        ensures stays { Stays self.old self.new }
+        ensures { Changes (PicksFirst (is_kept_of layout) result) self.old self.new }
     {
         self.pick(layout as usize + KEPT)
     }

@@ -9,10 +9,10 @@ use std::mem;
 impl<T> SetTable<T> {
     ghost use Rattle.descriptor_table.specs.Sets.{find, is_held};
     ghost use Rattle.descriptor_table.specs.Slots.{IsNowhere, goes, is_due, slot_at};
-    ghost use Rattle.descriptor_table.specs.Tables.{GivesFirst, HasRoom, HasTaken, IsTaken};
-    ghost use Rattle.descriptor_table.specs.Tables.{Puts, Renews, Stays, generations_of, is_usable};
-    ghost use Rattle.descriptor_table.specs.Tables.{lists_of, most_of, number_of, renewed, slots_of};
-    ghost use Rattle.descriptor_table.specs.Tables.{vacated, with_use};
+    ghost use Rattle.descriptor_table.specs.Tables.{At, Changes, GivesFirst, HasRoom, HasTaken};
+    ghost use Rattle.descriptor_table.specs.Tables.{IsTaken, KeepsSettings, Puts, Renews, Stays};
+    ghost use Rattle.descriptor_table.specs.Tables.{generations_of, is_usable, lists_of, number_of};
+    ghost use Rattle.descriptor_table.specs.Tables.{slots_of, used_for, vacated};
 
     /// Puts a set into a slot, over memory that was reserved. Gives its place.
     #[inline]
@@ -22,10 +22,7 @@ impl<T> SetTable<T> {
         ensures puts { Puts (generations_of self.old) layout set result (slots_of self.old)
             (slots_of self.new) }
         ensures reserve { (n : ℕ) → HasRoom (n + 1) self.old → HasRoom n self.new }
-        ensures number { number_of self.new ≡ number_of self.old }
-        ensures most { most_of self.new ≡ most_of self.old }
-        ensures lists { lists_of self.new ≡ lists_of self.old }
-        ensures generations { generations_of self.new ≡ generations_of self.old }
+        ensures settings { KeepsSettings self.old self.new }
     {
         if let Some(place) = self.pick(VACANT) {
             self.fill(place, layout, set);
@@ -40,16 +37,14 @@ impl<T> SetTable<T> {
         requires taken { IsTaken place (slots_of self.old) }
         requires empty { (slot_at (slots_of self.old) place).set ≡ None }
         requires layout { layout + 2 < lists_of self.old }
-        ensures slots { slots_of self.new ≡ slice_set (slots_of self.old) place
-            (record {
-              generation = (slot_at (slots_of self.old) place).generation;
-              layout = layout;
-              layout_generation = generations_of self.old layout;
-              used = Use.Taken;
-              leaves = false;
-              set = Some set;
-            }) }
-        ensures stays { Stays self.old self.new }
+        ensures { Changes (At place (λ slot. record {
+          generation = slot.generation;
+          layout = layout;
+          layout_generation = generations_of self.old layout;
+          used = Use.Taken;
+          leaves = false;
+          set = Some set;
+        })) self.old self.new }
     {
         let slot = Slot {
             generation: self.slots[place].generation,
@@ -82,10 +77,7 @@ impl<T> SetTable<T> {
         ensures puts { Puts (generations_of self.old) layout set result (slots_of self.old)
             (slots_of self.new) }
         ensures reserve { (n : ℕ) → HasRoom (n + 1) self.old → HasRoom n self.new }
-        ensures number { number_of self.new ≡ number_of self.old }
-        ensures most { most_of self.new ≡ most_of self.old }
-        ensures lists { lists_of self.new ≡ lists_of self.old }
-        ensures generations { generations_of self.new ≡ generations_of self.old }
+        ensures settings { KeepsSettings self.old self.new }
     {
         let place = self.slots.len();
         let layout_generation = self.generation(layout);
@@ -107,9 +99,7 @@ impl<T> SetTable<T> {
         requires taken { IsTaken place (slots_of self.old) }
         requires next { (slot_at (slots_of self.old) place).generation < 4294967295 }
         requires used { IsNowhere used }
-        ensures renews { Renews (number_of self.old) place used result (slots_of self.old)
-            (slots_of self.new) }
-        ensures stays { Stays self.old self.new }
+        ensures { Changes (Renews (number_of self.old) place used result) self.old self.new }
     {
         let slot = &mut self.slots[place];
         slot.generation += 1;
@@ -126,9 +116,8 @@ impl<T> SetTable<T> {
     pub fn hold(&mut self, place: usize) -> SetHandle
         requires taken { IsTaken place (slots_of self.old) }
         requires next { (slot_at (slots_of self.old) place).generation < 4294967295 }
-        ensures renews { Renews (number_of self.old) place Use.Held result (slots_of self.old)
-            (slots_of self.new) }
-        ensures stays { Stays self.old self.new }
+        ensures { Changes (Renews (number_of self.old) place Use.Held result) self.old
+            self.new }
     {
         self.renew(place, Use::Held)
     }
@@ -138,9 +127,8 @@ impl<T> SetTable<T> {
     pub fn draw(&mut self, place: usize, frame: u64) -> SetHandle
         requires taken { HasTaken place (slots_of self.old) }
         requires next { (slot_at (slots_of self.old) place).generation < 4294967295 }
-        ensures renews { Renews (number_of self.old) place (Use.Drawn frame) result (slots_of self.old)
-            (slots_of self.new) }
-        ensures stays { Stays self.old self.new }
+        ensures { Changes (Renews (number_of self.old) place (Use.Drawn frame) result)
+            self.old self.new }
     {
         let handle = self.renew(place, Use::Taken);
         self.wait(place, frame, Use::Drawn(frame));
@@ -152,9 +140,7 @@ impl<T> SetTable<T> {
     fn empty(&mut self, place: usize) -> Option<T>
         requires taken { IsTaken place (slots_of self.old) }
         ensures set { result ≡ (slot_at (slots_of self.old) place).set }
-        ensures slots { slots_of self.new ≡ slice_set (slots_of self.old) place
-            (record (slot_at (slots_of self.old) place) { set = None }) }
-        ensures stays { Stays self.old self.new }
+        ensures empties { Changes (At place (λ slot. record slot { set = None })) self.old self.new }
     {
         self.slots[place].set.take()
     }
@@ -164,8 +150,7 @@ impl<T> SetTable<T> {
     fn vacate(&mut self, place: usize)
         requires taken { IsTaken place (slots_of self.old) }
         requires empty { (slot_at (slots_of self.old) place).set ≡ None }
-        ensures slots { slots_of self.new ≡ with_use place Use.Vacant (slots_of self.old) }
-        ensures stays { Stays self.old self.new }
+        ensures { Changes (At place (used_for Use.Vacant)) self.old self.new }
     {
         if self.slots[place].generation < u32::MAX {
             self.link(VACANT, place, Use::Vacant);
@@ -179,8 +164,7 @@ impl<T> SetTable<T> {
     fn take_out(&mut self, place: usize) -> Option<T>
         requires taken { IsTaken place (slots_of self.old) }
         ensures set { result ≡ (slot_at (slots_of self.old) place).set }
-        ensures slots { IsSome result → slots_of self.new ≡ slice_set (slots_of self.old) place
-            (vacated (slot_at (slots_of self.old) place)) }
+        ensures slots { IsSome result → At place vacated (slots_of self.old) (slots_of self.new) }
         ensures stays { Stays self.old self.new }
     {
         let set = self.empty(place)?;
@@ -191,8 +175,7 @@ impl<T> SetTable<T> {
     /// Takes a set that was let go out of its slot.
     #[inline]
     pub(crate) fn take_going(&mut self) -> Option<T>
-        ensures gives { GivesFirst goes result (slots_of self.old) (slots_of self.new) }
-        ensures stays { Stays self.old self.new }
+        ensures { Changes (GivesFirst goes result) self.old self.new }
     {
         let place = self.pick(GOING)?;
         self.take_out(place)
@@ -201,8 +184,7 @@ impl<T> SetTable<T> {
     /// Takes a set that waits for a frame up to this one out of its slot.
     #[inline]
     pub(crate) fn take_due(&mut self, frame: u64) -> Option<T>
-        ensures gives { GivesFirst (is_due frame) result (slots_of self.old) (slots_of self.new) }
-        ensures stays { Stays self.old self.new }
+        ensures { Changes (GivesFirst (is_due frame) result) self.old self.new }
     {
         let place = self.pick_due(frame)?;
         self.take_out(place)
@@ -212,8 +194,8 @@ impl<T> SetTable<T> {
     pub fn remove(&mut self, handle: SetHandle) -> Option<T>
         ensures set { result ≡ find (number_of self.old) 0 false (slots_of self.old) handle }
         ensures held { IsSome result → is_held (number_of self.old) (slots_of self.old) handle ≡ true }
-        ensures slots { IsSome result → slots_of self.new ≡ slice_set (slots_of self.old) handle.place
-            (vacated (slot_at (slots_of self.old) handle.place)) }
+        ensures slots { IsSome result → At handle.place vacated (slots_of self.old)
+            (slots_of self.new) }
         ensures none { result ≡ None → slots_of self.new ≡ slots_of self.old }
         ensures stays { Stays self.old self.new }
     {

@@ -9,7 +9,7 @@ use Rattle.descriptor_renderer.proofs.layout_registry.LayoutRegistry.add.Goals a
 pub invariant_of-self-clause-meant : goal.invariant_of-self-clause-meant
 invariant_of-self-clause-meant g c = λ p known is.
     let mid = c.put-place.new.self in
-    elim (added_only (number_of mid) c.put-place.result c.args.layout c.hold.result (slots_of c.reserve.new.self.table) (slots_of mid) (slots_of c.hold.new.self) (generations_of c.reserve.new.self.table) c.put-place.ensures.puts c.hold.ensures.renews p known is) [
+    elim (added_only (number_of mid) c.put-place.result c.args.layout c.hold.result (slots_of c.reserve.new.self.table) (slots_of mid) (slots_of c.hold.new.self) (generations_of c.reserve.new.self.table) c.put-place.ensures.puts c.hold.ensures.slots p known is) [
       | inl was ↦ c.reserve.new.self.meant p known was
       | inr same ↦ subst (IsMeant g.D.DescriptorDevice.meaning) (sym same) c.requires.meant
     ]
@@ -19,20 +19,20 @@ returns-clause-names g c =
     let old = c.args.self.now.table in
     let mid = c.put-place.new.self in
     let new = c.hold.new.self in
-    let names = added_names (number_of mid) c.put-place.result c.args.layout c.hold.result (slots_of c.reserve.new.self.table) (slots_of mid) (slots_of new) (generations_of c.reserve.new.self.table) c.put-place.ensures.puts c.hold.ensures.renews in
+    let names = added_names (number_of mid) c.put-place.result c.args.layout c.hold.result (slots_of c.reserve.new.self.table) (slots_of mid) (slots_of new) (generations_of c.reserve.new.self.table) c.put-place.ensures.puts c.hold.ensures.slots in
     let from = subst (λ l. Names c.hold.result c.args.layout (sets_of (number_of mid) 0 false l) (sets_of (number_of mid) 0 false (slots_of new))) c.reserve.ensures.slots names in
-    let to = subst (λ n. Names c.hold.result c.args.layout (sets_of (number_of mid) 0 false (slots_of old)) (sets_of n 0 false (slots_of new))) (sym c.hold.ensures.stays.number) from in
-    subst (λ n. Names c.hold.result c.args.layout (sets_of n 0 false (slots_of old)) (sets_of (number_of new) 0 false (slots_of new))) (c.put-place.ensures.number ∙ c.reserve.ensures.registry) to
+    let to = subst (λ n. Names c.hold.result c.args.layout (sets_of (number_of mid) 0 false (slots_of old)) (sets_of n 0 false (slots_of new))) (sym c.hold.ensures.stays.settings.number) from in
+    subst (λ n. Names c.hold.result c.args.layout (sets_of n 0 false (slots_of old)) (sets_of (number_of new) 0 false (slots_of new))) (c.put-place.ensures.settings.number ∙ c.reserve.ensures.registry) to
 
 pub returns-clause-counted : goal.returns-clause-counted
 returns-clause-counted g c = λ generations counted.
     let mid = c.put-place.new.self in
     added_counted (number_of mid) c.put-place.result c.args.layout c.hold.result (slots_of c.reserve.new.self.table)
     (slots_of mid) (slots_of c.hold.new.self) (generations_of c.reserve.new.self.table) c.put-place.ensures.puts
-    c.hold.ensures.renews generations (subst (AreCounted generations) (sym c.reserve.ensures.slots) counted)
+    c.hold.ensures.slots generations (subst (AreCounted generations) (sym c.reserve.ensures.slots) counted)
 
 pub returns-clause-grows : goal.returns-clause-grows
 returns-clause-grows g c =
     let mid = c.put-place.new.self in
     let new = slots_of c.hold.new.self in
-    subst (λ l. Grows l new) c.reserve.ensures.slots (added_grows (number_of mid) c.put-place.result c.args.layout c.hold.result (slots_of c.reserve.new.self.table) (slots_of mid) new (generations_of c.reserve.new.self.table) c.put-place.ensures.puts c.hold.ensures.renews)
+    subst (λ l. Grows l new) c.reserve.ensures.slots (added_grows (number_of mid) c.put-place.result c.args.layout c.hold.result (slots_of c.reserve.new.self.table) (slots_of mid) new (generations_of c.reserve.new.self.table) c.put-place.ensures.puts c.hold.ensures.slots)

@@ -17,4 +17,4 @@ returns-clause-names g c = λ some.
     let h = c.args.handle.slot in
     let n = number_of old in
     let names = left_names n h (slots_of old) (slots_of new) (c.remove.ensures.held some) (c.remove.ensures.slots some) in
-    subst (λ m. LoseNames (h ∷ []) (sets_of n 0 false (slots_of old)) (sets_of m 0 false (slots_of new))) (sym c.remove.ensures.stays.number) names
+    subst (λ m. LoseNames (h ∷ []) (sets_of n 0 false (slots_of old)) (sets_of m 0 false (slots_of new))) (sym c.remove.ensures.stays.settings.number) names

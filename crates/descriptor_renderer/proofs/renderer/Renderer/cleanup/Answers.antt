@@ -1,24 +1,20 @@
 use Rattle.std.proofs.Common.{arith}
 use Rattle.descriptor_renderer.specs.LayoutRegistries.{layout_slots}
-use Rattle.descriptor_renderer.specs.Stores.{slots_in}
-use Rattle.descriptor_renderer.proofs.Owned.{counted_stays, own_stays}
+use Rattle.descriptor_renderer.specs.Stores.{NoneComes, slots_in}
+use Rattle.descriptor_renderer.proofs.Owned.{sets_settle}
 use Rattle.descriptor_renderer.proofs.Showing.{cleaned_names}
 use Rattle.descriptor_renderer.proofs.Remaining.{cleaned_empty, cleaned_kept}
 use Rattle.descriptor_renderer.proofs.renderer.Renderer.cleanup.Goals as goal
 
-pub invariant_of-self-clause-own : goal.invariant_of-self-clause-own
-invariant_of-self-clause-own g c = own_stays 0 (layout_slots c.args.self.now.layouts) c.args.self.now.store c.cleanup.new.self c.cleanup.ensures.settles c.cleanup.ensures.stays.generations c.args.self.now.own
-
-pub invariant_of-self-clause-counted : goal.invariant_of-self-clause-counted
-invariant_of-self-clause-counted g c = counted_stays (layout_slots c.args.self.now.layouts) c.args.self.now.store c.cleanup.new.self c.cleanup.ensures.stays.generations c.args.self.now.counted
-
-pub invariant_of-self-clause-rising : goal.invariant_of-self-clause-rising
-invariant_of-self-clause-rising g c = c.cleanup.ensures.settles.frames c.args.self.now.frame (omega arith) c.args.self.now.rising
+pub invariant_of-self-clause-sets : goal.invariant_of-self-clause-sets
+invariant_of-self-clause-sets g c =
+    sets_settle NoneComes 0 (layout_slots c.args.self.now.layouts) c.args.self.now.frame c.args.self.now.renderer c.args.self.now.store c.cleanup.new.self c.cleanup.ensures.settles (omega arith)
+    (λ n x none. absurd none) c.args.self.now.sets
 
 pub returns-clause-emptied : goal.returns-clause-emptied
 returns-clause-emptied g c = λ held waiting.
     let old = c.args.self.now.store in
-    c.cleanup.ensures.emptied (cleaned_empty (slots_in old) (slots_in c.cleanup.new.self) c.args.self.now.rest.placed c.cleanup.ensures.cleaned held waiting)
+    c.cleanup.ensures.emptied (cleaned_empty (slots_in old) (slots_in c.cleanup.new.self) c.args.self.now.sets.rest.placed c.cleanup.ensures.cleaned held waiting)
 
 pub returns-clause-none_kept : goal.returns-clause-none_kept
 returns-clause-none_kept g c = cleaned_kept (slots_in c.args.self.now.store) (slots_in c.cleanup.new.self) c.cleanup.ensures.cleaned

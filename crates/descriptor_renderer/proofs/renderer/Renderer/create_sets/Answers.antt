@@ -1,3 +1,4 @@
+use Rattle.descriptor_renderer.specs.Own.{HasSetsOf}
 use Rattle.std.proofs.Common.{◌+◌, ◌-◌, ◌<◌, ◌++◌, slice_index_or, inl, refl, sym, ap, subst, ◌∙◌, arith}
 use Rattle.descriptor_table.specs.Sets.{NameEach, sets_of}
 use Rattle.descriptor_table.specs.declared.handle.SetHandle.{SetHandle}
@@ -5,40 +6,39 @@ use Rattle.descriptor_table.proofs.Holding.{same_default}
 use Rattle.descriptor_table.specs.Slots.{slot_at}
 use Rattle.descriptor_table.specs.Tables.{came_under, current}
 use Rattle.descriptor_renderer.specs.LayoutRegistries.{layout_slots}
-use Rattle.descriptor_renderer.specs.Stores.{BringsAtLast, HoldAtLast, current_in, generations_in, kept_of, number_of, slots_in}
-use Rattle.descriptor_renderer.proofs.Owned.{counted_stays, found_set, if_some, layout_here, layout_listed, own_comes, own_known, refused_names}
+use Rattle.descriptor_renderer.specs.Stores.{BringsAtLast, ComesOf, HoldAtLast, current_in, generations_in, kept_of, number_of, slots_in}
+use Rattle.descriptor_renderer.proofs.Owned.{found_set, if_some, layout_here, layout_listed, own_comes, own_known, refused_names, sets_settle}
+use Rattle.descriptor_renderer.proofs.renderer.Renderer.create_sets.Goals.{After-create_each}
 use Rattle.descriptor_renderer.proofs.renderer.Renderer.create_sets.Goals as goal
 
-pub create_each-requires-clause-layout : goal.create_each-requires-clause-layout
-create_each-requires-clause-layout g c =
+pub create_each-requires-clause-can : goal.create_each-requires-clause-can
+create_each-requires-clause-can g c =
     let old = c.args.self.now in
     let here = layout_here old.layouts c.args.layout c.in-Some.known.now c.place.result c.place.ensures (sym c.in-Some.ensures.layout) in
-    subst (λ n. c.place.result + 2 < n) (sym old.lists) (layout_listed (layout_slots old.layouts) c.place.result c.in-Some.known.now here)
+    record { meant = c.in-Some.ensures.meant; layout = subst (λ n. c.place.result + 2 < n) (sym old.sets.lists) (layout_listed (layout_slots old.layouts) c.place.result c.in-Some.known.now here); rest = old.sets.rest }
 
-pub invariant_of-self-2-clause-own : goal.invariant_of-self-2-clause-own
-invariant_of-self-2-clause-own g c =
+-- the sets are of their layouts
+sets : (g : _) (c : After-create_each g) → HasSetsOf (layout_slots c.args.self.now.layouts) c.args.self.now.frame c.args.self.now.renderer c.create_each.new.self
+sets g c =
     let old = c.args.self.now in
     let known = c.in-Some.known.now in
-    let here = layout_here old.layouts c.args.layout known c.place.result c.place.ensures (sym c.in-Some.ensures.layout) in
-    own_comes 0 c.place.result (layout_slots old.layouts) known old.store c.create_each.new.self here c.create_each.ensures.settles c.create_each.ensures.stays.generations old.own
+    sets_settle (ComesOf g.D.DescriptorDevice.meaning known.layout c.place.result)
+    0 (layout_slots old.layouts) old.frame old.renderer old.store c.create_each.new.self c.create_each.ensures.settles (omega arith)
+    (own_comes g.D.DescriptorDevice.meaning c.place.result (layout_slots old.layouts) known (layout_here old.layouts c.args.layout known c.place.result c.place.ensures (sym c.in-Some.ensures.layout))) old.sets
 
-pub invariant_of-self-2-clause-counted : goal.invariant_of-self-2-clause-counted
-invariant_of-self-2-clause-counted g c = counted_stays (layout_slots c.args.self.now.layouts) c.args.self.now.store c.create_each.new.self c.create_each.ensures.stays.generations c.args.self.now.counted
-
-pub invariant_of-self-2-clause-rising : goal.invariant_of-self-2-clause-rising
-invariant_of-self-2-clause-rising g c = c.create_each.ensures.settles.frames c.args.self.now.frame (omega arith) c.args.self.now.rising
+pub invariant_of-self-2-clause-sets : goal.invariant_of-self-2-clause-sets
+invariant_of-self-2-clause-sets g c = sets g (goal.at.invariant_of-self-2-clause-sets g c).After-create_each
 
 pub returns-in-Ok-clause-creates : goal.returns-in-Ok-clause-creates
 returns-in-Ok-clause-creates g c =
     let old = c.args.self.now in
     let known = c.in-Some.known.now in
     let here = layout_here old.layouts c.args.layout known c.place.result c.place.ensures (sym c.in-Some.ensures.layout) in
-    let own = own_comes 0 c.place.result (layout_slots old.layouts) known old.store c.create_each.new.self here c.create_each.ensures.settles c.create_each.ensures.stays.generations old.own in
     let creates = c.in-Ok.ensures.creates in
     let given = creates.0 in
     let named = creates.3 in
     let new = slots_in c.create_each.new.self in
-    let names = subst (λ n. NameEach given (sets_of n old.frame old.is_open (slots_in old.store)) (sets_of n old.frame old.is_open new)) old.numbers_sets (named.names old.frame old.is_open) in
+    let names = subst (λ n. NameEach given (sets_of n old.frame old.is_open (slots_in old.store)) (sets_of n old.frame old.is_open new)) old.sets.number (named.names old.frame old.is_open) in
     if_some _ known _ c.in-Some.ensures.layout (
       given,
       creates.1 ∙ ap (λ l. l ++ given) c.reserve.ensures.items,
@@ -49,12 +49,12 @@ returns-in-Ok-clause-creates g c =
             let h = slice_index_or given i e in
             let same = ap (λ (h : SetHandle). h.place) (same_default given i e (record { renderer = 0; place = 0; generation = 0 }) lt) in
             own_known g.D.DescriptorDevice.meaning (generations_in c.create_each.new.self) (layout_slots old.layouts)
-            new own h.place c.place.result x known (found_set old.renderer old.frame old.is_open new h x found)
+            new (sets g (goal.at.returns-in-Ok-clause-creates g c).After-create_each).own h.place c.place.result x known (found_set old.renderer old.frame old.is_open new h x found)
             (ap (λ p. came_under (slot_at new p)) same ∙ named.of_layout i lt
-            ∙ ap (λ generations. current generations c.place.result) (sym c.create_each.ensures.stays.generations))
+            ∙ ap (λ generations. current generations c.place.result) (sym c.create_each.ensures.settles.stays.generations))
             here;
       },
-      subst (λ n. HoldAtLast n (current_in c.args.layout.slot.place old.store) given (slots_in old.store) new) old.numbers_sets (subst (λ p. HoldAtLast (number_of old.store) (current_in p old.store) given (slots_in old.store) new) c.place.ensures creates.4),
+      subst (λ n. HoldAtLast n (current_in c.args.layout.slot.place old.store) given (slots_in old.store) new) old.sets.number (subst (λ p. HoldAtLast (number_of old.store) (current_in p old.store) given (slots_in old.store) new) c.place.ensures creates.4),
     )
 
 pub returns-in-Err-clause-stay : goal.returns-in-Err-clause-stay

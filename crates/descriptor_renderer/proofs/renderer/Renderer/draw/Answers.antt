@@ -1,37 +1,37 @@
+use Rattle.descriptor_renderer.specs.Own.{HasSetsOf}
 use Rattle.std.proofs.Common.{◌&&◌, ◌+◌, ◌<◌, ◌==◌, ◌∙◌, ◌≡◌, ap, arith, eq-eqb, refl, subst, sym, true}
 use Rattle.descriptor_table.specs.Sets.{Names, sets_of}
 use Rattle.descriptor_table.specs.Tables.{current}
 use Rattle.descriptor_table.specs.declared.slot.Use.TheVariants.{Drawn}
 use Rattle.descriptor_renderer.specs.LayoutRegistries.{layout_slots}
-use Rattle.descriptor_renderer.specs.Stores.{HandlesNew, generations_in, kept_of, slots_in}
-use Rattle.descriptor_renderer.proofs.Owned.{counted_stays, if_some, layout_here, layout_listed, own_comes, own_known, refused_names}
+use Rattle.descriptor_renderer.specs.Stores.{ComesOf, HandlesNew, generations_in, kept_of, slots_in}
+use Rattle.descriptor_renderer.proofs.Owned.{if_some, layout_here, layout_listed, own_comes, own_known, refused_names, sets_settle}
+use Rattle.descriptor_renderer.proofs.renderer.Renderer.draw.Goals.{After-draw}
 use Rattle.descriptor_renderer.proofs.renderer.Renderer.draw.Goals as goal
 
-pub draw-requires-clause-layout : goal.draw-requires-clause-layout
-draw-requires-clause-layout g c =
+pub draw-requires : goal.draw-requires
+draw-requires g c =
     let old = c.args.self.now in
     let here = layout_here old.layouts c.args.layout c.in-Some.known.now c.place.result c.place.ensures (sym c.in-Some.ensures.layout) in
-    subst (λ n. c.place.result + 2 < n) (sym old.lists) (layout_listed (layout_slots old.layouts) c.place.result c.in-Some.known.now here)
+    record { meant = c.in-Some.ensures.meant; layout = subst (λ n. c.place.result + 2 < n) (sym old.sets.lists) (layout_listed (layout_slots old.layouts) c.place.result c.in-Some.known.now here); rest = old.sets.rest }
 
-pub invariant_of-self-2-clause-own : goal.invariant_of-self-2-clause-own
-invariant_of-self-2-clause-own g c =
+-- the sets are of their layouts
+sets : (g : _) (c : After-draw g) → HasSetsOf (layout_slots c.args.self.now.layouts) c.args.self.now.frame c.args.self.now.renderer c.draw.new.self
+sets g c =
     let old = c.args.self.now in
     let known = c.in-Some.known.now in
-    let here = layout_here old.layouts c.args.layout known c.place.result c.place.ensures (sym c.in-Some.ensures.layout) in
-    own_comes old.frame c.place.result (layout_slots old.layouts) known old.store c.draw.new.self here c.draw.ensures.settles c.draw.ensures.stays.generations old.own
+    sets_settle (ComesOf g.D.DescriptorDevice.meaning known.layout c.place.result)
+    old.frame (layout_slots old.layouts) old.frame old.renderer old.store c.draw.new.self c.draw.ensures.settles (omega arith)
+    (own_comes g.D.DescriptorDevice.meaning c.place.result (layout_slots old.layouts) known (layout_here old.layouts c.args.layout known c.place.result c.place.ensures (sym c.in-Some.ensures.layout))) old.sets
 
-pub invariant_of-self-2-clause-counted : goal.invariant_of-self-2-clause-counted
-invariant_of-self-2-clause-counted g c = counted_stays (layout_slots c.args.self.now.layouts) c.args.self.now.store c.draw.new.self c.draw.ensures.stays.generations c.args.self.now.counted
-
-pub invariant_of-self-2-clause-rising : goal.invariant_of-self-2-clause-rising
-invariant_of-self-2-clause-rising g c = c.draw.ensures.settles.frames c.args.self.now.frame (omega arith) c.args.self.now.rising
+pub invariant_of-self-2-clause-sets : goal.invariant_of-self-2-clause-sets
+invariant_of-self-2-clause-sets g c = sets g (goal.at.invariant_of-self-2-clause-sets g c).After-draw
 
 pub returns-in-Ok-clause-draws : goal.returns-in-Ok-clause-draws
 returns-in-Ok-clause-draws g c =
     let old = c.args.self.now in
     let known = c.in-Some.known.now in
     let here = layout_here old.layouts c.args.layout known c.place.result c.place.ensures (sym c.in-Some.ensures.layout) in
-    let own = own_comes old.frame c.place.result (layout_slots old.layouts) known old.store c.draw.new.self here c.draw.ensures.settles c.draw.ensures.stays.generations old.own in
     let named = c.in-Ok.ensures.named in
     let handle = c.in-Ok.handle in
     let live : (old.is_open && (old.frame == old.frame)) ≡ true = ap (λ b. b && (old.frame == old.frame)) c.if-not-self.false ∙ eq-eqb old.frame old.frame refl in
@@ -39,11 +39,11 @@ returns-in-Ok-clause-draws g c =
       set = named.set;
       own =
           own_known g.D.DescriptorDevice.meaning (generations_in c.draw.new.self) (layout_slots old.layouts)
-          (slots_in c.draw.new.self) own handle.place c.place.result named.set known named.here
+          (slots_in c.draw.new.self) (sets g (goal.at.returns-in-Ok-clause-draws g c).After-draw).own handle.place c.place.result named.set known named.here
           (named.of_layout
-          ∙ ap (λ generations. current generations c.place.result) (sym c.draw.ensures.stays.generations))
+          ∙ ap (λ generations. current generations c.place.result) (sym c.draw.ensures.settles.stays.generations))
           here;
-      names = subst (λ n. Names handle named.set (sets_of n old.frame old.is_open (slots_in old.store)) (sets_of n old.frame old.is_open (slots_in c.draw.new.self))) old.numbers_sets (named.names old.frame old.is_open live);
+      names = subst (λ n. Names handle named.set (sets_of n old.frame old.is_open (slots_in old.store)) (sets_of n old.frame old.is_open (slots_in c.draw.new.self))) old.sets.number (named.names old.frame old.is_open live);
     })
 
 pub returns-in-Err-clause-stay : goal.returns-in-Err-clause-stay

@@ -1,23 +1,19 @@
 use Rattle.std.proofs.Common.{refl, subst, arith}
 use Rattle.descriptor_table.specs.Sets.{AreHeldOnce}
 use Rattle.descriptor_renderer.specs.LayoutRegistries.{layout_slots}
-use Rattle.descriptor_renderer.specs.Stores.{generations_in, most_of, slots_in}
-use Rattle.descriptor_renderer.proofs.Owned.{counted_stays, own_stays}
+use Rattle.descriptor_renderer.specs.Stores.{NoneComes, generations_in, most_of, slots_in}
+use Rattle.descriptor_renderer.proofs.Owned.{sets_settle}
 use Rattle.descriptor_renderer.proofs.Showing.{freed_names}
 use Rattle.descriptor_renderer.proofs.renderer.Renderer.free_sets.Goals as goal
 
-pub invariant_of-self-clause-own : goal.invariant_of-self-clause-own
-invariant_of-self-clause-own g c = own_stays 0 (layout_slots c.args.self.now.layouts) c.args.self.now.store c.free_each.new.self c.free_each.ensures.settles c.free_each.ensures.stays.generations c.args.self.now.own
-
-pub invariant_of-self-clause-counted : goal.invariant_of-self-clause-counted
-invariant_of-self-clause-counted g c = counted_stays (layout_slots c.args.self.now.layouts) c.args.self.now.store c.free_each.new.self c.free_each.ensures.stays.generations c.args.self.now.counted
-
-pub invariant_of-self-clause-rising : goal.invariant_of-self-clause-rising
-invariant_of-self-clause-rising g c = c.free_each.ensures.settles.frames c.args.self.now.frame (omega arith) c.args.self.now.rising
+pub invariant_of-self-clause-sets : goal.invariant_of-self-clause-sets
+invariant_of-self-clause-sets g c =
+    sets_settle NoneComes 0 (layout_slots c.args.self.now.layouts) c.args.self.now.frame c.args.self.now.renderer c.args.self.now.store c.free_each.new.self c.free_each.ensures.settles (omega arith)
+    (λ n x none. absurd none) c.args.self.now.sets
 
 pub returns-clause-names : goal.returns-clause-names
 returns-clause-names g c =
     let old = c.args.self.now in
-    let once = subst (λ n. AreHeldOnce n (slots_in old.store) c.args.sets.now) old.numbers_sets (c.if-not-free_each.ensures.once.0 refl) in
+    let once = subst (λ n. AreHeldOnce n (slots_in old.store) c.args.sets.now) old.sets.number (c.if-not-free_each.ensures.once.0 refl) in
     let frees = c.if-not-free_each.ensures.frees refl in
     freed_names old.frame old.is_open (generations_in old.store) old.renderer (most_of old.store) c.args.sets.now (slots_in old.store) (slots_in c.free_each.new.self) once frees.named frees.rest

@@ -1,8 +1,24 @@
-use Rattle.std.proofs.Common.{false, ap}
+use Rattle.std.proofs.Common.{false, ◌≡◌, ℕ, [], None, Some, length, sym, ap, subst, ◌∙◌, arith}
+use Rattle.descriptor_table.specs.Slots.{frame_of}
+use Rattle.descriptor_renderer.specs.Own.{IsCounted}
+use Rattle.descriptor_renderer.specs.Stores.{generations_in, lists_for}
 use Rattle.descriptor_table.specs.Slots.{slot_at}
 use Rattle.descriptor_renderer.specs.LayoutRegistries.{layout_slots, registry_of}
 use Rattle.descriptor_renderer.proofs.Owned.{found_none}
 use Rattle.descriptor_renderer.proofs.renderer.Renderer.new.Goals as goal
+
+pub invariant_of-result-clause-sets : goal.invariant_of-result-clause-sets
+invariant_of-result-clause-sets g c =
+    let none : layout_slots c.new-2.result ≡ [] = c.new-2.ensures.slots in
+    let store = c.new.ensures in
+    record {
+      rest = store.rest;
+      own = λ p n x full at. absurd (let no : None ≡ Some x = sym (ap (λ l. (slot_at l p).set) store.slots) ∙ full in cc);
+      counted = λ n. subst (λ l. IsCounted (generations_in c.new.result n) (slot_at l n)) (sym none) (let e = ap (λ (generations : ℕ → ℕ). generations n) store.settings.generations in (omega arith, omega arith));
+      rising = λ p. (let e = ap (λ l. frame_of (slot_at l p)) store.slots in omega arith);
+      lists = store.settings.lists ∙ ap (λ l. lists_for (length l)) (sym none);
+      number = store.settings.number;
+    }
 
 pub returns-clause-layouts : goal.returns-clause-layouts
 returns-clause-layouts g c handle =

@@ -4,7 +4,7 @@ use Rattle.descriptor_table.specs.Slots.{is_kept_of, slot_at}
 use Rattle.descriptor_table.specs.Tables.{count, removed_at, vacated}
 use Rattle.descriptor_table.proofs.Listed.{other_slots, slot_set}
 use Rattle.descriptor_renderer.specs.LayoutRegistries.{layout_slots, layouts_by}
-use Rattle.descriptor_renderer.specs.Own.{AreCounted, AreOwn}
+use Rattle.descriptor_renderer.specs.Own.{AreCounted, AreOwn, HasSetsOf}
 use Rattle.descriptor_renderer.specs.Stores.{generations_in, lists_for, slots_in}
 use Rattle.descriptor_renderer.proofs.Owned.{layout_here, layout_listed, layout_within}
 use Rattle.descriptor_renderer.proofs.Removing.{counted_removed, own_removed, removed_fits, removed_names, removed_none}
@@ -33,55 +33,43 @@ others g c n ne =
 pub remove_layout-requires-clause-layout : goal.remove_layout-requires-clause-layout
 remove_layout-requires-clause-layout g c =
     let old = c.args.self.now in
-    subst (λ n. c.place.result + 2 < n) (sym old.lists) (layout_listed (layout_slots old.layouts) c.place.result c.in-Some.removed (here g c))
+    subst (λ n. c.place.result + 2 < n) (sym old.sets.lists) (layout_listed (layout_slots old.layouts) c.place.result c.in-Some.removed (here g c))
 
 pub remove_layout-requires-clause-next : goal.remove_layout-requires-clause-next
 remove_layout-requires-clause-next g c =
     let old = c.args.self.now in
-    removed_fits c.place.result (generations_in old.store) (layout_slots old.layouts) old.counted (ap is_some (here g c))
+    removed_fits c.place.result (generations_in old.store) (layout_slots old.layouts) old.sets.counted (ap is_some (here g c))
 
-pub invariant_of-self-clause-own : goal.invariant_of-self-clause-own
-invariant_of-self-clause-own g c =
+pub invariant_of-self-clause-sets : goal.invariant_of-self-clause-sets
+invariant_of-self-clause-sets g c =
     let old = c.args.self.now in
     let fewer = layout_slots c.remove.new.self in
     let new = slots_in c.remove_layout.new.self in
     let removes = c.remove_layout.ensures.removes in
-    let d = (goal.at.invariant_of-self-clause-own g c).After-place in
+    let d = (goal.at.invariant_of-self-clause-sets g c).After-place in
     let past :
     (p : ℕ) → (slot_at new p).layout ≡ c.place.result
     → (slot_at new p).layout_generation < removed_at c.place.result (generations_in old.store) c.place.result =
     λ p at.
     subst (λ (generations : ℕ → ℕ). (slot_at new p).layout_generation < generations c.place.result)
     removes.generations (removes.past p at) in
-    subst (λ generations. AreOwn g.D.DescriptorDevice.meaning generations fewer new) (sym removes.generations) (own_removed g.D.DescriptorDevice.meaning c.place.result (generations_in old.store) (layout_slots old.layouts) fewer (others g d) (slots_in old.store) new removes.turns past old.own)
-
-pub invariant_of-self-clause-counted : goal.invariant_of-self-clause-counted
-invariant_of-self-clause-counted g c =
-    let old = c.args.self.now in
-    let fewer = layout_slots c.remove.new.self in
-    let d = (goal.at.invariant_of-self-clause-counted g c).After-place in
-    subst (λ generations. AreCounted generations fewer) (sym c.remove_layout.ensures.removes.generations) (counted_removed c.place.result (generations_in old.store) (layout_slots old.layouts) fewer old.counted (ap is_some (here g d)) (gone g d) (others g d))
-
-pub invariant_of-self-clause-rising : goal.invariant_of-self-clause-rising
-invariant_of-self-clause-rising g c = c.remove_layout.ensures.settles.frames c.args.self.now.frame (omega arith) c.args.self.now.rising
-
-pub invariant_of-self-clause-lists : goal.invariant_of-self-clause-lists
-invariant_of-self-clause-lists g c =
-    let old = c.args.self.now in
     let layouts = layout_slots old.layouts in
     let p = c.args.layout.slot.place in
     let long = ap length (c.in-Some.ensures.slots refl) ∙ length-set layouts p (vacated (slot_at layouts p)) in
-    c.remove_layout.ensures.lists ∙ old.lists ∙ ap lists_for (sym long)
+    let settles = c.remove_layout.ensures.settles in
+    record {
+      rest = settles.rest;
+      own = subst (λ generations. AreOwn g.D.DescriptorDevice.meaning generations fewer new) (sym removes.generations) (
+          own_removed g.D.DescriptorDevice.meaning c.place.result (generations_in old.store) (layout_slots old.layouts) fewer (others g d) (slots_in old.store) new removes.turns past old.sets.own);
+      counted = subst (λ generations. AreCounted generations fewer) (sym removes.generations) (
+          counted_removed c.place.result (generations_in old.store) layouts fewer old.sets.counted (ap is_some (here g d)) (gone g d) (others g d));
+      rising = settles.frames old.frame (omega arith) old.sets.rising;
+      lists = settles.stays.lists ∙ old.sets.lists ∙ ap lists_for (sym long);
+      number = settles.stays.number ∙ old.sets.number;
+    }
 
-pub invariant_of-self-in-None-clause-own : goal.invariant_of-self-in-None-clause-own
-invariant_of-self-in-None-clause-own g c =
-    let old = c.args.self.now in
-    subst (λ l. AreOwn g.D.DescriptorDevice.meaning (generations_in old.store) l (slots_in old.store)) (sym (c.in-None.ensures.none refl)) old.own
-
-pub invariant_of-self-in-None-clause-counted : goal.invariant_of-self-in-None-clause-counted
-invariant_of-self-in-None-clause-counted g c =
-    let old = c.args.self.now in
-    subst (AreCounted (generations_in old.store)) (sym (c.in-None.ensures.none refl)) old.counted
+pub invariant_of-self-in-None-clause-sets : goal.invariant_of-self-in-None-clause-sets
+invariant_of-self-in-None-clause-sets g c = subst (λ l. HasSetsOf l c.args.self.now.frame c.args.self.now.renderer c.args.self.now.store) (sym (c.in-None.ensures.none refl)) c.args.self.now.sets
 
 pub returns-in-Some-clause-none_kept : goal.returns-in-Some-clause-none_kept
 returns-in-Some-clause-none_kept g c =
@@ -96,7 +84,7 @@ returns-in-Some-clause-names g c =
 pub returns-in-Some-clause-rest : goal.returns-in-Some-clause-rest
 returns-in-Some-clause-rest g c =
     let old = c.args.self.now in
-    let now = c.remove_layout.ensures in
+    let now = c.remove_layout.ensures.settles.stays in
     let names = c.in-Some.ensures.names refl in
     λ i. record {
       number = old.renderer;

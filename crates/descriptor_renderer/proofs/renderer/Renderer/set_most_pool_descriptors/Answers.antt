@@ -1,16 +1,12 @@
-use Rattle.std.proofs.Common.{sym, subst}
+use Rattle.std.proofs.Common.{ap, ◌∙◌}
+use Rattle.descriptor_table.specs.Tables.{generations_of, lists_of, number_of, slots_of}
 use Rattle.descriptor_renderer.specs.LayoutRegistries.{layout_slots}
-use Rattle.descriptor_renderer.specs.Stores.{IsUpTo}
-use Rattle.descriptor_renderer.proofs.Owned.{counted_stays, own_as}
+use Rattle.descriptor_renderer.proofs.Owned.{sets_as}
 use Rattle.descriptor_renderer.proofs.renderer.Renderer.set_most_pool_descriptors.Goals as goal
 
-pub invariant_of-self-clause-own : goal.invariant_of-self-clause-own
-invariant_of-self-clause-own g c =
+pub invariant_of-self-clause-sets : goal.invariant_of-self-clause-sets
+invariant_of-self-clause-sets g c =
     let old = c.args.self.now in
-    own_as g.D.DescriptorDevice.meaning (layout_slots old.layouts) old.store c.set_most_pool_descriptors.new.self c.set_most_pool_descriptors.ensures.generations c.set_most_pool_descriptors.ensures.slots old.own
-
-pub invariant_of-self-clause-counted : goal.invariant_of-self-clause-counted
-invariant_of-self-clause-counted g c = counted_stays (layout_slots c.args.self.now.layouts) c.args.self.now.store c.set_most_pool_descriptors.new.self c.set_most_pool_descriptors.ensures.generations c.args.self.now.counted
-
-pub invariant_of-self-clause-rising : goal.invariant_of-self-clause-rising
-invariant_of-self-clause-rising g c = subst (IsUpTo c.args.self.now.frame) (sym c.set_most_pool_descriptors.ensures.slots) c.args.self.now.rising
+    let same = c.set_most_pool_descriptors.ensures.table in
+    sets_as (layout_slots old.layouts) (layout_slots old.layouts) old.frame old.renderer
+    old.store c.set_most_pool_descriptors.new.self (ap slots_of same) (ap generations_of same) (ap (λ v. v.items) c.set_most_pool_descriptors.ensures.coming) (ap number_of same) (ap lists_of same ∙ old.sets.lists) (λ n known is. is) (λ counted. counted) old.sets

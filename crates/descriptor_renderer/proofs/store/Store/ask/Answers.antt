@@ -32,7 +32,7 @@ returns-in-Ok-clause-gets g c = record {
       (λ generations.
       Puts generations c.args.layout c.in-Ok.set c.put.result (slots_of c.args.self.now.table)
       (slots_of c.put.new.self))
-      (sym c.put.ensures.generations)
+      (sym c.put.ensures.settings.generations)
       (subst
       (λ l.
       Puts (generations_of c.reserve.new.self) c.args.layout c.in-Ok.set c.put.result l

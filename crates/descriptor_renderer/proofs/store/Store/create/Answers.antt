@@ -1,12 +1,10 @@
-use Rattle.std.proofs.Common.{◌≡◌, ◌∙◌, length, refl, ap, subst, arith}
-use Rattle.gpu_descriptor.specs.Caller.Sets.{items_of}
-use Rattle.gpu_descriptor.specs.Model.Agreement.{count_of}
+use Rattle.std.proofs.Common.{◌≡◌, ◌∙◌, refl, ap, subst, arith, rules}
 use Rattle.descriptor_table.specs.Sets.{sets_in}
 use Rattle.descriptor_table.specs.Tables.{Renews, slots_of}
 use Rattle.descriptor_table.specs.declared.slot.Use.TheVariants.{Held}
 use Rattle.descriptor_renderer.specs.Stores.{ComesOf, generations_in, number_of, slots_in}
 use Rattle.descriptor_renderer.proofs.Arriving.{arrived}
-use Rattle.descriptor_renderer.proofs.Given.{renewed_sets}
+use Rattle.descriptor_renderer.proofs.Given.{accounted_as, exact_as, renewed_sets}
 use Rattle.descriptor_renderer.proofs.Growing.{grow_refused, grow_taken}
 use Rattle.descriptor_renderer.proofs.Handing.{Handles, handled_arrives, kept_handle, named, new_handle, refused_arrives, taken_handles}
 use Rattle.descriptor_renderer.proofs.store.Store.create.Given.{Over}
@@ -14,30 +12,25 @@ use Rattle.descriptor_renderer.proofs.store.Store.create.Goals as goal
 use Rattle.descriptor_renderer.proofs.store.Store.create.Goals.{After-hold}
 
 renews : (g : Over) (c : After-hold g) → Renews (number_of c.args.self.now) c.in_ok-place.place Held c.hold.result (slots_in c.take.new.self) (slots_of c.hold.new.self)
-renews g c = subst (λ n. Renews n c.in_ok-place.place Held c.hold.result (slots_in c.take.new.self) (slots_of c.hold.new.self)) c.take.ensures.stays.number c.hold.ensures.renews
+renews g c = subst (λ n. Renews n c.in_ok-place.place Held c.hold.result (slots_in c.take.new.self) (slots_of c.hold.new.self)) c.take.ensures.stays.number c.hold.ensures.slots
 
 handles : (g : Over) (c : After-hold g) → Handles (ComesOf g.D.DescriptorDevice.meaning c.args.known.now.layout c.args.layout) (number_of c.args.self.now) (generations_in c.args.self.now) c.args.layout c.in_ok-place.place Held c.hold.result (slots_in c.args.self.now) (slots_of c.hold.new.self)
 handles g c = taken_handles c.args.known.now.layout c.args.layout (number_of c.args.self.now) c.in_ok-place.place Held c.hold.result c.args.self.now c.take.new.self (slots_of c.hold.new.self) c.take.ensures.stays.generations c.in_ok-place.ensures.kept c.in_ok-place.ensures.comes (renews g c)
 
 same_sets : (g : Over) (c : After-hold g) → sets_in (slots_of c.hold.new.self) ≡ sets_in (slots_in c.take.new.self)
-same_sets g c = renewed_sets (number_of c.take.new.self) c.in_ok-place.place Held c.hold.result (slots_in c.take.new.self) (slots_of c.hold.new.self) c.hold.ensures.renews
+same_sets g c = renewed_sets (number_of c.take.new.self) c.in_ok-place.place Held c.hold.result (slots_in c.take.new.self) (slots_of c.hold.new.self) c.hold.ensures.slots
 
 pub returns-in_err-place-clause-settles : goal.returns-in_err-place-clause-settles
 returns-in_err-place-clause-settles g c =
     let comes = ComesOf g.D.DescriptorDevice.meaning c.args.known.now.layout c.args.layout in
-    arrived comes 0 c.args.self.now c.take.new.self (refused_arrives comes 0 c.args.known.now.layout 1 1 c.in_err-place.field-0.0 c.args.self.now c.take.new.self c.in_err-place.ensures.refused) (ap (λ v. v.items) c.take.ensures.coming ∙ c.requires.rest.none_coming) c.requires.rest
+    arrived comes 0 c.args.self.now c.take.new.self
+    (refused_arrives comes 0 c.args.known.now.layout 1 1 c.in_err-place.field-0.0 c.args.self.now c.take.new.self c.in_err-place.ensures.refused) (ap (λ v. v.items) c.take.ensures.coming ∙ c.requires.rest.none_coming) c.requires.rest c.take.ensures.stays
 
 pub invariant_of-self-clause-exact : goal.invariant_of-self-clause-exact
-invariant_of-self-clause-exact g c = λ t.
-    let same = ap (λ l. count_of t (items_of g.D.DescriptorDevice.meaning.set_name l)) (same_sets g c) in
-    let was = c.take.new.self.exact t in
-    omega arith
+invariant_of-self-clause-exact g c = exact_as c.take.new.self (same_sets g c)
 
 pub invariant_of-self-clause-accounted : goal.invariant_of-self-clause-accounted
-invariant_of-self-clause-accounted g c =
-    let same = ap length (same_sets g c) in
-    let was = c.take.new.self.accounted in
-    omega arith
+invariant_of-self-clause-accounted g c = accounted_as c.take.new.self (same_sets g c)
 
 pub returns-clause-named : goal.returns-clause-named
 returns-clause-named g c =
@@ -61,7 +54,7 @@ returns-clause-settles g c =
     (handled_arrives comes (number_of c.args.self.now) (generations_in c.args.self.now) c.args.layout
     c.in_ok-place.place Held c.hold.result (slots_in c.args.self.now) (slots_of c.hold.new.self) h 0 refl
     (omega arith))
-    (ap (λ v. v.items) c.take.ensures.coming ∙ c.requires.rest.none_coming) c.requires.rest
+    (ap (λ v. v.items) c.take.ensures.coming ∙ c.requires.rest.none_coming) c.requires.rest (search rules)
 
 pub returns-in_err-place-clause-grows : goal.returns-in_err-place-clause-grows
 returns-in_err-place-clause-grows g c = grow_refused c.args.known.now.layout 1 1 c.in_err-place.field-0.0 c.args.self.now c.take.new.self c.in_err-place.ensures.refused

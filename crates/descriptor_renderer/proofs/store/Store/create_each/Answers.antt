@@ -1,4 +1,4 @@
-use Rattle.std.proofs.Common.{◌≡◌, ◌-◌, ◌++◌, ◌∙◌, List, length, sym, ap, subst, arith}
+use Rattle.std.proofs.Common.{◌≡◌, ◌-◌, ◌++◌, ◌∙◌, List, length, sym, ap, subst, arith, rules}
 use Rattle.gpu_descriptor.specs.Caller.Sets.{AreOfLayout}
 use Rattle.descriptor_table.specs.Tables.{HasRoom}
 use Rattle.descriptor_table.specs.declared.handle.SetHandle.{SetHandle}
@@ -13,7 +13,7 @@ use Rattle.descriptor_renderer.proofs.store.Store.create_each.Goals as goal
 use Rattle.descriptor_renderer.proofs.store.Store.create_each.Goals.{After-hold_coming}
 
 brings : (g : Over) (c : After-hold_coming g) → Brings c.args.known.now.layout c.args.many c.args.self.now c.bring.new.self
-brings g c = brought c.args.known.now.layout c.args.layout c.args.many c.args.self.now c.bring.new.self c.requires.rest.none_coming (λ enough. (c.in_ok-bring.ensures.kept enough).1) c.in_ok-bring.ensures.asks
+brings g c = brought c.args.known.now.layout c.args.layout c.args.many c.args.self.now c.bring.new.self c.requires.can.rest.none_coming (λ enough. (c.in_ok-bring.ensures.kept enough).1) c.in_ok-bring.ensures.asks
 
 -- all handles, of kept sets and of those that came
 all_held :
@@ -26,9 +26,9 @@ all_held g c =
     let h =
     held_then c.args.layout (c.args.many - c.len.result) (length (coming_in c.hold_kept.new.self).items)
     c.args.handles.now.items c.hold_kept.new.handles.items c.hold_coming.new.handles.items c.bring.new.self
-    c.hold_kept.new.self c.hold_coming.new.self c.hold_kept.ensures.stays c.hold_kept.ensures.holds
+    c.hold_kept.new.self c.hold_coming.new.self c.hold_kept.ensures.keeps.stays c.hold_kept.ensures.holds
     c.hold_coming.ensures.holds in
-    let same = ap (λ v. length v.items) c.hold_kept.ensures.coming in
+    let same = ap (λ v. length v.items) c.hold_kept.ensures.keeps.coming in
     let few = (brings g c).few in
     let count = c.len.ensures in
     let long = c.bring.new.self.coming.ok.0 in
@@ -37,18 +37,18 @@ all_held g c =
 
 come : (g : Over) (c : After-hold_coming g) → SetsCome (ComesOf g.D.DescriptorDevice.meaning c.args.known.now.layout c.args.layout) (slots_in c.bring.new.self) (slots_in c.hold_coming.new.self)
 come g c =
-    let own = subst (λ v. AreOfLayout g.D.DescriptorDevice.meaning c.args.known.now.layout v.items) (sym c.hold_kept.ensures.coming) (brings g c).own in
-    kept_then (ComesOf g.D.DescriptorDevice.meaning c.args.known.now.layout c.args.layout) (slots_in c.bring.new.self) (slots_in c.hold_kept.new.self) (slots_in c.hold_coming.new.self) c.hold_kept.ensures.sets (c.hold_coming.ensures.sets c.args.known.now.layout own)
+    let own = subst (λ v. AreOfLayout g.D.DescriptorDevice.meaning c.args.known.now.layout v.items) (sym c.hold_kept.ensures.keeps.coming) (brings g c).own in
+    kept_then (ComesOf g.D.DescriptorDevice.meaning c.args.known.now.layout c.args.layout) (slots_in c.bring.new.self) (slots_in c.hold_kept.new.self) (slots_in c.hold_coming.new.self) c.hold_kept.ensures.keeps.sets (c.hold_coming.ensures.sets c.args.known.now.layout own)
 
 pub returns-in_err-bring-clause-settles : goal.returns-in_err-bring-clause-settles
 returns-in_err-bring-clause-settles g c =
     let comes = ComesOf g.D.DescriptorDevice.meaning c.args.known.now.layout c.args.layout in
-    arrived comes 0 c.args.self.now c.bring.new.self (refused_arrives comes 0 c.args.known.now.layout _ c.args.many c.in_err-bring.field-0.0 c.args.self.now c.bring.new.self c.in_err-bring.ensures.refused) c.in_err-bring.ensures.none c.requires.rest
+    arrived comes 0 c.args.self.now c.bring.new.self (refused_arrives comes 0 c.args.known.now.layout _ c.args.many c.in_err-bring.field-0.0 c.args.self.now c.bring.new.self c.in_err-bring.ensures.refused) c.in_err-bring.ensures.none c.requires.can.rest (search rules)
 
 pub hold_coming-requires-clause-table : goal.hold_coming-requires-clause-table
 hold_coming-requires-clause-table g c =
-    let same = ap (λ v. length v.items) c.hold_kept.ensures.coming in
-    subst (λ n. HasRoom n c.hold_kept.new.self.table) (sym same) (c.hold_kept.ensures.table (length (coming_in c.bring.new.self).items) c.in_ok-bring.ensures.table)
+    let same = ap (λ v. length v.items) c.hold_kept.ensures.keeps.coming in
+    subst (λ n. HasRoom n c.hold_kept.new.self.table) (sym same) (c.hold_kept.ensures.keeps.table (length (coming_in c.bring.new.self).items) c.in_ok-bring.ensures.table)
 
 pub returns-clause-creates : goal.returns-clause-creates
 returns-clause-creates g c =
@@ -57,7 +57,7 @@ returns-clause-creates g c =
     (h.0, h.1, h.2, named, record { mid = slots_in c.bring.new.self; cleared = (brings g c).cleared; holds = h.3 })
 
 pub returns-clause-comes : goal.returns-clause-comes
-returns-clause-comes g c = λ few. (c.bring.new.self, c.in_ok-bring.ensures.asks few, c.hold_coming.ensures.side ∙ c.hold_kept.ensures.side)
+returns-clause-comes g c = λ few. (c.bring.new.self, c.in_ok-bring.ensures.asks few, c.hold_coming.ensures.side ∙ c.hold_kept.ensures.keeps.side)
 
 pub returns-clause-settles : goal.returns-clause-settles
 returns-clause-settles g c =
@@ -67,7 +67,7 @@ returns-clause-settles g c =
     (holds_arrives (number_of c.args.self.now) (current_in c.args.layout c.args.self.now) h.0
     (slots_in c.args.self.now) (slots_in c.bring.new.self) (slots_in c.hold_coming.new.self) (brings g c).clear h.3
     comes 0 (come g c))
-    c.hold_coming.ensures.none c.requires.rest
+    c.hold_coming.ensures.none c.requires.can.rest (search rules)
 
 pub returns-in_err-bring-clause-grows : goal.returns-in_err-bring-clause-grows
 returns-in_err-bring-clause-grows g c = grow_refused c.args.known.now.layout _ c.args.many c.in_err-bring.field-0.0 c.args.self.now c.bring.new.self c.in_err-bring.ensures.refused
@@ -77,4 +77,4 @@ returns-clause-grows g c =
     let coming = c.hold_coming.ensures.holds in
     let brought = slots_in c.bring.new.self in
     let held = slots_in c.hold_coming.new.self in
-    grow_from (slots_in c.args.self.now) brought held (brings g c).long (grow_more (number_of c.hold_kept.new.self) (current_in c.args.layout c.hold_kept.new.self) coming.0 brought (slots_in c.hold_kept.new.self) held c.hold_kept.ensures.grows c.hold_coming.ensures.grows coming.3)
+    grow_from (slots_in c.args.self.now) brought held (brings g c).long (grow_more (number_of c.hold_kept.new.self) (current_in c.args.layout c.hold_kept.new.self) coming.0 brought (slots_in c.hold_kept.new.self) held c.hold_kept.ensures.keeps.grows c.hold_coming.ensures.grows coming.3)

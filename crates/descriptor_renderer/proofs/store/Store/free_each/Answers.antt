@@ -1,35 +1,33 @@
-use Rattle.std.proofs.Common.{◌∙◌, length, refl, ap, subst, arith}
+use Rattle.std.proofs.Common.{◌≡◌, ◌∙◌, length, refl, ap, subst, arith, rules}
 use Rattle.gpu_descriptor.specs.Caller.Sets.{items_of}
 use Rattle.gpu_descriptor.specs.Model.Agreement.{count_of}
+use Rattle.descriptor_table.specs.Sets.{sets_in}
 use Rattle.descriptor_table.specs.Slots.{slot_at}
 use Rattle.descriptor_table.specs.Tables.{generations_of, is_taken, place_at, slots_of}
+use Rattle.descriptor_renderer.proofs.Given.{accounted_as, exact_as}
 use Rattle.descriptor_renderer.proofs.Back.{settled_sets}
 use Rattle.descriptor_renderer.proofs.Following.{follow_each, follows_back}
 use Rattle.descriptor_renderer.proofs.Listed.{BackEach, back_each, took_named, took_sets}
 use Rattle.descriptor_renderer.proofs.Settling.{settled}
+use Rattle.descriptor_renderer.proofs.store.Store.free_each.Goals.{After-settle_each}
 use Rattle.descriptor_renderer.proofs.store.Store.free_each.Goals as goal
 
-pub settle_each-requires-clause-taken : goal.settle_each-requires-clause-taken
-settle_each-requires-clause-taken g c =
+pub settle_each-requires : goal.settle_each-requires
+settle_each-requires g c =
     let old = slots_of c.args.self.now.table in
-    took_named c.args.handles.now old (slots_of c.take_each.new.self) (c.if-not-take_each.ensures.took refl) c.requires.rest.placed
+    record { taken = took_named c.args.handles.now old (slots_of c.take_each.new.self) (c.if-not-take_each.ensures.took refl) c.requires.rest.placed }
+
+-- the sets are as they were
+same_sets : (g : _) (c : After-settle_each g) → sets_in (slots_of c.settle_each.new.self) ≡ sets_in (slots_of c.args.self.now.table)
+same_sets g c =
+    let took = c.if-not-take_each.ensures.took refl in
+    settled_sets is_taken _ _ (slots_of c.take_each.new.self) (slots_of c.settle_each.new.self) c.settle_each.ensures.slots ∙ took_sets c.args.handles.now (slots_of c.args.self.now.table) (slots_of c.take_each.new.self) took
 
 pub invariant_of-self-2-clause-exact : goal.invariant_of-self-2-clause-exact
-invariant_of-self-2-clause-exact g c = λ t.
-    let name = g.D.DescriptorDevice.meaning.set_name in
-    let took = c.if-not-take_each.ensures.took refl in
-    let same = settled_sets is_taken _ _ (slots_of c.take_each.new.self) (slots_of c.settle_each.new.self) c.settle_each.ensures.turns ∙ took_sets c.args.handles.now (slots_of c.args.self.now.table) (slots_of c.take_each.new.self) took in
-    let count = ap (λ l. count_of t (items_of name l)) same in
-    let was = c.args.self.now.exact t in
-    omega arith
+invariant_of-self-2-clause-exact g c = exact_as c.args.self.now (same_sets g (goal.at.invariant_of-self-2-clause-exact g c).After-settle_each)
 
 pub invariant_of-self-2-clause-accounted : goal.invariant_of-self-2-clause-accounted
-invariant_of-self-2-clause-accounted g c =
-    let took = c.if-not-take_each.ensures.took refl in
-    let same = settled_sets is_taken _ _ (slots_of c.take_each.new.self) (slots_of c.settle_each.new.self) c.settle_each.ensures.turns ∙ took_sets c.args.handles.now (slots_of c.args.self.now.table) (slots_of c.take_each.new.self) took in
-    let count = ap length same in
-    let was = c.args.self.now.accounted in
-    omega arith
+invariant_of-self-2-clause-accounted g c = accounted_as c.args.self.now (same_sets g (goal.at.invariant_of-self-2-clause-accounted g c).After-settle_each)
 
 pub returns-clause-frees : goal.returns-clause-frees
 returns-clause-frees g c = λ t.
@@ -38,11 +36,11 @@ returns-clause-frees g c = λ t.
     let new = slots_of c.give.new.self.table in
     let took = c.if-not-take_each.ensures.took refl in
     let once = c.if-not-take_each.ensures.once.0 refl in
-    let gives = c.give.ensures.gives in
-    let each = back_each handles old (slots_of c.take_each.new.self) took c.args.self.now.table.number (generations_of c.take_each.new.self) c.take_each.new.self.most (slots_of c.settle_each.new.self) new once c.requires.rest.placed c.settle_each.ensures.turns gives.turns in
-    let few = subst (λ most. BackEach handles (generations_of c.take_each.new.self) most old new) c.take_each.ensures.stays.most each in
-    let back = subst (λ generations. BackEach handles generations c.args.self.now.table.most old new) c.take_each.ensures.stays.generations few in
-    record { long = back.long; named = back.named; rest = back.rest; sets = gives.sets; returns = gives.returns }
+    let gives = c.give.ensures in
+    let each = back_each handles old (slots_of c.take_each.new.self) took c.args.self.now.table.number (generations_of c.take_each.new.self) c.take_each.new.self.most (slots_of c.settle_each.new.self) new once c.requires.rest.placed c.settle_each.ensures.slots gives.turns in
+    let few = subst (λ most. BackEach handles (generations_of c.take_each.new.self) most old new) c.take_each.ensures.stays.settings.most each in
+    let back = subst (λ generations. BackEach handles generations c.args.self.now.table.most old new) c.take_each.ensures.stays.settings.generations few in
+    record { long = back.long; named = back.named; rest = back.rest; back = gives.back }
 
 pub returns-clause-settles : goal.returns-clause-settles
 returns-clause-settles g c =
@@ -52,7 +50,7 @@ returns-clause-settles g c =
     let most = c.take_each.new.self.most in
     let took = c.if-not-take_each.ensures.took refl in
     let once = c.if-not-take_each.ensures.once.0 refl in
-    let back = back_each handles old (slots_of c.take_each.new.self) took c.args.self.now.table.number (generations_of c.take_each.new.self) most (slots_of c.settle_each.new.self) new once c.requires.rest.placed c.settle_each.ensures.turns c.give.ensures.gives.turns in
+    let back = back_each handles old (slots_of c.take_each.new.self) took c.args.self.now.table.number (generations_of c.take_each.new.self) most (slots_of c.settle_each.new.self) new once c.requires.rest.placed c.settle_each.ensures.slots c.give.ensures.turns in
     settled 0 c.args.self.now c.give.new.self
     (follow_each 0 handles old new
     (λ i lt.
@@ -60,4 +58,4 @@ returns-clause-settles g c =
     follows_back 0 (generations_of c.take_each.new.self) most new (slot_at old p) (slot_at new p)
     (back.named i lt))
     back.rest)
-    (ap (λ v. v.items) c.give.ensures.coming ∙ c.requires.rest.none_coming) c.requires.rest
+    (ap (λ v. v.items) c.give.ensures.coming ∙ c.requires.rest.none_coming) c.requires.rest (search rules)

@@ -1,11 +1,12 @@
-use Rattle.std.proofs.Common.{[]}
+use Rattle.std.proofs.Common.{[], refl, rules}
+use Rattle.descriptor_renderer.proofs.Joining.{store_same}
 use Rattle.descriptor_table.specs.Slots.{goes}
 use Rattle.descriptor_table.specs.Tables.{slots_of}
 use Rattle.descriptor_renderer.proofs.Returned.{none_turns, returns_none}
 use Rattle.descriptor_renderer.specs.Stores.{ledger_of}
 use Rattle.descriptor_renderer.proofs.store.Store.give.Goals as goal
 
-pub returns-then-none_goes-clause-gives : goal.returns-then-none_goes-clause-gives
-returns-then-none_goes-clause-gives g c =
+pub returns-then-none_goes : goal.returns-then-none_goes
+returns-then-none_goes g c =
     let s = c.args.self.now in
-    record { sets = []; returns = returns_none g.D.DescriptorDevice.meaning s.allocator (ledger_of s); turns = none_turns goes (slots_of s.table) (c.none_goes.ensures c.if-none_goes.true) }
+    record { back = record { sets = []; returns = returns_none g.D.DescriptorDevice.meaning s.allocator (ledger_of s) }; turns = none_turns goes (slots_of s.table) (c.none_goes.ensures c.if-none_goes.true); keeps = search rules; stays = store_same s; coming = refl }

@@ -5,13 +5,12 @@ use Rattle.descriptor_table.specs.Sets.{sets_in}
 use Rattle.descriptor_table.specs.Slots.{goes}
 use Rattle.descriptor_table.specs.Tables.{Stays, Turns, Vacates, slots_of}
 use Rattle.descriptor_table.proofs.Leaving.{given_all, going_all, going_steps}
-use Rattle.descriptor_renderer.proofs.Returned.{given_count, given_many}
+use Rattle.descriptor_renderer.proofs.Returned.{all_count, all_many, given_count}
 use Rattle.descriptor_renderer.proofs.store.Store.give_each.Goals as goal
 
 pub free_from-requires-clause-outstanding : goal.free_from-requires-clause-outstanding
 free_from-requires-clause-outstanding g c xs t y i =
-    let name = g.D.DescriptorDevice.meaning.set_name in
-    let all = given_count name goes xs _ t.table (going_steps xs _ t y) i in
+    let all = given_count g.D.DescriptorDevice.meaning.set_name goes xs _ t.table (going_steps xs _ t y) i in
     let was = c.args.self.now.exact i in
     omega arith
 
@@ -22,9 +21,7 @@ pub invariant_of-self-clause-exact : goal.invariant_of-self-clause-exact
 invariant_of-self-clause-exact g c = λ i.
     let name = g.D.DescriptorDevice.meaning.set_name in
     let f = c.free_from.ensures.frees in
-    let steps = going_all f.sets _ _ f.drained in
-    let all = given_count name goes f.sets _ steps.0 steps.1 i in
-    let last = ap (λ l. count_of i (items_of name (sets_in l))) steps.2.gives.slots in
+    let all = all_count name goes f.sets _ _ (going_all f.sets _ _ f.drained) i in
     let back = f.returns.back.returned i in
     let was = c.args.self.now.exact i in
     let end = ap (λ t. count_of i (items_of name (sets_in (slots_of t)))) c.end.ensures in
@@ -32,25 +29,23 @@ invariant_of-self-clause-exact g c = λ i.
 
 pub invariant_of-self-clause-accounted : goal.invariant_of-self-clause-accounted
 invariant_of-self-clause-accounted g c =
-    let name = g.D.DescriptorDevice.meaning.set_name in
     let f = c.free_from.ensures.frees in
-    let steps = going_all f.sets _ _ f.drained in
-    let all = given_many name goes f.sets _ steps.0 steps.1 in
-    let last = ap (λ l. length (sets_in l)) steps.2.gives.slots in
+    let all = all_many g.D.DescriptorDevice.meaning.set_name goes f.sets _ _ (going_all f.sets _ _ f.drained) in
     let back = f.returns.back.outstanding in
     let was = c.args.self.now.accounted in
     let end = ap (λ t. length (sets_in (slots_of t))) c.end.ensures in
     omega arith
 
-pub returns-clause-gives : goal.returns-clause-gives
-returns-clause-gives g c =
+pub returns : goal.returns
+returns g c =
     let f = c.free_from.ensures.frees in
+    let keeps = c.free_from.ensures.keeps in
     let all = given_all goes (λ s. refl) f.sets _ _ (going_all f.sets _ _ f.drained) in
-    record { sets = f.sets; returns = f.returns; turns = subst (λ t. Turns goes Vacates (slots_of c.args.self.now.table) (slots_of t)) (sym c.end.ensures) all.0 }
-
-pub returns-clause-stays : goal.returns-clause-stays
-returns-clause-stays g c =
-    let f = c.free_from.ensures.frees in
-    let all = given_all goes (λ s. refl) f.sets _ _ (going_all f.sets _ _ f.drained) in
-    let stays = subst (Stays c.args.self.now.table) (sym c.end.ensures) all.2 in
-    record { number = stays.number; lists = stays.lists; generations = stays.generations; limit = c.free_from.ensures.keeps.limit; bound = c.free_from.ensures.keeps.most; besides = c.free_from.ensures.keeps.others; keeps = stays.most }
+    let settings = (subst (Stays c.args.self.now.table) (sym c.end.ensures) all.2).settings in
+    record {
+      back = record { sets = f.sets; returns = f.returns };
+      turns = subst (λ t. Turns goes Vacates (slots_of c.args.self.now.table) (slots_of t)) (sym c.end.ensures) all.0;
+      keeps = keeps;
+      stays = record { number = settings.number; lists = settings.lists; generations = settings.generations; limit = keeps.limit; bound = keeps.most; besides = keeps.others; keeps = settings.most };
+      coming = refl;
+    }

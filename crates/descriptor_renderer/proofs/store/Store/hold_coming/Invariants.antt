@@ -2,7 +2,7 @@ use Rattle.std.proofs.Common.{◌≡◌, ◌+◌, ◌++◌, List, length, vec_ca
 use Rattle.gpu_descriptor.specs.Caller.Sets.{AreOfLayout}
 use Rattle.descriptor_table.specs.Tables.{Grows, HasRoom}
 use Rattle.descriptor_table.specs.declared.handle.SetHandle.{SetHandle}
-use Rattle.descriptor_renderer.specs.Stores.{ComesOf, HoldEach, SetsCome, StoreStays, coming_in, current_in, most_of, number_of, side_of, slots_in}
+use Rattle.descriptor_renderer.specs.Stores.{ComesOf, HoldEach, SetsCome, KeepsStore, coming_in, current_in, number_of, side_of, slots_in}
 use Rattle.descriptor_renderer.proofs.store.Store.hold_coming.Given as goal
 
 abbrev pub invariant-loop : goal.invariant-loop
@@ -15,5 +15,5 @@ invariant-loop g l = record {
   sets : (known : g.row.L.Denot) → AreOfLayout g.D.DescriptorDevice.meaning known (coming_in l.fn.self).items → SetsCome (ComesOf g.D.DescriptorDevice.meaning known l.layout) (slots_in l.fn.self) (slots_in l.self);
   table : HasRoom (length (coming_in l.self).items) l.self.table;
   grows : Grows (slots_in l.fn.self) (slots_in l.self);
-  stays : StoreStays (most_of l.fn.self) l.fn.self l.self;
+  stays : KeepsStore l.fn.self l.self;
 }

@@ -9,12 +9,7 @@ loop-init g c = record {
   holds = held_start c.args.layout c.args.handles.now.items c.args.self.now;
   fewer = omega arith;
   room = refl;
-  side = refl;
-  coming = refl;
-  sets = λ p x e. inl (e, refl);
-  table = λ n room. room;
-  grows = inl refl;
-  stays = store_same c.args.self.now;
+  keeps = record { side = refl; coming = refl; sets = λ p x e. inl (e, refl); table = λ n room. room; grows = inl refl; stays = store_same c.args.self.now };
 }
 
 pub loop-preserved : goal.loop-preserved
@@ -22,13 +17,15 @@ loop-preserved g c =
     let was = c.loop.invariant in
     let now = c.hold_next.ensures in
     record {
-      holds = held_next c.args.layout c.loop.counter c.args.handles.now.items c.loop.handles.items c.hold_next.new.handles.items c.args.self.now c.loop.self c.hold_next.new.self was.stays was.holds now.holds;
+      holds = held_next c.args.layout c.loop.counter c.args.handles.now.items c.loop.handles.items c.hold_next.new.handles.items c.args.self.now c.loop.self c.hold_next.new.self was.keeps.stays was.holds now.holds;
       fewer = (let a = was.fewer in let b = now.fewer in omega arith);
       room = now.room ∙ was.room;
-      side = now.side ∙ was.side;
-      coming = now.coming ∙ was.coming;
-      sets = kept_then NoneComes (slots_in c.args.self.now) (slots_in c.loop.self) (slots_in c.hold_next.new.self) was.sets now.sets;
-      table = λ n room. now.table n (was.table n room);
-      grows = grow_more (number_of c.loop.self) (current_in c.args.layout c.loop.self) (now.holds.0 ∷ []) (slots_in c.args.self.now) (slots_in c.loop.self) (slots_in c.hold_next.new.self) was.grows now.grows now.holds.2;
-      stays = stays_then c.args.self.now c.loop.self c.hold_next.new.self was.stays now.stays;
+      keeps = record {
+        side = now.keeps.side ∙ was.keeps.side;
+        coming = now.keeps.coming ∙ was.keeps.coming;
+        sets = kept_then NoneComes (slots_in c.args.self.now) (slots_in c.loop.self) (slots_in c.hold_next.new.self) was.keeps.sets now.keeps.sets;
+        table = λ n room. now.keeps.table n (was.keeps.table n room);
+        grows = grow_more (number_of c.loop.self) (current_in c.args.layout c.loop.self) (now.holds.0 ∷ []) (slots_in c.args.self.now) (slots_in c.loop.self) (slots_in c.hold_next.new.self) was.keeps.grows now.keeps.grows now.holds.2;
+        stays = stays_then c.args.self.now c.loop.self c.hold_next.new.self was.keeps.stays now.keeps.stays;
+      };
     }

@@ -1,7 +1,7 @@
 use Rattle.std.proofs.Common.{◌≡◌, ℕ, ◌+◌, ◌++◌, List, length, vec_capacity}
 use Rattle.descriptor_table.specs.Tables.{Grows, HasRoom}
 use Rattle.descriptor_table.specs.declared.handle.SetHandle.{SetHandle}
-use Rattle.descriptor_renderer.specs.Stores.{HoldEach, NoneComes, SetsCome, StoreStays, coming_in, current_in, kept_of, most_of, number_of, side_of, slots_in}
+use Rattle.descriptor_renderer.specs.Stores.{HoldEach, NoneComes, SetsCome, KeepsStore, coming_in, current_in, kept_of, number_of, side_of, slots_in, HoldsKept}
 use Rattle.descriptor_renderer.proofs.store.Store.hold_kept.Given as goal
 
 abbrev pub invariant-loop : goal.invariant-loop
@@ -9,10 +9,5 @@ invariant-loop g l = record {
   holds : (given : List SetHandle) × (l.handles.items ≡ l.fn.handles.items ++ given) × (length given ≡ l.counter) × HoldEach (number_of l.fn.self) (current_in l.layout l.fn.self) given (slots_in l.fn.self) (slots_in l.self);
   fewer : kept_of l.layout l.self + l.counter ≡ kept_of l.layout l.fn.self;
   room : vec_capacity l.handles ≡ vec_capacity l.fn.handles;
-  side : side_of l.self ≡ side_of l.fn.self;
-  coming : coming_in l.self ≡ coming_in l.fn.self;
-  sets : SetsCome NoneComes (slots_in l.fn.self) (slots_in l.self);
-  table : (n : ℕ) → HasRoom n l.fn.self.table → HasRoom n l.self.table;
-  grows : Grows (slots_in l.fn.self) (slots_in l.self);
-  stays : StoreStays (most_of l.fn.self) l.fn.self l.self;
+  keeps : HoldsKept l.fn.self l.self;
 }

@@ -20,7 +20,7 @@ use Rattle.descriptor_renderer.proofs.store.Store.hold_last.Goals as goal
 use Rattle.descriptor_renderer.proofs.store.Store.hold_last.Goals.{After-hold}
 
 renews : (g : Over) (c : After-hold g) → Renews (number_of c.args.self.now) c.put-place.result Held c.hold.result (slots_of c.put-place.new.self) (slots_of c.hold.new.self)
-renews g c = subst (λ n. Renews n c.put-place.result Held c.hold.result (slots_of c.put-place.new.self) (slots_of c.hold.new.self)) c.put-place.ensures.number c.hold.ensures.renews
+renews g c = subst (λ n. Renews n c.put-place.result Held c.hold.result (slots_of c.put-place.new.self) (slots_of c.hold.new.self)) c.put-place.ensures.settings.number c.hold.ensures.slots
 
 same_sets : (g : Over) (c : After-hold g) → sets_in (slots_of c.hold.new.self) ≡ sets_in (slots_of c.put-place.new.self)
 same_sets g c = renewed_sets (number_of c.args.self.now) c.put-place.result Held c.hold.result (slots_of c.put-place.new.self) (slots_of c.hold.new.self) (renews g c)

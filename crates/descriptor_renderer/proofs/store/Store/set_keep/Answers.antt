@@ -1,15 +1,15 @@
-use Rattle.std.proofs.Common.{◌≡◌, ◌+◌, ◌-◌, ◌∙◌, length, ap, subst, arith}
-use Rattle.gpu_descriptor.specs.Caller.Sets.{items_of}
-use Rattle.gpu_descriptor.specs.Model.Agreement.{count_of}
+use Rattle.std.proofs.Common.{◌≡◌, ◌+◌, ◌-◌, ◌∙◌, ap, subst, arith, rules}
 use Rattle.descriptor_table.specs.Sets.{sets_in}
 use Rattle.descriptor_table.specs.Slots.{goes, is_in}
 use Rattle.descriptor_table.specs.Tables.{Turns, Vacates, count, is_kept, slots_of}
 use Rattle.descriptor_table.proofs.Counts.{chain_count}
 use Rattle.descriptor_renderer.specs.Stores.{MayLeave}
+use Rattle.descriptor_renderer.proofs.Given.{accounted_as, exact_as}
 use Rattle.descriptor_renderer.proofs.Back.{given_kept, left}
 use Rattle.descriptor_renderer.proofs.Cleaned.{gone_sets}
 use Rattle.descriptor_renderer.proofs.Following.{follow_turns, follows_left, none_goes}
 use Rattle.descriptor_renderer.proofs.Settling.{settled}
+use Rattle.descriptor_renderer.proofs.store.Store.set_keep.Goals.{After-set_most}
 use Rattle.descriptor_renderer.proofs.store.Store.set_keep.Goals as goal
 
 pub set_most-requires : goal.set_most-requires
@@ -21,33 +21,29 @@ set_most-requires g c = λ k two.
     let all = chain_count s.slots.items s.next.items s.chains.items s.linked k in
     omega arith
 
+-- the sets are as they were
+same_sets : (g : _) (c : After-set_most g) → sets_in (slots_of c.set_most.new.self) ≡ sets_in (slots_of c.args.self.now.table)
+same_sets g c =
+    ap (λ v. sets_in v.items) c.set_most.ensures.slots ∙ gone_sets is_kept (slots_of c.args.self.now.table) (slots_of c.trim.new.self) c.trim.ensures.turns.slots
+
 pub invariant_of-self-clause-exact : goal.invariant_of-self-clause-exact
-invariant_of-self-clause-exact g c = λ t.
-    let name = g.D.DescriptorDevice.meaning.set_name in
-    let same = ap (λ v. sets_in v.items) c.set_most.ensures.slots ∙ gone_sets is_kept (slots_of c.args.self.now.table) (slots_of c.trim.new.self) c.trim.ensures.turns in
-    let count = ap (λ l. count_of t (items_of name l)) same in
-    let was = c.args.self.now.exact t in
-    omega arith
+invariant_of-self-clause-exact g c = exact_as c.args.self.now (same_sets g (goal.at.invariant_of-self-clause-exact g c).After-set_most)
 
 pub invariant_of-self-clause-accounted : goal.invariant_of-self-clause-accounted
-invariant_of-self-clause-accounted g c =
-    let same = ap (λ v. sets_in v.items) c.set_most.ensures.slots ∙ gone_sets is_kept (slots_of c.args.self.now.table) (slots_of c.trim.new.self) c.trim.ensures.turns in
-    let count = ap length same in
-    let was = c.args.self.now.accounted in
-    omega arith
+invariant_of-self-clause-accounted g c = accounted_as c.args.self.now (same_sets g (goal.at.invariant_of-self-clause-accounted g c).After-set_most)
 
 pub returns-clause-trims : goal.returns-clause-trims
 returns-clause-trims g c =
     let old = slots_of c.args.self.now.table in
     let new = slots_of c.give.new.self.table in
-    let gives = c.give.ensures.gives in
+    let gives = c.give.ensures in
     let turns = subst (λ v. Turns goes Vacates v.items new) c.set_most.ensures.slots gives.turns in
-    record { turns = left old (slots_of c.trim.new.self) new (none_goes old c.requires.rest.placed) c.trim.ensures.turns turns; sets = gives.sets; returns = gives.returns }
+    record { turns = left old (slots_of c.trim.new.self) new (none_goes old c.requires.rest.placed) c.trim.ensures.turns.slots turns; back = gives.back }
 
 pub returns-clause-few : goal.returns-clause-few
 returns-clause-few g c = λ layout.
     let new = slots_of c.give.new.self.table in
-    let turns = subst (λ v. Turns goes Vacates v.items new) c.set_most.ensures.slots c.give.ensures.gives.turns in
+    let turns = subst (λ v. Turns goes Vacates v.items new) c.set_most.ensures.slots c.give.ensures.turns in
     let same = given_kept (slots_of c.trim.new.self) new turns (layout + 2) (omega arith) in
     let few = c.trim.ensures.few layout in
     omega arith
@@ -56,6 +52,6 @@ pub returns-clause-settles : goal.returns-clause-settles
 returns-clause-settles g c =
     let old = slots_of c.args.self.now.table in
     let new = slots_of c.give.new.self.table in
-    let turns = subst (λ v. Turns goes Vacates v.items new) c.set_most.ensures.slots c.give.ensures.gives.turns in
-    let all = left old (slots_of c.trim.new.self) new (none_goes old c.requires.rest.placed) c.trim.ensures.turns turns in
-    settled 0 c.args.self.now c.give.new.self (follow_turns 0 is_kept MayLeave old new all (follows_left 0 new)) (ap (λ v. v.items) c.give.ensures.coming ∙ c.requires.rest.none_coming) c.requires.rest
+    let turns = subst (λ v. Turns goes Vacates v.items new) c.set_most.ensures.slots c.give.ensures.turns in
+    let all = left old (slots_of c.trim.new.self) new (none_goes old c.requires.rest.placed) c.trim.ensures.turns.slots turns in
+    settled 0 c.args.self.now c.give.new.self (follow_turns 0 is_kept MayLeave old new all (follows_left 0 new)) (ap (λ v. v.items) c.give.ensures.coming ∙ c.requires.rest.none_coming) c.requires.rest (search rules)

@@ -1,4 +1,4 @@
-use Rattle.std.proofs.Common.{◌∙◌, arith}
+use Rattle.std.proofs.Common.{◌∙◌, arith, rules}
 use Rattle.descriptor_table.specs.Slots.{slot_at}
 use Rattle.descriptor_table.specs.Tables.{slots_of}
 use Rattle.descriptor_renderer.proofs.Following.{follows_same}
@@ -14,4 +14,4 @@ invariant_of-self-clause-accounted g c = c.trim.ensures.trims.totals_stay.0 ∙ 
 pub returns-clause-settles : goal.returns-clause-settles
 returns-clause-settles g c =
     let slots = slots_of c.args.self.now.table in
-    settled 0 _ _ (λ p. follows_same 0 (slot_at slots p) (slot_at slots p) (λ i. slot_at slots p)) c.requires.rest.none_coming c.requires.rest
+    settled 0 _ _ (λ p. follows_same 0 (slot_at slots p) (slot_at slots p) (λ i. slot_at slots p)) c.requires.rest.none_coming c.requires.rest (search rules)

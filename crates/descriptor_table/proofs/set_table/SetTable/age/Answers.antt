@@ -33,10 +33,10 @@ loop-place-preserved g c =
       stays = stays_more c.args.self.now c.loop-place.self c.age_at.new.self inv.stays c.age_at.ensures.stays;
     }
 
-pub returns-clause-aged : goal.returns-clause-aged
-returns-clause-aged g c =
+pub returns : goal.returns
+returns g c =
     let inv = c.loop-place.invariant in
     let n = c.len-place-end.ensures in
     let ok = c.args.self.now.slots.ok.0 in
     let end = c.loop-place-test.false in
-    record { long = inv.long; each = λ p lt. inv.done p (omega arith) }
+    record { slots = record { long = inv.long; each = λ p lt. inv.done p (omega arith) }; stays = inv.stays }

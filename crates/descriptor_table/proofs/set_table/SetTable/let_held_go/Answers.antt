@@ -1,8 +1,9 @@
+use Rattle.descriptor_table.specs.declared.slot.Use.TheVariants.{Going}
 use Rattle.std.proofs.Common.{◌≡◌, false, inl, inr, refl, sym, subst, arith}
 use Rattle.descriptor_table.specs.Slots.{slot_at}
 use Rattle.descriptor_table.specs.Tables.{Leaves, holds, slots_of}
 use Rattle.descriptor_table.proofs.Counting.{same_or}
-use Rattle.descriptor_table.proofs.Turning.{leave_one, none_passes, stays_more, stays_same, turn_end, turn_start}
+use Rattle.descriptor_table.proofs.Turning.{none_passes, stays_more, stays_same, turn_end, turn_start, use_one}
 use Rattle.descriptor_table.proofs.set_table.SetTable.let_held_go.Goals as goal
 
 pub loop-place-init : goal.loop-place-init
@@ -25,7 +26,7 @@ loop-place-preserved g c =
     let long = inv.turning.long in
     let n = c.len-place-end.ensures in
     let ok = c.args.self.now.slots.ok.0 in
-    let one = leave_one (slots_of c.args.self.now) now new c.loop-place.place inv.turning (omega arith) c.let_go_at.ensures.slots in
+    let one = use_one holds Going (slots_of c.args.self.now) now new c.loop-place.place inv.turning (omega arith) c.let_go_at.ensures.slots (λ s. refl) in
     record {
       turning = one.turning;
       done = λ p less. elim (same_or p c.loop-place.place) [
@@ -35,12 +36,12 @@ loop-place-preserved g c =
       stays = stays_more c.args.self.now c.loop-place.self c.let_go_at.new.self inv.stays c.let_go_at.ensures.stays;
     }
 
-pub returns-clause-turns : goal.returns-clause-turns
-returns-clause-turns g c =
+pub returns : goal.returns
+returns g c =
     let inv = c.loop-place.invariant in
     let now = slots_of c.loop-place.self in
     let end = c.loop-place-test.false in
     let long = inv.turning.long in
     let n = c.len-place-end.ensures in
     let ok = c.args.self.now.slots.ok.0 in
-    turn_end holds Leaves (slots_of c.args.self.now) now inv.turning (none_passes holds now refl (λ p lt. inv.done p (omega arith)))
+    record { slots = turn_end holds Leaves (slots_of c.args.self.now) now inv.turning (none_passes holds now refl (λ p lt. inv.done p (omega arith))); stays = inv.stays }

@@ -11,14 +11,17 @@ none g c = count_none (is_kept_of c.args.layout) (slots_of c.trim_list.new.self)
 
 pub returns-clause-turns : goal.returns-clause-turns
 returns-clause-turns g c =
-    let turns = c.trim_list.ensures.turns in
+    let turns = c.trim_list.ensures.turns.slots in
     record {
-      long = turns.long;
-      rest = turns.rest;
-      here = λ p kept. elim (turns.here p kept) [
-        | inl same ↦ absurd (let no : true ≡ false = sym kept ∙ ap (is_kept_of c.args.layout) (sym same) ∙ none g c p in cc)
-        | inr going ↦ going
-      ];
+      slots = record {
+        long = turns.long;
+        rest = turns.rest;
+        here = λ p kept. elim (turns.here p kept) [
+          | inl same ↦ absurd (let no : true ≡ false = sym kept ∙ ap (is_kept_of c.args.layout) (sym same) ∙ none g c p in cc)
+          | inr going ↦ going
+        ];
+      };
+      stays = c.trim_list.ensures.turns.stays;
     }
 
 pub returns-clause-none : goal.returns-clause-none

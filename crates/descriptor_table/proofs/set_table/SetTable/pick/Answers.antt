@@ -1,4 +1,4 @@
-use Rattle.std.proofs.Common.{◌≡◌, ◌-◌, ◌<◌, length, true, refl, sym, ap, set, ◌∙◌, arith}
+use Rattle.std.proofs.Common.{◌≡◌, ◌-◌, ◌<◌, length, true, refl, sym, ap, set, ◌∙◌, arith, rules}
 use Rattle.std.proofs.lemmas.List.{get_or_read, length-set}
 use Rattle.descriptor_table.specs.Slots.{chain_at, is_in, slot_at}
 use Rattle.descriptor_table.specs.Tables.{used_for}
@@ -70,9 +70,9 @@ invariant_of-self-2-clause-few g c =
     let same = ap (λ (d : Chain). d.count) (is_list g d) in
     few_set s.most s.chains.items c.args.list (record { first = c.index.result.now; count = c.in_ok-chain.chain.now.count - 1 }) s.few (there g d) (λ two. let few = s.few c.args.list two in omega arith)
 
-pub returns-clause-picks : goal.returns-clause-picks
-returns-clause-picks g c =
+pub returns : goal.returns
+returns g c =
     let s = c.args.self.now in
     let at = c.in_ok-chain.chain.now.first in
-    let p = first g (goal.at.returns-clause-picks g c).Else-chain-eq0 in
-    record { was = p.1; within = p.0; slots = ap (λ w. set s.slots.items at (used_for Taken w)) (read_slot s.slots.items at c.index_mut.result.now p.0 c.index_mut.ensures.value) }
+    let p = first g (goal.at.returns g c).Else-chain-eq0 in
+    record { slots = record { was = p.1; within = p.0; slots = ap (λ w. set s.slots.items at (used_for Taken w)) (read_slot s.slots.items at c.index_mut.result.now p.0 c.index_mut.ensures.value) }; stays = search rules }

@@ -2,16 +2,16 @@ use Rattle.std.proofs.Common.{ap, refl, arith}
 use Rattle.descriptor_table.specs.Tables.{slots_of}
 use Rattle.descriptor_table.specs.declared.slot.Chain.{Chain}
 use Rattle.descriptor_table.proofs.Counts.{chain_count}
-use Rattle.descriptor_table.proofs.Turning.{above_of}
+use Rattle.descriptor_table.proofs.Turning.{above_of, stays_same}
 use Rattle.descriptor_table.proofs.set_table.SetTable.pick_above.Goals as goal
 
-pub returns-then-chain-most-clause-picks : goal.returns-then-chain-most-clause-picks
-returns-then-chain-most-clause-picks g c =
+pub returns-then-chain-most : goal.returns-then-chain-most
+returns-then-chain-most g c =
     let s = c.args.self.now in
     let a = ap (λ (d : Chain). d.count) c.chain.ensures in
     let b = chain_count s.slots.items s.next.items s.chains.items s.linked c.args.list in
     let le = c.if-chain-most.true in
-    (omega arith, refl)
+    record { slots = (omega arith, refl); stays = stays_same s }
 
-pub returns-clause-picks : goal.returns-clause-picks
-returns-clause-picks g c = above_of c.args.list c.args.most c.pick.result (slots_of c.args.self.now) (slots_of c.pick.new.self) c.pick.ensures.picks
+pub returns : goal.returns
+returns g c = record { slots = above_of c.args.list c.args.most c.pick.result (slots_of c.args.self.now) (slots_of c.pick.new.self) c.pick.ensures.slots; stays = c.pick.ensures.stays }

@@ -3,18 +3,19 @@ use Rattle.descriptor_table.specs.Slots.{frame_at}
 use Rattle.descriptor_table.specs.declared.slot.FrameChain.{FrameChain}
 use Rattle.descriptor_table.proofs.Counting.{below_or}
 use Rattle.descriptor_table.proofs.Frames.{none_due, read_frame}
+use Rattle.descriptor_table.proofs.Turning.{stays_same}
 use Rattle.descriptor_table.proofs.set_table.SetTable.pick_due.Goals as goal
 
-pub returns-then-count-eq0-clause-picks : goal.returns-then-count-eq0-clause-picks
-returns-then-count-eq0-clause-picks g c =
+pub returns-then-count-eq0 : goal.returns-then-count-eq0
+returns-then-count-eq0 g c =
     let s = c.args.self.now in
     let none = c.if-count-eq0.true in
     let n = c.len-count.ensures in
     let ok = s.frames.ok in
-    record { none = none_due s.slots.items s.next.items s.frames.items s.framed s.rising c.args.frame (λ i lt. absurd (omega arith)); slots = refl }
+    record { slots = record { none = none_due s.slots.items s.next.items s.frames.items s.framed s.rising c.args.frame (λ i lt. absurd (omega arith)); slots = refl }; stays = stays_same s }
 
-pub returns-then-chain-frame-clause-picks : goal.returns-then-chain-frame-clause-picks
-returns-then-chain-frame-clause-picks g c =
+pub returns-then-chain-frame : goal.returns-then-chain-frame
+returns-then-chain-frame g c =
     let s = c.args.self.now in
     let some = c.if-count-eq0.false in
     let n = c.len-count.ensures in
@@ -23,14 +24,17 @@ returns-then-chain-frame-clause-picks g c =
     let late = c.if-chain-frame.true in
     let f = ap (λ (d : FrameChain). d.frame) is in
     record {
-      none =
-          none_due s.slots.items s.next.items s.frames.items s.framed s.rising c.args.frame
-          (λ i lt.
-          elim (below_or i (c.len-count.result - 1)) [
-            | inl b ↦ (let h = s.rising.falls i (c.len-count.result - 1) b (omega arith) in omega arith)
-            | inr a ↦ (
-                let e : i ≡ c.len-count.result - 1 = omega arith in
-                let h = ap (λ i. (frame_at s.frames.items i).frame) e in omega arith)
-          ]);
-      slots = refl;
+      slots = record {
+        none =
+            none_due s.slots.items s.next.items s.frames.items s.framed s.rising c.args.frame
+            (λ i lt.
+            elim (below_or i (c.len-count.result - 1)) [
+              | inl b ↦ (let h = s.rising.falls i (c.len-count.result - 1) b (omega arith) in omega arith)
+              | inr a ↦ (
+                  let e : i ≡ c.len-count.result - 1 = omega arith in
+                  let h = ap (λ i. (frame_at s.frames.items i).frame) e in omega arith)
+            ]);
+        slots = refl;
+      };
+      stays = stays_same s;
     }

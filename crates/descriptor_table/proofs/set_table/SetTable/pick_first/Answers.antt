@@ -1,4 +1,4 @@
-use Rattle.std.proofs.Common.{◌≡◌, ◌-◌, ◌<◌, length, refl, true, sym, ap, set, subst, ◌∙◌, arith}
+use Rattle.std.proofs.Common.{◌≡◌, ◌-◌, ◌<◌, length, refl, true, sym, ap, set, subst, ◌∙◌, arith, rules}
 use Rattle.std.proofs.lemmas.List.{get_or_read}
 use Rattle.descriptor_table.specs.Slots.{frame_at, is_of, slot_at}
 use Rattle.descriptor_table.specs.Tables.{used_for}
@@ -94,9 +94,9 @@ invariant_of-self-clause-known g c =
     let i = inside g (goal.at.invariant_of-self-clause-known g c).After-index_mut-chain in
     known_set s.slots.items c.index_mut-chain.result.now.first Taken c.index_mut.result.now _ _ s.known i (read_slot s.slots.items c.index_mut-chain.result.now.first c.index_mut.result.now i c.index_mut.ensures.value) (taken_unkept c.index_mut.result.now)
 
-pub returns-clause-picks : goal.returns-clause-picks
-returns-clause-picks g c =
+pub returns : goal.returns
+returns g c =
     let s = c.args.self.now in
-    let d = (goal.at.returns-clause-picks g c).After-index_mut-chain in
+    let d = (goal.at.returns g c).After-index_mut-chain in
     let i = inside g d in
-    record { was = waits g d; within = i; slots = ap (λ w. set s.slots.items c.index_mut-chain.result.now.first (used_for Taken w)) (read_slot s.slots.items c.index_mut-chain.result.now.first c.index_mut.result.now i c.index_mut.ensures.value) }
+    record { slots = record { was = waits g d; within = i; slots = ap (λ w. set s.slots.items c.index_mut-chain.result.now.first (used_for Taken w)) (read_slot s.slots.items c.index_mut-chain.result.now.first c.index_mut.result.now i c.index_mut.ensures.value) }; stays = search rules }

@@ -1,7 +1,8 @@
-use Rattle.std.proofs.Common.{◌≡◌, ◌∙◌, sym, subst}
+use Rattle.std.proofs.Common.{◌≡◌, ◌∙◌, sym, subst, ap}
 use Rattle.descriptor_table.specs.Slots.{is_due, slot_at}
-use Rattle.descriptor_table.specs.Tables.{IsSettled, Turns, generations_of, next_use, slots_of, used_for, with_use}
-use Rattle.descriptor_table.proofs.Turning.{due_not_listed, one_fewer, settled_grows, settled_here, settled_not_due, settled_set, stays_more, turn_end, turn_step}
+use Rattle.descriptor_table.specs.Tables.{IsSettled, Turns, generations_of, next_use, slots_of, used_for}
+use Rattle.descriptor_table.proofs.Turning.{due_not_listed, one_fewer, same_next, settled_grows, settled_here, settled_not_due, settled_set, stays_more, turn_end, turn_step}
+use Rattle.descriptor_table.proofs.Listed.{with_use}
 use Rattle.descriptor_table.proofs.set_table.SetTable.settle_due.Goals.{After-settle}
 use Rattle.descriptor_table.proofs.set_table.SetTable.settle_due.Goals as goal
 
@@ -9,14 +10,13 @@ use Rattle.descriptor_table.proofs.set_table.SetTable.settle_due.Goals as goal
 settled : (g : _) (c : After-settle g) → slots_of c.settle.new.self ≡ with_use c.in-Some.place (next_use (generations_of c.args.self.now) c.args.self.now.most (slots_of c.pick_due.new.self) c.in-Some.place) (slots_of c.pick_due.new.self)
 settled g c =
     let mid = slots_of c.pick_due.new.self in
-    let at = c.in-Some.place in
-    let few = subst (λ m. slots_of c.settle.new.self ≡ with_use at (next_use (generations_of c.pick_due.new.self) m mid at) mid) (c.in-Some.ensures.stays.most ∙ c.loop-place.invariant.stays.most) c.settle.ensures.slots in
-    subst (λ generations. slots_of c.settle.new.self ≡ with_use at (next_use generations c.args.self.now.most mid at) mid) (c.in-Some.ensures.stays.generations ∙ c.loop-place.invariant.stays.generations) few
+    let stays = stays_more c.args.self.now c.loop-place.self c.pick_due.new.self c.loop-place.invariant.stays c.in-Some.ensures.stays in
+    c.settle.ensures.slots ∙ ap (λ u. with_use c.in-Some.place u mid) (same_next c.args.self.now c.pick_due.new.self stays.settings mid c.in-Some.place)
 
 pub loop-place-preserved : goal.loop-place-preserved
 loop-place-preserved g c =
     let inv = c.loop-place.invariant in
-    let picks = c.in-Some.ensures.picks in
+    let picks = c.in-Some.ensures.slots in
     let generations = generations_of c.args.self.now in
     let most = c.args.self.now.most in
     let now = slots_of c.loop-place.self in
@@ -38,7 +38,7 @@ loop-place-preserved g c =
 
 pub loop-place-smaller : goal.loop-place-smaller
 loop-place-smaller g c =
-    let picks = c.in-Some.ensures.picks in
+    let picks = c.in-Some.ensures.slots in
     let generations = generations_of c.args.self.now in
     let most = c.args.self.now.most in
     let now = slots_of c.loop-place.self in
@@ -54,9 +54,12 @@ loop-place-smaller g c =
     (settled_here generations most now mid new p picks.within out picks.slots is))
     (settled_set generations most now mid new p picks.within out picks.slots is)
 
-pub returns-clause-turns : goal.returns-clause-turns
-returns-clause-turns g c =
-    let picks = c.in_default.ensures.picks in
+pub returns : goal.returns
+returns g c =
+    let picks = c.in_default.ensures in
     let generations = generations_of c.args.self.now in
     let most = c.args.self.now.most in
-    subst (Turns (is_due c.args.frame) (IsSettled generations most) (slots_of c.args.self.now)) (sym picks.slots) (turn_end (is_due c.args.frame) (IsSettled generations most) (slots_of c.args.self.now) (slots_of c.loop-place.self) c.loop-place.invariant.turning picks.none)
+    record {
+      slots = subst (Turns (is_due c.args.frame) (IsSettled generations most) (slots_of c.args.self.now)) (sym picks.slots.slots) (turn_end (is_due c.args.frame) (IsSettled generations most) (slots_of c.args.self.now) (slots_of c.loop-place.self) c.loop-place.invariant.turning picks.slots.none);
+      stays = stays_more c.args.self.now c.loop-place.self c.pick_due.new.self c.loop-place.invariant.stays picks.stays;
+    }

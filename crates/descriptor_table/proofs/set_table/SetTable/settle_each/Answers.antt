@@ -1,8 +1,9 @@
-use Rattle.std.proofs.Common.{◌≡◌, false, length, inl, inr, sym, subst, arith}
+use Rattle.std.proofs.Common.{◌≡◌, false, length, inl, inr, sym, subst, arith, ap, ◌∙◌, if◌then◌else◌}
 use Rattle.descriptor_table.specs.Slots.{slot_at}
-use Rattle.descriptor_table.specs.Tables.{IsSettled, generations_of, if_taken, is_taken, next_use, place_at, slots_of}
+use Rattle.descriptor_table.specs.Tables.{IsSettled, generations_of, is_taken, place_at, slots_of}
 use Rattle.descriptor_table.proofs.Counting.{same_or}
-use Rattle.descriptor_table.proofs.Turning.{none_taken, settle_one, settled_not_taken, stays_more, stays_same, turn_end, turn_start}
+use Rattle.descriptor_table.proofs.Turning.{none_taken, same_next, settle_one, settled_not_taken, stays_more, stays_same, turn_end, turn_start}
+use Rattle.descriptor_table.proofs.Listed.{with_use}
 use Rattle.descriptor_table.proofs.set_table.SetTable.settle_each.Goals as goal
 
 pub loop-index-init : goal.loop-index-init
@@ -14,7 +15,7 @@ loop-index-init g c = record {
 
 pub settle_taken-requires : goal.settle_taken-requires
 settle_taken-requires g c =
-    let lt = c.requires.within c.loop-index.index c.loop-index-test.true in
+    let lt = c.requires.taken.within c.loop-index.index c.loop-index-test.true in
     let long = c.loop-index.invariant.turning.long in
     omega arith
 
@@ -25,10 +26,9 @@ loop-index-preserved g c =
     let now = slots_of c.loop-index.self in
     let new = slots_of c.settle_taken.new.self in
     let p = place_at c.args.handles.now c.loop-index.index in
-    let lt = c.requires.within c.loop-index.index c.loop-index-test.true in
+    let lt = c.requires.taken.within c.loop-index.index c.loop-index-test.true in
     let long = inv.turning.long in
-    let few = subst (λ m. new ≡ if_taken p (next_use (generations_of c.loop-index.self) m now p) now) inv.stays.most c.settle_taken.ensures.slots in
-    let made = subst (λ generations. new ≡ if_taken p (next_use generations c.args.self.now.most now p) now) inv.stays.generations few in
+    let made = c.settle_taken.ensures.slots ∙ ap (λ u. if is_taken (slot_at now p) then with_use p u now else now) (same_next c.args.self.now c.loop-index.self inv.stays.settings now p) in
     let one = settle_one (generations_of c.args.self.now) c.args.self.now.most old now new p inv.turning (omega arith) made in
     record {
       turning = one.turning;
@@ -39,14 +39,17 @@ loop-index-preserved g c =
       stays = stays_more c.args.self.now c.loop-index.self c.settle_taken.new.self inv.stays c.settle_taken.ensures.stays;
     }
 
-pub returns-clause-turns : goal.returns-clause-turns
-returns-clause-turns g c =
+pub returns : goal.returns
+returns g c =
     let inv = c.loop-index.invariant in
     let old = slots_of c.args.self.now in
     let now = slots_of c.loop-index.self in
     let end = c.loop-index-test.false in
-    turn_end is_taken (IsSettled (generations_of c.args.self.now) c.args.self.now.most) old now inv.turning
-    (none_taken (IsSettled (generations_of c.args.self.now) c.args.self.now.most) (length c.args.handles.now)
-    (place_at c.args.handles.now) old now inv.turning
-    (settled_not_taken (generations_of c.args.self.now) c.args.self.now.most (slots_of c.loop-index.self))
-    c.requires.taken (λ i lt. inv.done i (omega arith)))
+    record {
+      slots = turn_end is_taken (IsSettled (generations_of c.args.self.now) c.args.self.now.most) old now inv.turning
+          (none_taken (IsSettled (generations_of c.args.self.now) c.args.self.now.most) (length c.args.handles.now)
+          (place_at c.args.handles.now) old now inv.turning
+          (settled_not_taken (generations_of c.args.self.now) c.args.self.now.most (slots_of c.loop-index.self))
+          c.requires.taken.all (λ i lt. inv.done i (omega arith)));
+      stays = inv.stays;
+    }

@@ -51,9 +51,12 @@ invariant_of-self-clause-known g c =
     let read = read_slot s.slots.items c.args.place c.index_mut.result.now c.requires.taken.taken.within c.index_mut.ensures.value in
     known_set s.slots.items c.args.place c.args.used c.index_mut.result.now _ _ s.known c.requires.taken.taken.within read (waits_unkept c.args.frame (used_for c.args.used c.index_mut.result.now) (ap (λ w. is_of c.args.frame (used_for c.args.used w)) read ∙ c.requires.goes))
 
-pub returns-clause-stays : goal.returns-clause-stays
-returns-clause-stays g c =
-    let few = few g (goal.at.returns-clause-stays g c).After-insert in
+pub returns : goal.returns
+returns g c =
+    let few = few g (goal.at.returns g c).After-insert in
     let room = c.args.self.now.sized.room in
     let block = c.in-Ok.ensures.in_place (omega arith) in
-    record { number = refl; most = refl; lists = refl; generations = refl; slots = refl; next = refl; frames = block.1.0 }
+    record {
+      slots = ap (λ w. set c.args.self.now.slots.items c.args.place (used_for c.args.used w)) (read_slot c.args.self.now.slots.items c.args.place c.index_mut.result.now c.requires.taken.taken.within c.index_mut.ensures.value);
+      stays = record { settings = record { number = refl; lists = refl; generations = refl; most = refl }; slots = refl; next = refl; frames = block.1.0 };
+    }

@@ -14,7 +14,7 @@ handle g c = get_or c.args.handles.now c.loop-index.index (record { renderer = 0
 
 -- whether it has a held set now
 holds : (g : _) (c : After-holds g) → c.holds.result ≡ is_held c.args.self.now.number (slots_of c.loop-index.self) (get_or c.args.handles.now c.loop-index.index (record { renderer = 0; place = 0; generation = 0 }))
-holds g c = subst (λ n. c.holds.result ≡ is_held n (slots_of c.loop-index.self) (get_or c.args.handles.now c.loop-index.index (record { renderer = 0; place = 0; generation = 0 }))) c.loop-index.invariant.stays.number c.holds.ensures
+holds g c = subst (λ n. c.holds.result ≡ is_held n (slots_of c.loop-index.self) (get_or c.args.handles.now c.loop-index.index (record { renderer = 0; place = 0; generation = 0 }))) c.loop-index.invariant.stays.settings.number c.holds.ensures
 
 pub loop-index-init : goal.loop-index-init
 loop-index-init g c = record { some = took_none c.args.self.now.number c.args.handles.now (slots_of c.args.self.now); stays = stays_same c.args.self.now }

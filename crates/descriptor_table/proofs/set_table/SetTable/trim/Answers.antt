@@ -25,16 +25,16 @@ loop-list-preserved g c =
     let e = c.trim_list.ensures in
     let two = c.loop-list.auto.list in
     record {
-      turning = trim_more k two now new e.turns old inv.turning;
+      turning = trim_more k two now new e.turns.slots old inv.turning;
       few = λ j two' lt. elim (same_or j k) [
         | inl same ↦ subst (λ j. count (is_in j) new ≤ c.args.most) (sym same) e.few
-        | inr ne ↦ (let a = trim_others k two now new e.turns j two' ne in let b = inv.few j two' (omega arith) in omega arith)
+        | inr ne ↦ (let a = trim_others k two now new e.turns.slots j two' ne in let b = inv.few j two' (omega arith) in omega arith)
       ];
-      stays = stays_more c.args.self.now c.loop-list.self c.trim_list.new.self inv.stays e.stays;
+      stays = stays_more c.args.self.now c.loop-list.self c.trim_list.new.self inv.stays e.turns.stays;
     }
 
 pub returns-clause-turns : goal.returns-clause-turns
-returns-clause-turns g c = turn_some is_kept (slots_of c.args.self.now) (slots_of c.loop-list.self) c.loop-list.invariant.turning
+returns-clause-turns g c = record { slots = turn_some is_kept (slots_of c.args.self.now) (slots_of c.loop-list.self) c.loop-list.invariant.turning; stays = c.loop-list.invariant.stays }
 
 pub returns-clause-few : goal.returns-clause-few
 returns-clause-few g c = λ layout.
@@ -43,7 +43,7 @@ returns-clause-few g c = λ layout.
     let end = c.loop-list-test.false in
     let n = c.len-list-end.ensures in
     let ok = c.args.self.now.chains.ok.0 in
-    let lists = inv.stays.lists in
+    let lists = inv.stays.settings.lists in
     elim (below_or (layout + 2) (length s.chains.items)) [
       | inl lt ↦ inv.few (layout + 2) (omega arith) (omega arith)
       | inr past ↦ (let none = ap (λ (d : Chain). d.count) (get_or_past s.chains.items (layout + 2) (record { first = 0; count = 0 }) past) in let all = chain_count s.slots.items s.next.items s.chains.items s.linked (layout + 2) in omega arith)

@@ -1,14 +1,15 @@
 use Rattle.std.proofs.Common.{◌≤◌, ◌∙◌, refl, sym, subst, ap}
 use Rattle.descriptor_table.specs.Slots.{is_in, slot_at}
-use Rattle.descriptor_table.specs.Tables.{MayGo, Turns, count, slots_of, used_for, with_use}
+use Rattle.descriptor_table.specs.Tables.{MayGo, Turns, count, slots_of, used_for}
 use Rattle.descriptor_table.specs.declared.slot.Use.TheVariants.{Going, Taken}
 use Rattle.descriptor_table.proofs.Turning.{Goes, going_out, one_fewer, stays_more, turn_some, turn_step, use_again}
+use Rattle.descriptor_table.proofs.Listed.{with_use}
 use Rattle.descriptor_table.proofs.set_table.SetTable.trim_list.Goals as goal
 
 pub loop-place-preserved : goal.loop-place-preserved
 loop-place-preserved g c =
     let inv = c.loop-place.invariant in
-    let picks = c.in-Some.ensures.picks in
+    let picks = c.in-Some.ensures.slots in
     let k = c.args.list in
     let now = slots_of c.loop-place.self in
     let p = c.in-Some.place in
@@ -20,7 +21,7 @@ loop-place-preserved g c =
 
 pub loop-place-smaller : goal.loop-place-smaller
 loop-place-smaller g c =
-    let picks = c.in-Some.ensures.picks in
+    let picks = c.in-Some.ensures.slots in
     let k = c.args.list in
     let now = slots_of c.loop-place.self in
     let p = c.in-Some.place in
@@ -29,10 +30,13 @@ loop-place-smaller g c =
 
 pub returns-clause-turns : goal.returns-clause-turns
 returns-clause-turns g c =
-    let picks = c.in_default.ensures.picks in
-    subst (Turns (is_in c.args.list) MayGo (slots_of c.args.self.now)) (sym picks.1) (turn_some (is_in c.args.list) (slots_of c.args.self.now) (slots_of c.loop-place.self) c.loop-place.invariant.turning)
+    let picks = c.in_default.ensures in
+    record {
+      slots = subst (Turns (is_in c.args.list) MayGo (slots_of c.args.self.now)) (sym picks.slots.1) (turn_some (is_in c.args.list) (slots_of c.args.self.now) (slots_of c.loop-place.self) c.loop-place.invariant.turning);
+      stays = stays_more c.args.self.now c.loop-place.self c.pick_above.new.self c.loop-place.invariant.stays picks.stays;
+    }
 
 pub returns-clause-few : goal.returns-clause-few
 returns-clause-few g c =
-    let picks = c.in_default.ensures.picks in
+    let picks = c.in_default.ensures.slots in
     subst (λ l. count (is_in c.args.list) l ≤ c.args.most) (sym picks.1) picks.0
