@@ -61,23 +61,6 @@ retires pool_name set_name old new l xs same is out used =
       used = λ t. (let e = as_before t in let m = more.1 t in omega arith);
     }
 
--- sets are retired, wherever they stand in the list
-pub retires_counted :
-    {P S : Type 0} (pool_name : P → ℕ) (set_name : S → ℕ) (old new : FrameManager P S) (l : Ledger)
-    (xs : List (DescriptorSet S))
-    → allocator_of new ≡ allocator_of old
-    → ((t : Item)
-    → count_of t (items_of set_name (retired_sets (retired_of new)))
-    ≡ count_of t (items_of set_name (retired_sets (retired_of old))) + count_of t (items_of set_name xs))
-    → AreRetiredOut pool_name set_name old l → AreInUse pool_name set_name (items_of set_name xs) old l
-    → Retires pool_name set_name (items_of set_name xs) old new l
-retires_counted pool_name set_name old new l xs same more out used =
-    let as_before : (t : Item) → outstanding (state_in pool_name new l) t ≡ outstanding (state_in pool_name old l) t = λ t. ap (λ a. outstanding (state_of pool_name a l) t) same in
-    record {
-      retired = record { out = λ t. (let e = as_before t in let m = more t in let a = out.out t in let b = used.used t in omega arith) };
-      used = λ t. (let e = as_before t in let m = more t in let a = out.out t in let b = used.used t in omega arith);
-    }
-
 pub none_retired : {P S : Type 0} (pool_name : P → ℕ) (set_name : S → ℕ) (m : FrameManager P S) (l : Ledger) → retired_of m ≡ [] → AreRetiredOut pool_name set_name m l
 none_retired pool_name set_name m l is = record { out = λ t. (let none = ap (λ rs. count_of t (items_of set_name (retired_sets rs))) is in omega arith) }
 

@@ -1,7 +1,6 @@
 -- A layout that comes into a slot and has a handle, and one that leaves.
-use Rattle.std.proofs.Common.{◌≡◌, ◌≢◌, ℕ, ◌+◌, ◌<◌, ◌⊎◌, zero, suc, Bool, true, false, List, [], ◌∷◌, length, set, slice_index_or, if◌then◌else◌, Option, None, Some, is_some, IsSome, inl, inr, refl, sym, ap, subst, ◌∙◌, arith}
-use Rattle.std.proofs.lemmas.List.{length-set}
-use Rattle.descriptor_table.specs.Sets.{AreHeldOnce, LoseNames, Names, find, is_held, sets_of}
+use Rattle.std.proofs.Common.{◌≡◌, ◌≢◌, ℕ, ◌+◌, ◌<◌, ◌⊎◌, zero, suc, Bool, true, false, List, [], ◌∷◌, set, slice_index_or, if◌then◌else◌, Option, None, Some, is_some, IsSome, inl, inr, refl, sym, ap, subst, ◌∙◌, arith}
+use Rattle.descriptor_table.specs.Sets.{AreHeldOnce, LoseNames, Names, is_held, sets_of}
 use Rattle.descriptor_table.specs.Slots.{is_live, slot_at}
 use Rattle.descriptor_table.specs.Tables.{Grows, Puts, Renews, place_at, renewed, vacated}
 use Rattle.descriptor_table.specs.declared.handle.SetHandle.{SetHandle}
@@ -15,7 +14,7 @@ use Rattle.descriptor_renderer.specs.Own.{AreCounted, IsCounted}
 use Rattle.descriptor_renderer.proofs.Cleared.{same_clears}
 use Rattle.descriptor_renderer.proofs.Growing.{grow_new}
 use Rattle.descriptor_renderer.proofs.Handing.{named, new_fills}
-use Rattle.descriptor_renderer.proofs.Owned.{found_none, same_some}
+use Rattle.descriptor_renderer.proofs.Owned.{same_some}
 
 one_more : (b c : Bool) (r g h : ℕ) → b ≡ false → c ≡ true → h ≡ g + 1 → g ≡ r + (if b then 1 else 0) → h ≡ r + (if c then 1 else 0)
 one_more false true r g h none some more was = omega arith
@@ -40,15 +39,6 @@ module _ {T : Type 0} (number p : ℕ) (x : T) (handle : SetHandle) (old mid new
       let at : (slot_at new handle.place).set ≡ Some x = ap (λ (h : SetHandle). (slot_at new h.place).set) renews.is ∙ added_here in
       subst (λ y. Names handle y (sets_of number 0 false old) (sets_of number 0 false new)) (same_some is.set x (sym is.here ∙ at)) (is.names 0 false refl)
 
-  pub added_fresh : find number 0 false old handle ≡ None
-  added_fresh = found_none number 0 false old handle (ap (λ (h : SetHandle). (slot_at old h.place).set) renews.is ∙ puts.empty)
-
-  pub added_stay : (n : ℕ) (y : T) → (slot_at old n).set ≡ Some y → (slot_at new n).set ≡ Some y
-  added_stay n y is = elim (same_or n p) [
-    | inl e ↦ absurd (let no : None ≡ Some y = sym puts.empty ∙ ap (λ q. (slot_at old q).set) (sym e) ∙ is in cc)
-    | inr ne ↦ ap (λ (s : Slot T). s.set) (added_there n ne) ∙ is
-  ]
-
   pub added_only : (n : ℕ) (y : T) → (slot_at new n).set ≡ Some y → ((slot_at old n).set ≡ Some y) ⊎ (y ≡ x)
   added_only n y is = elim (same_or n p) [
     | inl e ↦ inr (same_some y x (sym is ∙ ap (λ q. (slot_at new q).set) e ∙ added_here))
@@ -67,14 +57,6 @@ module _ {T : Type 0} (number p : ℕ) (x : T) (handle : SetHandle) (old mid new
 
   pub added_grows : Grows old new
   added_grows = grow_new number generations 0 p x Held handle old mid new (λ s. refl) puts renews
-
-  pub added_one : (length new ≡ length old) ⊎ (length new ≡ length old + 1)
-  added_one =
-      let long = ap length renews.slots ∙ length-set mid p (renewed Held (slot_at mid p)) in
-      elim puts.grows [
-        | inl same ↦ inl (long ∙ same)
-        | inr more ↦ inr (long ∙ more.0)
-      ]
 
 -- a layout that leaves its slot
 module _ {T : Type 0} (number : ℕ) (h : SetHandle) (old new : List (Slot T)) where

@@ -13,7 +13,7 @@ use Rattle.descriptor_table.specs.declared.slot.Use.{Use}
 use Rattle.descriptor_table.specs.declared.slot.Use.TheVariants.{Held, Drawn, Waits, Kept, Going, Taken, Vacant}
 use Rattle.descriptor_table.proofs.Chains.{and_true}
 use Rattle.descriptor_table.proofs.Holding.{named_or}
-use Rattle.descriptor_renderer.specs.Stores.{AreNamed, HoldEach, NoneComes, SetsCome, KeepsStore, current_in, is_free, most_of, number_of, slots_in}
+use Rattle.descriptor_renderer.specs.Stores.{AreNamed, HoldEach, NoneComes, SetsCome, KeepsStore, current_in, is_free, number_of, slots_in}
 use Rattle.descriptor_renderer.specs.declared.store.Store.{Store}
 use Rattle.descriptor_renderer.proofs.Arriving.{Arrives, arrives_then, clears_arrives, same_arrives, used_placed}
 use Rattle.descriptor_renderer.proofs.Cleared.{Clears}

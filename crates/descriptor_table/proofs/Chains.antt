@@ -1,5 +1,5 @@
 -- The lists of slots, by the code's chains.
-use Rattle.std.proofs.Common.{◌≡◌, ◌≢◌, ℕ, zero, suc, ◌+◌, ◌-◌, ◌<◌, ◌≤◌, ◌==◌, ◌&&◌, Bool, true, false, not, nat_lt, List, [], ◌∷◌, length, get_or, set, slice_get, Option, None, Some, is_some, inl, inr, refl, sym, ap, subst, ◌∙◌, arith, ne_eqb, eqb-true}
+use Rattle.std.proofs.Common.{◌≡◌, ◌≢◌, ℕ, ◌+◌, ◌-◌, ◌<◌, ◌≤◌, ◌==◌, ◌&&◌, Bool, true, false, not, nat_lt, List, length, get_or, set, is_some, inl, inr, refl, sym, ap, subst, ◌∙◌, arith, ne_eqb, eqb-true}
 use Rattle.std.proofs.lemmas.List.{get_or-set_other, get_or-set_same, get_or_read, length-set}
 use Rattle.descriptor_table.specs.Places.{walk}
 use Rattle.descriptor_table.specs.Slots.{AreFew, AreFramed, AreLinked, HasLists, IsListed, chain_at, chain_of, in_list, is_in, is_of, slot_at, waits_for}
@@ -127,12 +127,6 @@ module _ {T : Type 0} where
   known_set slots p u w lists generations known within is current =
       let was = subst (IsListed lists generations) (sym is) (known p within) in
       lists_set slots p (used_for u w) lists generations known within (record { there = was.there; before = was.before; kept = current })
-
--- what the code reads
-pub got_chain : (chains : List Chain) (k : ℕ) (c : Chain) → Some c ≡ slice_get chains k → (k < length chains) × (chain_at chains k ≡ c)
-got_chain [] k c e = absurd (let bad : ◌≡◌ {A = Option Chain} (Some c) None = e in cc)
-got_chain (d ∷ chains) zero c e = (omega arith, (let same : ◌≡◌ {A = Option Chain} (Some c) (Some d) = e in cc))
-got_chain (d ∷ chains) (suc k) c e = let rest = got_chain chains k c e in ((let lt = rest.0 in omega arith), rest.1)
 
 one_before : (n : ℕ) → n ≢ 0 → n ≡ n - 1 + 1
 one_before n some = omega arith

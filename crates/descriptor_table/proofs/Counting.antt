@@ -1,5 +1,5 @@
 -- Lists of places, and how often each place is in them.
-use Rattle.std.proofs.Common.{◌≡◌, ◌≢◌, ℕ, zero, suc, ◌+◌, ◌<◌, ◌≤◌, ◌==◌, Bool, true, false, if◌then◌else◌, List, [], ◌∷◌, ◌++◌, length, get_or, set, ◌⊎◌, inl, inr, refl, sym, ap, subst, ◌∙◌, arith, eq-eqb, ne_eqb}
+use Rattle.std.proofs.Common.{◌≡◌, ◌≢◌, ℕ, zero, suc, ◌+◌, ◌<◌, ◌≤◌, ◌==◌, Bool, true, false, if◌then◌else◌, List, [], ◌∷◌, length, get_or, set, ◌⊎◌, inl, inr, refl, sym, ap, subst, ◌∙◌, arith, eq-eqb, ne_eqb}
 use Rattle.std.proofs.lemmas.List.{get_or-set_other}
 use Rattle.descriptor_table.specs.Places.{times, walk}
 
@@ -35,10 +35,6 @@ more_swap true true n = refl
 more_swap true false n = refl
 more_swap false true n = refl
 more_swap false false n = refl
-
-pub times_append : (p q : ℕ) (l : List ℕ) → times p (l ++ q ∷ []) ≡ times p (q ∷ l)
-times_append p q [] = refl
-times_append p q (x ∷ l) = ap (more (p == x)) (times_append p q l) ∙ more_swap (p == x) (p == q) (times p l)
 
 -- a list in which no place is has no item
 pub none_times : (l : List ℕ) → ((p : ℕ) → times p l ≡ 0) → l ≡ []

@@ -1,7 +1,7 @@
 -- The lists of sets that wait, by the code's chains of frames.
 use Rattle.std.proofs.Common.{◌≡◌, ◌≢◌, ℕ, zero, suc, ◌+◌, ◌-◌, ◌<◌, ◌≤◌, ◌==◌, ◌&&◌, nat_le, Bool, true, false}
-use Rattle.std.proofs.Common.{if◌then◌else◌, List, [], ◌∷◌, ◌++◌, insert, length, get_or, set, slice_get, Option, None}
-use Rattle.std.proofs.Common.{Some, is_some, inl, inr, refl, sym, ap, subst, ◌∙◌, arith, eq-eqb, ne_eqb}
+use Rattle.std.proofs.Common.{if◌then◌else◌, List, [], ◌∷◌, ◌++◌, insert, length, get_or, set, None}
+use Rattle.std.proofs.Common.{is_some, inl, inr, refl, sym, ap, subst, ◌∙◌, arith, eq-eqb, ne_eqb}
 use Rattle.std.proofs.Common.{leb-true}
 use Rattle.std.proofs.lemmas.List.{length-set}
 use Rattle.descriptor_table.specs.Places.{times, walk}
@@ -347,11 +347,6 @@ module _ {T : Type 0} (slots : List (Slot T)) where
 
 pub read_frame : (frames : List FrameChain) (i : ℕ) (c : FrameChain) → i < length frames → c ≡ get_or frames i c → c ≡ frame_at frames i
 read_frame frames i c within is = get_or_read frames i c within is (record { frame = 0; first = 0; count = 0 })
-
-pub got_frame : (frames : List FrameChain) (i : ℕ) (c : FrameChain) → Some c ≡ slice_get frames i → (i < length frames) × (frame_at frames i ≡ c)
-got_frame [] i c e = absurd (let bad : ◌≡◌ {A = Option FrameChain} (Some c) None = e in cc)
-got_frame (d ∷ frames) zero c e = (omega arith, (let same : ◌≡◌ {A = Option FrameChain} (Some c) (Some d) = e in cc))
-got_frame (d ∷ frames) (suc i) c e = let rest = got_frame frames i c e in ((let lt = rest.0 in omega arith), rest.1)
 
 -- what is at the end
 pub last_is : (all frames : List FrameChain) (c : FrameChain) → all ≡ frames ++ c ∷ [] → frame_at all (length all - 1) ≡ c

@@ -2,7 +2,7 @@
 use Rattle.std.proofs.Common.{◌≡◌, ◌≢◌, ℕ, zero, suc, ◌+◌, ◌<◌, ◌⊎◌, ◌==◌, ◌&&◌, Bool, true, false, List, [], ◌∷◌, length, get_or, is_some, inl, inr, refl, sym, ap, subst, ◌∙◌, arith, eqb-true}
 use Rattle.std.proofs.lemmas.List.{length-set}
 use Rattle.descriptor_table.specs.Sets.{AreHeldOnce, is_held}
-use Rattle.descriptor_table.specs.Slots.{IsNowhere, in_list, slot_at, waits_for}
+use Rattle.descriptor_table.specs.Slots.{IsNowhere, slot_at}
 use Rattle.descriptor_table.specs.Tables.{TookEach, is_held_use, place_at, used_for}
 use Rattle.descriptor_table.specs.declared.handle.SetHandle.{SetHandle}
 use Rattle.descriptor_table.specs.declared.slot.Use.{Use}
@@ -11,24 +11,6 @@ use Rattle.descriptor_table.specs.declared.slot.Slot.{Slot}
 use Rattle.descriptor_table.proofs.Chains.{and_true}
 use Rattle.descriptor_table.proofs.Counting.{same_or}
 use Rattle.descriptor_table.proofs.Listed.{other_slots, slot_set, test_within, with_use}
-
-nowhere_list : (u : Use) → IsNowhere u → (k layout generation : ℕ) (full : Bool) → in_list k u layout generation full ≡ false
-nowhere_list Held n k layout generation full = refl
-nowhere_list (Drawn f) n k layout generation full = absurd (n)
-nowhere_list (Waits f) n k layout generation full = absurd (n)
-nowhere_list Kept n k layout generation full = absurd (n)
-nowhere_list Going n k layout generation full = absurd (n)
-nowhere_list Taken n k layout generation full = refl
-nowhere_list Vacant n k layout generation full = absurd (n)
-
-nowhere_frame : (u : Use) → IsNowhere u → (f : ℕ) (full : Bool) → (waits_for f u && full) ≡ false
-nowhere_frame Held n f full = refl
-nowhere_frame (Drawn g) n f full = absurd (n)
-nowhere_frame (Waits g) n f full = absurd (n)
-nowhere_frame Kept n f full = absurd (n)
-nowhere_frame Going n f full = absurd (n)
-nowhere_frame Taken n f full = refl
-nowhere_frame Vacant n f full = absurd (n)
 
 held_use : (u : Use) → is_held_use u ≡ true → u ≡ Held
 held_use Held e = refl
@@ -82,13 +64,6 @@ module _ {T : Type 0} where
         used = held_use s.used full.0;
         within = test_within (λ s. ((h.renderer == number) && (h.generation == s.generation)) && (is_held_use s.used && is_some s.set)) slots h.place (and_none ((h.renderer == number) && (h.generation == 0))) e;
       }
-
-  -- two handles of one place that both have a held set are the same
-  same_handle : (number : ℕ) (slots : List (Slot T)) (a b : SetHandle) → is_held number slots a ≡ true → is_held number slots b ≡ true → a.place ≡ b.place → a ≡ b
-  same_handle number slots a b ha hb at =
-      let x = held_is number slots a ha in
-      let y = held_is number slots b hb in
-      λ i. record { renderer = (x.renderer ∙ sym y.renderer) i; place = at i; generation = (x.generation ∙ ap (λ p. (slot_at slots p).generation) at ∙ sym y.generation) i }
 
   used_same : (s : Slot T) (u : Use) → s.used ≡ u → used_for u s ≡ s
   used_same s u e = ap (λ v. used_for v s) (sym e)

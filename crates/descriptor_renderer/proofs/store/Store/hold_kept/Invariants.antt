@@ -1,7 +1,6 @@
-use Rattle.std.proofs.Common.{◌≡◌, ℕ, ◌+◌, ◌++◌, List, length, vec_capacity}
-use Rattle.descriptor_table.specs.Tables.{Grows, HasRoom}
+use Rattle.std.proofs.Common.{◌≡◌, ◌+◌, ◌++◌, List, length, vec_capacity}
 use Rattle.descriptor_table.specs.declared.handle.SetHandle.{SetHandle}
-use Rattle.descriptor_renderer.specs.Stores.{HoldEach, NoneComes, SetsCome, KeepsStore, coming_in, current_in, kept_of, number_of, side_of, slots_in, HoldsKept}
+use Rattle.descriptor_renderer.specs.Stores.{HoldEach, current_in, kept_of, number_of, slots_in, HoldsKept}
 use Rattle.descriptor_renderer.proofs.store.Store.hold_kept.Given as goal
 
 abbrev pub invariant-loop : goal.invariant-loop
