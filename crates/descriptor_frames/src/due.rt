@@ -32,7 +32,7 @@ impl<S> Iterator for Due<'_, S> {
 }
 
 impl<S> Due<'_, S> {
-    /// Gives the list back.
+    /// Ends the borrow of the list.
     pub(crate) fn end(self)
         ensures { self.exit.0.now ≡ self.entry.retired.now }
     {}

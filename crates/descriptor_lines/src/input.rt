@@ -110,10 +110,10 @@ impl LineBuffer {
         }
     }
 
-    // Two calls, so that no byte is copied: a method that lends a part of what it changes can't say
-    // what it left.
     /// The line at this place, without the carriage return that it may end in.
     pub fn line(&self, span: Span) -> &[u8]
+        // Two calls, so that no byte is copied: a method that lends a part of what it changes can't say
+        // what it left.
         ensures bytes { result.now ≡ strip_last 13 (bytes_at self.now span) }
         ensures short { length result.now ≤ span.end - span.start }
     {

@@ -233,7 +233,7 @@ module _ {L P S D : Type 0} {d : Ghosts D L P S} where
     pub cleaned : AreCleaned (slots_in refused) (slots_in new)
     pub cleans : Cleans refused new
 
-  -- no set is kept, and so many sets were refused, after which it was asked for this many
+  -- no set is kept: so many were refused, or, after a cleanup, this many
   pub record IsRefusedAtLast (layout : L) (first last : ℕ) (error : AllocationError) (old new : Store L P S D d) : Type 0 where
     pub none : count is_kept (slots_in new) ≡ 0
     pub why : IsRefused layout first error old new ⊎ ((mid : Store L P S D d) × IsCleared layout first old mid × IsRefused layout last error mid new)

@@ -173,8 +173,9 @@ impl<L: Drop, P: Drop, S: Drop, D: DescriptorDevice<L, P, S>> Renderer<L, P, S, 
         }
     }
 
-    /// Gives all kept sets back, and destroys all pools that then have no set. Sets that are in use
-    /// aren't kept when they come back. Call it between levels, or when memory is short.
+    /// Gives all kept sets back, and destroys all pools that then have no set, as the allocator's `trim`
+    /// does. Sets that are in use aren't kept when they come back. Call it between levels, or when memory
+    /// is short.
     pub fn cleanup(&mut self)
         ensures emptied { count holds (slots_of self.old) ≡ 0 → count waits (slots_of self.old) ≡ 0
             → pools_in self.new ≡ pools_besides self.old }

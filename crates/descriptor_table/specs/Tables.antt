@@ -221,7 +221,7 @@ module _ {T : Type 0} where
   abbrev pub PicksAbove : ℕ → ℕ → Option ℕ → List (Slot T) → List (Slot T) → Type 0
   PicksAbove k most result old new = MatchOption result ((count (is_in k) old ≤ most) × (new ≡ old)) (λ p. Picks (is_in k) p old new)
 
-  -- the slots without the flag of new sets
+  -- the slots, of which no set is kept when it comes back
   abbrev pub aged : Slot T → Slot T
   aged s = record s { leaves = true }
 
@@ -285,7 +285,7 @@ module _ {T : Type 0} where
     pub within : (i : ℕ) → i < length handles → place_at handles i < length slots
     pub all : (p : ℕ) → is_taken (slot_at slots p) ≡ true → (i : ℕ) × (i < length handles) × (place_at handles i ≡ p)
 
-  -- each slot has lost the flag of new sets
+  -- no set that is there is kept when it comes back
   pub record AreAged (old new : List (Slot T)) : Type 0 where
     pub long : length new ≡ length old
     pub each : (p : ℕ) → p < length old → slot_at new p ≡ aged (slot_at old p)

@@ -25,7 +25,7 @@ impl<T> Iterator for Giving<'_, T> {
 }
 
 impl<T> Giving<'_, T> {
-    /// Gives the table back.
+    /// Ends the borrow of the table.
     pub fn end(self)
         ensures { self.exit.0.now ≡ self.entry.table.now }
     {}
@@ -52,7 +52,7 @@ impl<T> Iterator for Due<'_, T> {
 }
 
 impl<T> Due<'_, T> {
-    /// Gives the table back.
+    /// Ends the borrow of the table.
     pub fn end(self)
         ensures { self.exit.0.now ≡ self.entry.table.now }
     {}

@@ -5,7 +5,7 @@ ghost use Rattle.descriptor_table.specs.Slots.{is_live};
 /// What a set is in use for.
 #[derive(Clone, Copy)]
 pub enum Use {
-    /// It has a handle.
+    /// It has a handle until it is freed or destroyed.
     Held,
 
     /// It has a handle until this frame ends, and waits for the frame.
@@ -14,7 +14,7 @@ pub enum Use {
     /// It waits for this frame.
     Waits(u64),
 
-    /// It is out of use, and handed out again.
+    /// It is out of use, until it is handed out again.
     Kept,
 
     /// It goes back to its pool.

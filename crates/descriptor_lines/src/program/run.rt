@@ -37,7 +37,7 @@ impl<D: LineDevice> Program<D> {
             (line_state D.ledger D.script self.old) (line_state D.ledger D.script self.new) }
     {
         match command {
-            Command::Limit { max } => self.begin(max, answer),
+            Command::Limit { max } => self.set_limit(max, answer),
             Command::Layout { name, layout } => self.add_layout(name, layout, answer),
             Command::Size {
                 counts,
@@ -55,7 +55,7 @@ impl<D: LineDevice> Program<D> {
     }
 
     /// Begins with this limit on marked descriptors, and puts the answer into the empty text.
-    fn begin(&mut self, max: u32, answer: &mut String) -> Result<(), AllocError>
+    fn set_limit(&mut self, max: u32, answer: &mut String) -> Result<(), AllocError>
         requires ready { CanRun (line_state D.ledger D.script self.old) }
         requires fresh { layout_count self.old.layouts ≡ 0 }
         requires empty { string_bytes answer.old ≡ [] }

@@ -16,7 +16,7 @@ impl<L: Drop, P: Drop, S: Drop, D: DescriptorDevice<L, P, S>> Store<L, P, S, D> 
     ghost use Rattle.descriptor_renderer.specs.Stores.{coming_in, generations_in, kept_of, ledger_of};
     ghost use Rattle.descriptor_renderer.specs.Stores.{most_of, number_of, pools_besides, side_of, slots_in};
 
-    /// Gives the sets that were let go back to their pools.
+    /// Frees the sets that were let go. In most frames there are none.
     #[inline]
     fn give(&mut self)
         ensures { GivesBack goes self.old self.new }
@@ -30,7 +30,7 @@ impl<L: Drop, P: Drop, S: Drop, D: DescriptorDevice<L, P, S>> Store<L, P, S, D> 
         self.give_each();
     }
 
-    /// Gives these sets back, one after another.
+    /// Frees the sets that were let go, run by run.
     fn give_each(&mut self)
         ensures { GivesBack goes self.old self.new }
     {
@@ -41,7 +41,7 @@ impl<L: Drop, P: Drop, S: Drop, D: DescriptorDevice<L, P, S>> Store<L, P, S, D> 
         giving.end();
     }
 
-    /// Gives the sets that wait for a frame up to this one back to their pools.
+    /// Frees the sets that wait for a frame up to this one.
     fn give_due(&mut self, frame: u64)
         ensures { GivesBack (is_due frame) self.old self.new }
     {

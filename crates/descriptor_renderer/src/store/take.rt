@@ -15,7 +15,7 @@ impl<L: Drop, P: Drop, S: Drop, D: DescriptorDevice<L, P, S>> Store<L, P, S, D> 
     ghost use Rattle.descriptor_renderer.specs.Stores.{IsRefusedAtLast, KeepsStore, Settles, TakesKept};
     ghost use Rattle.descriptor_renderer.specs.Stores.{coming_in, current_in, kept_of, number_of, slots_in};
 
-    /// Asks the allocator for a set of a layout, and puts it into the table. Gives its place.
+    /// Asks the allocator for a set of a layout, and puts it into the table. Returns its place.
     #[inline]
     fn ask(&mut self, known: &SetLayout<L>, layout: u32) -> Result<usize, AllocationError>
         requires meant { IsMeant D.meaning known.now }
@@ -36,7 +36,7 @@ impl<L: Drop, P: Drop, S: Drop, D: DescriptorDevice<L, P, S>> Store<L, P, S, D> 
     }
 
     /// Takes a new set of a layout. If it is refused while sets are kept, they are given back, empty
-    /// pools are destroyed, and it is asked for once more. Gives its place.
+    /// pools are destroyed, and it is asked for once more. Returns its place.
     fn take_new(&mut self, known: &SetLayout<L>, layout: u32) -> Result<usize, AllocationError>
         requires { CanTake known.now layout self.old }
         ensures gets { IfOk result (λ place. GetsAtLast known.now.layout layout place self.old
@@ -58,8 +58,8 @@ impl<L: Drop, P: Drop, S: Drop, D: DescriptorDevice<L, P, S>> Store<L, P, S, D> 
         }
     }
 
-    /// Takes a set of a layout: the last one that was kept, or else a new one. Gives its place. An error
-    /// is one of `DescriptorAllocator::allocate_one`, and comes only if no set is kept of any layout.
+    /// Takes a set of a layout: the last one that was kept, or else a new one. Returns its place. An
+    /// error is one of `DescriptorAllocator::allocate_one`; after it no set of any layout is kept.
     #[inline]
     fn take(&mut self, known: &SetLayout<L>, layout: u32) -> Result<usize, AllocationError>
         requires { CanTake known.now layout self.old }

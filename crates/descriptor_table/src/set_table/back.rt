@@ -13,9 +13,9 @@ impl<T> SetTable<T> {
     ghost use Rattle.descriptor_table.specs.Tables.{is_taken, lists_of, may_stay, most_of, next_use};
     ghost use Rattle.descriptor_table.specs.Tables.{slots_of, used_for};
 
-    /// Whether a set that comes back is kept.
+    /// Whether a set that comes back may be kept.
     #[inline]
-    fn stays(&self, place: usize) -> bool
+    fn may_stay(&self, place: usize) -> bool
         requires { place < length (slots_of self.now) }
         ensures { result ≡ may_stay (generations_of self.now) (most_of self.now)
             (slots_of self.now) (slot_at (slots_of self.now) place) }
@@ -34,7 +34,7 @@ impl<T> SetTable<T> {
         ensures { Changes (At place (used_for (next_use (generations_of self.old)
             (most_of self.old) (slots_of self.old) place))) self.old self.new }
     {
-        if self.stays(place) {
+        if self.may_stay(place) {
             let list = self.slots[place].layout as usize + KEPT;
             self.link(list, place, Use::Kept);
             return;

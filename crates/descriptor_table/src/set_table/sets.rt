@@ -14,7 +14,7 @@ impl<T> SetTable<T> {
     ghost use Rattle.descriptor_table.specs.Tables.{generations_of, is_usable, lists_of, number_of};
     ghost use Rattle.descriptor_table.specs.Tables.{slots_of, used_for, vacated};
 
-    /// Puts a set into a slot, over memory that was reserved. Gives its place.
+    /// Puts a set into a slot, over memory that was reserved. Returns its place.
     #[inline]
     pub fn put(&mut self, layout: u32, set: T) -> usize
         requires room { HasRoom 1 self.old }
@@ -145,7 +145,7 @@ impl<T> SetTable<T> {
         self.slots[place].set.take()
     }
 
-    /// A slot whose set was taken out is vacant, and used again but after its last generation.
+    /// A slot whose set was taken out is vacant, and is used again unless it had its last generation.
     #[inline]
     fn vacate(&mut self, place: usize)
         requires taken { IsTaken place (slots_of self.old) }

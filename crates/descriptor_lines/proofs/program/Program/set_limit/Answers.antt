@@ -1,7 +1,7 @@
 use Rattle.std.proofs.Common.{◌++◌, ap, refl, ◌∙◌, rules}
 use Rattle.descriptor_lines.specs.Answers.{limit_answer}
 use Rattle.descriptor_lines.proofs.SessionLemmas.{new_is_ready, none_in}
-use Rattle.descriptor_lines.proofs.program.Program.begin.Goals as goal
+use Rattle.descriptor_lines.proofs.program.Program.set_limit.Goals as goal
 
 pub returns : goal.returns
 returns g c = record {
