@@ -25,7 +25,7 @@ impl<S> Iterator for Due<'_, S> {
 }
 
 impl<S> Due<'_, S> {
-    /// Gives the list back.
+    /// Ends the borrow of the list.
     pub(crate) fn end(self)
     {}
 }

@@ -108,8 +108,9 @@ impl<L, P, S, D: DescriptorDevice<L, P, S>> Renderer<L, P, S, D> {
         }
     }
 
-    /// Gives all kept sets back, and destroys all pools that then have no set. Sets that are in use
-    /// aren't kept when they come back. Call it between levels, or when memory is short.
+    /// Gives all kept sets back, and destroys all pools that then have no set, as the allocator's `trim`
+    /// does. Sets that are in use aren't kept when they come back. Call it between levels, or when memory
+    /// is short.
     pub fn cleanup(&mut self)
     {
         self.store.cleanup();

@@ -18,7 +18,7 @@ impl<T> Iterator for Giving<'_, T> {
 }
 
 impl<T> Giving<'_, T> {
-    /// Gives the table back.
+    /// Ends the borrow of the table.
     pub fn end(self)
     {}
 }
@@ -39,7 +39,7 @@ impl<T> Iterator for Due<'_, T> {
 }
 
 impl<T> Due<'_, T> {
-    /// Gives the table back.
+    /// Ends the borrow of the table.
     pub fn end(self)
     {}
 }

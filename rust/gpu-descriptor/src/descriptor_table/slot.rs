@@ -4,7 +4,7 @@
 /// What a set is in use for.
 #[derive(Clone, Copy)]
 pub enum Use {
-    /// It has a handle.
+    /// It has a handle until it is freed or destroyed.
     Held,
 
     /// It has a handle until this frame ends, and waits for the frame.
@@ -14,7 +14,7 @@ pub enum Use {
     #[expect(dead_code)]
     Waits(u64),
 
-    /// It is out of use, and handed out again.
+    /// It is out of use, until it is handed out again.
     Kept,
 
     /// It goes back to its pool.

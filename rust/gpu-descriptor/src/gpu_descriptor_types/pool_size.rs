@@ -3,7 +3,7 @@
 
 use crate::gpu_descriptor_types::counts::DescriptorTotalCount;
 
-/// Sets that a pool has at least, unless a kind's count is too great for so many.
+/// How many sets a pool is for at least, before its size is cut.
 const MIN_SETS: u32 = 64;
 
 /// How many of a key's outstanding sets count at most towards the size of its next pool.
@@ -81,7 +81,7 @@ fn sets_in_room(room: u32, each: u64, sets: u32) -> u32
     }
 }
 
-/// How many sets a pool is to hold, whatever is counted.
+/// How many sets a pool is for, before this is rounded up and cut.
 fn start_size(total: u64, wanted: u32) -> u32
 {
     let outstanding = total.min(u64::from(MAX_SETS)) as u32;

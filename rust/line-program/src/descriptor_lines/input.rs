@@ -72,8 +72,6 @@ impl LineBuffer {
         }
     }
 
-    // Two calls, so that no byte is copied: a method that lends a part of what it changes can't say
-    // what it left.
     /// The line at this place, without the carriage return that it may end in.
     pub fn line(&self, span: Span) -> &[u8]
     {

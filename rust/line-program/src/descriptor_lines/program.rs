@@ -48,7 +48,8 @@ impl<D: LineDevice> Program<D> {
         }
     }
 
-    /// Runs a line, and puts its answer after the text. If there is none, nothing changes.
+    /// Runs a line, and puts its answer into the empty text. An error changes nothing but whether a line
+    /// has come.
     fn run_line(&mut self, line: &[u8], answer: &mut String) -> Result<(), Refusal>
     {
         self.device.hear(line);
@@ -103,7 +104,7 @@ pub fn run_lines<R: Read, W: Write>(alloc: Global, input: &mut R, output: &mut W
     exit
 }
 
-/// The same on any device that has nothing live yet and no script, which is given back. It ends
+/// The same on any device that has nothing live yet and no script. The device is returned. It ends
 /// with [`Exit::WriteFault`] where the device lost something that it was to write down.
 pub fn run_lines_on<D: LineDevice, R: Read, W: Write>(
     alloc: Global,

@@ -38,8 +38,9 @@ impl<L, P, S, D: DescriptorDevice<L, P, S>> Renderer<L, P, S, D> {
         Ok(())
     }
 
-    /// Draws with a set of a layout: the last one that was kept, or else a new one. Its handle names it
-    /// until the frame ends, and the set comes back once the device is done with the frame.
+    /// A set of a layout for the open frame: the last one that was kept, or else a new one. Its handle
+    /// names it until the frame ends, and the set comes back once the device is done with the frame.
+    /// Without an open frame or the layout it returns `NoFrame` or `NoLayout`, and changes nothing.
     ///
     /// If a new set is refused while sets are kept, of whatever layout, all kept sets are given back and
     /// empty pools are destroyed, as by `cleanup`, and it is asked for once more.

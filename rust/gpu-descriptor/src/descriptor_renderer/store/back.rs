@@ -6,7 +6,7 @@ use crate::descriptor_table::{Due, Giving, SetHandle};
 use crate::gpu_descriptor::DescriptorDevice;
 
 impl<L, P, S, D: DescriptorDevice<L, P, S>> Store<L, P, S, D> {
-    /// Gives the sets that were let go back to their pools.
+    /// Frees the sets that were let go. In most frames there are none.
     #[inline]
     fn give(&mut self)
     {
@@ -16,7 +16,7 @@ impl<L, P, S, D: DescriptorDevice<L, P, S>> Store<L, P, S, D> {
         self.give_each();
     }
 
-    /// Gives these sets back, one after another.
+    /// Frees the sets that were let go, run by run.
     fn give_each(&mut self)
     {
         let mut giving = Giving {
@@ -26,7 +26,7 @@ impl<L, P, S, D: DescriptorDevice<L, P, S>> Store<L, P, S, D> {
         giving.end();
     }
 
-    /// Gives the sets that wait for a frame up to this one back to their pools.
+    /// Frees the sets that wait for a frame up to this one.
     fn give_due(&mut self, frame: u64)
     {
         let mut giving = Due {

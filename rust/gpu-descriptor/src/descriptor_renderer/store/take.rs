@@ -6,7 +6,7 @@ use crate::descriptor_table::SetHandle;
 use crate::gpu_descriptor::{AllocationError, DescriptorDevice, SetLayout};
 
 impl<L, P, S, D: DescriptorDevice<L, P, S>> Store<L, P, S, D> {
-    /// Asks the allocator for a set of a layout, and puts it into the table. Gives its place.
+    /// Asks the allocator for a set of a layout, and puts it into the table. Returns its place.
     #[inline]
     fn ask(&mut self, known: &SetLayout<L>, layout: u32) -> Result<usize, AllocationError>
     {
@@ -20,7 +20,7 @@ impl<L, P, S, D: DescriptorDevice<L, P, S>> Store<L, P, S, D> {
     }
 
     /// Takes a new set of a layout. If it is refused while sets are kept, they are given back, empty
-    /// pools are destroyed, and it is asked for once more. Gives its place.
+    /// pools are destroyed, and it is asked for once more. Returns its place.
     fn take_new(&mut self, known: &SetLayout<L>, layout: u32) -> Result<usize, AllocationError>
     {
         match self.ask(known, layout) {
@@ -35,8 +35,8 @@ impl<L, P, S, D: DescriptorDevice<L, P, S>> Store<L, P, S, D> {
         }
     }
 
-    /// Takes a set of a layout: the last one that was kept, or else a new one. Gives its place. An error
-    /// is one of `DescriptorAllocator::allocate_one`, and comes only if no set is kept of any layout.
+    /// Takes a set of a layout: the last one that was kept, or else a new one. Returns its place. An
+    /// error is one of `DescriptorAllocator::allocate_one`; after it no set of any layout is kept.
     #[inline]
     fn take(&mut self, known: &SetLayout<L>, layout: u32) -> Result<usize, AllocationError>
     {

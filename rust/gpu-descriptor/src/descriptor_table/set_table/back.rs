@@ -6,9 +6,9 @@ use crate::descriptor_table::handle::SetHandle;
 use crate::descriptor_table::slot::Use;
 
 impl<T> SetTable<T> {
-    /// Whether a set that comes back is kept.
+    /// Whether a set that comes back may be kept.
     #[inline]
-    fn stays(&self, place: usize) -> bool
+    fn may_stay(&self, place: usize) -> bool
     {
         let slot = &self.slots[place];
         !slot.leaves
@@ -21,7 +21,7 @@ impl<T> SetTable<T> {
     #[inline]
     fn settle(&mut self, place: usize)
     {
-        if self.stays(place) {
+        if self.may_stay(place) {
             let list = self.slots[place].layout as usize + KEPT;
             self.link(list, place, Use::Kept);
             return;

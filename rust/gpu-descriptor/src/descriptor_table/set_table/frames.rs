@@ -12,7 +12,7 @@ impl<T> SetTable<T> {
             .partition_point(|chain: &FrameChain| chain.frame > frame)
     }
 
-    /// Lets a set wait for a frame. The list of the open frame is the first.
+    /// Lets a set wait for a frame. If the open frame has a list, it is the first.
     #[inline]
     pub(super) fn wait(&mut self, place: usize, frame: u64, used: Use)
     {
@@ -20,11 +20,11 @@ impl<T> SetTable<T> {
             self.join(0, place, used);
             return;
         }
-        self.wait_before(place, frame, used);
+        self.wait_in_list(place, frame, used);
     }
 
-    /// Lets a set wait for a frame, whose list is looked for.
-    fn wait_before(&mut self, place: usize, frame: u64, used: Use)
+    /// Lets a set wait for a frame, in the list that is found, or in a new one.
+    fn wait_in_list(&mut self, place: usize, frame: u64, used: Use)
     {
         let at = self.place_of_frame(frame);
         if self.is_of_frame(at, frame) {

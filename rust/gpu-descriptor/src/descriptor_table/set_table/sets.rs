@@ -7,7 +7,7 @@ use crate::descriptor_table::slot::{Slot, Use};
 use crate::kit::mem;
 
 impl<T> SetTable<T> {
-    /// Puts a set into a slot, over memory that was reserved. Gives its place.
+    /// Puts a set into a slot, over memory that was reserved. Returns its place.
     #[inline]
     pub fn put(&mut self, layout: u32, set: T) -> usize
     {
@@ -99,7 +99,7 @@ impl<T> SetTable<T> {
         self.slots[place].set.take()
     }
 
-    /// A slot whose set was taken out is vacant, and used again but after its last generation.
+    /// A slot whose set was taken out is vacant, and is used again unless it had its last generation.
     #[inline]
     fn vacate(&mut self, place: usize)
     {

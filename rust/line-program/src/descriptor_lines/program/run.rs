@@ -21,7 +21,7 @@ impl<D: LineDevice> Program<D> {
     ) -> Result<(), AllocError>
     {
         match command {
-            Command::Limit { max } => self.begin(max, answer),
+            Command::Limit { max } => self.set_limit(max, answer),
             Command::Layout { name, layout } => self.add_layout(name, layout, answer),
             Command::Size {
                 counts,
@@ -39,7 +39,7 @@ impl<D: LineDevice> Program<D> {
     }
 
     /// Begins with this limit on marked descriptors, and puts the answer into the empty text.
-    fn begin(&mut self, max: u32, answer: &mut String) -> Result<(), AllocError>
+    fn set_limit(&mut self, max: u32, answer: &mut String) -> Result<(), AllocError>
     {
         answer::limit_answer(answer, max)?;
         self.session = Session::new(self.alloc, max);
