@@ -67,7 +67,7 @@ pub enum DestroyError {
     /// The handle names no set that the renderer holds.
     NoSet,
 
-    /// The frame of the last use was not opened yet.
+    /// The frame of the last use is still to come.
     FrameAhead,
 }
 

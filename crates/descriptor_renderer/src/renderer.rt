@@ -243,7 +243,7 @@ impl<L: Drop, P: Drop, S: Drop, D: DescriptorDevice<L, P, S>> Renderer<L, P, S, 
         self.store.device()
     }
 
-    /// The frame that was opened last, 0 before the first.
+    /// The number of the last frame that was opened, or skipped by `skip_to`; 0 before the first.
     pub fn frame(&self) -> u64
         ensures { result ≡ frame_of self.now }
     {

@@ -1,4 +1,4 @@
--- The first word of a line, and the others.
+-- The first word of a line, and the others; and a word whose bytes are known one by one.
 use Rattle.std.proofs.Common.{◌≡◌, ℕ, ◌+◌, ◌<◌, ◌≤◌, ◌⊎◌, inl, inr, true, false, List, [], ◌∷◌, length, take, drop, get_or, slice_index, filter, unwrap_or, position, length-take, refl, arith, ap, sym, ◌∙◌}
 use Rattle.std.specs.List.{position_or_len, slice_split}
 use Rattle.std.proofs.lemmas.Bool.{cases_lt}

@@ -389,7 +389,7 @@ impl<L, P, S, D: DescriptorDevice<L, P, S>> Renderer<L, P, S, D> {
     ///
     /// # Errors
     ///
-    /// The handle names no set that is held, or the frame was not opened yet. Then nothing changed.
+    /// The handle names no set that is held, or the frame is later than `frame()`. Then nothing changed.
     ///
     /// # Panics
     ///
@@ -408,7 +408,7 @@ impl<L, P, S, D: DescriptorDevice<L, P, S>> Renderer<L, P, S, D> {
     ///
     /// # Errors
     ///
-    /// `FrameAhead`: the frame was not opened yet. `NoSet`: a handle names no set that is held, or
+    /// `FrameAhead`: the frame is later than `frame()`. `NoSet`: a handle names no set that is held, or
     /// is in the list twice. Then nothing changed.
     ///
     /// # Panics
@@ -458,7 +458,7 @@ impl<L, P, S, D: DescriptorDevice<L, P, S>> Renderer<L, P, S, D> {
         &self.inner.get().device().adapter.device
     }
 
-    /// The frame that was opened last, 0 before the first.
+    /// The number of the last frame that was opened, or skipped by `skip_to`; 0 before the first.
     #[must_use]
     pub fn frame(&self) -> u64 {
         self.inner.get().frame()

@@ -145,7 +145,7 @@ impl<L: Drop, P: Drop, S: Drop, D: DescriptorDevice<L, P, S>> Renderer<L, P, S, 
     /// next `gpu_done` of that frame or a later one, and their handles name nothing from now on. It
     /// allocates nothing.
     ///
-    /// It returns `FrameAhead` if the frame was not opened yet, and otherwise `NoSet` if a handle
+    /// It returns `FrameAhead` if the frame is later than `frame()`, and otherwise `NoSet` if a handle
     /// names no set that the renderer holds, or is in the list twice. Then nothing changed.
     pub fn destroy_sets(&mut self, sets: &[SetHandle], last_use: u64) -> Result<(), DestroyError>
         ensures waits { OnOk result (WaitEach sets.now last_use (slots_of self.old)

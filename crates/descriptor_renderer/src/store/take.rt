@@ -59,7 +59,8 @@ impl<L: Drop, P: Drop, S: Drop, D: DescriptorDevice<L, P, S>> Store<L, P, S, D> 
     }
 
     /// Takes a set of a layout: the last one that was kept, or else a new one. Returns its place. An
-    /// error is one of `DescriptorAllocator::allocate_one`; after it no set of any layout is kept.
+    /// error is one of `DescriptorAllocator::allocate_one`, or want of memory for a slot; after it no set
+    /// of any layout is kept.
     #[inline]
     fn take(&mut self, known: &SetLayout<L>, layout: u32) -> Result<usize, AllocationError>
         requires { CanTake known.now layout self.old }

@@ -1,4 +1,4 @@
--- What giving back keeps: agreement, and what is outstanding but for the sets given.
+-- What giving back keeps: agreement, and what is outstanding but for the sets given; and that neither order nor parts matter.
 use Rattle.gpu_descriptor.proofs.Common.{◌≡◌, ℕ, ◌+◌, ◌-◌, ◌<◌, ◌≤◌, Bool, true, false, ltb, ◌&&◌, ◌==◌, List, [], ◌∷◌}
 use Rattle.gpu_descriptor.proofs.Common.{◌++◌, flat_map, map, take, count_by, slice_get, slice_get-map, Option, Some}
 use Rattle.gpu_descriptor.proofs.Common.{None, option_map, ◌⊎◌, inl, inr, refl, sym, ap, ◌∙◌, subst, arith, eqb-true}
@@ -153,6 +153,7 @@ none_back s =
 pub rest_outstanding : (m n : List Item) (s : State) → Agree s → AreOutstanding (m ++ n) s → AreOutstanding m s × AreOutstanding n (released m s)
 rest_outstanding m n s agree out = grind (arith, count_by-append, takes)
 
+-- lists that are given back one after another leave what all of them leave at once
 pub each : (ms : List (List Item)) (s : State) → Agree s → AreOutstanding (flat_map (λ m. m) ms) s → released_each ms s ≡ released (flat_map (λ m. m) ms) s
 each [] s agree out = sym (none_back s)
 each (m ∷ ms) s agree out =

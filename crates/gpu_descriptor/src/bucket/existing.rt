@@ -26,8 +26,8 @@ use gpu_descriptor_types::{DescriptorDevice, DeviceAllocationError, Layouts, Tal
 
 /// Asks a pool with known free places for what it has of the sets that are left to come.
 ///
-/// A pool that refuses as fragmented or full has no known free places from then on. Want of memory is
-/// returned. Neither gives a set.
+/// A pool that refuses as fragmented or full has no known free places until sets of it are freed. Want of
+/// memory is returned. Neither gives a set.
 #[inline]
 fn ask<L, P, S, D: DescriptorDevice<L, P, S>, K: SetPlaces<S>>(
     device: &mut D,
@@ -70,7 +70,8 @@ fn ask<L, P, S, D: DescriptorDevice<L, P, S>, K: SetPlaces<S>>(
     }
 }
 
-/// Asks the pools with known free places, the newest first, until no set is left to come.
+/// Asks the pools with known free places, the newest first, until no set is left to come, or no such
+/// pool is left.
 #[inline(always)]
 fn walk<'k, L, P, S, D: DescriptorDevice<L, P, S>, K: SetPlaces<S>>(
     device: &mut D,

@@ -83,7 +83,7 @@ impl<'a, 'b, 'c, P> OpenPools<'a, 'b, 'c, P> {
         Some(&mut self.pools[place])
     }
 
-    /// Takes the newest pool with known free places out of the list.
+    /// Takes the last pool out of the list, as it has no known free places left.
     pub(crate) fn close_newest(&mut self)
         ensures listed { self.new.listed.now.items ≡ take (length self.old.listed.now.items - 1)
             self.old.listed.now.items }
@@ -97,10 +97,10 @@ impl<'a, 'b, 'c, P> OpenPools<'a, 'b, 'c, P> {
 }
 
 /// The last of these ordinals.
-fn last_of(numbers: &VecDeque<u64>) -> Option<u64>
-    ensures none { IfNone result (numbers.now.items ≡ []) }
-    ensures last { IfSome result (λ n. numbers.now.items
-        ≡ take (length numbers.now.items - 1) numbers.now.items ++ n ∷ []) }
+fn last_of(ordinals: &VecDeque<u64>) -> Option<u64>
+    ensures none { IfNone result (ordinals.now.items ≡ []) }
+    ensures last { IfSome result (λ n. ordinals.now.items
+        ≡ take (length ordinals.now.items - 1) ordinals.now.items ++ n ∷ []) }
 {
-    numbers.back().copied()
+    ordinals.back().copied()
 }

@@ -1,5 +1,4 @@
-//! A request for sets of one key: what it asks for, what it returns, and how the key's bucket serves
-//! it.
+//! A request for sets of one key: what it asks for, and how the key's bucket serves it.
 ghost use Rattle.std.specs.Prelude.{◌≡◌, ◌+◌, ◌<◌, ◌^◌, ◌++◌, length, IfOk, IfErr, OnOk, OnErr};
 ghost use Rattle.gpu_descriptor.specs.Caller.Call.{layout_key};
 ghost use Rattle.gpu_descriptor.specs.Caller.SetLists.{appended};
@@ -31,7 +30,7 @@ pub(crate) struct SetRequest<'a, L, P, S, D: DescriptorDevice<L, P, S>> {
     pub(crate) key: BucketKey,
     pub(crate) count: u32,
 
-    /// Where the books of a new key and of new pools take memory.
+    /// Where the books of a new key take memory.
     pub(crate) alloc: Global,
     pub(crate) device: PhantomData<(P, S, D)>,
     ghost same: { key_of key ≡ layout_key D.meaning layout.now },

@@ -44,7 +44,8 @@ impl<L, P, S, D: DescriptorDevice<L, P, S>> LayoutRegistry<L, P, S, D> {
         }
     }
 
-    /// How many slots there are: the most layouts that there were at once.
+    /// How many slots there are: as many as there were layouts at once, and those slots that gave their
+    /// last handle.
     pub fn places(&self) -> usize
     {
         self.table.places()

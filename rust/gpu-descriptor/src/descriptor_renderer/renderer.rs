@@ -156,7 +156,7 @@ impl<L, P, S, D: DescriptorDevice<L, P, S>> Renderer<L, P, S, D> {
         self.store.device()
     }
 
-    /// The frame that was opened last, 0 before the first.
+    /// The number of the last frame that was opened, or skipped by `skip_to`; 0 before the first.
     pub fn frame(&self) -> u64
     {
         self.frame

@@ -43,7 +43,7 @@ impl<P> KeyTable<P> {
         }
     }
 
-    /// The place of a key. It is hashed only if neither the last call's place is right nor the
+    /// The place of a key. It is hashed only if it is neither at the place that was found last nor at the
     /// one after it, which serves keys that are used in the order in which they first came.
     #[inline]
     fn place_of_key(&self, key: &BucketKey) -> Option<usize>
@@ -95,7 +95,7 @@ impl<P> KeyTable<P> {
 }
 
 impl<P> KeyTable<P> {
-    /// Takes sets of a key. If the key is absent, it is appended.
+    /// Takes sets of a key. If the key is absent, it is appended, unless the outer result is an error.
     #[inline]
     pub(crate) fn serve<'k, L, S, D: DescriptorDevice<L, P, S>, K: SetPlaces<S>>(
         &mut self,

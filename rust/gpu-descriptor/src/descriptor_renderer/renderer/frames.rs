@@ -74,7 +74,7 @@ impl<L, P, S, D: DescriptorDevice<L, P, S>> Renderer<L, P, S, D> {
         self.store.finish(done);
     }
 
-    /// The last frame that the device can be done with, of those up to this one.
+    /// This frame, or the one before the open frame if that is earlier.
     #[inline]
     fn done(&self, frame: u64) -> u64
     {

@@ -49,7 +49,7 @@ impl<'a, 'b, P> OpenPools<'a, 'b, P> {
         Some(&mut self.pools[place])
     }
 
-    /// Takes the newest pool with known free places out of the list.
+    /// Takes the last pool out of the list, as it has no known free places left.
     pub(crate) fn close_newest(&mut self)
     {
         let _closed = self.listed.pop_back();
@@ -57,7 +57,7 @@ impl<'a, 'b, P> OpenPools<'a, 'b, P> {
 }
 
 /// The last of these ordinals.
-fn last_of(numbers: &VecDeque<u64>) -> Option<u64>
+fn last_of(ordinals: &VecDeque<u64>) -> Option<u64>
 {
-    numbers.back().copied()
+    ordinals.back().copied()
 }
