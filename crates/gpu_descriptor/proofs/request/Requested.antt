@@ -87,7 +87,10 @@ module _ {L P S : Type 0} (means : Meaning L P S) {a : Allocations P} {max looks
         let is_out = counted.is_out in
         declined_past (inr (omega arith))
 
-    pub declined_unserved : past ≡ false → {b : Allocations P} {after : Ledger} → b ≡ a → after ≡ before → (e : AllocationError) → IsUnserved count (next_number (books_in means.pool_name (map row_of es) (key_of key))) e → IsDeclined (call_of means (key_of key) count (side a before) (side b after) (Err e))
+    pub declined_unserved :
+        past ≡ false → {b : Allocations P} {after : Ledger} → b ≡ a → after ≡ before → (e : AllocationError)
+        → IsUnserved count (next_number (books_in means.pool_name (map row_of es) (key_of key))) e
+        → IsDeclined (call_of means (key_of key) count (side a before) (side b after) (Err e))
     declined_unserved kept_in same kept e why = rw (same, kept) (elim (subst (λ (b : Bucket). IsUnserved count (next_number b) e) (sym (books_at a es (table_is es is) means.pool_name before (key_of key))) why) [
       | inl memory ↦ (
           let fits = ltb-false greatest_u64 (out + count) (sym bounded ∙ kept_in) in

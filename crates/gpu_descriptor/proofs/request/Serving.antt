@@ -37,11 +37,13 @@ module _ {L P S : Type 0} {means : Meaning L P S} {k : Key} {count left : ℕ} {
       (appends : Appends means layout count left roomy has) (all : OnOk ended (left ≡ 0)) (total : new.total ≡ many + length (appended roomy has))
       (taken : IsTaken ended was.most k was.room count (items_of means.set_name (appended roomy has)) (bucket id (map (entry_of means.pool_name) pools)) (bucket_of means.pool_name new) before after) where
     pub is_served : {is : Budget}
-        → (IsServed means was.most k was.room count (appended had has) ended (bucket id (map (entry_of means.pool_name) pools)) (bucket_of means.pool_name new) before after → new.total ≡ many + length (appended had has) → ServesKey means was.most k was.room count (appended had has) ended (map row_of es) (map row_of fs) before after)
+        → (IsServed means was.most k was.room count (appended had has) ended (bucket id (map (entry_of means.pool_name) pools)) (bucket_of means.pool_name new) before after → new.total ≡ many + length (appended had has)
+        → ServesKey means was.most k was.room count (appended had has) ended (map row_of es) (map row_of fs) before after)
         → stored_keys fs ≡ with_key k (stored_keys es) → is.room + sum_over bucket_load (map row_of fs) ≡ was.room + sum_over bucket_load (map row_of es) → is.most ≡ was.most → CountsLooks was.looks.count is.looks.count before after
         → ServesRequest means layout k count left (Ok ended) es fs was is had has before after
     is_served serves keys room most looks =
-        let here = subst (λ (xs : List (DescriptorSet S)). Appends means layout count left xs has × (new.total ≡ many + length (appended xs has)) × IsTaken ended was.most k was.room count (items_of means.set_name (appended xs has)) (bucket id (map (entry_of means.pool_name) pools)) (bucket_of means.pool_name new) before after) made (appends, total, taken) in
+        let here = subst (λ (xs : List (DescriptorSet S)). Appends means layout count left xs has × (new.total ≡ many + length (appended xs has))
+        × IsTaken ended was.most k was.room count (items_of means.set_name (appended xs has)) (bucket id (map (entry_of means.pool_name) pools)) (bucket_of means.pool_name new) before after) made (appends, total, taken) in
         let rest = here.0.rest in
         record {
           served = serves (record {

@@ -31,7 +31,13 @@ has_memory exit (inl bad) none = cc
 has_memory exit (inr bad) none = cc
 
 -- what came of the line that was read
-takes : (g : Over) (c : After-has_lost g) → Takes c.loop-number.number (unread c.loop-number.lines (g.R.Read.remaining c.loop-number.input)) (unread c.next_line.new.self (g.R.Read.remaining c.next_line.new.input)) c.match-next_line.outcome (string_bytes c.match-next_line.answer) (line_state g.D.DescriptorDevice.ledger g.D.LineDevice.script c.loop-number.program) (line_state g.D.DescriptorDevice.ledger g.D.LineDevice.script c.match-next_line.program)
+takes :
+    (g : Over) (c : After-has_lost g)
+    → Takes c.loop-number.number (unread c.loop-number.lines (g.R.Read.remaining c.loop-number.input))
+    (unread c.next_line.new.self (g.R.Read.remaining c.next_line.new.input)) c.match-next_line.outcome
+    (string_bytes c.match-next_line.answer)
+    (line_state g.D.DescriptorDevice.ledger g.D.LineDevice.script c.loop-number.program)
+    (line_state g.D.DescriptorDevice.ledger g.D.LineDevice.script c.match-next_line.program)
 takes g c = elim
     c.match-next_line.branch [
       | in-Ok-Some w ↦ let ran =

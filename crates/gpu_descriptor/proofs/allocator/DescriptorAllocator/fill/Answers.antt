@@ -104,8 +104,9 @@ returns-in-Ok-ended-clause-keeps g c =
 pub returns-in-Err-ended-clause-appends : goal.returns-in-Err-ended-clause-appends
 returns-in-Err-ended-clause-appends g c =
     let r = (goal.at.returns-in-Err-ended-clause-appends g c).In-Ok in
+    let back = returned g (goal.at.returns-in-Err-ended-clause-appends g c).After-free_after in
     record {
-      hands_out = rw c.error_of.ensures (hands_back (came g r) (taken g r) c.requires.agree (gained g r) c.in-Ok.ensures.looks c.in-Ok.ensures.comparisons_stay c.requires.some c.in-Ok.ensures.within.rows (returned g (goal.at.returns-in-Err-ended-clause-appends g c).After-free_after) c.in-Err-ended.is);
+      hands_out = rw c.error_of.ensures (hands_back (came g r) (taken g r) c.requires.agree (gained g r) c.in-Ok.ensures.looks c.in-Ok.ensures.comparisons_stay c.requires.some c.in-Ok.ensures.within.rows back c.in-Err-ended.is);
       front = tt;
       own = tt;
       sets_stay = c.free_after.ensures.items ∙ ap (take c.count-first.result) (front g r) ∙ take_at (g.K.SetPlaces.items c.args.sets) (came g r) c.count-first.result (sym c.count-first.ensures);

@@ -41,9 +41,10 @@ returns-then-self g c = record { serves = unserved c.args.self.now.buckets.entri
 pub returns-in_err-prepare : goal.returns-in_err-prepare
 returns-in_err-prepare g c =
     let is = absent g (goal.at.returns-in_err-prepare g c).Start in
+    let first = ap (λ (ps : List (DescriptorPool g.row.P.Denot)). number_after (stored_numbers ps)) c.new.ensures.items ∙ sym (ap next_number is) in
     record {
       serves = unserved c.args.self.now.buckets.entries (passed c.from_residual.result c.in_err-prepare.field-0.0 c.from_residual.ensures.1)
-          (subst (λ (n : ℕ). IsUnserved c.args.request.now.count n c.in_err-prepare.field-0.0) (ap (λ (ps : List (DescriptorPool g.row.P.Denot)). number_after (stored_numbers ps)) c.new.ensures.items ∙ sym (ap next_number is)) c.in_err-prepare.ensures.refused) c.prepare.ensures.sets c.reserve.ensures.entries;
+          (subst (λ (n : ℕ). IsUnserved c.args.request.now.count n c.in_err-prepare.field-0.0) first c.in_err-prepare.ensures.refused) c.prepare.ensures.sets c.reserve.ensures.entries;
     }
 
 -- the new key goes last
