@@ -1,6 +1,5 @@
-use Rattle.std.proofs.Common.{◌≡◌, false, [], sym, ap, subst, ◌∙◌}
+use Rattle.std.proofs.Common.{◌≡◌, false, [], sym, ap, ◌∙◌}
 use Rattle.std.proofs.lemmas.Result.{IfOk-weaker}
-use Rattle.std.specs.Prelude.{Result, Ok, Err, OnErr}
 use Rattle.gpu_descriptor_types.specs.Side.{Side, side}
 use Rattle.gpu_descriptor.specs.Model.Agreement.{Item, State, count_of, outstanding}
 use Rattle.gpu_descriptor.specs.Caller.Sets.{items_of}
@@ -9,10 +8,8 @@ use Rattle.gpu_descriptor.proofs.cleanup.Cleaning.{nothing_left}
 use Rattle.gpu_descriptor.proofs.foreign.NoneLost.{restores}
 use Rattle.gpu_descriptor.proofs.foreign.OthersStay.{from_others}
 use Rattle.descriptor_script.specs.Sessions.Session.{allocator_of, sets_of}
-use Rattle.descriptor_script.specs.Sessions.Steps.{Cleans}
 use Rattle.descriptor_script.specs.Sessions.Tickets.{held_sets}
 use Rattle.descriptor_script.specs.declared.session.Session.{Session}
-use Rattle.descriptor_script.proofs.Running.{session_through}
 use Rattle.descriptor_script.proofs.visit.visit.Goals.{After-cleanup}
 use Rattle.descriptor_script.proofs.visit.visit.Goals as goal
 
@@ -20,24 +17,11 @@ use Rattle.descriptor_script.proofs.visit.visit.Goals as goal
 abbrev used : (g : _) (c : After-cleanup g) → Side (Session g.row.L.Denot g.row.P.Denot g.row.S.Denot)
 used g c = side c.run-replies.new.self (g.D.DescriptorDevice.ledger c.run-replies.new.device)
 
-abbrev left : (g : _) (c : After-cleanup g) → Side (Session g.row.L.Denot g.row.P.Denot g.row.S.Denot)
-left g c = side c.cleanup.new.self (g.D.DescriptorDevice.ledger c.cleanup.new.device)
-
 pub returns-clause-runs : goal.returns-clause-runs
 returns-clause-runs g c =
     let at = (goal.at.returns-clause-runs g c).After-cleanup in
     IfOk-weaker c.run-replies.result _ _ (λ replies ran. (used g at, ran, at.cleanup.ensures.cleans)) c.run-replies.ensures.runs
 
-both : {T E A B C : Type 0} (r : Result T E) → (A → B → C) → OnErr r A → OnErr r B → OnErr r C
-both (Ok x) then a b = tt
-both (Err e) then a b = then a b
-
-pub returns-clause-cleans : goal.returns-clause-cleans
-returns-clause-cleans g c =
-    let at = (goal.at.returns-clause-cleans g c).After-cleanup in
-    both c.run-replies.result (λ session device. subst (λ old. Cleans g.D.DescriptorDevice.meaning old (left g at)) (λ i. side (session i) (g.D.DescriptorDevice.ledger (device i))) at.cleanup.ensures.cleans) c.run-replies.ensures.session c.run-replies.ensures.device
-
--- with no set held afterwards none was outstanding
 nothing : (g : _) (c : After-cleanup g) → held_sets (sets_of c.cleanup.new.self) ≡ [] → (i : Item) → outstanding (state_of g.D.DescriptorDevice.meaning.pool_name (allocator_of c.run-replies.new.self) (g.D.DescriptorDevice.ledger c.run-replies.new.device)) i ≡ 0
 nothing g c none i = c.run-replies.ensures.keeps.ready.held i ∙ ap (λ l. count_of i (items_of g.D.DescriptorDevice.meaning.set_name (held_sets l))) (sym c.cleanup.ensures.cleans.sets) ∙ ap (λ l. count_of i (items_of g.D.DescriptorDevice.meaning.set_name l)) none
 
@@ -58,6 +42,3 @@ returns-clause-ended g c none =
     let ledger = g.D.DescriptorDevice.ledger in
     let at = (goal.at.returns-clause-ended g c).After-cleanup in
     nothing_left false (state_of name (allocator_of c.run-replies.new.self) (ledger c.run-replies.new.device)) _ c.run-replies.ensures.keeps.ready.agree.books (nothing g at none) at.cleanup.ensures.cleans.cleans_up.cleaned
-
-pub returns-clause-keeps : goal.returns-clause-keeps
-returns-clause-keeps g c = session_through _ c.run-replies.ensures.keeps c.cleanup.ensures.keeps

@@ -51,7 +51,3 @@ returns-clause-pools g c =
     let put : c.fill.new.live.entries ≡ old.sets.entries ++ map (λ name. (name, counts)) (range_with_len first many) = c.fill.ensures.live ∙ ap (λ l. l ++ map (λ name. (name, counts)) (range_with_len first many)) c.reserve.ensures.entries in
     let live : times (live_sets_of c.fill.new.live.entries) ≡ (λ x. times (live_sets_of old.sets.entries) x + times sets x) = more_live old.sets.entries c.fill.new.live.entries counts c.args.pool first many put in
     on_written h (λ pool. record pool { live = λ x. pool.live x + times sets x }) (ap (λ (l : LiveSet → ℕ). record (seen old) { live = l }) live)
-
-pub returns-clause-names : goal.returns-clause-names
-returns-clause-names g c =
-    ap (λ n. record { pools = c.args.self.now.next_pool; sets = c.args.self.now.next_set + n }) (c.from-2.ensures ∙ c.len-count.ensures)

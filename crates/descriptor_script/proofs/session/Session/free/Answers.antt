@@ -19,11 +19,6 @@ good g c = c.are_held_once.ensures.answer.0 c.if-not-are_held_once.false
 held : (g : _) (c : After-iter g) → AreAllHeld g.D.DescriptorDevice.meaning.set_name (slots_of c.replace-slots.result) (state_of g.D.DescriptorDevice.meaning.pool_name c.args.self.now.allocator (g.D.DescriptorDevice.ledger c.args.device.now))
 held g c = held_as g.D.DescriptorDevice.meaning.set_name _ _ (state_of g.D.DescriptorDevice.meaning.pool_name c.args.self.now.allocator (g.D.DescriptorDevice.ledger c.args.device.now)) (slots_are g c) c.requires.ready.held
 
-pub free_from-requires-clause-can : goal.free_from-requires-clause-can
-free_from-requires-clause-can g c =
-    let d = (goal.at.free_from-requires-clause-can g c).After-iter in
-    rw (slots_are g d, c.iter.ensures.rest) (good g d)
-
 pub free_from-requires-clause-outstanding : goal.free_from-requires-clause-outstanding
 free_from-requires-clause-outstanding g c =
     let d = (goal.at.free_from-requires-clause-outstanding g c).After-iter in
