@@ -9,8 +9,7 @@ use Rattle.gpu_descriptor.proofs.callers.NewAllocators.{new_agrees}
 use Rattle.gpu_descriptor.proofs.release.Places.{none_out}
 use Rattle.descriptor_script.specs.Scripted.Raw.{pool_id, script_meaning}
 use Rattle.descriptor_script.specs.Sessions.Session.{IsReady, allocator_of, layouts_of, sets_of}
-use Rattle.descriptor_script.specs.Sessions.Steps.{IsAsBefore, StepsTo}
-use Rattle.descriptor_script.specs.declared.answer.Answer.{Answer}
+use Rattle.descriptor_script.specs.Sessions.Steps.{StepsTo}
 use Rattle.descriptor_script.specs.declared.command.Command.{Command}
 use Rattle.descriptor_script.specs.declared.command.Command.TheVariants.{Allocate}
 use Rattle.descriptor_script.specs.declared.command.Reply.{Reply}
@@ -30,14 +29,6 @@ new_is_ready s l max allocator layouts sets = record {
   agree = new_agrees allocator script_meaning.pool_name l;
   held = rw (allocator, sets) (λ t. none_out (state_of pool_id (record { limit = max; most = None; table = []; looks = 0; comparisons = 0 }) l) t refl);
   meant = rw layouts (All-nil (IsMeant script_meaning));
-}
-
--- after a step the program can run the next line
-pub still_runs : (p : LineState) (s : LineSession) (script : List Answer) (l : Ledger) → CanRun p → IsReady script_meaning (side s l) → layouts_of s ≡ layouts_of p.session → CanRun (record p { session = s; script = script; ledger = l })
-still_runs p s script l can ready layouts = record {
-  ready = ready;
-  layouts = rw layouts can.layouts;
-  fresh = can.fresh;
 }
 
 -- a session with the same books and sets is ready as well
@@ -62,11 +53,6 @@ module _ {X : Type 0} where
 -- a step of a session, where pools, sets and layouts mean what they carry
 abbrev Steps : Command → Reply → LineSession → LineSession → Ledger → Ledger → Type 0
 Steps command reply old new before after = StepsTo script_meaning command reply (side old before) (side new after)
-
--- a reply that memory is wanting changes nothing
-pub no_memory_changes_nothing : (command : Command) (old new : LineSession) (before after : Ledger) → Steps command NoMemory old new before after → IsAsBefore (side old before) (side new after)
-no_memory_changes_nothing (Allocate layout count) old new before after step = step.2
-no_memory_changes_nothing _ old new before after step = absurd step
 
 -- the reply to a command is answered where its layout is there, and memory
 pub has_answer : (command : Command) (reply : Reply) (old new : LineSession) (before after : Ledger) → Steps command reply old new before after → reply ≢ NoMemory → IsKnown (length (layouts_of old)) command → length (sets_of new) < 2 ^ 64 → HasAnswer new reply

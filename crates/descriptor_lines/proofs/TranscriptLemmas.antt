@@ -71,10 +71,6 @@ Stands (Some bytes) old text next None new = ⊥
 Stands (Some bytes) old text next (Some left) new =
     (before : List (List ℕ)) × (lines_of bytes ≡ before ++ lines_of left) × (next ≡ length before + 1) × AreAnswered before text old new
 
-pub stands_first : (known : Option (List ℕ)) (p : LineState) → Stands known p [] 1 known p
-stands_first None p = tt
-stands_first (Some bytes) p = ([], refl, refl, (refl, refl))
-
 -- the first line of known bytes
 abbrev pub IsFirstOf : List ℕ → Option (List ℕ) → Type 0
 IsFirstOf line known = IfSome known (λ bytes. line ≡ before_end bytes)

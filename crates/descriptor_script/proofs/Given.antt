@@ -1,14 +1,14 @@
 -- Tickets are given once.
-use Rattle.std.proofs.Common.{◌≡◌, ℕ, List, [], ◌∷◌, length, length-append, map, get_or, set, Option, None, Some, inl, inr, refl, ap, ◌∙◌, arith}
+use Rattle.std.proofs.Common.{◌≡◌, ℕ, List, [], ◌∷◌, length, get_or, set, Option, None, inl, inr, refl, ap, ◌∙◌, arith}
 use Rattle.std.proofs.lemmas.Bool.{cases_eq}
-use Rattle.std.proofs.lemmas.List.{get_or-set_other, get_or_append_left, length-set}
+use Rattle.std.proofs.lemmas.List.{get_or-set_other, length-set}
 use Rattle.gpu_descriptor_types.specs.Meaning.{Meaning}
 use Rattle.gpu_descriptor_types.specs.Side.{Side}
 use Rattle.descriptor_script.specs.Sessions.Session.{sets_of}
-use Rattle.descriptor_script.specs.Sessions.Steps.{AllocatesTo, Cleans, FreesTo, KeepsTickets}
+use Rattle.descriptor_script.specs.Sessions.Steps.{FreesTo, KeepsTickets}
 use Rattle.descriptor_script.specs.Sessions.Tickets.{emptied, set_at}
 use Rattle.descriptor_script.specs.declared.command.Reply.{Reply}
-use Rattle.descriptor_script.specs.declared.command.Reply.TheVariants.{Sets, Refused, Freed, BadTicket, BadLayout, NoMemory}
+use Rattle.descriptor_script.specs.declared.command.Reply.TheVariants.{Freed, BadTicket}
 use Rattle.descriptor_script.specs.declared.session.Session.{Session}
 use Rattle.descriptor_script.proofs.Emptied.{none_at}
 
@@ -34,17 +34,7 @@ module _ {L P S : Type 0} where
     freed = λ ticket lt none. ap (λ s. set_at s ticket) e ∙ none;
   }
 
-  -- no command gives a ticket twice
-  pub allocating_keeps : (means : Meaning L P S) (layout count : ℕ) (reply : Reply) (old new : Side (Session L P S)) → AllocatesTo means layout count old new reply → KeepsTickets old.value new.value
-  allocating_keeps means layout count (Sets next many) old new h = record {
-    next = (let l = ap length h.sets in let a = length-append (sets_of old.value) (map Some h.given) in omega arith);
-    freed = λ ticket lt none. ap (λ s. set_at s ticket) h.sets ∙ get_or_append_left (sets_of old.value) (map Some h.given) None ticket lt ∙ none;
-  }
-  allocating_keeps means layout count (Refused e) old new h = same old.value new.value h.sets
-  allocating_keeps means layout count BadLayout old new h = same old.value new.value h.1.sets
-  allocating_keeps means layout count NoMemory old new h = same old.value new.value h.2.sets
-  allocating_keeps means layout count _ old new h = absurd h
-
+  -- a free gives no ticket a second time
   pub freeing_keeps : (means : Meaning L P S) (tickets : List ℕ) (reply : Reply) (old new : Side (Session L P S)) → FreesTo means tickets old new reply → KeepsTickets old.value new.value
   freeing_keeps means tickets (Freed n) old new h = record {
     next = (let l = ap length h.sets in let a = emptied_length (sets_of old.value) tickets in omega arith);
@@ -52,6 +42,3 @@ module _ {L P S : Type 0} where
   }
   freeing_keeps means tickets BadTicket old new h = same old.value new.value h.1.sets
   freeing_keeps means tickets _ old new h = absurd h
-
-  pub cleaning_keeps : (means : Meaning L P S) (old new : Side (Session L P S)) → Cleans means old new → KeepsTickets old.value new.value
-  cleaning_keeps means old new h = same old.value new.value h.sets

@@ -1,5 +1,5 @@
 -- How the calls that are owed change with the ledger.
-use Rattle.std.proofs.Common.{◌≡◌, ◌≢◌, ℕ, zero, suc, ◌+◌, ◌-◌, ◌≤◌, ◌<◌, true, false, cond, nat_eq, List, [], ◌∷◌, ◌++◌, length, length-append, Option, Some, None, inl, inr, refl, sym, ap, subst, ◌∙◌, arith, eqb-true, eq-eqb, ne_eqb}
+use Rattle.std.proofs.Common.{◌≡◌, ◌≢◌, ℕ, ◌+◌, ◌-◌, ◌≤◌, true, false, cond, nat_eq, List, [], ◌∷◌, ◌++◌, length, length-append, Option, Some, None, inl, inr, refl, sym, ap, subst, ◌∙◌, arith, eqb-true, eq-eqb, ne_eqb}
 use Rattle.std.specs.Prelude.{IfSome}
 use Rattle.std.specs.Map.{lookup, update}
 use Rattle.std.proofs.lemmas.Bool.{cases_Bool, cases_eq}
@@ -12,8 +12,6 @@ use Rattle.gpu_descriptor_types.proofs.Counting.{times-append}
 use Rattle.gpu_descriptor.proofs.foreign.LedgerPools.{size_minus}
 use Rattle.gpu_descriptor.proofs.sums.Sized.{size_one}
 use Rattle.descriptor_script.specs.Inner.Owed.{IsOwed, ReleasesMany, owed_by}
-use Rattle.descriptor_script.specs.Scripted.Logged.{release_of}
-use Rattle.descriptor_script.specs.declared.log.Call.TheVariants.{Release}
 
 -- the rows but for those of a name
 abbrev without : ℕ → List (ℕ × ℕ) → List (ℕ × ℕ)
@@ -181,8 +179,3 @@ nothing_owed l n none = record {
   listed = λ q p live. absurd (let bad : ◌≡◌ {A = Option Pool} None (Some p) = sym (ap (λ (f : ℕ → Option Pool). f q) none) ∙ live in cc);
   enough = omega arith;
 }
-
--- a release of some sets is one entry
-pub release_some : (pool n : ℕ) → 0 < n → release_of pool n ≡ Release pool n ∷ []
-release_some pool zero some = absurd (omega arith)
-release_some pool (suc n) some = refl

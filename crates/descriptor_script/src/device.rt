@@ -9,8 +9,7 @@ ghost use Rattle.gpu_descriptor_types.specs.Ledger.{AreLive, HasNoSets, CanGive,
 ghost use Rattle.gpu_descriptor_types.specs.Ledger.{Releases, after_create, after_destroy};
 ghost use Rattle.gpu_descriptor_types.specs.Ledger.{after_no_create};
 ghost use Rattle.descriptor_script.specs.Scripted.Raw.{pool_id, raw_sets, script_meaning, set_id};
-ghost use Rattle.descriptor_script.specs.Scripted.Script.{alloc_error, create_error, next_word};
-ghost use Rattle.descriptor_script.specs.Scripted.Script.{rest_words};
+ghost use Rattle.descriptor_script.specs.Scripted.Script.{alloc_error, create_error};
 
 mod wrapped;
 
@@ -42,23 +41,19 @@ pub struct ScriptedDevice {
 }
 
 impl ScriptedDevice {
-    ghost use Rattle.descriptor_script.specs.Scripted.Device.{empty_ledger, ledger_of, names_given};
+    ghost use Rattle.descriptor_script.specs.Scripted.Device.{IsNewDevice, ledger_of, names_given};
     ghost use Rattle.descriptor_script.specs.Scripted.Device.{script_of};
 
     /// A device without pools, which begins with this script.
     pub fn new(alloc: Global, script: Vec<Answer>) -> Self
-        ensures ledger { ledger_of result ≡ empty_ledger }
-        ensures script { script_of result ≡ script.items }
-        ensures names { names_given result ≡ record { pools = 0; sets = 0 } }
+        ensures { IsNewDevice script.items (record { pools = 0; sets = 0 }) result }
     {
         ScriptedDevice::with_names(alloc, script, 0, 0)
     }
 
     /// The same with these names of a pool and of a set to come next, for tests of where names end.
     pub fn with_names(alloc: Global, script: Vec<Answer>, next_pool: u64, next_set: u64) -> Self
-        ensures ledger { ledger_of result ≡ empty_ledger }
-        ensures script { script_of result ≡ script.items }
-        ensures names { names_given result ≡ record { pools = next_pool; sets = next_set } }
+        ensures { IsNewDevice script.items (record { pools = next_pool; sets = next_set }) result }
     {
         ScriptedDevice {
             script: Script::new(script),
@@ -106,7 +101,7 @@ impl ScriptedDevice {
 }
 
 impl DescriptorDevice<ScriptLayout, RawPool, RawSet> for ScriptedDevice {
-    ghost use Rattle.descriptor_script.specs.Scripted.Device.{ledger_of, names_given, script_of};
+    ghost use Rattle.descriptor_script.specs.Scripted.Device.{ReadsNone, ReadsWord, ledger_of, names_given};
 
     ghost meaning = { script_meaning };
 
@@ -123,11 +118,7 @@ impl DescriptorDevice<ScriptLayout, RawPool, RawSet> for ScriptedDevice {
             max_sets (bits flags) (pool_id pool) (ledger_of self.old)) }
         ensures err { IfErr result (λ e. ledger_of self.new
             ≡ after_no_create e (ledger_of self.old)) }
-
-        // One word is read, and decides.
-        ensures rest { script_of self.new ≡ rest_words (script_of self.old) }
-        ensures granted { OnOk result (next_word (script_of self.old) ≡ Answer.Ok) }
-        ensures refused { IfErr result (λ e. e ≡ create_error (next_word (script_of self.old))) }
+        ensures reads { ReadsWord create_error result self.old self.new }
 
         // The pool has the next name.
         ensures next_name { IfOk result (λ pool. pool_id pool ≡ (names_given self.old).pools) }
@@ -151,8 +142,7 @@ impl DescriptorDevice<ScriptLayout, RawPool, RawSet> for ScriptedDevice {
     fn destroy_descriptor_pool(&mut self, pool: RawPool)
         requires { HasNoSets (pool_id pool) (ledger_of self.old) }
         ensures ledger { ledger_of self.new ≡ after_destroy (pool_id pool) (ledger_of self.old) }
-        ensures script { script_of self.new ≡ script_of self.old }
-        ensures names { names_given self.new ≡ names_given self.old }
+        ensures silent { ReadsNone self.old self.new }
     {
         self.pools.destroy(pool.id);
         self.counters.destroyed.rise();
@@ -173,11 +163,7 @@ impl DescriptorDevice<ScriptLayout, RawPool, RawSet> for ScriptedDevice {
             (ledger_of self.new)) }
         ensures err { IfErr result (λ e. PutsNone K.sink (pool_id pool.old) e sets.old sets.new
             (ledger_of self.old) (ledger_of self.new)) }
-
-        // One word is read, and decides.
-        ensures rest { script_of self.new ≡ rest_words (script_of self.old) }
-        ensures granted { OnOk result (next_word (script_of self.old) ≡ Answer.Ok) }
-        ensures refused { IfErr result (λ e. e ≡ alloc_error (next_word (script_of self.old))) }
+        ensures reads { ReadsWord alloc_error result self.old self.new }
 
         // The sets have the next names, and name their pool.
         ensures sets { OnOk result (K.sink.kept sets.new ≡ K.sink.kept sets.old
@@ -213,8 +199,7 @@ impl DescriptorDevice<ScriptLayout, RawPool, RawSet> for ScriptedDevice {
         ensures name { pool_id pool.new ≡ pool_id pool.old }
         ensures released { Releases I.next_gives set_id (pool_id pool.old) sets.old sets.new
             (ledger_of self.old) (ledger_of self.new) }
-        ensures script { script_of self.new ≡ script_of self.old }
-        ensures names { names_given self.new ≡ names_given self.old }
+        ensures silent { ReadsNone self.old self.new }
     {
         self.pools.release(pool.id, sets);
         self.counters.released.rise();

@@ -8,11 +8,9 @@ ghost use Rattle.gpu_descriptor_types.specs.Layouts.{layout, left};
 ghost use Rattle.gpu_descriptor_types.specs.Ledger.{AreLive, HasNoSets, CanGive, Puts, PutsNone};
 ghost use Rattle.gpu_descriptor_types.specs.Ledger.{Releases, after_create, after_destroy};
 ghost use Rattle.gpu_descriptor_types.specs.Ledger.{after_no_create};
-ghost use Rattle.descriptor_script.specs.Scripted.Device.{empty_ledger, ledger_of, names_given};
-ghost use Rattle.descriptor_script.specs.Scripted.Device.{script_of};
+ghost use Rattle.descriptor_script.specs.Scripted.Device.{ReadsNone, ledger_of};
 ghost use Rattle.descriptor_script.specs.Scripted.Raw.{pool_id, raw_sets, script_meaning, set_id};
-ghost use Rattle.descriptor_script.specs.Scripted.Script.{alloc_error, create_error, next_word};
-ghost use Rattle.descriptor_script.specs.Scripted.Script.{rest_words};
+ghost use Rattle.descriptor_script.specs.Scripted.Script.{alloc_error, create_error};
 ghost use Rattle.descriptor_script.specs.Inner.Owed.{IsOwed, ReleasesMany};
 
 use crate::answer::Answer;
@@ -41,25 +39,18 @@ pub struct LogDevice {
 }
 
 impl LogDevice {
-    ghost use Rattle.descriptor_script.specs.Scripted.Logged.{calls_of, ledger_logged, next_pool};
-    ghost use Rattle.descriptor_script.specs.Scripted.Logged.{script_logged};
+    ghost use Rattle.descriptor_script.specs.Scripted.Logged.{IsNewLogDevice, calls_of, ledger_logged};
 
     /// A device without pools, which grants all that its memory allows.
     pub fn new(alloc: Global) -> Self
-        ensures ledger { ledger_logged result ≡ empty_ledger }
-        ensures calls { calls_of result ≡ [] }
-        ensures script { script_logged result ≡ [] }
-        ensures next_pool { next_pool result ≡ 0 }
+        ensures { IsNewLogDevice [] result }
     {
         LogDevice::with_script(alloc, Vec::new(alloc))
     }
 
     /// A device without pools, which begins with this script.
     pub fn with_script(alloc: Global, script: Vec<Answer>) -> Self
-        ensures ledger { ledger_logged result ≡ empty_ledger }
-        ensures calls { calls_of result ≡ [] }
-        ensures script { script_logged result ≡ script.items }
-        ensures next_pool { next_pool result ≡ 0 }
+        ensures { IsNewLogDevice script.items result }
     {
         LogDevice {
             device: ScriptedDevice::new(alloc, script),
@@ -104,9 +95,8 @@ impl LogDevice {
 }
 
 impl DescriptorDevice<ScriptLayout, RawPool, RawSet> for LogDevice {
-    ghost use Rattle.descriptor_script.specs.Scripted.Logged.{IsErrorOfCall, ListsRelease};
+    ghost use Rattle.descriptor_script.specs.Scripted.Logged.{IsGrantedByWord, ListsRelease, ReadsNoWord};
     ghost use Rattle.descriptor_script.specs.Scripted.Logged.{calls_of, ledger_logged, next_pool};
-    ghost use Rattle.descriptor_script.specs.Scripted.Logged.{script_logged};
 
     ghost meaning = { script_meaning };
 
@@ -125,16 +115,8 @@ impl DescriptorDevice<ScriptLayout, RawPool, RawSet> for LogDevice {
         ensures err { IfErr result (λ e. ledger_logged self.new
             ≡ after_no_create e (ledger_logged self.old)) }
 
-        // One word is read, and decides.
-        ensures granted { OnOk result (next_word (script_logged self.old) ≡ Answer.Ok) }
-        ensures rest { OnOk result (script_logged self.new ≡ rest_words (script_logged self.old)) }
-        ensures refused { IfErr result (λ e. IsErrorOfCall create_error
-            CreatePoolError.OutOfHostMemory e (script_logged self.old)
-            (script_logged self.new)) }
-
-        // Where no word is left only memory or names can be wanting.
-        ensures at_end { script_logged self.old ≡ []
-            → IfErr result (λ e. e ≡ CreatePoolError.OutOfHostMemory) }
+        ensures word { IsGrantedByWord create_error CreatePoolError.OutOfHostMemory result self.old
+            self.new }
 
         // The pool has the next name.
         ensures next_name { IfOk result (λ pool. pool_id pool ≡ next_pool self.old) }
@@ -143,7 +125,6 @@ impl DescriptorDevice<ScriptLayout, RawPool, RawSet> for LogDevice {
 
         ensures listed { IfOk result (λ pool. calls_of self.new ≡ calls_of self.old
             ++ Call.Create (pool_id pool) ∷ []) }
-        ensures unlisted { OnErr result (calls_of self.new ≡ calls_of self.old) }
     {
         if self.log.reserve(2).is_err() {
             let error = CreatePoolError::OutOfHostMemory;
@@ -163,8 +144,7 @@ impl DescriptorDevice<ScriptLayout, RawPool, RawSet> for LogDevice {
         requires { HasNoSets (pool_id pool) (ledger_logged self.old) }
         ensures ledger { ledger_logged self.new ≡ after_destroy (pool_id pool)
             (ledger_logged self.old) }
-        ensures script { script_logged self.new ≡ script_logged self.old }
-        ensures next_pool { next_pool self.new ≡ next_pool self.old }
+        ensures silent { ReadsNoWord self.old self.new }
         ensures listed { calls_of self.new ≡ calls_of self.old ++ Call.Destroy (pool_id pool) ∷ [] }
     {
         let name = pool.id();
@@ -188,16 +168,8 @@ impl DescriptorDevice<ScriptLayout, RawPool, RawSet> for LogDevice {
         ensures err { IfErr result (λ e. PutsNone K.sink (pool_id pool.old) e sets.old sets.new
             (ledger_logged self.old) (ledger_logged self.new)) }
 
-        // One word is read, and decides.
-        ensures granted { OnOk result (next_word (script_logged self.old) ≡ Answer.Ok) }
-        ensures rest { OnOk result (script_logged self.new ≡ rest_words (script_logged self.old)) }
-        ensures refused { IfErr result (λ e. IsErrorOfCall alloc_error
-            DeviceAllocationError.OutOfHostMemory e (script_logged self.old)
-            (script_logged self.new)) }
-
-        // Where no word is left only memory or names can be wanting.
-        ensures at_end { script_logged self.old ≡ []
-            → IfErr result (λ e. e ≡ DeviceAllocationError.OutOfHostMemory) }
+        ensures word { IsGrantedByWord alloc_error DeviceAllocationError.OutOfHostMemory result self.old
+            self.new }
 
         // The sets have names in a row, and name their pool.
         ensures sets { OnOk result ((first : ℕ) × (K.sink.kept sets.new ≡ K.sink.kept sets.old
@@ -207,7 +179,6 @@ impl DescriptorDevice<ScriptLayout, RawPool, RawSet> for LogDevice {
         ensures next_pool { next_pool self.new ≡ next_pool self.old }
         ensures listed { OnOk result (calls_of self.new ≡ calls_of self.old
             ++ Call.Alloc (pool_id pool.old) (left layouts.entry) ∷ []) }
-        ensures unlisted { OnErr result (calls_of self.new ≡ calls_of self.old) }
     {
         let count = layouts.len();
         if self.log.reserve(count as usize + 1).is_err() {
@@ -240,8 +211,7 @@ impl DescriptorDevice<ScriptLayout, RawPool, RawSet> for LogDevice {
         ensures name { pool_id pool.new ≡ pool_id pool.old }
         ensures released { Releases I.next_gives set_id (pool_id pool.old) sets.old sets.new
             (ledger_logged self.old) (ledger_logged self.new) }
-        ensures script { script_logged self.new ≡ script_logged self.old }
-        ensures next_pool { next_pool self.new ≡ next_pool self.old }
+        ensures silent { ReadsNoWord self.old self.new }
         ensures listed { ListsRelease I.next_gives (pool_id pool.old) sets.old sets.new
             (calls_of self.old) (calls_of self.new) }
     {
@@ -269,8 +239,7 @@ fn release<I: Iterator<Item = RawSet>>(
     ensures name { pool_id pool.new ≡ pool_id pool.old }
     ensures released { ReleasesMany I.next_gives set_id (pool_id pool.old) result sets.old sets.new
         (ledger_of device.old) (ledger_of device.new) }
-    ensures script { script_of device.new ≡ script_of device.old }
-    ensures names { names_given device.new ≡ names_given device.old }
+    ensures silent { ReadsNone device.old device.new }
 {
     let before = device.live_sets(pool);
     device.dealloc_descriptor_sets(pool, sets);

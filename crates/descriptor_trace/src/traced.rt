@@ -10,8 +10,7 @@ ghost use Rattle.gpu_descriptor_types.specs.Ledger.{after_create, after_destroy,
 ghost use Rattle.gpu_descriptor_types.specs.Ledger.{Releases};
 ghost use Rattle.descriptor_script.specs.Scripted.Device.{empty_ledger};
 ghost use Rattle.descriptor_script.specs.Scripted.Raw.{pool_id, script_meaning, set_id};
-ghost use Rattle.descriptor_script.specs.Scripted.Script.{alloc_error, create_error, next_word};
-ghost use Rattle.descriptor_script.specs.Scripted.Script.{rest_words};
+ghost use Rattle.descriptor_script.specs.Scripted.Script.{alloc_error, create_error};
 ghost use Rattle.descriptor_trace.specs.TraceTexts as says;
 ghost use Rattle.descriptor_trace.specs.Traced.{WritesDown, WritesRelease};
 
@@ -82,7 +81,7 @@ impl<W: Write> Traced<W> {
 }
 
 impl<W: Write> DescriptorDevice<ScriptLayout, RawPool, RawSet> for Traced<W> {
-    ghost use Rattle.descriptor_script.specs.Scripted.Device.{ledger_of, names_given, script_of};
+    ghost use Rattle.descriptor_script.specs.Scripted.Device.{ReadsNone, ReadsWord, ledger_of, names_given};
 
     ghost meaning = { script_meaning };
 
@@ -100,10 +99,7 @@ impl<W: Write> DescriptorDevice<ScriptLayout, RawPool, RawSet> for Traced<W> {
             (kinds counts.now) max_sets (bits flags) (pool_id pool) (ledger_of self.old.device)) }
         ensures err { IfErr result (λ e. ledger_of self.new.device
             ≡ after_no_create e (ledger_of self.old.device)) }
-        ensures rest { script_of self.new.device ≡ rest_words (script_of self.old.device) }
-        ensures granted { OnOk result (next_word (script_of self.old.device) ≡ Answer.Ok) }
-        ensures refused { IfErr result (λ e. e ≡ create_error (next_word
-            (script_of self.old.device))) }
+        ensures reads { ReadsWord create_error result self.old.device self.new.device }
         ensures next_name { IfOk result (λ pool. pool_id pool
             ≡ (names_given self.old.device).pools) }
         ensures named { OnOk result (names_given self.new.device
@@ -124,8 +120,7 @@ impl<W: Write> DescriptorDevice<ScriptLayout, RawPool, RawSet> for Traced<W> {
         requires { HasNoSets (pool_id pool) (ledger_of self.old.device) }
         ensures ledger { ledger_of self.new.device
             ≡ after_destroy (pool_id pool) (ledger_of self.old.device) }
-        ensures script { script_of self.new.device ≡ script_of self.old.device }
-        ensures names { names_given self.new.device ≡ names_given self.old.device }
+        ensures silent { ReadsNone self.old.device self.new.device }
         ensures written { WritesDown W.contents self.old self.new
             (says.destroy_line (pool_id pool)) }
     {
@@ -151,10 +146,7 @@ impl<W: Write> DescriptorDevice<ScriptLayout, RawPool, RawSet> for Traced<W> {
             (ledger_of self.new.device)) }
         ensures err { IfErr result (λ e. PutsNone K.sink (pool_id pool.old) e sets.old sets.new
             (ledger_of self.old.device) (ledger_of self.new.device)) }
-        ensures rest { script_of self.new.device ≡ rest_words (script_of self.old.device) }
-        ensures granted { OnOk result (next_word (script_of self.old.device) ≡ Answer.Ok) }
-        ensures refused { IfErr result (λ e. e ≡ alloc_error (next_word
-            (script_of self.old.device))) }
+        ensures reads { ReadsWord alloc_error result self.old.device self.new.device }
         ensures pools { (names_given self.new.device).pools ≡ (names_given self.old.device).pools }
         ensures written { WritesDown W.contents self.old self.new
             (says.alloc_line (pool_id pool.old) (left layouts.entry) (layout layouts.entry).mark
@@ -180,8 +172,7 @@ impl<W: Write> DescriptorDevice<ScriptLayout, RawPool, RawSet> for Traced<W> {
         ensures name { pool_id pool.new ≡ pool_id pool.old }
         ensures released { Releases I.next_gives set_id (pool_id pool.old) sets.old sets.new
             (ledger_of self.old.device) (ledger_of self.new.device) }
-        ensures script { script_of self.new.device ≡ script_of self.old.device }
-        ensures names { names_given self.new.device ≡ names_given self.old.device }
+        ensures silent { ReadsNone self.old.device self.new.device }
         ensures written { WritesRelease W.contents I.next_gives (pool_id pool.old) sets.old
             sets.new self.old self.new }
     {

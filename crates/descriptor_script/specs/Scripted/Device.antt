@@ -1,11 +1,13 @@
 -- What a scripted device owes, and what it is to return.
-use Rattle.std.specs.Prelude.{List, None}
+use Rattle.std.specs.Prelude.{◌≡◌, List, None, Result, OnOk, IfErr}
 use Rattle.std.specs.Vec.Iter.{into_iter_items}
 use Rattle.gpu_descriptor_types.specs.Ledger.{Ledger, no_rise}
 use Rattle.descriptor_script.specs.Inner.Counters.{counters_of}
 use Rattle.descriptor_script.specs.Inner.Pools.{next_names, owed}
 use Rattle.descriptor_script.specs.Scripted.Raw.{Names}
+use Rattle.descriptor_script.specs.Scripted.Script.{next_word, rest_words}
 use Rattle.descriptor_script.specs.declared.answer.Answer.{Answer}
+use Rattle.descriptor_script.specs.declared.answer.Answer.TheVariants.{Ok}
 use Rattle.descriptor_script.specs.declared.device.ScriptedDevice.{ScriptedDevice}
 
 abbrev pub ledger_of : ScriptedDevice → Ledger
@@ -22,3 +24,20 @@ names_given d = next_names d.pools
 -- no pool, and nothing done
 abbrev pub empty_ledger : Ledger
 empty_ledger = record { pools = λ _. None; counters = no_rise }
+
+-- a new device: no pool, this script, and these names come next
+pub record IsNewDevice (script : List Answer) (names : Names) (d : ScriptedDevice) : Type 0 where
+  pub ledger : ledger_of d ≡ empty_ledger
+  pub script_is : script_of d ≡ script
+  pub names_are : names_given d ≡ names
+
+-- one word is read, and decides: a call is granted only at Ok, and otherwise refused as the word says
+pub record ReadsWord {R E : Type 0} (error_at : Answer → E) (result : Result R E) (old new : ScriptedDevice) : Type 0 where
+  pub rest : script_of new ≡ rest_words (script_of old)
+  pub granted : OnOk result (next_word (script_of old) ≡ Ok)
+  pub refused : IfErr result (λ e. e ≡ error_at (next_word (script_of old)))
+
+-- no word is read, and no name is given
+pub record ReadsNone (old new : ScriptedDevice) : Type 0 where
+  pub script : script_of new ≡ script_of old
+  pub names : names_given new ≡ names_given old

@@ -1,10 +1,11 @@
 -- What a logging device owes, the calls that it listed, its next name, and its script.
-use Rattle.std.specs.Prelude.{◌≡◌, ◌⊎◌, ℕ, zero, suc, List, [], ◌∷◌, ◌++◌, length, Option, None}
+use Rattle.std.specs.Prelude.{◌≡◌, ◌⊎◌, ℕ, zero, suc, List, [], ◌∷◌, ◌++◌, length, Option, None, Result, IfErr, OnErr, OnOk}
 use Rattle.std.specs.Iterator.{YieldsThen}
 use Rattle.gpu_descriptor_types.specs.Ledger.{Ledger}
-use Rattle.descriptor_script.specs.Scripted.Device.{ledger_of, names_given, script_of}
+use Rattle.descriptor_script.specs.Scripted.Device.{empty_ledger, ledger_of, names_given, script_of}
 use Rattle.descriptor_script.specs.Scripted.Script.{next_word, rest_words}
 use Rattle.descriptor_script.specs.declared.answer.Answer.{Answer}
+use Rattle.descriptor_script.specs.declared.answer.Answer.TheVariants.{Ok}
 use Rattle.descriptor_script.specs.declared.log.Call.{Call}
 use Rattle.descriptor_script.specs.declared.log.Call.TheVariants.{Release}
 use Rattle.descriptor_script.specs.declared.log_device.LogDevice.{LogDevice}
@@ -24,11 +25,30 @@ script_logged d = script_of d.device
 abbrev pub calls_of : LogDevice → List Call
 calls_of d = d.log.calls.items
 
--- a refused call returns the error of its word, or an allocation for the list failed and no word was read
+-- a new device: no pool, no call, and this script
+pub record IsNewLogDevice (script : List Answer) (d : LogDevice) : Type 0 where
+  pub ledger : ledger_logged d ≡ empty_ledger
+  pub calls : calls_of d ≡ []
+  pub script_is : script_logged d ≡ script
+  pub next_pool : next_pool d ≡ 0
+
+-- a refused call returned the error of the word that it read, or an allocation for the list failed and no word was read
 abbrev pub IsErrorOfCall : {E : Type 0} → (Answer → E) → E → E → List Answer → List Answer → Type 0
 IsErrorOfCall error_of no_memory error old new =
     ((error ≡ error_of (next_word old)) × (new ≡ rest_words old))
     ⊎ ((error ≡ no_memory) × (new ≡ old))
+
+-- a call was granted at the word Ok, which it read, or is refused and not listed
+pub record IsGrantedByWord {R E : Type 0} (error_of : Answer → E) (no_memory : E) (result : Result R E) (old new : LogDevice) : Type 0 where
+  pub granted : OnOk result (next_word (script_logged old) ≡ Ok)
+  pub rest : OnOk result (script_logged new ≡ rest_words (script_logged old))
+  pub refused : IfErr result (λ e. IsErrorOfCall error_of no_memory e (script_logged old) (script_logged new))
+  pub unlisted : OnErr result (calls_of new ≡ calls_of old)
+
+-- no word is read, and the next pool's name stays
+pub record ReadsNoWord (old new : LogDevice) : Type 0 where
+  pub script : script_logged new ≡ script_logged old
+  pub next_pool : next_pool new ≡ next_pool old
 
 -- a release of no set is not listed
 abbrev pub release_of : ℕ → ℕ → List Call

@@ -9,7 +9,7 @@ use crate::raw::RawPool;
 use gpu_descriptor_types::{CreatePoolError, DeviceAllocationError};
 
 impl ScriptedDevice {
-    ghost use Rattle.descriptor_script.specs.Scripted.Device.{ledger_of, names_given, script_of};
+    ghost use Rattle.descriptor_script.specs.Scripted.Device.{ReadsNone, ledger_of};
 
     /// How many sets are live in the pool; 0 where the pool isn't live.
     pub fn live_sets(&self, pool: &RawPool) -> usize
@@ -23,8 +23,7 @@ impl ScriptedDevice {
     /// Counts a create that the wrapping device refused. It reads no word.
     pub fn refuse_create(&mut self, error: CreatePoolError)
         ensures ledger { ledger_of self.new ≡ after_no_create error (ledger_of self.old) }
-        ensures script { script_of self.new ≡ script_of self.old }
-        ensures names { names_given self.new ≡ names_given self.old }
+        ensures silent { ReadsNone self.old self.new }
     {
         self.counters.refuse_create(error);
     }
@@ -33,8 +32,7 @@ impl ScriptedDevice {
     pub fn refuse_alloc(&mut self, pool: &RawPool, error: DeviceAllocationError)
         ensures ledger { ledger_of self.new ≡ after_no_alloc (pool_id pool.now) error
             (ledger_of self.old) }
-        ensures script { script_of self.new ≡ script_of self.old }
-        ensures names { names_given self.new ≡ names_given self.old }
+        ensures silent { ReadsNone self.old self.new }
     {
         self.counters.refuse_alloc(error);
         self.pools.refuse(pool.id, error);

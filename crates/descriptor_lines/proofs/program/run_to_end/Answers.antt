@@ -1,16 +1,13 @@
-use Rattle.std.proofs.Common.{◌≡◌, [], ◌⊎◌, inl, inr, Ok, Err, Result, Option, List, ℕ, refl, sym, ap, ◌∙◌}
+use Rattle.std.proofs.Common.{[], Ok, Err, Result, Option, List, ℕ, refl, sym, ap, ◌∙◌}
 use Rattle.std.specs.String.{string_bytes}
 use Rattle.std.specs.Io.KnownBytes.{Appends}
 use Rattle.descriptor_lines.specs.LineBuffers.{unread}
 use Rattle.descriptor_lines.specs.LineStates.{line_state}
 use Rattle.std.proofs.KnownBytes.{Appends-nil, Appends-trans}
 use Rattle.descriptor_lines.specs.Outcomes.{EndsInFault, IsNoFault, said_of}
-use Rattle.descriptor_lines.specs.declared.exit.Exit.{Exit}
-use Rattle.descriptor_lines.specs.declared.exit.Exit.TheVariants.{BadLine, Done, NoMemory, WriteFault}
 use Rattle.descriptor_words.specs.declared.fault.Refusal.{Refusal}
 use Rattle.descriptor_words.specs.declared.fault.Refusal.TheVariants as refusal
 use Rattle.descriptor_lines.proofs.EndLemmas.{Takes, ends_at_fault, ends_done, ends_early, ends_unread, ends_unwritten, stands_on, takes_long, takes_span}
-use Rattle.descriptor_lines.proofs.TranscriptLemmas.{stands_first}
 use Rattle.descriptor_lines.proofs.program.run_to_end.Given.{Over}
 use Rattle.descriptor_lines.proofs.program.run_to_end.Goals as goal
 use Rattle.descriptor_lines.proofs.program.run_to_end.Goals.{After-has_lost, in-Ok-Some, in-Err-LineTooLong}
@@ -21,16 +18,6 @@ ends_in_fault number (Ok done) text answers a b c faulty before said = absurd (f
 ends_in_fault number (Err refusal.NoMemory) text answers a b c faulty before said = absurd (faulty refl)
 ends_in_fault number (Err (refusal.Fault fault)) text answers a b c faulty before said = record { answers = answers; number = number; fault = fault; grown = Appends-trans a b c _ _ before said }
 
--- an answer ends a run early only at a fault or a failed write
-not_done : (exit : Exit) → (exit ≡ BadLine) ⊎ (exit ≡ WriteFault) → exit ≡ Done → ⊥
-not_done exit (inl bad) done = cc
-not_done exit (inr bad) done = cc
-
-has_memory : (exit : Exit) → (exit ≡ BadLine) ⊎ (exit ≡ WriteFault) → exit ≡ NoMemory → ⊥
-has_memory exit (inl bad) none = cc
-has_memory exit (inr bad) none = cc
-
--- what came of the line that was read
 takes :
     (g : Over) (c : After-has_lost g)
     → Takes c.loop-number.number (unread c.loop-number.lines (g.R.Read.remaining c.loop-number.input))
@@ -48,15 +35,6 @@ takes g c = elim
           (rw w.in-Ok-Some.field-0-is at found.short) w.line.ensures.bytes ran.does ran.not_run ran.ready)
       | in-Err-LineTooLong w ↦ rw (w.program-is, w.answer-is) (takes_long _ _ _ _ _ _ w.outcome-is (c.next_line.ensures.too_long (w.in-Err-LineTooLong.is ∙ ap Err w.in-Err-LineTooLong.field-0-is)))
     ]
-
-pub loop-number-init : goal.loop-number-init
-loop-number-init g c = record {
-  ready = c.requires.ready;
-  empty = c.requires.empty;
-  answers = ([], Appends-nil _, stands_first _ (line_state g.D.DescriptorDevice.ledger g.D.LineDevice.script c.args.program.now));
-  sees = λ seen. absurd (let «open» = c.requires.open in cc);
-  whole = λ whole. whole;
-}
 
 pub loop-number-preserved : goal.loop-number-preserved
 loop-number-preserved g c =
@@ -82,18 +60,10 @@ returns-then-has_lost-clause-writes g c =
     let (text, grown, stands) = c.loop-number.invariant.answers in
     ends_unwritten _ _ _ _ _ _ _ _ _ _ _ _ _ stands (takes g c.before) grown (record { prefix = []; unwritten = _; split = refl; grown = Appends-nil _ })
 
-pub returns-in-Ok-None-clause-done : goal.returns-in-Ok-None-clause-done
-returns-in-Ok-None-clause-done g c = λ _. (rw c.in-Ok-None.field-0-is at c.in-Ok-None.ensures.end) c.loop-number.invariant.sees
-
 pub returns-in-Ok-None-clause-writes : goal.returns-in-Ok-None-clause-writes
 returns-in-Ok-None-clause-writes g c =
     let (text, grown, stands) = c.loop-number.invariant.answers in
     ends_done _ _ _ _ text _ _ _ stands (rw c.in-Ok-None.field-0-is at c.in-Ok-None.ensures.none) grown
-
-pub returns-in-Err-Read-clause-writes : goal.returns-in-Err-Read-clause-writes
-returns-in-Err-Read-clause-writes g c =
-    let (text, grown, stands) = c.loop-number.invariant.answers in
-    ends_unread _ _ _ _ text _ _ _ stands grown
 
 pub returns-in-Err-clause-writes : goal.returns-in-Err-clause-writes
 returns-in-Err-clause-writes g c =
@@ -107,17 +77,5 @@ returns-in-Err-clause-writes g c =
     ends_unwritten _ _ _ _ _ _ _ _ _ _ _ _ _ stands (takes g c.before.before.before.before.before) grown
     (c.answer_line.ensures.broken (c.in-Err.is ∙ ap Err broken)))
 
-pub returns-in-Err-clause-done : goal.returns-in-Err-clause-done
-returns-in-Err-clause-done g c = λ done. absurd (not_done c.in-Err.exit c.in-Err.ensures.err done)
-
 pub returns-in-Err-clause-bad_line : goal.returns-in-Err-clause-bad_line
 returns-in-Err-clause-bad_line g c = λ bad. ends_in_fault c.loop-number.number c.match-next_line.outcome _ _ _ _ _ (c.answer_line.ensures.bad_line (c.in-Err.is ∙ ap Err bad)) c.loop-number.invariant.answers.1 (c.answer_line.ensures.told (c.in-Err.is ∙ ap Err bad))
-
-pub returns-in-Err-clause-memory : goal.returns-in-Err-clause-memory
-returns-in-Err-clause-memory g c = has_memory c.in-Err.exit c.in-Err.ensures.err
-
-pub returns-in-Ok-None-clause-whole : goal.returns-in-Ok-None-clause-whole
-returns-in-Ok-None-clause-whole g c = λ _. c.loop-number.invariant.whole
-
-pub returns-in-Err-Read-clause-whole : goal.returns-in-Err-Read-clause-whole
-returns-in-Err-Read-clause-whole g c = λ _. c.loop-number.invariant.whole

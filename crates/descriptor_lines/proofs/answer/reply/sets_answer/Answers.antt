@@ -1,4 +1,4 @@
-use Rattle.std.proofs.Common.{◌≡◌, ◌++◌, ℕ, List, ◌+◌, ◌-◌, codes, length, length-append, append_assoc, sym, ap, ◌∙◌, arith}
+use Rattle.std.proofs.Common.{◌≡◌, ◌++◌, ℕ, List, ◌+◌, ◌-◌, codes, length, length-append, ap, ◌∙◌, arith}
 use Rattle.std.specs.String.{string_bytes}
 use Rattle.descriptor_script.specs.Sessions.Session.{sets_of}
 use Rattle.descriptor_lines.specs.ReplyTexts.{pools_from, range_text, sets_text, stretches_text}
@@ -8,10 +8,6 @@ use Rattle.descriptor_lines.proofs.answer.reply.sets_answer.Goals as goal
 -- a text got a part behind it
 longer : (old new part : List ℕ) → new ≡ old ++ part → length new ≡ length old + length part
 longer old new part is = ap length is ∙ length-append old part
-
--- a text got three parts behind it, one after another
-joined : (old first second third a b c : List ℕ) → first ≡ old ++ a → second ≡ first ++ b → third ≡ second ++ c → third ≡ old ++ ((a ++ b) ++ c)
-joined old first second third a b c one two three = three ∙ ap (λ l. l ++ c) (two ∙ ap (λ l. l ++ b) one) ∙ simp append_assoc
 
 pub range_answer-requires : goal.range_answer-requires
 range_answer-requires c = omega (arith, length_of_range c.args.first (c.args.first + c.args.count - 1) (omega arith) (omega arith))
@@ -29,10 +25,6 @@ put-requires-2 c =
     let ranged : length (string_bytes c.range_answer.new.answer) ≡ length (string_bytes c.args.answer.now) + length range = longer _ _ _ c.range_answer.ensures.text in
     let stretched : length (string_bytes c.stretches_answer.new.answer) ≡ length (string_bytes c.range_answer.new.answer) + length pools = longer _ _ _ c.stretches_answer.ensures.text in
     omega (arith, length_of_range c.args.first (c.args.first + c.args.count - 1) (omega arith) (omega arith))
-
-pub returns-clause-text : goal.returns-clause-text
-returns-clause-text c =
-    joined _ _ _ _ _ _ _ c.range_answer.ensures.text c.stretches_answer.ensures.text c.put-2.ensures.text ∙ ap (λ text. string_bytes c.args.answer.now ++ text) (sym (text_of_some (sets_of c.args.session.now) c.args.first c.args.count (omega arith)))
 
 pub returns-clause-enough : goal.returns-clause-enough
 returns-clause-enough c =
