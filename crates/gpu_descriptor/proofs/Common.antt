@@ -57,7 +57,7 @@ pub use Rattle.gpu_descriptor.specs.Inner.Grow.{IsGrown, IsTaken}
 pub use Rattle.gpu_descriptor.specs.Inner.Ids.{is_of, rise_below, stored_ids}
 pub use Rattle.gpu_descriptor.specs.Inner.OpenNumbers.{IsEntered, first_ordinal, free_in, open_numbers, stored_numbers}
 pub use Rattle.gpu_descriptor.specs.Inner.OpenPools.{CountsLooks, KeepsView, bucket_in, looked_at, newest_place}
-pub use Rattle.gpu_descriptor.specs.Inner.Releases.{FreesRun, IsTakenAt, Releases, bucket_back, names_of}
+pub use Rattle.gpu_descriptor.specs.Inner.Releases.{Compares, FreesRun, IsTakenAt, Releases, bucket_back, names_of}
 pub use Rattle.gpu_descriptor.specs.Inner.RunSteps.{AllPass, CountsFrom, EndsRun, Hands, Looks, RunStep}
 pub use Rattle.gpu_descriptor.specs.Inner.Serves.{IsDeclined, IsServed, IsUnserved, IsSound, ServesKey, Takes}
 pub use Rattle.gpu_descriptor.specs.Inner.SetAt.{set_at}

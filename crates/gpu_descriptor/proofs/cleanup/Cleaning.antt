@@ -8,10 +8,9 @@ use Rattle.gpu_descriptor.proofs.Common.{no_pools, LiveSet, set_eq, set_exact, c
 use Rattle.gpu_descriptor.proofs.Common.{are_named, gone_of, left_of, pools_lost, with_pools, is_empty, rises}
 use Rattle.gpu_descriptor.proofs.Common.{numbers_of}
 use Rattle.gpu_descriptor.proofs.cleanup.Splitting.{all_go, apart, gone_at, gone_twice, id_with, is_named_at, left_at, left_or_gone, left_rises, left_twice, named_at, one_place, pools_with, split, with_twice}
-use Rattle.gpu_descriptor.proofs.lists.AtPlaces.{cases_option}
+use Rattle.gpu_descriptor.proofs.lists.AtPlaces.{cases_option, if_none}
 use Rattle.gpu_descriptor.proofs.lists.Numbers.{entry_at-found, entry_at-from, entry_at-named}
 use Rattle.gpu_descriptor.proofs.release.Places.{live_there_at, outstanding_at, outstanding_found, size_pos}
-use Rattle.gpu_descriptor.proofs.release.ReleaseAgrees.{if_none}
 use Rattle.gpu_descriptor.proofs.request.StateAgrees.{booked_at}
 
 -- a pool without live sets has none allocated

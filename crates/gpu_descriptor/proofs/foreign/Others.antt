@@ -1,7 +1,7 @@
 -- Agreement, and what is outstanding, speak of the pools in the books alone.
 use Rattle.gpu_descriptor.proofs.Common.{if◌then◌else◌, ◌≡◌, ◌==◌, ℕ, Option, Some, inl, inr, refl, sym, ap, ◌∙◌, option_map_or, set_of, live_in, State, Agree, outstanding, Item, Key, Entry, Bucket, entry_at, slice_get, rises, numbers_of, Pool, IsUntouched}
 use Rattle.gpu_descriptor.proofs.lists.Numbers.{entry_at-found}
-use Rattle.gpu_descriptor.proofs.release.ReleaseAgrees.{cases_option}
+use Rattle.gpu_descriptor.proofs.lists.AtPlaces.{cases_option}
 
 pub own_agrees : (s t : State) → ((k : Key) → IsUntouched k s t) → Agree s → Agree t
 own_agrees s t same agree =

@@ -4,12 +4,16 @@ use Rattle.gpu_descriptor.proofs.Common.{[], ◌∷◌, ◌++◌, length, take, 
 use Rattle.gpu_descriptor.proofs.Common.{sym, ap, ◌∙◌, arith, drop, ◌+◌, or_cases, or_left, or_right, slice_get}
 use Rattle.gpu_descriptor.proofs.Common.{list_any, ◌⊎◌, get_or_from_slice_get, slice_get_within, length-take-le}
 use Rattle.gpu_descriptor.proofs.Common.{set-get_or, ◌≤◌, count_by, count_by_no, count_by_yes, Option, cases_Bool}
-use Rattle.gpu_descriptor.proofs.Common.{or_from}
+use Rattle.gpu_descriptor.proofs.Common.{or_from, if◌then◌else◌}
 use Rattle.std.proofs.Math.Seq.{get_or-append_seam, take-suc}
 
 pub cases_option : {A : Type 0} (o : Option A) → (o ≡ None) ⊎ ((x : A) × (o ≡ Some x))
 cases_option None = inl refl
 cases_option (Some x) = inr (x, refl)
+
+pub if_none : (b : Bool) → ◌≡◌ {A = ℕ} (if b then 0 else 0) 0
+if_none true = refl
+if_none false = refl
 
 -- ---- tests
 

@@ -1,5 +1,5 @@
 -- What the loop over the runs keeps.
-use Rattle.gpu_descriptor.proofs.Common.{search_digits, ◌≡◌, ◌≤◌, ℕ, ◌+◌, ◌<◌, true, false, ◌&&◌, ◌==◌, List, [], ◌∷◌}
+use Rattle.gpu_descriptor.proofs.Common.{search_digits, ◌≡◌, ℕ, ◌+◌, ◌<◌, true, false, ◌&&◌, ◌==◌, List, [], ◌∷◌}
 use Rattle.gpu_descriptor.proofs.Common.{◌++◌, sum_by, refl, sym, ap, subst, ◌∙◌, arith, append_assoc, append-nil}
 use Rattle.gpu_descriptor.proofs.Common.{length-append, eq-eqb, Option, Some, None, MatchOption, OnSome, IfSome}
 use Rattle.gpu_descriptor.proofs.Common.{eqb-true, Count, HoldsAlong, IsFinite, IsNearerEnd, MakesProgress, size}
@@ -8,7 +8,7 @@ use Rattle.gpu_descriptor.proofs.Common.{Meaning, Counters, Ledger, bool_iff, De
 use Rattle.gpu_descriptor.proofs.Common.{AreOutstanding, Agree, count_of, Key, key_eq, Allocations, common_steps}
 use Rattle.gpu_descriptor.proofs.Common.{set_descriptors, more_released, more_destroyed, released, given_back}
 use Rattle.gpu_descriptor.proofs.Common.{pools_gone, run_digits, GivesBack, Frees, FreesRun, runs, item_of, items_of}
-use Rattle.gpu_descriptor.proofs.Common.{AllPass, state_of}
+use Rattle.gpu_descriptor.proofs.Common.{AllPass, state_of, Compares}
 use Rattle.std.proofs.iter.Next.{Yields-more}
 use Rattle.gpu_descriptor.specs.Inner.RunSteps.{lies_at}
 use Rattle.gpu_descriptor.specs.Caller.States.{keys_of}
@@ -129,8 +129,7 @@ module _ {L P S : Type 0} (means : Meaning L P S) where
       pub back : GivesBack means sets (runs (items sets)) (side old before) (side now after)
       pub agree : Agree (state_of means.pool_name now after)
       pub keys : keys_of now ≡ keys_of old
-      pub rises : old.comparisons ≤ now.comparisons
-      pub few : now.comparisons ≤ old.comparisons + run_digits (state_of means.pool_name old before) (items sets)
+      pub compares : Compares (run_digits (state_of means.pool_name old before) (items sets)) old.comparisons now.comparisons
       pub comes : Comes first sets ahead rest
 
     appended : (first : T) (xs : List (DescriptorSet S)) (y : DescriptorSet S) (zs : List (DescriptorSet S)) (rest t : T) → Yields steps first (xs ++ y ∷ []) rest → Yields steps rest zs t → Yields steps first (xs ++ y ∷ zs) t
@@ -153,14 +152,13 @@ module _ {L P S : Type 0} (means : Meaning L P S) where
           grind (arith, common_steps, all_out, count_of-append))
 
       pub freed_more : (new : Allocations P) (after : Ledger) (a : Option (DescriptorSet S)) (t : T) → FreesRun steps means x rest a t (side now mid) (side new after) → keys_of new ≡ keys_of now → OnSome a (IsNearerEnd can left rest t)
-          → now.comparisons ≤ new.comparisons → new.comparisons ≤ now.comparisons + search_digits ((state_of means.pool_name now mid).books x.key.is) → Freed first old before new after a t
-      freed_more new after a t run same n more few = record {
+          → Compares (search_digits ((state_of means.pool_name now mid).books x.key.is)) now.comparisons new.comparisons → Freed first old before new after a t
+      freed_more new after a t run same n more = record {
         sets = r.sets ++ x ∷ xs;
         back = subst (λ (m : ℕ). GivesBack means (r.sets ++ x ∷ xs) m (side old before) (side new after)) (sym count) (gives_both r.sets (x ∷ xs) (runs (items r.sets)) 1 old now new before mid after agree (all_out xs run.came.1.0 run.came.1.1) r.keys r.back run.back);
         agree = rw run.back.state (agrees (items (x ∷ xs)) (state_of means.pool_name now mid) r.agree (call_out xs run.came.1.0 run.came.1.1));
         keys = same ∙ r.keys;
-        rises = (omega arith);
-        few = (let digits = cost in omega arith);
+        compares = (let was = r.compares in let digits = cost in record { rises = omega arith; few = omega arith });
         comes = stop a run.came.1.2 run.came.2 n;
       }
         where
@@ -205,7 +203,7 @@ module _ {L P S : Type 0} (means : Meaning L P S) where
     less rest (Some y) t n = omega (arith, n.2)
 
     pub freed_none : (first : T) (old : Allocations P) (before : Ledger) (a : Option (DescriptorSet S)) (rest : T) → Agree (state_of means.pool_name old before) → IsFinite (left first) → steps first a rest → MakesProgress can left first a rest → Freed first old before old before a rest
-    freed_none first old before a rest agree finite step goes = record { sets = []; back = gives_none old before; agree = agree; keys = refl; rises = omega arith; few = omega arith; comes = begin a step goes }
+    freed_none first old before a rest agree finite step goes = record { sets = []; back = gives_none old before; agree = agree; keys = refl; compares = record { rises = omega arith; few = omega arith }; comes = begin a step goes }
       where
         begin : (a : Option (DescriptorSet S)) → steps first a rest → MakesProgress can left first a rest → Comes first [] a rest
         begin None step goes = (first, refl, step)

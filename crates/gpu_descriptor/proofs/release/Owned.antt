@@ -1,5 +1,5 @@
 -- The row of a set that is out: its key's, and the only one with its id.
-use Rattle.gpu_descriptor.proofs.Common.{◌≡◌, ◌⊎◌, ◌<◌, ℕ, suc, true, false, List, [], ◌∷◌, ◌++◌, slice_get, Option}
+use Rattle.gpu_descriptor.proofs.Common.{◌≡◌, ◌<◌, ℕ, suc, true, false, List, [], ◌∷◌, ◌++◌, slice_get, Option}
 use Rattle.gpu_descriptor.proofs.Common.{Some, None, IfSome, inl, inr, refl, sym, ap, subst, ◌∙◌, arith, eq-eqb}
 use Rattle.gpu_descriptor.proofs.Common.{eqb-true, map, nat_eq, lookup, option_map_or, HoldsAlong, cases_Bool, and_from}
 use Rattle.gpu_descriptor.proofs.Common.{and_parts, false_from_ne_true, Ledger, count_by_yes, BucketKey, DescriptorSet}
@@ -10,6 +10,7 @@ use Rattle.std.proofs.iter.Next.{Yields-more}
 use Rattle.gpu_descriptor.specs.Inner.RunSteps.{at_place, lies_at}
 use Rattle.gpu_descriptor.proofs.table.Exact.{item_exact, key_exact}
 use Rattle.gpu_descriptor.proofs.callers.HeldSets.{out_back}
+use Rattle.gpu_descriptor.proofs.lists.AtPlaces.{cases_option}
 use Rattle.gpu_descriptor.proofs.foreign.NoneLost.{none_at}
 use Rattle.gpu_descriptor.proofs.release.Places.{outstanding_found}
 use Rattle.gpu_descriptor.proofs.request.Requested.{books_at}
@@ -31,10 +32,6 @@ pub record Stands {P : Type 0} (k : Key) (w : DescriptorBucket P) (es : List (Bu
   pub key : key_of entry.0 ≡ k
   pub is : entry.1 ≡ w
   pub id : slice_get (stored_ids es) place ≡ Some w.id
-
-some_or_none : {A : Type 0} (o : Option A) → ((x : A) × (o ≡ Some x)) ⊎ (o ≡ None)
-some_or_none None = inr refl
-some_or_none (Some x) = inl (x, refl)
 
 place_parts : {S : Type 0} (i n : ℕ) (x : DescriptorSet S) → at_place i n x ≡ true → (x.id ≡ i) × (x.number ≡ n)
 unfolding at_place
@@ -72,9 +69,9 @@ module _ {P S : Type 0} (name : P → ℕ) (set_name : S → ℕ) (a : Allocatio
   pub owns : (t : Item) → 0 < outstanding s t → Owns t.key t.id es
   owns t out =
       let f = outstanding_found s t 0 out in
-      elim (some_or_none (lookup (is_of t.key) es)) [
-        | inl row ↦ record { bucket = row.0; found = row.1; has = sym (ap (λ (b : Bucket). b.id) (looked t.key (Some row.0) row.1)) ∙ f.3 }
-        | inr none ↦ absurd (none_at no_pools t.number f.0 refl (ap (λ (b : Bucket). entry_at b t.number) (sym (looked t.key None none)) ∙ f.1))
+      elim (cases_option (lookup (is_of t.key) es)) [
+        | inr row ↦ record { bucket = row.0; found = row.1; has = sym (ap (λ (b : Bucket). b.id) (looked t.key (Some row.0) row.1)) ∙ f.3 }
+        | inl none ↦ absurd (none_at no_pools t.number f.0 refl (ap (λ (b : Bucket). entry_at b t.number) (sym (looked t.key None none)) ∙ f.1))
       ]
 
   -- the first set of a list that is out

@@ -40,7 +40,7 @@ in_front-less g n b pool = ap (list_any (λ e. e.pool == pool)) (take-map (λ (e
 in_front-add : (m n : ℕ) (b : Bucket) (pool : ℕ) → in_front (m + n) b pool ≡ (in_front m b pool || in_front n (without_front m b) pool)
 in_front-add m n b pool = ap (list_any (λ e. e.pool == pool)) (take-add m n b.pools) ∙ list_any-append (λ e. e.pool == pool) (take m b.pools) (take n (drop m b.pools))
 
-or-false : (a : Bool) → a ≡ (a || false)
+pub or-false : (a : Bool) → a ≡ (a || false)
 or-false true = refl
 or-false false = refl
 

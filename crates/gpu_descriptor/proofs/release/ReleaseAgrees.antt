@@ -1,7 +1,7 @@
 -- What giving back keeps: agreement, and what is outstanding but for the sets given; and that neither order nor parts matter.
 use Rattle.gpu_descriptor.proofs.Common.{◌≡◌, ℕ, ◌+◌, ◌-◌, ◌<◌, ◌≤◌, Bool, true, false, ltb, ◌&&◌, ◌==◌, List, [], ◌∷◌}
 use Rattle.gpu_descriptor.proofs.Common.{◌++◌, flat_map, map, take, count_by, slice_get, slice_get-map, Option, Some}
-use Rattle.gpu_descriptor.proofs.Common.{None, option_map, ◌⊎◌, inl, inr, refl, sym, ap, ◌∙◌, subst, arith, eqb-true}
+use Rattle.gpu_descriptor.proofs.Common.{None, option_map, inl, inr, refl, sym, ap, ◌∙◌, subst, arith, eqb-true}
 use Rattle.gpu_descriptor.proofs.Common.{if◌then◌else◌, fun_ext, list_any, cases_lt, and_parts, false_from_ne_true}
 use Rattle.gpu_descriptor.proofs.Common.{set_of, State, Item, count_of, outstanding, AreOutstanding, IsAsBooked, Agree}
 use Rattle.gpu_descriptor.proofs.Common.{Key, Entry, Bucket, entry_at, rises, numbers_of, Pool, LiveSet, set_eq}
@@ -10,7 +10,7 @@ use Rattle.gpu_descriptor.proofs.Common.{entry_less, bucket_less, pool_less, giv
 use Rattle.gpu_descriptor.proofs.Common.{released_each}
 use Rattle.gpu_descriptor.proofs.lists.Numbers.{entry_at-found, entry_at-from, numbers_drop, rises_drop}
 use Rattle.gpu_descriptor.proofs.request.StateAgrees.{booked_at}
-use Rattle.gpu_descriptor.proofs.lists.AtPlaces.{found_before}
+use Rattle.gpu_descriptor.proofs.lists.AtPlaces.{cases_option, found_before, if_none}
 use Rattle.gpu_descriptor.proofs.table.Exact.{item_exact}
 use Rattle.gpu_descriptor.proofs.release.Places.{outstanding_found, back, back_named, back_named-is, part_fits, size_less, outstanding_at, some_before, front_of, numbers_less, released_books, was_at, was_there, kept}
 use Rattle.gpu_descriptor.proofs.release.Parts.{goes, names_key, any_key, parts}
@@ -76,14 +76,6 @@ agrees m s agree out = record {
       ∙ ap rises (numbers_drop c.pools f)
       ∙ rises_drop (numbers_of c.pools) f (ap rises (numbers_less (back m s) (s.books k)) ∙ agree.rising k);
 }
-
-pub cases_option : (o : Option Entry) → (o ≡ None) ⊎ ((e : Entry) × (o ≡ Some e))
-cases_option None = inl refl
-cases_option (Some e) = inr (e, refl)
-
-pub if_none : (b : Bool) → ◌≡◌ {A = ℕ} (if b then 0 else 0) 0
-if_none true = refl
-if_none false = refl
 
 -- giving back changes no id
 pub same_id : (m : List Item) (s : State) (k : Key) → ((released m s).books k).id ≡ (s.books k).id

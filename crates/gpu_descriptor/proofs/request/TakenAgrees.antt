@@ -12,7 +12,7 @@ use Rattle.gpu_descriptor.proofs.Common.{next_number, numbers_of, rises, Grant, 
 use Rattle.gpu_descriptor.proofs.Common.{came, bucket_with, ledger_with, fresh_or, pool_with, items_at, granted}
 use Rattle.gpu_descriptor.proofs.Common.{Portion, all_shared, portions_of, KeepsForeign, KeepsOtherKeys}
 use Rattle.std.proofs.lemmas.List.{get_or-append-add}
-use Rattle.gpu_descriptor.proofs.lists.AtPlaces.{cases_option, get_drop, none_from}
+use Rattle.gpu_descriptor.proofs.lists.AtPlaces.{cases_option, get_drop, if_none, none_from}
 use Rattle.gpu_descriptor_types.specs.Ledger as ledgers
 use Rattle.gpu_descriptor.proofs.table.Exact.{key_exact}
 use Rattle.gpu_descriptor.proofs.lists.Numbers.{below_next, entry_at-found, entry_at-from, entry_at-named, number_of}
@@ -75,9 +75,6 @@ all_came k id b apart u f at key own (p ∷ parts) placed =
           let sets : times (live_sets k.counts (came (p ∷ parts) f.pool)) (set_of u) ≡ times (live_sets k.counts (came parts f.pool)) (set_of u) = rw off refl in
           omega arith)
     ]
-
-no_choice : (c d : Bool) → ◌≡◌ {A = ℕ} (if c then 0 else 0) (if d then 0 else 0)
-no_choice c d = grind arith
 
 -- ---- books and ledger
 
@@ -318,7 +315,7 @@ module _ (k : Key) (n : ℕ) (g : Grant) (s : State) (agree : Agree s) (grant : 
   -- where the key had pools it had the id
   live_then : (u : Item) → k ≡ u.key → outstanding s u ≡ (if g.id == u.id then live_at s.ledger b u else 0)
   live_then u key = ap (λ (l : Key). if (s.books l).id == u.id then live_at s.ledger (s.books l) u else 0) (sym key) ∙ elim (cases_option (entry_at b u.number)) [
-    | inl none ↦ (let zero : live_at s.ledger b u ≡ 0 = rw none refl in rw zero (no_choice (b.id == u.id) (g.id == u.id)))
+    | inl none ↦ (let zero : live_at s.ledger b u ≡ 0 = rw none refl in rw zero (if_none (b.id == u.id) ∙ sym (if_none (g.id == u.id))))
     | inr e ↦ ap (λ (i : ℕ). if i == u.id then live_at s.ledger b u else 0) (sym (grant.id (let found = entry_at-found b u.number e.0 e.1 in let some = slice_get_within b.pools found.0 e.0 found.1 in omega arith)))
   ]
 

@@ -12,7 +12,7 @@ use Rattle.gpu_descriptor.proofs.table.Exact.{bucket}
 use Rattle.gpu_descriptor.proofs.request.Asks.{none_with, same_counters, skipped}
 use Rattle.gpu_descriptor.proofs.request.Shares.{IsApart, apart_from, not_refused, or_at}
 use Rattle.gpu_descriptor.proofs.request.WalkStep.{items_more, part, so_far, taken_more, rest_now}
-use Rattle.gpu_descriptor.proofs.lists.AtPlaces.{drop_at, get_drop, long_take, set_same, split_at, take_get}
+use Rattle.gpu_descriptor.proofs.lists.AtPlaces.{drop_at, get_drop, get_some, long_take, set_same, split_at, take_get}
 
 pub record Walking (k : Key) (n id left wanting : ℕ) (items : List Item) (old new : List Entry) (l m : Ledger) : Type 0 where
   pub refused : ℕ → Bool
@@ -103,18 +103,13 @@ walk_stop k room n id i wanting items old new l m m' e f error s was is same non
   none.refused,
 )
 
-get_at : {A : Type 0} (xs : List A) (i : ℕ) → i < length xs → (x : A) × (slice_get xs i ≡ Some x)
-get_at [] i h = absurd (omega arith)
-get_at (x ∷ xs) zero h = (x, refl)
-get_at (x ∷ xs) (suc i) h = get_at xs i (omega arith)
-
 -- older pools that have nothing, or of which nothing is wanted, are left as they are
 pub walk_gap : (k : Key) (n id wanting : ℕ) (items : List Item) (old new : List Entry) (l m : Ledger) → AreBookedIn k l.pools old
     → (gap i left : ℕ) → left ≡ gap + i → left ≤ length old → ((j : ℕ) (e : Entry) → i ≤ j → j < left → slice_get new j ≡ Some e → min wanting e.available ≡ 0) → Walking k n id left wanting items old new l m → Walking k n id i wanting items old new l m
 walk_gap k n id wanting items old new l m booked zero i left is here none s = subst (λ (j : ℕ). Walking k n id j wanting items old new l m) (let e : left ≡ i = omega arith in e) s
 walk_gap k n id wanting items old new l m booked (suc gap) i left is here none s =
     let one : left ≡ suc (gap + i) = omega arith in
-    let at = get_at old (gap + i) (omega arith) in
+    let at = get_some old (gap + i) (omega arith) in
     let e : Entry = at.0 in
     let from : Walking k n id (suc (gap + i)) wanting items old new l m = subst (λ (j : ℕ). Walking k n id j wanting items old new l m) one s in
     let there : slice_get new (gap + i) ≡ Some e = next_was k n id (gap + i) wanting items old new l m booked from (omega arith) ∙ at.1 in

@@ -1,5 +1,5 @@
 -- How one run is freed: at its key's pools, and at the allocator.
-use Rattle.std.specs.Prelude.{◌≡◌, ℕ, List, ◌∷◌, length, Option, ◌≤◌, map, set, slice_get, Some}
+use Rattle.std.specs.Prelude.{◌≡◌, ◌+◌, ℕ, List, ◌∷◌, length, Option, ◌≤◌, map, set, slice_get, Some}
 use Rattle.gpu_descriptor_types.specs.Ledger.{Ledger, Pool, after_release, live_sets}
 use Rattle.gpu_descriptor.specs.declared.set.DescriptorSet.{DescriptorSet}
 use Rattle.gpu_descriptor.specs.Model.Agreement.{live_in}
@@ -31,6 +31,11 @@ pub record Releases (k : Key) (number : ℕ) (names : List ℕ) (old : Bucket) (
   pub named : entry.number ≡ number
   pub books : new ≡ bucket_back old place (length names) entry
   pub ledger : after ≡ after_release entry.pool (live_sets k.counts names) before
+
+-- the number of comparisons rose, by so many at most
+pub record Compares (most old new : ℕ) : Type 0 where
+  pub rises : old ≤ new
+  pub few : new ≤ old + most
 
 -- the names of the raw sets
 abbrev pub names_of : {S : Type 0} → (S → ℕ) → List (DescriptorSet S) → List ℕ

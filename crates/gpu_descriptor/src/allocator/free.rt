@@ -6,7 +6,7 @@ ghost use Rattle.gpu_descriptor.specs.Model.Agreement.{Agree, AreOutstanding};
 ghost use Rattle.gpu_descriptor.specs.Caller.Comparisons.{search_digits};
 ghost use Rattle.gpu_descriptor.specs.Caller.Keeps.{Keeps};
 ghost use Rattle.gpu_descriptor.specs.Caller.Frees.{Frees, Returns};
-ghost use Rattle.gpu_descriptor.specs.Inner.Releases.{FreesRun};
+ghost use Rattle.gpu_descriptor.specs.Inner.Releases.{Compares, FreesRun};
 ghost use Rattle.gpu_descriptor.specs.Caller.Sets.{items_of};
 ghost use Rattle.gpu_descriptor.specs.Caller.States.{Agrees, keys_of, state_of};
 
@@ -99,9 +99,8 @@ impl<P, S> DescriptorAllocator<P, S> {
         ensures limit { self.new.limit ≡ self.old.limit }
         ensures most { self.new.most ≡ self.old.most }
         ensures looks_stay { self.new.looks ≡ self.old.looks }
-        ensures rises { self.old.comparisons ≤ self.new.comparisons }
-        ensures few { self.new.comparisons ≤ self.old.comparisons + search_digits
-            ((state_of D.meaning.pool_name self.old (D.ledger device.old)).books first.key.is) }
+        ensures compares { Compares (search_digits ((state_of D.meaning.pool_name self.old
+            (D.ledger device.old)).books first.key.is)) self.old.comparisons self.new.comparisons }
     {
         let place = self.table.place_of_id(first.id);
         self.table.last = place;

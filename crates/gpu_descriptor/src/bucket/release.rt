@@ -4,7 +4,7 @@ ghost use Rattle.std.specs.Iterator.{HoldsAlong, IsFinite, IsNearerEnd};
 ghost use Rattle.gpu_descriptor.specs.Caller.Comparisons.{gap_digits, search_digits};
 ghost use Rattle.gpu_descriptor.specs.Inner.Buckets.{AreBookedIn};
 ghost use Rattle.gpu_descriptor.specs.Inner.OpenNumbers.{stored_numbers};
-ghost use Rattle.gpu_descriptor.specs.Inner.Releases.{IsTakenAt, Releases, names_of};
+ghost use Rattle.gpu_descriptor.specs.Inner.Releases.{Compares, IsTakenAt, Releases, names_of};
 ghost use Rattle.gpu_descriptor.specs.Inner.RunSteps.{AllPass, EndsRun, at_place};
 ghost use Rattle.gpu_descriptor.specs.Inner.Stored.{bucket_of, stored_load};
 ghost use Rattle.gpu_descriptor.specs.Model.Books.{Key};
@@ -51,9 +51,8 @@ impl<P> DescriptorBucket<P> {
         ensures load { (k : Key) → stored_load k self.new.pools.items
             ≡ stored_load k self.old.pools.items }
         ensures goes { OnSome result (IsNearerEnd I.can_next I.remaining sets.old sets.new) }
-        ensures rises { comparisons.old.count ≤ comparisons.new.count }
-        ensures few { comparisons.new.count ≤ comparisons.old.count + search_digits
-            (bucket_of D.meaning.pool_name self.old) }
+        ensures compares { Compares (search_digits (bucket_of D.meaning.pool_name self.old))
+            comparisons.old.count comparisons.new.count }
     {
         let id = first.id;
         let number = first.number;
@@ -85,9 +84,8 @@ impl<P> DescriptorBucket<P> {
         requires there { (i : ℕ) × (slice_get (stored_numbers self.now.pools.items) i
             ≡ Some number) }
         ensures place { slice_get (stored_numbers self.now.pools.items) result ≡ Some number }
-        ensures rises { comparisons.old.count ≤ comparisons.new.count }
-        ensures few { comparisons.new.count ≤ comparisons.old.count
-            + gap_digits (stored_numbers self.now.pools.items) }
+        ensures compares { Compares (gap_digits (stored_numbers self.now.pools.items))
+            comparisons.old.count comparisons.new.count }
     {
         let likely = number.wrapping_sub(self.first_ordinal()) as usize;
         if self.has_number(likely, number) {

@@ -5,6 +5,7 @@ ghost use Rattle.std.specs.VecDeque.{deque_capacity};
 ghost use Rattle.std.specs.List.Sorted.{IsNonDecreasing, IsPartitionPoint};
 ghost use Rattle.gpu_descriptor.specs.Caller.Comparisons.{binary_digits};
 ghost use Rattle.gpu_descriptor.specs.Inner.OpenNumbers.{IsEntered, stored_numbers};
+ghost use Rattle.gpu_descriptor.specs.Inner.Releases.{Compares};
 ghost use Rattle.gpu_descriptor.specs.Model.Books.{rises};
 
 use crate::bucket::DescriptorPool;
@@ -18,9 +19,8 @@ pub(crate) fn place_of<N: Numbered>(view: &mut Numbers<'_, '_, N>, number: u64) 
     ensures within { result ≤ length (N.numbers view.old.numbers.now) }
     ensures place { IsPartitionPoint (λ x. x < number) (λ x. number ≤ x)
         (N.numbers view.old.numbers.now) result }
-    ensures rises { view.old.comparisons.now.count ≤ view.new.comparisons.now.count }
-    ensures few { view.new.comparisons.now.count ≤ view.old.comparisons.now.count + binary_digits
-        (length (N.numbers view.old.numbers.now)) }
+    ensures compares { Compares (binary_digits (length (N.numbers view.old.numbers.now)))
+        view.old.comparisons.now.count view.new.comparisons.now.count }
     ensures same_reference { view.new.comparisons.ghost_name ≡ view.old.comparisons.ghost_name }
 {
     let mut low = 0;
@@ -48,9 +48,8 @@ pub(crate) fn search_pools<P>(
     requires rising { rises (stored_numbers pools.now.items) ≡ true }
     requires there { (i : ℕ) × (slice_get (stored_numbers pools.now.items) i ≡ Some number) }
     ensures place { slice_get (stored_numbers pools.now.items) result ≡ Some number }
-    ensures rises { comparisons.old.count ≤ comparisons.new.count }
-    ensures few { comparisons.new.count ≤ comparisons.old.count + binary_digits
-        (length pools.now.items) }
+    ensures compares { Compares (binary_digits (length pools.now.items)) comparisons.old.count
+        comparisons.new.count }
 {
     let mut view = Numbers::new(pools, comparisons);
     place_of(&mut view, number)
@@ -63,9 +62,8 @@ fn enter(listed: &mut VecDeque<u64>, number: u64, comparisons: &mut Tally)
     requires fits { length listed.old.items < deque_capacity listed.old }
     ensures entered { IsEntered number listed.old.items listed.new.items }
     ensures capacity { deque_capacity listed.old ≤ deque_capacity listed.new }
-    ensures rises { comparisons.old.count ≤ comparisons.new.count }
-    ensures few { comparisons.new.count ≤ comparisons.old.count + binary_digits
-        (length listed.old.items) }
+    ensures compares { Compares (binary_digits (length listed.old.items)) comparisons.old.count
+        comparisons.new.count }
 {
     let mut view = Numbers::new(listed, comparisons);
     let place = place_of(&mut view, number);
@@ -89,9 +87,8 @@ pub(crate) fn enter_new(
     ensures entered { is_new ≡ true → IsEntered number listed.old.items listed.new.items }
     ensures stays { is_new ≡ false → listed.new.items ≡ listed.old.items }
     ensures capacity { deque_capacity listed.old ≤ deque_capacity listed.new }
-    ensures rises { comparisons.old.count ≤ comparisons.new.count }
-    ensures few { comparisons.new.count ≤ comparisons.old.count + binary_digits
-        (length listed.old.items) }
+    ensures compares { Compares (binary_digits (length listed.old.items)) comparisons.old.count
+        comparisons.new.count }
 {
     if !is_new {
         return;

@@ -178,12 +178,13 @@ returns-clause-keys g c =
     let was = table_is _ c.self.view_is in
     row_keys _ ∙ keys_at c.self.inside.table.buckets.entries c.place_of_id-place.result c.destroy_empty_front.new.self ∙ sym (keys_are c.args.self.now c.self.inside.table.buckets.entries was)
 
-pub returns-clause-few : goal.returns-clause-few
-returns-clause-few g c =
-    let at = goal.at.returns-clause-few g c in
+pub returns-clause-compares : goal.returns-clause-compares
+returns-clause-compares g c =
+    let at = goal.at.returns-clause-compares g c in
     let r = row g at.After-pair_mut-bucket in
     let open_ones = row_open g.D.DescriptorDevice.meaning.pool_name g.D.DescriptorDevice.meaning.set_name c.args.self.now (g.D.DescriptorDevice.ledger c.args.device.now) c.self.inside.table.buckets.entries (table_is _ c.self.view_is) c.requires.agree c.args.first r.test r.same
     c.pair_mut-bucket.result.1.now r.at in
     let same = ap binary_digits open_ones in
     let count = ap (λ (a : Allocations _). a.comparisons) c.self.view_is in
-    omega arith
+    let most = c.release_sets-ahead.ensures.compares in
+    record { rises = omega arith; few = omega arith }

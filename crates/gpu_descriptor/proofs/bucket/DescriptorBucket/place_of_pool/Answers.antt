@@ -3,8 +3,8 @@ use Rattle.std.proofs.Common.{◌%◌}
 use Rattle.gpu_descriptor.proofs.lists.Numbers.{no_gaps}
 use Rattle.gpu_descriptor.proofs.bucket.DescriptorBucket.place_of_pool.Goals as goal
 
-pub returns-clause-few : goal.returns-clause-few
-returns-clause-few g c =
+pub returns-clause-compares : goal.returns-clause-compares
+returns-clause-compares g c =
     let items = c.args.self.now.pools.items in
     let numbers = stored_numbers items in
     let long : length numbers ≡ length items = length-map items (λ (p : DescriptorPool _). p.number) in
@@ -12,8 +12,8 @@ returns-clause-few g c =
       | inl gaps ↦ (
           let is : gap_digits numbers ≡ binary_digits (length numbers) = rw gaps refl in
           let same = ap binary_digits long in
-          let few = c.search_pools.ensures.few in
-          omega arith)
+          let most = c.search_pools.ensures.compares in
+          record { rises = omega arith; few = omega arith })
       | inr none ↦ absurd (
           let stands = c.requires.there in
           let place = no_gaps numbers c.args.self.now.rising none stands.0 c.args.number stands.1 in

@@ -243,11 +243,12 @@ returns-clause-load g c = λ k.
     c.dealloc_descriptor_sets.new.pool (c.index_mut-pool.result.now.allocated - c.finish-count.result)
     (c.index_mut-pool.result.now.available + c.finish-count.result) (is_at g r).within c.index_mut-pool.ensures.value
 
-pub returns-clause-few : goal.returns-clause-few
-returns-clause-few g c =
+pub returns-clause-compares : goal.returns-clause-compares
+returns-clause-compares g c =
     let name = g.D.DescriptorDevice.meaning.pool_name in
     let many = ap length c.args.self.now.«open» ∙ listed_count name (first_ordinal c.args.self.now.pools.items) c.args.self.now.pools.items in
     let same = ap binary_digits many in
     let gaps = ap gap_digits (numbers_stored name c.args.self.now.pools.items) in
-    let found = c.place_of_pool-place.ensures.few in
-    omega arith
+    let found = c.place_of_pool-place.ensures.compares in
+    let entered = c.enter_new.ensures.compares in
+    record { rises = omega arith; few = omega arith }
