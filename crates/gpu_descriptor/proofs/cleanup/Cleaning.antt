@@ -59,11 +59,7 @@ module _ (everywhere : Bool) where
 
   pub again_none : (keys : List Key) (s t : State) → LosesEmpty everywhere s t → pools_lost everywhere keys t ≡ 0
   again_none [] s t less = refl
-  again_none (k ∷ keys) s t less =
-      let none : length (gone t k) ≡ 0 = ap length (ap (gone_of everywhere) (pools_left s t less k) ∙ gone_twice everywhere (s.books k).pools) in
-      let sum = sum_by-cons (λ (l : Key). length (gone t l)) k keys in
-      let rest = again_none keys s t less in
-      omega arith
+  again_none (k ∷ keys) s t less = grind (arith, common_steps, gone, gone_twice, pools_left, sum_by-cons, (again_none keys s t less))
 
   pub nothing_left : (s t : State) → Agree s → ((i : Item) → outstanding s i ≡ 0) → LosesEmpty everywhere s t → (k : Key) → t.books k ≡ no_pools
   nothing_left s t agree nothing less k = less.books k ∙ ap (with_pools (s.books k)) (all_go everywhere (s.books k).pools (all_empty s agree nothing k))

@@ -1,7 +1,7 @@
 -- In which order keys stay in the table.
 use Rattle.gpu_descriptor.proofs.Common.{◌≡◌, ℕ, zero, suc, ◌==◌, not, Bool, List, [], ◌∷◌, ◌++◌, length, map, filter}
-use Rattle.gpu_descriptor.proofs.Common.{slice_get, Option, Some, None, true, false, inl, inr, refl, sym, ap, ◌∙◌}
-use Rattle.gpu_descriptor.proofs.Common.{arith, list_any, lookup, cases_Bool, map-append, Ledger, BucketKey}
+use Rattle.gpu_descriptor.proofs.Common.{slice_get, Option, Some, None, true, false, refl, sym, ap, ◌∙◌}
+use Rattle.gpu_descriptor.proofs.Common.{arith, list_any, lookup, map-append, Ledger, BucketKey}
 use Rattle.gpu_descriptor.proofs.Common.{DescriptorBucket, Key, Bucket, HasDistinctKeys, books_of, key_of, Allocations}
 use Rattle.gpu_descriptor.proofs.Common.{keys_with_pools, common_steps, has_pools, LosesEmpty, left_of, with_pools}
 use Rattle.gpu_descriptor.proofs.Common.{Entry, with_key, key_eq, is_of, named_row, state_of, row_of, stored_keys}
@@ -26,10 +26,7 @@ module _ (k : Key) where
 module _ {P : Type 0} (k : Key) where
   lacks : (es : List (BucketKey × DescriptorBucket P)) → lookup (is_of k) es ≡ None → list_any (key_eq k) (stored_keys es) ≡ false
   lacks [] none = refl
-  lacks (e ∷ es) none = elim (cases_Bool (is_of k e.0)) [
-    | inl here ↦ absurd (let bad : ◌≡◌ {A = Option (DescriptorBucket P)} (Some e.1) None = rw here at none in cc)
-    | inr other ↦ (let later = lacks es (rw other at none) in grind arith)
-  ]
+  lacks (e ∷ es) none = grind (arith, common_steps, (lacks es))
 
   -- one that was absent comes last
   pub keys_put : (key : BucketKey) (es fs : List (BucketKey × DescriptorBucket P)) (w : DescriptorBucket P) → key_of key ≡ k → lookup (is_of k) es ≡ None → fs ≡ es ++ (key, w) ∷ [] → stored_keys fs ≡ with_key k (stored_keys es)

@@ -1,5 +1,6 @@
 -- Pools are taken from the front, one after another: an empty one is destroyed, and any other goes to the back.
-use Rattle.gpu_descriptor.proofs.Common.{◌≡◌, ℕ, suc, ◌+◌, ◌<◌, ◌≤◌, ◌==◌, Bool, true, false, nat_lt, List, [], ◌∷◌}
+use Rattle.gpu_descriptor.proofs.Common.{common_steps}
+use Rattle.gpu_descriptor.proofs.Common.{◌≡◌, ℕ, suc, ◌+◌, ◌<◌, ◌≤◌, Bool, true, false, nat_lt, List, [], ◌∷◌}
 use Rattle.gpu_descriptor.proofs.Common.{◌++◌, length, take, drop, map, filter, slice_get, Some, None, inl, inr, refl}
 use Rattle.gpu_descriptor.proofs.Common.{sym, ap, ◌∙◌, subst, arith, eq-eqb, ne_eqb, lt-ltb, ltb-false, sum_by}
 use Rattle.gpu_descriptor.proofs.Common.{cases_Bool, append-nil, append_assoc, length-append, map-append}
@@ -90,12 +91,7 @@ module _ {P : Type 0} (name : P → ℕ) (k : Key) where
         }
       where
         one_more : (gone : List Entry) (p : ℕ) → (after_destroy (name x.raw) (ledger_but gone before)).pools p ≡ (if are_named (gone ++ entry_of name x ∷ []) p then None else before.pools p)
-        one_more gone p =
-            let both = list_any-append (λ (e : Entry). e.pool == p) gone (entry_of name x ∷ []) in
-            elim (cases_Bool (name x.raw == p)) [
-              | inl same ↦ rw (both, same) (elim (cases_Bool (are_named gone p)) [ inl was ↦ rw was refl | inr not_was ↦ rw not_was refl ])
-              | inr other ↦ rw (both, other) (elim (cases_Bool (are_named gone p)) [ inl was ↦ rw was refl | inr not_was ↦ rw not_was refl ])
-            ]
+        one_more gone p = grind (arith, common_steps, list_any-append)
 
   pub as_turned : (old now : List (DescriptorPool P)) (n m : ℕ) (before after after' : Ledger) → n ≡ m → after ≡ after' → Turning old now n before after → Turning old now m before after'
   as_turned old now n m before after after' same is turned = subst (λ l. Turning old now m before l) is (subst (λ i. Turning old now i before after) same turned)
@@ -111,10 +107,7 @@ module _ {P : Type 0} (name : P → ℕ) (k : Key) where
 module _ {P : Type 0} where
   pub entries_left : (name : P → ℕ) (pools : List (DescriptorPool P)) → map (entry_of name) (filter has_sets pools) ≡ filter (λ e. nat_lt 0 e.allocated) (map (entry_of name) pools)
   entries_left name [] = refl
-  entries_left name (p ∷ pools) = elim (cases_Bool (has_sets p)) [
-    | inl some ↦ rw some (ap (λ l. entry_of name p ∷ l) (entries_left name pools))
-    | inr none ↦ rw none (entries_left name pools)
-  ]
+  entries_left name (p ∷ pools) = grind (arith, common_steps, (entries_left name pools))
 
   pub length_left : (pools : List (DescriptorPool P)) → length (filter has_sets pools) ≤ length pools
   length_left [] = omega arith

@@ -1,8 +1,9 @@
 -- The pools of a key in two lists, those that are left and the empty ones that go, each in their order.
+use Rattle.gpu_descriptor.proofs.Common.{common_steps}
 use Rattle.gpu_descriptor.proofs.Common.{◌≡◌, ◌≢◌, ◌⊎◌, ℕ, zero, suc, ◌==◌, Bool, true, false, nat_lt, List, [], ◌∷◌}
 use Rattle.gpu_descriptor.proofs.Common.{take, drop, filter, slice_get, Option, Some, None, inl, inr, refl, sym, ap}
 use Rattle.gpu_descriptor.proofs.Common.{◌∙◌, arith, eq-eqb, eqb-true, ne_eqb, lt-ltb, and_parts, and_from, cases_Bool}
-use Rattle.gpu_descriptor.proofs.Common.{cases_lt, list_all, or_right, or_cases, prefix_len, Entry, Bucket, rises}
+use Rattle.gpu_descriptor.proofs.Common.{list_all, or_right, or_cases, prefix_len, Entry, Bucket, rises}
 use Rattle.gpu_descriptor.proofs.Common.{numbers_of, no_pools, is_empty, are_named, gone_of, left_of, with_pools}
 use Rattle.gpu_descriptor.proofs.lists.Numbers.{number_of, rises_at}
 
@@ -119,30 +120,18 @@ left_rises (x ∷ pools) left gone (inr s) h = left_rises pools left s.0 s.3 (an
 
 -- one place has each
 pub one_place : (es : List Entry) → rises (numbers_of es) ≡ true → (i j : ℕ) (e : Entry) → slice_get es i ≡ Some e → slice_get es j ≡ Some e → i ≡ j
-one_place es h i j e at at' = elim (cases_lt i j) [
-  | inl less ↦ absurd (let bad = rises_at (numbers_of es) h i j e.number e.number less (number_of es i e at) (number_of es j e at') in omega arith)
-  | inr most ↦ elim (cases_lt j i) [
-    | inl less ↦ absurd (let bad = rises_at (numbers_of es) h j i e.number e.number less (number_of es j e at') (number_of es i e at) in omega arith)
-    | inr least ↦ (omega arith)
-  ]
-]
+one_place es h i j e at at' = grind (arith, common_steps, number_of, rises_at)
 
 -- ---- a second time nothing goes
 
 -- where no pool is empty
 stays_front : (pools : List Entry) → prefix_len is_empty (drop (prefix_len is_empty pools) pools) ≡ 0
 stays_front [] = refl
-stays_front (e ∷ pools) = elim (cases_Bool (is_empty e)) [
-  | inl empty ↦ rw (front_yes e pools empty) (stays_front pools)
-  | inr full ↦ rw (front_no e pools full) (front_no e pools full)
-]
+stays_front (e ∷ pools) = grind (arith, common_steps, front_no, front_yes, (stays_front pools))
 
 filter_twice : (pools : List Entry) → filter (λ e. nat_lt 0 e.allocated) (filter (λ e. nat_lt 0 e.allocated) pools) ≡ filter (λ e. nat_lt 0 e.allocated) pools
 filter_twice [] = refl
-filter_twice (e ∷ pools) = elim (cases_Bool (nat_lt 0 e.allocated)) [
-  | inl some ↦ rw some (rw some (ap (λ l. e ∷ l) (filter_twice pools)))
-  | inr none ↦ rw none (filter_twice pools)
-]
+filter_twice (e ∷ pools) = grind (arith, common_steps, (filter_twice pools))
 
 none_twice : (pools : List Entry) → filter is_empty (filter (λ e. nat_lt 0 e.allocated) pools) ≡ []
 none_twice [] = refl

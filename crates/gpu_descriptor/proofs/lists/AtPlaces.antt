@@ -1,5 +1,6 @@
 -- What stands at the places of a list.
-use Rattle.gpu_descriptor.proofs.Common.{◌≡◌, ◌≢◌, ℕ, zero, suc, ◌-◌, ◌<◌, length-append, slice_index, inl, inr, List}
+use Rattle.gpu_descriptor.proofs.Common.{common_steps}
+use Rattle.gpu_descriptor.proofs.Common.{◌≡◌, ◌≢◌, ℕ, zero, suc, ◌-◌, ◌<◌, slice_index, inl, inr, List}
 use Rattle.gpu_descriptor.proofs.Common.{[], ◌∷◌, ◌++◌, length, take, slice_set, Bool, true, false, Some, None, refl}
 use Rattle.gpu_descriptor.proofs.Common.{sym, ap, ◌∙◌, arith, drop, ◌+◌, or_cases, or_left, or_right, slice_get}
 use Rattle.gpu_descriptor.proofs.Common.{list_any, ◌⊎◌, get_or_from_slice_get, slice_get_within, length-take-le}
@@ -85,7 +86,4 @@ get_some (x ∷ xs) (suc i) lt = get_some xs i (omega arith)
 
 -- the last of some numbers
 pub last_index : (xs front : List ℕ) (n : ℕ) → xs ≡ front ++ n ∷ [] → slice_index xs (length xs - 1) ≡ n
-last_index xs front n is =
-    let long = length-append front (n ∷ []) in
-    let last : length (front ++ n ∷ []) - 1 ≡ length front = omega arith in
-    ap (λ (ys : List ℕ). slice_index ys (length ys - 1)) is ∙ ap (slice_index (front ++ n ∷ [])) last ∙ get_or-append_seam front n [] 0
+last_index xs front n is = grind (arith, common_steps, get_or-append_seam)

@@ -1,9 +1,10 @@
 -- The numbers of a key's pools: they rise, so each number stands at one place.
+use Rattle.gpu_descriptor.proofs.Common.{common_steps}
 use Rattle.gpu_descriptor.proofs.Common.{◌≡◌, ℕ, zero, suc, ◌+◌, ◌-◌, ◌<◌, ◌≤◌, ◌==◌, Bool, true, false, nat_lt, List}
 use Rattle.gpu_descriptor.proofs.Common.{[], ◌∷◌, ◌++◌, length, map, drop, filter, slice_get, slice_index}
 use Rattle.gpu_descriptor.proofs.Common.{slice_index_or, IsNonDecreasing, IsPartitionPoint, Option, Some, None}
 use Rattle.gpu_descriptor.proofs.Common.{option_map, inl, inr, refl, sym, ap, ◌∙◌, subst, arith, eq-eqb, eqb-true}
-use Rattle.gpu_descriptor.proofs.Common.{ne_eqb, lt-ltb, ltb-false, and_parts, and_from, cases_Bool, cases_lt, list_all}
+use Rattle.gpu_descriptor.proofs.Common.{lt-ltb, ltb-false, and_parts, and_from, cases_Bool, cases_lt, list_all}
 use Rattle.gpu_descriptor.proofs.Common.{slice_get_within, EntryOf, Entry, Bucket, entry_at, rises, number_after}
 use Rattle.gpu_descriptor.proofs.Common.{numbers_of}
 use Rattle.std.specs.List.{find}
@@ -88,11 +89,7 @@ pub above_first : (xs : List ℕ) → rises xs ≡ true → (i n : ℕ) → slic
 above_first [] h i n at = absurd (let bad : ◌≡◌ {A = Option ℕ} None (Some n) = at in cc)
 above_first (x ∷ xs) h zero n at = (let same : x ≡ n = cc in omega arith)
 above_first (x ∷ []) h (suc i) n at = absurd (let bad : ◌≡◌ {A = Option ℕ} None (Some n) = at in cc)
-above_first (x ∷ y ∷ xs) h (suc i) n at =
-    let both = and_parts (list_all (nat_lt x) (y ∷ xs)) (rises (y ∷ xs)) h in
-    let first = all_above x (y ∷ xs) both.0 0 y refl in
-    let rest = above_first (y ∷ xs) both.1 i n at in
-    omega arith
+above_first (x ∷ y ∷ xs) h (suc i) n at = grind (arith, common_steps, all_above, and_parts, rises, (above_first (y ∷ xs)))
 
 -- and as far below the next one
 pub below_last : (xs : List ℕ) → rises xs ≡ true → (i n : ℕ) → slice_get xs i ≡ Some n → n + length xs ≤ number_after xs + i
@@ -189,10 +186,7 @@ find_place (x ∷ es) n e h = elim (cases_Bool (x.number == n)) [
 place_find : (es : List Entry) (i : ℕ) (e : Entry) → rises (numbers_of es) ≡ true → slice_get es i ≡ Some e → find (λ d. d.number == e.number) es ≡ Some e
 place_find [] i e h at = absurd (let bad : ◌≡◌ {A = Option Entry} None (Some e) = at in cc)
 place_find (x ∷ es) zero e h at = (let same : x ≡ e = cc in rw (eq-eqb x.number e.number (ap (λ (y : Entry). y.number) same)) at)
-place_find (x ∷ es) (suc i) e h at =
-    let both = and_parts (list_all (nat_lt x.number) (numbers_of es)) (rises (numbers_of es)) h in
-    let lt = all_above x.number (numbers_of es) both.0 i e.number (number_of es i e at) in
-    rw (ne_eqb x.number e.number (λ same. omega arith)) (place_find es i e both.1 at)
+place_find (x ∷ es) (suc i) e h at = grind (arith, common_steps, all_above, and_parts, number_of, rises, (place_find es i e))
 
 -- what has a number stands at a place
 pub entry_at-found : (b : Bucket) (n : ℕ) (e : Entry) → entry_at b n ≡ Some e → (i : ℕ) × (slice_get b.pools i ≡ Some e) × (e.number ≡ n)
@@ -207,7 +201,4 @@ entry_at-named b i n e h at is = ap (entry_at b) (sym is) ∙ entry_at-from b i 
 
 pub find_map : (n : ℕ) (f : Entry → Entry) → ((e : Entry) → (f e).number ≡ e.number) → (es : List Entry) → find (λ e. e.number == n) (map f es) ≡ option_map f (find (λ e. e.number == n) es)
 find_map n f same [] = refl
-find_map n f same (e ∷ es) = elim (cases_Bool (e.number == n)) [
-  | inl hit ↦ rw (ap (λ (m : ℕ). m == n) (same e) ∙ hit, hit) refl
-  | inr miss ↦ rw (ap (λ (m : ℕ). m == n) (same e) ∙ miss, miss) (find_map n f same es)
-]
+find_map n f same (e ∷ es) = grind (arith, common_steps, (find_map n f same es))

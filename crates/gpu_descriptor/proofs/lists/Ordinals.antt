@@ -1,5 +1,6 @@
 -- The ordinals of a bucket's pools, which end where their numbers do.
-use Rattle.gpu_descriptor.proofs.Common.{◌≡◌, ℕ, zero, suc, ◌+◌, true, Some, slice_get, List, [], ◌∷◌, ◌++◌, length, ap, arith, length-append, length-map, map-append, DescriptorPool, first_ordinal, number_after, rises, stored_numbers}
+use Rattle.gpu_descriptor.proofs.Common.{common_steps}
+use Rattle.gpu_descriptor.proofs.Common.{◌≡◌, ℕ, zero, suc, ◌+◌, true, Some, slice_get, List, [], ◌∷◌, ◌++◌, length, ap, arith, length-map, map-append, DescriptorPool, first_ordinal, number_after, rises, stored_numbers}
 use Rattle.gpu_descriptor.proofs.lists.Numbers.{few_numbers, next_push}
 
 module _ {P : Type 0} where
@@ -9,12 +10,7 @@ module _ {P : Type 0} where
 
   -- and stay where the numbers do
   pub first_stays : (old new : List (DescriptorPool P)) → stored_numbers new ≡ stored_numbers old → first_ordinal new ≡ first_ordinal old
-  first_stays old new same =
-      let next = ap number_after same in
-      let many = ap length same in
-      let was = length-map old (λ p. p.number) in
-      let is = length-map new (λ p. p.number) in
-      omega arith
+  first_stays old new same = grind (arith, common_steps, length-map)
 
   -- ---- a pool that has the next number comes last
 
@@ -22,11 +18,7 @@ module _ {P : Type 0} where
   stored_push pools p = map-append (λ p. p.number) pools (p ∷ [])
 
   pub first_push : (pools : List (DescriptorPool P)) (p : DescriptorPool P) → p.number ≡ number_after (stored_numbers pools) → first_ordinal (pools ++ p ∷ []) ≡ first_ordinal pools
-  first_push pools p is =
-      let next = ap number_after (stored_push pools p) in
-      let pushed = next_push (stored_numbers pools) p.number in
-      let long = length-append pools (p ∷ []) in
-      omega arith
+  first_push pools p is = grind (arith, common_steps, next_push, stored_push)
 
   -- ---- the last pool's number
 

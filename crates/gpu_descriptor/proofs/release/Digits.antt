@@ -1,4 +1,5 @@
 -- A number is below the power of two of its digits.
+use Rattle.gpu_descriptor.proofs.Common.{common_steps}
 use Rattle.gpu_descriptor.proofs.Common.{ℕ, zero, suc, ◌*◌, ◌^◌, ◌/◌, ◌<◌, ◌≤◌, ◌≡◌, arith, pow-suc, binary_digits, digits_within}
 
 pub twice : (r : ℕ) → 2 ^ suc r ≡ 2 * 2 ^ r
@@ -7,10 +8,7 @@ twice r = (let a = pow-suc 2 r in omega arith)
 within : (most n : ℕ) → n ≤ most → n < 2 ^ digits_within most n
 within zero n h = omega arith
 within (suc most) zero h = (let a = twice zero in omega arith)
-within (suc most) (suc n) h =
-    let half = within most (suc n / 2) (omega arith) in
-    let more = twice (digits_within most (suc n / 2)) in
-    omega arith
+within (suc most) (suc n) h = grind (arith, common_steps, twice, (within most (suc n / 2) (omega arith)))
 
 pub digits_enough : (n : ℕ) → n < 2 ^ binary_digits n
 digits_enough n = within n n (omega arith)

@@ -1,8 +1,8 @@
 -- What the loop over the runs keeps.
 use Rattle.gpu_descriptor.proofs.Common.{search_digits, ◌≡◌, ℕ, ◌+◌, ◌<◌, true, false, ◌&&◌, ◌==◌, List, [], ◌∷◌}
 use Rattle.gpu_descriptor.proofs.Common.{◌++◌, sum_by, refl, sym, ap, subst, ◌∙◌, arith, append_assoc, append-nil}
-use Rattle.gpu_descriptor.proofs.Common.{length-append, eq-eqb, Option, Some, None, MatchOption, OnSome, IfSome}
-use Rattle.gpu_descriptor.proofs.Common.{eqb-true, Count, HoldsAlong, IsFinite, IsNearerEnd, MakesProgress, size}
+use Rattle.gpu_descriptor.proofs.Common.{length-append, Option, Some, None, MatchOption, OnSome, IfSome}
+use Rattle.gpu_descriptor.proofs.Common.{Count, HoldsAlong, IsFinite, IsNearerEnd, MakesProgress, size}
 use Rattle.gpu_descriptor.proofs.Common.{Yields, YieldsThen, and_parts, and_from, map-append, sum_by-append, side}
 use Rattle.gpu_descriptor.proofs.Common.{Meaning, Counters, Ledger, bool_iff, DescriptorSet, State, Item}
 use Rattle.gpu_descriptor.proofs.Common.{AreOutstanding, Agree, count_of, Key, key_eq, Allocations, common_steps}
@@ -32,12 +32,7 @@ BeginsApart k n (y ∷ ys) = lies_at k n y ≡ false
 
 -- whether a neighbour lies in the same place
 same_spot : {S : Type 0} (k : Key) (n : ℕ) (x y : DescriptorSet S) → lies_at k n x ≡ true → (key_eq x.key.is y.key.is && (x.number == y.number)) ≡ lies_at k n y
-same_spot k n x y own =
-    let here = at_parts k n x own in
-    bool_iff (key_eq x.key.is y.key.is && (x.number == y.number)) (lies_at k n y)
-    (λ h. let both = and_parts (key_eq x.key.is y.key.is) (x.number == y.number) h in
-    at_from k n y (sym (key_exact.same x.key.is y.key.is both.0) ∙ here.0) (sym (eqb-true x.number y.number both.1) ∙ here.1))
-    (λ h. grind (arith, common_steps, and_from, at_parts, eq-eqb, key_exact))
+same_spot k n x y own = grind (arith, common_steps, and_from, and_parts, at_from, at_parts, bool_iff, key_exact)
 
 -- the counters after both
 counters_both : (a b m n : ℕ) (c : Counters) → more_destroyed m (more_released n (more_destroyed a (more_released b c))) ≡ more_destroyed (a + m) (more_released (b + n) c)

@@ -1,4 +1,5 @@
 -- Giving back in two parts is giving back at once.
+use Rattle.gpu_descriptor.proofs.Common.{common_steps}
 use Rattle.gpu_descriptor.proofs.Common.{◌≡◌, ℕ, suc, ◌+◌, ◌<◌, Bool, true, false, ◌&&◌, ◌||◌, ◌==◌, List, [], ◌∷◌}
 use Rattle.gpu_descriptor.proofs.Common.{◌++◌, map, take, drop, slice_get, Option, Some, None, option_map, refl, sym}
 use Rattle.gpu_descriptor.proofs.Common.{ap, ◌∙◌, arith, take-add, if◌then◌else◌, fun_ext, list_any, and_parts}
@@ -105,14 +106,7 @@ untouched n s agree k none i e at = count_by_none item_exact (lies_in s.books e.
     let bad : true ≡ false = sym named ∙ none in cc))
 
 pub quiet_key : (m n : List Item) (s : State) → Agree s → (k : Key) → names_key n k ≡ false → bucket_less (λ p. back m s p + back n s p) (s.books k) ≡ bucket_less (back m s) (s.books k)
-quiet_key m n s agree k none =
-    let b = s.books k in
-    let pools : map (λ e. entry_less (back m s e.pool + back n s e.pool) e) b.pools ≡ map (λ e. entry_less (back m s e.pool) e) b.pools =
-    each_alike (λ e. entry_less (back m s e.pool + back n s e.pool) e) (λ e. entry_less (back m s e.pool) e) b.pools (λ i e at.
-    let zero_more : back n s e.pool ≡ 0 = untouched n s agree k none i e at in
-    let same : back m s e.pool + back n s e.pool ≡ back m s e.pool = omega arith in
-    ap (λ (x : ℕ). entry_less x e) same) in
-    λ i. record b { pools = pools i }
+quiet_key m n s agree k none = grind (arith, common_steps, back, each_alike, untouched)
 
 -- a set of the second part lies in the pool in which it lay
 still_lies : (m n : List Item) (s : State) → Agree s → AreOutstanding (m ++ n) s → (pool : ℕ) (t : Item) → 0 < count_of t n → lies_in (released m s).books pool t ≡ lies_in s.books pool t

@@ -1,4 +1,5 @@
 -- The numbers of a key's pools once a request took sets of them: the old pools keep theirs, and the new ones have the next.
+use Rattle.gpu_descriptor.proofs.Common.{common_steps}
 use Rattle.gpu_descriptor.proofs.Common.{◌≡◌, ℕ, zero, suc, ◌+◌, ◌≤◌, Bool, true, List, [], ◌∷◌, ◌++◌, length, take}
 use Rattle.gpu_descriptor.proofs.Common.{drop, slice_get, Option, Some, None, refl, sym, ap, ◌∙◌, arith, append-nil}
 use Rattle.gpu_descriptor.proofs.Common.{append_assoc, Entry, Bucket, Fresh, fresh_entries, fresh_entry, next_number}
@@ -20,10 +21,7 @@ length_fresh number (f ∷ fs) = ap suc (length_fresh (number + 1) fs)
 
 pub fresh_get : (number : ℕ) (fs : List Fresh) (j : ℕ) (f : Fresh) → slice_get fs j ≡ Some f → slice_get (fresh_entries number fs) j ≡ Some (fresh_entry (number + j) f)
 fresh_get number [] j f at = absurd (let bad : ◌≡◌ {A = Option Fresh} None (Some f) = at in cc)
-fresh_get number (h ∷ fs) zero f at =
-    let is : h ≡ f = cc in
-    let e : number ≡ number + 0 = omega arith in
-    λ i. Some (fresh_entry (e i) (is i))
+fresh_get number (h ∷ fs) zero f at = grind (arith, common_steps)
 fresh_get number (h ∷ fs) (suc j) f at = fresh_get (number + 1) fs j f at ∙ ap (λ (m : ℕ). Some (fresh_entry m f)) (let e : number + 1 + j ≡ number + suc j = omega arith in e)
 
 -- ---- their numbers
@@ -46,10 +44,7 @@ rises_fresh number (f ∷ fs) xs h le =
 
 next_fresh : (number : ℕ) (fs : List Fresh) (xs : List ℕ) → number ≡ number_after xs → number_after (xs ++ numbers_of (fresh_entries number fs)) ≡ number + length fs
 next_fresh number [] xs is = ap number_after (append-nil xs) ∙ sym is ∙ (let e : number ≡ number + 0 = omega arith in e)
-next_fresh number (f ∷ fs) xs is =
-    ap number_after (sym (append_assoc xs (number ∷ []) (numbers_of (fresh_entries (number + 1) fs))))
-    ∙ next_fresh (number + 1) fs (xs ++ number ∷ []) (sym (next_push xs number))
-    ∙ (let e : number + 1 + length fs ≡ number + suc (length fs) = omega arith in e)
+next_fresh number (f ∷ fs) xs is = grind (arith, common_steps, next_push, (next_fresh (number + 1) fs (xs ++ number ∷ [])))
 
 -- ---- after a request
 

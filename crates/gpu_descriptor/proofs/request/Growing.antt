@@ -1,17 +1,18 @@
 -- The new pools of a request, as far as it has come.
+use Rattle.gpu_descriptor.proofs.Common.{common_steps}
 use Rattle.gpu_descriptor.proofs.Common.{◌≡◌, ℕ, zero, suc, take, drop, ◌+◌, ◌-◌, ◌<◌, inl, inr, List, [], ◌∷◌, ◌++◌}
 use Rattle.gpu_descriptor.proofs.Common.{length, map, Bool, true, false, cond, ◌==◌, nat_eq, Option, Some, None, Ok}
-use Rattle.gpu_descriptor.proofs.Common.{Err, refl, sym, ap, ◌∙◌, subst, arith, eqb-true, eq-eqb, append_assoc}
-use Rattle.gpu_descriptor.proofs.Common.{length-append, fun_ext, ne_eqb, nil_from_length, eqb-false, map-append}
+use Rattle.gpu_descriptor.proofs.Common.{Err, refl, sym, ap, ◌∙◌, subst, arith, eqb-true, eq-eqb}
+use Rattle.gpu_descriptor.proofs.Common.{fun_ext, ne_eqb, nil_from_length, eqb-false, map-append}
 use Rattle.gpu_descriptor.proofs.Common.{append-nil, sum_by-cons, sum_by-append, list_any, update, if◌then◌else◌}
 use Rattle.gpu_descriptor.proofs.Common.{option_map, Item, flags_of, Key, Entry, Bucket, Pool, Ledger, live_sets}
-use Rattle.gpu_descriptor.proofs.Common.{on_pool, no_rise, cases_Bool, or_from, or_parts, pool_counts, Stop}
+use Rattle.gpu_descriptor.proofs.Common.{on_pool, cases_Bool, or_from, or_parts, pool_counts, Stop}
 use Rattle.gpu_descriptor.proofs.Common.{list_any-append, Fresh, fresh_portions, fresh_entries, fresh_entry}
 use Rattle.gpu_descriptor.proofs.Common.{number_after, numbers_of, given_by, IsNextSize, room_after, AreSized, AreFull}
 use Rattle.gpu_descriptor.proofs.Common.{AreNew, IsFreshPrefix, IsFreshList, Grant, Part, items_at, portion_of, came}
 use Rattle.gpu_descriptor.proofs.Common.{pool_with, ledger_with, fresh_or, IsGrown, IsTaken, IsRefused, allocated_in}
-use Rattle.gpu_descriptor.proofs.Common.{pool_descriptors, risen, grant_rise, StopsAtNew, StopsAt, offer, rest, shared}
-use Rattle.gpu_descriptor.proofs.Common.{all_shared, Portion, portions_of, AreBookedIn, HasTaken, IsWalked}
+use Rattle.gpu_descriptor.proofs.Common.{pool_descriptors, risen, grant_rise, StopsAtNew, StopsAt, rest}
+use Rattle.gpu_descriptor.proofs.Common.{all_shared, portions_of, AreBookedIn, HasTaken, IsWalked}
 use Rattle.gpu_descriptor.proofs.sums.PoolsLoad.{pools_load}
 use Rattle.gpu_descriptor.specs.declared.bucket.stop.Stop.TheVariants as stop
 use Rattle.gpu_descriptor_types.specs.Ledger as ledgers
@@ -43,12 +44,7 @@ pub record Growing (most : Option ℕ) (k : Key) (start n id room total wanting 
 -- what is out rises by what was given
 pub allocated_shared : (refused : ℕ → Bool) (n : ℕ) (es : List Entry) → allocated_in (all_shared refused n es) + rest refused n es ≡ allocated_in es + n
 allocated_shared refused n [] = omega arith
-allocated_shared refused n (e ∷ newer) =
-    let a = sum_by-cons (λ (x : Entry). x.allocated) (shared refused n newer e) (all_shared refused n newer) in
-    let b = sum_by-cons (λ (x : Entry). x.allocated) e newer in
-    let s = sum_by-cons (offer refused) e newer in
-    let ih = allocated_shared refused n newer in
-    omega arith
+allocated_shared refused n (e ∷ newer) = grind (arith, common_steps, sum_by-cons, (allocated_shared refused n newer))
 
 -- no pool of the name among the new ones, and none in the ledger
 fresh_or_none : (f : Pool → Pool) (k : Key) (q : ℕ) (fs : List Fresh) (o : Option Pool) → option_map f (fresh_or k fs q o) ≡ None → (list_any (λ h. h.pool == q) fs ≡ false) × (o ≡ None)
@@ -150,28 +146,17 @@ module _ {most : Option ℕ} {k : Key} {start n id room left total wanting : ℕ
       at false r h = rw (fresh_or_more k r s.fresh f (l.pools r), h) refl
 
   rows_now : map portion_of parts_now ≡ portions_of s.refused n old ++ fresh_portions (next) fresh_now
-  rows_now =
-      map-append portion_of s.parts (part_now ∷ [])
-      ∙ ap (λ x. x ++ portion_of part_now ∷ []) s.taken.grant.parts
-      ∙ append_assoc (portions_of s.refused n old) (fresh_portions (next) s.fresh) (portion_of part_now ∷ [])
-      ∙ ap (λ x. portions_of s.refused n old ++ x) (ap (λ g. fresh_portions (next) s.fresh ++ record { number = next + length s.fresh; pool = q; given = g } ∷ []) many ∙ sym (fresh_rows_more (next) s.fresh f))
+  rows_now  = grind (arith, common_steps, fresh_rows_more, many, map-append)
 
   -- its number is the next
   number_is : number_after (numbers_of new) ≡ next + length s.fresh
   number_is = next_taken k n _ _ _ _ _ _ s.taken
 
   entries_now : new' ≡ take (all_so_far id s.refused fresh_now parts_now).skipped old ++ all_shared (all_so_far id s.refused fresh_now parts_now).refused n (drop (all_so_far id s.refused fresh_now parts_now).skipped old) ++ fresh_entries next (all_so_far id s.refused fresh_now parts_now).fresh
-  entries_now =
-      a.entries
-      ∙ (λ j. (s.taken.bucket j).pools ++ fresh_entry (number_is j) f ∷ [])
-      ∙ append_assoc (all_shared s.refused n old) (fresh_entries next s.fresh) (fresh_entry (next + length s.fresh) f ∷ [])
-      ∙ ap (λ x. all_shared s.refused n old ++ x) (sym (fresh_entries_more next s.fresh f))
+  entries_now  = grind (arith, common_steps, fresh_entries_more, number_is)
 
   counters_now : m'.counters ≡ risen (grant_rise n (all_so_far id s.refused fresh_now parts_now) old) l.counters
-  counters_now =
-      let up = ap (risen (record no_rise { created = 1; asked = 1 })) s.taken.counters in
-      let long = length-append s.fresh (f ∷ []) in
-      a.counters ∙ up ∙ same_counters _ _ (omega arith) (omega arith) (omega arith) (omega arith) (omega arith) (omega arith) (omega arith) (omega arith)
+  counters_now  = grind (arith, common_steps, same_counters)
 
   sized_now : AreSized most k start (allocated_in (all_shared s.refused n old)) (rest s.refused n old) fresh_now
   sized_now = (let w = s.wants in sized_more most k start _ _ s.fresh f room total wanting s.sized s.room_now s.totals (omega arith) a.size)
@@ -248,17 +233,9 @@ load_more k number es f = sum_by-append (λ (e : Entry). pool_descriptors k e.ca
 
 load_split : (k : Key) (refused : ℕ → Bool) (n i : ℕ) (es : List Entry) → pools_load k (take i es ++ all_shared refused n (drop i es)) ≡ pools_load k es
 load_split k refused n zero [] = refl
-load_split k refused n zero (e ∷ newer) =
-    let a = sum_by-cons (λ (x : Entry). pool_descriptors k x.capacity) (shared refused n newer e) (all_shared refused n newer) in
-    let b = sum_by-cons (λ (x : Entry). pool_descriptors k x.capacity) e newer in
-    let ih = load_split k refused n zero newer in
-    omega arith
+load_split k refused n zero (e ∷ newer) = grind (arith, common_steps, sum_by-cons, (load_split k refused n zero newer))
 load_split k refused n (suc i) [] = refl
-load_split k refused n (suc i) (e ∷ es) =
-    let a = sum_by-cons (λ (x : Entry). pool_descriptors k x.capacity) e (take i es ++ all_shared refused n (drop i es)) in
-    let b = sum_by-cons (λ (x : Entry). pool_descriptors k x.capacity) e es in
-    let ih = load_split k refused n i es in
-    omega arith
+load_split k refused n (suc i) (e ∷ es) = grind (arith, common_steps, sum_by-cons, (load_split k refused n i es))
 
 -- a walk adds no pool
 walked_entries : (k : Key) (n : ℕ) (g : Grant) (old new : Bucket) (l m : Ledger) (items : List Item) → HasTaken k n g items old new l m → g.fresh ≡ [] → new.pools ≡ take g.skipped old.pools ++ all_shared g.refused n (drop g.skipped old.pools)
@@ -272,16 +249,7 @@ load_walked k n g old new l m items taken none = ap (pools_load k) (walked_entri
 allocated_split : (refused : ℕ → Bool) (n i : ℕ) (es : List Entry) → allocated_in (take i es ++ all_shared refused n (drop i es)) ≡ allocated_in es + sum_given (portions_of refused n (drop i es))
 allocated_split refused n zero es = (let a = allocated_shared refused n es in let b = shares_sum refused n es in omega arith)
 allocated_split refused n (suc i) [] = refl
-allocated_split refused n (suc i) (e ∷ es) =
-    let a = sum_by-cons (λ (x : Entry). x.allocated) e (take i es ++ all_shared refused n (drop i es)) in
-    let b = sum_by-cons (λ (x : Entry). x.allocated) e es in
-    let ih = allocated_split refused n i es in
-    omega arith
+allocated_split refused n (suc i) (e ∷ es) = grind (arith, common_steps, sum_by-cons, (allocated_split refused n i es))
 
 pub allocated_walked : (k : Key) (n : ℕ) (g : Grant) (old new : Bucket) (l m : Ledger) (items : List Item) → HasTaken k n g items old new l m → g.fresh ≡ [] → allocated_in new.pools ≡ allocated_in old.pools + length items
-allocated_walked k n g old new l m items taken none =
-    let rows : List Portion = portions_of g.refused n (drop g.skipped old.pools) in
-    let came : map portion_of g.parts ≡ rows = taken.grant.parts ∙ rw none (append-nil rows) in
-    let long = ap length (sym taken.came) ∙ length_items k g.id g.parts ∙ ap sum_given came in
-    let same = ap allocated_in (walked_entries k n g old new l m items taken none) ∙ allocated_split g.refused n g.skipped old.pools in
-    omega arith
+allocated_walked k n g old new l m items taken none = grind (arith, common_steps, allocated_split, append-nil, length_items, walked_entries)

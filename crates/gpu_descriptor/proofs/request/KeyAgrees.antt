@@ -1,8 +1,9 @@
 -- What a request takes of a key's pools leaves books and ledger of the key in agreement.
-use Rattle.gpu_descriptor.proofs.Common.{◌≡◌, ◌≢◌, ℕ, suc, ◌+◌, ◌<◌, ◌≤◌, inl, inr, List, [], ◌∷◌, ◌++◌, length, Bool}
-use Rattle.gpu_descriptor.proofs.Common.{true, false, refl, sym, ap, ◌∙◌, arith, length-append, cases_Bool}
+use Rattle.gpu_descriptor.proofs.Common.{common_steps}
+use Rattle.gpu_descriptor.proofs.Common.{◌≡◌, ◌≢◌, ℕ, ◌+◌, ◌<◌, ◌≤◌, inl, inr, List, [], ◌∷◌, ◌++◌, length, Bool}
+use Rattle.gpu_descriptor.proofs.Common.{false, refl, sym, ap, ◌∙◌, arith, length-append, cases_Bool}
 use Rattle.gpu_descriptor.proofs.Common.{cases_lt, length-map, if◌then◌else◌, Pool, live_sets, LiveSet, set_eq, times}
-use Rattle.gpu_descriptor.proofs.Common.{bool_iff, subst, count_by_yes, count_by_no, set_exact, times-append, Key}
+use Rattle.gpu_descriptor.proofs.Common.{bool_iff, count_by_yes, count_by_no, set_exact, times-append, Key}
 use Rattle.gpu_descriptor.proofs.Common.{Entry, Item, item_eq, set_of, count_of, IsAsBooked, ∥∥₁_map}
 use Rattle.gpu_descriptor.proofs.Common.{count_by-append, items_at, pool_with}
 use Rattle.gpu_descriptor.proofs.table.Exact.{item_exact, item_from}
@@ -67,21 +68,7 @@ place_of_items k id number (n ∷ names) t some =
 -- as often as its name came
 pub count_of_items : (k : Key) (id number : ℕ) (names : List ℕ) (t : Item) → t.key ≡ k → t.number ≡ number → t.id ≡ id → count_of t (items_at k id number names) ≡ times (live_sets k.counts names) (set_of t)
 count_of_items k id number [] t key at own = refl
-count_of_items k id number (n ∷ names) t key at own =
-    let u : Item = record { key = k; id = id; number = number; name = n } in
-    let rest = count_of_items k id number names t key at own in
-    let alike : item_eq u t ≡ set_eq (set_of u) (set_of t) =
-    bool_iff _ _
-    (λ h.
-    subst (λ (v : Item). set_eq (set_of u) (set_of v) ≡ true) (item_exact.same u t h)
-    (set_exact.self (set_of u)))
-    (λ h.
-    item_from u t (sym key) (sym at) (ap (λ (x : LiveSet). x.name) (set_exact.same (set_of u) (set_of t) h))
-    (sym own)) in
-    elim (cases_Bool (item_eq u t)) [
-      | inl on ↦ count_by_yes (λ v. item_eq v t) u (items_at k id number names) on ∙ ap suc rest ∙ sym (count_by_yes (λ z. set_eq z (set_of t)) (set_of u) (live_sets k.counts names) (sym alike ∙ on))
-      | inr off ↦ count_by_no (λ v. item_eq v t) u (items_at k id number names) off ∙ rest ∙ sym (count_by_no (λ z. set_eq z (set_of t)) (set_of u) (live_sets k.counts names) (sym alike ∙ off))
-    ]
+count_of_items k id number (n ∷ names) t key at own = grind (arith, common_steps, bool_iff, count_by_no, count_by_yes, item_exact, item_from, set_exact, (count_of_items k id number names t key at own))
 
 pub count_elsewhere : (k : Key) (id number : ℕ) (names : List ℕ) (t : Item) → t.number ≢ number → count_of t (items_at k id number names) ≡ 0
 count_elsewhere k id number names t ne = elim (cases_lt 0 (count_of t (items_at k id number names))) [

@@ -1,4 +1,5 @@
 -- The new pools of a request: their sizes, their numbers, and what the pools before them have left.
+use Rattle.gpu_descriptor.proofs.Common.{common_steps}
 use Rattle.gpu_descriptor.proofs.Common.{◌≡◌, ℕ, ◌+◌, ◌-◌, ◌<◌, Bool, List, [], ◌∷◌, ◌++◌, length, take, refl, sym, ap}
 use Rattle.gpu_descriptor.proofs.Common.{◌∙◌, arith, append_assoc, length-append, All, take_at, All-nil, All-cons}
 use Rattle.gpu_descriptor.proofs.Common.{All-append, All-same, sum_by-cons, Option, State, Key, Entry, Fresh, AreSized}
@@ -36,10 +37,7 @@ shares_used refused n (e ∷ newer) some =
 
 full_used : (number : ℕ) (pools : List Fresh) → AreFull pools → All (λ e. e.available ≡ 0) (fresh_entries number pools)
 full_used number [] full = All-nil (λ (e : Entry). e.available ≡ 0)
-full_used number (f ∷ pools) full =
-    let is = full.0 in
-    let here : (fresh_entry number f).available ≡ 0 = omega arith in
-    All-cons (λ (e : Entry). e.available ≡ 0) (fresh_entry number f) (fresh_entries (number + 1) pools) here (full_used (number + 1) pools full.1)
+full_used number (f ∷ pools) full = grind (arith, common_steps, All-cons, (full_used (number + 1) pools full.1))
 
 -- all but the last entry
 but_last : (es : List Entry) (e : Entry) → take (length (es ++ e ∷ []) - 1) (es ++ e ∷ []) ≡ es

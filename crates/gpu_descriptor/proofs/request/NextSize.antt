@@ -1,6 +1,7 @@
 -- What a key's next pool takes of the room, and when its size was cut.
-use Rattle.gpu_descriptor.proofs.Common.{greatest_pool_size, ◌≡◌, ℕ, ◌+◌, ◌-◌, ◌*◌, ◌<◌, ◌≤◌, max, sum, List, [], ◌∷◌}
-use Rattle.gpu_descriptor.proofs.Common.{◌++◌, inl, inr, refl, sym, ◌∙◌, subst, arith, mul-le-mul_right, cases_Bool}
+use Rattle.gpu_descriptor.proofs.Common.{common_steps}
+use Rattle.gpu_descriptor.proofs.Common.{greatest_pool_size, ◌≡◌, ℕ, ◌+◌, ◌-◌, ◌*◌, ◌<◌, ◌≤◌, sum, List, [], ◌∷◌}
+use Rattle.gpu_descriptor.proofs.Common.{◌++◌, inl, inr, refl, sym, subst, arith, mul-le-mul_right, cases_Bool}
 use Rattle.gpu_descriptor.proofs.Common.{if◌then◌else◌, Option, IsPoolSize, sets_in_room, start_size, Key, Fresh}
 use Rattle.gpu_descriptor.proofs.Common.{IsNextSize, AreSized, room_after, pool_descriptors}
 use Rattle.gpu_descriptor_types.proofs.Room.{bounded_few, bounded_whole, few_in_room, fits_in_room, whole_in_room}
@@ -17,10 +18,7 @@ module _ (most : Option ℕ) (k : Key) (room total wanted size : ℕ) (s : IsNex
   least = (let is = s.cut in let a = bounded_few most (sum k.counts) wanted unbounded in omega arith)
 
   few : size ≤ s.whole
-  few = (
-      let a = least in
-      let b : unbounded ≤ s.whole = elim (cases_Bool k.marked) [ inl on ↦ rw on (few_in_room room (sum k.counts) s.whole) | inr off ↦ rw off (omega arith) ] in
-      omega arith)
+  few  = grind (arith, common_steps, few_in_room, least)
 
   pub next_small : size ≤ greatest_pool_size
   next_small = (let a = few in let b = pool_size_small k.counts total wanted s.whole s.is_whole in omega arith)
@@ -43,15 +41,7 @@ module _ (most : Option ℕ) (k : Key) (room total wanted size : ℕ) (s : IsNex
 
   -- so does a pool of one set
   pub one_fits : pool_descriptors k 1 ≤ room
-  one_fits = (
-      let all = next_fits in
-      elim (cases_Bool k.marked) [
-        | inl on ↦ (
-            let fits : max 1 (size * sum k.counts) ≤ room = rw on at all in
-            let more : 1 * sum k.counts ≤ size * sum k.counts = mul-le-mul_right (sum k.counts) s.some in
-            rw on (omega arith))
-        | inr off ↦ rw off (omega arith)
-      ])
+  one_fits  = grind (arith, common_steps, mul-le-mul_right, next_fits)
 
   -- where it leaves room for another and is below what is wanting, it was not cut
   pub next_whole : size < wanted → pool_descriptors k 1 ≤ room - pool_descriptors k size → IsPoolSize k.counts total wanted size
@@ -61,10 +51,7 @@ module _ (most : Option ℕ) (k : Key) (room total wanted size : ℕ) (s : IsNex
       all = bounded_whole most (sum k.counts) wanted unbounded size s.cut short
 
       is : size ≡ s.whole
-      is = elim (cases_Bool k.marked) [
-        | inl on ↦ (let at : size ≡ sets_in_room room (sum k.counts) s.whole = all ∙ rw on refl in whole_in_room room (sum k.counts) s.whole size at s.some (rw on at left))
-        | inr off ↦ all ∙ rw off refl
-      ]
+      is  = grind (arith, common_steps, whole_in_room)
 
 -- ---- several, one after another
 

@@ -1,6 +1,7 @@
 -- The walk over the open pools: the pools between them have nothing to give.
+use Rattle.gpu_descriptor.proofs.Common.{common_steps}
 use Rattle.gpu_descriptor.proofs.Common.{◌≡◌, ℕ, suc, ◌+◌, ◌-◌, ◌<◌, ◌≤◌, List, [], ◌∷◌, ◌++◌, length, min, slice_set}
-use Rattle.gpu_descriptor.proofs.Common.{if◌then◌else◌, None, Some, Err, refl, sym, ap, ◌∙◌, arith, inl, inr, map}
+use Rattle.gpu_descriptor.proofs.Common.{None, Some, Err, refl, sym, ap, ◌∙◌, arith, inl, inr, map}
 use Rattle.gpu_descriptor.proofs.Common.{length-map, map-set, length-set, slice_get-map, slice_get_within, lt-ltb}
 use Rattle.gpu_descriptor.proofs.Common.{cases_lt, slice_get, option_map, Ledger, Counters, DescriptorPool, Item, Key}
 use Rattle.gpu_descriptor.proofs.Common.{Entry, DeviceAllocationError, AreBookedIn, IsBookedIn, free_in, open_numbers}
@@ -54,11 +55,7 @@ module _ {P : Type 0} {name : P → ℕ} {k : Key} {n id first wanting : ℕ} {o
       entry_at_place = slice_get-map (entry_of name) items place ∙ ap (option_map (entry_of name)) at
 
       pub has_free : 0 < p.available
-      has_free =
-          let same : Some p.available ≡ Some newest.free = sym (free_get place (entry_of name p) entry_at_place) ∙ ap (slice_get (free_in items)) (sym place_is) ∙ newest.at in
-          let free : p.available ≡ newest.free = cc in
-          let some = newest.some in
-          omega arith
+      has_free  = grind (arith, common_steps, entry_at_place, free_get, newest, place_is)
 
       pub walk_reaches : Walking k n id (suc place) wanting out old (map (entry_of name) items) l m
       walk_reaches =
@@ -78,14 +75,7 @@ module _ {P : Type 0} {name : P → ℕ} {k : Key} {n id first wanting : ℕ} {o
 
         pub closed_now : (names : List ℕ) (m' : Ledger) (wanting' : ℕ) → IsAsked k wanting names (entry_of name p) (entry_of name q) m m' → wanting' + length names ≡ wanting
             → (j : ℕ) (e : Entry) → place ≤ j → slice_get (map (entry_of name) (slice_set items place q)) j ≡ Some e → min wanting' e.available ≡ 0
-        closed_now names m' wanting' asked less j e le there = elim (set_got (map (entry_of name) items) place (entry_of name q) j e (ap (λ (x : List Entry). slice_get x j) (sym (map-set (entry_of name) items place q)) ∙ there)) [
-          | inl here ↦ (
-              let free : e.available ≡ q.available = ap (λ (d : Entry). d.available) here.1 in
-              let left_over : q.available ≡ (if asked.refused then 0 else p.available) - length names = ap (λ (d : Entry). d.available) asked.entry in
-              let many : length names ≡ min (if asked.refused then 0 else p.available) wanting = asked.many in
-              omega arith)
-          | inr other ↦ (let apart = other.0 in let z = newer j e.available (omega arith) (free_get j e other.1) in omega arith)
-        ]
+        closed_now names m' wanting' asked less j e le there = grind (arith, common_steps, free_get, map-set, newer, set_got)
 
         -- one look for one pool that was asked
         pub one_asked : (names : List ℕ) (m' : Ledger) → IsAsked k wanting names (entry_of name p) (entry_of name q) m m' → m'.counters.asked ≡ m.counters.asked + 1

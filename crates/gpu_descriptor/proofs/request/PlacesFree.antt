@@ -1,7 +1,8 @@
 -- Known free places are room on the device.
-use Rattle.gpu_descriptor.proofs.Common.{◌≡◌, ℕ, zero, suc, ◌+◌, ◌*◌, ◌<◌, ◌≤◌, inl, inr, List, [], ◌∷◌, length, map}
-use Rattle.gpu_descriptor.proofs.Common.{Bool, true, false, slice_index, refl, sym, ap, subst, arith, eqb-true}
-use Rattle.gpu_descriptor.proofs.Common.{mul-le-mul_right, cases_Bool, sum_by-cons, IsTrue, sum, sum_by, ◌==◌, flags_of}
+use Rattle.gpu_descriptor.proofs.Common.{common_steps}
+use Rattle.gpu_descriptor.proofs.Common.{◌≡◌, ℕ, zero, suc, ◌+◌, ◌*◌, ◌<◌, ◌≤◌, List, [], ◌∷◌, length, map}
+use Rattle.gpu_descriptor.proofs.Common.{Bool, true, false, slice_index, refl, sym, ap, subst, arith}
+use Rattle.gpu_descriptor.proofs.Common.{mul-le-mul_right, sum_by-cons, IsTrue, sum, sum_by, flags_of}
 use Rattle.gpu_descriptor.proofs.Common.{Key, Entry, count_by_yes, set_exact, IsUpdateAfterBind, Ledger, CanGive}
 use Rattle.gpu_descriptor.proofs.Common.{LiveSet, set_eq, times, pool_counts, IsBookedIn}
 use Rattle.gpu_descriptor.proofs.lists.AtPlaces.{count_by_more}
@@ -33,15 +34,7 @@ scaled c (suc j) (x ∷ xs) = scaled c j xs
 
 -- a pool of c sets has the counts of c sets
 pub wide : (k : Key) (c j : ℕ) → slice_index k.counts j * c ≤ slice_index (pool_counts k.counts c) j
-wide k c j =
-    let is = scaled c j k.counts in
-    elim (cases_Bool (sum (map (λ n. n * c) k.counts) == 0)) [
-      | inl on ↦ (
-          let none = eqb-true (sum (map (λ n. n * c) k.counts)) 0 on in
-          let below = index_le_sum j (map (λ n. n * c) k.counts) in
-          omega arith)
-      | inr off ↦ rw off (omega arith)
-    ]
+wide k c j = grind (arith, common_steps, index_le_sum, scaled)
 
 pub marked_flags : (counts : List ℕ) (mark : Bool) → IsTrue mark → IsUpdateAfterBind (flags_of (key_with counts mark))
 marked_flags counts true h = refl

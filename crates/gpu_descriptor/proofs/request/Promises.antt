@@ -1,13 +1,14 @@
 -- What every outcome of a request promises.
+use Rattle.gpu_descriptor.proofs.Common.{common_steps}
 use Rattle.gpu_descriptor.proofs.Common.{◌≡◌, ◌≢◌, ℕ, suc, ◌+◌, ◌-◌, ◌*◌, ◌<◌, ◌≤◌, Bool, Option, List, [], ◌∷◌, map}
 use Rattle.gpu_descriptor.proofs.Common.{length, sum_by, inl, inr, refl, sym, ap, ◌∙◌, subst, arith, length-map}
-use Rattle.gpu_descriptor.proofs.Common.{length-append, sum_by-cons, sum_by-append, pool_size_floor, ◌↔◌, min, OnOk}
+use Rattle.gpu_descriptor.proofs.Common.{length-append, sum_by-cons, sum_by-append, pool_size_floor, ◌↔◌, OnOk}
 use Rattle.gpu_descriptor.proofs.Common.{Counters, create_refused, alloc_refused, no_rise, CreatePoolError}
-use Rattle.gpu_descriptor.proofs.Common.{DeviceAllocationError, Stop, Item, Key, Entry, cases_lt, ◌⊎◌, Allocates, Call}
+use Rattle.gpu_descriptor.proofs.Common.{DeviceAllocationError, Stop, Key, Entry, cases_lt, ◌⊎◌, Allocates, Call}
 use Rattle.gpu_descriptor.proofs.Common.{IsBack, IsDone, IsStopped, StopsAt, out_then, stop_rise, wanting, Fresh}
 use Rattle.gpu_descriptor.proofs.Common.{IsFreshPrefix, IsNextSize, room_after, AreSized, AreFull, IsFreshList}
-use Rattle.gpu_descriptor.proofs.Common.{given_by, Grant, Part, portion_of, items_at, items_in, AreBelowTwice, IsShort}
-use Rattle.gpu_descriptor.proofs.Common.{CreatesOnlyWhereShort, pool_descriptors, Portion, offer, rest, portions_of}
+use Rattle.gpu_descriptor.proofs.Common.{given_by, Grant, Part, portion_of, items_in, AreBelowTwice, IsShort}
+use Rattle.gpu_descriptor.proofs.Common.{CreatesOnlyWhereShort, pool_descriptors, Portion, rest, portions_of}
 use Rattle.gpu_descriptor_types.proofs.Sizes.{pool_size_some}
 use Rattle.gpu_descriptor.specs.declared.bucket.stop.Stop.TheVariants as stop
 use Rattle.gpu_descriptor.specs.Model.Outcomes.Allocates.{none, above_limit as was_above_limit, past_bound as was_past_bound, no_memory_at_start as had_no_memory, done, stopped}
@@ -22,22 +23,11 @@ sum_given ps = sum_by (λ p. p.given) ps
 
 pub length_items : (k : Key) (id : ℕ) (parts : List Part) → length (items_in k id parts) ≡ sum_given (map portion_of parts)
 length_items k id [] = refl
-length_items k id (p ∷ parts) =
-    let a = length-append (items_at k id p.number p.names) (items_in k id parts) in
-    let b = length-map p.names (λ (name : ℕ). let t : Item = record { key = k; id = id; number = p.number; name = name } in t) in
-    let c = sum_by-cons (λ (q : Portion). q.given) (portion_of p) (map portion_of parts) in
-    let more = length_items k id parts in
-    omega arith
+length_items k id (p ∷ parts) = grind (arith, common_steps, length-map, sum_by-cons, (length_items k id parts))
 
 pub shares_sum : (refused : ℕ → Bool) (n : ℕ) (pools : List Entry) → sum_given (portions_of refused n pools) + rest refused n pools ≡ n
 shares_sum refused n [] = omega arith
-shares_sum refused n (e ∷ newer) =
-    let last : Portion = record { number = e.number; pool = e.pool; given = min (offer refused e) (rest refused n newer) } in
-    let a = sum_by-append (λ (q : Portion). q.given) (portions_of refused n newer) (last ∷ []) in
-    let one : sum_given (last ∷ []) ≡ last.given = omega arith in
-    let b = sum_by-cons (offer refused) e newer in
-    let more = shares_sum refused n newer in
-    omega arith
+shares_sum refused n (e ∷ newer) = grind (arith, common_steps, sum_by-append, sum_by-cons, (shares_sum refused n newer))
 
 -- ---- pools are created only where the existing ones fall short
 

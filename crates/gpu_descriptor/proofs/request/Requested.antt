@@ -1,7 +1,8 @@
 -- What a request leaves of an allocator: why it is declined before the walk, and what it took.
+use Rattle.gpu_descriptor.proofs.Common.{common_steps}
 use Rattle.gpu_descriptor.proofs.Common.{side, Meaning, greatest_u64, [], ◌≡◌, ℕ, ◌+◌, ◌-◌, ◌*◌, ◌<◌, ◌≤◌, ◌&&◌, Bool}
 use Rattle.gpu_descriptor.proofs.Common.{true, false, List, map, length, sum, Option, Result, Err, inl, inr, refl, sym}
-use Rattle.gpu_descriptor.proofs.Common.{ap, subst, ◌∙◌, arith, mul-le-mul_right, cases_Bool, and_parts, ltb-true}
+use Rattle.gpu_descriptor.proofs.Common.{ap, subst, ◌∙◌, arith, mul-le-mul_right, and_parts, ltb-true}
 use Rattle.gpu_descriptor.proofs.Common.{ltb-false, IsDistinct, nat_lt, ◌⊎◌, kinds, Ledger, AllocationError, BucketKey}
 use Rattle.gpu_descriptor.proofs.Common.{DescriptorSet, DescriptorBucket, Stop, Key, key_eq, Bucket, BucketOf}
 use Rattle.gpu_descriptor.proofs.Common.{HasDistinctKeys, books_of, next_number, sum_over, key_of, Allocations}
@@ -109,18 +110,7 @@ module _ {L P S : Type 0} {means : Meaning L P S} {most : Option ℕ} {key : Buc
 
   -- their descriptors keep the limit
   pub given_fits : {given : ℕ} → given ≡ length sets → set_descriptors (key_of key) given + marked ≤ max
-  given_fits {given} long = elim (cases_Bool key.marked) [
-    | inl on ↦ (
-        let few = s.served.few in
-        let all = sets_within on in
-        let load = ap marked_load_of is in
-        let limit = ap (λ (x : Allocations P). x.limit) is in
-        let is_load = counted.is_load in
-        let product : set_descriptors (key_of key) given ≡ given * sum (kinds key.counts) = rw on refl in
-        let le : given * sum (kinds key.counts) ≤ count * sum (kinds key.counts) = mul-le-mul_right (sum (kinds key.counts)) (omega arith) in
-        omega arith)
-    | inr off ↦ (let none : set_descriptors (key_of key) given ≡ 0 = rw off refl in let all = counted.within in omega arith)
-  ]
+  given_fits {given} long = grind (arith, common_steps, mul-le-mul_right, sets_within)
 
   pub counted_now : {given more left : ℕ} → given ≡ length sets → more ≡ set_descriptors (key_of key) given → left + sum_over bucket_load (map row_of fs) ≡ room + sum_over bucket_load (map row_of es) → IsConsistent max (marked + more) left (out + given) fs
   counted_now long load moved =

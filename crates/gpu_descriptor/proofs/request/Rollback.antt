@@ -1,5 +1,6 @@
 -- What giving the sets of a request back leaves, and how it raises the counters.
-use Rattle.gpu_descriptor.proofs.Common.{◌+◌, ◌≡◌, ℕ, ◌<◌, true, false, List, [], ◌∷◌, map, sum_by, inl, inr, refl, sym}
+use Rattle.gpu_descriptor.proofs.Common.{common_steps}
+use Rattle.gpu_descriptor.proofs.Common.{◌+◌, ◌≡◌, ℕ, ◌<◌, false, List, [], ◌∷◌, map, sum_by, inl, inr, refl, sym}
 use Rattle.gpu_descriptor.proofs.Common.{ap, ◌∙◌, arith, suc, length, fun_ext, cases_Bool, or_parts, false_from_ne_true}
 use Rattle.gpu_descriptor.proofs.Common.{sum_by-cons, list_any, if◌then◌else◌, any_found, count_by_yes, Counters}
 use Rattle.gpu_descriptor.proofs.Common.{no_rise, State, Item, item_eq, count_of, Agree, Key, key_eq, Bucket, BucketOf}
@@ -25,12 +26,7 @@ give_back_rise gone calls c = same_counters _ _ (omega arith) (omega arith) (ome
 module _ (k : Key) (f : Key → ℕ) (none : (l : Key) → key_eq k l ≡ false → f l ≡ 0) where
   others : (j : Key) → j ≡ k → (t : List (Key × Bucket)) → list_any (λ row. key_eq row.0 j) t ≡ false → sum_by f (map (λ row. row.0) t) ≡ 0
   others j is [] h = refl
-  others j is (row ∷ t) h =
-      let both = or_parts (key_eq row.0 j) (list_any (λ row. key_eq row.0 j) t) h in
-      let here = none row.0 (key_eq_symm k row.0 ∙ ap (key_eq row.0) (sym is) ∙ both.0) in
-      let rest = others j is t both.1 in
-      let sum = sum_by-cons f row.0 (map (λ (r : Key × Bucket). r.0) t) in
-      omega arith
+  others j is (row ∷ t) h = grind (arith, common_steps, key_eq_symm, or_parts, sum_by-cons, (others j is t))
 
   pub one_row : (t : List (Key × Bucket)) → HasDistinctKeys t → (books_of t k ≡ no_pools → f k ≡ 0) → sum_by f (map (λ row. row.0) t) ≡ f k
   one_row [] h empty = sym (empty refl)
@@ -51,10 +47,7 @@ module _ (k : Key) (f : Key → ℕ) (none : (l : Key) → key_eq k l ≡ false 
 
 -- sets of one key name no other
 pub unnamed_key : (k : Key) (m : List Item) → ((u : Item) → 0 < count_of u m → u.key ≡ k) → (l : Key) → key_eq k l ≡ false → names_key m l ≡ false
-unnamed_key k m of_key l other = false_from_ne_true (names_key m l) (λ h.
-    let who = any_found item_exact (λ u. key_eq u.key l) m h in
-    let same : k ≡ l = sym (of_key who.0 who.1) ∙ key_exact.same who.0.key l who.2 in
-    let bad : true ≡ false = sym (ap (key_eq k) (sym same) ∙ key_exact.self k) ∙ other in cc)
+unnamed_key k m of_key l other = grind (arith, common_steps, any_found, false_from_ne_true, item_exact, key_exact)
 
 -- giving sets back leaves the books of keys that they don't name
 pub other_key : (m : List Item) (s : State) → Agree s → (k : Key) → names_key m k ≡ false → (released m s).books k ≡ s.books k

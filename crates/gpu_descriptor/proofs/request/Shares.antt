@@ -1,7 +1,8 @@
 -- The shares of the newer pools stay when an older pool is asked.
-use Rattle.gpu_descriptor.proofs.Common.{ne_eqb, sym, nat_lt, ◌++◌, ◌∙◌, ◌≡◌, ◌≢◌, ℕ, zero, suc, ◌+◌, ◌-◌, inl, inr}
+use Rattle.gpu_descriptor.proofs.Common.{common_steps}
+use Rattle.gpu_descriptor.proofs.Common.{ne_eqb, sym, nat_lt, ◌++◌, ◌∙◌, ◌≡◌, ◌≢◌, ℕ, zero, suc, ◌+◌, ◌-◌}
 use Rattle.gpu_descriptor.proofs.Common.{List, [], ◌∷◌, Bool, false, ◌&&◌, ◌||◌, ◌==◌, Some, refl, ap, arith, eq-eqb}
-use Rattle.gpu_descriptor.proofs.Common.{cases_Bool, sum_by-cons, slice_get, if◌then◌else◌, sum_by, Entry, offer, rest}
+use Rattle.gpu_descriptor.proofs.Common.{sum_by-cons, slice_get, if◌then◌else◌, sum_by, Entry, offer, rest}
 use Rattle.gpu_descriptor.proofs.Common.{is_asked, share, shared, all_shared, asked_count, refused_count, asks}
 use Rattle.gpu_descriptor.proofs.Common.{OnlyAskedRefuse, portions_of}
 
@@ -59,10 +60,7 @@ not_asked refused n name (e ∷ es) h = rw (ne_eqb e.pool name h.0) (not_asked r
 
 -- so it has not refused
 pub not_refused : (refused : ℕ → Bool) (n name : ℕ) (es : List Entry) → IsApart name es → OnlyAskedRefuse refused n es → refused name ≡ false
-not_refused refused n name es h only = elim (cases_Bool (refused name)) [
-  | inl on ↦ (let a = only name on in let b = not_asked refused n name es h in absurd (cc))
-  | inr off ↦ off
-]
+not_refused refused n name es h only = grind (arith, common_steps, not_asked)
 
 -- where the names of a list's entries are at different places, no entry behind one has its name
 pub apart_from : (name : ℕ) (es : List Entry) → ((j : ℕ) (e : Entry) → slice_get es j ≡ Some e → e.pool ≢ name) → IsApart name es

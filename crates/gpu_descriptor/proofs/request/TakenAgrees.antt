@@ -1,4 +1,5 @@
 -- What a request takes keeps books and ledger in agreement, and exactly its sets are outstanding besides.
+use Rattle.gpu_descriptor.proofs.Common.{common_steps}
 use Rattle.gpu_descriptor.proofs.Common.{◌≡◌, ◌≢◌, ℕ, suc, take, drop, ◌+◌, ◌-◌, ◌<◌, ◌⊎◌, inl, inr, List, [], ◌∷◌}
 use Rattle.gpu_descriptor.proofs.Common.{◌++◌, length, map, Bool, true, false, ◌==◌, Option, Some, None, refl, sym, ap}
 use Rattle.gpu_descriptor.proofs.Common.{◌∙◌, subst, arith, cases_Bool, cases_lt, ne_eqb, eqb-true, nil_from_length}
@@ -199,12 +200,7 @@ module _ (k : Key) (n : ℕ) (g : Grant) (s : State) (agree : Agree s) (grant : 
 
   -- another key's pool stays
   others_stay : (l : Key) (i : ℕ) (e : Entry) → key_eq k l ≡ false → slice_get (s.books l).pools i ≡ Some e → after e.pool ≡ s.ledger e.pool
-  others_stay l i e apart at =
-      let was = agree.booked l i e at in
-      untouched e.pool (apart_from e.pool b.pools (λ j d there same. (
-      let both = agree.distinct k l j i d e there at same in
-      let bad : true ≡ false = sym (key_exact.self k) ∙ ap (key_eq k) both.0 ∙ apart in
-      absurd (cc)))) (not_new s.ledger e.pool was.0 g.fresh grant.new was.1)
+  others_stay l i e apart at = grind (arith, common_steps, apart_from, b, key_exact, not_new, untouched)
 
   -- the key's numbers rise on
   rising_now : rises (numbers_of new.pools) ≡ true
@@ -314,10 +310,7 @@ module _ (k : Key) (n : ℕ) (g : Grant) (s : State) (agree : Agree s) (grant : 
 
   -- where the key had pools it had the id
   live_then : (u : Item) → k ≡ u.key → outstanding s u ≡ (if g.id == u.id then live_at s.ledger b u else 0)
-  live_then u key = ap (λ (l : Key). if (s.books l).id == u.id then live_at s.ledger (s.books l) u else 0) (sym key) ∙ elim (cases_option (entry_at b u.number)) [
-    | inl none ↦ (let zero : live_at s.ledger b u ≡ 0 = rw none refl in rw zero (if_none (b.id == u.id) ∙ sym (if_none (g.id == u.id))))
-    | inr e ↦ ap (λ (i : ℕ). if i == u.id then live_at s.ledger b u else 0) (sym (grant.id (let found = entry_at-found b u.number e.0 e.1 in let some = slice_get_within b.pools found.0 e.0 found.1 in omega arith)))
-  ]
+  live_then u key = grind (arith, common_steps, b, cases_option, entry_at-found, if_none, slice_get_within)
 
   -- exactly these sets are outstanding besides
   pub granted_outstanding : (u : Item) → outstanding t u ≡ outstanding s u + count_of u items

@@ -1,8 +1,9 @@
 -- What stands at the places of a key's pools once a request took sets of them: an old pool with what it gave, or a new one.
+use Rattle.gpu_descriptor.proofs.Common.{common_steps}
 use Rattle.gpu_descriptor.proofs.Common.{greatest_pool_size, ◌≡◌, ◌≢◌, ℕ, zero, suc, take, drop, ◌+◌, ◌≤◌, ◌⊎◌, inl}
 use Rattle.gpu_descriptor.proofs.Common.{inr, List, [], ◌∷◌, ◌++◌, length, map, Bool, false, ◌==◌, Option, Some, None}
 use Rattle.gpu_descriptor.proofs.Common.{refl, sym, ap, ◌∙◌, subst, arith, cases_Bool, eq-eqb, ne_eqb, eqb-false}
-use Rattle.gpu_descriptor.proofs.Common.{or_parts, or_from, length-append, sum_by, sum_by-cons, sum_by-append}
+use Rattle.gpu_descriptor.proofs.Common.{or_parts, or_from, sum_by, sum_by-cons, sum_by-append}
 use Rattle.gpu_descriptor.proofs.Common.{slice_get, list_any, if◌then◌else◌, flags_of, Key, Entry, Pool, pool_counts}
 use Rattle.gpu_descriptor.proofs.Common.{Fresh, AreNew, AreSized, AreFull, IsFreshList, fresh_entries, fresh_entry}
 use Rattle.gpu_descriptor.proofs.Common.{fresh_portions, Part, portion_of, came, fresh_or, Portion, offer, share}
@@ -24,30 +25,16 @@ given_at q rows = sum_by (gave q) rows
 
 pub came_long : (q : ℕ) (parts : List Part) → length (came parts q) ≡ given_at q (map portion_of parts)
 came_long q [] = refl
-came_long q (p ∷ parts) =
-    let a = length-append (if p.pool == q then p.names else []) (came parts q) in
-    let b = sum_by-cons (gave q) (portion_of p) (map portion_of parts) in
-    let rest = came_long q parts in
-    let one : length (if p.pool == q then p.names else []) ≡ gave q (portion_of p) = elim (cases_Bool (p.pool == q)) [ inl on ↦ rw on refl | inr off ↦ rw off refl ] in
-    omega arith
+came_long q (p ∷ parts) = grind (arith, common_steps, came, gave, sum_by-cons, (came_long q parts))
 
 -- none from one that isn't among the pools
 pub no_share : (refused : ℕ → Bool) (n q : ℕ) (es : List Entry) → IsApart q es → given_at q (portions_of refused n es) ≡ 0
 no_share refused n q [] apart = refl
-no_share refused n q (e ∷ newer) apart =
-    let a = sum_by-append (gave q) (portions_of refused n newer) (record { number = e.number; pool = e.pool; given = share refused n newer e } ∷ []) in
-    let b = no_share refused n q newer apart.1 in
-    let c : ◌≡◌ {A = ℕ} (if e.pool == q then share refused n newer e else 0) 0 = rw (ne_eqb e.pool q apart.0) refl in
-    omega arith
+no_share refused n q (e ∷ newer) apart = grind (arith, common_steps, gave, sum_by-append, (no_share refused n q newer apart.1))
 
 pub no_fresh : (q number : ℕ) (fs : List Fresh) → list_any (λ f. f.pool == q) fs ≡ false → given_at q (fresh_portions number fs) ≡ 0
 no_fresh q number [] none = refl
-no_fresh q number (f ∷ fs) none =
-    let both = or_parts (f.pool == q) (list_any (λ f. f.pool == q) fs) none in
-    let a = sum_by-cons (gave q) (record { number = number; pool = f.pool; given = f.given }) (fresh_portions (number + 1) fs) in
-    let b = no_fresh q (number + 1) fs both.1 in
-    let c : ◌≡◌ {A = ℕ} (if f.pool == q then f.given else 0) 0 = rw both.0 refl in
-    omega arith
+no_fresh q number (f ∷ fs) none = grind (arith, common_steps, gave, or_parts, sum_by-cons, (no_fresh q (number + 1) fs))
 
 -- ---- the old pools
 

@@ -1,11 +1,12 @@
 -- One step of the walk over a key's pools.
+use Rattle.gpu_descriptor.proofs.Common.{common_steps}
 use Rattle.gpu_descriptor.proofs.Common.{◌≡◌, ℕ, suc, ◌+◌, ◌-◌, inl, inr, List, [], ◌∷◌, ◌++◌, length, map, take, drop}
 use Rattle.gpu_descriptor.proofs.Common.{slice_set, Bool, true, false, cond, ◌&&◌, ◌==◌, nat_eq, nat_lt, Option, Some}
-use Rattle.gpu_descriptor.proofs.Common.{None, refl, sym, ap, ◌∙◌, subst, arith, eqb-true, eq-eqb, append_assoc}
+use Rattle.gpu_descriptor.proofs.Common.{None, refl, sym, ap, ◌∙◌, subst, arith, eqb-true, eq-eqb}
 use Rattle.gpu_descriptor.proofs.Common.{or_cases, and_parts, and_from, or_left, or_right, eqb-false, fun_ext}
 use Rattle.gpu_descriptor.proofs.Common.{map-append, append-nil, sum_by-cons, if◌then◌else◌, option_map, times-append}
-use Rattle.gpu_descriptor.proofs.Common.{Key, Entry, Bucket, Item, Pool, Ledger, Counters, live_sets, on_pool, no_rise}
-use Rattle.gpu_descriptor.proofs.Common.{LiveSet, times, flat_map-append, Grant, Part, fresh_or, items_at, items_in}
+use Rattle.gpu_descriptor.proofs.Common.{Key, Entry, Bucket, Item, Pool, Ledger, Counters, live_sets, on_pool}
+use Rattle.gpu_descriptor.proofs.Common.{flat_map-append, Grant, Part, fresh_or, items_at, items_in}
 use Rattle.gpu_descriptor.proofs.Common.{portion_of, came, pool_with, ledger_with, Fresh, risen, grant_rise, offer}
 use Rattle.gpu_descriptor.proofs.Common.{rest, is_asked, share, shared, all_shared, asked_count, refused_count}
 use Rattle.gpu_descriptor.proofs.Common.{OnlyAskedRefuse, portions_of, IsAsked, HasTaken}
@@ -29,25 +30,7 @@ came_more parts p q = flat_map-append (λ (p : Part). if p.pool == q then p.name
 
 -- a pool that got sets twice
 pool_twice : (counts a b : List ℕ) (r : Bool) (p : Pool) → pool_with (live_sets counts b) r (pool_with (live_sets counts a) false p) ≡ pool_with (live_sets counts (a ++ b)) r p
-pool_twice counts a b r p = λ i. record {
-  counts = p.counts;
-  capacity = p.capacity;
-  flags = p.flags;
-  refusals = if r then p.refusals + 1 else p.refusals;
-  live =
-      fun_ext
-      (λ (x : LiveSet).
-      (let e =
-      ap (λ sets. times sets x)
-      (map-append (λ (n : ℕ). let s : LiveSet = record { name = n; counts = counts } in s) a b) in
-      let f = times-append (live_sets counts a) (live_sets counts b) x in
-      let g :
-      p.live x + times (live_sets counts a) x + times (live_sets counts b) x
-      ≡ p.live x + times (live_sets counts (a ++ b)) x =
-      omega arith in
-      g))
-      i;
-}
+pool_twice counts a b r p = grind (arith, common_steps, fun_ext, map-append, times-append)
 
 -- the items of one part more
 pub items_more : (k : Key) (id number pool : ℕ) (names : List ℕ) (parts : List Part) → items_in k id (parts ++ part number pool names ∷ []) ≡ items_in k id parts ++ items_at k id number names
@@ -125,24 +108,13 @@ module _ (id n i : ℕ) (refused : ℕ → Bool) (parts : List Part) (old : List
   refused_now = sum_by-cons (λ (e : Entry). if now e.pool then 1 else 0) e newer ∙ (λ j. (if or_at_here a.refused e.pool refused not_yet j then 1 else 0) + same.count j)
 
   counters_now : (c : Counters) → l.counters ≡ risen (grant_rise n (so_far id (suc i) refused parts) old) c → m.counters ≡ risen (grant_rise n (so_far id i now (parts ++ part_now ∷ [])) old) c
-  counters_now c was =
-      let asked : asked_count now n (drop i old) ≡ (if nat_lt 0 e.available && nat_lt 0 (rest refused n newer) then 1 else 0) + asked_count refused n newer = ap (asked_count now n) tail ∙ count_now in
-      let refuse : refused_count now (drop i old) ≡ (if a.refused then 1 else 0) + refused_count refused newer = ap (refused_count now) tail ∙ refused_now in
-      let up = ap (risen (record no_rise { asked = if nat_lt 0 e.available && nat_lt 0 (rest refused n newer) then 1 else 0; pool_refused = if a.refused then 1 else 0 })) was in
-      a.counters ∙ up ∙ same_counters _ _ (omega arith) (omega arith) (omega arith) (omega arith) (omega arith) (omega arith) (omega arith) (omega arith)
+  counters_now c was = grind (arith, common_steps, count_now, now, refused_now, same_counters)
 
   parts_now : map portion_of parts ≡ portions_of refused n newer ++ [] → map portion_of (parts ++ part_now ∷ []) ≡ portions_of now n (drop i old) ++ []
-  parts_now was =
-      map-append portion_of parts (part_now ∷ [])
-      ∙ ap (λ x. x ++ portion_of part_now ∷ []) (was ∙ append-nil (portions_of refused n newer))
-      ∙ sym (append-nil (portions_of now n (drop i old)) ∙ ap (portions_of now n) tail ∙ rows_now)
+  parts_now was = grind (arith, common_steps, append-nil, map-append, newer, now, rows_now)
 
   entries_now : length (take i old) ≡ i → take (suc i) old ≡ take i old ++ e ∷ [] → slice_set (take (suc i) old ++ all_shared refused n newer ++ []) i f ≡ take i old ++ all_shared now n (drop i old) ++ []
-  entries_now long more =
-      ap (λ x. slice_set x i f) (append-nil (take (suc i) old ++ all_shared refused n newer) ∙ ap (λ x. x ++ all_shared refused n newer) more ∙ append_assoc (take i old) (e ∷ []) (all_shared refused n newer))
-      ∙ ap (λ j. slice_set (take i old ++ e ∷ all_shared refused n newer) j f) (sym long)
-      ∙ set-append_seam (take i old) e (all_shared refused n newer) f
-      ∙ sym (append-nil (take i old ++ all_shared now n (drop i old)) ∙ ap (λ x. take i old ++ x) (ap (all_shared now n) tail ∙ shared_now))
+  entries_now long more = grind (arith, common_steps, append-nil, newer, now, set-append_seam, shared_now)
 
   pools_now : (before : Ledger) → l.pools ≡ ledger_with k (so_far id (suc i) refused parts) before.pools → m.pools ≡ ledger_with k (so_far id i now (parts ++ part_now ∷ [])) before.pools
   pools_now before was = a.pools ∙ ap (on_pool e.pool (pool_with (live_sets k.counts names) a.refused)) was ∙ ledger_more k refused [] parts a.refused e.number e.pool names before.pools id (suc i) i not_yet
@@ -159,10 +131,4 @@ module _ (id n i : ℕ) (refused : ℕ → Bool) (parts : List Part) (old : List
 
   -- what is wanting falls by what was given
   pub rest_now : rest now n (drop i old) + length names ≡ rest refused n newer
-  rest_now =
-      let t : rest now n (drop i old) ≡ rest now n (e ∷ newer) = ap (rest now n) tail in
-      let s = sum_by-cons (offer now) e newer in
-      let o = offer_now in
-      let r = same.sum in
-      let many = a.many in
-      omega arith
+  rest_now  = grind (arith, common_steps, newer, now, offer_now, same, sum_by-cons)

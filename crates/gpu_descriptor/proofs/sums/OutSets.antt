@@ -1,6 +1,6 @@
 -- As many sets are out as are outstanding.
 use Rattle.std.specs.List.{find}
-use Rattle.gpu_descriptor.proofs.Common.{list_all, nat_lt, and_parts, ltb-true, ne_eqb, eqb-true, eqb-false, rises}
+use Rattle.gpu_descriptor.proofs.Common.{list_all, nat_lt, and_parts, ltb-true, eqb-true, eqb-false, rises}
 use Rattle.gpu_descriptor.proofs.Common.{numbers_of, ◌≡◌, ℕ, suc, ◌+◌, ◌<◌, ◌≤◌, ◌==◌, true, false, List, [], ◌∷◌, ◌++◌}
 use Rattle.gpu_descriptor.proofs.Common.{length, map, sum_by, slice_get, Option, Some, None, inl, inr, refl, sym, ap}
 use Rattle.gpu_descriptor.proofs.Common.{◌∙◌, arith, length-append, if◌then◌else◌, cases_Bool, cases_lt, length-map}
@@ -31,10 +31,7 @@ by_name counts (x ∷ sets) all =
     grind (arith, common_steps)
   where
     more : (y : LiveSet) → times sets y ≤ times (x ∷ sets) y
-    more y = elim (cases_Bool (set_eq x y)) [
-      | inl h ↦ (let e : times (x ∷ sets) y ≡ suc (times sets y) = count_by_yes (λ z. set_eq z y) x sets h in omega arith)
-      | inr h ↦ (let e : times (x ∷ sets) y ≡ times sets y = count_by_no (λ z. set_eq z y) x sets h in omega arith)
-    ]
+    more y = grind (arith, common_steps, count_by_no, count_by_yes)
 
 -- the sets that are out of a key's pools
 record OutOf (k : Key) (b : Bucket) (ledger : ℕ → Option Pool) : Type 0 where
@@ -49,10 +46,7 @@ none_out ledger id t = refl
 -- a number below all others is at no later place
 absent_behind : (es : List Entry) (n : ℕ) → list_all (nat_lt n) (numbers_of es) ≡ true → find (λ e. e.number == n) es ≡ None
 absent_behind [] n h = refl
-absent_behind (e ∷ es) n h =
-    let both = and_parts (nat_lt n e.number) (list_all (nat_lt n) (numbers_of es)) h in
-    let above = ltb-true n e.number both.0 in
-    rw (ne_eqb e.number n (λ same. omega arith)) (absent_behind es n both.1)
+absent_behind (e ∷ es) n h = grind (arith, common_steps, and_parts, ltb-true, (absent_behind es n))
 
 key_out : (k : Key) (id : ℕ) (es : List Entry) (ledger : ℕ → Option Pool) → rises (numbers_of es) ≡ true → ((i : ℕ) (e : Entry) → slice_get es i ≡ Some e → IsBookedIn k ledger e) → ∥ OutOf k (bucket id es) ledger ∥₁
 unfolding names_in
@@ -138,16 +132,10 @@ table_out ledger (row ∷ table) distinct rising booked =
     )))
   where
     rise : (k : Key) → rises (numbers_of (books_of table k).pools) ≡ true
-    rise k = elim (cases_Bool (key_eq row.0 k)) [
-      | inl same ↦ ap (λ (b : Bucket). rises (numbers_of b.pools)) (none_behind row table distinct k same)
-      | inr other ↦ (let here = rising k in rw other at here)
-    ]
+    rise k = grind (arith, common_steps, none_behind, rises)
 
     appended : (k : Key) (i : ℕ) (e : Entry) → slice_get (books_of table k).pools i ≡ Some e → slice_get (books_of (row ∷ table) k).pools i ≡ Some e
-    appended k i e at = elim (cases_Bool (key_eq row.0 k)) [
-      | inl same ↦ absurd (let bad : ◌≡◌ {A = Option Entry} None (Some e) = ap (λ (b : Bucket). slice_get b.pools i) (sym (none_behind row table distinct k same)) ∙ at in cc)
-      | inr other ↦ rw other at
-    ]
+    appended k i e at = grind (arith, common_steps, none_behind)
 
 -- the sets that are out of a table which keeps the books
 all_out : (s : State) (f : Key → Bucket → ℕ) (n : ℕ) → Agree s → (out : AddsUp f s.books n) → ∥ OutOfAll s.ledger out.table ∥₁
