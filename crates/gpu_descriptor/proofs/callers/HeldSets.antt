@@ -53,6 +53,4 @@ module _ {S : Type 0} (name : S → ℕ) where
 
   -- where the later ones went back
   pub out_rest : (xs ys all : List (DescriptorSet S)) (s t : State) → all ≡ xs ++ ys → AreOutstanding (items_of name all) s → AreOutBesides (items_of name ys) t s → AreOutstanding (items_of name xs) t
-  out_rest xs ys all s t is out less u =
-      let a = ap (λ (l : List (DescriptorSet S)). count_of u (items_of name l)) is ∙ count_parts xs ys u in
-      grind (arith, common_steps)
+  out_rest xs ys all s t is out less u = grind (arith, common_steps, count_parts)

@@ -113,9 +113,7 @@ all_left n (x ∷ pools) left gone (inr s) h = all_left n pools left s.0 s.3 (an
 
 pub left_rises : (pools left gone : List Entry) → Split pools left gone → rises (numbers_of pools) ≡ true → rises (numbers_of left) ≡ true
 left_rises [] left gone s h = ap (λ (l : List Entry). rises (numbers_of l)) s.0
-left_rises (x ∷ pools) left gone (inl s) h =
-    let both = and_parts (list_all (nat_lt x.number) (numbers_of pools)) (rises (numbers_of pools)) h in
-    ap (λ (l : List Entry). rises (numbers_of l)) s.1 ∙ and_from _ _ (all_left x.number pools s.0 gone s.2 both.0) (left_rises pools s.0 gone s.2 both.1)
+left_rises (x ∷ pools) left gone (inl s) h = grind (arith, common_steps, all_left, and_from, and_parts, rises, (left_rises pools s.0 gone s.2))
 left_rises (x ∷ pools) left gone (inr s) h = left_rises pools left s.0 s.3 (and_parts (list_all (nat_lt x.number) (numbers_of pools)) (rises (numbers_of pools)) h).1
 
 -- one place has each

@@ -1,7 +1,8 @@
 -- What requests, frees and cleaning up leave of pools that aren't the allocator's.
+use Rattle.gpu_descriptor.proofs.Common.{common_steps}
 use Rattle.gpu_descriptor.proofs.Common.{◌≡◌, ℕ, zero, suc, ◌+◌, ◌-◌, ◌<◌, ◌==◌, ◌&&◌, Bool, true, false, List, [], ◌∷◌}
 use Rattle.gpu_descriptor.proofs.Common.{take, count_by, Option, Some, None, option_map, slice_get, inl, inr, refl, sym}
-use Rattle.gpu_descriptor.proofs.Common.{ap, ◌∙◌, subst, arith, fun_ext, cases_Bool, cases_lt, or_from, or_right}
+use Rattle.gpu_descriptor.proofs.Common.{ap, ◌∙◌, subst, arith, fun_ext, cases_lt, or_from, or_right}
 use Rattle.gpu_descriptor.proofs.Common.{false_from_ne_true, list_any, slice_get-map, if◌then◌else◌, side, Meaning}
 use Rattle.gpu_descriptor.proofs.Common.{Pool, Ledger, LiveSet, set_eq, State, Item, set_of, Key, Entry, Bucket}
 use Rattle.gpu_descriptor.proofs.Common.{DescriptorSet, Allocations, IsForeign, KeepsForeign, LosesEmpty, are_named}
@@ -71,10 +72,7 @@ released_named m s name pool foreign live k n e at same =
   where
     -- the front of an unnamed key stays
     front_named : (m : List Item) (s : State) (k : Key) (i : ℕ) → i < front_of m s k → (names_key m k ≡ true) × (i < spent_front (bucket_less (back m s) (s.books k)))
-    front_named m s k i lt = elim (cases_Bool (names_key m k)) [
-      | inl h ↦ (h, (let is : front_of m s k ≡ spent_front (bucket_less (back m s) (s.books k)) = rw h refl in omega arith))
-      | inr h ↦ (let is : front_of m s k ≡ 0 = rw h refl in absurd (omega arith))
-    ]
+    front_named m s k i lt = grind (arith, common_steps, back)
 
 pub released_loses : (m : List Item) (s : State) → KeepsForeign (released m s) s
 released_loses m s name pool foreign live = (let was = released_named m s name pool foreign live in (sym (released_same m s name was) ∙ live, was))

@@ -1,5 +1,6 @@
 -- The pools that are none of the allocator's are a function of books and ledger, and each call leaves it.
-use Rattle.gpu_descriptor.proofs.Common.{◌≡◌, ℕ, ◌==◌, Bool, true, false, List, [], ◌∷◌, Option, Some, None, inl, inr}
+use Rattle.gpu_descriptor.proofs.Common.{common_steps}
+use Rattle.gpu_descriptor.proofs.Common.{◌≡◌, ℕ, Bool, true, false, List, [], ◌∷◌, Option, Some, None, inl, inr}
 use Rattle.gpu_descriptor.proofs.Common.{refl, sym, ap, ◌∙◌, arith, fun_ext, list_any, cases_Bool, nil_from_length}
 use Rattle.gpu_descriptor.proofs.Common.{∥∥₁_elim, props, Pool, Ledger, State, Item, Agree, HasNoPools, count_of}
 use Rattle.gpu_descriptor.proofs.Common.{outstanding, Key, Bucket, HasDistinctKeys, books_of, Allocations, LosesEmpty}
@@ -20,11 +21,7 @@ found_row g (x ∷ rows) any = grind (arith, (found_row g rows))
 
 module _ (table : List (Key × Bucket)) (l : ℕ → Option Pool) (pool : ℕ) where
   pub named : is_named table pool ≡ true → IsNamed (record { books = books_of table; ledger = l }) pool
-  named any =
-      let row = found_row (λ row. list_any (λ e. e.pool == pool) (books_of table row.0).pools) table any in
-      let b : Bucket = books_of table row.0.0 in
-      let f = found_in b.pools pool row.1 in
-      (row.0.0, f.0, f.1, f.2, f.3)
+  named any = grind (arith, common_steps, found_in, found_row)
 
   pub unnamed : is_named table pool ≡ false → IsForeign (record { books = books_of table; ledger = l }) pool
   unnamed none k n e at same = grind (arith, absent, found_row, key_exact, none_in)

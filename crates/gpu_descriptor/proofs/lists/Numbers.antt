@@ -3,7 +3,7 @@ use Rattle.gpu_descriptor.proofs.Common.{common_steps}
 use Rattle.gpu_descriptor.proofs.Common.{◌≡◌, ℕ, zero, suc, ◌+◌, ◌-◌, ◌<◌, ◌≤◌, ◌==◌, Bool, true, false, nat_lt, List}
 use Rattle.gpu_descriptor.proofs.Common.{[], ◌∷◌, ◌++◌, length, map, drop, filter, slice_get, slice_index}
 use Rattle.gpu_descriptor.proofs.Common.{slice_index_or, IsNonDecreasing, IsPartitionPoint, Option, Some, None}
-use Rattle.gpu_descriptor.proofs.Common.{option_map, inl, inr, refl, sym, ap, ◌∙◌, subst, arith, eq-eqb, eqb-true}
+use Rattle.gpu_descriptor.proofs.Common.{option_map, inl, inr, refl, sym, ap, ◌∙◌, arith, eq-eqb, eqb-true}
 use Rattle.gpu_descriptor.proofs.Common.{lt-ltb, ltb-false, and_parts, and_from, cases_Bool, cases_lt, list_all}
 use Rattle.gpu_descriptor.proofs.Common.{slice_get_within, EntryOf, Entry, Bucket, entry_at, rises, number_after}
 use Rattle.gpu_descriptor.proofs.Common.{numbers_of}
@@ -24,9 +24,7 @@ all_from n (x ∷ xs) h = and_from _ _ (lt-ltb n x (h 0 x refl)) (all_from n xs 
 pub rises_at : (xs : List ℕ) → rises xs ≡ true → (i j m n : ℕ) → i < j → slice_get xs i ≡ Some m → slice_get xs j ≡ Some n → m < n
 rises_at [] h i j m n lt a b = absurd (let bad : ◌≡◌ {A = Option ℕ} None (Some m) = a in cc)
 rises_at (x ∷ xs) h i zero m n lt a b = absurd (omega arith)
-rises_at (x ∷ xs) h zero (suc j) m n lt a b =
-    let same : x ≡ m = cc in
-    subst (λ (y : ℕ). y < n) same (all_above x xs (and_parts (list_all (nat_lt x) xs) (rises xs) h).0 j n b)
+rises_at (x ∷ xs) h zero (suc j) m n lt a b = grind (arith, common_steps, all_above, and_parts, rises)
 rises_at (x ∷ xs) h (suc i) (suc j) m n lt a b = rises_at xs (and_parts (list_all (nat_lt x) xs) (rises xs) h).1 i j m n (omega arith) a b
 
 pub rises_from : (xs : List ℕ) → ((i j m n : ℕ) → i < j → slice_get xs i ≡ Some m → slice_get xs j ≡ Some n → m < n) → rises xs ≡ true

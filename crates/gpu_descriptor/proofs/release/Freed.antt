@@ -142,9 +142,7 @@ module _ {L P S : Type 0} (means : Meaning L P S) where
       came_out zs t z u = grind arith
 
       pub call_out : HoldsAlong steps rest (λ zs. AreOutstanding (items (x ∷ zs)) (state_of means.pool_name now mid))
-      call_out zs t z = subst (λ s. AreOutstanding (items (x ∷ zs)) s) (sym r.back.state) (λ u.
-          let less = takes (items r.sets) (state_of means.pool_name old before) agree (came_out zs t z) u in
-          grind (arith, common_steps, all_out, count_of-append))
+      call_out zs t z = grind (arith, common_steps, agree, all_out, came_out, count_of-append, takes)
 
       pub freed_more : (new : Allocations P) (after : Ledger) (a : Option (DescriptorSet S)) (t : T) → FreesRun steps means x rest a t (side now mid) (side new after) → keys_of new ≡ keys_of now → OnSome a (IsNearerEnd can left rest t)
           → Compares (search_digits ((state_of means.pool_name now mid).books x.key.is)) now.comparisons new.comparisons → Freed first old before new after a t

@@ -153,10 +153,7 @@ front_of-le m s k = grind arith
 
 -- what stands at a place afterwards stood before it, in the same pool
 pub was_there : (m : List Item) (s : State) (k : Key) (i : ℕ) (e : Entry) → slice_get ((released m s).books k).pools i ≡ Some e → (d : Entry) × (slice_get (s.books k).pools (front_of m s k + i) ≡ Some d) × (entry_less (back m s d.pool) d ≡ e)
-was_there m s k i e h =
-    let c = bucket_less (back m s) (s.books k) in
-    let here : slice_get c.pools (front_of m s k + i) ≡ Some e = sym (get_drop c.pools (front_of m s k) i) ∙ ap (λ (b : Bucket). slice_get b.pools i) (sym (released_books m s k)) ∙ h in
-    some_before (λ d. entry_less (back m s d.pool) d) (slice_get (s.books k).pools (front_of m s k + i)) e (sym (slice_get-map (λ (d : Entry). entry_less (back m s d.pool) d) (s.books k).pools (front_of m s k + i)) ∙ here)
+was_there m s k i e h = grind (arith, common_steps, back, get_drop, released_books, slice_get-map, some_before)
 
 -- and so what has a number
 pub was_at : (m : List Item) (s : State) → Agree s → (k : Key) (n : ℕ) (e : Entry) → entry_at ((released m s).books k) n ≡ Some e → (d : Entry) × (entry_at (s.books k) n ≡ Some d) × (entry_less (back m s d.pool) d ≡ e)

@@ -4,7 +4,7 @@ use Rattle.gpu_descriptor.proofs.Common.{◌++◌, flat_map, map, take, count_by
 use Rattle.gpu_descriptor.proofs.Common.{None, option_map, inl, inr, refl, sym, ap, ◌∙◌, subst, arith, eqb-true}
 use Rattle.gpu_descriptor.proofs.Common.{if◌then◌else◌, fun_ext, list_any, cases_lt, and_parts, false_from_ne_true}
 use Rattle.gpu_descriptor.proofs.Common.{set_of, State, Item, count_of, outstanding, AreOutstanding, IsAsBooked, Agree}
-use Rattle.gpu_descriptor.proofs.Common.{Key, Entry, Bucket, entry_at, rises, numbers_of, Pool, LiveSet, set_eq}
+use Rattle.gpu_descriptor.proofs.Common.{Key, Entry, Bucket, entry_at, rises, numbers_of, Pool, set_eq}
 use Rattle.gpu_descriptor.proofs.Common.{counts_alike, count_by-append, list_any-count_by, common_steps, lies_in}
 use Rattle.gpu_descriptor.proofs.Common.{entry_less, bucket_less, pool_less, given_back, spent_front, released, singly}
 use Rattle.gpu_descriptor.proofs.Common.{released_each}
@@ -137,9 +137,7 @@ none_back s =
 
     pool_same : (o : Option Pool) → option_map (pool_less (λ name. 0)) o ≡ o
     pool_same None = refl
-    pool_same (Some p) =
-        let live : ◌≡◌ {A = LiveSet → ℕ} (λ name. p.live name - 0) p.live = fun_ext (λ name. let e : p.live name - 0 ≡ p.live name = omega arith in e) in
-        λ i. Some (record { counts = p.counts; capacity = p.capacity; flags = p.flags; refusals = p.refusals; live = live i })
+    pool_same (Some p) = grind (arith, common_steps, fun_ext)
 
 -- what a later part needs still lies where it lay
 pub rest_outstanding : (m n : List Item) (s : State) → Agree s → AreOutstanding (m ++ n) s → AreOutstanding m s × AreOutstanding n (released m s)

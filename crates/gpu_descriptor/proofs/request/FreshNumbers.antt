@@ -2,7 +2,7 @@
 use Rattle.gpu_descriptor.proofs.Common.{common_steps}
 use Rattle.gpu_descriptor.proofs.Common.{◌≡◌, ℕ, zero, suc, ◌+◌, ◌≤◌, Bool, true, List, [], ◌∷◌, ◌++◌, length, take}
 use Rattle.gpu_descriptor.proofs.Common.{drop, slice_get, Option, Some, None, refl, sym, ap, ◌∙◌, arith, append-nil}
-use Rattle.gpu_descriptor.proofs.Common.{append_assoc, Entry, Bucket, Fresh, fresh_entries, fresh_entry, next_number}
+use Rattle.gpu_descriptor.proofs.Common.{Entry, Bucket, Fresh, fresh_entries, fresh_entry, next_number}
 use Rattle.gpu_descriptor.proofs.Common.{number_after, numbers_of, rises, all_shared, Key, Grant, Item, Ledger}
 use Rattle.gpu_descriptor.proofs.Common.{HasTaken}
 use Rattle.gpu_descriptor.proofs.lists.Numbers.{next_push, rises_push}
@@ -11,9 +11,7 @@ use Rattle.gpu_descriptor.proofs.lists.Numbers.{next_push, rises_push}
 
 pub fresh_entries_more : (number : ℕ) (fs : List Fresh) (f : Fresh) → fresh_entries number (fs ++ f ∷ []) ≡ fresh_entries number fs ++ fresh_entry (number + length fs) f ∷ []
 fresh_entries_more number [] f = ap (λ (m : ℕ). fresh_entry m f ∷ []) (let e : number ≡ number + 0 = omega arith in e)
-fresh_entries_more number (h ∷ fs) f =
-    let e : number + 1 + length fs ≡ number + suc (length fs) = omega arith in
-    ap (λ (es : List Entry). fresh_entry number h ∷ es) (fresh_entries_more (number + 1) fs f ∙ ap (λ (m : ℕ). fresh_entries (number + 1) fs ++ fresh_entry m f ∷ []) e)
+fresh_entries_more number (h ∷ fs) f = grind (arith, common_steps, (fresh_entries_more (number + 1) fs f))
 
 pub length_fresh : (number : ℕ) (fs : List Fresh) → length (fresh_entries number fs) ≡ length fs
 length_fresh number [] = refl
@@ -38,9 +36,7 @@ numbers_taken refused n (suc left) (e ∷ es) fs = ap (λ (ns : List ℕ). e.num
 -- they rise on
 pub rises_fresh : (number : ℕ) (fs : List Fresh) (xs : List ℕ) → rises xs ≡ true → number_after xs ≤ number → rises (xs ++ numbers_of (fresh_entries number fs)) ≡ true
 rises_fresh number [] xs h le = ap rises (append-nil xs) ∙ h
-rises_fresh number (f ∷ fs) xs h le =
-    ap rises (sym (append_assoc xs (number ∷ []) (numbers_of (fresh_entries (number + 1) fs))))
-    ∙ rises_fresh (number + 1) fs (xs ++ number ∷ []) (rises_push xs number h le) (let e = next_push xs number in omega arith)
+rises_fresh number (f ∷ fs) xs h le = grind (arith, common_steps, next_push, rises, rises_push, (rises_fresh (number + 1) fs (xs ++ number ∷ [])))
 
 next_fresh : (number : ℕ) (fs : List Fresh) (xs : List ℕ) → number ≡ number_after xs → number_after (xs ++ numbers_of (fresh_entries number fs)) ≡ number + length fs
 next_fresh number [] xs is = ap number_after (append-nil xs) ∙ sym is ∙ (let e : number ≡ number + 0 = omega arith in e)

@@ -1,12 +1,12 @@
 -- The new pools of a request, as far as it has come.
 use Rattle.gpu_descriptor.proofs.Common.{common_steps}
-use Rattle.gpu_descriptor.proofs.Common.{◌≡◌, ℕ, zero, suc, take, drop, ◌+◌, ◌-◌, ◌<◌, inl, inr, List, [], ◌∷◌, ◌++◌}
+use Rattle.gpu_descriptor.proofs.Common.{◌≡◌, ℕ, zero, suc, take, drop, ◌+◌, ◌-◌, ◌<◌, List, [], ◌∷◌, ◌++◌}
 use Rattle.gpu_descriptor.proofs.Common.{length, map, Bool, true, false, cond, ◌==◌, nat_eq, Option, Some, None, Ok}
 use Rattle.gpu_descriptor.proofs.Common.{Err, refl, sym, ap, ◌∙◌, subst, arith, eqb-true, eq-eqb}
-use Rattle.gpu_descriptor.proofs.Common.{fun_ext, ne_eqb, nil_from_length, eqb-false, map-append}
+use Rattle.gpu_descriptor.proofs.Common.{fun_ext, nil_from_length, eqb-false, map-append}
 use Rattle.gpu_descriptor.proofs.Common.{append-nil, sum_by-cons, sum_by-append, list_any, update, if◌then◌else◌}
 use Rattle.gpu_descriptor.proofs.Common.{option_map, Item, flags_of, Key, Entry, Bucket, Pool, Ledger, live_sets}
-use Rattle.gpu_descriptor.proofs.Common.{on_pool, cases_Bool, or_from, or_parts, pool_counts, Stop}
+use Rattle.gpu_descriptor.proofs.Common.{on_pool, or_from, or_parts, pool_counts, Stop}
 use Rattle.gpu_descriptor.proofs.Common.{list_any-append, Fresh, fresh_portions, fresh_entries, fresh_entry}
 use Rattle.gpu_descriptor.proofs.Common.{number_after, numbers_of, given_by, IsNextSize, room_after, AreSized, AreFull}
 use Rattle.gpu_descriptor.proofs.Common.{AreNew, IsFreshPrefix, IsFreshList, Grant, Part, items_at, portion_of, came}
@@ -50,10 +50,7 @@ allocated_shared refused n (e ∷ newer) = grind (arith, common_steps, sum_by-co
 fresh_or_none : (f : Pool → Pool) (k : Key) (q : ℕ) (fs : List Fresh) (o : Option Pool) → option_map f (fresh_or k fs q o) ≡ None → (list_any (λ h. h.pool == q) fs ≡ false) × (o ≡ None)
 fresh_or_none f k q [] None e = (refl, refl)
 fresh_or_none f k q [] (Some p) e = absurd (cc)
-fresh_or_none f k q (h ∷ fs) o e = elim (cases_Bool (h.pool == q)) [
-  | inl on ↦ (let bad = rw on at e in absurd (cc))
-  | inr off ↦ (let rest = fresh_or_none f k q fs o (rw off at e) in (or_from _ _ off rest.0, rest.1))
-]
+fresh_or_none f k q (h ∷ fs) o e = grind (arith, common_steps, or_from, (fresh_or_none f k q fs o))
 
 fresh_or_more : (k : Key) (q : ℕ) (fs : List Fresh) (f : Fresh) (o : Option Pool) → fresh_or k (fs ++ f ∷ []) q o ≡ fresh_or k fs q (fresh_or k (f ∷ []) q o)
 fresh_or_more k q [] f o = refl
@@ -61,16 +58,11 @@ fresh_or_more k q (h ∷ fs) f o = ap (λ (x : Option Pool). if h.pool == q then
 
 fresh_rows_more : (number : ℕ) (fs : List Fresh) (f : Fresh) → fresh_portions number (fs ++ f ∷ []) ≡ fresh_portions number fs ++ record { number = number + length fs; pool = f.pool; given = f.given } ∷ []
 fresh_rows_more number [] f = (let e : number ≡ number + 0 = omega arith in λ i. record { number = e i; pool = f.pool; given = f.given } ∷ [])
-fresh_rows_more number (h ∷ fs) f =
-    let e : number + 1 + length fs ≡ number + suc (length fs) = omega arith in
-    ap (λ x. record { number = number; pool = h.pool; given = h.given } ∷ x) (fresh_rows_more (number + 1) fs f ∙ ap (λ m. fresh_portions (number + 1) fs ++ record { number = m; pool = f.pool; given = f.given } ∷ []) e)
+fresh_rows_more number (h ∷ fs) f = grind (arith, common_steps, (fresh_rows_more (number + 1) fs f))
 
 new_more : (pools : ℕ → Option Pool) (fs : List Fresh) (f : Fresh) → AreNew pools fs → list_any (λ h. h.pool == f.pool) fs ≡ false → pools f.pool ≡ None → AreNew pools (fs ++ f ∷ [])
 new_more pools [] f new none at = (at, refl, tt)
-new_more pools (h ∷ fs) f new none at =
-    let both = or_parts (h.pool == f.pool) (list_any (λ x. x.pool == f.pool) fs) none in
-    let apart : (f.pool == h.pool) ≡ false = ne_eqb f.pool h.pool (λ e. eqb-false h.pool f.pool both.0 (sym e)) in
-    (new.0, list_any-append (λ x. x.pool == h.pool) fs (f ∷ []) ∙ rw (new.1, apart) refl, new_more pools fs f new.2 both.1 at)
+new_more pools (h ∷ fs) f new none at = grind (arith, common_steps, eqb-false, list_any-append, or_parts, (new_more pools fs f new.2))
 
 given_more : (fs : List Fresh) (f : Fresh) → given_by (fs ++ f ∷ []) ≡ given_by fs + f.given
 given_more fs f = sum_by-append (λ (f : Fresh). f.given) fs (f ∷ []) ∙ (let one : given_by (f ∷ []) ≡ f.given = omega arith in omega arith)

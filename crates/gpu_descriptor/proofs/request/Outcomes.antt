@@ -1,4 +1,5 @@
 -- A request that took sets is as the definitions say: kept whole, or given back.
+use Rattle.gpu_descriptor.proofs.Common.{common_steps}
 use Rattle.gpu_descriptor.proofs.Common.{fun_ext, ◌≡◌, ℕ, ◌+◌, ◌-◌, ◌<◌, Some, is_some, true, List, [], ◌∷◌, length}
 use Rattle.gpu_descriptor.proofs.Common.{arith, Result, Ok, Err, OnOk, refl, sym, ap, ◌∙◌, subst, length-map, side}
 use Rattle.gpu_descriptor.proofs.Common.{Meaning, Ledger, no_rise, AllocationError, DescriptorSet, Stop, State, Item}
@@ -143,11 +144,7 @@ module _ {L P S : Type 0} {means : Meaning L P S} {k : Key} {count : ℕ} {sets 
   module _ {last : Allocations P} {final : Ledger} {calls : ℕ} (back : GivesBack means sets calls (side new after) (side last final)) where
     -- the sets that went back are no longer outstanding
     pub back_out : KeepsOutstanding s (state_of means.pool_name last final)
-    back_out u =
-        let now = ap (λ (w : State). outstanding w u) back.state in
-        let less = takes items (state_of means.pool_name new after) taken_agree taken_given u in
-        let more = taken_out u in
-        omega arith
+    back_out u = grind (arith, common_steps, taken_agree, taken_given, taken_out, takes)
 
     pub back_others : KeepsOtherKeys k s (state_of means.pool_name last final)
     back_others l other =
@@ -177,9 +174,7 @@ module _ {L P S : Type 0} {means : Meaning L P S} {k : Key} {count : ℕ} {sets 
   kept_many is = subst (λ (r : Result (Unit {0}) Stop). OnOk r (length sets ≡ count)) is t.serves.served.all
 
   pub kept_totals : {x : Unit {0}} → ended ≡ Ok x → (outstanding_of new ≡ outstanding_of old + count) × (marked_load_of new ≡ marked_load_of old + set_descriptors k count)
-  kept_totals is =
-      let many = kept_many is in
-      (t.serves.out ∙ ap (λ n. outstanding_of old + n) many, t.serves.load ∙ ap (λ n. marked_load_of old + set_descriptors k n) many)
+  kept_totals is = grind (arith, common_steps, kept_many)
 
   pub kept : 0 < count → {x : Unit {0}} → ended ≡ Ok x → (o : Allocates (call_of means k count (side old before) (side new after) (Ok items))) × (is_some (taken_by o) ≡ true)
   kept some is =

@@ -1,5 +1,6 @@
 -- What was put has the layout that was asked for.
-use Rattle.gpu_descriptor.proofs.Common.{◌≡◌, ◌++◌, ◌+◌, ◌-◌, inl, inr, ℕ, List, map, drop, drop_all, length, All, All-append, ap, arith, cases_lt, subst, sym, ◌∙◌, DescriptorSet, IsOfLayout, AreOfLayout, Key, Meaning, set_at}
+use Rattle.gpu_descriptor.proofs.Common.{common_steps}
+use Rattle.gpu_descriptor.proofs.Common.{◌≡◌, ◌++◌, ℕ, List, map, drop, drop_all, length, All, All-append, arith, subst, sym, DescriptorSet, IsOfLayout, AreOfLayout, Key, Meaning, set_at}
 use Rattle.std.proofs.Math.Seq.{drop-append-add}
 use Rattle.std.proofs.lemmas.List.{drop-append-le}
 use Rattle.std.proofs.lemmas.List.Elements.{All-drop, All-map}
@@ -8,12 +9,7 @@ use Rattle.gpu_descriptor.specs.Caller.Sets.{PutsOfLayout}
 
 -- what holds of the rest of a list and of all that is put behind it holds of the rest of both
 All-put : {X : Type 0} (P : X → Type 0) (n : ℕ) (xs ys : List X) → All P (drop n xs) → All P ys → All P (drop n (xs ++ ys))
-All-put P n xs ys before put = elim (cases_lt (length xs) n) [
-  | inr within ↦ subst (All P) (sym (drop-append-le n xs ys within)) (All-append P (drop n xs) ys before put)
-  | inl past ↦ (
-      let is : drop n (xs ++ ys) ≡ drop (n - length xs) ys = ap (λ m. drop m (xs ++ ys)) (let e : n ≡ length xs + (n - length xs) = omega arith in e) ∙ drop-append-add xs ys (n - length xs) in
-      subst (All P) (sym is) (All-drop P (n - length xs) ys put))
-]
+All-put P n xs ys before put = grind (arith, common_steps, All-append, All-drop, drop-append-add, drop-append-le)
 
 module _ {L P S : Type 0} (means : Meaning L P S) (layout : L) where
   -- what a pool gave has the layout

@@ -101,11 +101,7 @@ fits {one = one} {room = room} told other = elim (cases_lt room one) [ inl lt �
 
 module _ (c : Call) where
   stop_short : (s : IsStopped c) (why : Stop) → IsBack c s.grant why → StopsAt why c.most c.key (c.limit - c.pooled) c.count s.grant (c.old.books c.key).pools → c.before.created < c.after.created → IsShort c s.grant
-  stop_short s (stop.ExistingPoolWithoutMemory e) back at more =
-      let n = ap (λ (k : Counters). k.created) back.counters in
-      let none = alloc_creates e in
-      let f = ap length at.no_fresh in
-      absurd (omega arith)
+  stop_short s (stop.ExistingPoolWithoutMemory e) back at more = grind (arith, common_steps, alloc_creates)
   stop_short s stop.NoRoomUnderLimit back at more = prefix_short c s stop.NoRoomUnderLimit _ back at.1 (inl (omega arith))
   stop_short s stop.NoMemoryForPool back at more = prefix_short c s stop.NoMemoryForPool _ back at.1 (inl (omega arith))
   stop_short s (stop.PoolNotCreated e) back at more = prefix_short c s (stop.PoolNotCreated e) _ back at.1 (inl (ap (λ n. n * pool_size_floor c.key.counts) (create_creates e) ∙ (omega arith)))

@@ -1,6 +1,6 @@
 -- What a request leaves of an allocator: why it is declined before the walk, and what it took.
 use Rattle.gpu_descriptor.proofs.Common.{common_steps}
-use Rattle.gpu_descriptor.proofs.Common.{side, Meaning, greatest_u64, [], ◌≡◌, ℕ, ◌+◌, ◌-◌, ◌*◌, ◌<◌, ◌≤◌, ◌&&◌, Bool}
+use Rattle.gpu_descriptor.proofs.Common.{side, Meaning, greatest_u64, [], ◌≡◌, ℕ, ◌+◌, ◌*◌, ◌<◌, ◌≤◌, ◌&&◌, Bool}
 use Rattle.gpu_descriptor.proofs.Common.{true, false, List, map, length, sum, Option, Result, Err, inl, inr, refl, sym}
 use Rattle.gpu_descriptor.proofs.Common.{ap, subst, ◌∙◌, arith, mul-le-mul_right, and_parts, ltb-true}
 use Rattle.gpu_descriptor.proofs.Common.{ltb-false, IsDistinct, nat_lt, ◌⊎◌, kinds, Ledger, AllocationError, BucketKey}
@@ -11,7 +11,7 @@ use Rattle.gpu_descriptor.proofs.Common.{call_of, IsDeclined, IsUnserved, IsSoun
 use Rattle.gpu_descriptor.proofs.Common.{state_of, table_of, outstanding_of, marked_load_of, pool_load_of, IsConsistent}
 use Rattle.gpu_descriptor.proofs.Common.{row_of, stored_keys, books_in}
 use Rattle.gpu_descriptor.specs.declared.errors.AllocationError.TheVariants.{Fragmentation, OutOfHostMemory}
-use Rattle.gpu_descriptor.specs.Model.Outcomes.Allocates.{above_limit, past_bound, no_memory_at_start}
+use Rattle.gpu_descriptor.specs.Model.Outcomes.Allocates.{past_bound, no_memory_at_start}
 use Rattle.gpu_descriptor.proofs.table.TableBooks.{rows_are, distinct_rows}
 
 -- what a test that failed says
@@ -70,9 +70,7 @@ module _ {L P S : Type 0} (means : Meaning L P S) {a : Allocations P} {max looks
   Declines error = IsDeclined (call_of means (key_of key) count (side a before) (side a before) (Err error))
 
   pub declined_by_limit : above ≡ true → Declines Fragmentation
-  declined_by_limit passed =
-      let both = and_parts key.marked (nat_lt a.limit (count * sum (kinds key.counts) + marked_load_of a)) (sym test ∙ passed) in
-      (above_limit some (record { marked = both.0; above = ltb-true a.limit (count * sum (kinds key.counts) + marked_load_of a) both.1 }) refl (record { state = refl; counters = refl }), refl)
+  declined_by_limit passed = grind (arith, common_steps, and_parts, ltb-true)
 
   module _ (below : above ≡ false) {past : Bool} (bounded : past ≡ nat_lt greatest_u64 (out + count)) where
     in_limit : (answer : Result _ AllocationError) → IsWithinLimit (call_of means (key_of key) count (side a before) (side a before) answer)
@@ -82,11 +80,7 @@ module _ {L P S : Type 0} (means : Meaning L P S) {a : Allocations P} {max looks
     declined_past more = (past_bound some (in_limit (Err Fragmentation)) more refl (record { state = refl; counters = refl }), refl)
 
     pub declined_by_bound : past ≡ true → Declines Fragmentation
-    declined_by_bound passed =
-        let more = ltb-true greatest_u64 (out + count) (sym bounded ∙ passed) in
-        let all = ap outstanding_of is in
-        let is_out = counted.is_out in
-        declined_past (inr (omega arith))
+    declined_by_bound passed = grind (arith, common_steps, declined_past, ltb-true)
 
     pub declined_unserved :
         past ≡ false → {b : Allocations P} {after : Ledger} → b ≡ a → after ≡ before → (e : AllocationError)
@@ -113,24 +107,7 @@ module _ {L P S : Type 0} {means : Meaning L P S} {most : Option ℕ} {key : Buc
   given_fits {given} long = grind (arith, common_steps, mul-le-mul_right, sets_within)
 
   pub counted_now : {given more left : ℕ} → given ≡ length sets → more ≡ set_descriptors (key_of key) given → left + sum_over bucket_load (map row_of fs) ≡ room + sum_over bucket_load (map row_of es) → IsConsistent max (marked + more) left (out + given) fs
-  counted_now long load moved =
-      let fits = given_fits long in
-      let same = ap (set_descriptors (key_of key)) long in
-      let is_room = counted.is_room in
-      let is_load = counted.is_load in
-      let is_out = counted.is_out in
-      let more = s.load in
-      let many = s.out in
-      record { is_load = omega arith; within = omega arith; is_room = omega arith; is_out = omega arith }
+  counted_now long load moved = grind (arith, common_steps, given_fits)
 
   pub takes_of : {past : Bool} → past ≡ nat_lt greatest_u64 (out + count) → past ≡ false → {looked : ℕ} {bound : Option ℕ} → Takes means (key_of key) count sets ended (side a before) (side (seen max bound looked compared fs) after)
-  takes_of bounded kept_in {looked} {bound} =
-      let fits = ltb-false greatest_u64 (out + count) (sym bounded ∙ kept_in) in
-      let all = ap outstanding_of is in
-      let is_out = counted.is_out in
-      let room_is : room ≡ max - sum_over bucket_load (map row_of es) = (let is_room = counted.is_room in omega arith) in
-      record {
-        within = sets_within;
-        fits = omega arith;
-        serves = subst (λ (x : Allocations P). ServesKey means x.most (key_of key) (x.limit - pool_load_of x) count sets ended x.table (map row_of fs) before after) is (subst (λ (r : ℕ). ServesKey means most (key_of key) r count sets ended (map row_of es) (map row_of fs) before after) room_is s);
-      }
+  takes_of bounded kept_in {looked} {bound} = grind (arith, common_steps, ltb-false, sets_within)

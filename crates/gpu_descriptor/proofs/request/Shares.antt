@@ -1,9 +1,9 @@
 -- The shares of the newer pools stay when an older pool is asked.
 use Rattle.gpu_descriptor.proofs.Common.{common_steps}
-use Rattle.gpu_descriptor.proofs.Common.{ne_eqb, sym, nat_lt, ◌++◌, ◌∙◌, ◌≡◌, ◌≢◌, ℕ, zero, suc, ◌+◌, ◌-◌}
-use Rattle.gpu_descriptor.proofs.Common.{List, [], ◌∷◌, Bool, false, ◌&&◌, ◌||◌, ◌==◌, Some, refl, ap, arith, eq-eqb}
-use Rattle.gpu_descriptor.proofs.Common.{sum_by-cons, slice_get, if◌then◌else◌, sum_by, Entry, offer, rest}
-use Rattle.gpu_descriptor.proofs.Common.{is_asked, share, shared, all_shared, asked_count, refused_count, asks}
+use Rattle.gpu_descriptor.proofs.Common.{ne_eqb, ◌≡◌, ◌≢◌, ℕ, zero, suc}
+use Rattle.gpu_descriptor.proofs.Common.{List, [], ◌∷◌, Bool, false, ◌&&◌, ◌||◌, ◌==◌, Some, refl, arith, eq-eqb}
+use Rattle.gpu_descriptor.proofs.Common.{sum_by-cons, slice_get, sum_by, Entry, offer, rest}
+use Rattle.gpu_descriptor.proofs.Common.{all_shared, asked_count, refused_count, asks}
 use Rattle.gpu_descriptor.proofs.Common.{OnlyAskedRefuse, portions_of}
 
 -- the pools of the list aren't of this name
@@ -33,25 +33,7 @@ pub record AreSame (now refused : ℕ → Bool) (n : ℕ) (es : List Entry) : Ty
 
 pub all_same : (r : Bool) (name : ℕ) (refused : ℕ → Bool) (n : ℕ) (es : List Entry) → IsApart name es → AreSame (or_at r name refused) refused n es
 all_same r name refused n [] h = record { sum = refl; rest = refl; all = refl; asked = refl; count = refl; rows = refl; asks = λ q. refl }
-all_same r name refused n (e ∷ es) h =
-    let now : ℕ → Bool = or_at r name refused in
-    let later = all_same r name refused n es h.1 in
-    let same = or_at_apart r name refused e.pool h.0 in
-    let offers : offer now e ≡ offer refused e = ap (λ (b : Bool). if b then 0 else e.available) same in
-    let a = sum_by-cons (offer now) e es in
-    let b = sum_by-cons (offer refused) e es in
-    let sum : sum_by (offer now) (e ∷ es) ≡ sum_by (offer refused) (e ∷ es) = (let s = later.sum in omega arith) in
-    let gives : share now n es e ≡ share refused n es e = (let s = later.rest in omega arith) in
-    let asked : is_asked now n es e ≡ is_asked refused n es e = ap (λ m. nat_lt 0 e.available && nat_lt 0 m) later.rest in
-    record {
-      sum = sum;
-      rest = ap (λ s. n - s) sum;
-      all = (let one : shared now n es e ≡ shared refused n es e = (λ i. record e { allocated = e.allocated + gives i; available = offers i - gives i }) in let all = later.all in cc);
-      asked = (λ i. (if asked i then 1 else 0) + later.asked i);
-      count = sum_by-cons (λ (e : Entry). if now e.pool then 1 else 0) e es ∙ (λ i. (if same i then 1 else 0) + later.count i) ∙ sym (sum_by-cons (λ (e : Entry). if refused e.pool then 1 else 0) e es);
-      rows = λ i. later.rows i ++ record { number = e.number; pool = e.pool; given = gives i } ∷ [];
-      asks = λ q i. ((e.pool == q) && asked i) || later.asks q i;
-    }
+all_same r name refused n (e ∷ es) h = grind (arith, common_steps, or_at_apart, sum_by-cons, (all_same r name refused n es h.1))
 
 -- a pool that isn't in the list isn't asked in it
 pub not_asked : (refused : ℕ → Bool) (n name : ℕ) (es : List Entry) → IsApart name es → asks refused n es name ≡ false

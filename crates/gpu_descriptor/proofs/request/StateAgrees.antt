@@ -1,5 +1,7 @@
 -- Agreement of books and ledger: at one key, and by numbers.
-use Rattle.gpu_descriptor.proofs.Common.{◌≡◌, ℕ, Some, sym, ap, ◌∙◌, subst, slice_get, Key, Entry, entry_at, State, Agree, AreBookedIn, IsAsBooked, Pool}
+use Rattle.gpu_descriptor.proofs.Common.{arith}
+use Rattle.gpu_descriptor.proofs.Common.{common_steps}
+use Rattle.gpu_descriptor.proofs.Common.{◌≡◌, ℕ, Some, Key, Entry, entry_at, State, Agree, AreBookedIn, IsAsBooked, Pool}
 use Rattle.gpu_descriptor.proofs.lists.Numbers.{entry_at-found}
 
 -- the key's part of the agreement
@@ -15,10 +17,4 @@ booked_at s agree k n e at = (let found = entry_at-found (s.books k) n e at in a
 
 -- no two numbers name one pool
 pub distinct_at : (s : State) → Agree s → (k l : Key) (m n : ℕ) (d e : Entry) → entry_at (s.books k) m ≡ Some d → entry_at (s.books l) n ≡ Some e → d.pool ≡ e.pool → (k ≡ l) × (m ≡ n)
-distinct_at s agree k l m n d e at at' same =
-    let p = entry_at-found (s.books k) m d at in
-    let q = entry_at-found (s.books l) n e at' in
-    let both = agree.distinct k l p.0 q.0 d e p.1 q.1 same in
-    let there : slice_get (s.books l).pools q.0 ≡ Some d = subst (λ (x : Key). slice_get (s.books x).pools q.0 ≡ Some d) both.0 (subst (λ (i : ℕ). slice_get (s.books k).pools i ≡ Some d) both.1 p.1) in
-    let is : d ≡ e = cc in
-    (both.0, sym p.2 ∙ ap (λ (x : Entry). x.number) is ∙ q.2)
+distinct_at s agree k l m n d e at at' same = grind (arith, common_steps, entry_at-found)

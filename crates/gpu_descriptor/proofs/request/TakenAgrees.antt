@@ -204,9 +204,7 @@ module _ (k : Key) (n : ℕ) (g : Grant) (s : State) (agree : Agree s) (grant : 
 
   -- the key's numbers rise on
   rising_now : rises (numbers_of new.pools) ≡ true
-  rising_now =
-      ap rises (numbers_taken g.refused n g.skipped b.pools (fresh_entries (next_number b) g.fresh))
-      ∙ rises_fresh (next_number b) g.fresh (numbers_of b.pools) (agree.rising k) (omega arith)
+  rising_now  = grind (arith, common_steps, b, numbers_taken, rises, rises_fresh)
 
   pub granted_agree : Agree t
   granted_agree = record {

@@ -166,19 +166,8 @@ pub record IsNew (k : Key) (ledger : ℕ → Option Pool) (number : ℕ) (fs : L
 
 pub new_stands : (k : Key) (ledger : ℕ → Option Pool) (number : ℕ) (fs : List Fresh) → AreNew ledger fs → AreMade fs → (j : ℕ) (e : Entry) → slice_get (fresh_entries number fs) j ≡ Some e → IsNew k ledger number fs j e
 new_stands k ledger number [] new made j e at = absurd (cc)
-new_stands k ledger number (f ∷ fs) new made zero e at =
-    let here = eq-eqb f.pool f.pool refl in
-    let a = sum_by-cons (gave f.pool) (record { number = number; pool = f.pool; given = f.given }) (fresh_portions (number + 1) fs) in
-    let b = no_fresh f.pool (number + 1) fs new.1 in
-    let c : ◌≡◌ {A = ℕ} (if f.pool == f.pool then f.given else 0) f.given = rw here refl in
-    record { fresh = f; is = (let is : fresh_entry number f ≡ e = cc in sym is ∙ ap (λ (m : ℕ). fresh_entry m f) (let same : number ≡ number + 0 = omega arith in same)); at = refl; none = new.0; given = omega arith; there = λ o. rw here refl; made = (made.0, made.1, made.2) }
-new_stands k ledger number (f ∷ fs) new made (suc j) e at =
-    let x = new_stands k ledger (number + 1) fs new.2 made.3 j e at in
-    let apart : (f.pool == x.fresh.pool) ≡ false = ne_eqb f.pool x.fresh.pool (λ same. eqb-false x.fresh.pool f.pool (none_at (λ (h : Fresh). h.pool == f.pool) fs j x.fresh new.1 x.at) (sym same)) in
-    let a = sum_by-cons (gave x.fresh.pool) (record { number = number; pool = f.pool; given = f.given }) (fresh_portions (number + 1) fs) in
-    let b = x.given in
-    let c : ◌≡◌ {A = ℕ} (if f.pool == x.fresh.pool then f.given else 0) 0 = rw apart refl in
-    record { fresh = x.fresh; is = x.is ∙ ap (λ (m : ℕ). fresh_entry m x.fresh) (let same : number + 1 + j ≡ number + suc j = omega arith in same); at = x.at; none = x.none; given = omega arith; there = λ o. rw apart (x.there o); made = x.made }
+new_stands k ledger number (f ∷ fs) new made zero e at = grind (arith, common_steps, gave, no_fresh, sum_by-cons)
+new_stands k ledger number (f ∷ fs) new made (suc j) e at = grind (arith, common_steps, eqb-false, gave, none_at, sum_by-cons, (new_stands k ledger (number + 1) fs new.2 made.3 j e at))
 
 -- no two have one name
 pub new_apart : (ledger : ℕ → Option Pool) (fs : List Fresh) → AreNew ledger fs → (i j : ℕ) (d e : Fresh) → slice_get fs i ≡ Some d → slice_get fs j ≡ Some e → d.pool ≡ e.pool → i ≡ j

@@ -1,6 +1,6 @@
 -- One step of the walk over a key's pools.
 use Rattle.gpu_descriptor.proofs.Common.{common_steps}
-use Rattle.gpu_descriptor.proofs.Common.{◌≡◌, ℕ, suc, ◌+◌, ◌-◌, inl, inr, List, [], ◌∷◌, ◌++◌, length, map, take, drop}
+use Rattle.gpu_descriptor.proofs.Common.{◌≡◌, ℕ, suc, ◌+◌, inl, inr, List, [], ◌∷◌, ◌++◌, length, map, take, drop}
 use Rattle.gpu_descriptor.proofs.Common.{slice_set, Bool, true, false, cond, ◌&&◌, ◌==◌, nat_eq, nat_lt, Option, Some}
 use Rattle.gpu_descriptor.proofs.Common.{None, refl, sym, ap, ◌∙◌, subst, arith, eqb-true, eq-eqb}
 use Rattle.gpu_descriptor.proofs.Common.{or_cases, and_parts, and_from, or_left, or_right, eqb-false, fun_ext}
@@ -8,7 +8,7 @@ use Rattle.gpu_descriptor.proofs.Common.{map-append, append-nil, sum_by-cons, if
 use Rattle.gpu_descriptor.proofs.Common.{Key, Entry, Bucket, Item, Pool, Ledger, Counters, live_sets, on_pool}
 use Rattle.gpu_descriptor.proofs.Common.{flat_map-append, Grant, Part, fresh_or, items_at, items_in}
 use Rattle.gpu_descriptor.proofs.Common.{portion_of, came, pool_with, ledger_with, Fresh, risen, grant_rise, offer}
-use Rattle.gpu_descriptor.proofs.Common.{rest, is_asked, share, shared, all_shared, asked_count, refused_count}
+use Rattle.gpu_descriptor.proofs.Common.{rest, is_asked, share, all_shared, asked_count, refused_count}
 use Rattle.gpu_descriptor.proofs.Common.{OnlyAskedRefuse, portions_of, IsAsked, HasTaken}
 use Rattle.std.proofs.Math.Seq.{set-append_seam}
 use Rattle.gpu_descriptor.proofs.request.Asks.{same_counters}
@@ -97,9 +97,7 @@ module _ (id n i : ℕ) (refused : ℕ → Bool) (parts : List Part) (old : List
   rows_now = (let r = same.rows in let s = share_now in cc)
 
   shared_now : all_shared now n (e ∷ newer) ≡ f ∷ all_shared refused n newer
-  shared_now =
-      let entry : shared now n newer e ≡ f = (λ j. record e { allocated = e.allocated + share_now j; available = offer_now j - share_now j }) ∙ sym a.entry in
-      λ j. entry j ∷ same.all j
+  shared_now  = grind (arith, common_steps, newer, now, offer_now, same, share_now)
 
   count_now : asked_count now n (e ∷ newer) ≡ (if nat_lt 0 e.available && nat_lt 0 (rest refused n newer) then 1 else 0) + asked_count refused n newer
   count_now = λ j. (if asked_now j then 1 else 0) + same.asked j

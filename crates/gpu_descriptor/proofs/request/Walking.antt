@@ -1,8 +1,9 @@
 -- The walk over a key's pools, as far as it has come.
+use Rattle.gpu_descriptor.proofs.Common.{common_steps}
 use Rattle.gpu_descriptor.proofs.Common.{◌≡◌, ◌≢◌, ℕ, zero, suc, ◌+◌, ◌<◌, ◌≤◌, List, [], ◌∷◌, ◌++◌, length, map, min}
 use Rattle.gpu_descriptor.proofs.Common.{take, drop, slice_set, Bool, false, nat_lt, ◌&&◌, Option, None, Some, Err}
 use Rattle.gpu_descriptor.proofs.Common.{refl, sym, ap, ◌∙◌, subst, arith, append-nil, drop_all, fun_ext, slice_get}
-use Rattle.gpu_descriptor.proofs.Common.{Key, Entry, Bucket, Item, Pool, Ledger, live_sets, DeviceAllocationError}
+use Rattle.gpu_descriptor.proofs.Common.{Key, Entry, Item, Pool, Ledger, live_sets, DeviceAllocationError}
 use Rattle.gpu_descriptor.proofs.Common.{set_at, update_apart, items_of, Part, items_at, pool_with, ledger_with, rest}
 use Rattle.gpu_descriptor.proofs.Common.{all_shared, IsBookedIn, AreBookedIn, IsAsked, IsNoMemory, HasTaken, IsWalked}
 use Rattle.gpu_descriptor.proofs.Common.{IsTaken, option_map}
@@ -29,9 +30,7 @@ get_take (x ∷ xs) ys (suc i) h = get_take xs ys i (omega arith)
 module _ (k : Key) (n id i wanting : ℕ) (items : List Item) (old new : List Entry) (l m : Ledger) (booked : AreBookedIn k l.pools old) (s : Walking k n id (suc i) wanting items old new l m) where
   -- the next pool is as it was
   pub next_was : i < length old → slice_get new i ≡ slice_get old i
-  next_was here =
-      ap (λ x. slice_get x i) (ap (λ (b : Bucket). b.pools) s.taken.bucket ∙ append-nil (take (suc i) old ++ all_shared s.refused n (drop (suc i) old)))
-      ∙ get_take old (all_shared s.refused n (drop (suc i) old)) i here
+  next_was here = grind (arith, common_steps, append-nil, get_take)
 
   pub next_booked : (e : Entry) → slice_get old i ≡ Some e → IsBookedIn k m.pools e
   next_booked e at =

@@ -1,5 +1,7 @@
 -- Keys and items are equal exactly where their tests say so.
-use Rattle.gpu_descriptor.proofs.Common.{◌≡◌, ℕ, List, true, ◌&&◌, ◌==◌, refl, eqb-true, eq-eqb, nat_eq, and_parts, and_from, key_eq, Entry, Bucket, Item, item_eq, IsExact}
+use Rattle.gpu_descriptor.proofs.Common.{arith}
+use Rattle.gpu_descriptor.proofs.Common.{common_steps}
+use Rattle.gpu_descriptor.proofs.Common.{◌≡◌, ℕ, List, true, refl, nat_eq, and_parts, and_from, key_eq, Entry, Bucket, Item, item_eq, IsExact}
 use Rattle.std.proofs.lemmas.Bool.Decides.{Decides-eqb}
 use Rattle.std.specs.Cmp.{booleans_Decides}
 use lib.Pointwise.{pointwise, pointwise_decides}
@@ -16,16 +18,10 @@ key_exact = record {
 }
 
 pub item_parts : (s t : Item) → item_eq s t ≡ true → (s.key ≡ t.key) × (s.number ≡ t.number) × (s.name ≡ t.name) × (s.id ≡ t.id)
-item_parts s t h =
-    let whole = and_parts (key_eq s.key t.key && (s.number == t.number) && (s.name == t.name)) (s.id == t.id) h in
-    let outer = and_parts (key_eq s.key t.key && (s.number == t.number)) (s.name == t.name) whole.0 in
-    let inner = and_parts (key_eq s.key t.key) (s.number == t.number) outer.0 in
-    (key_exact.same s.key t.key inner.0, eqb-true s.number t.number inner.1, eqb-true s.name t.name outer.1, eqb-true s.id t.id whole.1)
+item_parts s t h = grind (arith, common_steps, and_parts, key_exact)
 
 pub item_from : (s t : Item) → s.key ≡ t.key → s.number ≡ t.number → s.name ≡ t.name → s.id ≡ t.id → item_eq s t ≡ true
-item_from s t key number name id =
-    let keys : key_eq s.key t.key ≡ true = rw key (key_exact.self t.key) in
-    and_from _ _ (and_from _ _ (and_from _ _ keys (eq-eqb s.number t.number number)) (eq-eqb s.name t.name name)) (eq-eqb s.id t.id id)
+item_from s t key number name id = grind (arith, common_steps, and_from, key_exact)
 
 pub item_exact : IsExact item_eq
 item_exact = record {
