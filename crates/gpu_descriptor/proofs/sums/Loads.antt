@@ -114,15 +114,22 @@ module _ {P : Type 0} {k : Key} {es : List (BucketKey × DescriptorBucket P)} {v
   pub pools_present : stored_load k v.pools.items ≤ sum_over bucket_load (map row_of es)
   pools_present =
       let a = sum_set (stored_load_in {P = P}) row.test es v v row.at in
-      let is : k ≡ key_of a.0 = key_exact.same k (key_of a.0) (sym (row.same a.0) ∙ a.1) in
-      grind (arith, common_steps, rows_pool_load)
+      let here = ap (λ (l : Key). stored_load l v.pools.items) (key_exact.same k (key_of a.0) (sym (row.same a.0) ∙ a.1)) in
+      let all = rows_pool_load es in
+      let le = a.2 in
+      omega arith
 
 module _ {P : Type 0} {k : Key} {es fs : List (BucketKey × DescriptorBucket P)} {v w : DescriptorBucket P} (r : IsWritten k es fs v w) where
   pub pools_set : (left room : ℕ) → left + stored_load k w.pools.items ≡ room + stored_load k v.pools.items → left + sum_over bucket_load (map row_of fs) ≡ room + sum_over bucket_load (map row_of es)
   pools_set left room moved =
       let a = sum_set (stored_load_in {P = P}) r.row.test es v w r.row.at in
-      let is : k ≡ key_of a.0 = key_exact.same k (key_of a.0) (sym (r.row.same a.0) ∙ a.1) in
-      grind (arith, common_steps, rows_pool_load)
+      let is = key_exact.same k (key_of a.0) (sym (r.row.same a.0) ∙ a.1) in
+      let was = ap (λ (l : Key). stored_load l v.pools.items) is in
+      let now = ap (λ (l : Key). stored_load l w.pools.items) is in
+      let all = rows_pool_load es in
+      let after = ap (λ (l : List (BucketKey × DescriptorBucket P)). sum_over bucket_load (map row_of l)) r.wrote ∙ rows_pool_load (set_value r.row.test es w) in
+      let sums = a.3 in
+      omega arith
 
   taken_out : (n : ℕ) → w.total + n ≡ v.total → sum_over sets_out (map row_of (set_value r.row.test es w)) + n ≡ sum_over sets_out (map row_of es)
   taken_out n total = (let moved = (sum_set (λ (b : BucketKey × DescriptorBucket P). b.1.total) r.row.test es v w r.row.at).3 in let was = rows_out es in let is = rows_out (set_value r.row.test es w) in omega arith)
@@ -130,8 +137,13 @@ module _ {P : Type 0} {k : Key} {es fs : List (BucketKey × DescriptorBucket P)}
   taken_load : (n : ℕ) → w.total + n ≡ v.total → sum_over descriptors_out (map row_of (set_value r.row.test es w)) + set_descriptors k n ≡ sum_over descriptors_out (map row_of es)
   taken_load n total =
       let a = sum_set (load_in {P = P}) r.row.test es v w r.row.at in
-      let is : k ≡ key_of a.0 = key_exact.same k (key_of a.0) (sym (r.row.same a.0) ∙ a.1) in
-      grind (arith, common_steps, set_descriptors-add, rows_load)
+      let is = key_exact.same k (key_of a.0) (sym (r.row.same a.0) ∙ a.1) in
+      let was = ap (λ (l : Key). set_descriptors l v.total) (sym is) ∙ ap (set_descriptors k) (sym total) ∙ set_descriptors-add k w.total n in
+      let now = ap (λ (l : Key). set_descriptors l w.total) is in
+      let all = rows_load es in
+      let after = rows_load (set_value r.row.test es w) in
+      let sums = a.3 in
+      omega arith
 
   pub taken : {n : ℕ} → w.total + n ≡ v.total → Taken k n es fs
   taken {n} total = rw r.wrote (record { out = taken_out n total; load = taken_load n total })

@@ -1,7 +1,8 @@
 -- The row at a place of the table is the row of its key.
-use Rattle.gpu_descriptor.proofs.Common.{◌≡◌, ℕ, zero, suc, Bool, false, List, [], ◌∷◌, slice_get, Option, Some, None, refl, ap, ◌∙◌, IsDistinct, AllByRecursion, lookup, set_value, values_of, BucketKey, DescriptorBucket, Key, key_eq, key_of, arith, common_steps, is_of, stored_keys}
+use Rattle.gpu_descriptor.proofs.Common.{◌≡◌, ℕ, zero, suc, Bool, true, false, sym, List, [], ◌∷◌, slice_get, Option, Some, None, refl, ap, ◌∙◌, IsDistinct, AllByRecursion, lookup, set_value, values_of, BucketKey, DescriptorBucket, Key, key_eq, key_of, arith, is_of, stored_keys}
 use Rattle.indexmap.specs.Layout.{set_value_at}
 use Rattle.gpu_descriptor.proofs.table.Exact.{key_exact}
+use Rattle.gpu_descriptor.proofs.table.Tables.{key_eq_symm}
 use Rattle.gpu_descriptor.proofs.sums.Loads.{IsRow, IsWritten}
 
 -- the key and the bucket at a place
@@ -11,23 +12,29 @@ pub record IsAt {P : Type 0} (k : Key) (es : List (BucketKey × DescriptorBucket
   pub is : key_of key ≡ k
 
 module _ {P : Type 0} (k : Key) where
+  is_here : (e : BucketKey × DescriptorBucket P) (es : List (BucketKey × DescriptorBucket P)) (v : DescriptorBucket P) → IsAt k (e ∷ es) zero v → key_of e.0 ≡ k
+  is_here e es v h = (let at : Some e ≡ Some (h.key, v) = h.at in let is : e ≡ (h.key, v) = cc in ap (λ (r : BucketKey × DescriptorBucket P). key_of r.0) is ∙ h.is)
+
+  yes_here : (e : BucketKey × DescriptorBucket P) (es : List (BucketKey × DescriptorBucket P)) (v : DescriptorBucket P) → IsAt k (e ∷ es) zero v → is_of k e.0 ≡ true
+  yes_here e es v h = ap (key_eq k) (is_here e es v h) ∙ key_exact.self k
+
   -- a key that stands further down has another before it
   none_here : (e : BucketKey × DescriptorBucket P) (es : List (BucketKey × DescriptorBucket P)) → AllByRecursion (λ l. key_eq (key_of e.0) l ≡ false) (stored_keys es) → (i : ℕ) (v : DescriptorBucket P) → IsAt k es i v → is_of k e.0 ≡ false
   none_here e [] all i v h = absurd (let at = h.at in let bad : ◌≡◌ {A = Option (BucketKey × DescriptorBucket P)} None (Some (h.key, v)) = at in cc)
-  none_here e (x ∷ es) all zero v h = grind (arith, common_steps)
+  none_here e (x ∷ es) all zero v h = key_eq_symm k (key_of e.0) ∙ ap (key_eq (key_of e.0)) (sym (is_here x es v h)) ∙ all.0
   none_here e (x ∷ es) all (suc i) v h = none_here e es all.1 i v (record { key = h.key; at = h.at; is = h.is })
 
   pub found_at : (es : List (BucketKey × DescriptorBucket P)) → IsDistinct key_eq (stored_keys es) → (i : ℕ) (v : DescriptorBucket P) → IsAt k es i v → lookup (is_of k) es ≡ Some v
   unfolding IsDistinct
   found_at [] d i v h = absurd (let at = h.at in let bad : ◌≡◌ {A = Option (BucketKey × DescriptorBucket P)} None (Some (h.key, v)) = at in cc)
-  found_at (e ∷ es) d zero v h = grind (arith, key_exact)
-  found_at (e ∷ es) d (suc i) v h = grind (arith, none_here, (found_at es d.1 i v))
+  found_at (e ∷ es) d zero v h = (let at : Some e ≡ Some (h.key, v) = h.at in let is : e ≡ (h.key, v) = cc in rw (yes_here e es v h) (ap (λ (r : BucketKey × DescriptorBucket P). Some r.1) is))
+  found_at (e ∷ es) d (suc i) v h = (let r : IsAt k es i v = record { key = h.key; at = h.at; is = h.is } in rw (none_here e es d.0 i v r) (found_at es d.1 i v r))
 
   put_at : (es : List (BucketKey × DescriptorBucket P)) → IsDistinct key_eq (stored_keys es) → (i : ℕ) (v w : DescriptorBucket P) → IsAt k es i v → set_value_at es i w ≡ set_value (is_of k) es w
   unfolding IsDistinct
   put_at [] d i v w h = refl
-  put_at (e ∷ es) d zero v w h = grind (arith, key_exact)
-  put_at (e ∷ es) d (suc i) v w h = grind (arith, none_here, (put_at es d.1 i v w))
+  put_at (e ∷ es) d zero v w h = rw (yes_here e es v h) refl
+  put_at (e ∷ es) d (suc i) v w h = (let r : IsAt k es i v = record { key = h.key; at = h.at; is = h.is } in rw (none_here e es d.0 i v r) (ap (λ (l : List (BucketKey × DescriptorBucket P)). e ∷ l) (put_at es d.1 i v w r)))
 
   -- what a place's key and its bucket say together
   pub is_at : (es : List (BucketKey × DescriptorBucket P)) (i : ℕ) (v : DescriptorBucket P) → slice_get (stored_keys es) i ≡ Some k → slice_get (values_of es) i ≡ Some v → IsAt k es i v
