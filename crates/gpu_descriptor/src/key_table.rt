@@ -1,19 +1,19 @@
 //! The keys of an allocator, each with its pools, and where a key stands. A place is tried before it
 //! is used, so nothing rests on the hint.
 ghost use Rattle.std.specs.Prelude.{◌≡◌, ◌+◌, ◌<◌, ◌^◌, ◌++◌, ℕ, length, IsTrue, MatchOption, None, Some, map};
-ghost use Rattle.std.specs.Prelude.{[], IfErr, IfOk, OnErr, OnOk, slice_get, true};
+ghost use Rattle.std.specs.Prelude.{[], ◌∷◌, IfErr, IfOk, OnErr, OnOk, slice_get, true};
 ghost use Rattle.std.specs.List.{IsDistinct, IsDistinct-prop};
 ghost use Rattle.std.specs.Map.{lookup};
 ghost use Rattle.gpu_descriptor.specs.Caller.Keys.{with_key};
 ghost use Rattle.gpu_descriptor.specs.Caller.SetLists.{appended};
 ghost use Rattle.gpu_descriptor.specs.Caller.Sets.{PutsOfLayout};
 ghost use Rattle.gpu_descriptor.specs.Inner.Buckets.{AreBookedIn};
-ghost use Rattle.gpu_descriptor.specs.Inner.Ids.{is_of, rise_below, stored_ids};
+ghost use Rattle.gpu_descriptor.specs.Inner.Ids.{is_of, stored_ids};
 ghost use Rattle.gpu_descriptor.specs.Inner.KeyOf.{key_of};
 ghost use Rattle.gpu_descriptor.specs.Inner.OpenPools.{CountsLooks};
 ghost use Rattle.gpu_descriptor.specs.Inner.Serves.{ServesRequest};
 ghost use Rattle.gpu_descriptor.specs.Inner.Stored.{books_in, row_of, stored_keys};
-ghost use Rattle.gpu_descriptor.specs.Model.Books.{key_eq, sum_over};
+ghost use Rattle.gpu_descriptor.specs.Model.Books.{key_eq, rises, sum_over};
 ghost use Rattle.gpu_descriptor.specs.Model.Load.{bucket_load, sets_out};
 
 use crate::bucket::DescriptorBucket;
@@ -43,7 +43,7 @@ pub(crate) struct KeyTable<P> {
 
     /// The place of the key that was found last, which is a hint.
     pub(crate) last: usize,
-    ghost rising: { rise_below next_id (stored_ids buckets.entries) ≡ true },
+    ghost rising: { rises (stored_ids buckets.entries ++ next_id ∷ []) ≡ true },
     ghost distinct: { IsDistinct key_eq (stored_keys buckets.entries) } by { IsDistinct-prop key_eq
         (stored_keys buckets.entries) },
 }

@@ -147,6 +147,20 @@ rises_drop xs zero h = h
 rises_drop [] (suc n) h = refl
 rises_drop (x ∷ xs) (suc n) h = rises_drop xs n (and_parts (list_all (nat_lt x) xs) (rises xs) h).1
 
+-- of a list in two parts the first rises
+pub rises_front : (xs ys : List ℕ) → rises (xs ++ ys) ≡ true → rises xs ≡ true
+rises_front [] ys h = refl
+rises_front (x ∷ xs) ys h = grind (arith, common_steps, all_above, all_from, (rises_front xs ys))
+
+-- and those that stay rise still
+all_filter : {A : Type 0} (f : A → ℕ) (stays : A → Bool) (ys : List ℕ) (n : ℕ) (es : List A) → list_all (nat_lt n) (map f es ++ ys) ≡ true → list_all (nat_lt n) (map f (filter stays es) ++ ys) ≡ true
+all_filter f stays ys n [] h = h
+all_filter f stays ys n (e ∷ es) h = grind (arith, (all_filter f stays ys n es))
+
+pub rises_filter : {A : Type 0} (f : A → ℕ) (stays : A → Bool) (ys : List ℕ) (es : List A) → rises (map f es ++ ys) ≡ true → rises (map f (filter stays es) ++ ys) ≡ true
+rises_filter f stays ys [] h = h
+rises_filter f stays ys (e ∷ es) h = grind (arith, all_filter, (rises_filter f stays ys es))
+
 -- ---- pools
 
 module _ {X : Type 0} where
@@ -164,15 +178,6 @@ module _ {X : Type 0} where
   pub numbers_map : (f : EntryOf X → EntryOf X) → ((e : EntryOf X) → (f e).number ≡ e.number) → (es : List (EntryOf X)) → numbers_of (map f es) ≡ numbers_of es
   numbers_map f same [] = refl
   numbers_map f same (e ∷ es) = λ i. same e i ∷ numbers_map f same es i
-
-  -- those of the pools that pass a test
-  all_filter : (p : EntryOf X → Bool) (n : ℕ) (es : List (EntryOf X)) → list_all (nat_lt n) (numbers_of es) ≡ true → list_all (nat_lt n) (numbers_of (filter p es)) ≡ true
-  all_filter p n [] h = refl
-  all_filter p n (e ∷ es) h = grind (arith, (all_filter p n es))
-
-  pub rises_filter : (p : EntryOf X → Bool) (es : List (EntryOf X)) → rises (numbers_of es) ≡ true → rises (numbers_of (filter p es)) ≡ true
-  rises_filter p [] h = refl
-  rises_filter p (e ∷ es) h = grind (arith, all_filter, (rises_filter p es))
 
 find_place : (es : List Entry) (n : ℕ) (e : Entry) → find (λ d. d.number == n) es ≡ Some e → (i : ℕ) × (slice_get es i ≡ Some e) × (e.number ≡ n)
 find_place [] n e h = absurd (let bad : ◌≡◌ {A = Option Entry} None (Some e) = h in cc)

@@ -5,7 +5,7 @@ use Rattle.gpu_descriptor.proofs.Common.{eqb-true, map, nat_eq, lookup, option_m
 use Rattle.gpu_descriptor.proofs.Common.{and_parts, false_from_ne_true, Ledger, count_by_yes, BucketKey, DescriptorSet}
 use Rattle.gpu_descriptor.proofs.Common.{DescriptorBucket, AreOutstanding, Item, State, item_eq, outstanding, Bucket}
 use Rattle.gpu_descriptor.proofs.Common.{Key, entry_at, no_pools, key_of, Allocations, common_steps, item_of, items_of}
-use Rattle.gpu_descriptor.proofs.Common.{state_of, is_of, rise_below, stored_ids, EndsRun, AllPass, bucket_of, row_of}
+use Rattle.gpu_descriptor.proofs.Common.{state_of, is_of, rises, stored_ids, EndsRun, AllPass, bucket_of, row_of}
 use Rattle.std.proofs.iter.Next.{Yields-more}
 use Rattle.gpu_descriptor.specs.Inner.RunSteps.{at_place, lies_at}
 use Rattle.gpu_descriptor.proofs.table.Exact.{item_exact, key_exact}
@@ -53,8 +53,8 @@ module _ {P : Type 0} where
   ]
 
   -- one key has an id
-  pub one_owner : (next : ℕ) (es : List (BucketKey × DescriptorBucket P)) → rise_below next (stored_ids es) ≡ true → (k l : Key) (id : ℕ) → Owns k id es → Owns l id es → l ≡ k
-  one_owner next es rise k l id a b =
+  pub one_owner : (es : List (BucketKey × DescriptorBucket P)) → rises (stored_ids es) ≡ true → (k l : Key) (id : ℕ) → Owns k id es → Owns l id es → l ≡ k
+  one_owner es rise k l id a b =
       let s = stands l es b.bucket b.found in
       grind (arith, common_steps, own_key)
 
@@ -82,14 +82,14 @@ module _ {P S : Type 0} (name : P → ℕ) (set_name : S → ℕ) (a : Allocatio
       let fits = out t in
       owns t (omega arith)
 
-  module _ (next : ℕ) (rise : rise_below next (stored_ids es) ≡ true) (k : Key) (id n : ℕ) (own : Owns k id es) where
+  module _ (rise : rises (stored_ids es) ≡ true) (k : Key) (id n : ℕ) (own : Owns k id es) where
     -- sets with the key's id are of the key
     pub lie_at : (xs : List (DescriptorSet S)) → AreOutstanding (items_of set_name xs) s → AllPass (at_place id n) xs → AllPass (lies_at k n) xs
     lie_at [] out have = tt
     lie_at (x ∷ xs) out have =
         let p = place_parts id n x have.0 in
         let other = first_owns x xs out in
-        let key = one_owner next es rise k x.key.is id own (subst (λ (i : ℕ). Owns x.key.is i es) p.0 other) in
+        let key = one_owner es rise k x.key.is id own (subst (λ (i : ℕ). Owns x.key.is i es) p.0 other) in
         (at_from k n x key p.1, lie_at xs (out_back set_name (x ∷ []) xs (x ∷ xs) s refl out) have.1)
 
     -- a set with another id isn't

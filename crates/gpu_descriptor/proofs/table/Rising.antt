@@ -1,35 +1,17 @@
 -- The ids of a table's keys: they rise, so one place has each, and one key.
-use Rattle.gpu_descriptor.proofs.Common.{◌≡◌, ◌+◌, ◌<◌, ℕ, zero, suc, Bool, true, false, ◌++◌, ◌∷◌, [], List, length}
-use Rattle.gpu_descriptor.proofs.Common.{filter, slice_get, Option, Some, None, inl, inr, refl, sym, ap, subst, ◌∙◌}
+use Rattle.gpu_descriptor.proofs.Common.{◌≡◌, ◌<◌, ℕ, zero, suc, Bool, true, false, ◌∷◌, [], List, length}
+use Rattle.gpu_descriptor.proofs.Common.{slice_get, Option, Some, None, inl, inr, refl, sym, ap, subst, ◌∙◌}
 use Rattle.gpu_descriptor.proofs.Common.{arith, slice_index_or, nat_lt, list_all, IsNonDecreasingBy, IsPartitionPoint}
-use Rattle.gpu_descriptor.proofs.Common.{IsPartitionedBy, lookup, values_of, cases_Bool, cases_lt, and_parts, and_from}
-use Rattle.gpu_descriptor.proofs.Common.{lt-ltb, ltb-true, ltb-false, BucketKey, DescriptorBucket, Key, key_eq, key_of}
-use Rattle.gpu_descriptor.proofs.Common.{common_steps, rise_below, stored_ids}
+use Rattle.gpu_descriptor.proofs.Common.{IsPartitionedBy, lookup, values_of, cases_Bool, cases_lt, and_parts}
+use Rattle.gpu_descriptor.proofs.Common.{ltb-true, ltb-false, BucketKey, DescriptorBucket, Key, key_eq, key_of}
+use Rattle.gpu_descriptor.proofs.Common.{common_steps, rises, stored_ids}
+use Rattle.gpu_descriptor.proofs.lists.Numbers.{all_above, rises_at}
 use Rattle.std.proofs.lemmas.List.Sorted.{IsPartitionedBy-ltb}
 use Rattle.indexmap.specs.Layout.{set_value_at}
 use Rattle.gpu_descriptor.proofs.table.Exact.{key_exact}
 
 pub inside : {A : Type 0} (x y : A) → Some x ≡ Some y → x ≡ y
 inside x y same = cc
-
-record Rises (next i : ℕ) (later : List ℕ) : Type 0 where
-  below : i < next
-  first : list_all (nat_lt i) later ≡ true
-  rest : rise_below next later ≡ true
-
-parts : (next i : ℕ) (later : List ℕ) → rise_below next (i ∷ later) ≡ true → Rises next i later
-parts next i later h = grind arith
-
-all_above : (n : ℕ) (xs : List ℕ) → list_all (nat_lt n) xs ≡ true → (i m : ℕ) → slice_get xs i ≡ Some m → n < m
-all_above n [] h i m at = absurd (let bad : ◌≡◌ {A = Option ℕ} None (Some m) = at in cc)
-all_above n (x ∷ xs) h zero m at = grind arith
-all_above n (x ∷ xs) h (suc i) m at = all_above n xs (and_parts (nat_lt n x) (list_all (nat_lt n) xs) h).1 i m at
-
-pub rises : (next : ℕ) (xs : List ℕ) → rise_below next xs ≡ true → (i j m n : ℕ) → i < j → slice_get xs i ≡ Some m → slice_get xs j ≡ Some n → m < n
-rises next [] h i j m n lt a b = absurd (let bad : ◌≡◌ {A = Option ℕ} None (Some m) = a in cc)
-rises next (x ∷ xs) h i zero m n lt a b = absurd (omega arith)
-rises next (x ∷ xs) h zero (suc j) m n lt a b = grind (arith, all_above)
-rises next (x ∷ xs) h (suc i) (suc j) m n lt a b = rises next xs (parts next x xs h).rest i j m n (omega arith) a b
 
 module _ {P : Type 0} where
   id_at : (es : List (BucketKey × DescriptorBucket P)) (i : ℕ) (d : BucketKey × DescriptorBucket P) → i < length es → slice_get (stored_ids es) i ≡ Some (slice_index_or es i d).1.id
@@ -49,9 +31,9 @@ module _ {P : Type 0} where
   has_id (e ∷ es) zero id at = (let same : Some e.1.id ≡ Some id = at in record { entry = e; at = refl; is = cc; within = omega arith })
   has_id (e ∷ es) (suc i) id at = (let r = has_id es i id at in let lt = r.within in record { entry = r.entry; at = r.at; is = r.is; within = omega arith })
 
-  module _ (next : ℕ) (es : List (BucketKey × DescriptorBucket P)) (rise : rise_below next (stored_ids es) ≡ true) (id : ℕ) where
+  module _ (es : List (BucketKey × DescriptorBucket P)) (rise : rises (stored_ids es) ≡ true) (id : ℕ) where
     in_order : IsNonDecreasingBy (λ e. e.1.id) es
-    in_order i j d le lt = grind (arith, id_at, rises)
+    in_order i j d le lt = grind (arith, id_at, rises_at)
 
     -- those below an id stand in front
     pub parted : IsPartitionedBy (λ e. nat_lt e.1.id id) es
@@ -66,7 +48,7 @@ module _ {P : Type 0} where
         elim (cases_lt r i) [
           | inl below ↦ absurd (
               let le = ltb-false (slice_index_or es r d).1.id id (point.1 r d (omega arith) (omega arith)) in
-              grind (arith, common_steps, id_at, rises))
+              grind (arith, common_steps, id_at, rises_at))
           | inr least ↦ elim (cases_lt i r) [
             | inl before ↦ absurd (
                 let less = ltb-true (slice_index_or es i d).1.id id (point.0 i d (omega arith) before) in
@@ -106,13 +88,13 @@ module _ {P : Type 0} where
   later_is x es above k w found i n at same = grind (arith, all_above)
 
   -- the row of a key stands where its id does
-  pub own_key : (next : ℕ) (es : List (BucketKey × DescriptorBucket P)) → rise_below next (stored_ids es) ≡ true → (k : Key) (w : DescriptorBucket P) → lookup (λ l. key_eq k (key_of l)) es ≡ Some w → (i : ℕ) (e : BucketKey × DescriptorBucket P) → slice_get es i ≡ Some e → e.1.id ≡ w.id → Is e k w
-  own_key next [] rise k w found i e at same = absurd (let bad : ◌≡◌ {A = Option (DescriptorBucket P)} None (Some w) = found in cc)
-  own_key next (x ∷ es) rise k w found zero e at same =
-      subst (λ (r : BucketKey × DescriptorBucket P). Is r k w) (inside x e at) (first_is x es (parts next x.1.id (stored_ids es) rise).first k w found (ap (λ (r : BucketKey × DescriptorBucket P). r.1.id) (inside x e at) ∙ same))
-  own_key next (x ∷ es) rise k w found (suc i) e at same =
-      let p = parts next x.1.id (stored_ids es) rise in
-      own_key next es p.rest k w (later_is x es p.first k w found i e.1.id (id_of es i e at) same) i e at same
+  pub own_key : (es : List (BucketKey × DescriptorBucket P)) → rises (stored_ids es) ≡ true → (k : Key) (w : DescriptorBucket P) → lookup (λ l. key_eq k (key_of l)) es ≡ Some w → (i : ℕ) (e : BucketKey × DescriptorBucket P) → slice_get es i ≡ Some e → e.1.id ≡ w.id → Is e k w
+  own_key [] rise k w found i e at same = absurd (let bad : ◌≡◌ {A = Option (DescriptorBucket P)} None (Some w) = found in cc)
+  own_key (x ∷ es) rise k w found zero e at same =
+      subst (λ (r : BucketKey × DescriptorBucket P). Is r k w) (inside x e at) (first_is x es (and_parts (list_all (nat_lt x.1.id) (stored_ids es)) (rises (stored_ids es)) rise).0 k w found (ap (λ (r : BucketKey × DescriptorBucket P). r.1.id) (inside x e at) ∙ same))
+  own_key (x ∷ es) rise k w found (suc i) e at same =
+      let p = and_parts (list_all (nat_lt x.1.id) (stored_ids es)) (rises (stored_ids es)) rise in
+      own_key es p.1 k w (later_is x es p.0 k w found i e.1.id (id_of es i e at) same) i e at same
 
 -- ---- as the table changes
 
@@ -122,18 +104,3 @@ module _ {P : Type 0} where
   ids_put [] i v w at same = refl
   ids_put (e ∷ es) zero v w at same = grind arith
   ids_put (e ∷ es) (suc i) v w at same = ap (λ (ids : List ℕ). e.1.id ∷ ids) (ids_put es i v w at same)
-
--- the next id is above all, so a key that comes last may have it
-pub one_more : (next more : ℕ) (xs : List ℕ) → more ≡ next + 1 → rise_below next xs ≡ true → rise_below more (xs ++ next ∷ []) ≡ true
-one_more next more [] is h = and_from _ _ (and_from _ _ (lt-ltb next more (omega arith)) refl) refl
-one_more next more (x ∷ xs) is h = grind (arith, common_steps, (one_more next more xs is))
-
--- those that are left rise still
-module _ {P : Type 0} (stays : BucketKey × DescriptorBucket P → Bool) where
-  all_left : (n : ℕ) (es : List (BucketKey × DescriptorBucket P)) → list_all (nat_lt n) (stored_ids es) ≡ true → list_all (nat_lt n) (stored_ids (filter stays es)) ≡ true
-  all_left n [] h = refl
-  all_left n (e ∷ es) h = grind (arith, (all_left n es))
-
-  pub rise_left : (next : ℕ) (es : List (BucketKey × DescriptorBucket P)) → rise_below next (stored_ids es) ≡ true → rise_below next (stored_ids (filter stays es)) ≡ true
-  rise_left next [] h = refl
-  rise_left next (e ∷ es) h = grind (arith, all_left, (rise_left next es))

@@ -1,10 +1,11 @@
-use Rattle.gpu_descriptor.proofs.Common.{length, bucket_but_front, ◌≡◌, ◌+◌, ◌-◌, ℕ, arith, refl, sym, ap, ◌∙◌, List, [], ◌∷◌, Some, subst, IsDistinct, Bucket, Key, key_eq, key_of, Allocations, DescriptorSet, items_of, state_of, binary_digits, rise_below, stored_load, set_descriptors}
+use Rattle.gpu_descriptor.proofs.Common.{length, bucket_but_front, ◌≡◌, ◌+◌, ◌-◌, ℕ, arith, refl, sym, ap, ◌∙◌, List, [], ◌∷◌, Some, subst, IsDistinct, Bucket, Key, key_eq, key_of, Allocations, DescriptorSet, items_of, state_of, binary_digits, rises, stored_ids, ◌++◌, stored_load, set_descriptors}
 use Rattle.indexmap.specs.Layout.{set_value_at}
 use Rattle.gpu_descriptor.proofs.callers.HeldSets.{out_back, out_less}
 use Rattle.gpu_descriptor.proofs.release.LentRow.{row_open, row_stored, row_taken, row_ran, row_counted}
 use Rattle.gpu_descriptor.proofs.sums.Loads.{IsRow, IsWritten, Taken, taken, load_fits, counted_after, out_after, load_after, run_load, pools_present, pools_set, opened, closed}
 use Rattle.gpu_descriptor.proofs.release.Owned.{Owns, ends_at, first_owns, lie_at, stands}
 use Rattle.gpu_descriptor.proofs.request.Requested.{table_is}
+use Rattle.gpu_descriptor.proofs.lists.Numbers.{rises_front}
 use Rattle.gpu_descriptor.proofs.table.Rising.{id_of, ids_put, inside, own_key}
 use Rattle.gpu_descriptor.proofs.table.RowAt.{IsAt, keys_at, row_at, value_at, written_at}
 use Rattle.gpu_descriptor.proofs.table.TableBooks.{distinct_rows, row_keys, keys_are}
@@ -29,7 +30,7 @@ own g c =
     let row = owner g c in
     let at = c.pair_mut-bucket.ensures.value in
     let id = inside _ _ (sym (id_of es c.place_of_id-place.result _ at) ∙ c.place_of_id-place.ensures.place) in
-    (own_key c.self.inside.table.next_id es c.self.inside.table.rising c.args.first.key.is row.bucket row.found c.place_of_id-place.result _ at (id ∙ sym row.has)).0
+    (own_key es (rises_front (stored_ids es) (c.self.inside.table.next_id ∷ []) c.self.inside.table.rising) c.args.first.key.is row.bucket row.found c.place_of_id-place.result _ at (id ∙ sym row.has)).0
 
 -- the row that the place lends
 there : (g : _) (c : After-pair_mut-bucket g) → IsAt c.args.first.key.is c.self.inside.table.buckets.entries c.place_of_id-place.result c.pair_mut-bucket.result.1.now
@@ -56,7 +57,7 @@ release_sets-ahead-requires-clause-taken g c = λ xs t gave have.
     let before = g.D.DescriptorDevice.ledger c.args.device.now in
     let out = c.requires.outstanding xs t gave in
     let lie =
-    lie_at name set_name c.args.self.now before es was c.self.inside.table.next_id c.self.inside.table.rising
+    lie_at name set_name c.args.self.now before es was (rises_front (stored_ids es) (c.self.inside.table.next_id ∷ []) c.self.inside.table.rising)
     c.args.first.key.is c.args.first.id c.args.first.number (owner g at.After-pair_mut-bucket) xs
     (out_back set_name (c.args.first ∷ []) xs (c.args.first ∷ xs) (state_of name c.args.self.now before) refl out)
     have in
@@ -125,7 +126,7 @@ invariant_of-self-inside-2 g c =
     (ap (λ (b : Bucket). b.id)
     (c.destroy_empty_front.ensures.books ∙ ap (bucket_but_front 1) c.release_sets-ahead.ensures.ran.2.books)) in
     record {
-      rising = ap (λ (ids : List ℕ). rise_below c.self.inside.table.next_id ids) same ∙ c.self.inside.table.rising;
+      rising = ap (λ (ids : List ℕ). rises (ids ++ c.self.inside.table.next_id ∷ [])) same ∙ c.self.inside.table.rising;
       distinct = subst (IsDistinct key_eq) (sym (keys_at es c.place_of_id-place.result c.destroy_empty_front.new.self)) c.self.inside.table.distinct;
     }
 
@@ -155,7 +156,7 @@ returns-clause-ran g c =
     let before = g.D.DescriptorDevice.ledger c.args.device.now in
     let after = g.D.DescriptorDevice.ledger c.destroy_empty_front.new.device in
     let distinct = distinct_rows name es c.self.inside.table.distinct in
-    let came = ends_at name set_name c.args.self.now before es was c.self.inside.table.next_id c.self.inside.table.rising c.args.first.key.is c.args.first.id c.args.first.number (owner g at.After-pair_mut-bucket) g.I.Iterator.next_gives c.args.first _ _ ran.0 _ c.requires.outstanding ran.1 in
+    let came = ends_at name set_name c.args.self.now before es was (rises_front (stored_ids es) (c.self.inside.table.next_id ∷ []) c.self.inside.table.rising) c.args.first.key.is c.args.first.id c.args.first.number (owner g at.After-pair_mut-bucket) g.I.Iterator.next_gives c.args.first _ _ ran.0 _ c.requires.outstanding ran.1 in
     let state =
     row_ran name set_name c.args.self.now before es was c.requires.agree c.args.first row.test row.same
     c.pair_mut-bucket.result.1.now row.at ran.0 came.0 c.destroy_empty_front.new.self after _ _ ran.2 front.books

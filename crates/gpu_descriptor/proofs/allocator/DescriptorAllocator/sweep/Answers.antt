@@ -1,10 +1,11 @@
 use Rattle.gpu_descriptor.proofs.Common.{◌≡◌, ◌≤◌, ◌+◌, ℕ, List, suc, rules, refl, sym, ap, subst, ◌∙◌, arith, length}
 use Rattle.gpu_descriptor.proofs.Common.{map, length-map, take_all, IsDistinct, Ledger, Bucket, key_eq, key_of}
-use Rattle.gpu_descriptor.proofs.Common.{Allocations, AreBookedIn, has_pools, rise_below, stored_ids, outstanding_of}
-use Rattle.gpu_descriptor.proofs.Common.{marked_load_of, bucket_of, row_of}
+use Rattle.gpu_descriptor.proofs.Common.{Allocations, AreBookedIn, has_pools, rises, stored_ids, outstanding_of}
+use Rattle.gpu_descriptor.proofs.Common.{marked_load_of, bucket_of, row_of, ◌++◌, ◌∷◌, []}
 use Rattle.indexmap.proofs.CallerLemmas.{filter-RetainsPairs}
 use Rattle.indexmap.specs.Layout.{length-set_value_at}
-use Rattle.gpu_descriptor.proofs.table.Rising.{ids_put, rise_left}
+use Rattle.gpu_descriptor.proofs.table.Rising.{ids_put}
+use Rattle.gpu_descriptor.proofs.lists.Numbers.{rises_filter}
 use Rattle.gpu_descriptor.proofs.table.RowAt.{keys_at, value_at}
 use Rattle.gpu_descriptor.proofs.cleanup.Cleaning.{clean_agrees, takes_none}
 use Rattle.gpu_descriptor.proofs.sums.Loads.{rows_pool_load, stored_load_in, sum_put, opened, closed}
@@ -42,7 +43,7 @@ invariant_of-self-inside g c =
     c.pair_mut-bucket.ensures.value)
     (ap (λ (b : Bucket). b.id) c.destroy_empty.ensures.books) in
     record {
-      rising = ap (λ (ids : List ℕ). rise_below c.loop-place.self-inside.table.next_id ids) same ∙ c.loop-place.self-inside.table.rising;
+      rising = ap (λ (ids : List ℕ). rises (ids ++ c.loop-place.self-inside.table.next_id ∷ [])) same ∙ c.loop-place.self-inside.table.rising;
       distinct = subst (IsDistinct key_eq) (sym (keys_at c.loop-place.self-inside.table.buckets.entries c.loop-place.place c.destroy_empty.new.self)) c.loop-place.self-inside.table.distinct;
     }
 
@@ -74,9 +75,9 @@ loop-place-preserved g c =
 pub invariant_of-self-inside-2 : goal.invariant_of-self-inside-2
 invariant_of-self-inside-2 g c =
     let kept = filter-RetainsPairs _ (λ e. has_pools e.1) _ (λ k v b w f call. search rules) _ _ c.retain.ensures.filtered in
-    let left = rise_left (λ e. has_pools e.1) c.loop-place.self-inside.table.next_id c.loop-place.self-inside.table.buckets.entries c.loop-place.self-inside.table.rising in
+    let left = rises_filter (λ e. e.1.id) (λ e. has_pools e.1) (c.loop-place.self-inside.table.next_id ∷ []) c.loop-place.self-inside.table.buckets.entries c.loop-place.self-inside.table.rising in
     record {
-      rising = ap (λ es. rise_below c.loop-place.self-inside.table.next_id (stored_ids es)) kept ∙ left;
+      rising = ap (λ es. rises (stored_ids es ++ c.loop-place.self-inside.table.next_id ∷ [])) kept ∙ left;
       distinct = distinct_stored _ (λ k l. search rules) _ c.retain.ensures.unique;
     }
 

@@ -1,4 +1,4 @@
-use Rattle.gpu_descriptor.proofs.Common.{ℕ, List, refl, sym, ap, ◌∙◌, subst, arith, IsDistinct, Bucket, key_eq, key_of, next_number, rise_below, AreBookedIn, stored_keys, IsUnserved}
+use Rattle.gpu_descriptor.proofs.Common.{ℕ, List, refl, sym, ap, ◌∙◌, subst, arith, IsDistinct, Bucket, key_eq, key_of, next_number, rises, ◌++◌, ◌∷◌, [], AreBookedIn, stored_keys, IsUnserved}
 use Rattle.gpu_descriptor.proofs.table.Rising.{ids_put}
 use Rattle.gpu_descriptor.proofs.table.RowAt.{IsAt, is_at, keys_at, row_at, written_at}
 use Rattle.indexmap.specs.Layout.{set_value_at}
@@ -57,7 +57,7 @@ invariant_of-self g c =
     let es = c.args.self.now.buckets.entries in
     let same = ids_put es c.in-Some.place _ c.index_mut-bucket.result.now c.index_mut-bucket.ensures.value refl in
     record {
-      rising = ap (λ (ids : List ℕ). rise_below c.args.self.now.next_id ids) same ∙ c.args.self.now.rising;
+      rising = ap (λ (ids : List ℕ). rises (ids ++ c.args.self.now.next_id ∷ [])) same ∙ c.args.self.now.rising;
       distinct = subst (IsDistinct key_eq) (sym (keys_at es c.in-Some.place c.index_mut-bucket.result.now)) c.args.self.now.distinct;
     }
 
@@ -66,6 +66,6 @@ invariant_of-self-in-Some g c =
     let es = c.args.self.now.buckets.entries in
     let same = ids_put es c.in-Some.place _ c.take.new.self c.index_mut-bucket.ensures.value c.take.ensures.id_stays in
     record {
-      rising = ap (λ (ids : List ℕ). rise_below c.args.self.now.next_id ids) same ∙ c.args.self.now.rising;
+      rising = ap (λ (ids : List ℕ). rises (ids ++ c.args.self.now.next_id ∷ [])) same ∙ c.args.self.now.rising;
       distinct = subst (IsDistinct key_eq) (sym (keys_at es c.in-Some.place c.take.new.self)) c.args.self.now.distinct;
     }

@@ -1,8 +1,8 @@
 use Rattle.gpu_descriptor.proofs.Common.{ℕ, List, lookup, BucketKey, DescriptorBucket, map-append, greatest_u64, ◌≡◌}
 use Rattle.gpu_descriptor.proofs.Common.{◌+◌, ◌≤◌, ◌++◌, ◌∷◌, [], Bool, None, inl, refl, sym, ap, ◌∙◌, subst, arith}
-use Rattle.gpu_descriptor.proofs.Common.{rules, map, Bucket, key_eq, no_pools, next_number, key_of, is_of, rise_below}
+use Rattle.gpu_descriptor.proofs.Common.{rules, map, Bucket, key_eq, no_pools, next_number, key_of, is_of, rises}
 use Rattle.gpu_descriptor.proofs.Common.{stored_ids, books_in, entry_of, stored_load, stored_numbers, row_of, IsUnserved, DescriptorPool, number_after}
-use Rattle.gpu_descriptor.proofs.table.Rising.{one_more}
+use Rattle.gpu_descriptor.proofs.lists.Numbers.{next_push, rises_push}
 use Rattle.gpu_descriptor.proofs.table.RowAt.{lookup_same}
 use Rattle.indexmap.specs.IndexMap.{IndexMap, insert_entry}
 use Rattle.indexmap.proofs.CallerLemmas.{insert_entry-new}
@@ -75,6 +75,6 @@ invariant_of-self-in-Ok g c =
     let ids : stored_ids c.insert.new.self.entries ≡ stored_ids es ++ next ∷ [] =
     ap stored_ids (put g (goal.at.invariant_of-self-in-Ok g c).In-Ok) ∙ map-append _ es _ ∙ ap (λ (n : ℕ). stored_ids es ++ n ∷ []) c.take-ended.ensures.id_stays in
     record {
-      rising = ap (rise_below (next + 1)) ids ∙ one_more next (next + 1) (stored_ids es) refl c.args.self.now.rising;
+      rising = ap (λ (l : List ℕ). rises (l ++ (next + 1) ∷ [])) ids ∙ rises_push (stored_ids es ++ next ∷ []) (next + 1) c.args.self.now.rising (let last = next_push (stored_ids es) next in omega arith);
       distinct = distinct_stored _ (λ k l. search rules) c.insert.new.self.entries c.insert.ensures.unique;
     }
