@@ -52,7 +52,7 @@ pub use Rattle.gpu_descriptor.specs.Caller.Keys.{keys_with_pools, with_key}
 pub use Rattle.gpu_descriptor.specs.Caller.Others.{is_named}
 pub use Rattle.gpu_descriptor.specs.Caller.Sets.{AreOfLayout, item_of, items_of}
 pub use Rattle.gpu_descriptor.specs.Caller.States.{Agrees, marked_load_of, named, named_bucket, named_row, outstanding_of, pool_load_of, state_of, table_of}
-pub use Rattle.gpu_descriptor.specs.Inner.Buckets.{AreBookedIn, IsBookedIn, front_but, has_pools, ledger_but, ledger_without, bucket_but_front, ledger_but_front}
+pub use Rattle.gpu_descriptor.specs.Inner.Buckets.{AreBookedIn, IsBookedIn, front_but, has_pools, ledger_but, bucket_but_front, ledger_but_front}
 pub use Rattle.gpu_descriptor.specs.Inner.Grow.{IsGrown, IsTaken}
 pub use Rattle.gpu_descriptor.specs.Inner.Ids.{is_of, stored_ids}
 pub use Rattle.gpu_descriptor.specs.Inner.OpenNumbers.{IsEntered, first_ordinal, free_in, open_numbers, stored_numbers}
@@ -63,7 +63,7 @@ pub use Rattle.gpu_descriptor.specs.Inner.Serves.{IsDeclined, IsServed, IsUnserv
 pub use Rattle.gpu_descriptor.specs.Inner.SetAt.{set_at}
 pub use Rattle.gpu_descriptor.specs.Inner.Stored.{IsConsistent, books_in, bucket_of, entry_of, has_sets, kept_in, kept_of, row_of, stored_keys, stored_load}
 pub use Rattle.gpu_descriptor.specs.Inner.Walk.{HasTaken, IsAsked, IsNoMemory, IsRefused, IsWalked}
-pub use Rattle.gpu_descriptor.specs.Model.Cleanup.{IsCleaned, LosesEmpty, are_named, gone_of, left_of, pools_lost, with_pools}
+pub use Rattle.gpu_descriptor.specs.Model.Cleanup.{LosesEmpty, are_named, gone_of, left_of, pools_lost, with_pools}
 pub use Rattle.gpu_descriptor.specs.Model.Foreign.{IsForeign, IsNamed, KeepsForeign}
 pub use Rattle.gpu_descriptor.specs.Model.FreshPools.{AreFull, AreNew, AreSized, Fresh, IsFreshPrefix, IsFreshList, IsNextSize, fresh_entries, fresh_entry, fresh_portions, given_by, room_after}
 pub use Rattle.gpu_descriptor.specs.Model.Grants.{Grant, IsGrantOf, Part, bucket_with, came, fresh_or, granted, items_at, items_in, ledger_with, pool_with, portion_of}

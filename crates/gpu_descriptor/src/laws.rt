@@ -15,7 +15,7 @@ ghost use Rattle.gpu_descriptor.specs.Model.Agreement.{HasNoKeys, HasNoPools, Is
 ghost use Rattle.gpu_descriptor.specs.Model.Agreement.{State, count_of, outstanding};
 ghost use Rattle.gpu_descriptor.specs.Model.Books.{HasDistinctKeys, Key, key_eq, AddsUp, Bucket};
 ghost use Rattle.gpu_descriptor.specs.Model.Books.{Entry, books_of, no_pools, sum_over};
-ghost use Rattle.gpu_descriptor.specs.Model.Cleanup.{IsCleaned, LosesEmpty, pools_lost};
+ghost use Rattle.gpu_descriptor.specs.Model.Cleanup.{LosesEmpty, pools_lost};
 ghost use Rattle.gpu_descriptor.specs.Model.Foreign.{IsForeign, IsNamed, KeepsForeign};
 ghost use Rattle.gpu_descriptor.specs.Model.Load.{pool_descriptors, sets_out, descriptors_out, bucket_load};
 ghost use Rattle.gpu_descriptor.specs.Model.Load.{descriptors_created};
@@ -95,7 +95,7 @@ pub fn no_pool_is_lost<P>()
     ensures lost { (name : P → ℕ) (a b : Allocations P) (l m : Ledger) → others_of name b m
         ≡ others_of name a l → KeepsForeign (state_of name b m) (state_of name a l) }
     ensures restores { (s t u : State) → HasNoPools s → KeepsForeign s t → KeepsForeign t s → Agree t
-        → ((i : Item) → outstanding t i ≡ 0) → IsCleaned t u → u.ledger ≡ s.ledger }
+        → ((i : Item) → outstanding t i ≡ 0) → LosesEmpty false t u → u.ledger ≡ s.ledger }
     ensures one_or_other { (name : P → ℕ) (a : Allocations P) (l : Ledger) → HasDistinctKeys
         (table_of name a) → (pool : ℕ) → IsNamed (state_of name a l) pool ⊎ IsForeign
         (state_of name a l) pool }

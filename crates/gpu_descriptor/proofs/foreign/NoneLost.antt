@@ -3,7 +3,7 @@ use Rattle.gpu_descriptor.proofs.Common.{Allocations, ◌≡◌, ◌≢◌, ◌�
 use Rattle.gpu_descriptor.proofs.Common.{slice_get, Option, Some, None, inl, inr, refl, sym, ap, ◌∙◌, arith, eqb-true}
 use Rattle.gpu_descriptor.proofs.Common.{fun_ext, list_any, cases_Bool, or_cases, Pool, Ledger, State, Item}
 use Rattle.gpu_descriptor.proofs.Common.{outstanding, Agree, HasNoPools, Key, key_eq, Entry, Bucket, HasDistinctKeys}
-use Rattle.gpu_descriptor.proofs.Common.{books_of, entry_at, no_pools, common_steps, IsCleaned, IsForeign, IsNamed}
+use Rattle.gpu_descriptor.proofs.Common.{books_of, entry_at, no_pools, common_steps, LosesEmpty, IsForeign, IsNamed}
 use Rattle.gpu_descriptor.proofs.Common.{KeepsForeign, table_of, state_of}
 use Rattle.gpu_descriptor.proofs.cleanup.Cleaning.{no_pool_left}
 use Rattle.gpu_descriptor.proofs.foreign.ForeignPools.{cleaned_foreign, cleaned_loses, foreign_through}
@@ -22,7 +22,7 @@ nothing_at b i e empty at = (let bad : ◌≡◌ {A = Option Entry} None (Some e
 pub all_foreign : (s : State) → HasNoPools s → (name : ℕ) → IsForeign s name
 all_foreign s empty name k n e at same = nothing_at (s.books k) n e (empty k) at
 
-pub restores : (s t u : State) → HasNoPools s → KeepsForeign s t → KeepsForeign t s → Agree t → ((i : Item) → outstanding t i ≡ 0) → IsCleaned t u → u.ledger ≡ s.ledger
+pub restores : (s t u : State) → HasNoPools s → KeepsForeign s t → KeepsForeign t s → Agree t → ((i : Item) → outstanding t i ≡ 0) → LosesEmpty false t u → u.ledger ≡ s.ledger
 restores s t u began keeps loses agree nothing clean =
     let kept = foreign_through s t u keeps (cleaned_foreign false t u clean) in
     let lost_none = foreign_through u t s (cleaned_loses false t u clean) loses in

@@ -2,7 +2,7 @@
 use Rattle.gpu_descriptor.proofs.Common.{◌≡◌, ◌≢◌, ℕ, suc, ◌<◌, ◌≤◌, true, List, [], ◌∷◌, length, map, drop, get_or}
 use Rattle.gpu_descriptor.proofs.Common.{Option, None, inl, inr, refl, sym, ap, ◌∙◌, arith, eq-eqb, cases_eq}
 use Rattle.gpu_descriptor.proofs.Common.{length-map, Pool, Ledger, HasNoSets, after_destroy, DescriptorPool, Key, Entry}
-use Rattle.gpu_descriptor.proofs.Common.{Bucket, AreBookedIn, front_but, bucket_but_front, ledger_but_front, ledger_without}
+use Rattle.gpu_descriptor.proofs.Common.{Bucket, AreBookedIn, front_but, bucket_but_front, ledger_but_front}
 use Rattle.gpu_descriptor.proofs.Common.{is_empty, entry_of}
 use Rattle.gpu_descriptor.proofs.table.Exact.{bucket}
 use Rattle.gpu_descriptor.proofs.release.Fronts.{trim_yes, trim_short}
@@ -37,8 +37,8 @@ step_stored k x es pools stored = record {
 }
 
 -- a front that stays
-pub still : (n : ℕ) → n ≡ 0 → (b : Bucket) (l : Ledger) → ledger_without n b l ≡ l
-still n none b l = grind arith
+pub still : (keep : ℕ) (b : Bucket) (l : Ledger) → front_but keep b ≡ 0 → ledger_but_front keep b l ≡ l
+still keep b l none = grind arith
 
 module _ {P : Type 0} (name : P → ℕ) (keep : ℕ) where
   -- the first of more stored pools than are to stay

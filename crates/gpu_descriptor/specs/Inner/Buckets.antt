@@ -27,13 +27,9 @@ front_but keep b = min (empty_front b) (length b.pools - keep)
 abbrev pub bucket_but_front : ℕ → Bucket → Bucket
 bucket_but_front keep b = without_front (front_but keep b) b
 
--- the ledger after the first n pools of a bucket were destroyed
-abbrev pub ledger_without : ℕ → Bucket → Ledger → Ledger
-ledger_without n b l = record { pools = λ p. if in_front n b p then None else l.pools p; counters = more_destroyed n l.counters }
-
 -- the ledger after the pools were destroyed that a trimmed bucket lost
 abbrev pub ledger_but_front : ℕ → Bucket → Ledger → Ledger
-ledger_but_front keep b l = ledger_without (front_but keep b) b l
+ledger_but_front keep b l = let n = front_but keep b in record { pools = λ p. if in_front n b p then None else l.pools p; counters = more_destroyed n l.counters }
 
 -- the ledger after these pools were destroyed
 abbrev pub ledger_but : List Entry → Ledger → Ledger

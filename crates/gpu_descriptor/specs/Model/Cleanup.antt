@@ -28,10 +28,6 @@ pub record LosesEmpty (everywhere : Bool) (old new : State) : Type 0 where
   pub gone : (k : Key) (pool : ℕ) → are_named (gone_of everywhere (old.books k).pools) pool ≡ true → new.ledger pool ≡ None
   pub kept : (pool : ℕ) → ((k : Key) → are_named (gone_of everywhere (old.books k).pools) pool ≡ false) → new.ledger pool ≡ old.ledger pool
 
--- each key loses the empty pools at its front
-abbrev pub IsCleaned : State → State → Type 0
-IsCleaned old new = LosesEmpty false old new
-
 -- how many pools of these keys are destroyed
 abbrev pub pools_lost : Bool → List Key → State → ℕ
 pools_lost everywhere keys s = sum_by (λ k. length (gone_of everywhere (s.books k).pools)) keys

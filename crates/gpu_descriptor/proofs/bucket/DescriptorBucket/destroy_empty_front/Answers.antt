@@ -1,4 +1,4 @@
-use Rattle.gpu_descriptor.proofs.Common.{◌≡◌, ◌+◌, drop, ◌<◌, ◌≤◌, ◌∙◌, sym, ap, arith, length, get_or, Some, key_of, front_but, pool_descriptors, bucket_of, stored_load}
+use Rattle.gpu_descriptor.proofs.Common.{◌≡◌, ◌+◌, drop, ◌<◌, ◌≤◌, ◌∙◌, sym, ap, arith, length, get_or, Some, key_of, pool_descriptors, bucket_of, stored_load}
 use Rattle.gpu_descriptor.proofs.sums.PoolLoads.{stored_first}
 use Rattle.gpu_descriptor.proofs.release.StoredNumbers.{popped_numbers, popped_open}
 use Rattle.gpu_descriptor.proofs.release.FrontPool.{IsFront, is_front, turn_unused, turn, stop_full, stop_short, still}
@@ -60,7 +60,7 @@ returns-else-index-eq0-clause-ledger g c =
     let items = c.loop-self.self.pools.items in
     let many : c.args.keep < length items = omega (arith, c.loop-self.self.pools.ok.0) in
     let none = stop_full name c.args.keep c.loop-self.self.id items c.index.result.now many c.index.ensures c.if-index-eq0.false in
-    sym (still (front_but c.args.keep (bucket_of name c.loop-self.self)) none (bucket_of name c.loop-self.self) (g.D.DescriptorDevice.ledger c.loop-self.device)) ∙ c.loop-self.invariant.ledger
+    sym (still c.args.keep (bucket_of name c.loop-self.self) (g.D.DescriptorDevice.ledger c.loop-self.device) none) ∙ c.loop-self.invariant.ledger
 
 pub returns-after-loop-self-clause-ledger : goal.returns-after-loop-self-clause-ledger
 returns-after-loop-self-clause-ledger g c =
@@ -68,7 +68,7 @@ returns-after-loop-self-clause-ledger g c =
     let items = c.loop-self.self.pools.items in
     let short : length items ≤ c.args.keep = omega (arith, c.loop-self.self.pools.ok.0) in
     let none = stop_short name c.args.keep c.loop-self.self.id items short in
-    sym (still (front_but c.args.keep (bucket_of name c.loop-self.self)) none (bucket_of name c.loop-self.self) (g.D.DescriptorDevice.ledger c.loop-self.device)) ∙ c.loop-self.invariant.ledger
+    sym (still c.args.keep (bucket_of name c.loop-self.self) (g.D.DescriptorDevice.ledger c.loop-self.device) none) ∙ c.loop-self.invariant.ledger
 
 pub invariant_of-self-clause-numbered : goal.invariant_of-self-clause-numbered
 invariant_of-self-clause-numbered g c = (let less = (popped_numbers c.loop-self.self.pools.items c.pop_front.new.self.items c.pop_front.ensures.rest c.loop-self.self.rising).0 in let was = c.loop-self.self.numbered in omega arith)
