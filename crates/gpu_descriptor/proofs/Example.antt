@@ -1,10 +1,8 @@
 -- The definitions at one state, worked out by the check. A plain key has six pools: two empty ones at the front, one
 -- with a set, an empty one behind it, one with a set, and an empty one at the end. A marked key has two
 -- pools, both empty.
-use Rattle.gpu_descriptor.proofs.Common.{◌++◌, ◌≡◌, ℕ, true, false, List, [], ◌∷◌, None, Some, if◌then◌else◌, map}
-use Rattle.gpu_descriptor.proofs.Common.{replicate, refl, bounded_sets, sets_in_room, State, Item, Key, key_eq, Entry}
-use Rattle.gpu_descriptor.proofs.Common.{Bucket, no_pools, numbers_of, next_number, entry_at, gone_of, left_of}
-use Rattle.gpu_descriptor.proofs.Common.{with_pools, pool_descriptors, bucket_load, released, binary_digits, gap_digits}
+use Rattle.gpu_descriptor.proofs.Common.{◌++◌, ◌≡◌, ℕ, true, false, List, [], ◌∷◌, None, Some, if◌then◌else◌, map, replicate, refl, bounded_sets, sets_in_room, State, Item, Key, key_eq, Entry, Bucket, no_pools, numbers_of, next_number, entry_at, gone_of, left_of, with_pools, pool_descriptors}
+use Rattle.gpu_descriptor.proofs.Common.{bucket_load, released, binary_digits, gap_digits}
 
 -- ---- the state
 

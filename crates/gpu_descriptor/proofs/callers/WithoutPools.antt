@@ -1,7 +1,5 @@
 -- An allocator without pools, of which only one key was touched since.
-use Rattle.gpu_descriptor.proofs.Common.{arith}
-use Rattle.gpu_descriptor.proofs.Common.{common_steps}
-use Rattle.gpu_descriptor.proofs.Common.{◌≡◌, ℕ, length, nil_from_length, length-map, Ledger, State, HasNoPools, Key, books_of, Allocations, KeepsOtherKeys, state_of, named}
+use Rattle.gpu_descriptor.proofs.Common.{arith, common_steps, ◌≡◌, ℕ, length, nil_from_length, length-map, Ledger, State, HasNoPools, Key, books_of, Allocations, KeepsOtherKeys, state_of, named}
 use Rattle.gpu_descriptor.proofs.sums.TableSums.{books_named}
 use Rattle.gpu_descriptor.proofs.table.Exact.{key_exact}
 

@@ -1,8 +1,6 @@
 -- How many pools go, in two parts and at once.
-use Rattle.gpu_descriptor.proofs.Common.{State, AreOutstanding, Item, Agree, ◌≡◌, ℕ, ◌+◌, Bool, true, false, ◌||◌, List}
-use Rattle.gpu_descriptor.proofs.Common.{[], ◌∷◌, ◌++◌, sum_by, refl, sym, ap, ◌∙◌, arith, if◌then◌else◌, fun_ext, Key}
-use Rattle.gpu_descriptor.proofs.Common.{key_eq, Bucket, count_by-append, common_steps, list_any-append, lies_in}
-use Rattle.gpu_descriptor.proofs.Common.{bucket_less, spent_front, released, pools_gone}
+use Rattle.gpu_descriptor.proofs.Common.{State, AreOutstanding, Item, Agree, ◌≡◌, ℕ, ◌+◌, Bool, true, false, ◌||◌, List, [], ◌∷◌, ◌++◌, sum_by, refl, sym, ap, ◌∙◌, arith, if◌then◌else◌, fun_ext, Key, key_eq, Bucket, count_by-append, common_steps, list_any-append, lies_in, bucket_less, spent_front}
+use Rattle.gpu_descriptor.proofs.Common.{released, pools_gone}
 use Rattle.gpu_descriptor.proofs.release.Fronts.{less-less, spent_front-less}
 use Rattle.gpu_descriptor.proofs.release.Places.{back}
 use Rattle.gpu_descriptor.proofs.release.Parts.{trimmed_if, names_key, quiet_key, back_still}

@@ -1,10 +1,6 @@
 -- In which order keys stay in the table.
-use Rattle.gpu_descriptor.proofs.Common.{◌≡◌, ℕ, zero, suc, ◌==◌, not, Bool, List, [], ◌∷◌, ◌++◌, length, map, filter}
-use Rattle.gpu_descriptor.proofs.Common.{slice_get, Option, Some, None, true, false, refl, sym, ap, ◌∙◌}
-use Rattle.gpu_descriptor.proofs.Common.{arith, list_any, lookup, map-append, Ledger, BucketKey}
-use Rattle.gpu_descriptor.proofs.Common.{DescriptorBucket, Key, Bucket, HasDistinctKeys, books_of, key_of, Allocations}
-use Rattle.gpu_descriptor.proofs.Common.{keys_with_pools, common_steps, has_pools, LosesEmpty, left_of, with_pools}
-use Rattle.gpu_descriptor.proofs.Common.{Entry, with_key, key_eq, is_of, named_row, state_of, row_of, stored_keys}
+use Rattle.gpu_descriptor.proofs.Common.{◌≡◌, ℕ, zero, suc, ◌==◌, not, Bool, List, [], ◌∷◌, ◌++◌, length, map, filter, slice_get, Option, Some, None, true, false, refl, sym, ap, ◌∙◌, arith, list_any, lookup, map-append, Ledger, BucketKey, DescriptorBucket, Key, Bucket, HasDistinctKeys, books_of}
+use Rattle.gpu_descriptor.proofs.Common.{key_of, Allocations, keys_with_pools, common_steps, has_pools, LosesEmpty, left_of, with_pools, Entry, with_key, key_eq, is_of, named_row, state_of, row_of, stored_keys}
 use Rattle.gpu_descriptor.specs.Caller.States.{keys_of}
 use Rattle.gpu_descriptor.proofs.cleanup.Splitting.{pools_with}
 use Rattle.gpu_descriptor.proofs.cleanup.RowsCleaned.{Rows, cleared_row, first_keys, has_row, row_books, rows_left}

@@ -1,12 +1,6 @@
 -- Pools are taken from the front, one after another: an empty one is destroyed, and any other goes to the back.
-use Rattle.gpu_descriptor.proofs.Common.{common_steps}
-use Rattle.gpu_descriptor.proofs.Common.{◌≡◌, ℕ, suc, ◌+◌, ◌<◌, ◌≤◌, Bool, true, false, nat_lt, List, [], ◌∷◌}
-use Rattle.gpu_descriptor.proofs.Common.{◌++◌, length, take, drop, map, filter, slice_get, Some, None, inl, inr, refl}
-use Rattle.gpu_descriptor.proofs.Common.{sym, ap, ◌∙◌, subst, arith, eq-eqb, ne_eqb, lt-ltb, ltb-false, sum_by}
-use Rattle.gpu_descriptor.proofs.Common.{cases_Bool, append-nil, append_assoc, length-append, map-append}
-use Rattle.gpu_descriptor.proofs.Common.{list_any-append, if◌then◌else◌, take_all, drop_all, Ledger, HasNoSets}
-use Rattle.gpu_descriptor.proofs.Common.{after_destroy, DescriptorPool, Key, Entry, AreBookedIn, ledger_but, are_named}
-use Rattle.gpu_descriptor.proofs.Common.{gone_of, is_empty, entry_of, has_sets, more_destroyed}
+use Rattle.gpu_descriptor.proofs.Common.{common_steps, ◌≡◌, ℕ, suc, ◌+◌, ◌<◌, ◌≤◌, Bool, true, false, nat_lt, List, [], ◌∷◌, ◌++◌, length, take, drop, map, filter, slice_get, Some, None, inl, inr, refl, sym, ap, ◌∙◌, subst, arith, eq-eqb, ne_eqb, lt-ltb, ltb-false, sum_by, cases_Bool, append-nil}
+use Rattle.gpu_descriptor.proofs.Common.{append_assoc, length-append, map-append, list_any-append, if◌then◌else◌, take_all, drop_all, Ledger, HasNoSets, after_destroy, DescriptorPool, Key, Entry, AreBookedIn, ledger_but, are_named, gone_of, is_empty, entry_of, has_sets, more_destroyed}
 use Rattle.std.proofs.lemmas.List.Elements.{filter-append}
 use Rattle.gpu_descriptor.proofs.cleanup.RowsCleaned.{sum_filter}
 use Rattle.gpu_descriptor.proofs.lists.AtPlaces.{drop_at, take_get}

@@ -1,10 +1,6 @@
 -- The pools of a key in two lists, those that are left and the empty ones that go, each in their order.
-use Rattle.gpu_descriptor.proofs.Common.{common_steps}
-use Rattle.gpu_descriptor.proofs.Common.{◌≡◌, ◌≢◌, ◌⊎◌, ℕ, zero, suc, ◌==◌, Bool, true, false, nat_lt, List, [], ◌∷◌}
-use Rattle.gpu_descriptor.proofs.Common.{take, drop, filter, slice_get, Option, Some, None, inl, inr, refl, sym, ap}
-use Rattle.gpu_descriptor.proofs.Common.{◌∙◌, arith, eq-eqb, eqb-true, ne_eqb, lt-ltb, and_parts, and_from, cases_Bool}
-use Rattle.gpu_descriptor.proofs.Common.{list_all, or_right, or_cases, prefix_len, Entry, Bucket, rises}
-use Rattle.gpu_descriptor.proofs.Common.{numbers_of, no_pools, is_empty, are_named, gone_of, left_of, with_pools}
+use Rattle.gpu_descriptor.proofs.Common.{common_steps, ◌≡◌, ◌≢◌, ◌⊎◌, ℕ, zero, suc, ◌==◌, Bool, true, false, nat_lt, List, [], ◌∷◌, take, drop, filter, slice_get, Option, Some, None, inl, inr, refl, sym, ap, ◌∙◌, arith, eq-eqb, eqb-true, ne_eqb, lt-ltb, and_parts, and_from, cases_Bool, list_all}
+use Rattle.gpu_descriptor.proofs.Common.{or_right, or_cases, prefix_len, Entry, Bucket, rises, numbers_of, no_pools, is_empty, are_named, gone_of, left_of, with_pools}
 use Rattle.gpu_descriptor.proofs.lists.Numbers.{number_of, rises_at}
 
 abbrev pub Split : (pools left gone : List Entry) → Type 0

@@ -1,9 +1,6 @@
 -- The live pools of a ledger, after one of them changed.
-use Rattle.gpu_descriptor.proofs.Common.{◌≡◌, ◌≢◌, ℕ, ◌+◌, ◌-◌, ◌≤◌, List, [], ◌∷◌, length, map, Option, nat_eq}
-use Rattle.gpu_descriptor.proofs.Common.{option_map, refl, sym, ap, ◌∙◌, arith, eq-eqb, ne_eqb, update, Pool, Counters}
-use Rattle.gpu_descriptor.proofs.Common.{Ledger, after_release, live_sets, LiveSet, set_eq, times, set_exact}
-use Rattle.gpu_descriptor.proofs.Common.{count_by_yes, all_taken_out, HasSize, Key, common_steps, more_destroyed}
-use Rattle.gpu_descriptor.proofs.Common.{pool_less}
+use Rattle.gpu_descriptor.proofs.Common.{◌≡◌, ◌≢◌, ℕ, ◌+◌, ◌-◌, ◌≤◌, List, [], ◌∷◌, length, map, Option, nat_eq, option_map, refl, sym, ap, ◌∙◌, arith, eq-eqb, ne_eqb, update, Pool, Counters, Ledger, after_release, live_sets, LiveSet, set_eq, times, set_exact, count_by_yes, all_taken_out, HasSize}
+use Rattle.gpu_descriptor.proofs.Common.{Key, common_steps, more_destroyed, pool_less}
 
 -- the pools with this at a name, and all else as it was
 abbrev pub with_pool : (ℕ → Option Pool) → ℕ → Option Pool → ℕ → Option Pool

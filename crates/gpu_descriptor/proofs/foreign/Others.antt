@@ -1,7 +1,5 @@
 -- Agreement, and what is outstanding, speak of the pools in the books alone.
-use Rattle.gpu_descriptor.proofs.Common.{arith}
-use Rattle.gpu_descriptor.proofs.Common.{common_steps}
-use Rattle.gpu_descriptor.proofs.Common.{◌≡◌, State, Agree, outstanding, Item, Key, rises, IsUntouched}
+use Rattle.gpu_descriptor.proofs.Common.{arith, common_steps, ◌≡◌, State, Agree, outstanding, Item, Key, rises, IsUntouched}
 use Rattle.gpu_descriptor.proofs.lists.Numbers.{entry_at-found}
 use Rattle.gpu_descriptor.proofs.lists.AtPlaces.{cases_option}
 

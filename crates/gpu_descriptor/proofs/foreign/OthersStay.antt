@@ -1,11 +1,6 @@
 -- The pools that are none of the allocator's are a function of books and ledger, and each call leaves it.
-use Rattle.gpu_descriptor.proofs.Common.{common_steps}
-use Rattle.gpu_descriptor.proofs.Common.{◌≡◌, ℕ, Bool, true, false, List, [], ◌∷◌, Option, Some, None, inl, inr}
-use Rattle.gpu_descriptor.proofs.Common.{refl, sym, ap, ◌∙◌, arith, fun_ext, list_any, cases_Bool, nil_from_length}
-use Rattle.gpu_descriptor.proofs.Common.{∥∥₁_elim, props, Pool, Ledger, State, Item, Agree, HasNoPools, count_of}
-use Rattle.gpu_descriptor.proofs.Common.{outstanding, Key, Bucket, HasDistinctKeys, books_of, Allocations, LosesEmpty}
-use Rattle.gpu_descriptor.proofs.Common.{IsForeign, IsNamed, KeepsForeign, is_named, outstanding_of, state_of, table_of}
-use Rattle.gpu_descriptor.proofs.Common.{side, GivesBack, Meaning, DescriptorSet}
+use Rattle.gpu_descriptor.proofs.Common.{common_steps, ◌≡◌, ℕ, Bool, true, false, List, [], ◌∷◌, Option, Some, None, inl, inr, refl, sym, ap, ◌∙◌, arith, fun_ext, list_any, cases_Bool, nil_from_length, ∥∥₁_elim, props, Pool, Ledger, State, Item, Agree, HasNoPools, count_of, outstanding, Key}
+use Rattle.gpu_descriptor.proofs.Common.{Bucket, HasDistinctKeys, books_of, Allocations, LosesEmpty, IsForeign, IsNamed, KeepsForeign, is_named, outstanding_of, state_of, table_of, side, GivesBack, Meaning, DescriptorSet}
 use Rattle.gpu_descriptor.specs.Caller.Others.{others_of}
 use Rattle.gpu_descriptor.proofs.cleanup.Cleaning.{no_pool_left}
 use Rattle.gpu_descriptor.proofs.table.Exact.{key_exact}

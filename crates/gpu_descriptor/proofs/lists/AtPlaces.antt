@@ -1,11 +1,6 @@
 -- What stands at the places of a list.
-use Rattle.gpu_descriptor.proofs.Common.{common_steps}
-use Rattle.gpu_descriptor.proofs.Common.{◌≡◌, ◌≢◌, ℕ, zero, suc, ◌-◌, ◌<◌, slice_index, inl, inr, List}
-use Rattle.gpu_descriptor.proofs.Common.{[], ◌∷◌, ◌++◌, length, take, slice_set, Bool, true, false, Some, None, refl}
-use Rattle.gpu_descriptor.proofs.Common.{sym, ap, ◌∙◌, arith, drop, ◌+◌, or_cases, or_left, or_right, slice_get}
-use Rattle.gpu_descriptor.proofs.Common.{list_any, ◌⊎◌, get_or_from_slice_get, slice_get_within, length-take-le}
-use Rattle.gpu_descriptor.proofs.Common.{set-get_or, ◌≤◌, count_by, count_by_no, count_by_yes, Option, cases_Bool}
-use Rattle.gpu_descriptor.proofs.Common.{or_from, if◌then◌else◌}
+use Rattle.gpu_descriptor.proofs.Common.{common_steps, ◌≡◌, ◌≢◌, ℕ, zero, suc, ◌-◌, ◌<◌, slice_index, inl, inr, List, [], ◌∷◌, ◌++◌, length, take, slice_set, Bool, true, false, Some, None, refl, sym, ap, ◌∙◌, arith, drop, ◌+◌, or_cases, or_left, or_right, slice_get, list_any, ◌⊎◌}
+use Rattle.gpu_descriptor.proofs.Common.{get_or_from_slice_get, slice_get_within, length-take-le, set-get_or, ◌≤◌, count_by, count_by_no, count_by_yes, Option, cases_Bool, or_from, if◌then◌else◌}
 use Rattle.std.proofs.Math.Seq.{get_or-append_seam, take-suc}
 
 pub cases_option : {A : Type 0} (o : Option A) → (o ≡ None) ⊎ ((x : A) × (o ≡ Some x))

@@ -1,12 +1,6 @@
 -- The numbers of a key's pools: they rise, so each number stands at one place.
-use Rattle.gpu_descriptor.proofs.Common.{common_steps}
-use Rattle.gpu_descriptor.proofs.Common.{◌≡◌, ℕ, zero, suc, ◌+◌, ◌-◌, ◌<◌, ◌≤◌, ◌==◌, Bool, true, false, nat_lt, List}
-use Rattle.gpu_descriptor.proofs.Common.{[], ◌∷◌, ◌++◌, length, map, drop, filter, slice_get, slice_index}
-use Rattle.gpu_descriptor.proofs.Common.{slice_index_or, IsNonDecreasing, IsPartitionPoint, Option, Some, None}
-use Rattle.gpu_descriptor.proofs.Common.{option_map, inl, inr, refl, sym, ap, ◌∙◌, arith, eq-eqb, eqb-true}
-use Rattle.gpu_descriptor.proofs.Common.{lt-ltb, ltb-false, and_parts, and_from, cases_Bool, cases_lt, list_all}
-use Rattle.gpu_descriptor.proofs.Common.{slice_get_within, EntryOf, Entry, Bucket, entry_at, rises, number_after}
-use Rattle.gpu_descriptor.proofs.Common.{numbers_of}
+use Rattle.gpu_descriptor.proofs.Common.{common_steps, ◌≡◌, ℕ, zero, suc, ◌+◌, ◌-◌, ◌<◌, ◌≤◌, ◌==◌, Bool, true, false, nat_lt, List, [], ◌∷◌, ◌++◌, length, map, drop, filter, slice_get, slice_index, slice_index_or, IsNonDecreasing, IsPartitionPoint, Option, Some, None, option_map, inl, inr, refl}
+use Rattle.gpu_descriptor.proofs.Common.{sym, ap, ◌∙◌, arith, eq-eqb, eqb-true, lt-ltb, ltb-false, and_parts, and_from, cases_Bool, cases_lt, list_all, slice_get_within, EntryOf, Entry, Bucket, entry_at, rises, number_after, numbers_of}
 use Rattle.std.specs.List.{find}
 
 -- a number that is below all of a list

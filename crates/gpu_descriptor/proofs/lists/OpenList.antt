@@ -1,8 +1,6 @@
 -- The numbers of the open pools, as the code keeps them.
-use Rattle.gpu_descriptor.proofs.Common.{◌≡◌, ℕ, ◌+◌, ◌<◌, ◌≤◌, ◌++◌, ◌∷◌, [], List, length, insert, arith, ap, sym}
-use Rattle.gpu_descriptor.proofs.Common.{◌∙◌, slice_set, nat_eq, true, false, Some, slice_get, length-map, map-append}
-use Rattle.gpu_descriptor.proofs.Common.{map-set, slice_get-map, option_map, IsPartitionPoint, DescriptorPool}
-use Rattle.gpu_descriptor.proofs.Common.{common_steps, free_in, open_numbers, IsEntered}
+use Rattle.gpu_descriptor.proofs.Common.{◌≡◌, ℕ, ◌+◌, ◌<◌, ◌≤◌, ◌++◌, ◌∷◌, [], List, length, insert, arith, ap, sym, ◌∙◌, slice_set, nat_eq, true, false, Some, slice_get, length-map, map-append, map-set, slice_get-map, option_map, IsPartitionPoint, DescriptorPool, common_steps, free_in}
+use Rattle.gpu_descriptor.proofs.Common.{open_numbers, IsEntered}
 use Rattle.gpu_descriptor.proofs.lists.OpenNumbers.{IsNewestOpen, open_few, open_few_at, open_push_none, open_push_some, open_set_open, open_gains, open_closes}
 
 module _ {P : Type 0} (first : ℕ) (items : List (DescriptorPool P)) (numbers : List ℕ) (listed : numbers ≡ open_numbers first (free_in items)) where

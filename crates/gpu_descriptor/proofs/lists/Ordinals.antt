@@ -1,6 +1,5 @@
 -- The ordinals of a bucket's pools, which end where their numbers do.
-use Rattle.gpu_descriptor.proofs.Common.{common_steps}
-use Rattle.gpu_descriptor.proofs.Common.{◌≡◌, ℕ, zero, suc, ◌+◌, true, Some, slice_get, List, [], ◌∷◌, ◌++◌, length, ap, arith, length-map, map-append, DescriptorPool, first_ordinal, number_after, rises, stored_numbers}
+use Rattle.gpu_descriptor.proofs.Common.{common_steps, ◌≡◌, ℕ, zero, suc, ◌+◌, true, Some, slice_get, List, [], ◌∷◌, ◌++◌, length, ap, arith, length-map, map-append, DescriptorPool, first_ordinal, number_after, rises, stored_numbers}
 use Rattle.gpu_descriptor.proofs.lists.Numbers.{few_numbers, next_push}
 
 module _ {P : Type 0} where

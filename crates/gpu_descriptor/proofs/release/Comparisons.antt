@@ -1,9 +1,6 @@
 -- What comparisons the runs of a list may take: a run more adds the digits at its first set.
-use Rattle.gpu_descriptor.proofs.Common.{◌≡◌, ℕ, zero, suc, ◌+◌, ◌<◌, Bool, true, false, List, [], ◌∷◌, ◌++◌, map}
-use Rattle.gpu_descriptor.proofs.Common.{length, count_by, refl, sym, ap, ◌∙◌, arith, append_assoc, lt-ltb, append-nil}
-use Rattle.gpu_descriptor.proofs.Common.{nat_lt, if◌then◌else◌, count_by_no, count_by_yes, DescriptorPool, State, Item}
-use Rattle.gpu_descriptor.proofs.Common.{Entry, digits_at, digits_behind, run_digits, open_numbers, free_in, runs}
-use Rattle.gpu_descriptor.proofs.Common.{entry_of}
+use Rattle.gpu_descriptor.proofs.Common.{◌≡◌, ℕ, zero, suc, ◌+◌, ◌<◌, Bool, true, false, List, [], ◌∷◌, ◌++◌, map, length, count_by, refl, sym, ap, ◌∙◌, arith, append_assoc, lt-ltb, append-nil, nat_lt, if◌then◌else◌, count_by_no, count_by_yes, DescriptorPool, State, Item, Entry, digits_at}
+use Rattle.gpu_descriptor.proofs.Common.{digits_behind, run_digits, open_numbers, free_in, runs, entry_of}
 
 none_of : (b : Bool) → ◌≡◌ {A = ℕ} (if b then 0 else 1) 1 → b ≡ false
 none_of true h = absurd (omega arith)

@@ -1,6 +1,5 @@
 -- A number is below the power of two of its digits.
-use Rattle.gpu_descriptor.proofs.Common.{common_steps}
-use Rattle.gpu_descriptor.proofs.Common.{ℕ, zero, suc, ◌*◌, ◌^◌, ◌/◌, ◌<◌, ◌≤◌, ◌≡◌, arith, pow-suc, binary_digits, digits_within}
+use Rattle.gpu_descriptor.proofs.Common.{common_steps, ℕ, zero, suc, ◌*◌, ◌^◌, ◌/◌, ◌<◌, ◌≤◌, ◌≡◌, arith, pow-suc, binary_digits, digits_within}
 
 pub twice : (r : ℕ) → 2 ^ suc r ≡ 2 * 2 ^ r
 twice r = (let a = pow-suc 2 r in omega arith)

@@ -1,14 +1,7 @@
 -- What the loop over the runs keeps.
-use Rattle.gpu_descriptor.proofs.Common.{search_digits, ◌≡◌, ℕ, ◌+◌, ◌<◌, true, false, ◌&&◌, ◌==◌, List, [], ◌∷◌}
-use Rattle.gpu_descriptor.proofs.Common.{◌++◌, sum_by, refl, sym, ap, subst, ◌∙◌, arith, append_assoc, append-nil}
-use Rattle.gpu_descriptor.proofs.Common.{length-append, Option, Some, None, MatchOption, OnSome, IfSome}
-use Rattle.gpu_descriptor.proofs.Common.{Count, HoldsAlong, IsFinite, IsNearerEnd, MakesProgress, size}
-use Rattle.gpu_descriptor.proofs.Common.{Yields, YieldsThen, and_parts, and_from, map-append, sum_by-append, side}
-use Rattle.gpu_descriptor.proofs.Common.{Meaning, Counters, Ledger, bool_iff, DescriptorSet, State, Item}
-use Rattle.gpu_descriptor.proofs.Common.{AreOutstanding, Agree, count_of, Key, key_eq, Allocations, common_steps}
-use Rattle.gpu_descriptor.proofs.Common.{set_descriptors, more_released, more_destroyed, released, given_back}
-use Rattle.gpu_descriptor.proofs.Common.{pools_gone, run_digits, GivesBack, Frees, FreesRun, runs, item_of, items_of}
-use Rattle.gpu_descriptor.proofs.Common.{AllPass, state_of, Compares}
+use Rattle.gpu_descriptor.proofs.Common.{search_digits, ◌≡◌, ℕ, ◌+◌, ◌<◌, true, false, ◌&&◌, ◌==◌, List, [], ◌∷◌, ◌++◌, sum_by, refl, sym, ap, subst, ◌∙◌, arith, append_assoc, append-nil, length-append, Option, Some, None, MatchOption, OnSome, IfSome, Count, HoldsAlong, IsFinite, IsNearerEnd}
+use Rattle.gpu_descriptor.proofs.Common.{MakesProgress, size, Yields, YieldsThen, and_parts, and_from, map-append, sum_by-append, side, Meaning, Counters, Ledger, bool_iff, DescriptorSet, State, Item, AreOutstanding, Agree, count_of, Key, key_eq, Allocations, common_steps, set_descriptors}
+use Rattle.gpu_descriptor.proofs.Common.{more_released, more_destroyed, released, given_back, pools_gone, run_digits, GivesBack, Frees, FreesRun, runs, item_of, items_of, AllPass, state_of, Compares}
 use Rattle.std.proofs.iter.Next.{Yields-more}
 use Rattle.gpu_descriptor.specs.Inner.RunSteps.{lies_at}
 use Rattle.gpu_descriptor.specs.Caller.States.{keys_of}

@@ -1,9 +1,6 @@
 -- One pool leaves the front.
-use Rattle.gpu_descriptor.proofs.Common.{◌≡◌, ◌≢◌, ℕ, suc, ◌<◌, ◌≤◌, true, List, [], ◌∷◌, length, map, drop, get_or}
-use Rattle.gpu_descriptor.proofs.Common.{Option, None, inl, inr, refl, sym, ap, ◌∙◌, arith, eq-eqb, cases_eq}
-use Rattle.gpu_descriptor.proofs.Common.{length-map, Pool, Ledger, HasNoSets, after_destroy, DescriptorPool, Key, Entry}
-use Rattle.gpu_descriptor.proofs.Common.{Bucket, AreBookedIn, front_but, bucket_but_front, ledger_but_front}
-use Rattle.gpu_descriptor.proofs.Common.{is_empty, entry_of}
+use Rattle.gpu_descriptor.proofs.Common.{◌≡◌, ◌≢◌, ℕ, suc, ◌<◌, ◌≤◌, true, List, [], ◌∷◌, length, map, drop, get_or, Option, None, inl, inr, refl, sym, ap, ◌∙◌, arith, eq-eqb, cases_eq, length-map, Pool, Ledger, HasNoSets, after_destroy, DescriptorPool, Key, Entry, Bucket, AreBookedIn, front_but}
+use Rattle.gpu_descriptor.proofs.Common.{bucket_but_front, ledger_but_front, is_empty, entry_of}
 use Rattle.gpu_descriptor.proofs.table.Exact.{bucket}
 use Rattle.gpu_descriptor.proofs.release.Fronts.{trim_yes, trim_short}
 use Rattle.gpu_descriptor.proofs.release.Places.{size_pos}

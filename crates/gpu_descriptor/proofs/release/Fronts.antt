@@ -1,9 +1,6 @@
 -- The front of a bucket: what giving back does to it, and which places keep their pools when it goes.
-use Rattle.gpu_descriptor.proofs.Common.{◌≡◌, ℕ, zero, suc, ◌+◌, ◌-◌, ◌<◌, ◌≤◌, true, false, min, List, [], ◌∷◌, length}
-use Rattle.gpu_descriptor.proofs.Common.{map, drop, slice_get, Some, inl, inr, refl, sym, ap, ◌∙◌, arith, drop-drop}
-use Rattle.gpu_descriptor.proofs.Common.{prefix_len, cases_Bool, cases_lt, drop-map, Entry}
-use Rattle.gpu_descriptor.proofs.Common.{Bucket, entry_at, rises, numbers_of, common_steps, bucket_but_front}
-use Rattle.gpu_descriptor.proofs.Common.{entry_less, bucket_less, is_empty, empty_front, spent_front, without_front}
+use Rattle.gpu_descriptor.proofs.Common.{◌≡◌, ℕ, zero, suc, ◌+◌, ◌-◌, ◌<◌, ◌≤◌, true, false, min, List, [], ◌∷◌, length, map, drop, slice_get, Some, inl, inr, refl, sym, ap, ◌∙◌, arith, drop-drop, prefix_len, cases_Bool, cases_lt, drop-map, Entry, Bucket, entry_at, rises, numbers_of, common_steps}
+use Rattle.gpu_descriptor.proofs.Common.{bucket_but_front, entry_less, bucket_less, is_empty, empty_front, spent_front, without_front}
 use Rattle.gpu_descriptor.proofs.lists.AtPlaces.{get_drop}
 use Rattle.gpu_descriptor.proofs.lists.Numbers.{entry_at-found, entry_at-named, numbers_drop, rises_drop}
 

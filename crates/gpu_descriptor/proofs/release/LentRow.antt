@@ -1,12 +1,7 @@
 -- One run through a row that the table lends.
-use Rattle.gpu_descriptor.proofs.Common.{◌≡◌, ℕ, Bool, List, ◌∷◌, map, count_by, Option, None, Some, IsSome, length}
-use Rattle.gpu_descriptor.proofs.Common.{refl, sym, ap, subst, ◌∙◌, fun_ext, lookup, set_value, option_map_or, Ledger}
-use Rattle.gpu_descriptor.proofs.Common.{after_release, live_sets, BucketKey, DescriptorSet, DescriptorBucket, Agree}
-use Rattle.gpu_descriptor.proofs.Common.{AreOutstanding, Key, key_eq, Bucket, no_pools, books_of, HasDistinctKeys}
-use Rattle.gpu_descriptor.proofs.Common.{key_of, Allocations, AreBookedIn, IsTakenAt, Releases, names_of, bucket_back}
-use Rattle.gpu_descriptor.proofs.Common.{bucket_but_front, ledger_but_front, more_destroyed, more_released, released}
-use Rattle.gpu_descriptor.proofs.Common.{pools_gone, search_digits, items_of, named_row, state_of, AllPass, books_in}
-use Rattle.gpu_descriptor.proofs.Common.{row_of, bucket_of}
+use Rattle.gpu_descriptor.proofs.Common.{◌≡◌, ℕ, Bool, List, ◌∷◌, map, count_by, Option, None, Some, IsSome, length, refl, sym, ap, subst, ◌∙◌, fun_ext, lookup, set_value, option_map_or, Ledger, after_release, live_sets, BucketKey, DescriptorSet, DescriptorBucket, Agree, AreOutstanding, Key}
+use Rattle.gpu_descriptor.proofs.Common.{key_eq, Bucket, no_pools, books_of, HasDistinctKeys, key_of, Allocations, AreBookedIn, IsTakenAt, Releases, names_of, bucket_back, bucket_but_front, ledger_but_front, more_destroyed, more_released, released, pools_gone, search_digits, items_of, named_row}
+use Rattle.gpu_descriptor.proofs.Common.{state_of, AllPass, books_in, row_of, bucket_of}
 use Rattle.gpu_descriptor.specs.Caller.States.{keys_of}
 use Rattle.gpu_descriptor.specs.Inner.RunSteps.{lies_at}
 use Rattle.gpu_descriptor.proofs.foreign.LedgerPools.{taken_from, release_pools}

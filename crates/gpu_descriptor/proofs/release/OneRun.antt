@@ -1,10 +1,6 @@
 -- One run: what the device may take of the caller's iterator, and what it took.
-use Rattle.gpu_descriptor.proofs.Common.{entry_at, greatest_pool_size, ◌≡◌, ℕ, ◌+◌, ◌≤◌, true, List, [], ◌∷◌, length}
-use Rattle.gpu_descriptor.proofs.Common.{map, slice_get, refl, sym, ap, subst, ◌∙◌, arith, eq-eqb, Option, Some, None}
-use Rattle.gpu_descriptor.proofs.Common.{OnSome, Count, HoldsAlong, IsFinite, IsNearerEnd, Yields, YieldsThen, and_from}
-use Rattle.gpu_descriptor.proofs.Common.{length-map, Pool, Ledger, AreLive, live_sets, CanFree, LiveSet, DescriptorSet}
-use Rattle.gpu_descriptor.proofs.Common.{live_in, Key, Entry, Bucket, Run, AreBookedIn, IsTakenAt, names_of, RunStep}
-use Rattle.gpu_descriptor.proofs.Common.{CountsFrom, EndsRun, AllPass, flags_of}
+use Rattle.gpu_descriptor.proofs.Common.{entry_at, greatest_pool_size, ◌≡◌, ℕ, ◌+◌, ◌≤◌, true, List, [], ◌∷◌, length, map, slice_get, refl, sym, ap, subst, ◌∙◌, arith, eq-eqb, Option, Some, None, OnSome, Count, HoldsAlong, IsFinite, IsNearerEnd, Yields, YieldsThen, and_from, length-map, Pool}
+use Rattle.gpu_descriptor.proofs.Common.{Ledger, AreLive, live_sets, CanFree, LiveSet, DescriptorSet, live_in, Key, Entry, Bucket, Run, AreBookedIn, IsTakenAt, names_of, RunStep, CountsFrom, EndsRun, AllPass, flags_of}
 use Rattle.gpu_descriptor.specs.Inner.RunSteps.{at_place}
 use Rattle.gpu_descriptor.proofs.release.BucketRun.{AreTaken, can_take, took_these, length_names}
 use Rattle.gpu_descriptor.proofs.release.RunTaken.{Whole, whole, front}

@@ -1,11 +1,7 @@
 -- The row of a set that is out: its key's, and the only one with its id.
-use Rattle.gpu_descriptor.proofs.Common.{◌≡◌, ◌<◌, ℕ, suc, true, false, List, [], ◌∷◌, ◌++◌, slice_get, Option}
-use Rattle.gpu_descriptor.proofs.Common.{Some, None, IfSome, inl, inr, refl, sym, ap, subst, ◌∙◌, arith, eq-eqb}
-use Rattle.gpu_descriptor.proofs.Common.{eqb-true, map, nat_eq, lookup, option_map_or, HoldsAlong, cases_Bool, and_from}
-use Rattle.gpu_descriptor.proofs.Common.{and_parts, false_from_ne_true, Ledger, count_by_yes, BucketKey, DescriptorSet}
-use Rattle.gpu_descriptor.proofs.Common.{DescriptorBucket, AreOutstanding, Item, State, item_eq, outstanding, Bucket}
-use Rattle.gpu_descriptor.proofs.Common.{Key, entry_at, no_pools, key_of, Allocations, common_steps, item_of, items_of}
-use Rattle.gpu_descriptor.proofs.Common.{state_of, is_of, rises, stored_ids, EndsRun, AllPass, bucket_of, row_of}
+use Rattle.gpu_descriptor.proofs.Common.{◌≡◌, ◌<◌, ℕ, suc, true, false, List, [], ◌∷◌, ◌++◌, slice_get, Option, Some, None, IfSome, inl, inr, refl, sym, ap, subst, ◌∙◌, arith, eq-eqb, eqb-true, map, nat_eq, lookup, option_map_or, HoldsAlong, cases_Bool, and_from, and_parts, false_from_ne_true}
+use Rattle.gpu_descriptor.proofs.Common.{Ledger, count_by_yes, BucketKey, DescriptorSet, DescriptorBucket, AreOutstanding, Item, State, item_eq, outstanding, Bucket, Key, entry_at, no_pools, key_of, Allocations, item_of, items_of, state_of, is_of, rises, stored_ids, EndsRun, AllPass}
+use Rattle.gpu_descriptor.proofs.Common.{bucket_of, row_of}
 use Rattle.std.proofs.iter.Next.{Yields-more}
 use Rattle.gpu_descriptor.specs.Inner.RunSteps.{at_place, lies_at}
 use Rattle.gpu_descriptor.proofs.table.Exact.{item_exact, key_exact}
@@ -56,7 +52,7 @@ module _ {P : Type 0} where
   pub one_owner : (es : List (BucketKey × DescriptorBucket P)) → rises (stored_ids es) ≡ true → (k l : Key) (id : ℕ) → Owns k id es → Owns l id es → l ≡ k
   one_owner es rise k l id a b =
       let s = stands l es b.bucket b.found in
-      grind (arith, common_steps, own_key)
+      sym s.key ∙ (own_key es rise k a.bucket a.found s.place s.entry s.at (ap (λ (w : DescriptorBucket P). w.id) s.is ∙ b.has ∙ sym a.has)).0
 
 module _ {P S : Type 0} (name : P → ℕ) (set_name : S → ℕ) (a : Allocations P) (l : Ledger) (es : List (BucketKey × DescriptorBucket P)) (is : a.table ≡ map row_of es) where
   abbrev s : State
@@ -96,7 +92,10 @@ module _ {P S : Type 0} (name : P → ℕ) (set_name : S → ℕ) (a : Allocatio
     pub lies_apart : (x : DescriptorSet S) → AreOutstanding (items_of set_name (x ∷ [])) s → at_place id n x ≡ false → lies_at k n x ≡ false
     lies_apart x out apart = false_from_ne_true (lies_at k n x) (λ h.
         let other = first_owns x [] out in
-        grind (arith, common_steps, at_parts, placed))
+        let here = at_parts k n x h in
+        let found : Some other.bucket ≡ Some own.bucket = sym other.found ∙ ap (λ (q : Key). lookup (is_of q) es) here.0 ∙ own.found in
+        let same : other.bucket ≡ own.bucket = cc in
+        let bad : true ≡ false = sym (placed id n x (sym other.has ∙ ap (λ (w : DescriptorBucket P). w.id) same ∙ own.has) here.1) ∙ apart in cc)
 
     -- so a run by the id is one by the key
     pub ends_at :

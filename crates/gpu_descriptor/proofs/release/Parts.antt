@@ -1,13 +1,7 @@
 -- Giving back in two parts is giving back at once.
-use Rattle.gpu_descriptor.proofs.Common.{common_steps}
-use Rattle.gpu_descriptor.proofs.Common.{◌≡◌, ℕ, suc, ◌+◌, ◌<◌, Bool, true, false, ◌&&◌, ◌||◌, ◌==◌, List, [], ◌∷◌}
-use Rattle.gpu_descriptor.proofs.Common.{◌++◌, map, take, drop, slice_get, Option, Some, None, option_map, refl, sym}
-use Rattle.gpu_descriptor.proofs.Common.{ap, ◌∙◌, arith, take-add, if◌then◌else◌, fun_ext, list_any, and_parts}
-use Rattle.gpu_descriptor.proofs.Common.{and_from, false_from_ne_true, take-map, set_of, State, Item, item_eq, count_of}
-use Rattle.gpu_descriptor.proofs.Common.{AreOutstanding, Agree, Key, key_eq, Entry, Bucket, Pool, LiveSet, set_eq}
-use Rattle.gpu_descriptor.proofs.Common.{count_by-append, count_by_alike, count_by_none, any_from, any_found}
-use Rattle.gpu_descriptor.proofs.Common.{list_any-append, bucket_but_front, lies_in, entry_less, bucket_less, pool_less}
-use Rattle.gpu_descriptor.proofs.Common.{spent_front, without_front, in_front, released}
+use Rattle.gpu_descriptor.proofs.Common.{common_steps, ◌≡◌, ℕ, suc, ◌+◌, ◌<◌, Bool, true, false, ◌&&◌, ◌||◌, ◌==◌, List, [], ◌∷◌, ◌++◌, map, take, drop, slice_get, Option, Some, None, option_map, refl, sym, ap, ◌∙◌, arith, take-add, if◌then◌else◌, fun_ext, list_any, and_parts, and_from}
+use Rattle.gpu_descriptor.proofs.Common.{false_from_ne_true, take-map, set_of, State, Item, item_eq, count_of, AreOutstanding, Agree, Key, key_eq, Entry, Bucket, Pool, LiveSet, set_eq, count_by-append, count_by_alike, count_by_none, any_from, any_found, list_any-append, bucket_but_front, lies_in}
+use Rattle.gpu_descriptor.proofs.Common.{entry_less, bucket_less, pool_less, spent_front, without_front, in_front, released}
 use Rattle.gpu_descriptor.proofs.lists.Numbers.{entry_at-found}
 use Rattle.gpu_descriptor.proofs.release.Fronts.{less-less, less-without, one_key, spent_front-less}
 use Rattle.gpu_descriptor.proofs.table.Exact.{key_exact, item_exact}

@@ -1,13 +1,7 @@
 -- What giving back keeps: agreement, and what is outstanding but for the sets given; and that neither order nor parts matter.
-use Rattle.gpu_descriptor.proofs.Common.{◌≡◌, ℕ, ◌+◌, ◌-◌, ◌<◌, ◌≤◌, Bool, true, false, ltb, ◌&&◌, ◌==◌, List, [], ◌∷◌}
-use Rattle.gpu_descriptor.proofs.Common.{◌++◌, flat_map, map, take, count_by, slice_get, slice_get-map, Option, Some}
-use Rattle.gpu_descriptor.proofs.Common.{None, option_map, inl, inr, refl, sym, ap, ◌∙◌, subst, arith, eqb-true}
-use Rattle.gpu_descriptor.proofs.Common.{if◌then◌else◌, fun_ext, list_any, cases_lt, and_parts, false_from_ne_true}
-use Rattle.gpu_descriptor.proofs.Common.{set_of, State, Item, count_of, outstanding, AreOutstanding, IsAsBooked, Agree}
-use Rattle.gpu_descriptor.proofs.Common.{Key, Entry, Bucket, entry_at, rises, numbers_of, Pool, set_eq}
-use Rattle.gpu_descriptor.proofs.Common.{counts_alike, count_by-append, list_any-count_by, common_steps, lies_in}
-use Rattle.gpu_descriptor.proofs.Common.{entry_less, bucket_less, pool_less, given_back, spent_front, released, singly}
-use Rattle.gpu_descriptor.proofs.Common.{released_each}
+use Rattle.gpu_descriptor.proofs.Common.{◌≡◌, ℕ, ◌+◌, ◌-◌, ◌<◌, ◌≤◌, Bool, true, false, ltb, ◌&&◌, ◌==◌, List, [], ◌∷◌, ◌++◌, flat_map, map, take, count_by, slice_get, slice_get-map, Option, Some, None, option_map, inl, inr, refl, sym, ap, ◌∙◌, subst, arith, eqb-true, if◌then◌else◌, fun_ext}
+use Rattle.gpu_descriptor.proofs.Common.{list_any, cases_lt, and_parts, false_from_ne_true, set_of, State, Item, count_of, outstanding, AreOutstanding, IsAsBooked, Agree, Key, Entry, Bucket, entry_at, rises, numbers_of, Pool, set_eq, counts_alike, count_by-append, list_any-count_by, common_steps}
+use Rattle.gpu_descriptor.proofs.Common.{lies_in, entry_less, bucket_less, pool_less, given_back, spent_front, released, singly, released_each}
 use Rattle.gpu_descriptor.proofs.lists.Numbers.{entry_at-found, entry_at-from, numbers_drop, rises_drop}
 use Rattle.gpu_descriptor.proofs.request.StateAgrees.{booked_at}
 use Rattle.gpu_descriptor.proofs.lists.AtPlaces.{cases_option, found_before, if_none}

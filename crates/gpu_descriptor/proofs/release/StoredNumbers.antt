@@ -1,10 +1,6 @@
 -- The numbers of the pools that a bucket stores are those of its books.
-use Rattle.gpu_descriptor.proofs.Common.{◌⊎◌, inl, inr, Bool, filter, cases_Bool, ◌+◌, ◌≤◌, false, nat_lt, drop}
-use Rattle.gpu_descriptor.proofs.Common.{and_parts, list_all, lt-ltb, first_ordinal, free_in, number_after}
-use Rattle.gpu_descriptor.proofs.Common.{open_numbers, ◌≡◌, ℕ, zero, suc, ◌<◌, true, List, [], ◌∷◌, length, map, get_or}
-use Rattle.gpu_descriptor.proofs.Common.{slice_get, slice_set, Some, refl, sym, ap, ◌∙◌, arith, length-map}
-use Rattle.gpu_descriptor.proofs.Common.{slice_get_within, slice_get-map, slice_get_read, option_map, Entry, entry_at}
-use Rattle.gpu_descriptor.proofs.Common.{rises, numbers_of, DescriptorPool, entry_of, stored_numbers}
+use Rattle.gpu_descriptor.proofs.Common.{◌⊎◌, inl, inr, Bool, filter, cases_Bool, ◌+◌, ◌≤◌, false, nat_lt, drop, and_parts, list_all, lt-ltb, first_ordinal, free_in, number_after, open_numbers, ◌≡◌, ℕ, zero, suc, ◌<◌, true, List, [], ◌∷◌, length, map, get_or, slice_get, slice_set, Some, refl, sym}
+use Rattle.gpu_descriptor.proofs.Common.{ap, ◌∙◌, arith, length-map, slice_get_within, slice_get-map, slice_get_read, option_map, Entry, entry_at, rises, numbers_of, DescriptorPool, entry_of, stored_numbers}
 use Rattle.gpu_descriptor.proofs.table.Exact.{bucket}
 use Rattle.gpu_descriptor.proofs.lists.Numbers.{below_next, entry_at-found, entry_at-named, few_numbers, number_of}
 

@@ -1,14 +1,7 @@
 -- Giving one run back, over the books of all keys.
-use Rattle.gpu_descriptor.proofs.Common.{slice_get, ◌≡◌, ℕ, suc, ◌<◌, ◌≤◌, Bool, true, false, ◌==◌, List, [], ◌∷◌}
-use Rattle.gpu_descriptor.proofs.Common.{length, map, count_by, sum_by, Option, Some, None, option_map, inl, inr, refl}
-use Rattle.gpu_descriptor.proofs.Common.{sym, ap, ◌∙◌, arith, eq-eqb, ne_eqb, if◌then◌else◌, fun_ext, list_any}
-use Rattle.gpu_descriptor.proofs.Common.{cases_Bool, cases_eq, and_parts, and_from, false_from_ne_true, length-map}
-use Rattle.gpu_descriptor.proofs.Common.{sum_by-cons, Pool, live_sets, LiveSet, set_eq, times, bool_iff, any_found}
-use Rattle.gpu_descriptor.proofs.Common.{any_from, count_by_yes, count_by_no, DescriptorSet, set_of, State, Item}
-use Rattle.gpu_descriptor.proofs.Common.{item_eq, count_of, live_in, AreOutstanding, Agree, Key, key_eq, Entry, Bucket}
-use Rattle.gpu_descriptor.proofs.Common.{entry_at, common_steps, IsTakenAt, names_of, bucket_back, bucket_but_front}
-use Rattle.gpu_descriptor.proofs.Common.{entry_less, pool_less, given_back, fronts_gone, released, spent_front}
-use Rattle.gpu_descriptor.proofs.Common.{pools_gone, in_front, item_of, items_of, AllPass}
+use Rattle.gpu_descriptor.proofs.Common.{slice_get, ◌≡◌, ℕ, suc, ◌<◌, ◌≤◌, Bool, true, false, ◌==◌, List, [], ◌∷◌, length, map, count_by, sum_by, Option, Some, None, option_map, inl, inr, refl, sym, ap, ◌∙◌, arith, eq-eqb, ne_eqb, if◌then◌else◌, fun_ext, list_any, cases_Bool, cases_eq, and_parts}
+use Rattle.gpu_descriptor.proofs.Common.{and_from, false_from_ne_true, length-map, sum_by-cons, Pool, live_sets, LiveSet, set_eq, times, bool_iff, any_found, any_from, count_by_yes, count_by_no, DescriptorSet, set_of, State, Item, item_eq, count_of, live_in, AreOutstanding, Agree, Key, key_eq}
+use Rattle.gpu_descriptor.proofs.Common.{Entry, Bucket, entry_at, common_steps, IsTakenAt, names_of, bucket_back, bucket_but_front, entry_less, pool_less, given_back, fronts_gone, released, spent_front, pools_gone, in_front, item_of, items_of, AllPass}
 use Rattle.gpu_descriptor.specs.Inner.RunSteps.{lies_at}
 use Rattle.gpu_descriptor.proofs.table.Exact.{key_exact, item_exact}
 use Rattle.gpu_descriptor.proofs.lists.Numbers.{entry_at-named}

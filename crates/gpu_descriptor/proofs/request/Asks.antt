@@ -1,9 +1,6 @@
 -- What asking one pool does, from what the device did.
-use Rattle.gpu_descriptor.proofs.Common.{◌≡◌, ℕ, ◌+◌, ◌-◌, ◌<◌, min, List, [], length, Bool, true, false, cond, ◌&&◌}
-use Rattle.gpu_descriptor.proofs.Common.{Option, Some, None, nat_eq, nat_lt, refl, sym, ap, ◌∙◌, arith, lt-ltb}
-use Rattle.gpu_descriptor.proofs.Common.{eqb-true, fun_ext, and_from, Key, Entry, Pool, Ledger, Counters, live_sets}
-use Rattle.gpu_descriptor.proofs.Common.{on_pool, option_map, after_alloc, after_no_alloc, alloc_refused, pool_refusals}
-use Rattle.gpu_descriptor.proofs.Common.{no_rise, LiveSet, DeviceAllocationError, pool_with, risen, IsAsked, IsNoMemory}
+use Rattle.gpu_descriptor.proofs.Common.{◌≡◌, ℕ, ◌+◌, ◌-◌, ◌<◌, min, List, [], length, Bool, true, false, cond, ◌&&◌, Option, Some, None, nat_eq, nat_lt, refl, sym, ap, ◌∙◌, arith, lt-ltb, eqb-true, fun_ext, and_from, Key, Entry, Pool, Ledger, Counters, live_sets, on_pool, option_map, after_alloc}
+use Rattle.gpu_descriptor.proofs.Common.{after_no_alloc, alloc_refused, pool_refusals, no_rise, LiveSet, DeviceAllocationError, pool_with, risen, IsAsked, IsNoMemory}
 
 pub same_entry : (a b : Entry) → a.number ≡ b.number → a.pool ≡ b.pool → a.capacity ≡ b.capacity → a.allocated ≡ b.allocated → a.available ≡ b.available → a ≡ b
 same_entry a b number pool capacity allocated free = λ i. record { number = number i; pool = pool i; capacity = capacity i; allocated = allocated i; available = free i }

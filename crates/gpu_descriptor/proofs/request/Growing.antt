@@ -1,18 +1,8 @@
 -- The new pools of a request, as far as it has come.
-use Rattle.gpu_descriptor.proofs.Common.{common_steps}
-use Rattle.gpu_descriptor.proofs.Common.{◌≡◌, ℕ, zero, suc, take, drop, ◌+◌, ◌-◌, ◌<◌, List, [], ◌∷◌, ◌++◌}
-use Rattle.gpu_descriptor.proofs.Common.{length, map, Bool, true, false, cond, ◌==◌, nat_eq, Option, Some, None, Ok}
-use Rattle.gpu_descriptor.proofs.Common.{Err, refl, sym, ap, ◌∙◌, subst, arith, eqb-true, eq-eqb}
-use Rattle.gpu_descriptor.proofs.Common.{fun_ext, nil_from_length, eqb-false, map-append}
-use Rattle.gpu_descriptor.proofs.Common.{append-nil, sum_by-cons, sum_by-append, list_any, update, if◌then◌else◌}
-use Rattle.gpu_descriptor.proofs.Common.{option_map, Item, flags_of, Key, Entry, Bucket, Pool, Ledger, live_sets}
-use Rattle.gpu_descriptor.proofs.Common.{on_pool, or_from, or_parts, pool_counts, Stop}
-use Rattle.gpu_descriptor.proofs.Common.{list_any-append, Fresh, fresh_portions, fresh_entries, fresh_entry}
-use Rattle.gpu_descriptor.proofs.Common.{number_after, numbers_of, given_by, IsNextSize, room_after, AreSized, AreFull}
-use Rattle.gpu_descriptor.proofs.Common.{AreNew, IsFreshPrefix, IsFreshList, Grant, Part, items_at, portion_of, came}
-use Rattle.gpu_descriptor.proofs.Common.{pool_with, ledger_with, fresh_or, IsGrown, IsTaken, IsRefused, allocated_in}
-use Rattle.gpu_descriptor.proofs.Common.{pool_descriptors, risen, grant_rise, StopsAtNew, StopsAt, rest}
-use Rattle.gpu_descriptor.proofs.Common.{all_shared, portions_of, AreBookedIn, HasTaken, IsWalked}
+use Rattle.gpu_descriptor.proofs.Common.{common_steps, ◌≡◌, ℕ, zero, suc, take, drop, ◌+◌, ◌-◌, ◌<◌, List, [], ◌∷◌, ◌++◌, length, map, Bool, true, false, cond, ◌==◌, nat_eq, Option, Some, None, Ok, Err, refl, sym, ap, ◌∙◌, subst, arith, eqb-true, eq-eqb, fun_ext, nil_from_length, eqb-false}
+use Rattle.gpu_descriptor.proofs.Common.{map-append, append-nil, sum_by-cons, sum_by-append, list_any, update, if◌then◌else◌, option_map, Item, flags_of, Key, Entry, Bucket, Pool, Ledger, live_sets, on_pool, or_from, or_parts, pool_counts, Stop, list_any-append, Fresh, fresh_portions}
+use Rattle.gpu_descriptor.proofs.Common.{fresh_entries, fresh_entry, number_after, numbers_of, given_by, IsNextSize, room_after, AreSized, AreFull, AreNew, IsFreshPrefix, IsFreshList, Grant, Part, items_at, portion_of, came, pool_with, ledger_with, fresh_or, IsGrown, IsTaken, IsRefused}
+use Rattle.gpu_descriptor.proofs.Common.{allocated_in, pool_descriptors, risen, grant_rise, StopsAtNew, StopsAt, rest, all_shared, portions_of, AreBookedIn, HasTaken, IsWalked}
 use Rattle.gpu_descriptor.proofs.sums.PoolsLoad.{pools_load}
 use Rattle.gpu_descriptor.specs.declared.bucket.stop.Stop.TheVariants as stop
 use Rattle.gpu_descriptor_types.specs.Ledger as ledgers

@@ -1,11 +1,6 @@
 -- What a request takes of one key, in the table of keys.
-use Rattle.gpu_descriptor.proofs.Common.{bool_iff, ltb-true, ◌≡◌, ℕ, ◌+◌, ◌≤◌, Bool, true, false, List, [], ◌∷◌, ◌++◌}
-use Rattle.gpu_descriptor.proofs.Common.{length, Option, Some, None, is_some, Result, Ok, Err, inl, inr, refl, sym, ap}
-use Rattle.gpu_descriptor.proofs.Common.{◌∙◌, subst, arith, ◌-◌, ◌&&◌, lt-ltb, map, lookup, set_value, option_map_or}
-use Rattle.gpu_descriptor.proofs.Common.{nat_lt, sum_by, if◌then◌else◌, cases_Bool, sum_by-append, Meaning, Ledger}
-use Rattle.gpu_descriptor.proofs.Common.{Pool, BucketKey, DescriptorSet, DescriptorBucket, Stop, Key, key_eq, Bucket}
-use Rattle.gpu_descriptor.proofs.Common.{no_pools, key_of, Item, set_descriptors, books_in, bucket_of, row_of, HasTaken}
-use Rattle.gpu_descriptor.proofs.Common.{Grant, IsGrantOf, IsServed, ServesKey}
+use Rattle.gpu_descriptor.proofs.Common.{bool_iff, ltb-true, ◌≡◌, ℕ, ◌+◌, ◌≤◌, Bool, true, false, List, [], ◌∷◌, ◌++◌, length, Option, Some, None, is_some, Result, Ok, Err, inl, inr, refl, sym, ap, ◌∙◌, subst, arith, ◌-◌, ◌&&◌, lt-ltb, map, lookup, set_value, option_map_or, nat_lt, sum_by}
+use Rattle.gpu_descriptor.proofs.Common.{if◌then◌else◌, cases_Bool, sum_by-append, Meaning, Ledger, Pool, BucketKey, DescriptorSet, DescriptorBucket, Stop, Key, key_eq, Bucket, no_pools, key_of, Item, set_descriptors, books_in, bucket_of, row_of, HasTaken, Grant, IsGrantOf, IsServed, ServesKey}
 use Rattle.std.proofs.lemmas.Map.Steps.{set_value_same}
 use Rattle.gpu_descriptor.proofs.table.Exact.{key_exact}
 use Rattle.gpu_descriptor.proofs.sums.Loads.{IsRow, IsWritten, load_in, sum_set, set_descriptors-add, rows_out, rows_load}

@@ -1,11 +1,6 @@
 -- What a request takes of a key's pools leaves books and ledger of the key in agreement.
-use Rattle.gpu_descriptor.proofs.Common.{common_steps}
-use Rattle.gpu_descriptor.proofs.Common.{◌≡◌, ◌≢◌, ℕ, ◌+◌, ◌<◌, ◌≤◌, inl, inr, List, [], ◌∷◌, ◌++◌, length, Bool}
-use Rattle.gpu_descriptor.proofs.Common.{false, refl, sym, ap, ◌∙◌, arith, length-append, cases_Bool}
-use Rattle.gpu_descriptor.proofs.Common.{cases_lt, length-map, if◌then◌else◌, Pool, live_sets, LiveSet, set_eq, times}
-use Rattle.gpu_descriptor.proofs.Common.{bool_iff, count_by_yes, count_by_no, set_exact, times-append, Key}
-use Rattle.gpu_descriptor.proofs.Common.{Entry, Item, item_eq, set_of, count_of, IsAsBooked, ∥∥₁_map}
-use Rattle.gpu_descriptor.proofs.Common.{count_by-append, items_at, pool_with}
+use Rattle.gpu_descriptor.proofs.Common.{common_steps, ◌≡◌, ◌≢◌, ℕ, ◌+◌, ◌<◌, ◌≤◌, inl, inr, List, [], ◌∷◌, ◌++◌, length, Bool, false, refl, sym, ap, ◌∙◌, arith, length-append, cases_Bool, cases_lt, length-map, if◌then◌else◌, Pool, live_sets, LiveSet, set_eq, times, bool_iff, count_by_yes}
+use Rattle.gpu_descriptor.proofs.Common.{count_by_no, set_exact, times-append, Key, Entry, Item, item_eq, set_of, count_of, IsAsBooked, ∥∥₁_map, count_by-append, items_at, pool_with}
 use Rattle.gpu_descriptor.proofs.table.Exact.{item_exact, item_from}
 
 -- a set that stands among sets of these counts has them

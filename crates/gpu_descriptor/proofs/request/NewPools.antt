@@ -1,11 +1,6 @@
 -- The new pools of a request: their sizes, their numbers, and what the pools before them have left.
-use Rattle.gpu_descriptor.proofs.Common.{common_steps}
-use Rattle.gpu_descriptor.proofs.Common.{◌≡◌, ℕ, ◌+◌, ◌-◌, ◌<◌, Bool, List, [], ◌∷◌, ◌++◌, length, take, refl, sym, ap}
-use Rattle.gpu_descriptor.proofs.Common.{◌∙◌, arith, append_assoc, length-append, All, take_at, All-nil, All-cons}
-use Rattle.gpu_descriptor.proofs.Common.{All-append, All-same, sum_by-cons, Option, State, Key, Entry, Fresh, AreSized}
-use Rattle.gpu_descriptor.proofs.Common.{AreFull, IsFreshList, given_by, fresh_entries, fresh_entry, next_number, Grant}
-use Rattle.gpu_descriptor.proofs.Common.{granted, pool_descriptors, Call, IsDone, out_then, wanting, AreBelowTwice}
-use Rattle.gpu_descriptor.proofs.Common.{offer, rest, shared, all_shared}
+use Rattle.gpu_descriptor.proofs.Common.{common_steps, ◌≡◌, ℕ, ◌+◌, ◌-◌, ◌<◌, Bool, List, [], ◌∷◌, ◌++◌, length, take, refl, sym, ap, ◌∙◌, arith, append_assoc, length-append, All, take_at, All-nil, All-cons, All-append, All-same, sum_by-cons, Option, State, Key, Entry, Fresh, AreSized, AreFull}
+use Rattle.gpu_descriptor.proofs.Common.{IsFreshList, given_by, fresh_entries, fresh_entry, next_number, Grant, granted, pool_descriptors, Call, IsDone, out_then, wanting, AreBelowTwice, offer, rest, shared, all_shared}
 use Rattle.gpu_descriptor.specs.Model.FreshPools.IsFreshList.{none as no_fresh, some as some_fresh}
 use Rattle.gpu_descriptor.proofs.table.Exact.{key_exact}
 use Rattle.gpu_descriptor.proofs.request.FreshNumbers.{fresh_entries_more}

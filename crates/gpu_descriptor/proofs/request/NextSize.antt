@@ -1,9 +1,6 @@
 -- What a key's next pool takes of the room, and when its size was cut.
-use Rattle.gpu_descriptor.proofs.Common.{common_steps}
-use Rattle.gpu_descriptor.proofs.Common.{greatest_pool_size, ◌≡◌, ℕ, ◌+◌, ◌-◌, ◌*◌, ◌<◌, ◌≤◌, sum, List, [], ◌∷◌}
-use Rattle.gpu_descriptor.proofs.Common.{◌++◌, inl, inr, refl, sym, subst, arith, mul-le-mul_right, cases_Bool}
-use Rattle.gpu_descriptor.proofs.Common.{if◌then◌else◌, Option, IsPoolSize, sets_in_room, start_size, Key, Fresh}
-use Rattle.gpu_descriptor.proofs.Common.{IsNextSize, AreSized, room_after, pool_descriptors}
+use Rattle.gpu_descriptor.proofs.Common.{common_steps, greatest_pool_size, ◌≡◌, ℕ, ◌+◌, ◌-◌, ◌*◌, ◌<◌, ◌≤◌, sum, List, [], ◌∷◌, ◌++◌, inl, inr, refl, sym, subst, arith, mul-le-mul_right, cases_Bool, if◌then◌else◌, Option, IsPoolSize, sets_in_room, start_size, Key, Fresh, IsNextSize, AreSized}
+use Rattle.gpu_descriptor.proofs.Common.{room_after, pool_descriptors}
 use Rattle.gpu_descriptor_types.proofs.Room.{bounded_few, bounded_whole, few_in_room, fits_in_room, whole_in_room}
 use Rattle.gpu_descriptor_types.proofs.Sizes.{pool_size_small, pool_size_below}
 

@@ -1,11 +1,6 @@
 -- The walk over the open pools: the pools between them have nothing to give.
-use Rattle.gpu_descriptor.proofs.Common.{common_steps}
-use Rattle.gpu_descriptor.proofs.Common.{◌≡◌, ℕ, suc, ◌+◌, ◌-◌, ◌<◌, ◌≤◌, List, [], ◌∷◌, ◌++◌, length, min, slice_set}
-use Rattle.gpu_descriptor.proofs.Common.{None, Some, Err, refl, sym, ap, ◌∙◌, arith, inl, inr, map}
-use Rattle.gpu_descriptor.proofs.Common.{length-map, map-set, length-set, slice_get-map, slice_get_within, lt-ltb}
-use Rattle.gpu_descriptor.proofs.Common.{cases_lt, slice_get, option_map, Ledger, Counters, DescriptorPool, Item, Key}
-use Rattle.gpu_descriptor.proofs.Common.{Entry, DeviceAllocationError, AreBookedIn, IsBookedIn, free_in, open_numbers}
-use Rattle.gpu_descriptor.proofs.Common.{entry_of, IsAsked, IsNoMemory, IsTaken, items_at}
+use Rattle.gpu_descriptor.proofs.Common.{common_steps, ◌≡◌, ℕ, suc, ◌+◌, ◌-◌, ◌<◌, ◌≤◌, List, [], ◌∷◌, ◌++◌, length, min, slice_set, None, Some, Err, refl, sym, ap, ◌∙◌, arith, inl, inr, map, length-map, map-set, length-set, slice_get-map, slice_get_within, lt-ltb, cases_lt, slice_get, option_map}
+use Rattle.gpu_descriptor.proofs.Common.{Ledger, Counters, DescriptorPool, Item, Key, Entry, DeviceAllocationError, AreBookedIn, IsBookedIn, free_in, open_numbers, entry_of, IsAsked, IsNoMemory, IsTaken, items_at}
 use Rattle.gpu_descriptor.specs.declared.bucket.stop.Stop.TheVariants.{ExistingPoolWithoutMemory}
 use Rattle.gpu_descriptor.proofs.table.Exact.{bucket}
 use Rattle.gpu_descriptor.proofs.lists.OpenList.{listed_closes, listed_stays}

@@ -1,16 +1,8 @@
 -- A request that took sets is as the definitions say: kept whole, or given back.
-use Rattle.gpu_descriptor.proofs.Common.{common_steps}
-use Rattle.gpu_descriptor.proofs.Common.{fun_ext, ◌≡◌, ℕ, ◌+◌, ◌-◌, ◌<◌, Some, is_some, true, List, [], ◌∷◌, length}
-use Rattle.gpu_descriptor.proofs.Common.{arith, Result, Ok, Err, OnOk, refl, sym, ap, ◌∙◌, subst, length-map, side}
-use Rattle.gpu_descriptor.proofs.Common.{Meaning, Ledger, no_rise, AllocationError, DescriptorSet, Stop, State, Item}
-use Rattle.gpu_descriptor.proofs.Common.{Agree, AreOutstanding, Option, Pool, count_of, outstanding, key_eq}
-use Rattle.gpu_descriptor.proofs.Common.{if◌then◌else◌, Key, Bucket, HasDistinctKeys, Allocations, KeepsForeign}
-use Rattle.gpu_descriptor.proofs.Common.{GivesBack, Grant, IsGrantOf, bucket_with, items_in, granted, ledger_with}
-use Rattle.gpu_descriptor.proofs.Common.{IsTaken, IsRefused, set_descriptors, Allocates, Call, Proceeds, taken_by}
-use Rattle.gpu_descriptor.proofs.Common.{risen, rollback_rise, StopsAt, stop_error, stop_rise, IsUntouched}
-use Rattle.gpu_descriptor.proofs.Common.{KeepsOtherKeys, AreOfKey, AreOutBesides, KeepsOutstanding, released}
-use Rattle.gpu_descriptor.proofs.Common.{pools_gone, call_of, Takes, runs, item_of, items_of, state_of, table_of}
-use Rattle.gpu_descriptor.proofs.Common.{outstanding_of, marked_load_of, pool_load_of, HasTaken}
+use Rattle.gpu_descriptor.proofs.Common.{common_steps, fun_ext, ◌≡◌, ℕ, ◌+◌, ◌-◌, ◌<◌, Some, is_some, true, List, [], ◌∷◌, length, arith, Result, Ok, Err, OnOk, refl, sym, ap, ◌∙◌, subst, length-map, side, Meaning, Ledger, no_rise, AllocationError, DescriptorSet, Stop, State, Item, Agree}
+use Rattle.gpu_descriptor.proofs.Common.{AreOutstanding, Option, Pool, count_of, outstanding, key_eq, if◌then◌else◌, Key, Bucket, HasDistinctKeys, Allocations, KeepsForeign, GivesBack, Grant, IsGrantOf, bucket_with, items_in, granted, ledger_with, IsTaken, IsRefused, set_descriptors, Allocates}
+use Rattle.gpu_descriptor.proofs.Common.{Call, Proceeds, taken_by, risen, rollback_rise, StopsAt, stop_error, stop_rise, IsUntouched, KeepsOtherKeys, AreOfKey, AreOutBesides, KeepsOutstanding, released, pools_gone, call_of, Takes, runs, item_of, items_of, state_of, table_of, outstanding_of}
+use Rattle.gpu_descriptor.proofs.Common.{marked_load_of, pool_load_of, HasTaken}
 use Rattle.gpu_descriptor.specs.Caller.Others.{others_of}
 use Rattle.gpu_descriptor.specs.Model.Outcomes.Allocates.{done, stopped}
 use Rattle.gpu_descriptor.specs.Caller.States.{keys_of}

@@ -1,6 +1,5 @@
 -- What was put has the layout that was asked for.
-use Rattle.gpu_descriptor.proofs.Common.{common_steps}
-use Rattle.gpu_descriptor.proofs.Common.{◌≡◌, ◌++◌, ℕ, List, map, drop, drop_all, length, All, All-append, arith, subst, sym, DescriptorSet, IsOfLayout, AreOfLayout, Key, Meaning, set_at}
+use Rattle.gpu_descriptor.proofs.Common.{common_steps, ◌≡◌, ◌++◌, ℕ, List, map, drop, drop_all, length, All, All-append, arith, subst, sym, DescriptorSet, IsOfLayout, AreOfLayout, Key, Meaning, set_at}
 use Rattle.std.proofs.Math.Seq.{drop-append-add}
 use Rattle.std.proofs.lemmas.List.{drop-append-le}
 use Rattle.std.proofs.lemmas.List.Elements.{All-drop, All-map}

@@ -1,10 +1,6 @@
 -- Known free places are room on the device.
-use Rattle.gpu_descriptor.proofs.Common.{common_steps}
-use Rattle.gpu_descriptor.proofs.Common.{◌≡◌, ℕ, zero, suc, ◌+◌, ◌*◌, ◌<◌, ◌≤◌, List, [], ◌∷◌, length, map}
-use Rattle.gpu_descriptor.proofs.Common.{Bool, true, false, slice_index, refl, sym, ap, subst, arith}
-use Rattle.gpu_descriptor.proofs.Common.{mul-le-mul_right, sum_by-cons, IsTrue, sum, sum_by, flags_of}
-use Rattle.gpu_descriptor.proofs.Common.{Key, Entry, count_by_yes, set_exact, IsUpdateAfterBind, Ledger, CanGive}
-use Rattle.gpu_descriptor.proofs.Common.{LiveSet, set_eq, times, pool_counts, IsBookedIn}
+use Rattle.gpu_descriptor.proofs.Common.{common_steps, ◌≡◌, ℕ, zero, suc, ◌+◌, ◌*◌, ◌<◌, ◌≤◌, List, [], ◌∷◌, length, map, Bool, true, false, slice_index, refl, sym, ap, subst, arith, mul-le-mul_right, sum_by-cons, IsTrue, sum, sum_by, flags_of, Key, Entry, count_by_yes, set_exact}
+use Rattle.gpu_descriptor.proofs.Common.{IsUpdateAfterBind, Ledger, CanGive, LiveSet, set_eq, times, pool_counts, IsBookedIn}
 use Rattle.gpu_descriptor.proofs.lists.AtPlaces.{count_by_more}
 use Rattle.gpu_descriptor.proofs.sums.Sized.{listed}
 

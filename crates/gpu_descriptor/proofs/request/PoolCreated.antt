@@ -1,13 +1,7 @@
 -- What a new pool does to the ledger.
-use Rattle.gpu_descriptor.proofs.Common.{◌↔◌, ◌≡◌, ◌≢◌, ◌<◌, ℕ, ◌+◌, ◌-◌, ◌≤◌, min, List, [], ◌∷◌, ◌++◌, length, Bool}
-use Rattle.gpu_descriptor.proofs.Common.{true, false, cond, nat_eq, Option, Some, None, slice_index, refl, sym, ap, ◌∙◌}
-use Rattle.gpu_descriptor.proofs.Common.{arith, eqb-true, mul-le-mul_right, fun_ext, update, flags_of, Key, Entry, Pool}
-use Rattle.gpu_descriptor.proofs.Common.{Ledger, Counters, CanGive, HasNoSets, live_sets, fresh, after_create}
-use Rattle.gpu_descriptor.proofs.Common.{after_no_create, after_alloc, after_no_alloc, after_destroy, create_refused}
-use Rattle.gpu_descriptor.proofs.Common.{alloc_refused, pool_refusals, no_rise, CreatePoolError, pool_counts}
-use Rattle.gpu_descriptor.proofs.Common.{DeviceAllocationError, Stop, update_here, IsNextSize, pool_descriptors}
-use Rattle.gpu_descriptor.proofs.Common.{IsGrown, IsRefused, risen, stop_rise, option_map, fresh_entry, number_after}
-use Rattle.gpu_descriptor.proofs.Common.{numbers_of}
+use Rattle.gpu_descriptor.proofs.Common.{◌↔◌, ◌≡◌, ◌≢◌, ◌<◌, ℕ, ◌+◌, ◌-◌, ◌≤◌, min, List, [], ◌∷◌, ◌++◌, length, Bool, true, false, cond, nat_eq, Option, Some, None, slice_index, refl, sym, ap, ◌∙◌, arith, eqb-true, mul-le-mul_right, fun_ext, update, flags_of, Key, Entry, Pool, Ledger, Counters}
+use Rattle.gpu_descriptor.proofs.Common.{CanGive, HasNoSets, live_sets, fresh, after_create, after_no_create, after_alloc, after_no_alloc, after_destroy, create_refused, alloc_refused, pool_refusals, no_rise, CreatePoolError, pool_counts, DeviceAllocationError, Stop, update_here, IsNextSize}
+use Rattle.gpu_descriptor.proofs.Common.{pool_descriptors, IsGrown, IsRefused, risen, stop_rise, option_map, fresh_entry, number_after, numbers_of}
 use Rattle.gpu_descriptor.specs.declared.bucket.stop.Stop.TheVariants as stop
 use Rattle.gpu_descriptor_types.proofs.Counting.{none_spelled}
 use Rattle.gpu_descriptor.proofs.request.Asks.{same_counters}

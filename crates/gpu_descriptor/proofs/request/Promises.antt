@@ -1,14 +1,7 @@
 -- What every outcome of a request promises.
-use Rattle.gpu_descriptor.proofs.Common.{common_steps}
-use Rattle.gpu_descriptor.proofs.Common.{◌≡◌, ◌≢◌, ℕ, suc, ◌+◌, ◌-◌, ◌*◌, ◌<◌, ◌≤◌, Bool, Option, List, [], ◌∷◌, map}
-use Rattle.gpu_descriptor.proofs.Common.{length, sum_by, inl, inr, refl, sym, ap, ◌∙◌, subst, arith, length-map}
-use Rattle.gpu_descriptor.proofs.Common.{length-append, sum_by-cons, sum_by-append, pool_size_floor, ◌↔◌, OnOk}
-use Rattle.gpu_descriptor.proofs.Common.{Counters, create_refused, alloc_refused, no_rise, CreatePoolError}
-use Rattle.gpu_descriptor.proofs.Common.{DeviceAllocationError, Stop, Key, Entry, cases_lt, ◌⊎◌, Allocates, Call}
-use Rattle.gpu_descriptor.proofs.Common.{IsBack, IsDone, IsStopped, StopsAt, out_then, stop_rise, wanting, Fresh}
-use Rattle.gpu_descriptor.proofs.Common.{IsFreshPrefix, IsNextSize, room_after, AreSized, AreFull, IsFreshList}
-use Rattle.gpu_descriptor.proofs.Common.{given_by, Grant, Part, portion_of, items_in, AreBelowTwice, IsShort}
-use Rattle.gpu_descriptor.proofs.Common.{CreatesOnlyWhereShort, pool_descriptors, Portion, rest, portions_of}
+use Rattle.gpu_descriptor.proofs.Common.{common_steps, ◌≡◌, ◌≢◌, ℕ, suc, ◌+◌, ◌-◌, ◌*◌, ◌<◌, ◌≤◌, Bool, Option, List, [], ◌∷◌, map, length, sum_by, inl, inr, refl, sym, ap, ◌∙◌, subst, arith, length-map, length-append, sum_by-cons, sum_by-append, pool_size_floor, ◌↔◌, OnOk, Counters}
+use Rattle.gpu_descriptor.proofs.Common.{create_refused, alloc_refused, no_rise, CreatePoolError, DeviceAllocationError, Stop, Key, Entry, cases_lt, ◌⊎◌, Allocates, Call, IsBack, IsDone, IsStopped, StopsAt, out_then, stop_rise, wanting, Fresh, IsFreshPrefix, IsNextSize, room_after, AreSized}
+use Rattle.gpu_descriptor.proofs.Common.{AreFull, IsFreshList, given_by, Grant, Part, portion_of, items_in, AreBelowTwice, IsShort, CreatesOnlyWhereShort, pool_descriptors, Portion, rest, portions_of}
 use Rattle.gpu_descriptor_types.proofs.Sizes.{pool_size_some}
 use Rattle.gpu_descriptor.specs.declared.bucket.stop.Stop.TheVariants as stop
 use Rattle.gpu_descriptor.specs.Model.Outcomes.Allocates.{none, above_limit as was_above_limit, past_bound as was_past_bound, no_memory_at_start as had_no_memory, done, stopped}

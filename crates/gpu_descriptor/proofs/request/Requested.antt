@@ -1,15 +1,7 @@
 -- What a request leaves of an allocator: why it is declined before the walk, and what it took.
-use Rattle.gpu_descriptor.proofs.Common.{common_steps}
-use Rattle.gpu_descriptor.proofs.Common.{side, Meaning, greatest_u64, [], ◌≡◌, ℕ, ◌+◌, ◌*◌, ◌<◌, ◌≤◌, ◌&&◌, Bool}
-use Rattle.gpu_descriptor.proofs.Common.{true, false, List, map, length, sum, Option, Result, Err, inl, inr, refl, sym}
-use Rattle.gpu_descriptor.proofs.Common.{ap, subst, ◌∙◌, arith, mul-le-mul_right, and_parts, ltb-true}
-use Rattle.gpu_descriptor.proofs.Common.{ltb-false, IsDistinct, nat_lt, ◌⊎◌, kinds, Ledger, AllocationError, BucketKey}
-use Rattle.gpu_descriptor.proofs.Common.{DescriptorSet, DescriptorBucket, Stop, Key, key_eq, Bucket, BucketOf}
-use Rattle.gpu_descriptor.proofs.Common.{HasDistinctKeys, books_of, next_number, sum_over, key_of, Allocations}
-use Rattle.gpu_descriptor.proofs.Common.{bucket_load, set_descriptors, IsWithinLimit}
-use Rattle.gpu_descriptor.proofs.Common.{call_of, IsDeclined, IsUnserved, IsSound, ServesKey, Takes, named_row}
-use Rattle.gpu_descriptor.proofs.Common.{state_of, table_of, outstanding_of, marked_load_of, pool_load_of, IsConsistent}
-use Rattle.gpu_descriptor.proofs.Common.{row_of, stored_keys, books_in}
+use Rattle.gpu_descriptor.proofs.Common.{common_steps, side, Meaning, greatest_u64, [], ◌≡◌, ℕ, ◌+◌, ◌*◌, ◌<◌, ◌≤◌, ◌&&◌, Bool, true, false, List, map, length, sum, Option, Result, Err, inl, inr, refl, sym, ap, subst, ◌∙◌, arith, mul-le-mul_right, and_parts, ltb-true, ltb-false, IsDistinct}
+use Rattle.gpu_descriptor.proofs.Common.{nat_lt, ◌⊎◌, kinds, Ledger, AllocationError, BucketKey, DescriptorSet, DescriptorBucket, Stop, Key, key_eq, Bucket, BucketOf, HasDistinctKeys, books_of, next_number, sum_over, key_of, Allocations, bucket_load, set_descriptors, IsWithinLimit, call_of}
+use Rattle.gpu_descriptor.proofs.Common.{IsDeclined, IsUnserved, IsSound, ServesKey, Takes, named_row, state_of, table_of, outstanding_of, marked_load_of, pool_load_of, IsConsistent, row_of, stored_keys, books_in}
 use Rattle.gpu_descriptor.specs.declared.errors.AllocationError.TheVariants.{Fragmentation, OutOfHostMemory}
 use Rattle.gpu_descriptor.specs.Model.Outcomes.Allocates.{past_bound, no_memory_at_start}
 use Rattle.gpu_descriptor.proofs.table.TableBooks.{rows_are, distinct_rows}

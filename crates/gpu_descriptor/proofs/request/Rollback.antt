@@ -1,12 +1,6 @@
 -- What giving the sets of a request back leaves, and how it raises the counters.
-use Rattle.gpu_descriptor.proofs.Common.{common_steps}
-use Rattle.gpu_descriptor.proofs.Common.{◌+◌, ◌≡◌, ℕ, ◌<◌, false, List, [], ◌∷◌, map, sum_by, inl, inr, refl, sym}
-use Rattle.gpu_descriptor.proofs.Common.{ap, ◌∙◌, arith, suc, length, fun_ext, cases_Bool, or_parts, false_from_ne_true}
-use Rattle.gpu_descriptor.proofs.Common.{sum_by-cons, list_any, if◌then◌else◌, any_found, count_by_yes, Counters}
-use Rattle.gpu_descriptor.proofs.Common.{no_rise, State, Item, item_eq, count_of, Agree, Key, key_eq, Bucket, BucketOf}
-use Rattle.gpu_descriptor.proofs.Common.{books_of, no_pools, HasDistinctKeys, set_descriptors, more_released}
-use Rattle.gpu_descriptor.proofs.Common.{more_destroyed, given_back, released, pools_gone, spent_front, bucket_less}
-use Rattle.gpu_descriptor.proofs.Common.{marked_descriptors, risen, named_row}
+use Rattle.gpu_descriptor.proofs.Common.{common_steps, ◌+◌, ◌≡◌, ℕ, ◌<◌, false, List, [], ◌∷◌, map, sum_by, inl, inr, refl, sym, ap, ◌∙◌, arith, suc, length, fun_ext, cases_Bool, or_parts, false_from_ne_true, sum_by-cons, list_any, if◌then◌else◌, any_found, count_by_yes, Counters, no_rise, State}
+use Rattle.gpu_descriptor.proofs.Common.{Item, item_eq, count_of, Agree, Key, key_eq, Bucket, BucketOf, books_of, no_pools, HasDistinctKeys, set_descriptors, more_released, more_destroyed, given_back, released, pools_gone, spent_front, bucket_less, marked_descriptors, risen, named_row}
 use Rattle.gpu_descriptor.proofs.lists.AtPlaces.{count_by_more}
 use Rattle.gpu_descriptor.proofs.request.Asks.{same_counters}
 use Rattle.gpu_descriptor.proofs.table.Exact.{key_exact, item_exact}

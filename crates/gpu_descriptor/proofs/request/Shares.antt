@@ -1,10 +1,5 @@
 -- The shares of the newer pools stay when an older pool is asked.
-use Rattle.gpu_descriptor.proofs.Common.{common_steps}
-use Rattle.gpu_descriptor.proofs.Common.{ne_eqb, ◌≡◌, ◌≢◌, ℕ, zero, suc}
-use Rattle.gpu_descriptor.proofs.Common.{List, [], ◌∷◌, Bool, false, ◌&&◌, ◌||◌, ◌==◌, Some, refl, arith, eq-eqb}
-use Rattle.gpu_descriptor.proofs.Common.{sum_by-cons, slice_get, sum_by, Entry, offer, rest}
-use Rattle.gpu_descriptor.proofs.Common.{all_shared, asked_count, refused_count, asks}
-use Rattle.gpu_descriptor.proofs.Common.{OnlyAskedRefuse, portions_of}
+use Rattle.gpu_descriptor.proofs.Common.{common_steps, ne_eqb, ◌≡◌, ◌≢◌, ℕ, zero, suc, List, [], ◌∷◌, Bool, false, ◌&&◌, ◌||◌, ◌==◌, Some, refl, arith, eq-eqb, sum_by-cons, slice_get, sum_by, Entry, offer, rest, all_shared, asked_count, refused_count, asks, OnlyAskedRefuse, portions_of}
 
 -- the pools of the list aren't of this name
 abbrev pub IsApart : ℕ → List Entry → Type 0

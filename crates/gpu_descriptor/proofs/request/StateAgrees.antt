@@ -1,7 +1,5 @@
 -- Agreement of books and ledger: at one key, and by numbers.
-use Rattle.gpu_descriptor.proofs.Common.{arith}
-use Rattle.gpu_descriptor.proofs.Common.{common_steps}
-use Rattle.gpu_descriptor.proofs.Common.{◌≡◌, ℕ, Some, Key, Entry, entry_at, State, Agree, AreBookedIn, IsAsBooked, Pool}
+use Rattle.gpu_descriptor.proofs.Common.{arith, common_steps, ◌≡◌, ℕ, Some, Key, Entry, entry_at, State, Agree, AreBookedIn, IsAsBooked, Pool}
 use Rattle.gpu_descriptor.proofs.lists.Numbers.{entry_at-found}
 
 -- the key's part of the agreement

@@ -1,17 +1,8 @@
 -- What a request takes keeps books and ledger in agreement, and exactly its sets are outstanding besides.
-use Rattle.gpu_descriptor.proofs.Common.{common_steps}
-use Rattle.gpu_descriptor.proofs.Common.{◌≡◌, ◌≢◌, ℕ, suc, take, drop, ◌+◌, ◌-◌, ◌<◌, ◌⊎◌, inl, inr, List, [], ◌∷◌}
-use Rattle.gpu_descriptor.proofs.Common.{◌++◌, length, map, Bool, true, false, ◌==◌, Option, Some, None, refl, sym, ap}
-use Rattle.gpu_descriptor.proofs.Common.{◌∙◌, subst, arith, cases_Bool, cases_lt, ne_eqb, eqb-true, nil_from_length}
-use Rattle.gpu_descriptor.proofs.Common.{length-append, sum_by-append, slice_get, slice_get_within, slice_get_past}
-use Rattle.gpu_descriptor.proofs.Common.{list_any, option_map, option_map_or, if◌then◌else◌, flags_of, Key, key_eq}
-use Rattle.gpu_descriptor.proofs.Common.{Entry, Bucket, Pool, State, Item, LiveSet, live_sets, times, Agree, IsAsBooked}
-use Rattle.gpu_descriptor.proofs.Common.{entry_at, live_at, live_in, set_of, count_of, outstanding, pool_counts}
-use Rattle.gpu_descriptor.proofs.Common.{map-append, times-append, eqb-false, slice_get-get_or, get_or_from_slice_get}
-use Rattle.gpu_descriptor.proofs.Common.{get_or, IsBookedIn, Fresh, fresh_entries, fresh_entry, fresh_portions}
-use Rattle.gpu_descriptor.proofs.Common.{next_number, numbers_of, rises, Grant, Part, IsGrantOf, items_in, portion_of}
-use Rattle.gpu_descriptor.proofs.Common.{came, bucket_with, ledger_with, fresh_or, pool_with, items_at, granted}
-use Rattle.gpu_descriptor.proofs.Common.{Portion, all_shared, portions_of, KeepsForeign, KeepsOtherKeys}
+use Rattle.gpu_descriptor.proofs.Common.{◌≡◌, ◌≢◌, ℕ, suc, take, drop, ◌+◌, ◌-◌, ◌<◌, ◌⊎◌, inl, inr, List, [], ◌∷◌, ◌++◌, length, map, Bool, true, false, ◌==◌, Option, Some, None, refl, sym, ap, ◌∙◌, subst, arith, cases_Bool, cases_lt, ne_eqb, eqb-true, nil_from_length}
+use Rattle.gpu_descriptor.proofs.Common.{length-append, sum_by-append, slice_get, slice_get_within, slice_get_past, list_any, option_map, option_map_or, if◌then◌else◌, flags_of, Key, key_eq, Entry, Bucket, Pool, State, Item, LiveSet, live_sets, times, Agree, IsAsBooked, entry_at, live_at, live_in}
+use Rattle.gpu_descriptor.proofs.Common.{set_of, count_of, outstanding, pool_counts, map-append, times-append, eqb-false, slice_get-get_or, get_or_from_slice_get, get_or, IsBookedIn, Fresh, fresh_entries, fresh_entry, fresh_portions, next_number, numbers_of, rises, Grant, Part, IsGrantOf}
+use Rattle.gpu_descriptor.proofs.Common.{items_in, portion_of, came, bucket_with, ledger_with, fresh_or, pool_with, items_at, granted, Portion, all_shared, portions_of, KeepsForeign, KeepsOtherKeys}
 use Rattle.std.proofs.lemmas.List.{get_or-append-add}
 use Rattle.gpu_descriptor.proofs.lists.AtPlaces.{cases_option, get_drop, if_none, none_from}
 use Rattle.gpu_descriptor_types.specs.Ledger as ledgers
@@ -200,11 +191,18 @@ module _ (k : Key) (n : ℕ) (g : Grant) (s : State) (agree : Agree s) (grant : 
 
   -- another key's pool stays
   others_stay : (l : Key) (i : ℕ) (e : Entry) → key_eq k l ≡ false → slice_get (s.books l).pools i ≡ Some e → after e.pool ≡ s.ledger e.pool
-  others_stay l i e apart at = grind (arith, common_steps, apart_from, b, key_exact, not_new, untouched)
+  others_stay l i e apart at =
+      let was = agree.booked l i e at in
+      untouched e.pool (apart_from e.pool b.pools (λ j d there same. (
+      let both = agree.distinct k l j i d e there at same in
+      let bad : true ≡ false = sym (key_exact.self k) ∙ ap (key_eq k) both.0 ∙ apart in
+      absurd (cc)))) (not_new s.ledger e.pool was.0 g.fresh grant.new was.1)
 
   -- the key's numbers rise on
   rising_now : rises (numbers_of new.pools) ≡ true
-  rising_now  = grind (arith, common_steps, b, numbers_taken, rises, rises_fresh)
+  rising_now =
+      ap rises (numbers_taken g.refused n g.skipped b.pools (fresh_entries (next_number b) g.fresh))
+      ∙ rises_fresh (next_number b) g.fresh (numbers_of b.pools) (agree.rising k) (omega arith)
 
   pub granted_agree : Agree t
   granted_agree = record {
@@ -308,7 +306,10 @@ module _ (k : Key) (n : ℕ) (g : Grant) (s : State) (agree : Agree s) (grant : 
 
   -- where the key had pools it had the id
   live_then : (u : Item) → k ≡ u.key → outstanding s u ≡ (if g.id == u.id then live_at s.ledger b u else 0)
-  live_then u key = grind (arith, common_steps, b, cases_option, entry_at-found, if_none, slice_get_within)
+  live_then u key = ap (λ (l : Key). if (s.books l).id == u.id then live_at s.ledger (s.books l) u else 0) (sym key) ∙ elim (cases_option (entry_at b u.number)) [
+    | inl none ↦ (let zero : live_at s.ledger b u ≡ 0 = rw none refl in rw zero (if_none (b.id == u.id) ∙ sym (if_none (g.id == u.id))))
+    | inr e ↦ ap (λ (i : ℕ). if i == u.id then live_at s.ledger b u else 0) (sym (grant.id (let found = entry_at-found b u.number e.0 e.1 in let some = slice_get_within b.pools found.0 e.0 found.1 in omega arith)))
+  ]
 
   -- exactly these sets are outstanding besides
   pub granted_outstanding : (u : Item) → outstanding t u ≡ outstanding s u + count_of u items

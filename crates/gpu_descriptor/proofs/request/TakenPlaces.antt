@@ -1,13 +1,7 @@
 -- What stands at the places of a key's pools once a request took sets of them: an old pool with what it gave, or a new one.
-use Rattle.gpu_descriptor.proofs.Common.{common_steps}
-use Rattle.gpu_descriptor.proofs.Common.{greatest_pool_size, ◌≡◌, ◌≢◌, ℕ, zero, suc, take, drop, ◌+◌, ◌≤◌, ◌⊎◌, inl}
-use Rattle.gpu_descriptor.proofs.Common.{inr, List, [], ◌∷◌, ◌++◌, length, map, Bool, false, ◌==◌, Option, Some, None}
-use Rattle.gpu_descriptor.proofs.Common.{refl, sym, ap, ◌∙◌, subst, arith, cases_Bool, eq-eqb, ne_eqb, eqb-false}
-use Rattle.gpu_descriptor.proofs.Common.{or_parts, or_from, sum_by, sum_by-cons, sum_by-append}
-use Rattle.gpu_descriptor.proofs.Common.{slice_get, list_any, if◌then◌else◌, flags_of, Key, Entry, Pool, pool_counts}
-use Rattle.gpu_descriptor.proofs.Common.{Fresh, AreNew, AreSized, AreFull, IsFreshList, fresh_entries, fresh_entry}
-use Rattle.gpu_descriptor.proofs.Common.{fresh_portions, Part, portion_of, came, fresh_or, Portion, offer, share}
-use Rattle.gpu_descriptor.proofs.Common.{shared, all_shared, portions_of}
+use Rattle.gpu_descriptor.proofs.Common.{common_steps, greatest_pool_size, ◌≡◌, ◌≢◌, ℕ, zero, suc, take, drop, ◌+◌, ◌≤◌, ◌⊎◌, inl, inr, List, [], ◌∷◌, ◌++◌, length, map, Bool, false, ◌==◌, Option, Some, None, refl, sym, ap, ◌∙◌, subst, arith, cases_Bool, eq-eqb, ne_eqb, eqb-false, or_parts}
+use Rattle.gpu_descriptor.proofs.Common.{or_from, sum_by, sum_by-cons, sum_by-append, slice_get, list_any, if◌then◌else◌, flags_of, Key, Entry, Pool, pool_counts, Fresh, AreNew, AreSized, AreFull, IsFreshList, fresh_entries, fresh_entry, fresh_portions, Part, portion_of, came, fresh_or, Portion}
+use Rattle.gpu_descriptor.proofs.Common.{offer, share, shared, all_shared, portions_of}
 use Rattle.gpu_descriptor.specs.Model.FreshPools.IsFreshList.{none as none_fresh, some as some_fresh}
 use Rattle.gpu_descriptor_types.specs.Ledger as ledgers
 use Rattle.gpu_descriptor.proofs.lists.AtPlaces.{none_at}

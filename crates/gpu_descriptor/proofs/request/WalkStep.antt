@@ -1,15 +1,7 @@
 -- One step of the walk over a key's pools.
-use Rattle.gpu_descriptor.proofs.Common.{common_steps}
-use Rattle.gpu_descriptor.proofs.Common.{◌≡◌, ℕ, suc, ◌+◌, inl, inr, List, [], ◌∷◌, ◌++◌, length, map, take, drop}
-use Rattle.gpu_descriptor.proofs.Common.{slice_set, Bool, true, false, cond, ◌&&◌, ◌==◌, nat_eq, nat_lt, Option, Some}
-use Rattle.gpu_descriptor.proofs.Common.{None, refl, sym, ap, ◌∙◌, subst, arith, eqb-true, eq-eqb}
-use Rattle.gpu_descriptor.proofs.Common.{or_cases, and_parts, and_from, or_left, or_right, eqb-false, fun_ext}
-use Rattle.gpu_descriptor.proofs.Common.{map-append, append-nil, sum_by-cons, if◌then◌else◌, option_map, times-append}
-use Rattle.gpu_descriptor.proofs.Common.{Key, Entry, Bucket, Item, Pool, Ledger, Counters, live_sets, on_pool}
-use Rattle.gpu_descriptor.proofs.Common.{flat_map-append, Grant, Part, fresh_or, items_at, items_in}
-use Rattle.gpu_descriptor.proofs.Common.{portion_of, came, pool_with, ledger_with, Fresh, risen, grant_rise, offer}
-use Rattle.gpu_descriptor.proofs.Common.{rest, is_asked, share, all_shared, asked_count, refused_count}
-use Rattle.gpu_descriptor.proofs.Common.{OnlyAskedRefuse, portions_of, IsAsked, HasTaken}
+use Rattle.gpu_descriptor.proofs.Common.{common_steps, ◌≡◌, ℕ, suc, ◌+◌, inl, inr, List, [], ◌∷◌, ◌++◌, length, map, take, drop, slice_set, Bool, true, false, cond, ◌&&◌, ◌==◌, nat_eq, nat_lt, Option, Some, None, refl, sym, ap, ◌∙◌, subst, arith, eqb-true, eq-eqb, or_cases, and_parts, and_from}
+use Rattle.gpu_descriptor.proofs.Common.{or_left, or_right, eqb-false, fun_ext, map-append, append-nil, sum_by-cons, if◌then◌else◌, option_map, times-append, Key, Entry, Bucket, Item, Pool, Ledger, Counters, live_sets, on_pool, flat_map-append, Grant, Part, fresh_or, items_at, items_in}
+use Rattle.gpu_descriptor.proofs.Common.{portion_of, came, pool_with, ledger_with, Fresh, risen, grant_rise, offer, rest, is_asked, share, all_shared, asked_count, refused_count, OnlyAskedRefuse, portions_of, IsAsked, HasTaken}
 use Rattle.std.proofs.Math.Seq.{set-append_seam}
 use Rattle.gpu_descriptor.proofs.request.Asks.{same_counters}
 use Rattle.gpu_descriptor.proofs.table.Exact.{bucket}

@@ -1,12 +1,6 @@
 -- The walk over a key's pools, as far as it has come.
-use Rattle.gpu_descriptor.proofs.Common.{common_steps}
-use Rattle.gpu_descriptor.proofs.Common.{◌≡◌, ◌≢◌, ℕ, zero, suc, ◌+◌, ◌<◌, ◌≤◌, List, [], ◌∷◌, ◌++◌, length, map, min}
-use Rattle.gpu_descriptor.proofs.Common.{take, drop, slice_set, Bool, false, nat_lt, ◌&&◌, Option, None, Some, Err}
-use Rattle.gpu_descriptor.proofs.Common.{refl, sym, ap, ◌∙◌, subst, arith, append-nil, drop_all, fun_ext, slice_get}
-use Rattle.gpu_descriptor.proofs.Common.{Key, Entry, Item, Pool, Ledger, live_sets, DeviceAllocationError}
-use Rattle.gpu_descriptor.proofs.Common.{set_at, update_apart, items_of, Part, items_at, pool_with, ledger_with, rest}
-use Rattle.gpu_descriptor.proofs.Common.{all_shared, IsBookedIn, AreBookedIn, IsAsked, IsNoMemory, HasTaken, IsWalked}
-use Rattle.gpu_descriptor.proofs.Common.{IsTaken, option_map}
+use Rattle.gpu_descriptor.proofs.Common.{common_steps, ◌≡◌, ◌≢◌, ℕ, zero, suc, ◌+◌, ◌<◌, ◌≤◌, List, [], ◌∷◌, ◌++◌, length, map, min, take, drop, slice_set, Bool, false, nat_lt, ◌&&◌, Option, None, Some, Err, refl, sym, ap, ◌∙◌, subst, arith, append-nil, drop_all, fun_ext, slice_get, Key, Entry}
+use Rattle.gpu_descriptor.proofs.Common.{Item, Pool, Ledger, live_sets, DeviceAllocationError, set_at, update_apart, items_of, Part, items_at, pool_with, ledger_with, rest, all_shared, IsBookedIn, AreBookedIn, IsAsked, IsNoMemory, HasTaken, IsWalked, IsTaken, option_map}
 use Rattle.gpu_descriptor.specs.declared.bucket.stop.Stop.TheVariants.{ExistingPoolWithoutMemory}
 use Rattle.std.proofs.Math.Seq.{take-length}
 use Rattle.gpu_descriptor.proofs.table.Exact.{bucket}

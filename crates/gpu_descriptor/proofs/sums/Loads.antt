@@ -1,11 +1,6 @@
 -- The running totals of a table, and what a run takes from them.
-use Rattle.gpu_descriptor.proofs.Common.{◌≡◌, ℕ, ◌+◌, ◌-◌, ◌≤◌, Bool, true, List, [], ◌∷◌, ◌++◌, length, map, sum_by}
-use Rattle.gpu_descriptor.proofs.Common.{Option, Some, None, inl, inr, refl, sym, ap, ◌∙◌, arith, zero, suc, slice_get}
-use Rattle.gpu_descriptor.proofs.Common.{lookup, set_value, cases_Bool, sum_by-cons, BucketKey, DescriptorSet}
-use Rattle.gpu_descriptor.proofs.Common.{DescriptorBucket, Key, key_eq, sum_over, key_of, Allocations, common_steps}
-use Rattle.gpu_descriptor.proofs.Common.{bucket_load, descriptors_out, set_descriptors, sets_out, marked_descriptors}
-use Rattle.gpu_descriptor.proofs.Common.{items_of, outstanding_of, marked_load_of, AllPass, kept_in, kept_of, row_of}
-use Rattle.gpu_descriptor.proofs.Common.{stored_load, IsConsistent}
+use Rattle.gpu_descriptor.proofs.Common.{◌≡◌, ℕ, ◌+◌, ◌-◌, ◌≤◌, Bool, true, List, [], ◌∷◌, ◌++◌, length, map, sum_by, Option, Some, None, inl, inr, refl, sym, ap, ◌∙◌, arith, zero, suc, slice_get, lookup, set_value, cases_Bool, sum_by-cons, BucketKey, DescriptorSet, DescriptorBucket, Key, key_eq}
+use Rattle.gpu_descriptor.proofs.Common.{sum_over, key_of, Allocations, common_steps, bucket_load, descriptors_out, set_descriptors, sets_out, marked_descriptors, items_of, outstanding_of, marked_load_of, AllPass, kept_in, kept_of, row_of, stored_load, IsConsistent}
 use Rattle.indexmap.specs.Layout.{set_value_at}
 use Rattle.gpu_descriptor.specs.Inner.RunSteps.{lies_at}
 use Rattle.gpu_descriptor.specs.Inner.Stored.{IsCounted}

@@ -1,15 +1,8 @@
 -- As many sets are out as are outstanding.
 use Rattle.std.specs.List.{find}
-use Rattle.gpu_descriptor.proofs.Common.{list_all, nat_lt, and_parts, ltb-true, eqb-true, eqb-false, rises}
-use Rattle.gpu_descriptor.proofs.Common.{numbers_of, ◌≡◌, ℕ, suc, ◌+◌, ◌<◌, ◌≤◌, ◌==◌, true, false, List, [], ◌∷◌, ◌++◌}
-use Rattle.gpu_descriptor.proofs.Common.{length, map, sum_by, slice_get, Option, Some, None, inl, inr, refl, sym, ap}
-use Rattle.gpu_descriptor.proofs.Common.{◌∙◌, arith, length-append, if◌then◌else◌, cases_Bool, cases_lt, length-map}
-use Rattle.gpu_descriptor.proofs.Common.{sum_by-append, sum_by-cons, Pool, live_sets, LiveSet, set_eq, times}
-use Rattle.gpu_descriptor.proofs.Common.{count_by_yes, count_by_no, counts_alike, set_exact, State, Agree, Item}
-use Rattle.gpu_descriptor.proofs.Common.{item_eq, set_of, count_of, live_at, outstanding, Key, key_eq, Entry, Bucket}
-use Rattle.gpu_descriptor.proofs.Common.{no_pools, books_of, HasDistinctKeys, sum_over, AddsUp, ∥∥₁_elim, ∥∥₁_map}
-use Rattle.gpu_descriptor.proofs.Common.{∥∥₁_prop, props, common_steps, items_at, marked_descriptors, set_descriptors}
-use Rattle.gpu_descriptor.proofs.Common.{descriptors_out, allocated_in, sets_out, IsBookedIn}
+use Rattle.gpu_descriptor.proofs.Common.{list_all, nat_lt, and_parts, ltb-true, eqb-true, eqb-false, rises, numbers_of, ◌≡◌, ℕ, suc, ◌+◌, ◌<◌, ◌≤◌, ◌==◌, true, false, List, [], ◌∷◌, ◌++◌, length, map, sum_by, slice_get, Option, Some, None, inl, inr, refl, sym, ap, ◌∙◌, arith, length-append}
+use Rattle.gpu_descriptor.proofs.Common.{if◌then◌else◌, cases_Bool, cases_lt, length-map, sum_by-append, sum_by-cons, Pool, live_sets, LiveSet, set_eq, times, count_by_yes, count_by_no, counts_alike, set_exact, State, Agree, Item, item_eq, set_of, count_of, live_at, outstanding, Key, key_eq}
+use Rattle.gpu_descriptor.proofs.Common.{Entry, Bucket, no_pools, books_of, HasDistinctKeys, sum_over, AddsUp, ∥∥₁_elim, ∥∥₁_map, ∥∥₁_prop, props, common_steps, items_at, marked_descriptors, set_descriptors, descriptors_out, allocated_in, sets_out, IsBookedIn}
 use Rattle.gpu_descriptor.proofs.table.Exact.{bucket, item_exact, key_exact}
 use Rattle.gpu_descriptor.proofs.callers.HeldSets.{count_of-append}
 use Rattle.gpu_descriptor.proofs.request.KeyAgrees.{place_of_items, count_append, count_of_items, count_elsewhere}

@@ -1,6 +1,5 @@
 -- The descriptors of a marked key's pool are those that the device created it with.
-use Rattle.gpu_descriptor.proofs.Common.{common_steps}
-use Rattle.gpu_descriptor.proofs.Common.{ℕ, ◌≡◌, true, Some, length, arith, sum, Pool, IsAsBooked, State, Agree, Key, Entry, slice_get, pool_descriptors}
+use Rattle.gpu_descriptor.proofs.Common.{common_steps, ℕ, ◌≡◌, true, Some, length, arith, sum, Pool, IsAsBooked, State, Agree, Key, Entry, slice_get, pool_descriptors}
 use Rattle.gpu_descriptor_types.proofs.PoolCounts.{pool_counts_sum}
 
 pub booked_load : (k : Key) (pool : Pool) (e : Entry) → length k.counts ≡ 14 → k.marked ≡ true → IsAsBooked k pool e → sum pool.counts ≡ pool_descriptors k e.capacity

@@ -1,9 +1,6 @@
 -- The totals that callers see are sums over the table of the books.
-use Rattle.gpu_descriptor.proofs.Common.{◌≡◌, ℕ, ◌+◌, List, [], ◌∷◌, map, sum_by, inl, inr, refl, ap, ◌∙◌, sym}
-use Rattle.gpu_descriptor.proofs.Common.{cases_Bool, sum_by-cons, Key, key_eq, BucketOf, Bucket, AddsUp}
-use Rattle.gpu_descriptor.proofs.Common.{HasDistinctKeys, books_of, sum_over, Allocations, set_descriptors, bucket_load}
-use Rattle.gpu_descriptor.proofs.Common.{sets_out, descriptors_out, named, named_bucket, named_row, table_of}
-use Rattle.gpu_descriptor.proofs.Common.{outstanding_of, marked_load_of, pool_load_of}
+use Rattle.gpu_descriptor.proofs.Common.{◌≡◌, ℕ, ◌+◌, List, [], ◌∷◌, map, sum_by, inl, inr, refl, ap, ◌∙◌, sym, cases_Bool, sum_by-cons, Key, key_eq, BucketOf, Bucket, AddsUp, HasDistinctKeys, books_of, sum_over, Allocations, set_descriptors, bucket_load, sets_out, descriptors_out, named}
+use Rattle.gpu_descriptor.proofs.Common.{named_bucket, named_row, table_of, outstanding_of, marked_load_of, pool_load_of}
 
 -- a sum over a list whose items are mapped
 pub sum_map : {A B : Type 0} (f : B → ℕ) (g : A → B) (h : A → ℕ) → ((x : A) → f (g x) ≡ h x) → (xs : List A) → sum_by f (map g xs) ≡ sum_by h xs

@@ -1,7 +1,5 @@
 -- Keys and items are equal exactly where their tests say so.
-use Rattle.gpu_descriptor.proofs.Common.{arith}
-use Rattle.gpu_descriptor.proofs.Common.{common_steps}
-use Rattle.gpu_descriptor.proofs.Common.{◌≡◌, ℕ, List, true, refl, nat_eq, and_parts, and_from, key_eq, Entry, Bucket, Item, item_eq, IsExact}
+use Rattle.gpu_descriptor.proofs.Common.{arith, common_steps, ◌≡◌, ℕ, List, true, refl, nat_eq, and_parts, and_from, key_eq, Entry, Bucket, Item, item_eq, IsExact}
 use Rattle.std.proofs.lemmas.Bool.Decides.{Decides-eqb}
 use Rattle.std.specs.Cmp.{booleans_Decides}
 use lib.Pointwise.{pointwise, pointwise_decides}

@@ -1,10 +1,6 @@
 -- The ids of a table's keys: they rise, so one place has each, and one key.
-use Rattle.gpu_descriptor.proofs.Common.{◌≡◌, ◌<◌, ℕ, zero, suc, Bool, true, false, ◌∷◌, [], List, length}
-use Rattle.gpu_descriptor.proofs.Common.{slice_get, Option, Some, None, inl, inr, refl, sym, ap, subst, ◌∙◌}
-use Rattle.gpu_descriptor.proofs.Common.{arith, slice_index_or, nat_lt, list_all, IsNonDecreasingBy, IsPartitionPoint}
-use Rattle.gpu_descriptor.proofs.Common.{IsPartitionedBy, lookup, values_of, cases_Bool, cases_lt, and_parts}
-use Rattle.gpu_descriptor.proofs.Common.{ltb-true, ltb-false, BucketKey, DescriptorBucket, Key, key_eq, key_of}
-use Rattle.gpu_descriptor.proofs.Common.{common_steps, rises, stored_ids}
+use Rattle.gpu_descriptor.proofs.Common.{◌≡◌, ◌<◌, ℕ, zero, suc, Bool, true, false, ◌∷◌, [], List, length, slice_get, Option, Some, None, inl, inr, refl, sym, ap, subst, ◌∙◌, arith, slice_index_or, nat_lt, list_all, IsNonDecreasingBy, IsPartitionPoint, IsPartitionedBy, lookup, values_of}
+use Rattle.gpu_descriptor.proofs.Common.{cases_Bool, cases_lt, and_parts, ltb-true, ltb-false, BucketKey, DescriptorBucket, Key, key_eq, key_of, common_steps, rises, stored_ids}
 use Rattle.gpu_descriptor.proofs.lists.Numbers.{all_above, rises_at}
 use Rattle.std.proofs.lemmas.List.Sorted.{IsPartitionedBy-ltb}
 use Rattle.indexmap.specs.Layout.{set_value_at}

@@ -1,7 +1,5 @@
-use Rattle.gpu_descriptor.proofs.Common.{◌≡◌, ◌≤◌, ◌+◌, ℕ, List, suc, rules, refl, sym, ap, subst, ◌∙◌, arith, length}
-use Rattle.gpu_descriptor.proofs.Common.{map, length-map, take_all, IsDistinct, Ledger, Bucket, key_eq, key_of}
-use Rattle.gpu_descriptor.proofs.Common.{Allocations, AreBookedIn, has_pools, rises, stored_ids, outstanding_of}
-use Rattle.gpu_descriptor.proofs.Common.{marked_load_of, bucket_of, row_of, ◌++◌, ◌∷◌, []}
+use Rattle.gpu_descriptor.proofs.Common.{◌≡◌, ◌≤◌, ◌+◌, ℕ, List, suc, rules, refl, sym, ap, subst, ◌∙◌, arith, length, map, length-map, take_all, IsDistinct, Ledger, Bucket, key_eq, key_of, Allocations, AreBookedIn, has_pools, rises, stored_ids, outstanding_of, marked_load_of, bucket_of, row_of}
+use Rattle.gpu_descriptor.proofs.Common.{◌++◌, ◌∷◌, []}
 use Rattle.indexmap.proofs.CallerLemmas.{filter-RetainsPairs}
 use Rattle.indexmap.specs.Layout.{length-set_value_at}
 use Rattle.gpu_descriptor.proofs.table.Rising.{ids_put}

@@ -1,9 +1,5 @@
-use Rattle.gpu_descriptor.proofs.Common.{greatest_pool_size, ◌≡◌, ℕ, List, set, ◌+◌, ◌<◌, ◌≤◌, ◌-◌, rules, arith, sym}
-use Rattle.gpu_descriptor.proofs.Common.{refl, ◌∙◌, ap, subst, length, map, slice_get, [], ◌∷◌, Some, length-set}
-use Rattle.gpu_descriptor.proofs.Common.{eqb-true, length-map, slice_get_read, DescriptorPool, Ledger, after_release}
-use Rattle.gpu_descriptor.proofs.Common.{LiveSet, DescriptorSet, live_in, Entry, IsNonDecreasing, AreBookedIn}
-use Rattle.gpu_descriptor.proofs.Common.{IsTakenAt, free_in, entry_less, bucket_of, entry_of, binary_digits, gap_digits}
-use Rattle.gpu_descriptor.proofs.Common.{first_ordinal, number_after, rises, slice_set}
+use Rattle.gpu_descriptor.proofs.Common.{greatest_pool_size, ◌≡◌, ℕ, List, set, ◌+◌, ◌<◌, ◌≤◌, ◌-◌, rules, arith, sym, refl, ◌∙◌, ap, subst, length, map, slice_get, [], ◌∷◌, Some, length-set, eqb-true, length-map, slice_get_read, DescriptorPool, Ledger, after_release, LiveSet, DescriptorSet}
+use Rattle.gpu_descriptor.proofs.Common.{live_in, Entry, IsNonDecreasing, AreBookedIn, IsTakenAt, free_in, entry_less, bucket_of, entry_of, binary_digits, gap_digits, first_ordinal, number_after, rises, slice_set}
 use Rattle.gpu_descriptor.proofs.sums.PoolLoads.{stored_put}
 use Rattle.gpu_descriptor.proofs.lists.OpenNumbers.{open_rises}
 use Rattle.gpu_descriptor.proofs.lists.OpenList.{listed_again, fewer_listed}

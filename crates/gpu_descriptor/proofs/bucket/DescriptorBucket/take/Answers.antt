@@ -1,8 +1,5 @@
-use Rattle.gpu_descriptor.proofs.Common.{◌≡◌, ℕ, ◌+◌, ◌≤◌, ◌++◌, List, length, map, sym, ap, ◌∙◌, arith, Result, Ok}
-use Rattle.gpu_descriptor.proofs.Common.{OnOk, IfErr, true, false, length-append, [], ◌∷◌, None, Err, length-map}
-use Rattle.gpu_descriptor.proofs.Common.{map-append, Ledger, DeviceAllocationError, DescriptorPool, DescriptorSet, Item}
-use Rattle.gpu_descriptor.proofs.Common.{Entry, Key, key_of, set_at, fresh_entry, items_at, items_of, IsTaken, entry_of}
-use Rattle.gpu_descriptor.proofs.Common.{number_after, numbers_of, stored_load, stored_numbers, IsWalked}
+use Rattle.gpu_descriptor.proofs.Common.{◌≡◌, ℕ, ◌+◌, ◌≤◌, ◌++◌, List, length, map, sym, ap, ◌∙◌, arith, Result, Ok, OnOk, IfErr, true, false, length-append, [], ◌∷◌, None, Err, length-map, map-append, Ledger, DeviceAllocationError, DescriptorPool, DescriptorSet, Item, Entry, Key, key_of, set_at}
+use Rattle.gpu_descriptor.proofs.Common.{fresh_entry, items_at, items_of, IsTaken, entry_of, number_after, numbers_of, stored_load, stored_numbers, IsWalked}
 use Rattle.std.specs.Result.{is_ok}
 use mathlib.Core.Bool.{true≢false}
 use Rattle.gpu_descriptor.proofs.sums.PoolsLoad.{pools_load}

@@ -1,9 +1,5 @@
-use Rattle.gpu_descriptor.proofs.Common.{◌≡◌, ℕ, Global, ◌+◌, ◌++◌, arith, length, sum_by, List, None, Result, Ok, Err}
-use Rattle.gpu_descriptor.proofs.Common.{sym, ap, ◌∙◌, subst, map, OnOk, IfErr, length-map, Ledger}
-use Rattle.gpu_descriptor.proofs.Common.{DeviceAllocationError, DescriptorSet, DescriptorPool, Bucket, Key, key_of}
-use Rattle.gpu_descriptor.proofs.Common.{allocated_in, items_of, item_of, AreBookedIn, IsTaken, bucket_in, bucket_of}
-use Rattle.gpu_descriptor.proofs.Common.{entry_of, free_in, number_after, numbers_of, open_numbers, rises}
-use Rattle.gpu_descriptor.proofs.Common.{stored_numbers, IsWalked}
+use Rattle.gpu_descriptor.proofs.Common.{◌≡◌, ℕ, Global, ◌+◌, ◌++◌, arith, length, sum_by, List, None, Result, Ok, Err, sym, ap, ◌∙◌, subst, map, OnOk, IfErr, length-map, Ledger, DeviceAllocationError, DescriptorSet, DescriptorPool, Bucket, Key, key_of, allocated_in, items_of, item_of}
+use Rattle.gpu_descriptor.proofs.Common.{AreBookedIn, IsTaken, bucket_in, bucket_of, entry_of, free_in, number_after, numbers_of, open_numbers, rises, stored_numbers, IsWalked}
 use Rattle.std.specs.declared.collections.VecDeque.{VecDeque}
 use Rattle.std.proofs.lemmas.Result.{IfErr-weaker, on_ok_weaker}
 use Rattle.gpu_descriptor.specs.declared.bucket.stop.Stop.TheVariants.{ExistingPoolWithoutMemory}

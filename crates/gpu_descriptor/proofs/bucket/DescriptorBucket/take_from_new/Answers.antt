@@ -1,8 +1,5 @@
-use Rattle.gpu_descriptor.proofs.Common.{◌≡◌, ℕ, ◌+◌, ◌-◌, ◌≤◌, ◌++◌, List, [], ◌∷◌, length, map, min, refl, sym, ap}
-use Rattle.gpu_descriptor.proofs.Common.{◌∙◌, subst, arith, length-map, map-append, Some, Ledger, after_alloc}
-use Rattle.gpu_descriptor.proofs.Common.{after_create, after_destroy, live_sets, HasNoSets, fresh, pool_counts}
-use Rattle.gpu_descriptor.proofs.Common.{DescriptorPool, Entry, Key, flags_of, key_of, set_at, number_after, numbers_of}
-use Rattle.gpu_descriptor.proofs.Common.{pool_descriptors, entry_of, stored_numbers}
+use Rattle.gpu_descriptor.proofs.Common.{◌≡◌, ℕ, ◌+◌, ◌-◌, ◌≤◌, ◌++◌, List, [], ◌∷◌, length, map, min, refl, sym, ap, ◌∙◌, subst, arith, length-map, map-append, Some, Ledger, after_alloc, after_create, after_destroy, live_sets, HasNoSets, fresh, pool_counts, DescriptorPool, Entry, Key, flags_of}
+use Rattle.gpu_descriptor.proofs.Common.{key_of, set_at, number_after, numbers_of, pool_descriptors, entry_of, stored_numbers}
 use Rattle.gpu_descriptor.specs.declared.bucket.stop.Stop.TheVariants as stop
 use Rattle.gpu_descriptor.proofs.release.StoredNumbers.{numbers_stored}
 use Rattle.gpu_descriptor.proofs.request.NextSize.{one_fits}

@@ -1,7 +1,5 @@
-use Rattle.gpu_descriptor.proofs.Common.{◌≡◌, ℕ, ◌+◌, ◌++◌, List, [], length, map, slice_get, slice_set, Some, refl}
-use Rattle.gpu_descriptor.proofs.Common.{sym, ap, ◌∙◌, arith, append_assoc, length-append, length-map, append-nil}
-use Rattle.gpu_descriptor.proofs.Common.{map-append, length-set, BucketKey, DescriptorSet, Key, key_of, set_at}
-use Rattle.gpu_descriptor.proofs.Common.{items_at, items_of, entry_of, newest_place, IsAsked}
+use Rattle.gpu_descriptor.proofs.Common.{◌≡◌, ℕ, ◌+◌, ◌++◌, List, [], length, map, slice_get, slice_set, Some, refl, sym, ap, ◌∙◌, arith, append_assoc, length-append, length-map, append-nil, map-append, length-set, BucketKey, DescriptorSet, Key, key_of, set_at, items_at, items_of, entry_of}
+use Rattle.gpu_descriptor.proofs.Common.{newest_place, IsAsked}
 use Rattle.gpu_descriptor.proofs.request.OpenWalk.{has_free, open_walk_start, open_walk_more, open_walk_stop, walk_sated, walk_empty, next_is_booked, listed_now_closed, listed_now_open, listed_now_same, one_asked}
 use Rattle.gpu_descriptor.proofs.request.OwnLayout.{none_own}
 use Rattle.gpu_descriptor.proofs.request.Passed.{passed}

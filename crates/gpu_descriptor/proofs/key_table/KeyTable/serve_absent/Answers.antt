@@ -1,7 +1,5 @@
-use Rattle.gpu_descriptor.proofs.Common.{ℕ, List, lookup, BucketKey, DescriptorBucket, map-append, greatest_u64, ◌≡◌}
-use Rattle.gpu_descriptor.proofs.Common.{◌+◌, ◌≤◌, ◌++◌, ◌∷◌, [], Bool, None, inl, refl, sym, ap, ◌∙◌, subst, arith}
-use Rattle.gpu_descriptor.proofs.Common.{rules, map, Bucket, key_eq, no_pools, next_number, key_of, is_of, rises}
-use Rattle.gpu_descriptor.proofs.Common.{stored_ids, books_in, entry_of, stored_load, stored_numbers, row_of, IsUnserved, DescriptorPool, number_after}
+use Rattle.gpu_descriptor.proofs.Common.{ℕ, List, lookup, BucketKey, DescriptorBucket, map-append, greatest_u64, ◌≡◌, ◌+◌, ◌≤◌, ◌++◌, ◌∷◌, [], Bool, None, inl, refl, sym, ap, ◌∙◌, subst, arith, rules, map, Bucket, key_eq, no_pools, next_number, key_of, is_of, rises, stored_ids, books_in, entry_of}
+use Rattle.gpu_descriptor.proofs.Common.{stored_load, stored_numbers, row_of, IsUnserved, DescriptorPool, number_after}
 use Rattle.gpu_descriptor.proofs.lists.Numbers.{next_push, rises_push}
 use Rattle.gpu_descriptor.proofs.table.RowAt.{lookup_same}
 use Rattle.indexmap.specs.IndexMap.{IndexMap, insert_entry}
