@@ -5,7 +5,6 @@ use Rattle.gpu_descriptor.proofs.release.ReleaseAgrees.{takes}
 
 -- ---- lists of items
 
--- an item of two lists together
 pub count_of-append : (u : Item) (a b : List Item) → count_of u (a ++ b) ≡ count_of u a + count_of u b
 count_of-append u a b = count_by-append (λ t. item_eq t u) a b
 
@@ -24,7 +23,6 @@ out_less items s t agree out is u = sym (takes items s agree out u) ∙ ap (λ (
 -- ---- lists of sets
 
 module _ {S : Type 0} (name : S → ℕ) where
-  -- a set of two lists together
   pub count_parts : (xs ys : List (DescriptorSet S)) (u : Item) → count_of u (items_of name (xs ++ ys)) ≡ count_of u (items_of name xs) + count_of u (items_of name ys)
   count_parts xs ys u = ap (count_of u) (map-append (λ (x : DescriptorSet S). item_of name x) xs ys) ∙ count_of-append u (items_of name xs) (items_of name ys)
 
@@ -40,7 +38,6 @@ module _ {S : Type 0} (name : S → ℕ) where
   pub out_back : (xs ys all : List (DescriptorSet S)) (s : State) → all ≡ xs ++ ys → AreOutstanding (items_of name all) s → AreOutstanding (items_of name ys) s
   out_back xs ys all s is out u = (let a = ap (λ (l : List (DescriptorSet S)). count_of u (items_of name l)) is ∙ count_parts xs ys u in let b = out u in omega arith)
 
-  -- in another order
   pub out_moved : (xs ys : List (DescriptorSet S)) (s : State) → IsPermutation xs ys → AreOutstanding (items_of name xs) s → AreOutstanding (items_of name ys) s
   out_moved xs ys s moved out u = grind (arith, IsPermutation-map, sum_by-IsPermutation)
 

@@ -28,7 +28,6 @@ module _ {P : Type 0} (k : Key) where
   pub keys_put : (key : BucketKey) (es fs : List (BucketKey × DescriptorBucket P)) (w : DescriptorBucket P) → key_of key ≡ k → lookup (is_of k) es ≡ None → fs ≡ es ++ (key, w) ∷ [] → stored_keys fs ≡ with_key k (stored_keys es)
   keys_put key es fs w is none put = rw (lacks es none) (ap stored_keys put ∙ map-append (λ (e : BucketKey × DescriptorBucket P). key_of e.0) es ((key, w) ∷ []) ∙ ap (λ (l : Key). stored_keys es ++ l ∷ []) is)
 
-  -- as callers see it
   pub keys_seen : (a b : Allocations P) (es fs : List (BucketKey × DescriptorBucket P)) → a.table ≡ map row_of es → b.table ≡ map row_of fs → stored_keys fs ≡ with_key k (stored_keys es) → keys_of b ≡ with_key k (keys_of a)
   keys_seen a b es fs was is kept = keys_are b fs is ∙ kept ∙ ap (with_key k) (sym (keys_are a es was))
 

@@ -24,7 +24,6 @@ module _ {P : Type 0} (name : P → ℕ) (k : Key) where
       refl_but = (let same : l.counters.destroyed ≡ l.counters.destroyed + 0 = omega arith in λ i. record { pools = l.pools; counters = record l.counters { destroyed = same i } })
 
   module _ (old now : List (DescriptorPool P)) (n : ℕ) (before after : Ledger) (turned : Turning old now n before after) (x : DescriptorPool P) (at : slice_get old n ≡ Some x) where
-    -- the next pool is the first
     pub first : now ≡ x ∷ (drop (suc n) old ++ filter has_sets (take n old))
     first = turned.pools ∙ ap (λ l. l ++ filter has_sets (take n old)) (drop_at old n x at)
 
@@ -67,7 +66,6 @@ module _ {P : Type 0} (name : P → ℕ) (k : Key) where
     pub unused : x.allocated ≡ 0 → HasNoSets (name x.raw) after
     unused none = front_unused k (entry_of name x) (entries (drop (suc n) old)) after next_stored none
 
-    -- and is destroyed
     pub destroyed : x.allocated ≡ 0 → (now' : List (DescriptorPool P)) → now' ≡ drop (suc n) old ++ filter has_sets (take n old) → (after' : Ledger) → after' ≡ after_destroy (name x.raw) after → Turning old now' (suc n) before after'
     destroyed none now' is after' done =
         let empty : is_empty (entry_of name x) ≡ true = eq-eqb x.allocated 0 none in

@@ -34,7 +34,6 @@ row_books (x ∷ rows) (suc i) r h at = grind (arith, key_eq_symm, none_at, (row
 absent_row : (r : Key × Bucket) (rows : Rows) (k : Key) → HasDistinctKeys (r ∷ rows) → key_eq r.0 k ≡ true → books_of rows k ≡ no_pools
 absent_row r rows k d at = none_behind r rows d k at
 
--- the row has pools
 abbrev pub has_row : Key × Bucket → Bool
 has_row r = not (length r.1.pools == 0)
 
@@ -43,11 +42,9 @@ rows_left name [] = refl
 rows_left name (e ∷ es) = grind (arith, length-map, (rows_left name es))
 
 module _ (everywhere : Bool) where
-  -- whether a pool goes
   abbrev pub goes : Bucket → ℕ → Bool
   goes b p = are_named (gone_of everywhere b.pools) p
 
-  -- the bucket without the pools that go
   abbrev pub less : Bucket → Bucket
   less b = record b { pools = left_of everywhere b.pools }
 
@@ -58,7 +55,6 @@ module _ (everywhere : Bool) where
   abbrev pub cleared : ℕ → Rows → Rows
   cleared n rows = map cleared_row (take n rows) ++ drop n rows
 
-  -- whether a pool goes with these rows
   abbrev pub gone : Rows → ℕ → Bool
   gone rows p = list_any (λ r. goes r.1 p) rows
 
@@ -149,7 +145,6 @@ module _ (everywhere : Bool) where
   pub all_cleared : (n : ℕ) (rows : Rows) → length rows ≤ n → cleared n rows ≡ map cleared_row rows
   all_cleared n rows le = ap (λ (l : Rows). map cleared_row (take n rows) ++ l) (drop_all n rows le) ∙ append-nil (map cleared_row (take n rows)) ∙ ap (map cleared_row) (take_all n rows le)
 
-  -- the rows that are left
   left_books : (rows : Rows) (k : Key) → HasDistinctKeys rows → books_of (filter has_row (map cleared_row rows)) k ≡ with_pools (books_of rows k) (left_of everywhere (books_of rows k).pools)
   left_books [] k d = sym (ap (with_pools no_pools) (no_pools_left everywhere))
   left_books (r ∷ rows) k d = elim (cases_Bool (length (left_of everywhere r.1.pools) == 0)) [

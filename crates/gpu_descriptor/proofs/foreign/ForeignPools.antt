@@ -39,7 +39,6 @@ released_same m s name foreign =
     ∙ ap (λ (f : LiveSet → ℕ). option_map (pool_less f) (s.ledger name)) kept
     ∙ ap (λ (w : State). w.ledger name) (none_back s)
 
--- and out of the books
 pub released_foreign : (m : List Item) (s : State) → KeepsForeign s (released m s)
 released_foreign m s name pool foreign live = grind (arith, released_same, was_there)
 
@@ -80,7 +79,6 @@ module _ (everywhere : Bool) where
       let there = gone_at es (left_of everywhere es) (gone_of everywhere es) (split everywhere es) g.0 g.1 g.2 in
       foreign k there.0 g.1 there.1 g.3)
 
-  -- cleaning up leaves them
   pub cleaned_foreign : (s t : State) → LosesEmpty everywhere s t → KeepsForeign s t
   cleaned_foreign s t less name pool foreign live = (
     less.kept name (outside_gone s name foreign) ∙ live,
@@ -100,7 +98,6 @@ module _ (everywhere : Bool) where
   pub cleaned_loses : (s t : State) → LosesEmpty everywhere s t → KeepsForeign t s
   cleaned_loses s t less name pool foreign live = (let was = cleaned_named s t less name pool foreign live in (sym (less.kept name (outside_gone s name was)) ∙ live, was))
 
--- one change after another
 pub foreign_through : (s t u : State) → KeepsForeign s t → KeepsForeign t u → KeepsForeign s u
 foreign_through s t u first second name pool foreign live = (let kept = first name pool foreign live in second name pool kept.1 kept.0)
 

@@ -4,7 +4,6 @@ use Rattle.std.proofs.Math.Seq.{drop-append_seam}
 use Rattle.gpu_descriptor.specs.Caller.SetLists.{appended}
 
 module _ {X : Type 0} (old : List X) {new : List X} (put : List X) (is : new ≡ old ++ put) where
-  -- it is what was put there
   pub appended_is : appended old new ≡ put
   appended_is = ap (drop (length old)) is ∙ drop-append_seam old put
 
@@ -15,7 +14,6 @@ module _ {X : Type 0} (old now : List X) {new : List X} (put : List X) (front : 
   joined : new ≡ old ++ (appended old now ++ put)
   joined = is ∙ ap (λ (ys : List X). ys ++ put) front ∙ append_assoc old (appended old now) put
 
-  -- with more behind that
   pub appended_more : appended old new ≡ appended old now ++ put
   appended_more = appended_is old (appended old now ++ put) joined
 

@@ -110,7 +110,6 @@ read_at [] i d lt = absurd (omega arith)
 read_at (x ∷ xs) zero d lt = refl
 read_at (x ∷ xs) (suc i) d lt = read_at xs i d (omega arith)
 
--- they don't fall
 pub rises_sorted : (xs : List ℕ) → rises xs ≡ true → IsNonDecreasing xs
 rises_sorted xs h i j d le lt = elim (cases_lt i j) [
   | inl less ↦ (let rest = rises_at xs h i j _ _ less (read_at xs i d (omega arith)) (read_at xs j d lt) in omega arith)

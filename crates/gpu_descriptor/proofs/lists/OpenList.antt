@@ -28,7 +28,6 @@ module _ {P : Type 0} (first : ℕ) (items : List (DescriptorPool P)) (numbers :
     pub listed_stays : 0 < old.available → 0 < new.available → numbers ≡ open_numbers first (free_in (slice_set items place new))
     listed_stays was is = listed ∙ sym (ap (open_numbers first) free_set ∙ open_set_open first (free_in items) place old.available new.available free_at was is)
 
-    -- it gains its first
     pub listed_gains : (at_place : ℕ) → old.available ≡ 0 → 0 < new.available → at_place ≤ length numbers → IsPartitionPoint (λ x. x < first + place) (λ x. first + place ≤ x) numbers at_place
         → insert numbers at_place (first + place) ≡ open_numbers first (free_in (slice_set items place new))
     listed_gains at_place none some within point = grind (arith, free_at, free_set, open_gains)

@@ -2,13 +2,11 @@
 use Rattle.gpu_descriptor.proofs.Common.{ℕ, zero, suc, ◌+◌, ◌<◌, ◌≤◌, ◌≡◌, List, [], ◌∷◌, ◌++◌, length, take, drop, get_or, slice_set, insert, arith, refl, sym, ap, ◌∙◌, subst, slice_get, Some, append-nil, set_split, IsNonDecreasing, IsPartitionPoint, slice_get_within, common_steps, open_numbers}
 use Rattle.gpu_descriptor.proofs.lists.AtPlaces.{get_drop, long_take, split_at}
 
--- pools in two parts
 pub open_append : (first : ℕ) (xs ys : List ℕ) → open_numbers first (xs ++ ys) ≡ open_numbers first xs ++ open_numbers (first + length xs) ys
 open_append first [] ys = ap (λ n. open_numbers n ys) (let e : first ≡ first + 0 = omega arith in e)
 open_append first (zero ∷ xs) ys = open_append (suc first) xs ys ∙ ap (λ n. open_numbers (suc first) xs ++ open_numbers n ys) (let e : suc first + length xs ≡ first + suc (length xs) = omega arith in e)
 open_append first (suc x ∷ xs) ys = ap (λ l. first ∷ l) (open_append (suc first) xs ys ∙ ap (λ n. open_numbers (suc first) xs ++ open_numbers n ys) (let e : suc first + length xs ≡ first + suc (length xs) = omega arith in e))
 
--- pools without known free places
 pub open_none : (first : ℕ) (xs : List ℕ) → ((i n : ℕ) → slice_get xs i ≡ Some n → n ≡ 0) → open_numbers first xs ≡ []
 open_none first [] none = refl
 open_none first (zero ∷ xs) none = open_none (suc first) xs (λ i n at. none (suc i) n at)

@@ -33,7 +33,6 @@ step_stored k x es pools stored = record {
       record { pool = had.pool; is_live = with_pool_other pools x.pool e.pool None other ∙ had.is_live; booked = had.booked };
 }
 
--- a front that stays
 pub still : (keep : ℕ) (b : Bucket) (l : Ledger) → front_but keep b ≡ 0 → ledger_but_front keep b l ≡ l
 still keep b l none = grind arith
 
@@ -55,7 +54,6 @@ module _ {P : Type 0} (name : P → ℕ) (keep : ℕ) where
   turn_unused k [] p l front agree = (let bad = front.long in absurd (omega arith))
   turn_unused k (x ∷ items) p l front agree = grind (arith, front_unused)
 
-  -- what the turn leaves
   pub record Turned (k : Key) (id : ℕ) (items news : List (DescriptorPool P)) (before after : Ledger) : Type 0 where
     pub agree : stored k news after.pools
     pub books : bucket_but_front keep (bucket id (map (entry_of name) news)) ≡ bucket_but_front keep (bucket id (map (entry_of name) items))

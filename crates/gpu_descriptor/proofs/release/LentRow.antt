@@ -33,7 +33,6 @@ module _ {P S : Type 0} (name : P → ℕ) (set_name : S → ℕ) (a : Allocatio
       here : Releases x.key.is x.number (names_of set_name (x ∷ xs)) ((state_of name a l).books x.key.is) l between during
       here = subst (λ b. Releases x.key.is x.number (names_of set_name (x ∷ xs)) b l between during) (sym (at_key (Some bucket) found)) back
 
-      -- the ledger in one step
       ledger : after ≡ ledger_but_front 1 (bucket_back ((state_of name a l).books x.key.is) here.place (length (names_of set_name (x ∷ xs))) here.entry) (after_release here.entry.pool (live_sets x.key.is.counts (names_of set_name (x ∷ xs))) l)
       ledger = gone ∙ (λ i. ledger_but_front 1 (here.books i) (here.ledger i))
 

@@ -24,7 +24,6 @@ books_law true false f g b quiet =
 books_law false true f g b quiet = ap (bucket_but_front 1) (less-less f g b)
 books_law false false f g b quiet = less-less f g b
 
--- a pool of a name
 same_names : (g : ℕ → ℕ) (pool : ℕ) (es : List Entry) → list_any (λ e. e.pool == pool) (map (λ e. entry_less (g e.pool) e) es) ≡ list_any (λ e. e.pool == pool) es
 same_names g pool [] = refl
 same_names g pool (e ∷ es) = ap (λ (b : Bool). (e.pool == pool) || b) (same_names g pool es)

@@ -71,7 +71,6 @@ agrees m s agree out = record {
       ∙ rises_drop (numbers_of c.pools) f (ap rises (numbers_less (back m s) (s.books k)) ∙ agree.rising k);
 }
 
--- giving back changes no id
 pub same_id : (m : List Item) (s : State) (k : Key) → ((released m s).books k).id ≡ (s.books k).id
 same_id m s k = ap (λ (b : Bucket). b.id) (released_books m s k)
 

@@ -3,7 +3,6 @@ use Rattle.gpu_descriptor.proofs.Common.{ap, ◌≡◌, ℕ, ◌+◌, ◌≤◌,
 use Rattle.gpu_descriptor.specs.Inner.RunSteps.{at_place}
 
 module _ {T S : Type 0} (steps : T → Option (DescriptorSet S) → T → Type 0) (can : T → Type 0) (left : T → Count) where
-  -- a step that gave y
   record Gave (s : Run T S) (y : S) (t : Run T S) : Type 0 where
     item : DescriptorSet S
     looks : Looks steps can left s.source.now s.ahead.now (Some item) t.source.now

@@ -5,7 +5,6 @@ use Rattle.gpu_descriptor.proofs.table.Exact.{bucket}
 use Rattle.gpu_descriptor.proofs.lists.Numbers.{below_next, entry_at-found, entry_at-named, few_numbers, number_of}
 
 module _ {P : Type 0} where
-  -- a write that leaves the number
   pub numbers_set : (items : List (DescriptorPool P)) (i : ℕ) (q new : DescriptorPool P) → slice_get items i ≡ Some q → new.number ≡ q.number → stored_numbers (slice_set items i new) ≡ stored_numbers items
   numbers_set [] i q new at same = refl
   numbers_set (p ∷ items) zero q new at same = (let is : p ≡ q = cc in ap (λ (n : ℕ). n ∷ stored_numbers items) (same ∙ ap (λ (x : DescriptorPool P). x.number) (sym is)))

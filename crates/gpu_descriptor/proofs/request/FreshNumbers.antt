@@ -29,7 +29,6 @@ numbers_taken refused n zero es fs = numbers_shared refused n es fs
 numbers_taken refused n (suc left) [] fs = refl
 numbers_taken refused n (suc left) (e ∷ es) fs = ap (λ (ns : List ℕ). e.number ∷ ns) (numbers_taken refused n left es fs)
 
--- they rise on
 pub rises_fresh : (number : ℕ) (fs : List Fresh) (xs : List ℕ) → rises xs ≡ true → number_after xs ≤ number → rises (xs ++ numbers_of (fresh_entries number fs)) ≡ true
 rises_fresh number [] xs h le = ap rises (append-nil xs) ∙ h
 rises_fresh number (f ∷ fs) xs h le = grind (arith, common_steps, next_push, rises, rises_push, (rises_fresh (number + 1) fs (xs ++ number ∷ [])))

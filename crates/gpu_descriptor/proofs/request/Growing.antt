@@ -87,7 +87,6 @@ module _ {most : Option ℕ} {k : Key} {start n id room left total wanting : ℕ
   abbrev fresh_now : List Fresh
   fresh_now = s.fresh ++ f ∷ []
 
-  -- the first new pool's number
   abbrev next : ℕ
   next = number_after (numbers_of old)
 
@@ -122,23 +121,21 @@ module _ {most : Option ℕ} {k : Key} {start n id room left total wanting : ℕ
   pools_now : m'.pools ≡ ledger_with k (all_so_far id s.refused fresh_now parts_now) l.pools
   pools_now = a.pools ∙ ap (on_pool q (pool_with (live_sets k.counts more) false)) (ap (λ x. update nat_eq x q (Some made)) s.taken.pools ∙ fun_ext (λ r. at (nat_eq q r) r refl)) ∙ ledger_more k s.refused fresh_now s.parts false (next + length s.fresh) q more l.pools id 0 0 not_yet
     where
-      -- the pool was created
       at : (b : Bool) (r : ℕ) → nat_eq q r ≡ b → cond b (Some made) (ledger_with k (all_so_far id s.refused s.fresh s.parts) l.pools r) ≡ ledger_with k (all_so_far id s.refused fresh_now s.parts) l.pools r
       at true r h = rw (← eqb-true q r h, none_came, not_yet, fresh_or_more k q s.fresh f (l.pools q), fresh_or_past k q s.fresh (fresh_or k (f ∷ []) q (l.pools q)) none_before.0, eq-eqb q q refl) (sym (none_with (Some made)))
       at false r h = rw (fresh_or_more k r s.fresh f (l.pools r), h) refl
 
   rows_now : map portion_of parts_now ≡ portions_of s.refused n old ++ fresh_portions (next) fresh_now
-  rows_now  = grind (arith, common_steps, fresh_rows_more, many, map-append)
+  rows_now = grind (arith, common_steps, fresh_rows_more, many, map-append)
 
-  -- its number is the next
   number_is : number_after (numbers_of new) ≡ next + length s.fresh
   number_is = next_taken k n _ _ _ _ _ _ s.taken
 
   entries_now : new' ≡ take (all_so_far id s.refused fresh_now parts_now).skipped old ++ all_shared (all_so_far id s.refused fresh_now parts_now).refused n (drop (all_so_far id s.refused fresh_now parts_now).skipped old) ++ fresh_entries next (all_so_far id s.refused fresh_now parts_now).fresh
-  entries_now  = grind (arith, common_steps, fresh_entries_more, number_is)
+  entries_now = grind (arith, common_steps, fresh_entries_more, number_is)
 
   counters_now : m'.counters ≡ risen (grant_rise n (all_so_far id s.refused fresh_now parts_now) old) l.counters
-  counters_now  = grind (arith, common_steps, same_counters)
+  counters_now = grind (arith, common_steps, same_counters)
 
   sized_now : AreSized most k start (allocated_in (all_shared s.refused n old)) (rest s.refused n old) fresh_now
   sized_now = (let w = s.wants in sized_more most k start _ _ s.fresh f room total wanting s.sized s.room_now s.totals (omega arith) a.size)

@@ -23,11 +23,9 @@ books_end {P} name k w test same (e ∷ es) none l = elim (cases_Bool (test e.0)
       ])
 ]
 
--- a key that is there
 pub present : {P : Type 0} (name : P → ℕ) {k : Key} {es : List (BucketKey × DescriptorBucket P)} {v : DescriptorBucket P} → IsRow k es v → books_in name (map row_of es) k ≡ bucket_of name v
 present {P} name {k} {es} row = looked_up name row.test k row.same es ∙ ap (λ (o : Option (DescriptorBucket P)). option_map_or (bucket_of name) o no_pools) row.at
 
--- a key that isn't
 pub missing : {P : Type 0} (name : P → ℕ) (k : Key) (es : List (BucketKey × DescriptorBucket P)) (test : BucketKey → Bool) → ((l : BucketKey) → test l ≡ key_eq k (key_of l)) → lookup test es ≡ None → books_in name (map row_of es) k ≡ no_pools
 missing {P} name k es test same at = looked_up name test k same es ∙ ap (λ (o : Option (DescriptorBucket P)). option_map_or (bucket_of name) o no_pools) at
 

@@ -15,7 +15,7 @@ module _ (most : Option ℕ) (k : Key) (room total wanted size : ℕ) (s : IsNex
   least = (let is = s.cut in let a = bounded_few most (sum k.counts) wanted unbounded in omega arith)
 
   few : size ≤ s.whole
-  few  = grind (arith, common_steps, few_in_room, least)
+  few = grind (arith, common_steps, few_in_room, least)
 
   pub next_small : size ≤ greatest_pool_size
   next_small = (let a = few in let b = pool_size_small k.counts total wanted s.whole s.is_whole in omega arith)
@@ -23,7 +23,6 @@ module _ (most : Option ℕ) (k : Key) (room total wanted size : ℕ) (s : IsNex
   pub next_below : size < 2 * start_size total wanted
   next_below = (let a = few in let b = pool_size_below k.counts total wanted s.whole s.is_whole in omega arith)
 
-  -- it fits
   pub next_fits : pool_descriptors k size ≤ room
   next_fits = elim (cases_Bool k.marked) [
     | inl on ↦ (
@@ -36,9 +35,8 @@ module _ (most : Option ℕ) (k : Key) (room total wanted size : ℕ) (s : IsNex
     | inr off ↦ rw off (omega arith)
   ]
 
-  -- so does a pool of one set
   pub one_fits : pool_descriptors k 1 ≤ room
-  one_fits  = grind (arith, common_steps, mul-le-mul_right, next_fits)
+  one_fits = grind (arith, common_steps, mul-le-mul_right, next_fits)
 
   -- where it leaves room for another and is below what is wanting, it was not cut
   pub next_whole : size < wanted → pool_descriptors k 1 ≤ room - pool_descriptors k size → IsPoolSize k.counts total wanted size
@@ -48,7 +46,7 @@ module _ (most : Option ℕ) (k : Key) (room total wanted size : ℕ) (s : IsNex
       all = bounded_whole most (sum k.counts) wanted unbounded size s.cut short
 
       is : size ≡ s.whole
-      is  = grind (arith, common_steps, whole_in_room)
+      is = grind (arith, common_steps, whole_in_room)
 
 -- ---- several, one after another
 

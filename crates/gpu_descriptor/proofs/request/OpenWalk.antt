@@ -50,7 +50,7 @@ module _ {P : Type 0} {name : P → ℕ} {k : Key} {n id first wanting : ℕ} {o
       entry_at_place = slice_get-map (entry_of name) items place ∙ ap (option_map (entry_of name)) at
 
       pub has_free : 0 < p.available
-      has_free  = grind (arith, common_steps, entry_at_place, free_get, newest, place_is)
+      has_free = grind (arith, common_steps, entry_at_place, free_get, newest, place_is)
 
       pub walk_reaches : Walking k n id (suc place) wanting out old (map (entry_of name) items) l m
       walk_reaches =

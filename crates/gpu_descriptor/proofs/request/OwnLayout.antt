@@ -17,10 +17,8 @@ module _ {L P S : Type 0} (means : Meaning L P S) (layout : L) where
       let put : AreOfLayout means layout (map (set_at k id number) raws) = All-map (λ x. IsOfLayout means layout x.raw) (set_at k id number) raws (subst (λ l. All (IsOfLayout means l) raws) same own) in
       subst (λ (xs : List (DescriptorSet S)). AreOfLayout means layout (drop first xs)) (sym is) (All-put (λ x. IsOfLayout means layout x.raw) first old (map (set_at k id number) raws) before put)
 
-  -- nothing was put
   pub none_own : {old new : List (DescriptorSet S)} → new ≡ old → PutsOfLayout means layout old new
   none_own is first = subst (λ (xs : List (DescriptorSet S)). AreOfLayout means layout (drop first xs)) (sym is)
 
-  -- all that is behind
   pub own_behind : {old new : List (DescriptorSet S)} → PutsOfLayout means layout old new → AreOfLayout means layout (appended old new)
   own_behind {old} puts = puts (length old) (subst (AreOfLayout means layout) (sym (drop_all (length old) old (omega arith))) (λ i x within. absurd (omega arith)))

@@ -56,7 +56,6 @@ pools_short c g some below filled n rise few = record {
       subst (λ i. i * m < wanting c g + m) (sym same) few);
 }
 
--- after a front
 prefix_short : (c : Call) (s : IsStopped c) (why : Stop) (room : ℕ) → IsBack c s.grant why → IsFreshPrefix c.most c.key room (out_then c s.grant) (wanting c s.grant) s.grant.fresh
     → ((stop_rise why).created * pool_size_floor c.key.counts ≡ 0) ⊎ (((stop_rise why).created * pool_size_floor c.key.counts ≡ pool_size_floor c.key.counts) × (pool_descriptors c.key 1 ≤ room_after c.key room s.grant.fresh)) → IsShort c s.grant
 prefix_short c s why room back front more =
@@ -65,7 +64,6 @@ prefix_short c s why room back front more =
     let all = few c.most c.key room _ _ s.grant.fresh front.sized front.full short ((stop_rise why).created * pool_size_floor c.key.counts) more in
     pools_short c s.grant (omega arith) (prefix_below c.most c.key room _ _ s.grant.fresh front.sized front.full short) (rw back.answer tt) (length s.grant.fresh + (stop_rise why).created) (omega arith) (omega arith)
 
--- a list that gave all
 done_short : (c : Call) (d : IsDone c) → IsFreshList c.most c.key (c.limit - c.pooled) (out_then c d.grant) (wanting c d.grant) d.grant.fresh → 0 < length d.grant.fresh → IsShort c d.grant
 done_short c d (no_fresh zero_wanted empty) some = (let e = ap length empty in absurd (omega arith))
 done_short c d (some_fresh front last parts short sized le given) some =

@@ -83,7 +83,6 @@ module _ (k : Key) (n : ℕ) (g : Grant) (s : State) (agree : Agree s) (grant : 
   abbrev t : State
   t = granted k n g s
 
-  -- the sets of a pool
   abbrev sets : ℕ → List LiveSet
   sets q = live_sets k.counts (came g.parts q)
 
@@ -198,7 +197,6 @@ module _ (k : Key) (n : ℕ) (g : Grant) (s : State) (agree : Agree s) (grant : 
       let bad : true ≡ false = sym (key_exact.self k) ∙ ap (key_eq k) both.0 ∙ apart in
       absurd (cc)))) (not_new s.ledger e.pool was.0 g.fresh grant.new was.1)
 
-  -- the key's numbers rise on
   rising_now : rises (numbers_of new.pools) ≡ true
   rising_now =
       ap rises (numbers_taken g.refused n g.skipped b.pools (fresh_entries (next_number b) g.fresh))
@@ -341,7 +339,6 @@ module _ (k : Key) (n : ℕ) (g : Grant) (s : State) (agree : Agree s) (grant : 
         omega arith)
   ]
 
-  -- all other keys are untouched
   pub granted_others : KeepsOtherKeys k s t
   granted_others l apart = record { books = rw apart refl; pools = λ i e at. others_stay l i e apart at }
 
@@ -355,7 +352,6 @@ module _ (k : Key) (n : ℕ) (g : Grant) (s : State) (agree : Agree s) (grant : 
     ],
   )
 
-  -- and none is lost
   pub granted_loses_none : KeepsForeign t s
   granted_loses_none name pool foreign live =
       let new_ones : (j : ℕ) (f : Fresh) → slice_get g.fresh j ≡ Some f → (f.pool == name) ≡ false = λ j f at. ne_eqb f.pool name (foreign k (length b.pools + j) (fresh_entry (next_number b + j) f) (rw (key_exact.self k) (fresh_there j f at))) in

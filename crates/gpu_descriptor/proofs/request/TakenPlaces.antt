@@ -101,7 +101,6 @@ taken_stands refused n (suc left) (e ∷ es) fs apart (suc i) f at = elim (taken
   | inr new ↦ (let place = new.1 in inr (new.0, (omega arith), new.2))
 ]
 
--- there are as many
 pub length_taken : (refused : ℕ → Bool) (n left : ℕ) (es : List Entry) → length (take left es ++ all_shared refused n (drop left es)) ≡ length es
 length_taken refused n zero [] = refl
 length_taken refused n zero (e ∷ es) = ap suc (length_taken refused n zero es)

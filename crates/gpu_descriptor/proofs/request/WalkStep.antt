@@ -89,7 +89,7 @@ module _ (id n i : ℕ) (refused : ℕ → Bool) (parts : List Part) (old : List
   rows_now = (let r = same.rows in let s = share_now in cc)
 
   shared_now : all_shared now n (e ∷ newer) ≡ f ∷ all_shared refused n newer
-  shared_now  = grind (arith, common_steps, newer, now, offer_now, same, share_now)
+  shared_now = grind (arith, common_steps, newer, now, offer_now, same, share_now)
 
   count_now : asked_count now n (e ∷ newer) ≡ (if nat_lt 0 e.available && nat_lt 0 (rest refused n newer) then 1 else 0) + asked_count refused n newer
   count_now = λ j. (if asked_now j then 1 else 0) + same.asked j
@@ -121,4 +121,4 @@ module _ (id n i : ℕ) (refused : ℕ → Bool) (parts : List Part) (old : List
 
   -- what is wanting falls by what was given
   pub rest_now : rest now n (drop i old) + length names ≡ rest refused n newer
-  rest_now  = grind (arith, common_steps, newer, now, offer_now, same, sum_by-cons)
+  rest_now = grind (arith, common_steps, newer, now, offer_now, same, sum_by-cons)

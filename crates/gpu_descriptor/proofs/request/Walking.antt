@@ -22,7 +22,6 @@ get_take (x ∷ xs) ys zero h = refl
 get_take (x ∷ xs) ys (suc i) h = get_take xs ys i (omega arith)
 
 module _ (k : Key) (n id i wanting : ℕ) (items : List Item) (old new : List Entry) (l m : Ledger) (booked : AreBookedIn k l.pools old) (s : Walking k n id (suc i) wanting items old new l m) where
-  -- the next pool is as it was
   pub next_was : i < length old → slice_get new i ≡ slice_get old i
   next_was here = grind (arith, common_steps, append-nil, get_take)
 

@@ -67,11 +67,9 @@ module _ {P : Type 0} where
 
   -- ---- the totals that the code keeps are those that callers see
 
-  -- the descriptors of a marked key's sets
   abbrev pub load_in : BucketKey × DescriptorBucket P → ℕ
   load_in r = set_descriptors (key_of r.0) r.1.total
 
-  -- the descriptors of a marked key's pools
   abbrev pub stored_load_in : BucketKey × DescriptorBucket P → ℕ
   stored_load_in r = stored_load (key_of r.0) r.1.pools.items
 
@@ -87,7 +85,6 @@ module _ {P : Type 0} where
   pub rows_pool_load : (es : List (BucketKey × DescriptorBucket P)) → sum_over bucket_load (map row_of es) ≡ sum_by stored_load_in es
   rows_pool_load = sum_map _ row_of _ (λ r. sum_map _ kept_of _ (λ p. refl) r.1.pools.items)
 
--- the descriptors of a run
 pub run_load : {S : Type 0} (name : S → ℕ) (k : Key) (n : ℕ) (xs : List (DescriptorSet S)) → AllPass (lies_at k n) xs → marked_descriptors (items_of name xs) ≡ set_descriptors k (length xs)
 run_load name k n [] have = sym (set_descriptors-none k)
 run_load name k n (x ∷ xs) have = grind (arith, common_steps, at_parts, (run_load name k n xs have.1))

@@ -31,14 +31,12 @@ module _ (g : _) (c : In-Ok g) where
       (g.D.DescriptorDevice.ledger c.serve_if_allowed-served.new.device)))
       (λ i. (c.args.request.now.same i, is_put i)) c.in-Ok.ensures.taken
 
-  -- and the keys
   gained : keys_of c.serve_if_allowed-served.new.self ≡ with_key (layout_key g.D.DescriptorDevice.meaning c.args.request.now.layout.now) (keys_of c.args.self.now)
   gained = subst (λ (k : Key). keys_of c.serve_if_allowed-served.new.self ≡ with_key k (keys_of c.args.self.now)) c.args.request.now.same c.in-Ok.ensures.keys
 
   front : g.K.SetPlaces.items c.into_sets-sets.result ≡ g.K.SetPlaces.items c.args.sets ++ came
   front = ap g.K.SetPlaces.items c.into_sets-sets.ensures ∙ c.in-Ok.ensures.appends.front ∙ (λ i. g.K.SetPlaces.items (c.new-sink.ensures i) ++ is_put i)
 
--- and went back
 returned :
     (g : _) (c : After-free_after g)
     → Returns g.D.DescriptorDevice.meaning (came g (goal.at-After-free_after g c).In-Ok)

@@ -156,7 +156,8 @@ returns-clause-ran g c =
     let before = g.D.DescriptorDevice.ledger c.args.device.now in
     let after = g.D.DescriptorDevice.ledger c.destroy_empty_front.new.device in
     let distinct = distinct_rows name es c.self.inside.table.distinct in
-    let came = ends_at name set_name c.args.self.now before es was (rises_front (stored_ids es) (c.self.inside.table.next_id ∷ []) c.self.inside.table.rising) c.args.first.key.is c.args.first.id c.args.first.number (owner g at.After-pair_mut-bucket) g.I.Iterator.next_gives c.args.first _ _ ran.0 _ c.requires.outstanding ran.1 in
+    let rise = rises_front (stored_ids es) (c.self.inside.table.next_id ∷ []) c.self.inside.table.rising in
+    let came = ends_at name set_name c.args.self.now before es was rise c.args.first.key.is c.args.first.id c.args.first.number (owner g at.After-pair_mut-bucket) g.I.Iterator.next_gives c.args.first _ _ ran.0 _ c.requires.outstanding ran.1 in
     let state =
     row_ran name set_name c.args.self.now before es was c.requires.agree c.args.first row.test row.same
     c.pair_mut-bucket.result.1.now row.at ran.0 came.0 c.destroy_empty_front.new.self after _ _ ran.2 front.books

@@ -38,7 +38,6 @@ returns-in_err-ended-clause-declined g c =
     (ap (λ b. b.looks.count) c.in_err-ended.ensures.serves.budget) (ap (λ b. b.most) c.in_err-ended.ensures.serves.budget))
     c.in_err-ended.ensures.serves.ledger c.in_err-ended.field-0.0 c.in_err-ended.ensures.serves.refused)
 
--- so many came
 many : (g : _) (c : After-from-taken g) → c.from-taken.result ≡ length (appended (g.K.SetPlaces.items c.args.sink.now.sets) (g.K.SetPlaces.items c.serve.new.sink.sets))
 many g c = (let left = c.in_ok-ended.ensures.serves.appends.rest in let came = c.from-taken.ensures in omega arith)
 

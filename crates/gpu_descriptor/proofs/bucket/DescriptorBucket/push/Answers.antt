@@ -29,7 +29,6 @@ module _ (g : _) (c : After-push_back_reserved g) where
   first : first_ordinal c.push_back_reserved.new.self.items ≡ first_ordinal c.args.self.now.pools.items
   first = ap first_ordinal c.push_back_reserved.ensures.items ∙ first_push c.args.self.now.pools.items c.args.pool c.requires.number
 
-  -- the ordinals stay
   ordinals : open_numbers (first_ordinal c.push_back_reserved.new.self.items) (free_in c.push_back_reserved.new.self.items) ≡ open_numbers (first_ordinal c.args.self.now.pools.items) (free_in (c.args.self.now.pools.items ++ c.args.pool ∷ []))
   ordinals =
       let is = c.push_back_reserved.ensures.items in

@@ -19,7 +19,6 @@ first_taken g c = c.requires.taken [] c.args.sets.now refl tt
 pub place_of_pool-place-requires : goal.place_of_pool-place-requires
 place_of_pool-place-requires g c = (let t = first_taken g (goal.at.place_of_pool-place-requires g c).Start in record { there = stored_at g.D.DescriptorDevice.meaning.pool_name c.args.self.now.id c.args.first.number c.args.self.now.pools.items t.entry t.at })
 
--- the pool at the place
 is_at : (g : _) (c : After-index_mut-pool g) → IsAt g.D.DescriptorDevice.meaning.pool_name c.args.first.number c.place_of_pool-place.result c.args.self.now.pools.items c.index_mut-pool.result.now
 is_at g c = stands_at g.D.DescriptorDevice.meaning.pool_name c.args.first.number c.place_of_pool-place.result c.args.self.now.pools.items c.index_mut-pool.result.now c.args.self.now.rising c.place_of_pool-place.ensures.place c.index_mut-pool.ensures.value
 
@@ -29,7 +28,6 @@ places g c =
     (g.D.DescriptorDevice.ledger c.args.device.now).pools c.place_of_pool-place.result
     (entry_of g.D.DescriptorDevice.meaning.pool_name c.index_mut-pool.result.now) c.requires.stored (is_at g c).at
 
--- the pool at the place
 read : (g : _) (c : After-index_mut-pool g) → slice_get c.args.self.now.pools.items c.place_of_pool-place.result ≡ Some c.index_mut-pool.result.now
 read g c = slice_get_read c.args.self.now.pools.items (length c.args.self.now.pools.items) c.place_of_pool-place.result c.index_mut-pool.result.now refl (is_at g c).within c.index_mut-pool.ensures.value
 

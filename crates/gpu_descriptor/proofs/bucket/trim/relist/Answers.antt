@@ -5,7 +5,6 @@ use Rattle.gpu_descriptor.proofs.bucket.trim.relist.Goals.{then-index-gt0, else-
 use Rattle.gpu_descriptor.proofs.bucket.trim.relist.Goals as goal
 
 module _ {P : Type 0} (first place : ℕ) (pools : List (DescriptorPool P)) (p : DescriptorPool P) (at : slice_get pools place ≡ Some p) (listed : List ℕ) (is : listed ≡ open_numbers first (free_in (take place pools))) where
-  -- the pools with the next one
   more : take (place + 1) pools ≡ take place pools ++ p ∷ []
   more = ap (λ (n : ℕ). take n pools) (let e : place + 1 ≡ suc place = omega arith in e) ∙ take_get pools place p at
 

@@ -14,7 +14,6 @@ use Rattle.gpu_descriptor.proofs.key_table.KeyTable.serve.Goals as goal
 there : (g : _) (c : After-index_mut-bucket g) → IsAt (key_of c.args.request.now.key) c.args.self.now.buckets.entries c.in-Some.place c.index_mut-bucket.result.now
 there g c = is_at (key_of c.args.request.now.key) c.args.self.now.buckets.entries c.in-Some.place c.index_mut-bucket.result.now c.in-Some.ensures.place c.index_mut-bucket.ensures.value
 
--- the row of the key
 row : (g : _) (c : After-index_mut-bucket g) → IsRow (key_of c.args.request.now.key) c.args.self.now.buckets.entries c.index_mut-bucket.result.now
 row g c = row_at (key_of c.args.request.now.key) c.args.self.now.distinct (there g c)
 
@@ -38,7 +37,6 @@ take-requires-clause-bound g c =
     let all = c.requires.bound in
     omega arith
 
--- the row that is left
 left : (g : _) (c : After-take g) → IsWritten (key_of c.args.request.now.key) c.args.self.now.buckets.entries (set_value_at c.args.self.now.buckets.entries c.in-Some.place c.take.new.self) c.index_mut-bucket.result.now c.take.new.self
 left g c = written_at (key_of c.args.request.now.key) c.args.self.now.distinct (there g (goal.at-After-take g c).After-index_mut-bucket) _ _ refl
 

@@ -20,7 +20,6 @@ module _ (g : _) (c : In-Some g) where
   place_is : c.in-Some.ordinal - c.args.self.now.offset ≡ newest_place c.args.self.now
   place_is = ap (λ (n : ℕ). n - c.args.self.now.offset) (sym (last_index c.args.self.now.listed.now.items _ c.in-Some.ordinal last))
 
-  -- and its ordinal tells it
   ordinal_is : c.in-Some.ordinal ≡ c.args.self.now.offset + newest_place c.args.self.now
   ordinal_is = (let is = open_one.is in let place = place_is in omega arith)
 
