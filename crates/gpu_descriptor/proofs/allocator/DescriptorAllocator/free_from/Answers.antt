@@ -1,3 +1,5 @@
+use Rattle.gpu_descriptor.proofs.Common.{arith}
+use Rattle.gpu_descriptor.proofs.Common.{common_steps}
 use Rattle.std.proofs.Common.{rules}
 use Rattle.gpu_descriptor.proofs.sums.Loads.{opened}
 use Rattle.gpu_descriptor.proofs.Common.{◌∙◌, Some}
@@ -50,11 +52,7 @@ pub loop-ahead-smaller : goal.loop-ahead-smaller
 loop-ahead-smaller g c = rw c.in-Some.is (less g.D.DescriptorDevice.meaning g.I.Iterator.next_gives g.I.Iterator.can_next g.I.Iterator.remaining c.loop-ahead.sets _ _ c.release_run-ahead.ensures.goes)
 
 pub returns-clause-frees : goal.returns-clause-frees
-returns-clause-frees g c =
-    freed_all g.D.DescriptorDevice.meaning g.I.Iterator.next_gives g.I.Iterator.can_next g.I.Iterator.remaining
-    c.args.sets.now c.args.self.now (g.D.DescriptorDevice.ledger c.args.device.now) c.loop-ahead.self
-    (g.D.DescriptorDevice.ledger c.loop-ahead.device) c.loop-ahead.sets c.loop-ahead.invariant.looks
-    (rw c.in_default.is at c.loop-ahead.invariant.freed)
+returns-clause-frees g c = grind (arith, common_steps, freed_all)
 
 pub returns-clause-keeps : goal.returns-clause-keeps
 returns-clause-keeps g c =

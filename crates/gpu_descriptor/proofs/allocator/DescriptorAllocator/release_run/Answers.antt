@@ -1,3 +1,4 @@
+use Rattle.gpu_descriptor.proofs.Common.{common_steps}
 use Rattle.gpu_descriptor.proofs.Common.{length, bucket_but_front, ◌≡◌, ◌+◌, ◌-◌, ℕ, arith, refl, sym, ap, ◌∙◌, List, [], ◌∷◌, Some, subst, IsDistinct, Bucket, Key, key_eq, key_of, Allocations, DescriptorSet, items_of, state_of, binary_digits, rises, stored_ids, ◌++◌, stored_load, set_descriptors}
 use Rattle.indexmap.specs.Layout.{set_value_at}
 use Rattle.gpu_descriptor.proofs.callers.HeldSets.{out_back, out_less}
@@ -176,9 +177,7 @@ returns-clause-ran g c =
     }
 
 pub returns-clause-keys : goal.returns-clause-keys
-returns-clause-keys g c =
-    let was = table_is _ c.self.view_is in
-    row_keys _ ∙ keys_at c.self.inside.table.buckets.entries c.place_of_id-place.result c.destroy_empty_front.new.self ∙ sym (keys_are c.args.self.now c.self.inside.table.buckets.entries was)
+returns-clause-keys g c = grind (arith, common_steps, keys_are, keys_at, row_keys, table_is)
 
 pub returns-clause-compares : goal.returns-clause-compares
 returns-clause-compares g c =

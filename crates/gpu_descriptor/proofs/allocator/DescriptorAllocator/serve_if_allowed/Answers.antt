@@ -1,5 +1,6 @@
+use Rattle.gpu_descriptor.proofs.Common.{common_steps}
 use Rattle.gpu_descriptor.proofs.sums.Loads.{opened, closed}
-use Rattle.gpu_descriptor.proofs.Common.{greatest_u64, ◌≡◌, ◌+◌, ◌≤◌, length, arith, refl, None, ap, subst, sym, ◌∙◌, ltb-false, Ledger, Bucket, key_of, set_descriptors, state_of, IsConsistent, AreBookedIn}
+use Rattle.gpu_descriptor.proofs.Common.{◌≡◌, ◌+◌, ◌≤◌, length, arith, refl, None, ap, subst, ltb-false, Ledger, Bucket, key_of, set_descriptors, state_of, IsConsistent, AreBookedIn}
 use Rattle.gpu_descriptor.proofs.request.StateAgrees.{booked_of}
 use Rattle.gpu_descriptor.proofs.cleanup.KeyOrder.{keys_seen}
 use Rattle.gpu_descriptor.proofs.request.Requested.{keeps_limit, seen, seen_again, table_is, books_at, declined_by_limit, declined_by_bound, declined_unserved, given_fits, counted_now, takes_of}
@@ -13,9 +14,7 @@ returns-then-would_exceed_limit-clause-declined g c =
     declined_by_limit g.D.DescriptorDevice.meaning c.self.view_is (opened c.self.invariant) _ c.args.request.now.key c.requires.some c.would_exceed_limit.ensures c.if-would_exceed_limit.true
 
 pub returns-then-would_exceed_64_bits-clause-declined : goal.returns-then-would_exceed_64_bits-clause-declined
-returns-then-would_exceed_64_bits-clause-declined g c =
-    declined_by_bound g.D.DescriptorDevice.meaning c.self.view_is (opened c.self.invariant) _ c.args.request.now.key c.requires.some c.would_exceed_limit.ensures c.if-would_exceed_limit.false
-    c.would_exceed_64_bits.ensures c.if-would_exceed_64_bits.true
+returns-then-would_exceed_64_bits-clause-declined g c = grind (arith, common_steps, declined_by_bound, opened)
 
 pub serve-requires-clause-booked : goal.serve-requires-clause-booked
 serve-requires-clause-booked g c =
@@ -24,10 +23,7 @@ serve-requires-clause-booked g c =
     subst (λ (b : Bucket). AreBookedIn (key_of c.args.request.now.key) l.pools b.pools) is (booked_of (state_of g.D.DescriptorDevice.meaning.pool_name c.args.self.now l) (key_of c.args.request.now.key) c.requires.agree.books)
 
 pub serve-requires-clause-bound : goal.serve-requires-clause-bound
-serve-requires-clause-bound g c =
-    let below = ltb-false greatest_u64 (c.self.inside.outstanding + c.args.request.now.count) (sym c.would_exceed_64_bits.ensures ∙ c.if-would_exceed_64_bits.false) in
-    let is = (opened c.self.invariant).is_out in
-    omega arith
+serve-requires-clause-bound g c = grind (arith, common_steps, ltb-false, opened)
 
 pub returns-in_err-ended-clause-declined : goal.returns-in_err-ended-clause-declined
 returns-in_err-ended-clause-declined g c =
@@ -46,17 +42,10 @@ fits : (g : _) (c : After-from-taken g) → set_descriptors (key_of c.args.reque
 fits g c = given_fits c.serve.new.self.buckets.entries c.in_ok-ended.ensures.serves.served c.self.view_is (opened c.self.invariant) c.would_exceed_limit.ensures c.if-would_exceed_limit.false (many g c)
 
 pub marked_descriptors_of_sets-descriptors-requires : goal.marked_descriptors_of_sets-descriptors-requires
-marked_descriptors_of_sets-descriptors-requires g c =
-    let all = fits g (goal.at.marked_descriptors_of_sets-descriptors-requires g c).After-from-taken in
-    let ranges = c.self.ranges in
-    omega arith
+marked_descriptors_of_sets-descriptors-requires g c = grind (arith, common_steps)
 
 pub overflow_cast-descriptors : goal.overflow_cast-descriptors
-overflow_cast-descriptors g c =
-    let all = fits g (goal.at.overflow_cast-descriptors g c).After-from-taken in
-    let is = c.marked_descriptors_of_sets-descriptors.ensures in
-    let ranges = c.self.ranges in
-    omega arith
+overflow_cast-descriptors g c = grind (arith, common_steps)
 
 pub overflow_add-self-2 : goal.overflow_add-self-2
 overflow_add-self-2 g c =

@@ -1,3 +1,4 @@
+use Rattle.gpu_descriptor.proofs.Common.{common_steps}
 use Rattle.gpu_descriptor.proofs.Common.{◌≡◌, ℕ, ◌++◌, ◌∷◌, [], ◌+◌, length, length-append, sum_by, arith, ap, sym, ◌∙◌, sum_by-append, DescriptorPool, first_ordinal, free_in, number_after, open_numbers, rises, stored_numbers}
 use Rattle.gpu_descriptor.proofs.lists.Numbers.{next_push, rises_push}
 use Rattle.gpu_descriptor.proofs.lists.OpenList.{few_listed, listed_push_open, listed_push_closed}
@@ -6,9 +7,7 @@ use Rattle.gpu_descriptor.proofs.bucket.DescriptorBucket.push.Goals.{After-push_
 use Rattle.gpu_descriptor.proofs.bucket.DescriptorBucket.push.Goals as goal
 
 pub push_back_reserved-requires-then-is_open : goal.push_back_reserved-requires-then-is_open
-push_back_reserved-requires-then-is_open g c =
-    let few = few_listed (first_ordinal c.args.self.now.pools.items) c.args.self.now.pools.items c.args.self.now.listed.items c.args.self.now.«open» in
-    omega (arith, c.requires.listed)
+push_back_reserved-requires-then-is_open g c = grind (arith, common_steps, few_listed)
 
 -- the pools with the new one
 module _ (g : _) (c : After-push_back_reserved g) where

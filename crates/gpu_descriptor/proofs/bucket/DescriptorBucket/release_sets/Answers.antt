@@ -1,3 +1,4 @@
+use Rattle.gpu_descriptor.proofs.Common.{common_steps}
 use Rattle.gpu_descriptor.proofs.Common.{greatest_pool_size, ◌≡◌, ℕ, List, set, ◌+◌, ◌<◌, ◌≤◌, ◌-◌, rules, arith, sym, refl, ◌∙◌, ap, subst, length, map, slice_get, [], ◌∷◌, Some, length-set, eqb-true, length-map, slice_get_read, DescriptorPool, Ledger, after_release, LiveSet, DescriptorSet}
 use Rattle.gpu_descriptor.proofs.Common.{live_in, Entry, IsNonDecreasing, AreBookedIn, IsTakenAt, free_in, entry_less, bucket_of, entry_of, binary_digits, gap_digits, first_ordinal, number_after, rises, slice_set}
 use Rattle.gpu_descriptor.proofs.sums.PoolLoads.{stored_put}
@@ -231,11 +232,7 @@ returns-clause-goes g c =
     run_goes g.I.Iterator.next_gives g.I.Iterator.can_next g.I.Iterator.remaining g.D.DescriptorDevice.meaning.set_name c.args.first _ c.dealloc_descriptor_sets.new.sets t.items d.run _ _ (search (rules, m, h)) (search (rules, v, f)) c.requires.ends
 
 pub returns-clause-load : goal.returns-clause-load
-returns-clause-load g c = λ k.
-    let r = (goal.at.returns-clause-load g c).After-index_mut-pool in
-    stored_put k c.args.self.now.pools.items c.place_of_pool-place.result c.index_mut-pool.result.now
-    c.dealloc_descriptor_sets.new.pool (c.index_mut-pool.result.now.allocated - c.finish-count.result)
-    (c.index_mut-pool.result.now.available + c.finish-count.result) (is_at g r).within c.index_mut-pool.ensures.value
+returns-clause-load g c = grind (arith, common_steps, stored_put)
 
 pub returns-clause-compares : goal.returns-clause-compares
 returns-clause-compares g c =

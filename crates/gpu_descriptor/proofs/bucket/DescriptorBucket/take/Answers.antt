@@ -1,3 +1,4 @@
+use Rattle.gpu_descriptor.proofs.Common.{common_steps}
 use Rattle.gpu_descriptor.proofs.Common.{◌≡◌, ℕ, ◌+◌, ◌≤◌, ◌++◌, List, length, map, sym, ap, ◌∙◌, arith, Result, Ok, OnOk, IfErr, true, false, length-append, [], ◌∷◌, None, Err, length-map, map-append, Ledger, DeviceAllocationError, DescriptorPool, DescriptorSet, Item, Entry, Key, key_of, set_at}
 use Rattle.gpu_descriptor.proofs.Common.{fresh_entry, items_at, items_of, IsTaken, entry_of, number_after, numbers_of, stored_load, stored_numbers, IsWalked}
 use Rattle.std.specs.Result.{is_ok}
@@ -51,10 +52,7 @@ loop-sink-init g c =
     }
 
 pub take_from_new-requires-clause-numbers : goal.take_from_new-requires-clause-numbers
-take_from_new-requires-clause-numbers g c =
-    let few = c.loop-sink.invariant.numbers in
-    let fits = c.requires.numbers in
-    omega arith
+take_from_new-requires-clause-numbers g c = grind (arith, common_steps)
 
 pub returns-clause-taken : goal.returns-clause-taken
 returns-clause-taken g c = (let inv = c.loop-sink.invariant in grow_end inv.growing (let end : c.loop-sink.sink.left ≡ 0 = omega arith in end) inv.id_stays tt)

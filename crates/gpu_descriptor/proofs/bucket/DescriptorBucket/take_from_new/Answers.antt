@@ -1,3 +1,4 @@
+use Rattle.gpu_descriptor.proofs.Common.{common_steps}
 use Rattle.gpu_descriptor.proofs.Common.{◌≡◌, ℕ, ◌+◌, ◌-◌, ◌≤◌, ◌++◌, List, [], ◌∷◌, length, map, min, refl, sym, ap, ◌∙◌, subst, arith, length-map, map-append, Some, Ledger, after_alloc, after_create, after_destroy, live_sets, HasNoSets, fresh, pool_counts, DescriptorPool, Entry, Key, flags_of}
 use Rattle.gpu_descriptor.proofs.Common.{key_of, set_at, number_after, numbers_of, pool_descriptors, entry_of, stored_numbers}
 use Rattle.gpu_descriptor.specs.declared.bucket.stop.Stop.TheVariants as stop
@@ -142,10 +143,7 @@ returns-in-Err-clause-err g c =
     )
 
 pub returns-in-Err-clause-looks : goal.returns-in-Err-clause-looks
-returns-in-Err-clause-looks g c =
-    let asked = ap (λ (x : Ledger). x.counters.asked) c.in-Err.ensures.err in
-    let same = create_asked c.in-Err.error (g.D.DescriptorDevice.ledger c.args.device.now).counters in
-    omega arith
+returns-in-Err-clause-looks g c = grind (arith, common_steps, create_asked)
 
 pub marked_descriptors_of_pool-requires : goal.marked_descriptors_of_pool-requires
 marked_descriptors_of_pool-requires g c = c.in-Some.ensures.room.1
@@ -154,13 +152,7 @@ pub overflow_sub-budget : goal.overflow_sub-budget
 overflow_sub-budget g c = (let fits = c.in-Some.ensures.room.0 in let load = c.marked_descriptors_of_pool.ensures in omega arith)
 
 pub returns-in-Err-alloc_descriptor_sets-clause-looks : goal.returns-in-Err-alloc_descriptor_sets-clause-looks
-returns-in-Err-alloc_descriptor_sets-clause-looks g c =
-    let one = c.next-budget.ensures in
-    let made = ap (λ (x : Ledger). x.counters.asked) c.in-Ok.ensures.ok in
-    let refused = ap (λ (x : Ledger). x.counters.asked) c.in-Err-alloc_descriptor_sets.ensures.err.ledger in
-    let rise = alloc_asked c.in-Err-alloc_descriptor_sets.error (g.D.DescriptorDevice.ledger c.create_descriptor_pool.new.self).counters in
-    let gone = ap (λ (x : Ledger). x.counters.asked) c.destroy_descriptor_pool.ensures in
-    omega arith
+returns-in-Err-alloc_descriptor_sets-clause-looks g c = grind (arith, common_steps, alloc_asked)
 
 pub returns-in-Ok-alloc_descriptor_sets-clause-own : goal.returns-in-Ok-alloc_descriptor_sets-clause-own
 returns-in-Ok-alloc_descriptor_sets-clause-own g c =

@@ -1,4 +1,5 @@
-use Rattle.gpu_descriptor.proofs.Common.{◌≡◌, ◌+◌, ◌<◌, ◌++◌, ◌∷◌, [], List, suc, rules, refl, sym, ap, ◌∙◌, subst, IsSome, arith, length, drop, take, filter, get_or, slice_get, deque_capacity, Some, DescriptorPool, key_of, has_sets, pool_descriptors, stored_load}
+use Rattle.gpu_descriptor.proofs.Common.{common_steps}
+use Rattle.gpu_descriptor.proofs.Common.{◌≡◌, ◌+◌, ◌<◌, ◌++◌, ◌∷◌, [], List, suc, rules, refl, sym, ap, ◌∙◌, arith, length, drop, take, filter, get_or, slice_get, deque_capacity, Some, DescriptorPool, key_of, has_sets, pool_descriptors, stored_load}
 use Rattle.gpu_descriptor.proofs.cleanup.Rotation.{as_turned, destroyed, end, first, goes_back, start, unused}
 use Rattle.gpu_descriptor.proofs.lists.AtPlaces.{get_some}
 use Rattle.gpu_descriptor.proofs.sums.PoolLoads.{stored_append, stored_first, stored_one}
@@ -34,20 +35,10 @@ pub loop-init : goal.loop-init
 loop-init g c = record { within = omega arith; turned = (c.requires.stored.0, start g.D.DescriptorDevice.meaning.pool_name c.requires.stored.0 c.args.pools.now.items (g.D.DescriptorDevice.ledger c.args.device.now) c.requires.stored.1); room = refl; capacity = refl }
 
 pub unwrap-pool-requires : goal.unwrap-pool-requires
-unwrap-pool-requires g c =
-    let old = c.args.pools.now.items in
-    let x = get_some old c.loop.counter (omega (arith, c.loop-test.true)) in
-    let front = first g.D.DescriptorDevice.meaning.pool_name c.loop.invariant.turned.0 old c.loop.pools.items c.loop.counter _ _ c.loop.invariant.turned.1 x.0 x.1 in
-    let some : 0 < length c.loop.pools.items = (let long = ap length front in omega arith) in
-    subst IsSome (sym (c.pop_front.ensures.value x.0 (omega arith))) refl
+unwrap-pool-requires g c = grind (arith, common_steps, get_some)
 
 pub push_back_reserved-requires : goal.push_back_reserved-requires
-push_back_reserved-requires g c =
-    let t = taken g (goal.at.push_back_reserved-requires g c).After-unwrap-pool in
-    let some = t.some in
-    let rest = ap length c.pop_front.ensures.rest in
-    let capacity = c.pop_front.ensures.capacity in
-    search rules
+push_back_reserved-requires g c = grind (arith, common_steps)
 
 pub marked_descriptors_of_pool-requires : goal.marked_descriptors_of_pool-requires
 marked_descriptors_of_pool-requires g c = (let all = first_load g (goal.at.marked_descriptors_of_pool-requires g c).After-unwrap-pool in let room = c.loop.invariant.room in omega arith)

@@ -1,3 +1,4 @@
+use Rattle.gpu_descriptor.proofs.Common.{common_steps}
 use Rattle.gpu_descriptor.proofs.Common.{◌≡◌, ℕ, suc, ◌+◌, ◌<◌, ◌++◌, ◌∷◌, [], List, length, take, arith, refl, sym, ap, ◌∙◌, slice_get, Some, length-take-le, slice_get_read, take_all, deque_capacity, DescriptorPool, free_in, open_numbers}
 use Rattle.gpu_descriptor.proofs.lists.AtPlaces.{long_take, take_get}
 use Rattle.gpu_descriptor.proofs.lists.OpenList.{few_listed, listed_push_closed, listed_push_open}
@@ -23,16 +24,7 @@ pub loop-place-init : goal.loop-place-init
 loop-place-init g c = record { listed = c.clear.ensures.items; capacity = c.clear.ensures.capacity }
 
 pub push_back_reserved-requires : goal.push_back_reserved-requires
-push_back_reserved-requires g c =
-    let pools = c.args.pools.now.items in
-    let few = few_listed c.first_ordinal_of-first.result (take c.loop-place.place pools) c.loop-place.listed.items c.loop-place.invariant.listed in
-    let long = length-take-le c.loop-place.place pools (let all = c.args.pools.now.ok.0 in let last = c.len-place-end.ensures in omega arith) in
-    let all = c.args.pools.now.ok.0 in
-    let last = c.len-place-end.ensures in
-    let listed = c.loop-place.listed.ok.0 in
-    let room = c.requires.capacity in
-    let same = c.loop-place.invariant.capacity in
-    omega arith
+push_back_reserved-requires g c = grind (arith, common_steps, few_listed, length-take-le)
 
 pub loop-place-preserved : goal.loop-place-preserved
 loop-place-preserved g c =
@@ -51,13 +43,7 @@ loop-place-preserved g c =
     ]
 
 pub returns-clause-listed : goal.returns-clause-listed
-returns-clause-listed g c =
-    let pools = c.args.pools.now.items in
-    let end = c.loop-place-test.false in
-    let last = c.len-place-end.ensures in
-    let all = c.args.pools.now.ok.0 in
-    c.loop-place.invariant.listed
-    ∙ (λ i. open_numbers (c.first_ordinal_of-first.ensures.first i) (free_in (take_all c.loop-place.place pools (omega arith) i)))
+returns-clause-listed g c = grind (arith, common_steps, take_all)
 
 pub returns-clause-capacity : goal.returns-clause-capacity
 returns-clause-capacity g c = c.loop-place.invariant.capacity

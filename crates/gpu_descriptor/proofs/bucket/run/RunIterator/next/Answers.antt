@@ -1,3 +1,4 @@
+use Rattle.gpu_descriptor.proofs.Common.{common_steps}
 use Rattle.gpu_descriptor.proofs.Common.{true, rules, ◌≡◌, ◌+◌, ◌<◌, arith, sym, ◌∙◌, refl, IsFinite, size, option_len, CountsFrom}
 use Rattle.gpu_descriptor.proofs.release.OneLook.{Looked, looked, count_as, Came, at_start, hands_it, hands_none}
 use Rattle.gpu_descriptor.proofs.bucket.run.RunIterator.next.Goals.{in-Some, in-None+in_ok-set-in-None, After-is_at}
@@ -39,9 +40,7 @@ overflow_add-self g c =
     let f = (look g d c.if-is_at.true).fits in rw (came g d).count (search (rules, f))
 
 pub returns-then-is_at-clause-steps : goal.returns-then-is_at-clause-steps
-returns-then-is_at-clause-steps g c =
-    let d = (goal.at.returns-then-is_at-clause-steps g c).After-is_at in
-    hands_it g.I.Iterator.next_gives g.I.Iterator.can_next g.I.Iterator.remaining c.args.self.now c.match-take.self c.match-take.set c.is_at.result (came g d) c.if-is_at.true c.is_at.ensures
+returns-then-is_at-clause-steps g c = grind (arith, common_steps, hands_it)
 
 pub returns-then-is_at-clause-goes : goal.returns-then-is_at-clause-goes
 returns-then-is_at-clause-goes g c =
@@ -57,6 +56,4 @@ returns-then-is_at-clause-goes g c =
     record { on = λ f. let p = less f in (go, p.0, p.1); keeps = go; rests = λ _. tt }
 
 pub returns-clause-steps : goal.returns-clause-steps
-returns-clause-steps g c =
-    let d = (goal.at.returns-clause-steps g c).After-is_at in
-    hands_none g.I.Iterator.next_gives g.I.Iterator.can_next g.I.Iterator.remaining c.args.self.now c.match-take.self c.match-take.set c.is_at.result c.replace.new.self (came g d) c.if-is_at.false c.is_at.ensures c.replace.ensures.after
+returns-clause-steps g c = grind (arith, common_steps, hands_none)
