@@ -1,17 +1,12 @@
-use Rattle.gpu_descriptor.proofs.Common.{◌≡◌, ℕ, ◌+◌, ◌-◌, length, refl, sym, arith, number_after, slice_get_read, stored_numbers}
-use Rattle.std.proofs.Common.{deque_len}
+use Rattle.gpu_descriptor.proofs.Common.{common_steps}
+use Rattle.gpu_descriptor.proofs.Common.{◌≡◌, ◌+◌, sym, arith, number_after, slice_get_read, stored_numbers}
 use Rattle.gpu_descriptor.proofs.lists.Ordinals.{next_after}
 use Rattle.gpu_descriptor.proofs.bucket.next_number_of.Goals.{In-Some}
 use Rattle.gpu_descriptor.proofs.bucket.next_number_of.Goals as goal
 
 -- the newest pool is the last
 next : (g : _) (c : In-Some g) → number_after (stored_numbers c.args.pools.now.items) ≡ c.in-Some.newest.now.number + 1
-next g c =
-    let pools = c.args.pools.now.items in
-    let some = c.in-Some.ensures.variant.0 refl in
-    let last : ℕ = deque_len c.args.pools.now - 1 in
-    let long = c.args.pools.now.ok.0 in
-    next_after pools last c.in-Some.newest.now (omega arith) (slice_get_read pools (length pools) last c.in-Some.newest.now refl (omega arith) c.in-Some.ensures.lookup)
+next g c = grind (arith, common_steps, next_after, slice_get_read)
 
 pub overflow_add-result : goal.overflow_add-result
 overflow_add-result g c = (let is = next g (goal.at.overflow_add-result g c).In-Some in let fits = c.requires in omega arith)

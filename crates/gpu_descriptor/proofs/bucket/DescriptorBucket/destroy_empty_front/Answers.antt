@@ -1,4 +1,5 @@
-use Rattle.gpu_descriptor.proofs.Common.{◌≡◌, ◌+◌, drop, ◌<◌, ◌≤◌, ◌∙◌, sym, ap, arith, length, get_or, Some, key_of, pool_descriptors, bucket_of, stored_load}
+use Rattle.gpu_descriptor.proofs.Common.{common_steps}
+use Rattle.gpu_descriptor.proofs.Common.{◌≡◌, ◌+◌, drop, ◌<◌, ◌≤◌, ◌∙◌, sym, ap, arith, length, key_of, pool_descriptors, bucket_of, stored_load}
 use Rattle.gpu_descriptor.proofs.sums.PoolLoads.{stored_first}
 use Rattle.gpu_descriptor.proofs.release.StoredNumbers.{popped_numbers, popped_open}
 use Rattle.gpu_descriptor.proofs.release.FrontPool.{IsFront, is_front, turn_unused, turn, stop_full, stop_short, still}
@@ -6,13 +7,7 @@ use Rattle.gpu_descriptor.proofs.bucket.DescriptorBucket.destroy_empty_front.Goa
 use Rattle.gpu_descriptor.proofs.bucket.DescriptorBucket.destroy_empty_front.Goals as goal
 
 front : (g : _) (c : After-unwrap-front g) → IsFront g.D.DescriptorDevice.meaning.pool_name c.args.keep c.loop-self.self.pools.items c.unwrap-front.result
-front g c =
-    let items = c.loop-self.self.pools.items in
-    let many : c.args.keep < length items = omega (arith, c.loop-self.self.pools.ok.0) in
-    let some : c.pop_front.result ≡ Some (get_or items 0 c.unwrap-front.result) = c.pop_front.ensures.value c.unwrap-front.result (omega arith) in
-    let was : c.pop_front.result ≡ Some c.unwrap-front.result = search (Rattle.std.proofs.Common.rules) in
-    let is : c.unwrap-front.result ≡ get_or items 0 c.unwrap-front.result = cc (some, was) in
-    is_front g.D.DescriptorDevice.meaning.pool_name c.args.keep items c.unwrap-front.result c.index.result.now many is c.index.ensures c.if-index-eq0.true
+front g c = grind (arith, common_steps, is_front)
 
 first_load : (g : _) (c : After-unwrap-front g) → stored_load (key_of c.args.key.now) c.loop-self.self.pools.items ≡ pool_descriptors (key_of c.args.key.now) c.unwrap-front.result.capacity + stored_load (key_of c.args.key.now) (drop 1 c.loop-self.self.pools.items)
 first_load g c = (let first = front g c in let some = first.long in stored_first (key_of c.args.key.now) c.loop-self.self.pools.items c.unwrap-front.result (omega arith) first.is)

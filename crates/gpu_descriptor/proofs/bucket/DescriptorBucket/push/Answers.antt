@@ -15,9 +15,7 @@ module _ (g : _) (c : After-push_back_reserved g) where
   long = ap length c.push_back_reserved.ensures.items ∙ length-append c.args.self.now.pools.items (c.args.pool ∷ [])
 
   counted : sum_by (λ (p : DescriptorPool g.row.P.Denot). p.allocated) c.push_back_reserved.new.self.items ≡ sum_by (λ (p : DescriptorPool g.row.P.Denot). p.allocated) c.args.self.now.pools.items + c.args.pool.allocated
-  counted =
-      let all = ap (sum_by (λ (p : DescriptorPool g.row.P.Denot). p.allocated)) c.push_back_reserved.ensures.items ∙ sum_by-append (λ (p : DescriptorPool g.row.P.Denot). p.allocated) c.args.self.now.pools.items (c.args.pool ∷ []) in
-      omega arith
+  counted = grind (arith, common_steps, sum_by-append)
 
   numbers : stored_numbers c.push_back_reserved.new.self.items ≡ stored_numbers c.args.self.now.pools.items ++ c.args.pool.number ∷ []
   numbers = ap stored_numbers c.push_back_reserved.ensures.items ∙ stored_push c.args.self.now.pools.items c.args.pool

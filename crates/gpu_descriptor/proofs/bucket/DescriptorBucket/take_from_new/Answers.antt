@@ -40,10 +40,7 @@ module _ (g : _) (c : In-Ok g) where
 -- what came stands behind what was there
 kept : (g : _) (c : In-Ok-alloc_descriptor_sets g) → (g.K.SetPlaces.items c.alloc_descriptor_sets.new.sets.sets)
     ≡ (g.K.SetPlaces.items c.args.sink.now.sets) ++ map (set_at (key_of c.args.request.now.key) c.args.self.now.id (number_after (stored_numbers c.args.self.now.pools.items))) c.in-Ok-alloc_descriptor_sets.ensures.ok.sets
-kept g c =
-    let put = c.in-Ok-alloc_descriptor_sets.ensures.ok in
-    let number = c.aim.ensures.number ∙ c.next_number-number.ensures ∙ ap (λ (items : List (DescriptorPool g.row.P.Denot)). number_after (stored_numbers items)) c.reserve_pool.ensures.pools in
-    put.kept ∙ (λ i. g.K.SetPlaces.items (c.aim.ensures.sets i) ++ map (set_at (key_of (c.aim.ensures.key i)) ((c.aim.ensures.id ∙ c.reserve_pool.ensures.id_stays) i) (number i)) put.sets)
+kept g c = grind (arith, common_steps)
 
 pub alloc_descriptor_sets-requires-clause-fits : goal.alloc_descriptor_sets-requires-clause-fits
 alloc_descriptor_sets-requires-clause-fits g c =
