@@ -1,11 +1,7 @@
 -- The names that most proofs cite, passed on from one place. Declares nothing.
-pub use Rattle.std.proofs.Common.{Bool, Err, Global, IfSome, IsSome, List, MatchBool, MatchOption, None, Ok, OnSome}
-pub use Rattle.std.proofs.Common.{Option, Result, Some, [], ap, append_assoc, arith, cond, count_by, drop, drop-drop}
-pub use Rattle.std.proofs.Common.{eq-eqb, eqb-true, false, filter, flat_map, get_or, inl, inr, insert, is_some, le-ltb}
-pub use Rattle.std.proofs.Common.{length, length-append, length-drop, lt-ltb, ltb, map, max, min, nat_eq, nat_lt}
-pub use Rattle.std.proofs.Common.{ne_eqb, not, option_map, pow-suc, refl, rules, set, slice_get, slice_index, slice_set}
-pub use Rattle.std.proofs.Common.{subst, suc, sum, sum_by, sym, take, take-add, true, zero, ℕ, ◌&&◌, ◌*◌, ◌++◌, ◌+◌}
-pub use Rattle.std.proofs.Common.{◌-◌, ◌/◌, ◌<◌, ◌==◌, ◌^◌, ◌||◌, ◌∙◌, ◌∷◌, ◌≡◌, ◌≢◌, ◌≤◌, ◌⊎◌}
+pub use Rattle.std.proofs.Common.{Bool, Err, Global, IfSome, IsSome, List, MatchBool, MatchOption, None, Ok, OnSome, Option, Result, Some, [], ap, append_assoc, arith, cond, count_by, drop, drop-drop, eq-eqb, eqb-true, false, filter, flat_map, get_or, inl, inr, insert, is_some, le-ltb, length}
+pub use Rattle.std.proofs.Common.{length-append, length-drop, lt-ltb, ltb, map, max, min, nat_eq, nat_lt, ne_eqb, not, option_map, pow-suc, refl, rules, set, slice_get, slice_index, slice_set, subst, suc, sum, sum_by, sym, take, take-add, true, zero, ℕ, ◌&&◌, ◌*◌, ◌++◌, ◌+◌, ◌-◌, ◌/◌, ◌<◌, ◌==◌}
+pub use Rattle.std.proofs.Common.{◌^◌, ◌||◌, ◌∙◌, ◌∷◌, ◌≡◌, ◌≢◌, ◌≤◌, ◌⊎◌}
 pub use Rattle.std.specs.Prelude.{All, IfErr, IfOk, IsTrue, OnOk, if◌then◌else◌, replicate, slice_index_or, ◌↔◌}
 unfoldable pub use Rattle.std.specs.List.{IsDistinct}
 pub use Rattle.std.specs.List.{AllByRecursion, AllWithin, list_all, list_any, position, prefix_len}

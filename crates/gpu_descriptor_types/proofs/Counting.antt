@@ -1,9 +1,8 @@
 -- Lists seen through how often each element stands in them.
-use Rattle.std.proofs.Common.{◌≡◌, suc, ◌+◌, ◌<◌, ◌≤◌, Bool, true, false, ltb, ◌==◌, List, [], ◌∷◌, ◌++◌, length, count_by, inl, inr, refl, sym, ap, ◌∙◌, arith, eqb-true, eq-eqb, nat_eq}
+use Rattle.std.proofs.Common.{◌≡◌, suc, ◌+◌, ◌<◌, ◌≤◌, Bool, true, false, ltb, ◌==◌, List, [], ◌∷◌, ◌++◌, length, count_by, inl, inr, refl, sym, ap, ◌∙◌, arith, eqb-true, eq-eqb, nat_eq, lt_of_lt_of_le, le_of_eq, lt-ltb}
 use Rattle.std.specs.List.{list_any}
 use Rattle.std.proofs.lemmas.Bool.{cases_Bool, and_parts, and_from, or_left, or_right, or_cases}
 use Rattle.std.proofs.lemmas.Bool.Decides.{Decides-eqb}
-use Rattle.std.proofs.Common.{lt_of_lt_of_le, le_of_eq, lt-ltb}
 use Rattle.std.proofs.lemmas.List.Sums.{length-filter}
 use lib.Pointwise.{pointwise, pointwise_decides}
 use Rattle.gpu_descriptor_types.specs.Multiset.{LiveSet, set_eq, times}

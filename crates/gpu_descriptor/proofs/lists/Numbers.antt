@@ -21,10 +21,6 @@ rises_at (x ∷ xs) h i zero m n lt a b = absurd (omega arith)
 rises_at (x ∷ xs) h zero (suc j) m n lt a b = grind (arith, common_steps, all_above, and_parts, rises)
 rises_at (x ∷ xs) h (suc i) (suc j) m n lt a b = rises_at xs (and_parts (list_all (nat_lt x) xs) (rises xs) h).1 i j m n (omega arith) a b
 
-pub rises_from : (xs : List ℕ) → ((i j m n : ℕ) → i < j → slice_get xs i ≡ Some m → slice_get xs j ≡ Some n → m < n) → rises xs ≡ true
-rises_from [] h = refl
-rises_from (x ∷ xs) h = and_from _ _ (all_from x xs (λ i m at. h 0 (suc i) x m (omega arith) refl at)) (rises_from xs (λ i j m n lt a b. h (suc i) (suc j) m n (omega arith) a b))
-
 -- the next number is above all
 pub below_next : (xs : List ℕ) → rises xs ≡ true → (i m : ℕ) → slice_get xs i ≡ Some m → m < number_after xs
 below_next [] h i m at = absurd (let bad : ◌≡◌ {A = Option ℕ} None (Some m) = at in cc)

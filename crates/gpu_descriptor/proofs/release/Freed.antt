@@ -1,7 +1,7 @@
 -- What the loop over the runs keeps.
 use Rattle.gpu_descriptor.proofs.Common.{search_digits, ◌≡◌, ℕ, ◌+◌, ◌<◌, true, false, ◌&&◌, ◌==◌, List, [], ◌∷◌, ◌++◌, sum_by, refl, sym, ap, subst, ◌∙◌, arith, append_assoc, append-nil, length-append, Option, Some, None, MatchOption, OnSome, IfSome, Count, HoldsAlong, IsFinite, IsNearerEnd}
 use Rattle.gpu_descriptor.proofs.Common.{MakesProgress, size, Yields, YieldsThen, and_parts, and_from, map-append, sum_by-append, side, Meaning, Counters, Ledger, bool_iff, DescriptorSet, State, Item, AreOutstanding, Agree, count_of, Key, key_eq, Allocations, common_steps, set_descriptors}
-use Rattle.gpu_descriptor.proofs.Common.{more_released, more_destroyed, released, given_back, pools_gone, run_digits, GivesBack, Frees, FreesRun, runs, item_of, items_of, AllPass, state_of, Compares}
+use Rattle.gpu_descriptor.proofs.Common.{more_released, more_destroyed, released, given_back, pools_gone, run_digits, GivesBack, FreesRun, runs, item_of, items_of, AllPass, state_of, Compares}
 use Rattle.std.proofs.iter.Next.{Yields-more}
 use Rattle.gpu_descriptor.specs.Inner.RunSteps.{lies_at}
 use Rattle.gpu_descriptor.specs.Caller.States.{keys_of}
@@ -194,7 +194,3 @@ module _ {L P S : Type 0} (means : Meaning L P S) where
         begin : (a : Option (DescriptorSet S)) → steps first a rest → MakesProgress can left first a rest → Comes first [] a rest
         begin None step goes = (first, refl, step)
         begin (Some y) step goes = ((rest, step, refl), (λ zs. let e : runs (items (y ∷ zs)) ≡ 0 + runs (items (y ∷ zs)) = omega arith in e), goes.keeps, (goes.on finite).1)
-
-    -- at the end all sets of the iterator have gone back
-    pub freed_all : (first : T) (old : Allocations P) (before : Ledger) (new : Allocations P) (after : Ledger) (end : T) → new.looks ≡ old.looks → Freed first old before new after None end → Frees means steps first end (side old before) (side new after)
-    freed_all first old before new after end looks r = grind arith

@@ -40,8 +40,5 @@ module _ {T S : Type 0} (steps : T → Option (DescriptorSet S) → T → Type 0
   pub at_start : (s m : Run T S) (x : DescriptorSet S) (b c : Bool) → Came s x m → b ≡ c → b ≡ at_place m.id m.number x → at_place s.id s.number x ≡ c
   at_start s m x b c came h is = rw (← came.key, ← came.number) (sym is ∙ h)
 
-  pub hands_it : (s m : Run T S) (x : DescriptorSet S) (b : Bool) → Came s x m → b ≡ true → b ≡ at_place m.id m.number x → RunStep steps can left s (Some x.raw) (record m { count = m.count + 1 })
-  hands_it s m x b c h is = grind arith
-
   pub hands_none : (s m : Run T S) (x : DescriptorSet S) (b : Bool) (a : Option (DescriptorSet S)) → Came s x m → b ≡ false → b ≡ at_place m.id m.number x → a ≡ Some x → RunStep steps can left s None (record m { ahead = record m.ahead { now = a } })
   hands_none s m x b a c h is put = grind arith

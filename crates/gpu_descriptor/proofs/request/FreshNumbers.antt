@@ -9,10 +9,6 @@ pub fresh_entries_more : (number : ℕ) (fs : List Fresh) (f : Fresh) → fresh_
 fresh_entries_more number [] f = ap (λ (m : ℕ). fresh_entry m f ∷ []) (let e : number ≡ number + 0 = omega arith in e)
 fresh_entries_more number (h ∷ fs) f = grind (arith, common_steps, (fresh_entries_more (number + 1) fs f))
 
-pub length_fresh : (number : ℕ) (fs : List Fresh) → length (fresh_entries number fs) ≡ length fs
-length_fresh number [] = refl
-length_fresh number (f ∷ fs) = ap suc (length_fresh (number + 1) fs)
-
 pub fresh_get : (number : ℕ) (fs : List Fresh) (j : ℕ) (f : Fresh) → slice_get fs j ≡ Some f → slice_get (fresh_entries number fs) j ≡ Some (fresh_entry (number + j) f)
 fresh_get number [] j f at = absurd (let bad : ◌≡◌ {A = Option Fresh} None (Some f) = at in cc)
 fresh_get number (h ∷ fs) zero f at = grind (arith, common_steps)

@@ -65,11 +65,6 @@ lookup_same s t same [] = refl
 lookup_same s t same (e ∷ es) = grind arith
 
 module _ {P : Type 0} where
-  pub key_at : (es : List (BucketKey × DescriptorBucket P)) (i : ℕ) (key : BucketKey) (v : DescriptorBucket P) → slice_get es i ≡ Some (key, v) → slice_get (stored_keys es) i ≡ Some (key_of key)
-  key_at [] i key v at = absurd (let bad : ◌≡◌ {A = Option (BucketKey × DescriptorBucket P)} None (Some (key, v)) = at in cc)
-  key_at (e ∷ es) zero key v at = (let same : Some e ≡ Some (key, v) = at in let is : e ≡ (key, v) = cc in ap (λ (r : BucketKey × DescriptorBucket P). Some (key_of r.0)) is)
-  key_at (e ∷ es) (suc i) key v at = key_at es i key v at
-
   pub value_at : (es : List (BucketKey × DescriptorBucket P)) (i : ℕ) (key : BucketKey) (v : DescriptorBucket P) → slice_get es i ≡ Some (key, v) → slice_get (values_of es) i ≡ Some v
   value_at [] i key v at = absurd (let bad : ◌≡◌ {A = Option (BucketKey × DescriptorBucket P)} None (Some (key, v)) = at in cc)
   value_at (e ∷ es) zero key v at = (let same : Some e ≡ Some (key, v) = at in let is : e ≡ (key, v) = cc in ap (λ (r : BucketKey × DescriptorBucket P). Some r.1) is)

@@ -1,5 +1,4 @@
-use Rattle.gpu_descriptor.proofs.Common.{common_steps}
-use Rattle.gpu_descriptor.proofs.Common.{arith, length-map}
+use Rattle.gpu_descriptor.proofs.Common.{common_steps, arith, length-map}
 use Rattle.gpu_descriptor.proofs.lists.Numbers.{few_numbers}
 use Rattle.gpu_descriptor.proofs.bucket.first_ordinal_of.Goals as goal
 

@@ -1,5 +1,4 @@
-use Rattle.gpu_descriptor.proofs.Common.{common_steps}
-use Rattle.gpu_descriptor.proofs.Common.{◌≡◌, ◌+◌, sym, arith, number_after, slice_get_read, stored_numbers}
+use Rattle.gpu_descriptor.proofs.Common.{common_steps, ◌≡◌, ◌+◌, sym, arith, number_after, slice_get_read, stored_numbers}
 use Rattle.gpu_descriptor.proofs.lists.Ordinals.{next_after}
 use Rattle.gpu_descriptor.proofs.bucket.next_number_of.Goals.{In-Some}
 use Rattle.gpu_descriptor.proofs.bucket.next_number_of.Goals as goal

@@ -1,8 +1,7 @@
 use Rattle.std.proofs.Common.{false, ◌≡◌, ℕ, [], None, Some, length, sym, ap, subst, ◌∙◌, arith}
-use Rattle.descriptor_table.specs.Slots.{frame_of}
+use Rattle.descriptor_table.specs.Slots.{frame_of, slot_at}
 use Rattle.descriptor_renderer.specs.Own.{IsCounted}
 use Rattle.descriptor_renderer.specs.Stores.{generations_in, lists_for}
-use Rattle.descriptor_table.specs.Slots.{slot_at}
 use Rattle.descriptor_renderer.specs.LayoutRegistries.{layout_slots, registry_of}
 use Rattle.descriptor_renderer.proofs.Owned.{found_none}
 use Rattle.descriptor_renderer.proofs.renderer.Renderer.new.Goals as goal

@@ -4,7 +4,6 @@ use Rattle.gpu_descriptor.specs.Caller.States.{keys_of}
 use Rattle.gpu_descriptor.proofs.request.Outcomes.{taken_agree, taken_given}
 use Rattle.gpu_descriptor.proofs.request.HandedOut.{hands_all, hands_back, hands_none, keeps_all, keeps_back}
 use Rattle.gpu_descriptor.proofs.request.OwnLayout.{own_behind}
-use Rattle.gpu_descriptor.proofs.callers.Unchanged.{keeps_still}
 use Rattle.gpu_descriptor.proofs.allocator.DescriptorAllocator.fill.Goals.{After-free_after, In-Ok}
 use Rattle.gpu_descriptor.proofs.allocator.DescriptorAllocator.fill.Goals as goal
 
@@ -80,10 +79,6 @@ returns-in-Err-clause-appends g c = record {
   own = tt;
   sets_stay = ap g.K.SetPlaces.items c.into_sets-sets.ensures ∙ c.in-Err.ensures.sets ∙ ap g.K.SetPlaces.items c.new-sink.ensures;
 }
-
-pub returns-in-Err-clause-keeps : goal.returns-in-Err-clause-keeps
-returns-in-Err-clause-keeps g c =
-    keeps_still c.in-Err.ensures.allocator c.in-Err.ensures.ledger c.requires.agree c.in-Err.ensures.within.load c.in-Err.ensures.within.pool_load
 
 pub returns-in-Ok-ended-clause-appends : goal.returns-in-Ok-ended-clause-appends
 returns-in-Ok-ended-clause-appends g c =

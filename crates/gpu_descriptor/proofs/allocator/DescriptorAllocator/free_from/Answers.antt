@@ -1,11 +1,9 @@
-use Rattle.gpu_descriptor.proofs.Common.{arith}
-use Rattle.gpu_descriptor.proofs.Common.{common_steps}
+use Rattle.gpu_descriptor.proofs.Common.{◌∙◌, Some}
 use Rattle.std.proofs.Common.{rules}
 use Rattle.gpu_descriptor.proofs.sums.Loads.{opened}
-use Rattle.gpu_descriptor.proofs.Common.{◌∙◌, Some}
 use Rattle.gpu_descriptor.proofs.foreign.OthersStay.{freed_others}
 use Rattle.gpu_descriptor.proofs.request.Requested.{load_within, pool_load_within, rows_apart}
-use Rattle.gpu_descriptor.proofs.release.Freed.{Freed, freed_none, call_out, freed_more, freed_all, less}
+use Rattle.gpu_descriptor.proofs.release.Freed.{Freed, freed_none, call_out, freed_more}
 use Rattle.gpu_descriptor.proofs.allocator.DescriptorAllocator.free_from.Goals.{In-Some}
 use Rattle.gpu_descriptor.proofs.allocator.DescriptorAllocator.free_from.Goals as goal
 
@@ -47,12 +45,6 @@ loop-ahead-preserved g c =
       most = c.release_run-ahead.ensures.most ∙ c.loop-ahead.invariant.most;
       looks = c.release_run-ahead.ensures.looks_stay ∙ c.loop-ahead.invariant.looks;
     }
-
-pub loop-ahead-smaller : goal.loop-ahead-smaller
-loop-ahead-smaller g c = rw c.in-Some.is (less g.D.DescriptorDevice.meaning g.I.Iterator.next_gives g.I.Iterator.can_next g.I.Iterator.remaining c.loop-ahead.sets _ _ c.release_run-ahead.ensures.goes)
-
-pub returns-clause-frees : goal.returns-clause-frees
-returns-clause-frees g c = grind (arith, common_steps, freed_all)
 
 pub returns-clause-keeps : goal.returns-clause-keeps
 returns-clause-keeps g c =

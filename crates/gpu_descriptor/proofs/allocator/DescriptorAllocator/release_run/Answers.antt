@@ -73,9 +73,6 @@ destroy_empty_front-requires-clause-room g c =
     let all = (opened c.self.invariant).is_room in
     omega arith
 
-pub destroy_empty_front-requires-clause-stored : goal.destroy_empty_front-requires-clause-stored
-destroy_empty_front-requires-clause-stored g c = (c.args.first.key.is, c.release_sets-ahead.ensures.stored)
-
 -- how many sets the key has out then
 went : (g : _) (c : After-destroy_empty_front g) → c.destroy_empty_front.new.self.total + length (c.args.first ∷ c.release_sets-ahead.ensures.ran.0) ≡ c.pair_mut-bucket.result.1.now.total
 went g c = (let left = c.destroy_empty_front.ensures.total in let less = c.release_sets-ahead.ensures.ran.3 in omega arith)

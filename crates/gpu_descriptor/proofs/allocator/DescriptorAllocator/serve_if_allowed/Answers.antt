@@ -1,9 +1,7 @@
-use Rattle.gpu_descriptor.proofs.Common.{common_steps}
+use Rattle.gpu_descriptor.proofs.Common.{common_steps, ◌≡◌, ◌+◌, ◌≤◌, length, arith, refl, None, ap, ltb-false, key_of, set_descriptors, IsConsistent}
 use Rattle.gpu_descriptor.proofs.sums.Loads.{opened, closed}
-use Rattle.gpu_descriptor.proofs.Common.{◌≡◌, ◌+◌, ◌≤◌, length, arith, refl, None, ap, subst, ltb-false, Ledger, Bucket, key_of, set_descriptors, state_of, IsConsistent, AreBookedIn}
-use Rattle.gpu_descriptor.proofs.request.StateAgrees.{booked_of}
 use Rattle.gpu_descriptor.proofs.cleanup.KeyOrder.{keys_seen}
-use Rattle.gpu_descriptor.proofs.request.Requested.{keeps_limit, seen, seen_again, table_is, books_at, declined_by_limit, declined_by_bound, declined_unserved, given_fits, counted_now, takes_of}
+use Rattle.gpu_descriptor.proofs.request.Requested.{keeps_limit, seen, seen_again, table_is, declined_by_limit, declined_by_bound, declined_unserved, given_fits, counted_now, takes_of}
 use Rattle.gpu_descriptor.specs.Caller.SetLists.{appended}
 use Rattle.gpu_descriptor.proofs.request.Passed.{passed}
 use Rattle.gpu_descriptor.proofs.allocator.DescriptorAllocator.serve_if_allowed.Goals.{After-from-taken, After-marked_descriptors_of_sets-descriptors}
@@ -15,12 +13,6 @@ returns-then-would_exceed_limit-clause-declined g c =
 
 pub returns-then-would_exceed_64_bits-clause-declined : goal.returns-then-would_exceed_64_bits-clause-declined
 returns-then-would_exceed_64_bits-clause-declined g c = grind (arith, common_steps, declined_by_bound, opened)
-
-pub serve-requires-clause-booked : goal.serve-requires-clause-booked
-serve-requires-clause-booked g c =
-    let l : Ledger = g.D.DescriptorDevice.ledger c.args.device.now in
-    let is = books_at c.args.self.now c.self.inside.table.buckets.entries (table_is _ c.self.view_is) g.D.DescriptorDevice.meaning.pool_name l (key_of c.args.request.now.key) in
-    subst (λ (b : Bucket). AreBookedIn (key_of c.args.request.now.key) l.pools b.pools) is (booked_of (state_of g.D.DescriptorDevice.meaning.pool_name c.args.self.now l) (key_of c.args.request.now.key) c.requires.agree.books)
 
 pub serve-requires-clause-bound : goal.serve-requires-clause-bound
 serve-requires-clause-bound g c = grind (arith, common_steps, ltb-false, opened)
@@ -40,9 +32,6 @@ many g c = (let left = c.in_ok-ended.ensures.serves.appends.rest in let came = c
 -- the descriptors of what came keep the limit
 fits : (g : _) (c : After-from-taken g) → set_descriptors (key_of c.args.request.now.key) c.from-taken.result + c.self.inside.update_after_bind_descriptors ≤ c.self.inside.max_update_after_bind_descriptors_in_all_pools
 fits g c = given_fits c.serve.new.self.buckets.entries c.in_ok-ended.ensures.serves.served c.self.view_is (opened c.self.invariant) c.would_exceed_limit.ensures c.if-would_exceed_limit.false (many g c)
-
-pub marked_descriptors_of_sets-descriptors-requires : goal.marked_descriptors_of_sets-descriptors-requires
-marked_descriptors_of_sets-descriptors-requires g c = grind (arith, common_steps)
 
 pub overflow_cast-descriptors : goal.overflow_cast-descriptors
 overflow_cast-descriptors g c = grind (arith, common_steps)

@@ -1,6 +1,5 @@
-use Rattle.gpu_descriptor.proofs.Common.{common_steps}
+use Rattle.gpu_descriptor.proofs.Common.{common_steps, arith}
 use Rattle.gpu_descriptor.proofs.sums.Loads.{opened}
-use Rattle.gpu_descriptor.proofs.Common.{arith}
 use Rattle.gpu_descriptor.proofs.request.InTable.{above-limit}
 use Rattle.gpu_descriptor.proofs.allocator.DescriptorAllocator.would_exceed_limit.Goals as goal
 

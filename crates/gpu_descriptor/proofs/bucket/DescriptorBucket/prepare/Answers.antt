@@ -1,5 +1,4 @@
-use Rattle.gpu_descriptor.proofs.Common.{common_steps}
-use Rattle.gpu_descriptor.proofs.Common.{arith, ltb-false, ltb-true}
+use Rattle.gpu_descriptor.proofs.Common.{common_steps, arith, ltb-false, ltb-true}
 use Rattle.gpu_descriptor.proofs.bucket.DescriptorBucket.prepare.Goals as goal
 
 pub returns-then-would_exceed_64_bits-clause-refused : goal.returns-then-would_exceed_64_bits-clause-refused

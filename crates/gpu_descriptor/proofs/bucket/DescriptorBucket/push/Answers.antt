@@ -1,5 +1,4 @@
-use Rattle.gpu_descriptor.proofs.Common.{common_steps}
-use Rattle.gpu_descriptor.proofs.Common.{◌≡◌, ℕ, ◌++◌, ◌∷◌, [], ◌+◌, length, length-append, sum_by, arith, ap, sym, ◌∙◌, sum_by-append, DescriptorPool, first_ordinal, free_in, number_after, open_numbers, rises, stored_numbers}
+use Rattle.gpu_descriptor.proofs.Common.{common_steps, ◌≡◌, ℕ, ◌++◌, ◌∷◌, [], ◌+◌, length, length-append, sum_by, arith, ap, sym, ◌∙◌, sum_by-append, DescriptorPool, first_ordinal, free_in, number_after, open_numbers, rises, stored_numbers}
 use Rattle.gpu_descriptor.proofs.lists.Numbers.{next_push, rises_push}
 use Rattle.gpu_descriptor.proofs.lists.OpenList.{few_listed, listed_push_open, listed_push_closed}
 use Rattle.gpu_descriptor.proofs.lists.Ordinals.{first_fits, first_push, stored_push}

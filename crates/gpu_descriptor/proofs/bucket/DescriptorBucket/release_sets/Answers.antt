@@ -1,7 +1,5 @@
-use Rattle.gpu_descriptor.proofs.Common.{common_steps}
-use Rattle.gpu_descriptor.proofs.Common.{greatest_pool_size, ◌≡◌, ℕ, List, set, ◌+◌, ◌<◌, ◌≤◌, ◌-◌, rules, arith, sym, refl, ◌∙◌, ap, subst, length, map, slice_get, [], ◌∷◌, Some, length-set, eqb-true, length-map, slice_get_read, DescriptorPool, Ledger, after_release, LiveSet, DescriptorSet}
-use Rattle.gpu_descriptor.proofs.Common.{live_in, Entry, IsNonDecreasing, AreBookedIn, IsTakenAt, free_in, entry_less, bucket_of, entry_of, binary_digits, gap_digits, first_ordinal, number_after, rises, slice_set}
-use Rattle.gpu_descriptor.proofs.sums.PoolLoads.{stored_put}
+use Rattle.gpu_descriptor.proofs.Common.{greatest_pool_size, ◌≡◌, ℕ, List, set, ◌+◌, ◌<◌, ◌≤◌, ◌-◌, rules, arith, sym, refl, ◌∙◌, ap, subst, length, map, slice_get, [], ◌∷◌, Some, length-set, eqb-true, length-map, slice_get_read, DescriptorPool, Ledger, after_release, LiveSet}
+use Rattle.gpu_descriptor.proofs.Common.{DescriptorSet, live_in, Entry, IsNonDecreasing, AreBookedIn, IsTakenAt, free_in, entry_less, bucket_of, entry_of, binary_digits, gap_digits, first_ordinal, number_after, rises, slice_set}
 use Rattle.gpu_descriptor.proofs.lists.OpenNumbers.{open_rises}
 use Rattle.gpu_descriptor.proofs.lists.OpenList.{listed_again, fewer_listed}
 use Rattle.gpu_descriptor.proofs.release.Comparisons.{listed_count}
@@ -230,9 +228,6 @@ returns-clause-goes g c =
     let v = sym d.run.name in
     let f = c.finish-count.ensures.source in
     run_goes g.I.Iterator.next_gives g.I.Iterator.can_next g.I.Iterator.remaining g.D.DescriptorDevice.meaning.set_name c.args.first _ c.dealloc_descriptor_sets.new.sets t.items d.run _ _ (search (rules, m, h)) (search (rules, v, f)) c.requires.ends
-
-pub returns-clause-load : goal.returns-clause-load
-returns-clause-load g c = grind (arith, common_steps, stored_put)
 
 pub returns-clause-compares : goal.returns-clause-compares
 returns-clause-compares g c =

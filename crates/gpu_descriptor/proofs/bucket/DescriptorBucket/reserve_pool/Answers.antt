@@ -1,5 +1,4 @@
-use Rattle.gpu_descriptor.proofs.Common.{common_steps}
-use Rattle.gpu_descriptor.proofs.Common.{arith}
+use Rattle.gpu_descriptor.proofs.Common.{common_steps, arith}
 use Rattle.gpu_descriptor.proofs.lists.OpenList.{few_listed}
 use Rattle.gpu_descriptor.proofs.bucket.DescriptorBucket.reserve_pool.Goals as goal
 

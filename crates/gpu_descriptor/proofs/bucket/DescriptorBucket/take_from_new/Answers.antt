@@ -1,12 +1,11 @@
-use Rattle.gpu_descriptor.proofs.Common.{common_steps}
-use Rattle.gpu_descriptor.proofs.Common.{◌≡◌, ℕ, ◌+◌, ◌-◌, ◌≤◌, ◌++◌, List, [], ◌∷◌, length, map, min, refl, sym, ap, ◌∙◌, subst, arith, length-map, map-append, Some, Ledger, after_alloc, after_create, after_destroy, live_sets, HasNoSets, fresh, pool_counts, DescriptorPool, Entry, Key, flags_of}
-use Rattle.gpu_descriptor.proofs.Common.{key_of, set_at, number_after, numbers_of, pool_descriptors, entry_of, stored_numbers}
+use Rattle.gpu_descriptor.proofs.Common.{common_steps, ◌≡◌, ℕ, ◌+◌, ◌-◌, ◌≤◌, ◌++◌, List, [], ◌∷◌, length, map, min, refl, sym, ap, ◌∙◌, subst, arith, length-map, map-append, Some, Ledger, after_alloc, after_create, after_destroy, live_sets, HasNoSets, fresh, pool_counts, DescriptorPool, Entry, Key}
+use Rattle.gpu_descriptor.proofs.Common.{flags_of, key_of, set_at, number_after, numbers_of, pool_descriptors, entry_of, stored_numbers}
 use Rattle.gpu_descriptor.specs.declared.bucket.stop.Stop.TheVariants as stop
 use Rattle.gpu_descriptor.proofs.release.StoredNumbers.{numbers_stored}
 use Rattle.gpu_descriptor.proofs.request.NextSize.{one_fits}
 use Rattle.gpu_descriptor.proofs.request.OwnLayout.{none_own, put_own}
 use Rattle.gpu_descriptor.proofs.request.Asks.{same_entry}
-use Rattle.gpu_descriptor.proofs.request.PoolCreated.{created_at, fresh_room, no_sets, grown, not_grown, not_created, none_asked, had_room, create_asked, alloc_asked}
+use Rattle.gpu_descriptor.proofs.request.PoolCreated.{created_at, fresh_room, no_sets, grown, not_grown, not_created, none_asked, had_room, create_asked}
 use Rattle.gpu_descriptor.proofs.bucket.DescriptorBucket.take_from_new.Goals.{In-Ok, In-Ok-alloc_descriptor_sets}
 use Rattle.gpu_descriptor.proofs.bucket.DescriptorBucket.take_from_new.Goals as goal
 
@@ -105,10 +104,6 @@ returns-in-Ok-alloc_descriptor_sets-clause-grown g c =
           (let fits = c.in-Some.ensures.room.0 in let load = c.marked_descriptors_of_pool.ensures in omega arith) long c.in-Ok.ensures.new_name (made g d) is numbered now,
     )
 
-pub returns-in_default-clause-err : goal.returns-in_default-clause-err
-returns-in_default-clause-err g c =
-    (refl, refl, refl, refl, refl, none_asked (g.D.DescriptorDevice.ledger c.args.device.now) stop.NoRoomUnderLimit refl, (λ is. c.in_default.ensures.none, λ none. refl))
-
 pub returns-then-is_err-clause-err : goal.returns-then-is_err-clause-err
 returns-then-is_err-clause-err g c = (
   refl,
@@ -147,9 +142,6 @@ marked_descriptors_of_pool-requires g c = c.in-Some.ensures.room.1
 
 pub overflow_sub-budget : goal.overflow_sub-budget
 overflow_sub-budget g c = (let fits = c.in-Some.ensures.room.0 in let load = c.marked_descriptors_of_pool.ensures in omega arith)
-
-pub returns-in-Err-alloc_descriptor_sets-clause-looks : goal.returns-in-Err-alloc_descriptor_sets-clause-looks
-returns-in-Err-alloc_descriptor_sets-clause-looks g c = grind (arith, common_steps, alloc_asked)
 
 pub returns-in-Ok-alloc_descriptor_sets-clause-own : goal.returns-in-Ok-alloc_descriptor_sets-clause-own
 returns-in-Ok-alloc_descriptor_sets-clause-own g c =

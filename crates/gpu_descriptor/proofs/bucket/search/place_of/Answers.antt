@@ -1,5 +1,4 @@
-use Rattle.gpu_descriptor.proofs.Common.{arith}
-use Rattle.gpu_descriptor.proofs.Common.{common_steps}
+use Rattle.gpu_descriptor.proofs.Common.{arith, common_steps}
 use Rattle.gpu_descriptor.proofs.lists.Searching.{search_start, search_right, search_left}
 use Rattle.gpu_descriptor.proofs.bucket.search.place_of.Goals as goal
 

@@ -1,6 +1,4 @@
-use Rattle.gpu_descriptor.proofs.Common.{arith}
-use Rattle.gpu_descriptor.proofs.Common.{common_steps}
-use Rattle.gpu_descriptor.proofs.Common.{sym, ap, subst, IsNonDecreasing, stored_numbers}
+use Rattle.gpu_descriptor.proofs.Common.{arith, common_steps, sym, ap, subst, IsNonDecreasing, stored_numbers}
 use Rattle.gpu_descriptor.proofs.lists.Numbers.{rises_sorted, search_ends}
 use Rattle.gpu_descriptor.proofs.bucket.search.search_pools.Goals as goal
 

@@ -1,5 +1,4 @@
-use Rattle.gpu_descriptor.proofs.Common.{common_steps}
-use Rattle.gpu_descriptor.proofs.Common.{◌≡◌, ◌+◌, ◌<◌, ◌++◌, ◌∷◌, [], List, suc, rules, refl, sym, ap, ◌∙◌, arith, length, drop, take, filter, get_or, slice_get, deque_capacity, Some, DescriptorPool, key_of, has_sets, pool_descriptors, stored_load}
+use Rattle.gpu_descriptor.proofs.Common.{common_steps, ◌≡◌, ◌+◌, ◌<◌, ◌++◌, ◌∷◌, [], List, suc, rules, refl, sym, ap, ◌∙◌, arith, length, drop, take, filter, get_or, slice_get, deque_capacity, Some, DescriptorPool, key_of, has_sets, pool_descriptors, stored_load}
 use Rattle.gpu_descriptor.proofs.cleanup.Rotation.{as_turned, destroyed, end, first, goes_back, start, unused}
 use Rattle.gpu_descriptor.proofs.lists.AtPlaces.{get_some}
 use Rattle.gpu_descriptor.proofs.sums.PoolLoads.{stored_append, stored_first, stored_one}

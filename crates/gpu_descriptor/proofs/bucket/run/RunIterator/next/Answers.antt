@@ -1,6 +1,5 @@
-use Rattle.gpu_descriptor.proofs.Common.{common_steps}
 use Rattle.gpu_descriptor.proofs.Common.{true, rules, ◌≡◌, ◌+◌, ◌<◌, arith, sym, ◌∙◌, refl, IsFinite, size, option_len, CountsFrom}
-use Rattle.gpu_descriptor.proofs.release.OneLook.{Looked, looked, count_as, Came, at_start, hands_it, hands_none}
+use Rattle.gpu_descriptor.proofs.release.OneLook.{Looked, looked, count_as, Came, at_start}
 use Rattle.gpu_descriptor.proofs.bucket.run.RunIterator.next.Goals.{in-Some, in-None+in_ok-set-in-None, After-is_at}
 use Rattle.gpu_descriptor.proofs.bucket.run.RunIterator.next.Goals as goal
 
@@ -39,9 +38,6 @@ overflow_add-self g c =
     let d = (goal.at.overflow_add-self g c).After-is_at in
     let f = (look g d c.if-is_at.true).fits in rw (came g d).count (search (rules, f))
 
-pub returns-then-is_at-clause-steps : goal.returns-then-is_at-clause-steps
-returns-then-is_at-clause-steps g c = grind (arith, common_steps, hands_it)
-
 pub returns-then-is_at-clause-goes : goal.returns-then-is_at-clause-goes
 returns-then-is_at-clause-goes g c =
     let d = (goal.at.returns-then-is_at-clause-goes g c).After-is_at in
@@ -54,6 +50,3 @@ returns-then-is_at-clause-goes g c =
     let less : IsFinite (g.I.Iterator.remaining s.source.now) → IsFinite (g.I.Iterator.remaining t.source.now) × (size (g.I.Iterator.remaining t.source.now) + option_len t.ahead.now < size (g.I.Iterator.remaining s.source.now) + option_len s.ahead.now) =
     λ f. let p = k.ends f in rw m.none (p.0, (omega (arith, p.1))) in
     record { on = λ f. let p = less f in (go, p.0, p.1); keeps = go; rests = λ _. tt }
-
-pub returns-clause-steps : goal.returns-clause-steps
-returns-clause-steps g c = grind (arith, common_steps, hands_none)
