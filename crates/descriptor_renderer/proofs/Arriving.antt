@@ -2,8 +2,8 @@
 use Rattle.std.proofs.Common.{◌≡◌, ℕ, ◌+◌, ◌≤◌, ◌⊎◌, ◌&&◌, ◌||◌, not, Bool, true, false, [], Option, Some, None, is_some, inl, inr, refl, sym, ap, subst, ◌∙◌, arith}
 use Rattle.gpu_descriptor_types.specs.declared.device.DescriptorDevice.{Ghosts}
 use Rattle.gpu_descriptor.specs.declared.set.DescriptorSet.{DescriptorSet}
-use Rattle.descriptor_table.specs.Slots.{frame_in, frame_of, in_list, slot_at}
-use Rattle.descriptor_table.specs.Tables.{came_under, is_held_use, is_waiting_use}
+use Rattle.descriptor_table.specs.Slots.{frame_in, frame_of, in_list, slot_at, waits_for}
+use Rattle.descriptor_table.specs.Tables.{came_under, is_held_use}
 use Rattle.descriptor_table.specs.declared.slot.Slot.{Slot}
 use Rattle.descriptor_table.specs.declared.slot.Use.{Use}
 use Rattle.descriptor_renderer.specs.Stores.{IsAtRest, KeepsStore, Settles, coming_in, is_placed, slots_in}
@@ -19,10 +19,10 @@ pub record Arrives {T : Type 0} (comes : ℕ → T → Type 0) (f : ℕ) (o n : 
 module _ {T : Type 0} where
   -- whether a set in such a use is placed
   abbrev pub placed_in : Use → Option T → ℕ → ℕ → Bool
-  placed_in u o layout generation = not (is_some o) || ((is_held_use u && is_some o) || ((is_waiting_use u && is_some o) || in_list (layout + 2) u layout generation (is_some o)))
+  placed_in u o layout generation = not (is_some o) || ((is_held_use u && is_some o) || ((waits_for (λ w. true) u && is_some o) || in_list (layout + 2) u layout generation (is_some o)))
 
-  pub used_placed : (s : Slot T) (x : T) → s.set ≡ Some x → (is_held_use s.used || is_waiting_use s.used) ≡ true → is_placed s ≡ true
-  used_placed s x full e = ap (λ o. placed_in s.used o s.layout s.generation) full ∙ by_use (is_held_use s.used) (is_waiting_use s.used) (in_list (s.layout + 2) s.used s.layout s.generation true) e
+  pub used_placed : (s : Slot T) (x : T) → s.set ≡ Some x → (is_held_use s.used || waits_for (λ w. true) s.used) ≡ true → is_placed s ≡ true
+  used_placed s x full e = ap (λ o. placed_in s.used o s.layout s.generation) full ∙ by_use (is_held_use s.used) (waits_for (λ w. true) s.used) (in_list (s.layout + 2) s.used s.layout s.generation true) e
     where
       by_use : (a b c : Bool) → (a || b) ≡ true → ((a && true) || ((b && true) || c)) ≡ true
       by_use true b c f = refl
@@ -61,7 +61,7 @@ module _ {T : Type 0} where
     same_arrives o n e = subst (Arrives comes f o) (sym e) (record { set = λ x is. inl (is, refl); placed = λ was. was; frame = λ g le up. up })
 
 module _ {L P S D : Type 0} {d : Ghosts D L P S} where
-  pub arrived : (comes : ℕ → DescriptorSet S → Type 0) (f : ℕ) (old new : Store L P S D d) → ((p : ℕ) → Arrives comes f (slot_at (slots_in old) p) (slot_at (slots_in new) p)) → (coming_in new).items ≡ [] → IsAtRest old → KeepsStore old new → Settles comes f old new
+  pub arrived : (comes : ℕ → DescriptorSet S → Type 0) (f : ℕ) (old new : Store L P S D d) → ((p : ℕ) → Arrives comes f (slot_at (slots_in old) p) (slot_at (slots_in new) p)) → coming_in new ≡ [] → IsAtRest old → KeepsStore old new → Settles comes f old new
   arrived comes f old new arrives none rest stays = record {
     sets = λ p x e. (arrives p).set x e;
     rest = record { none_coming = none; placed = λ p. (arrives p).placed (rest.placed p) };

@@ -2,14 +2,13 @@
 use Rattle.std.proofs.Common.{◌≡◌, ℕ, ◌+◌, ◌≤◌, ◌&&◌, nat_lt, ne_eqb, Bool, true, false, List, is_some, inl, inr, refl, sym, ap, ◌∙◌, arith}
 use Rattle.descriptor_table.specs.Sets.{sets_in}
 use Rattle.descriptor_table.specs.Slots.{goes, is_due, is_in, slot_at}
-use Rattle.descriptor_table.specs.Tables.{IsSettled, Leaves, MayGo, Turns, Vacates, WaitsFor, count, is_kept, used_for, vacated}
-use Rattle.descriptor_table.specs.declared.slot.Use.TheVariants.{Kept}
+use Rattle.descriptor_table.specs.Tables.{IsBack, Becomes, MayBecome, Turns, count, is_kept, used_for, vacated}
+use Rattle.descriptor_table.specs.declared.slot.Use.TheVariants.{Kept, Going, Waits}
 use Rattle.descriptor_table.specs.declared.slot.Slot.{Slot}
 use Rattle.descriptor_table.proofs.Chains.{lists_apart}
 use Rattle.descriptor_table.proofs.Leaving.{same_sets}
 use Rattle.descriptor_table.proofs.Renewing.{kept_full}
 use Rattle.descriptor_table.proofs.Turning.{count_same}
-use Rattle.descriptor_renderer.specs.Stores.{IsBack, MayLeave}
 
 module _ {T : Type 0} where
   -- the same sets are there, if each slot that turns has its set still
@@ -20,20 +19,20 @@ module _ {T : Type 0} where
       by_test p false e = ap (λ (s : Slot T). s.set) (t.rest p e)
       by_test p true e = same (slot_at old p) (slot_at new p) (t.here p e)
 
-  pub settled_sets : (test : Slot T → Bool) (generations : ℕ → ℕ) (most : ℕ) (old new : List (Slot T)) → Turns test (IsSettled generations most) old new → sets_in new ≡ sets_in old
-  settled_sets test generations most old new t = turned_sets test (IsSettled generations most) old new t (λ o n settled. elim settled [
+  pub settled_sets : (test : Slot T → Bool) (generations : ℕ → ℕ) (most : ℕ) (old new : List (Slot T)) → Turns test (IsBack (used_for Going) generations most) old new → sets_in new ≡ sets_in old
+  settled_sets test generations most old new t = turned_sets test (IsBack (used_for Going) generations most) old new t (λ o n settled. elim settled [
     | inl kept ↦ ap (λ (s : Slot T). s.set) kept.0
     | inr going ↦ ap (λ (s : Slot T). s.set) going.0
   ])
 
-  pub waiting_sets : (test : Slot T → Bool) (frame : ℕ) (old new : List (Slot T)) → Turns test (WaitsFor frame) old new → sets_in new ≡ sets_in old
-  waiting_sets test frame old new t = turned_sets test (WaitsFor frame) old new t (λ o n waits. ap (λ (s : Slot T). s.set) waits)
+  pub waiting_sets : (test : Slot T → Bool) (frame : ℕ) (old new : List (Slot T)) → Turns test (Becomes (used_for (Waits frame))) old new → sets_in new ≡ sets_in old
+  waiting_sets test frame old new t = turned_sets test (Becomes (used_for (Waits frame))) old new t (λ o n waits. ap (λ (s : Slot T). s.set) waits)
 
-  pub leaving_sets : (test : Slot T → Bool) (old new : List (Slot T)) → Turns test Leaves old new → sets_in new ≡ sets_in old
-  leaving_sets test old new t = turned_sets test Leaves old new t (λ o n going. ap (λ (s : Slot T). s.set) going)
+  pub leaving_sets : (test : Slot T → Bool) (old new : List (Slot T)) → Turns test (Becomes (used_for Going)) old new → sets_in new ≡ sets_in old
+  leaving_sets test old new t = turned_sets test (Becomes (used_for Going)) old new t (λ o n going. ap (λ (s : Slot T). s.set) going)
 
   -- as many are kept when sets that go are given back
-  pub given_kept : (mid new : List (Slot T)) → Turns goes Vacates mid new → (k : ℕ) → 2 ≤ k → count (is_in k) new ≡ count (is_in k) mid
+  pub given_kept : (mid new : List (Slot T)) → Turns goes (Becomes vacated) mid new → (k : ℕ) → 2 ≤ k → count (is_in k) new ≡ count (is_in k) mid
   given_kept mid new gives k two = count_same (is_in k) mid new gives.long (λ p. by_test p (goes (slot_at mid p)) refl)
     where
       vacant_out : (s : Slot T) → is_in k (vacated s) ≡ false
@@ -48,7 +47,7 @@ module _ {T : Type 0} where
     kept_apart s = ap (λ b. b && (nat_lt s.generation 4294967295 && is_some s.set)) (ne_eqb 1 (s.layout + 2) (λ e. omega arith))
 
     -- sets settled, and those that went were given back
-    pub came_back : ((p : ℕ) → goes (slot_at old p) ≡ false) → Turns test (IsSettled generations most) old mid → Turns goes Vacates mid new → Turns test (IsBack generations most) old new
+    pub came_back : ((p : ℕ) → goes (slot_at old p) ≡ false) → Turns test (IsBack (used_for Going) generations most) old mid → Turns goes (Becomes vacated) mid new → Turns test (IsBack vacated generations most) old new
     came_back none settles gives = record {
       long = gives.long ∙ settles.long;
       rest = λ p out. (let same = settles.rest p out in gives.rest p (ap goes same ∙ none p) ∙ same);
@@ -62,7 +61,7 @@ module _ {T : Type 0} where
     }
 
   -- no set is due then
-  pub back_not_due : (generations : ℕ → ℕ) (frame most : ℕ) (old new : List (Slot T)) → Turns (is_due frame) (IsBack generations most) old new → (p : ℕ) → is_due frame (slot_at new p) ≡ false
+  pub back_not_due : (generations : ℕ → ℕ) (frame most : ℕ) (old new : List (Slot T)) → Turns (is_due frame) (IsBack vacated generations most) old new → (p : ℕ) → is_due frame (slot_at new p) ≡ false
   back_not_due generations frame most old new t p = by_test (is_due frame (slot_at old p)) refl
     where
       by_test : (b : Bool) → is_due frame (slot_at old p) ≡ b → is_due frame (slot_at new p) ≡ false
@@ -73,7 +72,7 @@ module _ {T : Type 0} where
       ]
 
   -- kept sets that went were given back
-  pub left : (old mid new : List (Slot T)) → ((p : ℕ) → goes (slot_at old p) ≡ false) → Turns is_kept MayGo old mid → Turns goes Vacates mid new → Turns is_kept MayLeave old new
+  pub left : (old mid new : List (Slot T)) → ((p : ℕ) → goes (slot_at old p) ≡ false) → Turns is_kept (MayBecome (used_for Going)) old mid → Turns goes (Becomes vacated) mid new → Turns is_kept (MayBecome vacated) old new
   left old mid new none trims gives = record {
     long = gives.long ∙ trims.long;
     rest = λ p out. (let same = trims.rest p out in gives.rest p (ap goes same ∙ none p) ∙ same);

@@ -16,8 +16,8 @@ module _ {L P S D : Type 0} {d : Ghosts D L P S} where
     pub cleared : (slots_in new ≡ slots_in old) ⊎ AreCleaned (slots_in old) (slots_in new)
     pub clear : (q : ℕ) → Clears (slot_at (slots_in old) q) (slot_at (slots_in new) q)
     pub long : length (slots_in new) ≡ length (slots_in old)
-    pub few : length (coming_in new).items ≤ many
-    pub own : AreOfLayout d.meaning layout (coming_in new).items
+    pub few : length (coming_in new) ≤ many
+    pub own : AreOfLayout d.meaning layout (coming_in new)
 
   module _ (layout : L) (first many : ℕ) (old mid new : Store L P S D d) (clear : (q : ℕ) → Clears (slot_at (slots_in old) q) (slot_at (slots_in mid) q)) (long : length (slots_in mid) ≡ length (slots_in old)) where
     asked : ((slots_in mid ≡ slots_in old) ⊎ AreCleaned (slots_in old) (slots_in mid)) → first ≤ many → Asks layout first mid new → Brings layout many old new
@@ -29,7 +29,7 @@ module _ {L P S D : Type 0} {d : Ghosts D L P S} where
       own = asks.own;
     }
 
-  pub brought : (layout : L) (number many : ℕ) (old new : Store L P S D d) → (coming_in old).items ≡ [] → (many ≤ kept_of number old → new ≡ old) → (kept_of number old < many → AsksAtLast layout (many - kept_of number old) many old new) → Brings layout many old new
+  pub brought : (layout : L) (number many : ℕ) (old new : Store L P S D d) → coming_in old ≡ [] → (many ≤ kept_of number old → new ≡ old) → (kept_of number old < many → AsksAtLast layout (many - kept_of number old) many old new) → Brings layout many old new
   brought layout number many old new none kept asks = elim (below_or (kept_of number old) many) [
     | inl few ↦ elim (asks few) [
       | inl at_once ↦ asked layout (many - kept_of number old) many old old new (λ q. same_clears (slot_at (slots_in old) q) (slot_at (slots_in old) q) refl) refl (inl refl) (omega arith) at_once
@@ -40,7 +40,7 @@ module _ {L P S D : Type 0} {d : Ghosts D L P S} where
     ]
     | inr enough ↦
         let same = kept enough in
-        let empty = ap (λ s. (coming_in s).items) same in
+        let empty = ap (λ s. coming_in s) same in
         let long = ap length empty in
         let short = ap length none in
         record {

@@ -3,7 +3,7 @@ use Rattle.std.proofs.Common.{◌≡◌, ℕ, ◌+◌, ◌<◌, ◌≤◌, Bool,
 use Rattle.std.proofs.lemmas.List.{get_or_past}
 use Rattle.descriptor_table.specs.Sets.{sets_in}
 use Rattle.descriptor_table.specs.Slots.{goes, is_in, slot_at}
-use Rattle.descriptor_table.specs.Tables.{AreAged, MayGo, Turns, Vacates, aged, count, is_kept, used_for, vacated}
+use Rattle.descriptor_table.specs.Tables.{AreAged, MayBecome, Turns, Becomes, aged, count, is_kept, used_for, vacated}
 use Rattle.descriptor_table.specs.declared.slot.Use.TheVariants.{Going, Taken}
 use Rattle.descriptor_table.specs.declared.slot.Slot.{Slot}
 use Rattle.descriptor_table.proofs.Counting.{below_or}
@@ -25,13 +25,13 @@ module _ {T : Type 0} where
     | inr le ↦ (let long = a.long in ap (λ (s : Slot T). s.set) (past new p (omega arith)) ∙ sym (ap (λ (s : Slot T). s.set) (past old p le)))
   ])
 
-  pub gone_sets : (test : Slot T → Bool) (old new : List (Slot T)) → Turns test MayGo old new → sets_in new ≡ sets_in old
-  gone_sets test old new t = turned_sets test MayGo old new t (λ o n may. elim may [
+  pub gone_sets : (test : Slot T → Bool) (old new : List (Slot T)) → Turns test (MayBecome (used_for Going)) old new → sets_in new ≡ sets_in old
+  gone_sets test old new t = turned_sets test (MayBecome (used_for Going)) old new t (λ o n may. elim may [
     | inl same ↦ ap (λ (s : Slot T). s.set) same
     | inr going ↦ ap (λ (s : Slot T). s.set) going
   ])
 
-  pub cleaned : (old a b new : List (Slot T)) → ArePlaced old → AreAged old a → Turns is_kept MayGo a b → ((layout : ℕ) → count (is_in (layout + 2)) b ≤ 0) → Turns goes Vacates b new → AreCleaned old new
+  pub cleaned : (old a b new : List (Slot T)) → ArePlaced old → AreAged old a → Turns is_kept (MayBecome (used_for Going)) a b → ((layout : ℕ) → count (is_in (layout + 2)) b ≤ 0) → Turns goes (Becomes vacated) b new → AreCleaned old new
   cleaned old a b new placed aged_all trims few gives = record {
     long = gives.long ∙ trims.long ∙ aged_all.long;
     each = λ p lt. by_test p lt (is_kept (slot_at old p)) refl;

@@ -1,7 +1,7 @@
 -- All sets leave.
-use Rattle.std.proofs.Common.{◌≡◌, ℕ, ◌+◌, ◌<◌, ◌≤◌, ◌⊎◌, ◌&&◌, ◌||◌, not, Bool, true, false, List, length, Option, None, Some, is_some, inl, inr, refl, sym, ap, ◌∙◌, arith, le-leb}
-use Rattle.descriptor_table.specs.Slots.{frame_in, frame_of, goes, in_list, is_due, is_in, slot_at, waits_until}
-use Rattle.descriptor_table.specs.Tables.{AreAged, IsSettled, Leaves, MayGo, Turns, Vacates, count, holds, is_held_use, is_kept, is_waiting_use, stays, used_for, vacated, waits}
+use Rattle.std.proofs.Common.{◌≡◌, ℕ, ◌+◌, ◌<◌, ◌≤◌, ◌⊎◌, ◌&&◌, ◌||◌, not, Bool, true, false, List, length, Option, None, Some, is_some, inl, inr, refl, sym, ap, ◌∙◌, arith, le-leb, nat_le}
+use Rattle.descriptor_table.specs.Slots.{frame_in, frame_of, goes, in_list, is_due, is_in, slot_at, waits_for}
+use Rattle.descriptor_table.specs.Tables.{AreAged, IsBack, Becomes, MayBecome, Turns, count, holds, is_held_use, is_kept, stays, used_for, vacated, waits}
 use Rattle.descriptor_table.specs.declared.slot.Slot.{Slot}
 use Rattle.descriptor_table.specs.declared.slot.Use.{Use}
 use Rattle.descriptor_table.specs.declared.slot.Use.TheVariants.{Held, Drawn, Waits, Kept, Going, Taken, Vacant}
@@ -21,7 +21,7 @@ placed_or true true c d e = inr (inl refl)
 placed_or true false true d e = inr (inr (inl refl))
 placed_or true false false d e = inr (inr (inr e))
 
-held_not_due : (frame : ℕ) (u : Use) (full : Bool) → (is_held_use u && full) ≡ true → (waits_until frame u && full) ≡ false
+held_not_due : (frame : ℕ) (u : Use) (full : Bool) → (is_held_use u && full) ≡ true → (waits_for (λ w. nat_le w frame) u && full) ≡ false
 held_not_due frame Held full e = refl
 held_not_due frame (Drawn f) full e = absurd (cc)
 held_not_due frame (Waits f) full e = absurd (cc)
@@ -30,7 +30,7 @@ held_not_due frame Going full e = refl
 held_not_due frame Taken full e = refl
 held_not_due frame Vacant full e = refl
 
-kept_not_due : (frame : ℕ) (u : Use) (layout generation : ℕ) (full : Bool) → in_list (layout + 2) u layout generation full ≡ true → ((waits_until frame u && full) ≡ false) × ((is_held_use u && full) ≡ false)
+kept_not_due : (frame : ℕ) (u : Use) (layout generation : ℕ) (full : Bool) → in_list (layout + 2) u layout generation full ≡ true → ((waits_for (λ w. nat_le w frame) u && full) ≡ false) × ((is_held_use u && full) ≡ false)
 kept_not_due frame Held layout generation full e = absurd (cc)
 kept_not_due frame (Drawn f) layout generation full e = absurd (cc)
 kept_not_due frame (Waits f) layout generation full e = absurd (cc)
@@ -39,7 +39,7 @@ kept_not_due frame Going layout generation full e = (refl, refl)
 kept_not_due frame Taken layout generation full e = (refl, refl)
 kept_not_due frame Vacant layout generation full e = (refl, refl)
 
-waiting_due : (frame : ℕ) (u : Use) (full : Bool) → frame_in u ≤ frame → (is_waiting_use u && full) ≡ true → (waits_until frame u && full) ≡ true
+waiting_due : (frame : ℕ) (u : Use) (full : Bool) → frame_in u ≤ frame → (waits_for (λ w. true) u && full) ≡ true → (waits_for (λ w. nat_le w frame) u && full) ≡ true
 waiting_due frame Held full le e = absurd (cc)
 waiting_due frame (Drawn f) full le e = ap (λ b. b && full) (le-leb f frame le) ∙ e
 waiting_due frame (Waits f) full le e = ap (λ b. b && full) (le-leb f frame le) ∙ e
@@ -68,9 +68,9 @@ abbrev HasLeft : {T : Type 0} → Slot T → Slot T → Type 0
 HasLeft o n = ((n ≡ o) × (o.set ≡ None)) ⊎ (n ≡ vacated o)
 
 module _ {T : Type 0} (generations : ℕ → ℕ) (frame most : ℕ) (a b c d new : List (Slot T))
-    (settles : Turns (is_due frame) (IsSettled generations most) a b) (leave : Turns holds Leaves b c)
-    (trims : Turns is_kept MayGo c d) (few : (layout : ℕ) → count (is_in (layout + 2)) d ≤ 0)
-    (gives : Turns goes Vacates d new) where
+    (settles : Turns (is_due frame) (IsBack (used_for Going) generations most) a b) (leave : Turns holds (Becomes (used_for Going)) b c)
+    (trims : Turns is_kept (MayBecome (used_for Going)) c d) (few : (layout : ℕ) → count (is_in (layout + 2)) d ≤ 0)
+    (gives : Turns goes (Becomes vacated) d new) where
   -- a set that goes was given back
   given : (p : ℕ) (s : Slot T) → is_some s.set ≡ true → slot_at d p ≡ used_for Going s → slot_at new p ≡ vacated s
   given p s full e = gives.here p (ap goes e ∙ full) ∙ ap vacated e
@@ -82,7 +82,7 @@ module _ {T : Type 0} (generations : ℕ → ℕ) (frame most : ℕ) (a b c d ne
   empty_stays : (p : ℕ) → goes (slot_at a p) ≡ false → is_some (slot_at a p).set ≡ false → slot_at new p ≡ slot_at a p
   empty_stays p none e =
       let s = slot_at a p in
-      let one : slot_at b p ≡ s = settles.rest p (empty_out (waits_until frame s.used) (is_some s.set) e) in
+      let one : slot_at b p ≡ s = settles.rest p (empty_out (waits_for (λ w. nat_le w frame) s.used) (is_some s.set) e) in
       let two : slot_at c p ≡ s = leave.rest p (ap holds one ∙ empty_out (is_held_use s.used) (is_some s.set) e) ∙ one in
       let three : slot_at d p ≡ s = trims.rest p (ap is_kept two ∙ empty_kept s e) ∙ two in
       gives.rest p (ap goes three ∙ none) ∙ three
@@ -142,7 +142,7 @@ pub record IsEmptied {T : Type 0} (o n : Slot T) : Type 0 where
   pub follows : Follows 0 o n
 
 module _ {T : Type 0} (generations : ℕ → ℕ) (frame most : ℕ) (old a b c d new : List (Slot T)) (placed : ArePlaced old) (up : IsUpTo frame old) where
-  pub emptied : AreAged old a → Turns (is_due frame) (IsSettled generations most) a b → Turns holds Leaves b c → Turns is_kept MayGo c d → ((layout : ℕ) → count (is_in (layout + 2)) d ≤ 0) → Turns goes Vacates d new → (p : ℕ) → IsEmptied (slot_at old p) (slot_at new p)
+  pub emptied : AreAged old a → Turns (is_due frame) (IsBack (used_for Going) generations most) a b → Turns holds (Becomes (used_for Going)) b c → Turns is_kept (MayBecome (used_for Going)) c d → ((layout : ℕ) → count (is_in (layout + 2)) d ≤ 0) → Turns goes (Becomes vacated) d new → (p : ℕ) → IsEmptied (slot_at old p) (slot_at new p)
   emptied ages settles leave trims few gives p = elim (below_or p (length old)) [
     | inl lt ↦ elim (at_place lt) [
       | inl same ↦ record {

@@ -1,19 +1,19 @@
 -- Each kind of change of a slot follows what it was.
 use Rattle.std.proofs.Common.{◌≡◌, ◌≢◌, ℕ, ◌+◌, ◌<◌, ◌&&◌, ◌||◌, nat_lt, not, Bool, true, false, List, length, is_some, inl, inr, refl, sym, ap, subst, ◌∙◌, arith, eq-eqb, ne_eqb}
-use Rattle.descriptor_table.specs.Slots.{frame_of, goes, in_list, slot_at}
-use Rattle.descriptor_table.specs.Tables.{Turns, aged, came_under, is_current, is_held_use, is_taken, is_taken_use, is_waiting_use, place_at, stays, used_for, vacated}
+use Rattle.descriptor_table.specs.Slots.{frame_of, goes, in_list, slot_at, waits_for}
+use Rattle.descriptor_table.specs.Tables.{Turns, aged, came_under, is_current, is_held_use, is_taken, is_taken_use, place_at, stays, used_for, vacated, MayBecome, IsBack}
 use Rattle.descriptor_table.specs.declared.handle.SetHandle.{SetHandle}
 use Rattle.descriptor_table.specs.declared.slot.Slot.{Slot}
 use Rattle.descriptor_table.specs.declared.slot.Use.{Use}
 use Rattle.descriptor_table.specs.declared.slot.Use.TheVariants.{Held, Drawn, Waits, Kept, Going, Taken, Vacant}
 use Rattle.descriptor_table.proofs.Chains.{and_true}
 use Rattle.descriptor_table.proofs.Holding.{named_or}
-use Rattle.descriptor_renderer.specs.Stores.{IsBack, MayLeave, is_placed}
+use Rattle.descriptor_renderer.specs.Stores.{is_placed}
 use Rattle.descriptor_renderer.proofs.Settling.{Follows}
 
 -- what is_placed asks of a use
 abbrev placed_use : Use → ℕ → ℕ → Bool → Bool
-placed_use u layout generation full = not full || ((is_held_use u && full) || ((is_waiting_use u && full) || in_list (layout + 2) u layout generation full))
+placed_use u layout generation full = not full || ((is_held_use u && full) || ((waits_for (λ w. true) u && full) || in_list (layout + 2) u layout generation full))
 
 going_use : (u : Use) (layout generation : ℕ) (full : Bool) → placed_use u layout generation full ≡ true → in_list 1 u layout generation full ≡ false
 going_use Held layout generation full e = refl
@@ -94,11 +94,11 @@ module _ {T : Type 0} where
         by_full false = refl
         by_full true = ap (λ b. b && (nat_lt o.generation 4294967295 && true)) (eq-eqb (o.layout + 2) (o.layout + 2) refl) ∙ ap (λ b. b && true) (and_true (not o.leaves) (nat_lt o.generation 4294967295) (and_true (not o.leaves && nat_lt o.generation 4294967295) (is_current generations o) may).0).1
 
-    pub follows_back : (generations : ℕ → ℕ) (most : ℕ) (new : List (Slot T)) (o n : Slot T) → IsBack generations most new o n → Follows f o n
+    pub follows_back : (generations : ℕ → ℕ) (most : ℕ) (new : List (Slot T)) (o n : Slot T) → IsBack vacated generations most new o n → Follows f o n
     follows_back generations most new o n (inl kept) = follows_kept generations o n kept.0 kept.1
     follows_back generations most new o n (inr gone) = follows_vacated o n gone.0
 
-    pub follows_left : (new : List (Slot T)) (o n : Slot T) → MayLeave new o n → Follows f o n
+    pub follows_left : (new : List (Slot T)) (o n : Slot T) → (MayBecome vacated) new o n → Follows f o n
     follows_left new o n (inl same) = follows_same o n same
     follows_left new o n (inr gone) = follows_vacated o n gone
 

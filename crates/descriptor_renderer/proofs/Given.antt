@@ -38,10 +38,10 @@ module _ {S : Type 0} (name : S → ℕ) where
 
 module _ {L P S D : Type 0} {d : Ghosts D L P S} (s : Store L P S D d) {l : List (DescriptorSet S)} (same : l ≡ sets_in (slots_in s)) where
   -- with the sets that a store has its table is exact
-  pub exact_as : (t : Item) → outstanding (state_of d.meaning.pool_name s.allocator (d.ledger s.device)) t ≡ count_of t (items_of d.meaning.set_name l) + count_of t (items_of d.meaning.set_name (coming_in s).items)
+  pub exact_as : (t : Item) → outstanding (state_of d.meaning.pool_name s.allocator (d.ledger s.device)) t ≡ count_of t (items_of d.meaning.set_name l) + count_of t (items_of d.meaning.set_name (coming_in s))
   exact_as t = (let count = ap (λ l. count_of t (items_of d.meaning.set_name l)) same in let is = s.exact t in omega arith)
 
-  pub accounted_as : outstanding_of s.allocator ≡ length l + length (coming_in s).items
+  pub accounted_as : outstanding_of s.allocator ≡ length l + length (coming_in s)
   accounted_as = (let count = ap length same in let is = s.accounted in omega arith)
 
 module _ {T : Type 0} where

@@ -1,6 +1,6 @@
 -- There are more slots only if each has a set, or had its last generation.
-use Rattle.std.proofs.Common.{◌≡◌, ℕ, ◌<◌, ◌&&◌, Bool, true, false, List, length, None, is_some, Ok, inl, inr, refl, sym, ap, subst, ◌∙◌, arith}
-use Rattle.std.proofs.lemmas.List.{get_or_past, length-set}
+use Rattle.std.proofs.Common.{◌≡◌, ℕ, ◌<◌, ◌&&◌, Bool, true, false, List, length, is_some, Ok, inl, inr, refl, sym, ap, subst, ◌∙◌, arith}
+use Rattle.std.proofs.lemmas.List.{length-set}
 use Rattle.gpu_descriptor_types.specs.declared.device.DescriptorDevice.{Ghosts}
 use Rattle.gpu_descriptor.specs.declared.errors.AllocationError.{AllocationError}
 use Rattle.gpu_descriptor.specs.declared.set.DescriptorSet.{DescriptorSet}
@@ -41,10 +41,7 @@ module _ {T : Type 0} where
       | inl e ↦ subst (λ q. is_usable (slot_at new q) ≡ false) (sym e) (ap (λ l. is_usable (slot_at l p)) r.slots ∙ ap is_usable (slot_set mid p (renewed u (slot_at mid p)) puts.within) ∙ used (slot_at mid p))
       | inr ne ↦
           let same : slot_at new q ≡ slot_at old q = ap (λ l. slot_at l q) r.slots ∙ other_slots mid p (renewed u (slot_at mid p)) q ne ∙ puts.others q ne in
-          elim (below_or q (length old)) [
-            | inl lt ↦ ap is_usable same ∙ more.1 q lt
-            | inr past ↦ ap is_usable (same ∙ get_or_past old q (record { generation = 0; layout = 0; layout_generation = 0; used = Taken; leaves = false; set = None }) past)
-          ]
+          ap is_usable same ∙ more.1 q
     ])
   ]
 

@@ -5,8 +5,8 @@ use Rattle.std.proofs.lemmas.List.{length-set, set-set}
 use Rattle.gpu_descriptor_types.specs.declared.device.DescriptorDevice.{Ghosts}
 use Rattle.gpu_descriptor.specs.declared.set.DescriptorSet.{DescriptorSet}
 use Rattle.gpu_descriptor.specs.declared.errors.AllocationError.{AllocationError}
-use Rattle.descriptor_table.specs.Slots.{frame_in, is_kept_of, is_live, slot_at}
-use Rattle.descriptor_table.specs.Tables.{Picks, Puts, Renews, came_under, count, current, is_held_use, is_kept, is_waiting_use, renewed, used_for}
+use Rattle.descriptor_table.specs.Slots.{frame_in, is_kept_of, is_live, slot_at, waits_for}
+use Rattle.descriptor_table.specs.Tables.{Picks, Puts, Renews, came_under, count, current, is_held_use, is_kept, renewed, used_for}
 use Rattle.descriptor_table.specs.declared.handle.SetHandle.{SetHandle}
 use Rattle.descriptor_table.specs.declared.slot.Slot.{Slot}
 use Rattle.descriptor_table.specs.declared.slot.Use.{Use}
@@ -93,14 +93,14 @@ module _ {T : Type 0} (comes : ℕ → T → Type 0) (number : ℕ) (generations
       }
 
   -- a slot's set was there, or came
-  pub fills_arrives : (f : ℕ) → (is_held_use u || is_waiting_use u) ≡ true → frame_in u ≤ f → (old new : List (Slot T)) → Fills comes number generations layout p u handle old new → (q : ℕ) → Arrives comes f (slot_at old q) (slot_at new q)
+  pub fills_arrives : (f : ℕ) → (is_held_use u || waits_for (λ w. true) u) ≡ true → frame_in u ≤ f → (old new : List (Slot T)) → Fills comes number generations layout p u handle old new → (q : ℕ) → Arrives comes f (slot_at old q) (slot_at new q)
   fills_arrives f live few old new h q = elim (cases_eq q p) [
     | inl e ↦ subst (λ q. Arrives comes f (slot_at old q) (slot_at new q)) (sym e) (record {
       set = λ x is. (let same : h.set ≡ x = some_same (sym h.here ∙ is) in elim h.own [
         | inl kept ↦ inl (kept.0 ∙ sym h.here ∙ is, h.of_layout ∙ sym kept.1)
         | inr came ↦ inr (subst (λ l. comes l.0 x) (sym h.of_layout) (subst (comes layout) same came))
       ]);
-      placed = λ was. used_placed (slot_at new p) h.set h.here (ap (λ u. is_held_use u || is_waiting_use u) h.used ∙ live);
+      placed = λ was. used_placed (slot_at new p) h.set h.here (ap (λ u. is_held_use u || waits_for (λ w. true) u) h.used ∙ live);
       frame = λ g le up. subst (λ u. frame_in u ≤ g) (sym h.used) (omega arith);
     })
     | inr ne ↦ same_arrives comes f (slot_at old q) (slot_at new q) (h.others q ne)
@@ -148,7 +148,7 @@ module _ {T : Type 0} (comes : ℕ → T → Type 0) (number : ℕ) (generations
     pub named : IsNamed number (current generations layout) u handle old new
     named = subst (λ h. IsNamed number (current generations layout) u h old new) (sym h.fills.is) named_as
 
-    pub handled_arrives : (f : ℕ) → (is_held_use u || is_waiting_use u) ≡ true → frame_in u ≤ f → (q : ℕ) → Arrives comes f (slot_at old q) (slot_at new q)
+    pub handled_arrives : (f : ℕ) → (is_held_use u || waits_for (λ w. true) u) ≡ true → frame_in u ≤ f → (q : ℕ) → Arrives comes f (slot_at old q) (slot_at new q)
     handled_arrives f live few q = arrives_then comes f (slot_at old q) (slot_at h.mid q) (slot_at new q) (clears_arrives comes f (slot_at old q) (slot_at h.mid q) (h.clears q)) (fills_arrives f live few h.mid new h.fills q)
 
 module _ {T : Type 0} where

@@ -4,9 +4,9 @@ use Rattle.std.proofs.lemmas.Bool.{cases_lt}
 use Rattle.std.proofs.lemmas.List.{get_or-append-add, append-nil, get_or_append_left, length-append}
 use Rattle.gpu_descriptor_types.specs.declared.device.DescriptorDevice.{Ghosts}
 use Rattle.gpu_descriptor.specs.declared.set.DescriptorSet.{DescriptorSet}
-use Rattle.descriptor_table.specs.Slots.{frame_in, is_live, slot_at}
+use Rattle.descriptor_table.specs.Slots.{frame_in, is_live, slot_at, waits_for}
 use Rattle.descriptor_table.specs.Sets.{find, is_given}
-use Rattle.descriptor_table.specs.Tables.{came_under, current, holds, is_held_use, is_waiting_use, place_at}
+use Rattle.descriptor_table.specs.Tables.{came_under, current, holds, is_held_use, place_at}
 use Rattle.descriptor_table.specs.declared.handle.SetHandle.{SetHandle}
 use Rattle.descriptor_table.specs.declared.slot.Slot.{Slot}
 use Rattle.descriptor_table.specs.declared.slot.Use.{Use}
@@ -142,7 +142,7 @@ module _ {T : Type 0} where
           let full = some_of (slot_at new q).set held.1 in
           record {
             set = sets q;
-            placed = λ was. used_placed (slot_at new q) full.0 full.1 (ap (λ u. is_held_use u || is_waiting_use u) held.0);
+            placed = λ was. used_placed (slot_at new q) full.0 full.1 (ap (λ u. is_held_use u || waits_for (λ w. true) u) held.0);
             frame = λ g le up. subst (λ u. frame_in u ≤ g) (sym held.0) (omega arith);
           }
       | inr none ↦ same_arrives comes f (slot_at mid q) (slot_at new q) (x.rest q none)

@@ -21,3 +21,4 @@ mod Results
 mod Returned
 mod Settling
 mod Showing
+mod Taking

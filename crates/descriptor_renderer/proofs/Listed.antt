@@ -2,23 +2,17 @@
 use Rattle.std.proofs.Common.{arith, ◌≡◌, ◌≢◌, ℕ, ◌<◌, ◌&&◌, Bool, true, false, List, length, is_some, inl, inr, sym, ap, subst, ◌∙◌}
 use Rattle.descriptor_table.specs.Sets.{AreHeldOnce, sets_in}
 use Rattle.descriptor_table.specs.Slots.{goes, slot_at}
-use Rattle.descriptor_table.specs.Tables.{AreAllTaken, IsSettled, TookEach, Turns, Vacates, WaitsFor, is_held_use, is_taken, place_at, used_for}
+use Rattle.descriptor_table.specs.Tables.{AreAllTaken, IsBack, TookEach, Turns, Becomes, is_held_use, is_taken, place_at, used_for, vacated}
 use Rattle.descriptor_table.specs.declared.handle.SetHandle.{SetHandle}
 use Rattle.descriptor_table.specs.declared.slot.Slot.{Slot}
-use Rattle.descriptor_table.specs.declared.slot.Use.TheVariants.{Waits}
+use Rattle.descriptor_table.specs.declared.slot.Use.TheVariants.{Waits, Going}
 use Rattle.descriptor_table.proofs.Chains.{and_true}
 use Rattle.descriptor_table.proofs.Holding.{named_or}
 use Rattle.descriptor_table.proofs.Leaving.{same_sets}
 use Rattle.descriptor_table.proofs.Turning.{taken_is}
-use Rattle.descriptor_renderer.specs.Stores.{IsBack, WaitEach}
+use Rattle.descriptor_renderer.specs.Stores.{TurnEach}
 use Rattle.descriptor_renderer.proofs.Back.{came_back}
 use Rattle.descriptor_renderer.proofs.Following.{ArePlaced, none_goes, none_taken}
-
--- the sets of the handles came back, and all else is as it was
-pub record BackEach {T : Type 0} (handles : List SetHandle) (generations : ℕ → ℕ) (most : ℕ) (old new : List (Slot T)) : Type 0 where
-  pub long : length new ≡ length old
-  pub named : (i : ℕ) → i < length handles → IsBack generations most new (slot_at old (place_at handles i)) (slot_at new (place_at handles i))
-  pub rest : (p : ℕ) → ((i : ℕ) → i < length handles → place_at handles i ≢ p) → slot_at new p ≡ slot_at old p
 
 module _ {T : Type 0} (handles : List SetHandle) (old now : List (Slot T)) (took : TookEach handles (length handles) old now) where
   -- those that were taken are those of the handles
@@ -59,7 +53,7 @@ module _ {T : Type 0} (handles : List SetHandle) (old now : List (Slot T)) (took
   took_rest placed p apart = ap is_taken (took.rest p apart) ∙ none_taken old placed p
 
   -- those that wait are those of the handles
-  pub waited : (number frame : ℕ) (new : List (Slot T)) → AreHeldOnce number old handles → ArePlaced old → Turns is_taken (WaitsFor frame) now new → WaitEach handles frame old new
+  pub waited : (number frame : ℕ) (new : List (Slot T)) → AreHeldOnce number old handles → ArePlaced old → Turns is_taken (Becomes (used_for (Waits frame))) now new → TurnEach handles (Becomes (used_for (Waits frame))) old new
   waited number frame new once placed turns = record {
     long = turns.long ∙ took.long;
     named = λ i lt. turns.here (place_at handles i) (took_full number once i lt) ∙ ap (used_for (Waits frame)) (took.named i lt);
@@ -67,11 +61,11 @@ module _ {T : Type 0} (handles : List SetHandle) (old now : List (Slot T)) (took
   }
 
   -- those that settled came back, and those of them that went were given back
-  pub back_each : (number : ℕ) (generations : ℕ → ℕ) (most : ℕ) (mid new : List (Slot T)) → AreHeldOnce number old handles → ArePlaced old → Turns is_taken (IsSettled generations most) now mid → Turns goes Vacates mid new → BackEach handles generations most old new
+  pub back_each : (number : ℕ) (generations : ℕ → ℕ) (most : ℕ) (mid new : List (Slot T)) → AreHeldOnce number old handles → ArePlaced old → Turns is_taken (IsBack (used_for Going) generations most) now mid → Turns goes (Becomes vacated) mid new → TurnEach handles (IsBack vacated generations most) old new
   back_each number generations most mid new once placed settles gives =
       let back = came_back is_taken generations most now mid new (λ s e. (taken_is s e).1) (took_none placed) settles gives in
       record {
         long = back.long ∙ took.long;
-        named = λ i lt. (let p = place_at handles i in subst (λ o. IsBack generations most new o (slot_at new p)) (took.named i lt) (back.here p (took_full number once i lt)));
+        named = λ i lt. (let p = place_at handles i in subst (λ o. IsBack vacated generations most new o (slot_at new p)) (took.named i lt) (back.here p (took_full number once i lt)));
         rest = λ p apart. back.rest p (took_rest placed p apart) ∙ took.rest p apart;
       }

@@ -6,7 +6,7 @@ use Rattle.gpu_descriptor.specs.declared.errors.AllocationError.{AllocationError
 use Rattle.gpu_descriptor.specs.declared.layout.SetLayout.{SetLayout}
 use Rattle.gpu_descriptor.specs.declared.set.DescriptorSet.{DescriptorSet}
 use Rattle.std.proofs.lemmas.List.{get_or_past}
-use Rattle.descriptor_table.specs.Sets.{KeepNames, find, is_last, sets_of}
+use Rattle.descriptor_table.specs.Sets.{Sets, find, is_last, sets_of}
 use Rattle.descriptor_table.specs.Slots.{is_live, slot_at}
 use Rattle.descriptor_table.specs.Tables.{came_under, current, lists_with}
 use Rattle.descriptor_table.specs.declared.handle.SetHandle.{SetHandle}
@@ -66,7 +66,7 @@ module _ {L P S D : Type 0} {d : Ghosts D L P S} where
   -- the sets are as they were, and their layouts are there
   module _ (layouts more : List (Slot (SetLayout L))) (frame number : ℕ) (old new : Store L P S D d) where
     pub sets_as :
-        slots_in new ≡ slots_in old → generations_in new ≡ generations_in old → (coming_in new).items ≡ (coming_in old).items
+        slots_in new ≡ slots_in old → generations_in new ≡ generations_in old → coming_in new ≡ coming_in old
         → number_of new ≡ number_of old → lists_in new ≡ lists_for (length more) → ((n : ℕ) (known : SetLayout L) → (slot_at layouts n).set ≡ Some known → (slot_at more n).set ≡ Some known)
         → (AreCounted (generations_in new) layouts → AreCounted (generations_in new) more) → HasSetsOf layouts frame number old → HasSetsOf more frame number new
     sets_as slots generations coming numbers lists stay counted was = record {
@@ -79,16 +79,14 @@ module _ {L P S D : Type 0} {d : Ghosts D L P S} where
     }
 
   -- a refusal changes no names
-  pub refused_names : (layout : L) (first last : ℕ) (error : AllocationError) (old new : Store L P S D d) → IsRefusedAtLast layout first last error old new → (number frame : ℕ) (opened : Bool) → KeepNames (sets_of number frame opened (slots_in old)) (sets_of number frame opened (slots_in new))
+  pub refused_names : (layout : L) (first last : ℕ) (error : AllocationError) (old new : Store L P S D d) → IsRefusedAtLast layout first last error old new → (number frame : ℕ) (opened : Bool) → sets_of number frame opened (slots_in new) ≡ sets_of number frame opened (slots_in old)
   refused_names layout first last error old new refused number frame opened =
-      let named : List (Slot (DescriptorSet S)) → Type 0 = λ slots. KeepNames (sets_of number frame opened (slots_in old)) (sets_of number frame opened slots) in
-      let same : named (slots_in old) = record { set = λ h. refl; given = λ h. refl } in
+      let named : List (Slot (DescriptorSet S)) → Sets (DescriptorSet S) = sets_of number frame opened in
       elim refused.why [
-        | inl once ↦ subst named (sym once.slots) same
+        | inl once ↦ ap named once.slots
         | inr twice ↦
             let clear = twice.1 in
-            let cleaned = cleaned_names frame opened number (slots_in clear.refused) (slots_in twice.0) clear.cleaned in
-            subst named (sym twice.2.slots) (subst (λ slots. KeepNames (sets_of number frame opened slots) (sets_of number frame opened (slots_in twice.0))) clear.first.slots cleaned)
+            ap named twice.2.slots ∙ cleaned_names frame opened number (slots_in clear.refused) (slots_in twice.0) clear.cleaned ∙ ap named clear.first.slots
       ]
 
 module _ {T : Type 0} where

@@ -3,8 +3,8 @@ use Rattle.std.proofs.Common.{◌≡◌, ℕ, suc, ◌+◌, ◌<◌, ◌&&◌, �
 use Rattle.std.proofs.lemmas.Bool.{ne_eqb}
 use Rattle.std.proofs.lemmas.List.{get_or_past}
 use Rattle.descriptor_table.specs.Sets.{joined, sets_in}
-use Rattle.descriptor_table.specs.Slots.{slot_at}
-use Rattle.descriptor_table.specs.Tables.{aged, count, holds, is_held_use, is_kept, is_waiting_use, vacated, waits}
+use Rattle.descriptor_table.specs.Slots.{slot_at, waits_for}
+use Rattle.descriptor_table.specs.Tables.{aged, count, holds, is_held_use, is_kept, vacated, waits}
 use Rattle.descriptor_table.specs.declared.slot.Slot.{Slot}
 use Rattle.descriptor_table.proofs.Counting.{below_or}
 use Rattle.descriptor_table.proofs.Counts.{count_none, none_count}
@@ -55,4 +55,4 @@ module _ {T : Type 0} where
   none_held slots none = none_count holds slots (λ p. let s = slot_at slots p in ap (λ x. is_held_use s.used && is_some x) (none p) ∙ and_none (is_held_use s.used))
 
   pub none_waits : (slots : List (Slot T)) → ((p : ℕ) → (slot_at slots p).set ≡ None) → count waits slots ≡ 0
-  none_waits slots none = none_count waits slots (λ p. let s = slot_at slots p in ap (λ x. is_waiting_use s.used && is_some x) (none p) ∙ and_none (is_waiting_use s.used))
+  none_waits slots none = none_count waits slots (λ p. let s = slot_at slots p in ap (λ x. waits_for (λ w. true) s.used && is_some x) (none p) ∙ and_none (waits_for (λ w. true) s.used))

@@ -4,9 +4,9 @@ use Rattle.std.proofs.lemmas.Bool.{cases_eq}
 use Rattle.gpu_descriptor_types.specs.Meaning.{Meaning}
 use Rattle.gpu_descriptor.specs.declared.layout.SetLayout.{SetLayout}
 use Rattle.gpu_descriptor.specs.declared.set.DescriptorSet.{DescriptorSet}
-use Rattle.descriptor_table.specs.Sets.{KeepNames, sets_in, sets_of}
+use Rattle.descriptor_table.specs.Sets.{sets_in, sets_of}
 use Rattle.descriptor_table.specs.Slots.{goes, is_kept_of, is_live, slot_at}
-use Rattle.descriptor_table.specs.Tables.{Leaves, Turns, Vacates, came_under, count, removed_at, vacated}
+use Rattle.descriptor_table.specs.Tables.{Becomes, Turns, came_under, count, removed_at, vacated, used_for}
 use Rattle.descriptor_table.specs.declared.slot.Slot.{Slot}
 use Rattle.descriptor_table.proofs.Counts.{none_count}
 use Rattle.descriptor_table.proofs.Naming.{names_kept}
@@ -15,14 +15,15 @@ use Rattle.descriptor_renderer.specs.Own.{AreCounted, AreOwn, IsCounted, IsOwn}
 use Rattle.descriptor_renderer.proofs.Back.{turned_sets}
 use Rattle.descriptor_renderer.proofs.Following.{ArePlaced, none_goes}
 use Rattle.descriptor_renderer.proofs.Naming.{kept_as}
+use Rattle.descriptor_table.specs.declared.slot.Use.TheVariants.{Going}
 use Rattle.descriptor_renderer.proofs.Showing.{quiet_shown, turned}
 
 module _ {T : Type 0} (layout : ℕ) where
-  pub left_sets : (old new : List (Slot T)) → Turns (is_kept_of layout) Leaves old new → sets_in new ≡ sets_in old
-  left_sets old new t = turned_sets (is_kept_of layout) Leaves old new t (λ o n e. ap (λ (s : Slot T). s.set) e)
+  pub left_sets : (old new : List (Slot T)) → Turns (is_kept_of layout) (Becomes (used_for Going)) old new → sets_in new ≡ sets_in old
+  left_sets old new t = turned_sets (is_kept_of layout) (Becomes (used_for Going)) old new t (λ o n e. ap (λ (s : Slot T). s.set) e)
 
   -- the kept sets of the layout were given back, and all other slots are as they were
-  pub removed_turns : (old mid new : List (Slot T)) → ArePlaced old → Turns (is_kept_of layout) Leaves old mid → Turns goes Vacates mid new → Turns (is_kept_of layout) Vacates old new
+  pub removed_turns : (old mid new : List (Slot T)) → ArePlaced old → Turns (is_kept_of layout) (Becomes (used_for Going)) old mid → Turns goes (Becomes vacated) mid new → Turns (is_kept_of layout) (Becomes vacated) old new
   removed_turns old mid new placed lets gives = record {
     long = gives.long ∙ lets.long;
     rest = λ p out. (let same = lets.rest p out in gives.rest p (ap goes same ∙ none_goes old placed p) ∙ same);
@@ -33,16 +34,16 @@ module _ {T : Type 0} (layout : ℕ) where
   }
 
   -- a set that was given back leaves its slot's layout
-  pub given_under : (mid new : List (Slot T)) → Turns goes Vacates mid new → (p : ℕ) → came_under (slot_at new p) ≡ came_under (slot_at mid p)
+  pub given_under : (mid new : List (Slot T)) → Turns goes (Becomes vacated) mid new → (p : ℕ) → came_under (slot_at new p) ≡ came_under (slot_at mid p)
   given_under mid new gives p = by_test (goes (slot_at mid p)) refl
     where
       by_test : (b : Bool) → goes (slot_at mid p) ≡ b → came_under (slot_at new p) ≡ came_under (slot_at mid p)
       by_test true e = ap came_under (gives.here p e)
       by_test false e = ap came_under (gives.rest p e)
 
-  module _ (old new : List (Slot T)) (turns : Turns (is_kept_of layout) Vacates old new) where
-    pub removed_names : (number frame : ℕ) (opened : Bool) → KeepNames (sets_of number frame opened old) (sets_of number frame opened new)
-    removed_names number frame opened = names_kept number frame opened old new (turned frame opened (is_kept_of layout) Vacates old new turns (λ o n e left.
+  module _ (old new : List (Slot T)) (turns : Turns (is_kept_of layout) (Becomes vacated) old new) where
+    pub removed_names : (number frame : ℕ) (opened : Bool) → sets_of number frame opened new ≡ sets_of number frame opened old
+    removed_names number frame opened = names_kept number frame opened old new (turned frame opened (is_kept_of layout) (Becomes vacated) old new turns (λ o n e left.
         quiet_shown frame opened o n (ap (λ (s : Slot T). s.generation) left) (ap (is_live frame opened) (kept_as layout o e).0) (ap (λ (s : Slot T). is_live frame opened s.used) left)))
 
     pub removed_none : count (is_kept_of layout) new ≡ 0
@@ -62,7 +63,7 @@ removed_other layout generations n ne = ap (λ b. if b then generations n + 1 el
 module _ {L P S : Type 0} (means : Meaning L P S) (layout : ℕ) (generations : ℕ → ℕ) (layouts fewer : List (Slot (SetLayout L))) (others : (n : ℕ) → n ≢ layout → slot_at fewer n ≡ slot_at layouts n) where
   -- the sets that are left are of their layouts
   pub own_removed :
-      (old new : List (Slot (DescriptorSet S))) → Turns (is_kept_of layout) Vacates old new
+      (old new : List (Slot (DescriptorSet S))) → Turns (is_kept_of layout) (Becomes vacated) old new
       → ((p : ℕ) → (slot_at new p).layout ≡ layout
       → (slot_at new p).layout_generation < removed_at layout generations layout)
       → AreOwn means generations layouts old → AreOwn means (removed_at layout generations) fewer new

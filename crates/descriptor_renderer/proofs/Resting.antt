@@ -2,8 +2,8 @@
 use Rattle.std.proofs.Common.{◌≡◌, ℕ, suc, ◌+◌, ◌==◌, ◌&&◌, nat_lt, true, false, List, [], ◌∷◌, length, Option, None, Some, is_some, refl, ap, arith, eqb-true, ne_eqb}
 use Rattle.std.proofs.lemmas.Bool.{and_left, and_right}
 use Rattle.descriptor_table.specs.Sets.{joined, sets_in}
-use Rattle.descriptor_table.specs.Slots.{in_list, slot_at}
-use Rattle.descriptor_table.specs.Tables.{count, holds, is_held_use, is_kept, is_waiting_use, waits}
+use Rattle.descriptor_table.specs.Slots.{in_list, slot_at, waits_for}
+use Rattle.descriptor_table.specs.Tables.{count, holds, is_held_use, is_kept, waits}
 use Rattle.descriptor_table.specs.declared.slot.Slot.{Slot}
 use Rattle.descriptor_table.specs.declared.slot.Use.{Use}
 use Rattle.descriptor_table.specs.declared.slot.Use.TheVariants.{Held, Drawn, Waits, Kept, Going, Taken, Vacant}
@@ -23,7 +23,7 @@ none_kept Taken l g = refl
 none_kept Vacant l g = and_left ((l + 2) == 0) (nat_lt g 4294967295 && true) (ne_eqb (l + 2) 0 (λ e. omega arith))
 
 -- a set is held, waits or is kept, and only one of these
-one_of : {T : Type 0} (x : T) (u : Use) (l g : ℕ) → placed_in u (Some x) l g ≡ true → 1 ≡ bit (is_held_use u && true) + (bit (is_waiting_use u && true) + bit (in_list (l + 2) u l g true))
+one_of : {T : Type 0} (x : T) (u : Use) (l g : ℕ) → placed_in u (Some x) l g ≡ true → 1 ≡ bit (is_held_use u && true) + (bit (waits_for (λ w. true) u && true) + bit (in_list (l + 2) u l g true))
 one_of x Held l g e = refl
 one_of x (Drawn f) l g e = refl
 one_of x (Waits f) l g e = refl
@@ -36,10 +36,10 @@ module _ {T : Type 0} where
   placed_bits : (s : Slot T) → is_placed s ≡ true → bit (is_some s.set) ≡ bit (holds s) + (bit (waits s) + bit (is_kept s))
   placed_bits s e = by_set s.set e
     where
-      by_set : (o : Option T) → placed_in s.used o s.layout s.generation ≡ true → bit (is_some o) ≡ bit (is_held_use s.used && is_some o) + (bit (is_waiting_use s.used && is_some o) + bit (in_list (s.layout + 2) s.used s.layout s.generation (is_some o)))
+      by_set : (o : Option T) → placed_in s.used o s.layout s.generation ≡ true → bit (is_some o) ≡ bit (is_held_use s.used && is_some o) + (bit (waits_for (λ w. true) s.used && is_some o) + bit (in_list (s.layout + 2) s.used s.layout s.generation (is_some o)))
       by_set None f =
           let a = ap bit (and_right (is_held_use s.used) false refl) in
-          let b = ap bit (and_right (is_waiting_use s.used) false refl) in
+          let b = ap bit (and_right (waits_for (λ w. true) s.used) false refl) in
           let c = ap bit (none_kept s.used s.layout s.generation) in
           omega arith
       by_set (Some x) f = one_of x s.used s.layout s.generation f

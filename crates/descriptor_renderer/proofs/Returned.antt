@@ -15,7 +15,7 @@ use Rattle.gpu_descriptor.proofs.release.Freed.{gives_none}
 use Rattle.descriptor_table.specs.Giving.{GivesFrom}
 use Rattle.descriptor_table.specs.Sets.{sets_in}
 use Rattle.descriptor_table.specs.Slots.{slot_at}
-use Rattle.descriptor_table.specs.Tables.{Turns, Vacates, slots_of}
+use Rattle.descriptor_table.specs.Tables.{Turns, Becomes, slots_of, vacated}
 use Rattle.descriptor_table.specs.declared.set_table.SetTable.{SetTable}
 use Rattle.descriptor_table.specs.declared.slot.Slot.{Slot}
 use Rattle.descriptor_table.proofs.Leaving.{given_weigh, tally, tally_length}
@@ -63,5 +63,5 @@ pub returns_none : {L P S : Type 0} (means : Meaning L P S) (old : Allocations P
 returns_none means old before = record { back = gives_none means old before; keys = refl; looks_stay = refl; comparisons = omega arith; compared = omega arith }
 
 -- no set passes the test, and so none leaves
-pub none_turns : {T : Type 0} (test : Slot T → Bool) (slots : List (Slot T)) → ((p : ℕ) → test (slot_at slots p) ≡ false) → Turns test Vacates slots slots
+pub none_turns : {T : Type 0} (test : Slot T → Bool) (slots : List (Slot T)) → ((p : ℕ) → test (slot_at slots p) ≡ false) → Turns test (Becomes vacated) slots slots
 none_turns test slots none = record { long = refl; rest = λ p out. refl; here = λ p passes. absurd (let bad : ◌≡◌ {A = Bool} false true = sym (none p) ∙ passes in cc) }

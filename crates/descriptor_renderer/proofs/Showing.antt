@@ -1,17 +1,17 @@
 -- What handles name once sets came back, waited, or were given back.
-use Rattle.std.proofs.Common.{◌≡◌, ◌≢◌, ℕ, ◌+◌, ◌<◌, ◌&&◌, nat_le, Bool, true, false, List, length, if◌then◌else◌, is_some, None, inl, inr, refl, sym, ap, ◌∙◌, arith, leb-true}
+use Rattle.std.proofs.Common.{◌≡◌, ℕ, ◌+◌, ◌<◌, ◌&&◌, nat_le, Bool, true, false, List, length, if◌then◌else◌, is_some, None, inl, inr, refl, sym, ap, ◌∙◌, arith, leb-true}
 use Rattle.std.proofs.lemmas.Bool.{ne_eqb}
 use Rattle.std.proofs.lemmas.List.{get_or_past}
-use Rattle.descriptor_table.specs.Sets.{AreHeldOnce, KeepNames, LoseNames, sets_of}
-use Rattle.descriptor_table.specs.Slots.{in_list, is_due, is_live, slot_at, waits_until}
-use Rattle.descriptor_table.specs.Tables.{Turns, aged, is_kept, place_at, vacated}
+use Rattle.descriptor_table.specs.Sets.{AreHeldOnce, LoseNames, sets_of}
+use Rattle.descriptor_table.specs.Slots.{in_list, is_due, is_live, slot_at, waits_for}
+use Rattle.descriptor_table.specs.Tables.{Turns, aged, is_kept, place_at, vacated, MayBecome, IsBack, used_for, Becomes}
 use Rattle.descriptor_table.specs.declared.handle.SetHandle.{SetHandle}
 use Rattle.descriptor_table.specs.declared.slot.Slot.{Slot}
 use Rattle.descriptor_table.specs.declared.slot.Use.{Use}
 use Rattle.descriptor_table.specs.declared.slot.Use.TheVariants.{Held, Drawn, Waits, Kept, Going, Taken, Vacant}
 use Rattle.descriptor_table.proofs.Counting.{below_or}
 use Rattle.descriptor_table.proofs.Naming.{ShowsSame, names_kept, names_lost, shown}
-use Rattle.descriptor_renderer.specs.Stores.{AreCleaned, IsBack, MayLeave, WaitEach}
+use Rattle.descriptor_renderer.specs.Stores.{AreCleaned, TurnEach}
 
 -- a kept set has no live handle
 kept_use : (u : Use) (k layout generation frame : ℕ) (full opened : Bool) → in_list (layout + 2) u layout generation full ≡ true → is_live frame opened u ≡ false
@@ -24,7 +24,7 @@ kept_use Taken k layout generation frame full opened e = refl
 kept_use Vacant k layout generation frame full opened e = refl
 
 -- neither has one that waits for a frame that isn't open
-due_use : (u : Use) (due frame : ℕ) (full opened : Bool) → (opened ≡ true → due < frame) → (waits_until due u && full) ≡ true → is_live frame opened u ≡ false
+due_use : (u : Use) (due frame : ℕ) (full opened : Bool) → (opened ≡ true → due < frame) → (waits_for (λ w. nat_le w due) u && full) ≡ true → is_live frame opened u ≡ false
 due_use Held due frame full opened later e = absurd (cc)
 due_use (Drawn f) due frame full false later e = refl
 due_use (Drawn f) due frame true true later e = ne_eqb f frame (λ same. let le = leb-true f due (drop_true (nat_le f due) e) in let lt = later refl in omega arith)
@@ -54,7 +54,7 @@ module _ {T : Type 0} (frame : ℕ) (opened : Bool) where
     set = ap (λ b. if b then n.set else None) is ∙ sym (ap (λ b. if b then o.set else None) was);
   }
 
-  back_quiet : (generations : ℕ → ℕ) (most : ℕ) (new : List (Slot T)) (o n : Slot T) → IsBack generations most new o n → (is_live frame opened n.used ≡ false) × (n.generation ≡ o.generation)
+  back_quiet : (generations : ℕ → ℕ) (most : ℕ) (new : List (Slot T)) (o n : Slot T) → IsBack vacated generations most new o n → (is_live frame opened n.used ≡ false) × (n.generation ≡ o.generation)
   back_quiet generations most new o n back = elim back [
     | inl kept ↦ (ap (λ (s : Slot T). is_live frame opened s.used) kept.0, ap (λ (s : Slot T). s.generation) kept.0)
     | inr left ↦ (ap (λ (s : Slot T). is_live frame opened s.used) left.0, ap (λ (s : Slot T). s.generation) left.0)
@@ -68,18 +68,18 @@ module _ {T : Type 0} (frame : ℕ) (opened : Bool) where
       by_test false e = same_shown (slot_at old p) (slot_at new p) (turns.rest p e)
 
   -- sets that came back leave the names of all others
-  pub back_names : (generations : ℕ → ℕ) (number due most : ℕ) (old new : List (Slot T)) → (opened ≡ true → due < frame) → Turns (is_due due) (IsBack generations most) old new → KeepNames (sets_of number frame opened old) (sets_of number frame opened new)
-  back_names generations number due most old new later turns = names_kept number frame opened old new (turned (is_due due) (IsBack generations most) old new turns (λ o n e back.
+  pub back_names : (generations : ℕ → ℕ) (number due most : ℕ) (old new : List (Slot T)) → (opened ≡ true → due < frame) → Turns (is_due due) (IsBack vacated generations most) old new → sets_of number frame opened new ≡ sets_of number frame opened old
+  back_names generations number due most old new later turns = names_kept number frame opened old new (turned (is_due due) (IsBack vacated generations most) old new turns (λ o n e back.
       let q = back_quiet generations most new o n back in
       quiet_shown o n q.1 (due_use o.used due frame (is_some o.set) opened later e) q.0))
 
-  pub trim_names : (number : ℕ) (old new : List (Slot T)) → Turns is_kept MayLeave old new → KeepNames (sets_of number frame opened old) (sets_of number frame opened new)
-  trim_names number old new turns = names_kept number frame opened old new (turned is_kept MayLeave old new turns (λ o n e leave. elim leave [
+  pub trim_names : (number : ℕ) (old new : List (Slot T)) → Turns is_kept (MayBecome vacated) old new → sets_of number frame opened new ≡ sets_of number frame opened old
+  trim_names number old new turns = names_kept number frame opened old new (turned is_kept (MayBecome vacated) old new turns (λ o n e leave. elim leave [
     | inl same ↦ same_shown o n same
     | inr left ↦ quiet_shown o n (ap (λ (s : Slot T). s.generation) left) (kept_use o.used 0 o.layout o.generation frame (is_some o.set) opened e) (ap (λ (s : Slot T). is_live frame opened s.used) left)
   ]))
 
-  pub cleaned_names : (number : ℕ) (old new : List (Slot T)) → AreCleaned old new → KeepNames (sets_of number frame opened old) (sets_of number frame opened new)
+  pub cleaned_names : (number : ℕ) (old new : List (Slot T)) → AreCleaned old new → sets_of number frame opened new ≡ sets_of number frame opened old
   cleaned_names number old new cleaned = names_kept number frame opened old new (λ p. elim (below_or p (length old)) [
     | inl within ↦ by_kept (slot_at old p) (slot_at new p) (is_kept (slot_at old p)) refl (cleaned.each p within)
     | inr past ↦ same_shown (slot_at old p) (slot_at new p) (get_or_past new p _ (let long = cleaned.long in omega arith) ∙ sym (get_or_past old p _ past))
@@ -97,13 +97,11 @@ module _ {T : Type 0} (frame : ℕ) (opened : Bool) where
   pub freed_names :
       (generations : ℕ → ℕ) (number most : ℕ) (handles : List SetHandle) (old new : List (Slot T))
       → AreHeldOnce number old handles
-      → ((i : ℕ) → i < length handles
-      → IsBack generations most new (slot_at old (place_at handles i)) (slot_at new (place_at handles i)))
-      → ((p : ℕ) → ((i : ℕ) → i < length handles → place_at handles i ≢ p) → slot_at new p ≡ slot_at old p)
+      → TurnEach handles (IsBack vacated generations most) old new
       → LoseNames handles (sets_of number frame opened old) (sets_of number frame opened new)
-  freed_names generations number most handles old new once back rest =
-      let quiet : (i : ℕ) → i < length handles → _ = λ i lt. back_quiet generations most new (slot_at old (place_at handles i)) (slot_at new (place_at handles i)) (back i lt) in
-      names_lost number frame opened handles old new once (λ i lt. (quiet i lt).0) (λ i lt. (quiet i lt).1) rest
+  freed_names generations number most handles old new once turns =
+      let quiet : (i : ℕ) → i < length handles → _ = λ i lt. back_quiet generations most new (slot_at old (place_at handles i)) (slot_at new (place_at handles i)) (turns.named i lt) in
+      names_lost number frame opened handles old new once (λ i lt. (quiet i lt).0) (λ i lt. (quiet i lt).1) turns.rest
 
-  pub waited_names : (number until : ℕ) (handles : List SetHandle) (old new : List (Slot T)) → AreHeldOnce number old handles → WaitEach handles until old new → LoseNames handles (sets_of number frame opened old) (sets_of number frame opened new)
+  pub waited_names : (number until : ℕ) (handles : List SetHandle) (old new : List (Slot T)) → AreHeldOnce number old handles → TurnEach handles (Becomes (used_for (Waits until))) old new → LoseNames handles (sets_of number frame opened old) (sets_of number frame opened new)
   waited_names number until handles old new once waits = names_lost number frame opened handles old new once (λ i lt. ap (λ (s : Slot T). is_live frame opened s.used) (waits.named i lt)) (λ i lt. ap (λ (s : Slot T). s.generation) (waits.named i lt)) waits.rest

@@ -1,5 +1,5 @@
 -- The layouts of a registry, and which a handle names.
-use Rattle.std.specs.Prelude.{ℕ, false, List, Option}
+use Rattle.std.specs.Prelude.{◌≡◌, ℕ, false, List, Option}
 use Rattle.gpu_descriptor_types.specs.declared.device.DescriptorDevice.{Ghosts}
 use Rattle.gpu_descriptor.specs.declared.layout.SetLayout.{SetLayout}
 use Rattle.descriptor_table.specs.Sets.{Sets, sets_of}
@@ -16,6 +16,11 @@ module _ {L P S D : Type 0} {d : Ghosts D L P S} where
   -- the slots of the layouts
   abbrev pub layout_slots : LayoutRegistry L P S D d → List (Slot (SetLayout L))
   layout_slots r = tables.slots_of r.table
+
+  -- the slots and the number are as they were
+  pub record KeepsLayouts (old new : LayoutRegistry L P S D d) : Type 0 where
+    pub slots : layout_slots new ≡ layout_slots old
+    pub registry : registry_of new ≡ registry_of old
 
   -- the layouts by handle: each is held, in no frame
   abbrev pub layouts_by : LayoutRegistry L P S D d → Sets (SetLayout L)

@@ -1,5 +1,5 @@
 -- What a renderer has: layouts, frames, sets by handle, and the pools of its device.
-use Rattle.std.specs.Prelude.{◌≡◌, ℕ, ◌-◌, ◌<◌, Bool, List, length, Option, Some, min, slice_index_or, if◌then◌else◌}
+use Rattle.std.specs.Prelude.{◌≡◌, ℕ, ◌-◌, ◌<◌, Bool, List, length, Option, None, Some, min, slice_index_or, if◌then◌else◌, ◌≤◌, ◌↔◌, Result, OnOk, OnErr, IsErrOf}
 use Rattle.gpu_descriptor_types.specs.Ledger.{Ledger, Pool}
 use Rattle.gpu_descriptor_types.specs.Meaning.{IsOfLayout}
 use Rattle.gpu_descriptor_types.specs.Side.{Side}
@@ -11,17 +11,23 @@ use Rattle.gpu_descriptor.specs.declared.errors.AllocationError.{AllocationError
 use Rattle.gpu_descriptor.specs.declared.errors.AllocationError.TheVariants.{OutOfHostMemory}
 use Rattle.gpu_descriptor.specs.declared.layout.SetLayout.{SetLayout}
 use Rattle.gpu_descriptor.specs.declared.set.DescriptorSet.{DescriptorSet}
-use Rattle.descriptor_table.specs.Sets.{NameEach, Names, Sets, sets_of}
+use Rattle.descriptor_table.specs.Sets.{NameEach, Names, Sets, sets_of, AreHeldOnce, LoseNames}
 use Rattle.descriptor_table.specs.declared.handle.SetHandle.{SetHandle}
 use Rattle.descriptor_table.specs.declared.slot.Slot.{Slot}
 use Rattle.descriptor_renderer.specs.LayoutRegistries.{layout_at, layout_slots, layouts_by}
 use Rattle.descriptor_renderer.specs.Stores as stores
 use Rattle.descriptor_renderer.specs.declared.layout_registry.LayoutHandle.{LayoutHandle}
 use Rattle.descriptor_renderer.specs.declared.renderer.Renderer.{Renderer}
+use Rattle.descriptor_table.specs.Tables.{used_for, Becomes, Grows}
+use Rattle.descriptor_table.specs.declared.slot.Use.TheVariants.{Waits}
+use Rattle.descriptor_renderer.specs.declared.errors.RenderError.{RenderError}
+use Rattle.descriptor_renderer.specs.declared.errors.RenderError.TheVariants.{NoFrame, NoLayout}
+use Rattle.descriptor_renderer.specs.declared.errors.DestroyError.{DestroyError}
+use Rattle.descriptor_renderer.specs.declared.errors.DestroyError.TheVariants.{FrameAhead, NoSet}
 use Rattle.descriptor_renderer.specs.declared.store.Store.{Store}
 
 -- what a caller sees of a renderer
-pub record Rendering (L S : Type 0) : Type 0 where
+pub record Rendering (L P S : Type 0) : Type 0 where
   pub number : ℕ
   -- the layouts by handle, and which handles were given for layouts
   pub layouts : LayoutHandle → Option (SetLayout L)
@@ -34,6 +40,8 @@ pub record Rendering (L S : Type 0) : Type 0 where
   pub generations : ℕ → ℕ
   -- how many sets of a layout are kept at most
   pub most : ℕ
+  -- the allocator, and the ledger of the device
+  pub side : Side (Allocations P)
   pub pools_besides : ℕ → Option Pool
   pub limit : ℕ
   -- how many descriptors a new pool has at most, unless what is wanting needs more
@@ -91,10 +99,7 @@ module _ {L P S D : Type 0} {d : Ghosts D L P S} where
   abbrev pub ledger_in : Renderer L P S D d → Ledger
   ledger_in r = d.ledger r.store.device
 
-  -- the live pools of the device, and those of them that are none of the renderer's
-  abbrev pub pools_in : Renderer L P S D d → ℕ → Option Pool
-  pools_in r = (ledger_in r).pools
-
+  -- the live pools of the device that are none of the renderer's
   abbrev pub pools_besides : Renderer L P S D d → ℕ → Option Pool
   pools_besides r = stores.pools_besides r.store
 
@@ -115,7 +120,7 @@ module _ {L P S D : Type 0} {d : Ghosts D L P S} where
   done_of frame r = if r.is_open then min frame (r.frame - 1) else frame
 
   -- what stays at a call is said of all of it at once, but for the fields that the call may change
-  abbrev pub seen : Renderer L P S D d → Rendering L S
+  abbrev pub seen : Renderer L P S D d → Rendering L P S
   seen r = record {
     number = number_of r;
     layouts = layout_of r;
@@ -125,14 +130,15 @@ module _ {L P S D : Type 0} {d : Ghosts D L P S} where
     slots = slots_of r;
     generations = generations_of r;
     most = most_of r;
+    side = side_of r;
     pools_besides = pools_besides r;
     limit = limit_of r;
     bound = bound_of r;
   }
 
-  -- all that is seen stays, but for the slots of sets
+  -- all that is seen stays, but for the slots of sets, and their pools
   abbrev pub OnlySetsChange : Renderer L P S D d → Renderer L P S D d → Type 0
-  OnlySetsChange old new = seen new ≡ record (seen old) { slots = slots_of new }
+  OnlySetsChange old new = seen new ≡ record (seen old) { slots = slots_of new; side = side_of new }
 
   -- a set of the layout has the handle, which was never given; each other handle names what it named
   pub record Comes (layout : L) (handle : SetHandle) (old new : Renderer L P S D d) : Type 0 where
@@ -149,7 +155,28 @@ module _ {L P S D : Type 0} {d : Ghosts D L P S} where
   pub record HasNoMemory (error : AllocationError) (old new : Renderer L P S D d) : Type 0 where
     pub is : error ≡ OutOfHostMemory
     pub seen : seen new ≡ seen old
-    pub side : side_of new ≡ side_of old
+
+  -- sets may come: on an error each handle names what it named, and there are more slots only if each has a set
+  pub record SetsMayCome {R : Type 0} (result : Result R RenderError) (old new : Renderer L P S D d) : Type 0 where
+    pub stay : OnErr result (sets_by new ≡ sets_by old)
+    pub grows : Grows (slots_of old) (slots_of new)
+    pub rest : OnlySetsChange old new
+
+  -- all that is needed is the layout. Without it nothing changes
+  pub record NeedsLayout {R : Type 0} (layout : LayoutHandle) (result : Result R RenderError) (old new : Renderer L P S D d) : Type 0 where
+    pub no_frame : ¬ (IsErrOf result NoFrame)
+    pub no_layout : (IsErrOf result NoLayout) ↔ (layout_of old layout ≡ None)
+    pub early : IsErrOf result NoLayout → seen new ≡ seen old
+
+  -- the sets wait for the frame, and their handles name nothing, unless a handle has no held set, or is there twice, or the frame wasn't opened yet
+  pub record Destroys (handles : List SetHandle) (frame : ℕ) (result : Result Unit DestroyError) (old new : Renderer L P S D d) : Type 0 where
+    pub waits : OnOk result (stores.TurnEach handles (Becomes (used_for (Waits frame))) (slots_of old) (slots_of new))
+    pub names : OnOk result (LoseNames handles (sets_by old) (sets_by new))
+    pub once : OnOk result (AreHeldOnce (number_of old) (slots_of old) handles)
+    pub ahead : (IsErrOf result FrameAhead) ↔ (frame_of old < frame)
+    pub no_set : (IsErrOf result NoSet) ↔ ((frame ≤ frame_of old) × ¬ (AreHeldOnce (number_of old) (slots_of old) handles))
+    pub stay : OnErr result (slots_of new ≡ slots_of old)
+    pub rest : seen new ≡ record (seen old) { slots = slots_of new }
 
   -- the pools for sets of layouts that have the key of this one
   abbrev pub pools_for : L → Renderer L P S D d → BucketOf P

@@ -1,6 +1,5 @@
 -- What the store of a renderer has: the table of its sets, and the allocator over a device.
-use Rattle.std.specs.Prelude.{◌≡◌, ◌≢◌, ℕ, zero, suc, ◌+◌, ◌<◌, ◌≤◌, ◌⊎◌, ◌||◌, true, not, Bool, List, [], ◌∷◌, length, slice_index_or, if◌then◌else◌, is_some, Option, Result, Some, Ok, Err, None, Vec}
-use Rattle.std.specs.declared.alloc.Global.{Global}
+use Rattle.std.specs.Prelude.{◌≡◌, ◌≢◌, ℕ, zero, suc, ◌+◌, ◌<◌, ◌≤◌, ◌⊎◌, ◌||◌, true, not, Bool, List, [], ◌∷◌, length, slice_index_or, if◌then◌else◌, is_some, Option, Result, Some, Ok, Err, None, IfOk, IfErr}
 use Rattle.gpu_descriptor_types.specs.Ledger.{Ledger, Pool}
 use Rattle.gpu_descriptor.specs.Caller.Others.{others_of}
 use Rattle.gpu_descriptor_types.specs.Meaning.{IsOfLayout, Meaning}
@@ -20,22 +19,12 @@ use Rattle.gpu_descriptor.specs.declared.errors.AllocationError.TheVariants.{Out
 use Rattle.gpu_descriptor.specs.declared.layout.SetLayout.{SetLayout}
 use Rattle.gpu_descriptor.specs.declared.set.DescriptorSet.{DescriptorSet}
 use Rattle.descriptor_table.specs.Sets.{NameEach, Names, sets_in, sets_of}
-use Rattle.descriptor_table.specs.Slots.{frame_of, is_kept_of, is_live, slot_at}
-use Rattle.descriptor_table.specs.Tables.{Grows, HasRoom, Picks, Puts, Renews, Turns, Vacates, aged, came_under, count, current, generations_of, holds, is_kept, place_at, lists_of, removed_at, slots_of, stays, used_for, vacated, waits}
-use Rattle.descriptor_table.specs.Tables as tables
+use Rattle.descriptor_table.specs.Slots.{frame_of, is_kept_of, is_live, slot_at, frame_in}
+use Rattle.descriptor_table.specs.Tables.{Grows, HasRoom, Picks, Puts, Renews, Turns, Becomes, aged, came_under, count, current, generations_of, holds, is_kept, place_at, lists_of, removed_at, slots_of, vacated, waits, MayBecome, IsBack}
 use Rattle.descriptor_table.specs.declared.handle.SetHandle.{SetHandle}
 use Rattle.descriptor_table.specs.declared.slot.Slot.{Slot}
 use Rattle.descriptor_table.specs.declared.slot.Use.{Use}
-use Rattle.descriptor_table.specs.declared.slot.Use.TheVariants.{Kept, Waits}
 use Rattle.descriptor_renderer.specs.declared.store.Store.{Store}
-
--- a set that came back is kept, or left its slot. If it may be kept, it leaves only if as many are kept as may be
-abbrev pub IsBack : {T : Type 0} → (ℕ → ℕ) → ℕ → List (Slot T) → Slot T → Slot T → Type 0
-IsBack generations most new o n = ((n ≡ used_for Kept o) × (stays generations o ≡ true)) ⊎ ((n ≡ vacated o) × (stays generations o ≡ true → most ≤ count (is_kept_of o.layout) new))
-
--- a kept set is still kept, or left its slot
-abbrev pub MayLeave : {T : Type 0} → List (Slot T) → Slot T → Slot T → Type 0
-MayLeave new o n = (n ≡ o) ⊎ (n ≡ vacated o)
 
 -- whether a slot has no set, or a set that is held, that waits for a frame, or that is kept
 abbrev pub is_placed : {T : Type 0} → Slot T → Bool
@@ -45,10 +34,10 @@ is_placed s = not (is_some s.set) || (holds s || (waits s || is_kept s))
 abbrev pub IsUpTo : {T : Type 0} → ℕ → List (Slot T) → Type 0
 IsUpTo frame slots = (p : ℕ) → frame_of (slot_at slots p) ≤ frame
 
--- the sets of the handles wait for the frame, and all else is as it was
-pub record WaitEach {T : Type 0} (handles : List SetHandle) (frame : ℕ) (old new : List (Slot T)) : Type 0 where
+-- the slots of the handles became what the relation says, in the new slots. All others are as they were
+pub record TurnEach {T : Type 0} (handles : List SetHandle) (becomes : List (Slot T) → Slot T → Slot T → Type 0) (old new : List (Slot T)) : Type 0 where
   pub long : length new ≡ length old
-  pub named : (i : ℕ) → i < length handles → slot_at new (place_at handles i) ≡ used_for (Waits frame) (slot_at old (place_at handles i))
+  pub named : (i : ℕ) → i < length handles → becomes new (slot_at old (place_at handles i)) (slot_at new (place_at handles i))
   pub rest : (p : ℕ) → ((i : ℕ) → i < length handles → place_at handles i ≢ p) → slot_at new p ≡ slot_at old p
 
 -- all kept sets left their slots, and no set that is left is kept when it comes back
@@ -154,13 +143,9 @@ module _ {L P S D : Type 0} {d : Ghosts D L P S} where
   abbrev pub HasLayout : ℕ → Store L P S D d → Type 0
   HasLayout layout s = layout + 2 < lists_in s
 
-  -- a layout more fits without an allocation
-  abbrev pub HasListRoom : Store L P S D d → Type 0
-  HasListRoom s = tables.HasListRoom s.table
-
   -- the sets that a request has before they are in the table
-  abbrev pub coming_in : Store L P S D d → Vec (DescriptorSet S) Global
-  coming_in s = s.coming
+  abbrev pub coming_in : Store L P S D d → List (DescriptorSet S)
+  coming_in s = s.coming.items
 
   -- the live pools of the device that are none of the allocator's
   abbrev pub pools_besides : Store L P S D d → ℕ → Option Pool
@@ -172,7 +157,7 @@ module _ {L P S D : Type 0} {d : Ghosts D L P S} where
 
   -- no set is on its way, and each is held, waits for a frame, or is kept
   pub record IsAtRest (s : Store L P S D d) : Type 0 where
-    pub none_coming : (coming_in s).items ≡ []
+    pub none_coming : coming_in s ≡ []
     pub placed : (p : ℕ) → is_placed (slot_at (slots_in s) p) ≡ true
 
   -- number, lists, limit and bound, and what is none of the allocator's are as they were. So many layouts of each number were removed, and so many sets of a layout are kept at most
@@ -188,6 +173,17 @@ module _ {L P S D : Type 0} {d : Ghosts D L P S} where
   -- all of these are as they were
   abbrev pub KeepsStore : Store L P S D d → Store L P S D d → Type 0
   KeepsStore old new = StoreStays (generations_in old) (most_of old) old new
+
+  -- also the sets that are on their way are as they were
+  pub record KeepsComing (old new : Store L P S D d) : Type 0 where
+    pub store : KeepsStore old new
+    pub coming : coming_in new ≡ coming_in old
+
+  -- the slots, the allocator, the ledger and the sets that are on their way are as they were
+  pub record KeepsSets (old new : Store L P S D d) : Type 0 where
+    pub slots : slots_in new ≡ slots_in old
+    pub side : side_of new ≡ side_of old
+    pub coming : coming_in new ≡ coming_in old
 
   -- each set was in its slot before, under its layout, or passes the test; none is on its way, and none waits for a frame later than before, and than this one
   pub record SettlesTo (removed : ℕ → ℕ) (most : ℕ) (comes : ℕ → DescriptorSet S → Type 0) (frame : ℕ) (old new : Store L P S D d) : Type 0 where
@@ -208,10 +204,9 @@ module _ {L P S D : Type 0} {d : Ghosts D L P S} where
   -- the sets that pass the test left their slots, and were given back in one call, if there were any
   pub record GivesBack (test : Slot (DescriptorSet S) → Bool) (old new : Store L P S D d) : Type 0 where
     pub back : GaveBack d.meaning (side_of old) (side_of new)
-    pub turns : Turns test Vacates (slots_in old) (slots_in new)
+    pub turns : Turns test (Becomes vacated) (slots_in old) (slots_in new)
     pub keeps : Keeps d.meaning (side_of old) (side_of new)
-    pub stays : KeepsStore old new
-    pub coming : coming_in new ≡ coming_in old
+    pub stays : KeepsComing old new
 
   -- sets were given back, and then all empty pools went
   pub record Cleans (old new : Store L P S D d) : Type 0 where
@@ -269,8 +264,8 @@ module _ {L P S D : Type 0} {d : Ghosts D L P S} where
   -- so many sets of the layout came from the allocator, and are on their way to their slots
   pub record Asks (layout : L) (many : ℕ) (old new : Store L P S D d) : Type 0 where
     pub slots : slots_in new ≡ slots_in old
-    pub own : AreOfLayout d.meaning layout (coming_in new).items
-    pub hands_out : HandsOut d.meaning (layout_key d.meaning layout) many (Ok (coming_in new).items) (side_of old) (side_of new)
+    pub own : AreOfLayout d.meaning layout (coming_in new)
+    pub hands_out : HandsOut d.meaning (layout_key d.meaning layout) many (Ok (coming_in new)) (side_of old) (side_of new)
 
   -- so many sets came from the allocator, at once, or, after all kept sets were given back, as many as all
   abbrev pub AsksAtLast : L → ℕ → ℕ → Store L P S D d → Store L P S D d → Type 0
@@ -282,12 +277,12 @@ module _ {L P S D : Type 0} {d : Ghosts D L P S} where
 
   -- the sets that pass the test came back, and those that are not kept were given back in one call, if there were any
   pub record ComeBack (test : Slot (DescriptorSet S) → Bool) (old new : Store L P S D d) : Type 0 where
-    pub turns : Turns test (IsBack (generations_in old) (most_of old)) (slots_in old) (slots_in new)
+    pub turns : Turns test (IsBack vacated (generations_in old) (most_of old)) (slots_in old) (slots_in new)
     pub back : GaveBack d.meaning (side_of old) (side_of new)
 
   -- the kept sets of the layout were given back in one call, if there were any, and all other slots are as they were
   pub record Removes (layout : ℕ) (old new : Store L P S D d) : Type 0 where
-    pub turns : Turns (is_kept_of layout) Vacates (slots_in old) (slots_in new)
+    pub turns : Turns (is_kept_of layout) (Becomes vacated) (slots_in old) (slots_in new)
     -- one layout more of the number was removed. Each set that is left under the number came under one of these, so it isn't kept when it comes back
     pub generations : generations_in new ≡ removed_at layout (generations_in old)
     pub past : (p : ℕ) → (slot_at (slots_in new) p).layout ≡ layout → (slot_at (slots_in new) p).layout_generation < generations_in new layout
@@ -297,14 +292,12 @@ module _ {L P S D : Type 0} {d : Ghosts D L P S} where
 
   -- the sets of the handles came back, and those that are not kept were given back in one call, if there were any
   pub record FreesEach (handles : List SetHandle) (old new : Store L P S D d) : Type 0 where
-    pub long : length (slots_in new) ≡ length (slots_in old)
-    pub named : (i : ℕ) → i < length handles → IsBack (generations_in old) (most_of old) (slots_in new) (slot_at (slots_in old) (place_at handles i)) (slot_at (slots_in new) (place_at handles i))
-    pub rest : (p : ℕ) → ((i : ℕ) → i < length handles → place_at handles i ≢ p) → slot_at (slots_in new) p ≡ slot_at (slots_in old) p
+    pub turns : TurnEach handles (IsBack vacated (generations_in old) (most_of old)) (slots_in old) (slots_in new)
     pub back : GaveBack d.meaning (side_of old) (side_of new)
 
   -- kept sets were given back in one call, if there were any, and all else is as it was
   pub record Trims (old new : Store L P S D d) : Type 0 where
-    pub turns : Turns is_kept MayLeave (slots_in old) (slots_in new)
+    pub turns : Turns is_kept (MayBecome vacated) (slots_in old) (slots_in new)
     pub back : GaveBack d.meaning (side_of old) (side_of new)
 
   -- all sets were given back in one call, if there were any, and no handle is given again
@@ -314,11 +307,31 @@ module _ {L P S D : Type 0} {d : Ghosts D L P S} where
     pub given : (p : ℕ) → (slot_at (slots_in new) p).generation ≡ (slot_at (slots_in old) p).generation
     pub back : GaveBack d.meaning (side_of old) (side_of new)
 
+  -- a set of the layout has a handle, and is in use for this: one that was kept, or, if there was none, one that came
+  pub record TakesOne (layout : L) (number : ℕ) (u : Use) (result : Result SetHandle AllocationError) (old new : Store L P S D d) : Type 0 where
+    pub named : IfOk result (λ handle. IsNamed (number_of old) (current_in number old) u handle (slots_in old) (slots_in new))
+    pub kept : 0 < kept_of number old → (handle : SetHandle) × (result ≡ Ok handle) × HandlesKept number u handle old new
+    pub comes : kept_of number old ≡ 0 → IfOk result (λ handle. HandlesNew layout number u handle old new)
+    pub refused : IfErr result (λ error. IsRefusedAtLast layout 1 1 error old new)
+    pub settles : Settles (ComesOf d.meaning layout number) (frame_in u) old new
+    pub grows : Grows (slots_in old) (slots_in new)
+
+  -- the sets that are on their way can be held, under the layout of this number
+  pub record CanHold (number : ℕ) (s : Store L P S D d) : Type 0 where
+    pub layout : HasLayout number s
+    pub table : HasRoom (length (coming_in s)) s.table
+
+  -- sets that were on their way are held: the device isn't called, and if all were of a layout, no others come
+  pub record HoldsComing (number : ℕ) (old new : Store L P S D d) : Type 0 where
+    pub side : side_of new ≡ side_of old
+    pub sets : (layout : L) → AreOfLayout d.meaning layout (coming_in old) → SetsCome (ComesOf d.meaning layout number) (slots_in old) (slots_in new)
+    pub grows : Grows (slots_in old) (slots_in new)
+    pub stays : KeepsStore old new
+
   -- kept sets are held: the device isn't called, no set comes, and there is as much room as before
   pub record HoldsKept (old new : Store L P S D d) : Type 0 where
     pub side : side_of new ≡ side_of old
-    pub coming : coming_in new ≡ coming_in old
     pub sets : SetsCome NoneComes (slots_in old) (slots_in new)
     pub table : (n : ℕ) → HasRoom n old.table → HasRoom n new.table
     pub grows : Grows (slots_in old) (slots_in new)
-    pub stays : KeepsStore old new
+    pub stays : KeepsComing old new

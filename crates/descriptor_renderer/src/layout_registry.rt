@@ -47,7 +47,7 @@ impl<L, P, S, D: DescriptorDevice<L, P, S>> LayoutRegistry<L, P, S, D> {
     ghost use Rattle.descriptor_table.specs.Sets.{LoseNames, Names};
     ghost use Rattle.descriptor_table.specs.Slots.{slot_at};
     ghost use Rattle.descriptor_table.specs.Tables.{Grows, HasRoom, vacated};
-    ghost use Rattle.descriptor_renderer.specs.LayoutRegistries.{layout_at, layout_slots, layouts_by};
+    ghost use Rattle.descriptor_renderer.specs.LayoutRegistries.{KeepsLayouts, layout_at, layout_slots, layouts_by};
     ghost use Rattle.descriptor_renderer.specs.LayoutRegistries.{registry_of};
     ghost use Rattle.gpu_descriptor.specs.declared.layout.SetLayout.{SetLayout};
 
@@ -73,8 +73,7 @@ impl<L, P, S, D: DescriptorDevice<L, P, S>> LayoutRegistry<L, P, S, D> {
     /// Gives the table its lists, if it has none yet.
     fn reserve_list(&mut self) -> Result<(), AllocError>
         ensures lists { OnOk result (2 < lists_of self.new.table) }
-        ensures slots { layout_slots self.new ≡ layout_slots self.old }
-        ensures registry { registry_of self.new ≡ registry_of self.old }
+        ensures keeps { KeepsLayouts self.old self.new }
     {
         if self.table.has_layouts() {
             return Ok(());
@@ -88,8 +87,7 @@ impl<L, P, S, D: DescriptorDevice<L, P, S>> LayoutRegistry<L, P, S, D> {
     fn reserve(&mut self) -> Result<(), AllocError>
         ensures room { OnOk result (HasRoom 1 self.new.table) }
         ensures lists { OnOk result (2 < lists_of self.new.table) }
-        ensures slots { layout_slots self.new ≡ layout_slots self.old }
-        ensures registry { registry_of self.new ≡ registry_of self.old }
+        ensures keeps { KeepsLayouts self.old self.new }
     {
         self.reserve_list()?;
         self.table.reserve(1)

@@ -4,7 +4,6 @@ ghost use Rattle.std.specs.Prelude.{IfErr, IfOk, IsErrOf, IsSome, None, OnErr, O
 ghost use Rattle.std.specs.Option.{option_copied};
 ghost use Rattle.gpu_descriptor.specs.Caller.CleansUp.{TrimsPools};
 ghost use Rattle.gpu_descriptor.specs.Caller.SetLayouts.{IsMeant};
-ghost use Rattle.descriptor_table.specs.Sets.{KeepNames};
 ghost use Rattle.descriptor_table.specs.Tables.{Grows, count, holds, is_kept, waits};
 ghost use Rattle.descriptor_renderer.specs.LayoutRegistries.{layout_slots, registry_of};
 ghost use Rattle.descriptor_renderer.specs.Own.{HasSetsOf};
@@ -70,7 +69,7 @@ impl<L: Drop, P: Drop, S: Drop, D: DescriptorDevice<L, P, S>> Renderer<L, P, S, 
     ghost use Rattle.descriptor_renderer.specs.Renderers.{OnlySetsChange, bound_of, frame_of, generations_of, is_open};
     ghost use Rattle.descriptor_renderer.specs.Renderers.{kept_of, layout_given, layout_of};
     ghost use Rattle.descriptor_renderer.specs.Renderers.{layouts_in, ledger_in, limit_of, most_of};
-    ghost use Rattle.descriptor_renderer.specs.Renderers.{number_of, pools_besides, pools_in, seen};
+    ghost use Rattle.descriptor_renderer.specs.Renderers.{number_of, pools_besides, seen};
     ghost use Rattle.descriptor_renderer.specs.Renderers.{sets_by, side_of, slots_of, store_of};
 
     /// A renderer over a device, without layouts, sets and an open frame. It allocates nothing.
@@ -121,7 +120,6 @@ impl<L: Drop, P: Drop, S: Drop, D: DescriptorDevice<L, P, S>> Renderer<L, P, S, 
         ensures back { IfErr result (λ failed. failed.value ≡ layout) }
         ensures rest { seen self.new ≡ record (seen self.old)
             { layouts = layout_of self.new; given = layout_given self.new } }
-        ensures device { side_of self.new ≡ side_of self.old }
     {
         if self.store.reserve_layout().is_err() {
             return Err(AllocFailed { value: layout });
@@ -153,15 +151,15 @@ impl<L: Drop, P: Drop, S: Drop, D: DescriptorDevice<L, P, S>> Renderer<L, P, S, 
         ensures removes { OnOk result (Removes layout.slot.place (store_of self.old)
             (store_of self.new)) }
         ensures none_kept { OnOk result (kept_of layout self.new ≡ 0) }
-        ensures names { KeepNames (sets_by self.old) (sets_by self.new) }
+        ensures names { sets_by self.new ≡ sets_by self.old }
         ensures no_layout { (IsErrOf result RenderError.NoLayout) ↔ (layout_of self.old layout ≡ None) }
         ensures only { IfErr result (λ error. error ≡ RenderError.NoLayout) }
-        ensures stay { OnErr result ((slots_of self.new ≡ slots_of self.old)
-            × (side_of self.new ≡ side_of self.old)) }
+        ensures stay { OnErr result (seen self.new ≡ seen self.old) }
         ensures rest { seen self.new ≡ record (seen self.old) {
           layouts = layout_of self.new;
           slots = slots_of self.new;
           generations = generations_of self.new;
+          side = side_of self.new;
         } }
     {
         match self.layouts.remove(layout) {
@@ -178,9 +176,9 @@ impl<L: Drop, P: Drop, S: Drop, D: DescriptorDevice<L, P, S>> Renderer<L, P, S, 
     /// is short.
     pub fn cleanup(&mut self)
         ensures emptied { count holds (slots_of self.old) ≡ 0 → count waits (slots_of self.old) ≡ 0
-            → pools_in self.new ≡ pools_besides self.old }
+            → (ledger_in self.new).pools ≡ pools_besides self.old }
         ensures none_kept { count is_kept (slots_of self.new) ≡ 0 }
-        ensures names { KeepNames (sets_by self.old) (sets_by self.new) }
+        ensures names { sets_by self.new ≡ sets_by self.old }
         ensures cleaned { AreCleaned (slots_of self.old) (slots_of self.new) }
         ensures cleans { Cleans (store_of self.old) (store_of self.new) }
         ensures rest { OnlySetsChange self.old self.new }
@@ -192,7 +190,7 @@ impl<L: Drop, P: Drop, S: Drop, D: DescriptorDevice<L, P, S>> Renderer<L, P, S, 
     /// their pools; `cleanup` gives them back first. It goes over every pool, and allocates nothing.
     pub fn trim(&mut self)
         ensures trims { TrimsPools D.meaning (side_of self.old) (side_of self.new) }
-        ensures rest { seen self.new ≡ seen self.old }
+        ensures rest { seen self.new ≡ record (seen self.old) { side = side_of self.new } }
     {
         self.store.trim();
     }
@@ -201,10 +199,10 @@ impl<L: Drop, P: Drop, S: Drop, D: DescriptorDevice<L, P, S>> Renderer<L, P, S, 
     pub fn set_keep(&mut self, most: u32)
         ensures most { most_of self.new ≡ most }
         ensures few { (layout : LayoutHandle) → kept_of layout self.new ≤ most }
-        ensures names { KeepNames (sets_by self.old) (sets_by self.new) }
+        ensures names { sets_by self.new ≡ sets_by self.old }
         ensures trims { Trims (store_of self.old) (store_of self.new) }
         ensures rest { seen self.new ≡ record (seen self.old)
-            { slots = slots_of self.new; most = most } }
+            { slots = slots_of self.new; most = most; side = side_of self.new } }
     {
         self.store.set_keep(most);
     }
@@ -215,8 +213,8 @@ impl<L: Drop, P: Drop, S: Drop, D: DescriptorDevice<L, P, S>> Renderer<L, P, S, 
     pub fn set_most_pool_descriptors(&mut self, most: Option<u64>)
         ensures bound { bound_of self.new ≡ most }
         ensures ledger { ledger_in self.new ≡ ledger_in self.old }
-        ensures slots { slots_of self.new ≡ slots_of self.old }
-        ensures rest { seen self.new ≡ record (seen self.old) { bound = most } }
+        ensures rest { seen self.new ≡ record (seen self.old)
+            { bound = most; side = side_of self.new } }
     {
         self.store.set_most_pool_descriptors(most);
     }

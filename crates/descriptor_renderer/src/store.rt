@@ -6,7 +6,7 @@ ghost use Rattle.gpu_descriptor.specs.Caller.States.{Agrees, outstanding_of, sta
 ghost use Rattle.gpu_descriptor.proofs.callers.OneAgreement.{Agrees-prop};
 ghost use Rattle.descriptor_table.specs.Sets.{find, sets_in};
 ghost use Rattle.descriptor_table.specs.Slots.{generation_at, slot_at};
-ghost use Rattle.descriptor_table.specs.Tables.{HasSettings, count, holds, is_kept, lists_with, settings_of, slots_of, waits};
+ghost use Rattle.descriptor_table.specs.Tables.{HasListRoom, HasSettings, count, holds, is_kept, lists_with, settings_of, slots_of, waits};
 ghost use Rattle.descriptor_renderer.specs.Exact.{AreExactly};
 
 mod back;
@@ -44,7 +44,7 @@ pub(crate) struct Store<L, P, S, D: DescriptorDevice<L, P, S>> {
 }
 
 impl<L: Drop, P: Drop, S: Drop, D: DescriptorDevice<L, P, S>> Store<L, P, S, D> {
-    ghost use Rattle.descriptor_renderer.specs.Stores.{HasListRoom, IsAtRest, KeepsStore, coming_in, kept_of, ledger_of};
+    ghost use Rattle.descriptor_renderer.specs.Stores.{IsAtRest, KeepsSets, KeepsStore, coming_in, kept_of, ledger_of};
     ghost use Rattle.descriptor_renderer.specs.Stores.{bound_of, limit_of, lists_in, number_of};
     ghost use Rattle.descriptor_renderer.specs.Stores.{pools_besides, side_of, slots_in};
 
@@ -77,10 +77,8 @@ impl<L: Drop, P: Drop, S: Drop, D: DescriptorDevice<L, P, S>> Store<L, P, S, D> 
 
     /// Reserves memory for one layout more.
     pub(crate) fn reserve_layout(&mut self) -> Result<(), AllocError>
-        ensures room { OnOk result (HasListRoom self.new) }
-        ensures slots { slots_in self.new ≡ slots_in self.old }
-        ensures side { side_of self.new ≡ side_of self.old }
-        ensures coming { coming_in self.new ≡ coming_in self.old }
+        ensures room { OnOk result (HasListRoom self.new.table) }
+        ensures sets { KeepsSets self.old self.new }
         ensures stays { KeepsStore self.old self.new }
     {
         self.table.reserve_layout()
@@ -88,12 +86,10 @@ impl<L: Drop, P: Drop, S: Drop, D: DescriptorDevice<L, P, S>> Store<L, P, S, D> 
 
     /// Adds a layout, over memory that was reserved.
     pub(crate) fn add_layout(&mut self)
-        requires { HasListRoom self.old }
+        requires { HasListRoom self.old.table }
         ensures settings { HasSettings (record (settings_of self.old.table)
             { lists = lists_with (lists_in self.old) }) self.new.table }
-        ensures slots { slots_in self.new ≡ slots_in self.old }
-        ensures side { side_of self.new ≡ side_of self.old }
-        ensures coming { coming_in self.new ≡ coming_in self.old }
+        ensures sets { KeepsSets self.old self.new }
     {
         self.table.add_layout();
     }

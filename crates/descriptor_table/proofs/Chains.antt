@@ -33,7 +33,7 @@ one_list j k Going layout generation full e ne = apart_from j k 1 full e ne
 one_list j k Taken layout generation full e ne = refl
 one_list j k Vacant layout generation full e ne = apart_from j k 0 (nat_lt generation 4294967295 && not full) e ne
 
-one_frame : (j k : ℕ) (u : Use) (full : Bool) → (waits_for k u && full) ≡ true → j ≢ k → (waits_for j u && full) ≡ false
+one_frame : (j k : ℕ) (u : Use) (full : Bool) → (waits_for (λ w. k == w) u && full) ≡ true → j ≢ k → (waits_for (λ w. j == w) u && full) ≡ false
 one_frame j k Held full e ne = refl
 one_frame j k (Drawn frame) full e ne = apart_from j k frame full e ne
 one_frame j k (Waits frame) full e ne = apart_from j k frame full e ne
@@ -43,7 +43,7 @@ one_frame j k Taken full e ne = refl
 one_frame j k Vacant full e ne = refl
 
 -- a set in a list waits for no frame
-listed_no_frame : (f k : ℕ) (u : Use) (layout generation : ℕ) (full : Bool) → in_list k u layout generation full ≡ true → (waits_for f u && full) ≡ false
+listed_no_frame : (f k : ℕ) (u : Use) (layout generation : ℕ) (full : Bool) → in_list k u layout generation full ≡ true → (waits_for (λ w. f == w) u && full) ≡ false
 listed_no_frame f k Held layout generation full e = refl
 listed_no_frame f k (Drawn frame) layout generation full e = absurd (cc)
 listed_no_frame f k (Waits frame) layout generation full e = absurd (cc)
@@ -53,7 +53,7 @@ listed_no_frame f k Taken layout generation full e = refl
 listed_no_frame f k Vacant layout generation full e = refl
 
 -- a set that waits for a frame is in no list
-pub framed_not_listed : (f k : ℕ) (u : Use) (layout generation : ℕ) (full : Bool) → (waits_for f u && full) ≡ true → in_list k u layout generation full ≡ false
+pub framed_not_listed : (f k : ℕ) (u : Use) (layout generation : ℕ) (full : Bool) → (waits_for (λ w. f == w) u && full) ≡ true → in_list k u layout generation full ≡ false
 framed_not_listed f k Held layout generation full e = refl
 framed_not_listed f k (Drawn frame) layout generation full e = refl
 framed_not_listed f k (Waits frame) layout generation full e = refl
@@ -92,7 +92,7 @@ module _ {T : Type 0} where
   taken_no_list s e k = ap (λ u. in_list k u s.layout s.generation (is_some s.set)) e
 
   pub taken_no_frame : (s : Slot T) → s.used ≡ Taken → (f : ℕ) → is_of f s ≡ false
-  taken_no_frame s e f = ap (λ u. waits_for f u && is_some s.set) e
+  taken_no_frame s e f = ap (λ u. waits_for (λ w. f == w) u && is_some s.set) e
 
 pub chain_set : (chains : List Chain) (k : ℕ) (c : Chain) → k < length chains → chain_at (set chains k c) k ≡ c
 chain_set chains k c within = get_or-set_same chains k c (record { first = 0; count = 0 }) within

@@ -2,7 +2,7 @@
 use Rattle.std.proofs.Common.{◌≡◌, ◌≢◌, ℕ, zero, suc, ◌+◌, ◌-◌, ◌<◌, ◌≤◌, ◌==◌, ◌&&◌, nat_le, Bool, true, false, if◌then◌else◌, List, [], ◌∷◌, ◌++◌, insert, length, get_or, set, None, is_some, inl, inr, refl, sym, ap, subst, ◌∙◌, arith, eq-eqb, ne_eqb, leb-true}
 use Rattle.std.proofs.lemmas.List.{length-set, get_or_past, get_or-set_other, get_or-set_same, get_or_read}
 use Rattle.descriptor_table.specs.Places.{times, walk}
-use Rattle.descriptor_table.specs.Slots.{AreFramed, HasFrames, chain_of, frame_at, is_due, is_of, slot_at, waits_for, waits_until}
+use Rattle.descriptor_table.specs.Slots.{AreFramed, HasFrames, chain_of, frame_at, is_due, is_of, slot_at, waits_for}
 use Rattle.descriptor_table.specs.declared.slot.Use.{Use}
 use Rattle.descriptor_table.specs.declared.slot.Use.TheVariants.{Held, Drawn, Waits, Kept, Going, Taken, Vacant}
 use Rattle.descriptor_table.specs.declared.slot.Slot.{Slot}
@@ -317,7 +317,7 @@ module _ {T : Type 0} (slots : List (Slot T)) where
             by_le g false full le none = refl
             by_le g true full le none = sym (ap (λ b. b && full) (eq-eqb g g refl)) ∙ none g (le refl)
 
-            by_use : (u : Use) (full : Bool) → ((g : ℕ) → g ≤ frame → (waits_for g u && full) ≡ false) → (waits_until frame u && full) ≡ false
+            by_use : (u : Use) (full : Bool) → ((g : ℕ) → g ≤ frame → (waits_for (λ w. g == w) u && full) ≡ false) → (waits_for (λ w. nat_le w frame) u && full) ≡ false
             by_use Held full none = refl
             by_use (Drawn g) full none = by_le g (nat_le g frame) full (leb-true g frame) none
             by_use (Waits g) full none = by_le g (nat_le g frame) full (leb-true g frame) none

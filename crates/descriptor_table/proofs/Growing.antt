@@ -98,5 +98,5 @@ module _ {T : Type 0} where
         next = omega arith;
         here = ap (λ l. slot_at l p) is ∙ ap (λ q. slot_at (old ++ s ∷ []) q) at ∙ last_slot old s ∙ (λ i. record { generation = sym generation i; layout = layout; layout_generation = generations layout; used = Taken; leaves = false; set = Some x });
         others = λ q ne. ap (λ l. slot_at l q) is ∙ slots_before old s q (λ e. ne (e ∙ sym at));
-        grows = inr (long, λ q lt. full q);
+        grows = inr (long, full);
       }

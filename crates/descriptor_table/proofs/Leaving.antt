@@ -6,7 +6,7 @@ use Rattle.std.specs.declared.iter.Iterator.{can_next-default}
 use Rattle.descriptor_table.specs.Giving.{GivesDue, GivesFrom, GivesNext, sets_left}
 use Rattle.descriptor_table.specs.Sets.{joined, sets_in}
 use Rattle.descriptor_table.specs.Slots.{goes, is_due, slot_at}
-use Rattle.descriptor_table.specs.Tables.{Gives, GivesFirst, Stays, Turns, Vacates, slots_of, vacated}
+use Rattle.descriptor_table.specs.Tables.{Gives, GivesFirst, Stays, Turns, Becomes, slots_of, vacated}
 use Rattle.descriptor_table.specs.declared.giving.Due.{Due}
 use Rattle.descriptor_table.specs.declared.giving.Giving.{Giving}
 use Rattle.descriptor_table.specs.declared.set_table.SetTable.{SetTable}
@@ -76,13 +76,13 @@ module _ {T : Type 0} where
 
   module _ (test : Slot T → Bool) (out : (s : Slot T) → test (vacated s) ≡ false) where
     -- the sets were taken out, one after another
-    given_turns : (xs : List T) (s t : MutBor (SetTable T)) (old : List (Slot T)) → Yields (GivesFrom test) s xs t → Turning test Vacates old (slots_of s.now) → Turning test Vacates old (slots_of t.now)
-    given_turns [] s t old y turning = subst (λ (u : MutBor (SetTable T)). Turning test Vacates old (slots_of u.now)) y turning
+    given_turns : (xs : List T) (s t : MutBor (SetTable T)) (old : List (Slot T)) → Yields (GivesFrom test) s xs t → Turning test (Becomes vacated) old (slots_of s.now) → Turning test (Becomes vacated) old (slots_of t.now)
+    given_turns [] s t old y turning = subst (λ (u : MutBor (SetTable T)). Turning test (Becomes vacated) old (slots_of u.now)) y turning
     given_turns (x ∷ xs) s t old y turning =
         let u = y.0 in
         let now = slots_of s.now in
         let g = y.1.gives.slots in
-        given_turns xs u t old y.2 (turn_step test Vacates old now (slots_of u.now) g.place (vacated (slot_at now g.place)) turning g.within g.was g.slots (λ o n w. w) (λ o n w. ap test w ∙ out o) refl)
+        given_turns xs u t old y.2 (turn_step test (Becomes vacated) old now (slots_of u.now) g.place (vacated (slot_at now g.place)) turning g.within g.was g.slots (λ o n w. w) (λ o n w. ap test w ∙ out o) refl)
 
     given_stays : (xs : List T) (s t : MutBor (SetTable T)) → Yields (GivesFrom test) s xs t → (t.ghost_name ≡ s.ghost_name) × Stays s.now t.now
     given_stays [] s t y = (ap (λ (u : MutBor (SetTable T)). u.ghost_name) (sym y), subst (λ (u : MutBor (SetTable T)). Stays s.now u.now) y (stays_same s.now))
@@ -91,16 +91,16 @@ module _ {T : Type 0} where
         (rest.0 ∙ y.1.same, stays_more s.now y.0.now t.now y.1.gives.stays rest.1)
 
     -- all these sets were taken out
-    pub given_all : (xs : List T) (s u : MutBor (SetTable T)) → YieldsThen (GivesFrom test) s xs None u → Turns test Vacates (slots_of s.now) (slots_of u.now) × (u.ghost_name ≡ s.ghost_name) × Stays s.now u.now
+    pub given_all : (xs : List T) (s u : MutBor (SetTable T)) → YieldsThen (GivesFrom test) s xs None u → Turns test (Becomes vacated) (slots_of s.now) (slots_of u.now) × (u.ghost_name ≡ s.ghost_name) × Stays s.now u.now
     given_all xs s u d =
         let v = d.0 in
         let last = d.2 in
         let old = slots_of s.now in
         let now = slots_of v.now in
         let none = last.gives.slots in
-        let turning = given_turns xs s v old d.1 (turn_start test Vacates old) in
+        let turning = given_turns xs s v old d.1 (turn_start test (Becomes vacated) old) in
         let stays = given_stays xs s v d.1 in
-        (subst (Turns test Vacates old) (sym none.slots) (turn_end test Vacates old now turning none.none), last.same ∙ stays.0, stays_more s.now v.now u.now stays.1 last.gives.stays)
+        (subst (Turns test (Becomes vacated) old) (sym none.slots) (turn_end test (Becomes vacated) old now turning none.none), last.same ∙ stays.0, stays_more s.now v.now u.now stays.1 last.gives.stays)
 
   -- the steps of each iterator are steps of its table
   pub going_steps : (xs : List T) (s t : Giving T) → Yields GivesNext s xs t → Yields (GivesFrom goes) s.table xs t.table

@@ -1,6 +1,6 @@
 -- What handles name once slots changed.
 use Rattle.std.proofs.Common.{◌≡◌, ◌≢◌, ℕ, ◌<◌, ◌==◌, ◌&&◌, nat_le, nat_lt, Bool, true, false, List, length, slice_index_or, if◌then◌else◌, Option, None, inl, inr, refl, sym, ap, subst, ◌∙◌, eqb-true}
-use Rattle.descriptor_table.specs.Sets.{AreHeldOnce, KeepNames, LoseNames, find, is_last, sets_of}
+use Rattle.descriptor_table.specs.Sets.{AreHeldOnce, LoseNames, find, is_last, sets_of}
 use Rattle.descriptor_table.specs.Slots.{is_live, slot_at}
 use Rattle.descriptor_table.specs.Tables.{place_at}
 use Rattle.descriptor_table.specs.declared.handle.SetHandle.{SetHandle}
@@ -35,16 +35,16 @@ module _ {T : Type 0} where
     pub generation : n.generation ≡ o.generation
     pub set : shown frame opened n ≡ shown frame opened o
 
-  pub names_kept : (number frame : ℕ) (opened : Bool) (old new : List (Slot T)) → ((p : ℕ) → ShowsSame frame opened (slot_at old p) (slot_at new p)) → KeepNames (sets_of number frame opened old) (sets_of number frame opened new)
-  names_kept number frame opened old new same = record {
-    set = λ h.
+  pub names_kept : (number frame : ℕ) (opened : Bool) (old new : List (Slot T)) → ((p : ℕ) → ShowsSame frame opened (slot_at old p) (slot_at new p)) → sets_of number frame opened new ≡ sets_of number frame opened old
+  names_kept number frame opened old new same i = record {
+    set = λ h. (
         let o = slot_at old h.place in
         let n = slot_at new h.place in
         if_both (is_last number new h) (is_live frame opened n.used) n.set
         ∙ ap (λ g. if (h.renderer == number) && (h.generation == g) then shown frame opened n else None) (same h.place).generation
         ∙ ap (λ x. if is_last number old h then x else None) (same h.place).set
-        ∙ sym (if_both (is_last number old h) (is_live frame opened o.used) o.set);
-    given = λ h. ap (λ g. (h.renderer == number) && (nat_lt 0 h.generation && nat_le h.generation g)) (same h.place).generation;
+        ∙ sym (if_both (is_last number old h) (is_live frame opened o.used) o.set)) i;
+    given = λ h. ap (λ g. (h.renderer == number) && (nat_lt 0 h.generation && nat_le h.generation g)) (same h.place).generation i;
   }
 
   -- sets that were held have no handle any more

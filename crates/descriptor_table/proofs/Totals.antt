@@ -3,7 +3,7 @@ use Rattle.std.proofs.Common.{◌≡◌, ◌≢◌, ℕ, zero, suc, ◌+◌, ◌
 use Rattle.std.proofs.lemmas.Bool.{and_right, cases_order, le-ltb, lt-ltb, or_from, or_left, or_right}
 use Rattle.std.proofs.lemmas.List.{get_or_past}
 use Rattle.descriptor_table.specs.Slots.{AreFramed, AreLinked, HasFrames, chain_at, chain_of, frame_at, in_list, is_in, is_of, slot_at, waits_for}
-use Rattle.descriptor_table.specs.Tables.{count, is_kept, is_waiting_use, waits}
+use Rattle.descriptor_table.specs.Tables.{count, is_kept, waits}
 use Rattle.descriptor_table.specs.declared.slot.Use.{Use}
 use Rattle.descriptor_table.specs.declared.slot.Use.TheVariants.{Held, Drawn, Waits, Kept, Going, Taken, Vacant}
 use Rattle.descriptor_table.specs.declared.slot.Slot.{Slot}
@@ -145,7 +145,7 @@ module _ {T : Type 0} where
           | inr other ↦ absurd (let no : true ≡ false = sym (ap (λ b. b && true) (eq-eqb f f refl)) ∙ none f (λ i lt e. other i lt (sym e)) in cc)
         ]
 
-        by_use : (u : Use) (full : Bool) → ((g : ℕ) → ((i : ℕ) → i < length frames → g ≢ (frame_at frames i).frame) → (waits_for g u && full) ≡ false) → any_of (λ i. waits_for (frame_at frames i).frame u && full) (length frames) ≡ (is_waiting_use u && full)
+        by_use : (u : Use) (full : Bool) → ((g : ℕ) → ((i : ℕ) → i < length frames → g ≢ (frame_at frames i).frame) → (waits_for (λ w. g == w) u && full) ≡ false) → any_of (λ i. waits_for (λ w. (frame_at frames i).frame == w) u && full) (length frames) ≡ (waits_for (λ w. true) u && full)
         by_use Held full none = any_none (λ i. false) (length frames) (λ i lt. refl)
         by_use (Drawn f) full none = by_frame f full none
         by_use (Waits f) full none = by_frame f full none

@@ -1,9 +1,9 @@
 -- Slots that pass a test are changed, one after another.
-use Rattle.std.proofs.Common.{◌≡◌, ◌≢◌, ℕ, zero, suc, ◌+◌, ◌<◌, ◌≤◌, ◌⊎◌, ◌==◌, ◌&&◌, not, nat_lt, Bool, true, false, if◌then◌else◌, List, [], ◌∷◌, length, set, Option, Some, None, ne_eqb, is_some, inl, inr, refl, sym, ap, subst, ◌∙◌, arith, eq-eqb, eqb-true}
+use Rattle.std.proofs.Common.{◌≡◌, ◌≢◌, ℕ, zero, suc, ◌+◌, ◌<◌, ◌≤◌, ◌⊎◌, ◌==◌, ◌&&◌, not, nat_lt, Bool, true, false, if◌then◌else◌, List, [], ◌∷◌, length, set, Option, Some, None, ne_eqb, is_some, inl, inr, refl, sym, ap, subst, ◌∙◌, arith, eq-eqb, eqb-true, nat_le}
 use Rattle.std.proofs.lemmas.List.{length-set, set-set}
 use Rattle.std.proofs.lemmas.Bool.{ltb-false}
-use Rattle.descriptor_table.specs.Slots.{in_list, is_due, is_in, slot_at, waits_until}
-use Rattle.descriptor_table.specs.Tables.{AtIf, IsSettled, KeepsSettings, MayGo, PicksAbove, PicksFirst, Stays, Turns, count, generations_of, holds, is_held_use, is_kept, is_taken, is_taken_use, may_stay, most_of, next_use, stays, used_for}
+use Rattle.descriptor_table.specs.Slots.{in_list, is_due, is_in, slot_at, waits_for}
+use Rattle.descriptor_table.specs.Tables.{AtIf, IsBack, KeepsSettings, MayBecome, PicksAbove, PicksFirst, Stays, Turns, count, generations_of, holds, is_held_use, is_kept, is_taken, is_taken_use, may_stay, most_of, next_use, stays, used_for}
 use Rattle.descriptor_table.specs.declared.set_table.SetTable.{SetTable}
 use Rattle.descriptor_table.specs.declared.slot.Use.{Use}
 use Rattle.descriptor_table.specs.declared.slot.Use.TheVariants.{Held, Drawn, Waits, Kept, Going, Taken, Vacant}
@@ -82,11 +82,11 @@ module _ {T : Type 0} where
     pub settled_set : new ≡ set now p (used_for (next_use generations most mid p) (slot_at now p))
     settled_set = is ∙ ap (λ l. with_use p (next_use generations most mid p) l) left ∙ use_again now p Taken (next_use generations most mid p) within
 
-    pub settled_grows : (o n : Slot T) → IsSettled generations most now o n → IsSettled generations most new o n
+    pub settled_grows : (o n : Slot T) → IsBack (used_for Going) generations most now o n → IsBack (used_for Going) generations most new o n
     settled_grows o n (inl kept) = inl kept
     settled_grows o n (inr goes) = inr (goes.0, λ may. (let a = goes.1 may in let b = kept_grows (o.layout + 2) p now (used_for (next_use generations most mid p) (slot_at now p)) within (out (o.layout + 2)) in let c = ap (count (is_in (o.layout + 2))) settled_set in omega arith))
 
-    pub settled_here : IsSettled generations most new (slot_at now p) (used_for (next_use generations most mid p) (slot_at now p))
+    pub settled_here : IsBack (used_for Going) generations most new (slot_at now p) (used_for (next_use generations most mid p) (slot_at now p))
     settled_here = by_test (may_stay generations most mid (slot_at mid p)) refl
       where
         o : Slot T
@@ -98,7 +98,7 @@ module _ {T : Type 0} where
         both : may_stay generations most mid (slot_at mid p) ≡ (stays generations (slot_at now p) && nat_lt (count (is_in ((slot_at now p).layout + 2)) mid) most)
         both = ap (may_stay generations most mid) slot
 
-        by_test : (b : Bool) → may_stay generations most mid (slot_at mid p) ≡ b → IsSettled generations most new (slot_at now p) (used_for (if b then Kept else Going) (slot_at now p))
+        by_test : (b : Bool) → may_stay generations most mid (slot_at mid p) ≡ b → IsBack (used_for Going) generations most new (slot_at now p) (used_for (if b then Kept else Going) (slot_at now p))
         by_test true e = inl (refl, (and_true (stays generations (slot_at now p)) (nat_lt (count (is_in ((slot_at now p).layout + 2)) mid) most) (sym both ∙ e)).0)
         by_test false e = inr (
           refl,
@@ -113,11 +113,11 @@ module _ {T : Type 0} where
         )
 
   -- a set that settled waits no longer, and no call has it
-  pub settled_not_due : (generations : ℕ → ℕ) (frame most : ℕ) (l : List (Slot T)) (o n : Slot T) → IsSettled generations most l o n → is_due frame n ≡ false
+  pub settled_not_due : (generations : ℕ → ℕ) (frame most : ℕ) (l : List (Slot T)) (o n : Slot T) → IsBack (used_for Going) generations most l o n → is_due frame n ≡ false
   settled_not_due generations frame most l o n (inl kept) = ap (is_due frame) kept.0
   settled_not_due generations frame most l o n (inr goes) = ap (is_due frame) goes.0
 
-  pub settled_not_taken : (generations : ℕ → ℕ) (most : ℕ) (l : List (Slot T)) (o n : Slot T) → IsSettled generations most l o n → is_taken n ≡ false
+  pub settled_not_taken : (generations : ℕ → ℕ) (most : ℕ) (l : List (Slot T)) (o n : Slot T) → IsBack (used_for Going) generations most l o n → is_taken n ≡ false
   settled_not_taken generations most l o n (inl kept) = ap is_taken kept.0
   settled_not_taken generations most l o n (inr goes) = ap is_taken goes.0
 
@@ -125,7 +125,7 @@ module _ {T : Type 0} where
   pub due_not_listed : (frame : ℕ) (s : Slot T) → is_due frame s ≡ true → (k : ℕ) → is_in k s ≡ false
   due_not_listed frame s e k = by_use s.used e
     where
-      by_use : (u : Use) → (waits_until frame u && is_some s.set) ≡ true → in_list k u s.layout s.generation (is_some s.set) ≡ false
+      by_use : (u : Use) → (waits_for (λ w. nat_le w frame) u && is_some s.set) ≡ true → in_list k u s.layout s.generation (is_some s.set) ≡ false
       by_use Held e = refl
       by_use (Drawn f) e = refl
       by_use (Waits f) e = refl
@@ -135,7 +135,7 @@ module _ {T : Type 0} where
       by_use Vacant e = absurd (cc)
 
   pub due_full : (frame : ℕ) (s : Slot T) → is_due frame s ≡ true → is_some s.set ≡ true
-  due_full frame s e = (and_true (waits_until frame s.used) (is_some s.set) e).1
+  due_full frame s e = (and_true (waits_for (λ w. nat_le w frame) s.used) (is_some s.set) e).1
 
   pub taken_is : (s : Slot T) → is_taken s ≡ true → (s.used ≡ Taken) × (is_some s.set ≡ true)
   taken_is s e = let both = and_true (is_taken_use s.used) (is_some s.set) e in (taken_use s.used both.0, both.1)
@@ -207,16 +207,16 @@ module _ {T : Type 0} where
               others = λ q none. ap (λ l. test (slot_at l q)) all ∙ none;
             }
 
-  pub settle_one : (generations : ℕ → ℕ) (most : ℕ) (old now new : List (Slot T)) (p : ℕ) → Turning is_taken (IsSettled generations most) old now → p < length now → AtIf is_taken p (used_for (next_use generations most now p)) now new → TurnsOne is_taken (IsSettled generations most) old now new p
-  settle_one generations most old now new p turning within is = turn_one is_taken (IsSettled generations most) old now new p (next_use generations most now p) turning within is step (settled_out (may_stay generations most now (slot_at now p)) (slot_at now p))
+  pub settle_one : (generations : ℕ → ℕ) (most : ℕ) (old now new : List (Slot T)) (p : ℕ) → Turning is_taken (IsBack (used_for Going) generations most) old now → p < length now → AtIf is_taken p (used_for (next_use generations most now p)) now new → TurnsOne is_taken (IsBack (used_for Going) generations most) old now new p
+  settle_one generations most old now new p turning within is = turn_one is_taken (IsBack (used_for Going) generations most) old now new p (next_use generations most now p) turning within is step (settled_out (may_stay generations most now (slot_at now p)) (slot_at now p))
     where
-      step : is_taken (slot_at now p) ≡ true → Turning is_taken (IsSettled generations most) old new
+      step : is_taken (slot_at now p) ≡ true → Turning is_taken (IsBack (used_for Going) generations most) old new
       step e =
           let taken = taken_is (slot_at now p) e in
           let all : new ≡ with_use p (next_use generations most now p) now = is ∙ ap (λ b. if b then with_use p (next_use generations most now p) now else now) e in
           let left : now ≡ with_use p Taken now = sym (same_use now p taken.0 within) in
           let out : (k : ℕ) → is_in k (slot_at now p) ≡ false = (λ k. ap (λ u. in_list k u (slot_at now p).layout (slot_at now p).generation (is_some (slot_at now p).set)) taken.0) in
-          turn_step is_taken (IsSettled generations most) old now new p
+          turn_step is_taken (IsBack (used_for Going) generations most) old now new p
           (used_for (next_use generations most now p) (slot_at now p)) turning within e
           (settled_set generations most now now new p within out left all)
           (settled_grows generations most now now new p within out left all) (settled_not_taken generations most now)
@@ -264,7 +264,7 @@ module _ {T : Type 0} where
   Goes l o n = n ≡ used_for Going o
 
   -- some of the slots that pass the test go
-  pub turn_some : (test : Slot T → Bool) (old now : List (Slot T)) → Turning test Goes old now → Turns test MayGo old now
+  pub turn_some : (test : Slot T → Bool) (old now : List (Slot T)) → Turning test Goes old now → Turns test (MayBecome (used_for Going)) old now
   turn_some test old now turning = record {
     long = turning.long;
     rest = λ p out. elim (turning.each p) [
@@ -306,7 +306,7 @@ module _ {T : Type 0} where
       by_use Taken e = absurd (cc)
       by_use Vacant e = absurd (let z = eqb-true k 0 (and_true (k == 0) (nat_lt s.generation 4294967295 && not (is_some s.set)) e).0 in omega arith)
 
-  module _ (k : ℕ) (two : 2 ≤ k) (now new : List (Slot T)) (turns : Turns (is_in k) MayGo now new) where
+  module _ (k : ℕ) (two : 2 ≤ k) (now new : List (Slot T)) (turns : Turns (is_in k) (MayBecome (used_for Going)) now new) where
     -- sets of one list more go
     pub trim_more : (old : List (Slot T)) → Turning is_kept Goes old now → Turning is_kept Goes old new
     trim_more old turning = record {

@@ -1,7 +1,7 @@
 -- What a caller sees of the slots: sets by handle.
-use Rattle.std.specs.Prelude.{◌≡◌, ◌≢◌, ℕ, ◌<◌, ◌==◌, ◌&&◌, nat_le, nat_lt, All, Bool, true, false, List, [], ◌∷◌, length, slice_index_or, is_some, if◌then◌else◌, Option, Some, None, IsSome}
+use Rattle.std.specs.Prelude.{◌≡◌, ◌≢◌, ℕ, ◌<◌, ◌==◌, ◌&&◌, nat_le, nat_lt, All, Bool, true, false, List, [], ◌∷◌, length, slice_index_or, if◌then◌else◌, Option, Some, None, IsSome}
 use Rattle.descriptor_table.specs.Slots.{is_live, slot_at}
-use Rattle.descriptor_table.specs.Tables.{is_held_use}
+use Rattle.descriptor_table.specs.Tables.{holds}
 use Rattle.descriptor_table.specs.declared.handle.SetHandle.{SetHandle}
 use Rattle.descriptor_table.specs.declared.slot.Slot.{Slot}
 
@@ -42,7 +42,7 @@ module _ {T : Type 0} where
 
     -- whether a handle has a held set
     abbrev pub is_held : List (Slot T) → SetHandle → Bool
-    is_held slots h = is_last slots h && (is_held_use (slot_at slots h.place).used && is_some (slot_at slots h.place).set)
+    is_held slots h = is_last slots h && holds (slot_at slots h.place)
 
     abbrev pub sets_of : ℕ → Bool → List (Slot T) → Sets T
     sets_of frame opened slots = record { set = find frame opened slots; given = is_given slots }
@@ -62,11 +62,6 @@ module _ {T : Type 0} where
     pub given : All (λ h. new.given h ≡ true) handles
     pub named : All (λ h. IsSome (new.set h)) handles
     pub others : (other : SetHandle) → All (λ h. h ≢ other) handles → (new.set other ≡ old.set other) × (new.given other ≡ old.given other)
-
-  -- each handle names what it named
-  pub record KeepNames (old new : Sets T) : Type 0 where
-    pub set : (h : SetHandle) → new.set h ≡ old.set h
-    pub given : (h : SetHandle) → new.given h ≡ old.given h
 
   -- the handles name nothing, and each other handle names what it named
   pub record LoseNames (handles : List SetHandle) (old new : Sets T) : Type 0 where

@@ -20,17 +20,11 @@ in_list k Going layout generation full = (k == 1) && full
 in_list k Vacant layout generation full = (k == 0) && (nat_lt generation 4294967295 && not full)
 in_list k _ layout generation full = false
 
--- whether a set waits for this frame
-abbrev pub waits_for : ℕ → Use → Bool
-waits_for f (Drawn frame) = f == frame
-waits_for f (Waits frame) = f == frame
-waits_for f _ = false
-
--- whether a set waits for a frame up to this one
-abbrev pub waits_until : ℕ → Use → Bool
-waits_until f (Drawn frame) = nat_le frame f
-waits_until f (Waits frame) = nat_le frame f
-waits_until f _ = false
+-- whether a set waits for a frame that passes the test
+abbrev pub waits_for : (ℕ → Bool) → Use → Bool
+waits_for test (Drawn frame) = test frame
+waits_for test (Waits frame) = test frame
+waits_for test _ = false
 
 -- a set in such a use is in no list, and waits for no frame
 abbrev pub IsNowhere : Use → Type 0
@@ -93,11 +87,11 @@ module _ {T : Type 0} where
 
   -- whether a slot has a set that waits for this frame
   abbrev pub is_of : ℕ → Slot T → Bool
-  is_of f s = waits_for f s.used && is_some s.set
+  is_of f s = waits_for (λ frame. f == frame) s.used && is_some s.set
 
   -- whether a slot has a set that waits for a frame up to this one
   abbrev pub is_due : ℕ → Slot T → Bool
-  is_due f s = waits_until f s.used && is_some s.set
+  is_due f s = waits_for (λ frame. nat_le frame f) s.used && is_some s.set
 
   -- the frame that a slot's set waits for, or 0
   abbrev pub frame_of : Slot T → ℕ

@@ -1,10 +1,10 @@
 -- What becomes of the slots of a table.
 use Rattle.std.specs.Prelude.{◌≡◌, ◌≢◌, ℕ, zero, suc, ◌+◌, ◌-◌, ◌<◌, ◌≤◌, ◌⊎◌, ◌==◌, ◌&&◌, nat_lt, Bool, true, false, not, List, [], ◌∷◌, length, slice_index_or, slice_set, vec_capacity, is_some, if◌then◌else◌, Option, Some, None, MatchOption}
-use Rattle.descriptor_table.specs.Slots.{chain_at, generation_at, is_in, is_kept_of, is_of, slot_at}
+use Rattle.descriptor_table.specs.Slots.{chain_at, generation_at, is_in, is_kept_of, is_of, slot_at, waits_for}
 use Rattle.descriptor_table.specs.declared.handle.SetHandle.{SetHandle}
 use Rattle.descriptor_table.specs.declared.set_table.SetTable.{SetTable}
 use Rattle.descriptor_table.specs.declared.slot.Use.{Use}
-use Rattle.descriptor_table.specs.declared.slot.Use.TheVariants.{Held, Drawn, Waits, Kept, Going, Taken, Vacant}
+use Rattle.descriptor_table.specs.declared.slot.Use.TheVariants.{Held, Kept, Going, Taken, Vacant}
 use Rattle.descriptor_table.specs.declared.slot.Slot.{Slot}
 
 abbrev pub is_taken_use : Use → Bool
@@ -14,11 +14,6 @@ is_taken_use _ = false
 abbrev pub is_held_use : Use → Bool
 is_held_use Held = true
 is_held_use _ = false
-
-abbrev pub is_waiting_use : Use → Bool
-is_waiting_use (Drawn frame) = true
-is_waiting_use (Waits frame) = true
-is_waiting_use _ = false
 
 -- the place of the handle at a place of a list
 abbrev pub place_at : List SetHandle → ℕ → ℕ
@@ -102,6 +97,16 @@ module _ {T : Type 0} where
   abbrev pub KeepsSettings : SetTable T → SetTable T → Type 0
   KeepsSettings old new = HasSettings (settings_of old) new
 
+  -- the settings became these, and the slots are as they were
+  pub record OnlySettings (these : Settings) (old new : SetTable T) : Type 0 where
+    pub slots : new.slots ≡ old.slots
+    pub settings : HasSettings these new
+
+  -- slots and settings are as they were
+  pub record OnlyMemory (old new : SetTable T) : Type 0 where
+    pub slots : slots_of new ≡ slots_of old
+    pub settings : KeepsSettings old new
+
   -- the settings and memory are as they were
   pub record Stays (old new : SetTable T) : Type 0 where
     pub settings : KeepsSettings old new
@@ -143,6 +148,11 @@ module _ {T : Type 0} where
   pub record HasTaken (p : ℕ) (slots : List (Slot T)) : Type 0 where
     pub taken : IsTaken p slots
     pub full : is_some (slot_at slots p).set ≡ true
+
+  -- a slot that is in no list, and can have another handle
+  pub record CanRenew (p : ℕ) (slots : List (Slot T)) : Type 0 where
+    pub taken : IsTaken p slots
+    pub next : (slot_at slots p).generation < 4294967295
 
   -- a set that is in no list waits for the frame if it is in use for this
   pub record CanWait (frame p : ℕ) (u : Use) (slots : List (Slot T)) : Type 0 where
@@ -187,13 +197,17 @@ module _ {T : Type 0} where
   abbrev pub next_use : (ℕ → ℕ) → ℕ → List (Slot T) → ℕ → Use
   next_use generations most slots p = if may_stay generations most slots (slot_at slots p) then Kept else Going
 
-  -- a set that came back is kept, or goes back to its pool. If it may be kept, it goes only if as many are kept as may be
-  abbrev pub IsSettled : (ℕ → ℕ) → ℕ → List (Slot T) → Slot T → Slot T → Type 0
-  IsSettled generations most new o n = ((n ≡ used_for Kept o) × (stays generations o ≡ true)) ⊎ ((n ≡ used_for Going o) × (stays generations o ≡ true → most ≤ count (is_kept_of o.layout) new))
+  -- a set that came back is kept, or its slot became this. If it may be kept, then only if as many are kept as may be
+  abbrev pub IsBack : (Slot T → Slot T) → (ℕ → ℕ) → ℕ → List (Slot T) → Slot T → Slot T → Type 0
+  IsBack gone generations most new o n = ((n ≡ used_for Kept o) × (stays generations o ≡ true)) ⊎ ((n ≡ gone o) × (stays generations o ≡ true → most ≤ count (is_kept_of o.layout) new))
 
-  -- a set waits for the frame
-  abbrev pub WaitsFor : ℕ → List (Slot T) → Slot T → Slot T → Type 0
-  WaitsFor frame new o n = n ≡ used_for (Waits frame) o
+  -- a slot became this
+  abbrev pub Becomes : (Slot T → Slot T) → List (Slot T) → Slot T → Slot T → Type 0
+  Becomes into new o n = n ≡ into o
+
+  -- a slot is as it was, or became this
+  abbrev pub MayBecome : (Slot T → Slot T) → List (Slot T) → Slot T → Slot T → Type 0
+  MayBecome into new o n = (n ≡ o) ⊎ (n ≡ into o)
 
   -- each slot that passes the test became what the relation says, in the new slots. All others are as they were
   pub record Turns (test : Slot T → Bool) (becomes : List (Slot T) → Slot T → Slot T → Type 0) (old new : List (Slot T)) : Type 0 where
@@ -207,11 +221,7 @@ module _ {T : Type 0} where
 
   -- whether a slot has a set that waits for a frame
   abbrev pub waits : Slot T → Bool
-  waits s = is_waiting_use s.used && is_some s.set
-
-  -- a kept set goes, or is still kept
-  abbrev pub MayGo : List (Slot T) → Slot T → Slot T → Type 0
-  MayGo new o n = (n ≡ o) ⊎ (n ≡ used_for Going o)
+  waits s = waits_for (λ frame. true) s.used && is_some s.set
 
   -- whether a set is kept
   abbrev pub is_kept : Slot T → Bool
@@ -225,6 +235,10 @@ module _ {T : Type 0} where
   abbrev pub aged : Slot T → Slot T
   aged s = record s { leaves = true }
 
+  -- each slot has a set, or had its last generation
+  abbrev pub AreAllUsed : List (Slot T) → Type 0
+  AreAllUsed slots = (p : ℕ) → is_usable (slot_at slots p) ≡ false
+
   -- a set of the layout came into a slot that had none, and has no handle there yet
   pub record Puts (generations : ℕ → ℕ) (layout : ℕ) (set : T) (p : ℕ) (old new : List (Slot T)) : Type 0 where
     pub empty : (slot_at old p).set ≡ None
@@ -233,11 +247,13 @@ module _ {T : Type 0} where
     pub here : slot_at new p ≡ record { generation = (slot_at old p).generation; layout = layout; layout_generation = generations layout; used = Taken; leaves = false; set = Some set }
     pub others : (q : ℕ) → q ≢ p → slot_at new q ≡ slot_at old q
     -- the table grows only if each slot has a set, or had its last generation
-    pub grows : (length new ≡ length old) ⊎ ((length new ≡ length old + 1) × ((q : ℕ) → q < length old → is_usable (slot_at old q) ≡ false))
+    pub grows : (length new ≡ length old) ⊎ ((length new ≡ length old + 1) × AreAllUsed old)
 
-  -- each slot has a set, or had its last generation
-  abbrev pub AreAllUsed : List (Slot T) → Type 0
-  AreAllUsed slots = (p : ℕ) → is_usable (slot_at slots p) ≡ false
+  -- so a set came into the table, over memory that was reserved
+  pub record PutsInto (layout : ℕ) (set : T) (place : ℕ) (old new : SetTable T) : Type 0 where
+    pub puts : Puts (generations_of old) layout set place (slots_of old) (slots_of new)
+    pub reserve : (n : ℕ) → HasRoom (n + 1) old → HasRoom n new
+    pub settings : KeepsSettings old new
 
   -- there are more slots only if each then has a set, or had its last generation
   abbrev pub Grows : List (Slot T) → List (Slot T) → Type 0
@@ -264,13 +280,8 @@ module _ {T : Type 0} where
     pub full : (slot_at old place).set ≡ Some x
     pub slots : At place vacated old new
 
-  -- no set passes the test
-  pub record GivesNone (test : Slot T → Bool) (old new : List (Slot T)) : Type 0 where
-    pub none : (p : ℕ) → test (slot_at old p) ≡ false
-    pub slots : new ≡ old
-
   abbrev pub GivesFirst : (Slot T → Bool) → Option T → List (Slot T) → List (Slot T) → Type 0
-  GivesFirst test result old new = MatchOption result (GivesNone test old new) (λ x. Gives test x old new)
+  GivesFirst test result old new = MatchOption result (PicksNone test old new) (λ x. Gives test x old new)
 
   -- the held sets of the first handles were taken, and all else is as it was
   pub record TookEach (handles : List SetHandle) (n : ℕ) (old new : List (Slot T)) : Type 0 where
@@ -289,11 +300,3 @@ module _ {T : Type 0} where
   pub record AreAged (old new : List (Slot T)) : Type 0 where
     pub long : length new ≡ length old
     pub each : (p : ℕ) → p < length old → slot_at new p ≡ aged (slot_at old p)
-
-  -- a set goes
-  abbrev pub Leaves : List (Slot T) → Slot T → Slot T → Type 0
-  Leaves new o n = n ≡ used_for Going o
-
-  -- a set was taken out of its slot
-  abbrev pub Vacates : List (Slot T) → Slot T → Slot T → Type 0
-  Vacates new o n = n ≡ vacated o

@@ -62,7 +62,7 @@ pub struct SetTable<T> {
 
 impl<T> SetTable<T> {
     ghost use Rattle.descriptor_table.specs.Sets.{find, is_held};
-    ghost use Rattle.descriptor_table.specs.Tables.{HasPlaces, HasRoom, HasSettings, KeepsSettings};
+    ghost use Rattle.descriptor_table.specs.Tables.{HasPlaces, HasRoom, HasSettings, OnlyMemory};
     ghost use Rattle.descriptor_table.specs.Tables.{number_of, slots_of};
 
     /// No sets, and no layouts. It allocates nothing.
@@ -129,8 +129,7 @@ impl<T> SetTable<T> {
     pub fn reserve(&mut self, additional: u32) -> Result<(), AllocError>
         ensures room { OnOk result (HasRoom additional self.new) }
         ensures fits { HasRoom additional self.old → IsOk result }
-        ensures slots { slots_of self.new ≡ slots_of self.old }
-        ensures settings { KeepsSettings self.old self.new }
+        ensures only { OnlyMemory self.old self.new }
     {
         let vacant = self.chain(VACANT).count;
         if additional <= vacant {
@@ -143,8 +142,7 @@ impl<T> SetTable<T> {
     fn reserve_slots(&mut self, additional: u32) -> Result<(), AllocError>
         ensures room { OnOk result (HasPlaces additional self.new) }
         ensures fits { HasPlaces additional self.old → IsOk result }
-        ensures slots { slots_of self.new ≡ slots_of self.old }
-        ensures settings { KeepsSettings self.old self.new }
+        ensures only { OnlyMemory self.old self.new }
     {
         let places = self.slots.len() as u64 + u64::from(additional);
         if places > MOST {

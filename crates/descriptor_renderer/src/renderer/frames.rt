@@ -2,7 +2,6 @@
 ghost use Rattle.std.specs.Prelude.{◌≡◌, ℕ, ◌+◌, ◌<◌, ◌^◌, ◌↔◌, ◌⊎◌, max, Ok};
 ghost use Rattle.std.specs.Prelude.{IfErr, IfOk, IfSome, IsErrOf, IsOk, IsSome, None, OnErr, OnOk};
 ghost use Rattle.std.specs.Prelude.{false, true};
-ghost use Rattle.descriptor_table.specs.Sets.{KeepNames};
 ghost use Rattle.descriptor_table.specs.Slots.{is_due, slot_at};
 ghost use Rattle.descriptor_table.specs.Tables.{Grows};
 ghost use Rattle.descriptor_renderer.specs.Stores.{ComeBack, HandlesKept, HandlesNew};
@@ -18,7 +17,7 @@ impl<L: Drop, P: Drop, S: Drop, D: DescriptorDevice<L, P, S>> Renderer<L, P, S, 
     ghost use Rattle.gpu_descriptor.specs.declared.errors.AllocationError.{AllocationError};
     ghost use Rattle.descriptor_table.specs.declared.handle.SetHandle.{SetHandle};
     ghost use Rattle.descriptor_table.specs.declared.slot.Use.{Use};
-    ghost use Rattle.descriptor_renderer.specs.Renderers.{Comes, OnlySetsChange, done_of, frame_of, is_open, kept_of};
+    ghost use Rattle.descriptor_renderer.specs.Renderers.{Comes, OnlySetsChange, SetsMayCome, done_of, frame_of, is_open, kept_of};
     ghost use Rattle.descriptor_renderer.specs.Renderers.{layout_of, seen, sets_by, side_of, slots_of};
     ghost use Rattle.descriptor_renderer.specs.Renderers.{store_of};
 
@@ -36,7 +35,6 @@ impl<L: Drop, P: Drop, S: Drop, D: DescriptorDevice<L, P, S>> Renderer<L, P, S, 
         ensures stays { OnErr result (self.new ≡ self.old) }
         ensures rest { seen self.new ≡ record (seen self.old)
             { frame = frame_of self.new; is_open = is_open self.new } }
-        ensures device { side_of self.new ≡ side_of self.old }
     {
         if self.is_open {
             return Err(BeginError::FrameOpen);
@@ -59,7 +57,6 @@ impl<L: Drop, P: Drop, S: Drop, D: DescriptorDevice<L, P, S>> Renderer<L, P, S, 
         ensures only { IfErr result (λ error. error ≡ BeginError.FrameOpen) }
         ensures stays { OnErr result (self.new ≡ self.old) }
         ensures rest { seen self.new ≡ record (seen self.old) { frame = frame_of self.new } }
-        ensures device { side_of self.new ≡ side_of self.old }
     {
         if self.is_open {
             return Err(BeginError::FrameOpen);
@@ -91,12 +88,9 @@ impl<L: Drop, P: Drop, S: Drop, D: DescriptorDevice<L, P, S>> Renderer<L, P, S, 
         ensures refused { (error : AllocationError) → IsErrOf result (RenderError.Allocation error)
             → IfSome (layout_of self.old layout) (λ known. IsRefusedAtLast known.layout 1 1 error
             (store_of self.old) (store_of self.new)) }
-        ensures stay { OnErr result (KeepNames (sets_by self.old) (sets_by self.new)) }
-        ensures grows { Grows (slots_of self.old) (slots_of self.new) }
+        ensures sets { SetsMayCome result self.old self.new }
         ensures early { ((IsErrOf result RenderError.NoFrame) ⊎ (IsErrOf result
-            RenderError.NoLayout)) → (slots_of self.new ≡ slots_of self.old) × (side_of self.new
-            ≡ side_of self.old) }
-        ensures rest { OnlySetsChange self.old self.new }
+            RenderError.NoLayout)) → seen self.new ≡ seen self.old }
     {
         if !self.is_open {
             return Err(RenderError::NoFrame);
@@ -112,8 +106,7 @@ impl<L: Drop, P: Drop, S: Drop, D: DescriptorDevice<L, P, S>> Renderer<L, P, S, 
 
     /// Ends the frame: its handles name nothing from now on. It can't be refused.
     pub fn end_frame(&mut self)
-        ensures ends { seen self.new ≡ record (seen self.old) { is_open = false } }
-        ensures device { side_of self.new ≡ side_of self.old }
+        ensures { seen self.new ≡ record (seen self.old) { is_open = false } }
     {
         self.is_open = false;
     }
@@ -126,7 +119,7 @@ impl<L: Drop, P: Drop, S: Drop, D: DescriptorDevice<L, P, S>> Renderer<L, P, S, 
             (store_of self.new) }
         ensures none_due { (p : ℕ) → is_due (done_of frame self.old) (slot_at (slots_of self.new) p)
             ≡ false }
-        ensures names { KeepNames (sets_by self.old) (sets_by self.new) }
+        ensures names { sets_by self.new ≡ sets_by self.old }
         ensures rest { OnlySetsChange self.old self.new }
     {
         let done = self.done(frame);

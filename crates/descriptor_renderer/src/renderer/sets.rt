@@ -4,10 +4,10 @@ ghost use Rattle.std.specs.Prelude.{IfErr, IfOk, IfSome, IsErrOf, IsSome, None, 
 ghost use Rattle.std.specs.Prelude.{option_map};
 ghost use Rattle.std.specs.Option.{option_copied};
 ghost use Rattle.gpu_descriptor.specs.Caller.Sets.{raw_of};
-ghost use Rattle.descriptor_table.specs.Sets.{AreHeldOnce, KeepNames, LoseNames};
+ghost use Rattle.descriptor_table.specs.Sets.{AreHeldOnce, LoseNames};
 ghost use Rattle.descriptor_table.specs.Tables.{Grows};
 ghost use Rattle.descriptor_renderer.specs.Stores.{BringsAtLast, FreesAll, FreesEach, HandlesKept};
-ghost use Rattle.descriptor_renderer.specs.Stores.{HandlesNew, HoldAtLast, IsRefusedAtLast, WaitEach};
+ghost use Rattle.descriptor_renderer.specs.Stores.{HandlesNew, HoldAtLast, IsRefusedAtLast};
 ghost use Rattle.descriptor_renderer.specs.Stores.{current_in};
 
 use super::Renderer;
@@ -21,7 +21,7 @@ impl<L: Drop, P: Drop, S: Drop, D: DescriptorDevice<L, P, S>> Renderer<L, P, S, 
     ghost use Rattle.gpu_descriptor.specs.declared.errors.AllocationError.{AllocationError};
     ghost use Rattle.descriptor_table.specs.declared.handle.SetHandle.{SetHandle};
     ghost use Rattle.descriptor_table.specs.declared.slot.Use.{Use};
-    ghost use Rattle.descriptor_renderer.specs.Renderers.{ComeEach, Comes, HasNoMemory, OnlySetsChange, frame_of};
+    ghost use Rattle.descriptor_renderer.specs.Renderers.{ComeEach, Comes, Destroys, HasNoMemory, NeedsLayout, OnlySetsChange, SetsMayCome};
     ghost use Rattle.descriptor_renderer.specs.Renderers.{kept_of, layout_of, number_of, seen, sets_by};
     ghost use Rattle.descriptor_renderer.specs.Renderers.{side_of, slots_of, store_of};
 
@@ -36,17 +36,11 @@ impl<L: Drop, P: Drop, S: Drop, D: DescriptorDevice<L, P, S>> Renderer<L, P, S, 
         ensures comes { kept_of layout self.old ≡ 0 → IfOk result (λ handle.
             IfSome (layout_of self.old layout) (λ known. HandlesNew known.layout layout.slot.place
             Use.Held handle (store_of self.old) (store_of self.new))) }
-        ensures needs_no_frame { ¬ (IsErrOf result RenderError.NoFrame) }
-        ensures no_layout { (IsErrOf result RenderError.NoLayout) ↔ (layout_of self.old layout
-            ≡ None) }
+        ensures needs { NeedsLayout layout result self.old self.new }
         ensures refused { (error : AllocationError) → IsErrOf result (RenderError.Allocation error)
             → IfSome (layout_of self.old layout) (λ known. IsRefusedAtLast known.layout 1 1 error
             (store_of self.old) (store_of self.new)) }
-        ensures stay { OnErr result (KeepNames (sets_by self.old) (sets_by self.new)) }
-        ensures grows { Grows (slots_of self.old) (slots_of self.new) }
-        ensures early { IsErrOf result RenderError.NoLayout → (slots_of self.new
-            ≡ slots_of self.old) × (side_of self.new ≡ side_of self.old) }
-        ensures rest { OnlySetsChange self.old self.new }
+        ensures sets { SetsMayCome result self.old self.new }
     {
         let Some(known) = self.layouts.get(layout) else {
             return Err(RenderError::NoLayout);
@@ -78,19 +72,13 @@ impl<L: Drop, P: Drop, S: Drop, D: DescriptorDevice<L, P, S>> Renderer<L, P, S, 
         ensures comes { kept_of layout self.old < many → OnOk result (IfSome
             (layout_of self.old layout) (λ known. BringsAtLast known.layout
             (many - kept_of layout self.old) many (store_of self.old) (store_of self.new))) }
-        ensures needs_no_frame { ¬ (IsErrOf result RenderError.NoFrame) }
-        ensures no_layout { (IsErrOf result RenderError.NoLayout) ↔ (layout_of self.old layout
-            ≡ None) }
+        ensures needs { NeedsLayout layout result self.old self.new }
         ensures refused { (error : AllocationError) → IsErrOf result (RenderError.Allocation error)
             → HasNoMemory error self.old self.new ⊎ IfSome (layout_of self.old layout) (λ known.
             IsRefusedAtLast known.layout (many - kept_of layout self.old) many error
             (store_of self.old) (store_of self.new)) }
-        ensures stay { OnErr result (KeepNames (sets_by self.old) (sets_by self.new)) }
-        ensures grows { Grows (slots_of self.old) (slots_of self.new) }
+        ensures sets { SetsMayCome result self.old self.new }
         ensures handles { OnErr result (handles.new.items ≡ handles.old.items) }
-        ensures early { IsErrOf result RenderError.NoLayout → (slots_of self.new
-            ≡ slots_of self.old) × (side_of self.new ≡ side_of self.old) }
-        ensures rest { OnlySetsChange self.old self.new }
     {
         let Some(known) = self.layouts.get(layout) else {
             return Err(RenderError::NoLayout);
@@ -116,8 +104,7 @@ impl<L: Drop, P: Drop, S: Drop, D: DescriptorDevice<L, P, S>> Renderer<L, P, S, 
         ensures once { OnOk result (AreHeldOnce (number_of self.old) (slots_of self.old) sets.now) }
         ensures no_set { IfErr result (λ e. (e ≡ DestroyError.NoSet)
             × ¬ (AreHeldOnce (number_of self.old) (slots_of self.old) sets.now)) }
-        ensures stay { OnErr result ((slots_of self.new ≡ slots_of self.old)
-            × (side_of self.new ≡ side_of self.old)) }
+        ensures stay { OnErr result (seen self.new ≡ seen self.old) }
         ensures rest { OnlySetsChange self.old self.new }
     {
         if !self.store.free_each(sets) {
@@ -128,15 +115,7 @@ impl<L: Drop, P: Drop, S: Drop, D: DescriptorDevice<L, P, S>> Renderer<L, P, S, 
 
     /// Destroys a set that was last used in a frame, 0 if in none, as `destroy_sets` does.
     pub fn destroy_set(&mut self, set: SetHandle, last_use: u64) -> Result<(), DestroyError>
-        ensures waits { OnOk result (WaitEach (set ∷ []) last_use (slots_of self.old)
-            (slots_of self.new)) }
-        ensures names { OnOk result (LoseNames (set ∷ []) (sets_by self.old) (sets_by self.new)) }
-        ensures ahead { (IsErrOf result DestroyError.FrameAhead) ↔ (frame_of self.old < last_use) }
-        ensures no_set { (IsErrOf result DestroyError.NoSet) ↔ ((last_use ≤ frame_of self.old)
-            × ¬ (AreHeldOnce (number_of self.old) (slots_of self.old) (set ∷ []))) }
-        ensures stay { OnErr result (slots_of self.new ≡ slots_of self.old) }
-        ensures rest { OnlySetsChange self.old self.new }
-        ensures device { side_of self.new ≡ side_of self.old }
+        ensures { Destroys (set ∷ []) last_use result self.old self.new }
     {
         self.destroy_sets(&[set], last_use)
     }
@@ -148,16 +127,7 @@ impl<L: Drop, P: Drop, S: Drop, D: DescriptorDevice<L, P, S>> Renderer<L, P, S, 
     /// It returns `FrameAhead` if the frame is later than `frame()`, and otherwise `NoSet` if a handle
     /// names no set that the renderer holds, or is in the list twice. Then nothing changed.
     pub fn destroy_sets(&mut self, sets: &[SetHandle], last_use: u64) -> Result<(), DestroyError>
-        ensures waits { OnOk result (WaitEach sets.now last_use (slots_of self.old)
-            (slots_of self.new)) }
-        ensures names { OnOk result (LoseNames sets.now (sets_by self.old) (sets_by self.new)) }
-        ensures once { OnOk result (AreHeldOnce (number_of self.old) (slots_of self.old) sets.now) }
-        ensures ahead { (IsErrOf result DestroyError.FrameAhead) ↔ (frame_of self.old < last_use) }
-        ensures no_set { (IsErrOf result DestroyError.NoSet) ↔ ((last_use ≤ frame_of self.old)
-            × ¬ (AreHeldOnce (number_of self.old) (slots_of self.old) sets.now)) }
-        ensures stay { OnErr result (slots_of self.new ≡ slots_of self.old) }
-        ensures rest { OnlySetsChange self.old self.new }
-        ensures device { side_of self.new ≡ side_of self.old }
+        ensures { Destroys sets.now last_use result self.old self.new }
     {
         if last_use > self.frame {
             return Err(DestroyError::FrameAhead);
@@ -177,7 +147,7 @@ impl<L: Drop, P: Drop, S: Drop, D: DescriptorDevice<L, P, S>> Renderer<L, P, S, 
         ensures given { (handle : SetHandle) → (sets_by self.new).given handle
             ≡ (sets_by self.old).given handle }
         ensures rest { seen self.new ≡ record (seen self.old)
-            { is_open = false; slots = slots_of self.new } }
+            { is_open = false; slots = slots_of self.new; side = side_of self.new } }
     {
         self.is_open = false;
         self.store.free_all(self.frame);

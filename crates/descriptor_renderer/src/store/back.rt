@@ -9,10 +9,11 @@ use gpu_descriptor::DescriptorDevice;
 impl<L: Drop, P: Drop, S: Drop, D: DescriptorDevice<L, P, S>> Store<L, P, S, D> {
     ghost use Rattle.descriptor_table.specs.Sets.{AreHeldOnce, sets_in};
     ghost use Rattle.descriptor_table.specs.Slots.{goes, is_due, slot_at};
-    ghost use Rattle.descriptor_table.specs.Tables.{removed_at};
+    ghost use Rattle.descriptor_table.specs.Tables.{Becomes, removed_at, used_for};
+    ghost use Rattle.descriptor_table.specs.declared.slot.Use.{Use};
     ghost use Rattle.descriptor_renderer.specs.Stores.{AreCleaned, Cleans, ComeBack, FreesAll, FreesEach};
     ghost use Rattle.descriptor_renderer.specs.Stores.{GivesBack, HasLayout, IsAtRest, IsUpTo, NoneComes};
-    ghost use Rattle.descriptor_renderer.specs.Stores.{Removes, Settles, SettlesTo, Trims, WaitEach};
+    ghost use Rattle.descriptor_renderer.specs.Stores.{Removes, Settles, SettlesTo, Trims, TurnEach};
     ghost use Rattle.descriptor_renderer.specs.Stores.{coming_in, generations_in, kept_of, ledger_of};
     ghost use Rattle.descriptor_renderer.specs.Stores.{most_of, number_of, pools_besides, side_of, slots_in};
 
@@ -120,8 +121,8 @@ impl<L: Drop, P: Drop, S: Drop, D: DescriptorDevice<L, P, S>> Store<L, P, S, D> 
         requires rest { IsAtRest self.old }
         ensures once { IsTrue result ↔ AreHeldOnce (number_of self.old) (slots_in self.old)
             handles.now }
-        ensures waits { IsTrue result → WaitEach handles.now frame (slots_in self.old)
-            (slots_in self.new) }
+        ensures waits { IsTrue result → TurnEach handles.now (Becomes (used_for (Use.Waits frame)))
+            (slots_in self.old) (slots_in self.new) }
         ensures none { IsFalse result → slots_in self.new ≡ slots_in self.old }
         ensures side { side_of self.new ≡ side_of self.old }
         ensures settles { Settles NoneComes frame self.old self.new }

@@ -13,19 +13,19 @@ impl<L: Drop, P: Drop, S: Drop, D: DescriptorDevice<L, P, S>> Store<L, P, S, D> 
     ghost use Rattle.descriptor_table.specs.Tables.{Grows, HasRoom};
     ghost use Rattle.descriptor_table.specs.declared.handle.SetHandle.{SetHandle};
     ghost use Rattle.descriptor_renderer.specs.Stores.{AreNamed, Asks, AsksAtLast, BringsAtLast, CanTake};
-    ghost use Rattle.descriptor_renderer.specs.Stores.{ComesOf, HasLayout, HoldAtLast, HoldEach, HoldsKept};
-    ghost use Rattle.descriptor_renderer.specs.Stores.{IsRefused, IsRefusedAtLast, KeepsStore, SetsCome};
+    ghost use Rattle.descriptor_renderer.specs.Stores.{CanHold, ComesOf, HoldAtLast, HoldEach, HoldsComing, HoldsKept};
+    ghost use Rattle.descriptor_renderer.specs.Stores.{IsRefused, IsRefusedAtLast, KeepsStore};
     ghost use Rattle.descriptor_renderer.specs.Stores.{Settles, coming_in, current_in, kept_of, number_of};
     ghost use Rattle.descriptor_renderer.specs.Stores.{side_of, slots_in};
 
     /// Asks the allocator for so many sets of a layout, and for memory to put them into the table.
     fn ask_for(&mut self, known: &SetLayout<L>, many: u32) -> Result<(), AllocationError>
         requires meant { IsMeant D.meaning known.now }
-        requires none { (coming_in self.old).items ≡ [] }
+        requires none { coming_in self.old ≡ [] }
         ensures asks { OnOk result (Asks known.now.layout many self.old self.new) }
         ensures refused { IfErr result (λ error. IsRefused known.now.layout many error self.old
             self.new) }
-        ensures none { OnErr result ((coming_in self.new).items ≡ []) }
+        ensures none { OnErr result (coming_in self.new ≡ []) }
         ensures table { OnOk result (HasRoom many self.new.table) }
         ensures stays { KeepsStore self.old self.new }
     {
@@ -45,8 +45,8 @@ impl<L: Drop, P: Drop, S: Drop, D: DescriptorDevice<L, P, S>> Store<L, P, S, D> 
             (many - kept_of layout self.old) many self.old self.new) }
         ensures refused { IfErr result (λ error. IsRefusedAtLast known.now.layout
             (many - kept_of layout self.old) many error self.old self.new) }
-        ensures none { OnErr result ((coming_in self.new).items ≡ []) }
-        ensures table { OnOk result (HasRoom (length (coming_in self.new).items) self.new.table) }
+        ensures none { OnErr result (coming_in self.new ≡ []) }
+        ensures table { OnOk result (HasRoom (length (coming_in self.new)) self.new.table) }
         ensures stays { KeepsStore self.old self.new }
     {
         let kept = self.table.kept_count(layout);
@@ -102,23 +102,18 @@ impl<L: Drop, P: Drop, S: Drop, D: DescriptorDevice<L, P, S>> Store<L, P, S, D> 
     /// reserved.
     #[inline]
     fn hold_last(&mut self, layout: u32, handles: &mut Vec<SetHandle>)
-        requires some { 0 < length (coming_in self.old).items }
-        requires layout { HasLayout layout self.old }
-        requires table { HasRoom (length (coming_in self.old).items) self.old.table }
+        requires some { 0 < length (coming_in self.old) }
+        requires can { CanHold layout self.old }
         requires room { vec_len handles.old < vec_capacity handles.old }
         ensures holds { (handle : SetHandle) × (handles.new.items ≡ handles.old.items ++ handle ∷ [])
             × HoldEach (number_of self.old) (current_in layout self.old) (handle ∷ [])
             (slots_in self.old) (slots_in self.new) }
-        ensures fewer { length (coming_in self.new).items + 1 ≡ length (coming_in self.old).items }
+        ensures fewer { length (coming_in self.new) + 1 ≡ length (coming_in self.old) }
         ensures room { vec_capacity handles.new ≡ vec_capacity handles.old }
-        ensures side { side_of self.new ≡ side_of self.old }
-        ensures own { (known : L) → AreOfLayout D.meaning known (coming_in self.old).items
-            → AreOfLayout D.meaning known (coming_in self.new).items }
-        ensures sets { (known : L) → AreOfLayout D.meaning known (coming_in self.old).items
-            → SetsCome (ComesOf D.meaning known layout) (slots_in self.old) (slots_in self.new) }
-        ensures table { HasRoom (length (coming_in self.new).items) self.new.table }
-        ensures grows { Grows (slots_in self.old) (slots_in self.new) }
-        ensures stays { KeepsStore self.old self.new }
+        ensures own { (known : L) → AreOfLayout D.meaning known (coming_in self.old)
+            → AreOfLayout D.meaning known (coming_in self.new) }
+        ensures table { HasRoom (length (coming_in self.new)) self.new.table }
+        ensures keeps { HoldsComing layout self.old self.new }
     {
         match self.coming.pop() {
             Some(set) => {
@@ -131,20 +126,15 @@ impl<L: Drop, P: Drop, S: Drop, D: DescriptorDevice<L, P, S>> Store<L, P, S, D> 
 
     /// Holds the sets that are on their way, and appends their handles, over memory that was reserved.
     fn hold_coming(&mut self, layout: u32, handles: &mut Vec<SetHandle>)
-        requires layout { HasLayout layout self.old }
-        requires table { HasRoom (length (coming_in self.old).items) self.old.table }
-        requires room { vec_len handles.old + length (coming_in self.old).items
+        requires can { CanHold layout self.old }
+        requires room { vec_len handles.old + length (coming_in self.old)
             ≤ vec_capacity handles.old }
         ensures holds { (given : List SetHandle) × (handles.new.items ≡ handles.old.items ++ given)
-            × (length given ≡ length (coming_in self.old).items)
+            × (length given ≡ length (coming_in self.old))
             × HoldEach (number_of self.old) (current_in layout self.old) given (slots_in self.old)
             (slots_in self.new) }
-        ensures none { (coming_in self.new).items ≡ [] }
-        ensures side { side_of self.new ≡ side_of self.old }
-        ensures sets { (known : L) → AreOfLayout D.meaning known (coming_in self.old).items
-            → SetsCome (ComesOf D.meaning known layout) (slots_in self.old) (slots_in self.new) }
-        ensures grows { Grows (slots_in self.old) (slots_in self.new) }
-        ensures stays { KeepsStore self.old self.new }
+        ensures none { coming_in self.new ≡ [] }
+        ensures keeps { HoldsComing layout self.old self.new }
     {
         for _ in 0..self.coming.len() {
             self.hold_last(layout, handles);

@@ -7,13 +7,10 @@ use descriptor_table::SetHandle;
 use gpu_descriptor::{AllocationError, DescriptorDevice, SetLayout};
 
 impl<L: Drop, P: Drop, S: Drop, D: DescriptorDevice<L, P, S>> Store<L, P, S, D> {
-    ghost use Rattle.descriptor_table.specs.Tables.{Grows};
-    ghost use Rattle.descriptor_table.specs.declared.handle.SetHandle.{SetHandle};
     ghost use Rattle.descriptor_table.specs.declared.slot.Use.{Use};
-    ghost use Rattle.descriptor_renderer.specs.Stores.{CanTake, ComesOf, Gets, GetsAtLast, HandlesKept};
-    ghost use Rattle.descriptor_renderer.specs.Stores.{HandlesNew, HasLayout, IsNamed, IsRefused};
-    ghost use Rattle.descriptor_renderer.specs.Stores.{IsRefusedAtLast, KeepsStore, Settles, TakesKept};
-    ghost use Rattle.descriptor_renderer.specs.Stores.{coming_in, current_in, kept_of, number_of, slots_in};
+    ghost use Rattle.descriptor_renderer.specs.Stores.{CanTake, Gets, GetsAtLast, HasLayout};
+    ghost use Rattle.descriptor_renderer.specs.Stores.{IsRefused, IsRefusedAtLast, KeepsComing};
+    ghost use Rattle.descriptor_renderer.specs.Stores.{TakesKept, TakesOne, kept_of};
 
     /// Asks the allocator for a set of a layout, and puts it into the table. Returns its place.
     #[inline]
@@ -23,8 +20,7 @@ impl<L: Drop, P: Drop, S: Drop, D: DescriptorDevice<L, P, S>> Store<L, P, S, D> 
         ensures gets { IfOk result (λ place. Gets known.now.layout layout place self.old self.new) }
         ensures refused { IfErr result (λ error. IsRefused known.now.layout 1 error self.old
             self.new) }
-        ensures stays { KeepsStore self.old self.new }
-        ensures coming { coming_in self.new ≡ coming_in self.old }
+        ensures stays { KeepsComing self.old self.new }
     {
         if self.table.reserve(1).is_err() {
             return Err(AllocationError::OutOfHostMemory);
@@ -43,8 +39,7 @@ impl<L: Drop, P: Drop, S: Drop, D: DescriptorDevice<L, P, S>> Store<L, P, S, D> 
             self.new) }
         ensures refused { IfErr result (λ error. IsRefusedAtLast known.now.layout 1 1 error self.old
             self.new) }
-        ensures stays { KeepsStore self.old self.new }
-        ensures coming { coming_in self.new ≡ coming_in self.old }
+        ensures stays { KeepsComing self.old self.new }
     {
         match self.ask(known, layout) {
             Ok(place) => Ok(place),
@@ -69,8 +64,7 @@ impl<L: Drop, P: Drop, S: Drop, D: DescriptorDevice<L, P, S>> Store<L, P, S, D> 
         ensures kept { 0 < kept_of layout self.old → TakesKept layout result self.old self.new }
         ensures comes { kept_of layout self.old ≡ 0 → IfOk result (λ place.
             GetsAtLast known.now.layout layout place self.old self.new) }
-        ensures stays { KeepsStore self.old self.new }
-        ensures coming { coming_in self.new ≡ coming_in self.old }
+        ensures stays { KeepsComing self.old self.new }
     {
         if self.table.kept_count(layout) == 0 {
             return self.take_new(known, layout);
@@ -90,17 +84,7 @@ impl<L: Drop, P: Drop, S: Drop, D: DescriptorDevice<L, P, S>> Store<L, P, S, D> 
         frame: u64,
     ) -> Result<SetHandle, AllocationError>
         requires { CanTake known.now layout self.old }
-        ensures named { IfOk result (λ handle. IsNamed (number_of self.old)
-            (current_in layout self.old) (Use.Drawn frame) handle (slots_in self.old)
-            (slots_in self.new)) }
-        ensures kept { 0 < kept_of layout self.old → (handle : SetHandle) × (result ≡ Ok handle)
-            × HandlesKept layout (Use.Drawn frame) handle self.old self.new }
-        ensures comes { kept_of layout self.old ≡ 0 → IfOk result (λ handle.
-            HandlesNew known.now.layout layout (Use.Drawn frame) handle self.old self.new) }
-        ensures refused { IfErr result (λ error. IsRefusedAtLast known.now.layout 1 1 error self.old
-            self.new) }
-        ensures settles { Settles (ComesOf D.meaning known.now.layout layout) frame self.old self.new }
-        ensures grows { Grows (slots_in self.old) (slots_in self.new) }
+        ensures { TakesOne known.now.layout layout (Use.Drawn frame) result self.old self.new }
     {
         let place = self.take(known, layout)?;
         Ok(self.table.draw(place, frame))
@@ -114,16 +98,7 @@ impl<L: Drop, P: Drop, S: Drop, D: DescriptorDevice<L, P, S>> Store<L, P, S, D> 
         layout: u32,
     ) -> Result<SetHandle, AllocationError>
         requires { CanTake known.now layout self.old }
-        ensures named { IfOk result (λ handle. IsNamed (number_of self.old)
-            (current_in layout self.old) Use.Held handle (slots_in self.old) (slots_in self.new)) }
-        ensures kept { 0 < kept_of layout self.old → (handle : SetHandle) × (result ≡ Ok handle)
-            × HandlesKept layout Use.Held handle self.old self.new }
-        ensures comes { kept_of layout self.old ≡ 0 → IfOk result (λ handle.
-            HandlesNew known.now.layout layout Use.Held handle self.old self.new) }
-        ensures refused { IfErr result (λ error. IsRefusedAtLast known.now.layout 1 1 error self.old
-            self.new) }
-        ensures settles { Settles (ComesOf D.meaning known.now.layout layout) 0 self.old self.new }
-        ensures grows { Grows (slots_in self.old) (slots_in self.new) }
+        ensures { TakesOne known.now.layout layout Use.Held result self.old self.new }
     {
         let place = self.take(known, layout)?;
         Ok(self.table.hold(place))

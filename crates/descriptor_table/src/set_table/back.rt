@@ -7,9 +7,9 @@ use crate::slot::Use;
 
 impl<T> SetTable<T> {
     ghost use Rattle.descriptor_table.specs.Slots.{is_due, is_in, is_kept_of, slot_at};
-    ghost use Rattle.descriptor_table.specs.Tables.{AreAllTaken, At, AtIf, Changes, HasTaken};
-    ghost use Rattle.descriptor_table.specs.Tables.{IsSettled, Leaves, MayGo, PicksAbove, Turns};
-    ghost use Rattle.descriptor_table.specs.Tables.{WaitsFor, count, generations_of, holds, is_kept};
+    ghost use Rattle.descriptor_table.specs.Tables.{AreAllTaken, At, AtIf, Becomes, Changes, HasTaken};
+    ghost use Rattle.descriptor_table.specs.Tables.{IsBack, MayBecome, PicksAbove, Turns};
+    ghost use Rattle.descriptor_table.specs.Tables.{count, generations_of, holds, is_kept};
     ghost use Rattle.descriptor_table.specs.Tables.{is_taken, lists_of, may_stay, most_of, next_use};
     ghost use Rattle.descriptor_table.specs.Tables.{slots_of, used_for};
 
@@ -44,8 +44,8 @@ impl<T> SetTable<T> {
 
     /// The sets that wait for a frame up to this one are kept or go.
     pub fn settle_due(&mut self, frame: u64)
-        ensures { Changes (Turns (is_due frame) (IsSettled (generations_of self.old)
-            (most_of self.old))) self.old self.new }
+        ensures { Changes (Turns (is_due frame) (IsBack (used_for Use.Going)
+            (generations_of self.old) (most_of self.old))) self.old self.new }
     {
         while let Some(place) = self.pick_due(frame) {
             self.settle(place);
@@ -82,8 +82,8 @@ impl<T> SetTable<T> {
     /// The sets of handles, which were taken, are kept or go. There are no others that were taken.
     pub fn settle_each(&mut self, handles: &[SetHandle])
         requires taken { AreAllTaken handles.now (slots_of self.old) }
-        ensures { Changes (Turns is_taken (IsSettled (generations_of self.old)
-            (most_of self.old))) self.old self.new }
+        ensures { Changes (Turns is_taken (IsBack (used_for Use.Going)
+            (generations_of self.old) (most_of self.old))) self.old self.new }
     {
         for index in 0..handles.len() {
             self.settle_taken(handles[index].place as usize);
@@ -105,7 +105,8 @@ impl<T> SetTable<T> {
     /// The sets of handles, which were taken, wait for a frame. There are no others that were taken.
     pub fn wait_each(&mut self, handles: &[SetHandle], frame: u64)
         requires taken { AreAllTaken handles.now (slots_of self.old) }
-        ensures { Changes (Turns is_taken (WaitsFor frame)) self.old self.new }
+        ensures { Changes (Turns is_taken (Becomes (used_for (Use.Waits frame)))) self.old
+            self.new }
     {
         for index in 0..handles.len() {
             self.wait_taken(handles[index].place as usize, frame);
@@ -134,7 +135,7 @@ impl<T> SetTable<T> {
 
     /// Lets all held sets go.
     pub fn let_held_go(&mut self)
-        ensures { Changes (Turns holds Leaves) self.old self.new }
+        ensures { Changes (Turns holds (Becomes (used_for Use.Going))) self.old self.new }
     {
         for place in 0..self.slots.len() {
             self.let_go_at(place);
@@ -156,7 +157,7 @@ impl<T> SetTable<T> {
     fn trim_list(&mut self, list: usize, most: u32)
         requires list { 2 ≤ list }
         requires within { list < lists_of self.old }
-        ensures turns { Changes (Turns (is_in list) MayGo) self.old self.new }
+        ensures turns { Changes (Turns (is_in list) (MayBecome (used_for Use.Going))) self.old self.new }
         ensures few { count (is_in list) (slots_of self.new) ≤ most }
     {
         while let Some(place) = self.pick_above(list, most) {
@@ -167,7 +168,8 @@ impl<T> SetTable<T> {
     /// Lets the kept sets of a layout go.
     pub fn let_kept_go(&mut self, layout: u32)
         requires { layout + 2 < lists_of self.old }
-        ensures turns { Changes (Turns (is_kept_of layout) Leaves) self.old self.new }
+        ensures turns { Changes (Turns (is_kept_of layout) (Becomes (used_for Use.Going)))
+            self.old self.new }
         ensures none { (p : ℕ) → is_kept_of layout (slot_at (slots_of self.new) p) ≡ false }
     {
         self.trim_list(layout as usize + KEPT, 0);
@@ -175,7 +177,7 @@ impl<T> SetTable<T> {
 
     /// Lets kept sets go, but so many of each layout.
     pub fn trim(&mut self, most: u32)
-        ensures turns { Changes (Turns is_kept MayGo) self.old self.new }
+        ensures turns { Changes (Turns is_kept (MayBecome (used_for Use.Going))) self.old self.new }
         ensures few { (layout : ℕ) → count (is_kept_of layout) (slots_of self.new) ≤ most }
     {
         for list in KEPT..self.chains.len() {

@@ -8,8 +8,8 @@ use std::alloc::AllocError;
 
 impl<T> SetTable<T> {
     ghost use Rattle.descriptor_table.specs.Slots.{chain_at, is_kept_of, slot_at};
-    ghost use Rattle.descriptor_table.specs.Tables.{AreAged, At, Changes, HasListRoom, HasSettings};
-    ghost use Rattle.descriptor_table.specs.Tables.{KeepsSettings, aged, generations_of, lists_of};
+    ghost use Rattle.descriptor_table.specs.Tables.{AreAged, At, Changes, HasListRoom, OnlySettings};
+    ghost use Rattle.descriptor_table.specs.Tables.{aged, generations_of, lists_of};
     ghost use Rattle.descriptor_table.specs.Tables.{lists_with, removed_at, settings_of, slots_of};
 
     /// Whether a layout was added.
@@ -32,8 +32,7 @@ impl<T> SetTable<T> {
     pub fn reserve_layout(&mut self) -> Result<(), AllocError>
         ensures room { OnOk result (HasListRoom self.new) }
         ensures fits { HasListRoom self.old → IsOk result }
-        ensures slots { self.new.slots ≡ self.old.slots }
-        ensures settings { KeepsSettings self.old self.new }
+        ensures only { OnlySettings (settings_of self.old) self.old self.new }
     {
         self.chains.reserve(KEPT + 1)?;
         self.generations.reserve(KEPT + 1)
@@ -43,11 +42,10 @@ impl<T> SetTable<T> {
     fn add_list(&mut self)
         requires chains { lists_of self.old < vec_capacity self.old.chains }
         requires generations { lists_of self.old < vec_capacity self.old.generations }
-        ensures settings { HasSettings (record (settings_of self.old)
-            { lists = lists_of self.old + 1 }) self.new }
+        ensures only { OnlySettings (record (settings_of self.old)
+            { lists = lists_of self.old + 1 }) self.old self.new }
         ensures room { vec_capacity self.new.chains ≡ vec_capacity self.old.chains }
         ensures more { vec_capacity self.new.generations ≡ vec_capacity self.old.generations }
-        ensures slots { self.new.slots ≡ self.old.slots }
     {
         self.chains.push_reserved(Chain { first: 0, count: 0 });
         self.generations.push_reserved(0);
@@ -56,9 +54,8 @@ impl<T> SetTable<T> {
     /// Adds a layout, over memory that was reserved.
     pub fn add_layout(&mut self)
         requires room { HasListRoom self.old }
-        ensures settings { HasSettings (record (settings_of self.old)
-            { lists = lists_with (lists_of self.old) }) self.new }
-        ensures slots { self.new.slots ≡ self.old.slots }
+        ensures { OnlySettings (record (settings_of self.old)
+            { lists = lists_with (lists_of self.old) }) self.old self.new }
     {
         if self.chains.len() > 0 {
             self.add_list();
@@ -93,11 +90,10 @@ impl<T> SetTable<T> {
         requires layout { layout + 2 < lists_of self.old }
         requires none_kept { (p : ℕ) → is_kept_of layout (slot_at (slots_of self.old) p) ≡ false }
         requires next { generations_of self.old layout < 4294967295 }
-        ensures settings { HasSettings (record (settings_of self.old)
-            { generations = removed_at layout (generations_of self.old) }) self.new }
+        ensures only { OnlySettings (record (settings_of self.old)
+            { generations = removed_at layout (generations_of self.old) }) self.old self.new }
         ensures past { (p : ℕ) → (slot_at (slots_of self.new) p).layout ≡ layout → (slot_at
             (slots_of self.new) p).layout_generation < generations_of self.new layout }
-        ensures slots { self.new.slots ≡ self.old.slots }
     {
         self.generations[layout as usize + KEPT] += 1;
     }
@@ -105,8 +101,7 @@ impl<T> SetTable<T> {
     /// Keeps at most so many sets of a layout from now on. No more are kept now.
     pub fn set_most(&mut self, most: u32)
         requires { (k : ℕ) → 2 ≤ k → (chain_at self.old.chains.items k).count ≤ most }
-        ensures settings { HasSettings (record (settings_of self.old) { most = most }) self.new }
-        ensures slots { self.new.slots ≡ self.old.slots }
+        ensures { OnlySettings (record (settings_of self.old) { most = most }) self.old self.new }
     {
         self.most = most;
     }

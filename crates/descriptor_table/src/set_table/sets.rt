@@ -9,9 +9,9 @@ use std::mem;
 impl<T> SetTable<T> {
     ghost use Rattle.descriptor_table.specs.Sets.{find, is_held};
     ghost use Rattle.descriptor_table.specs.Slots.{IsNowhere, goes, is_due, slot_at};
-    ghost use Rattle.descriptor_table.specs.Tables.{At, Changes, GivesFirst, HasRoom, HasTaken};
-    ghost use Rattle.descriptor_table.specs.Tables.{IsTaken, KeepsSettings, Puts, Renews, Stays};
-    ghost use Rattle.descriptor_table.specs.Tables.{generations_of, is_usable, lists_of, number_of};
+    ghost use Rattle.descriptor_table.specs.Tables.{AreAllUsed, At, CanRenew, Changes, GivesFirst};
+    ghost use Rattle.descriptor_table.specs.Tables.{HasRoom, HasTaken, IsTaken, PutsInto, Renews, Stays};
+    ghost use Rattle.descriptor_table.specs.Tables.{generations_of, lists_of, number_of};
     ghost use Rattle.descriptor_table.specs.Tables.{slots_of, used_for, vacated};
 
     /// Puts a set into a slot, over memory that was reserved. Returns its place.
@@ -19,10 +19,7 @@ impl<T> SetTable<T> {
     pub fn put(&mut self, layout: u32, set: T) -> usize
         requires room { HasRoom 1 self.old }
         requires layout { layout + 2 < lists_of self.old }
-        ensures puts { Puts (generations_of self.old) layout set result (slots_of self.old)
-            (slots_of self.new) }
-        ensures reserve { (n : ℕ) → HasRoom (n + 1) self.old → HasRoom n self.new }
-        ensures settings { KeepsSettings self.old self.new }
+        ensures { PutsInto layout set result self.old self.new }
     {
         if let Some(place) = self.pick(VACANT) {
             self.fill(place, layout, set);
@@ -73,11 +70,8 @@ impl<T> SetTable<T> {
     fn push(&mut self, layout: u32, set: T) -> usize
         requires room { HasRoom 1 self.old }
         requires layout { layout + 2 < lists_of self.old }
-        requires full { (q : ℕ) → is_usable (slot_at (slots_of self.old) q) ≡ false }
-        ensures puts { Puts (generations_of self.old) layout set result (slots_of self.old)
-            (slots_of self.new) }
-        ensures reserve { (n : ℕ) → HasRoom (n + 1) self.old → HasRoom n self.new }
-        ensures settings { KeepsSettings self.old self.new }
+        requires full { AreAllUsed (slots_of self.old) }
+        ensures { PutsInto layout set result self.old self.new }
     {
         let place = self.slots.len();
         let layout_generation = self.generation(layout);
@@ -96,8 +90,7 @@ impl<T> SetTable<T> {
     /// The next handle of a place.
     #[inline]
     fn renew(&mut self, place: usize, used: Use) -> SetHandle
-        requires taken { IsTaken place (slots_of self.old) }
-        requires next { (slot_at (slots_of self.old) place).generation < 4294967295 }
+        requires can { CanRenew place (slots_of self.old) }
         requires used { IsNowhere used }
         ensures { Changes (Renews (number_of self.old) place used result) self.old self.new }
     {
@@ -114,8 +107,7 @@ impl<T> SetTable<T> {
     /// The set at a place, which a call has, is held from now on.
     #[inline]
     pub fn hold(&mut self, place: usize) -> SetHandle
-        requires taken { IsTaken place (slots_of self.old) }
-        requires next { (slot_at (slots_of self.old) place).generation < 4294967295 }
+        requires { CanRenew place (slots_of self.old) }
         ensures { Changes (Renews (number_of self.old) place Use.Held result) self.old
             self.new }
     {
@@ -164,8 +156,8 @@ impl<T> SetTable<T> {
     fn take_out(&mut self, place: usize) -> Option<T>
         requires taken { IsTaken place (slots_of self.old) }
         ensures set { result ≡ (slot_at (slots_of self.old) place).set }
-        ensures slots { IsSome result → At place vacated (slots_of self.old) (slots_of self.new) }
-        ensures stays { Stays self.old self.new }
+        ensures changes { Changes (λ old new. IsSome result → At place vacated old new) self.old
+            self.new }
     {
         let set = self.empty(place)?;
         self.vacate(place);

@@ -20,19 +20,19 @@ returns-clause-names g c =
     let mid = c.put-place.new.self in
     let new = c.hold.new.self in
     let names = added_names (number_of mid) c.put-place.result c.args.layout c.hold.result (slots_of c.reserve.new.self.table) (slots_of mid) (slots_of new) (generations_of c.reserve.new.self.table) c.put-place.ensures.puts c.hold.ensures.slots in
-    let from = subst (λ l. Names c.hold.result c.args.layout (sets_of (number_of mid) 0 false l) (sets_of (number_of mid) 0 false (slots_of new))) c.reserve.ensures.slots names in
+    let from = subst (λ l. Names c.hold.result c.args.layout (sets_of (number_of mid) 0 false l) (sets_of (number_of mid) 0 false (slots_of new))) c.reserve.ensures.keeps.slots names in
     let to = subst (λ n. Names c.hold.result c.args.layout (sets_of (number_of mid) 0 false (slots_of old)) (sets_of n 0 false (slots_of new))) (sym c.hold.ensures.stays.settings.number) from in
-    subst (λ n. Names c.hold.result c.args.layout (sets_of n 0 false (slots_of old)) (sets_of (number_of new) 0 false (slots_of new))) (c.put-place.ensures.settings.number ∙ c.reserve.ensures.registry) to
+    subst (λ n. Names c.hold.result c.args.layout (sets_of n 0 false (slots_of old)) (sets_of (number_of new) 0 false (slots_of new))) (c.put-place.ensures.settings.number ∙ c.reserve.ensures.keeps.registry) to
 
 pub returns-clause-counted : goal.returns-clause-counted
 returns-clause-counted g c = λ generations counted.
     let mid = c.put-place.new.self in
     added_counted (number_of mid) c.put-place.result c.args.layout c.hold.result (slots_of c.reserve.new.self.table)
     (slots_of mid) (slots_of c.hold.new.self) (generations_of c.reserve.new.self.table) c.put-place.ensures.puts
-    c.hold.ensures.slots generations (subst (AreCounted generations) (sym c.reserve.ensures.slots) counted)
+    c.hold.ensures.slots generations (subst (AreCounted generations) (sym c.reserve.ensures.keeps.slots) counted)
 
 pub returns-clause-grows : goal.returns-clause-grows
 returns-clause-grows g c =
     let mid = c.put-place.new.self in
     let new = slots_of c.hold.new.self in
-    subst (λ l. Grows l new) c.reserve.ensures.slots (added_grows (number_of mid) c.put-place.result c.args.layout c.hold.result (slots_of c.reserve.new.self.table) (slots_of mid) new (generations_of c.reserve.new.self.table) c.put-place.ensures.puts c.hold.ensures.slots)
+    subst (λ l. Grows l new) c.reserve.ensures.keeps.slots (added_grows (number_of mid) c.put-place.result c.args.layout c.hold.result (slots_of c.reserve.new.self.table) (slots_of mid) new (generations_of c.reserve.new.self.table) c.put-place.ensures.puts c.hold.ensures.slots)

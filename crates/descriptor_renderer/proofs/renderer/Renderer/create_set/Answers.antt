@@ -1,5 +1,5 @@
 use Rattle.descriptor_renderer.specs.Own.{HasSetsOf}
-use Rattle.std.proofs.Common.{◌+◌, ◌<◌, ◌∙◌, ◌≡◌, ap, arith, refl, subst, sym}
+use Rattle.std.proofs.Common.{◌+◌, ◌<◌, ◌∙◌, ◌≡◌, ap, arith, refl, subst, sym, rules}
 use Rattle.descriptor_table.specs.Sets.{Names, sets_of}
 use Rattle.descriptor_table.specs.Tables.{current}
 use Rattle.descriptor_table.specs.declared.slot.Use.TheVariants.{Held}
@@ -45,10 +45,10 @@ returns-in-Ok-clause-creates g c =
       names = subst (λ n. Names handle named.set (sets_of n old.frame old.is_open (slots_in old.store)) (sets_of n old.frame old.is_open (slots_in c.create.new.self))) old.sets.number (named.names old.frame old.is_open refl);
     })
 
-pub returns-in-Err-clause-stay : goal.returns-in-Err-clause-stay
-returns-in-Err-clause-stay g c =
+pub returns-in-Err-clause-sets : goal.returns-in-Err-clause-sets
+returns-in-Err-clause-sets g c =
     let old = c.args.self.now in
-    refused_names c.in-Some.known.now.layout 1 1 c.in-Err.error old.store c.create.new.self c.in-Err.ensures.refused old.renderer old.frame old.is_open
+    record { stay = refused_names c.in-Some.known.now.layout 1 1 c.in-Err.error old.store c.create.new.self c.in-Err.ensures.refused old.renderer old.frame old.is_open; grows = search rules; rest = search rules }
 
 pub returns-in-Ok-clause-comes : goal.returns-in-Ok-clause-comes
 returns-in-Ok-clause-comes g c = λ none.

@@ -1,5 +1,5 @@
 use Rattle.descriptor_renderer.specs.Own.{HasSetsOf}
-use Rattle.std.proofs.Common.{◌+◌, ◌-◌, ◌<◌, ◌++◌, slice_index_or, inl, refl, sym, ap, subst, ◌∙◌, arith}
+use Rattle.std.proofs.Common.{◌+◌, ◌-◌, ◌<◌, ◌++◌, slice_index_or, inl, refl, sym, ap, subst, ◌∙◌, arith, rules}
 use Rattle.descriptor_table.specs.Sets.{NameEach, sets_of}
 use Rattle.descriptor_table.specs.declared.handle.SetHandle.{SetHandle}
 use Rattle.descriptor_table.proofs.Holding.{same_default}
@@ -57,13 +57,13 @@ returns-in-Ok-clause-creates g c =
       subst (λ n. HoldAtLast n (current_in c.args.layout.slot.place old.store) given (slots_in old.store) new) old.sets.number (subst (λ p. HoldAtLast (number_of old.store) (current_in p old.store) given (slots_in old.store) new) c.place.ensures creates.4),
     )
 
-pub returns-in-Err-clause-stay : goal.returns-in-Err-clause-stay
-returns-in-Err-clause-stay g c =
+pub returns-in-Err-clause-sets : goal.returns-in-Err-clause-sets
+returns-in-Err-clause-sets g c =
     let old = c.args.self.now in
-    refused_names c.in-Some.known.now.layout _ c.args.many c.in-Err.error old.store c.create_each.new.self c.in-Err.ensures.refused old.renderer old.frame old.is_open
+    record { stay = refused_names c.in-Some.known.now.layout _ c.args.many c.in-Err.error old.store c.create_each.new.self c.in-Err.ensures.refused old.renderer old.frame old.is_open; grows = search rules; rest = search rules }
 
 pub returns-then-is_err-clause-refused : goal.returns-then-is_err-clause-refused
-returns-then-is_err-clause-refused g c = λ error e. inl (record { is = cc; seen = refl; side = refl })
+returns-then-is_err-clause-refused g c = λ error e. inl (record { is = cc; seen = refl })
 
 pub returns-in-Ok-clause-comes : goal.returns-in-Ok-clause-comes
 returns-in-Ok-clause-comes g c = λ few.

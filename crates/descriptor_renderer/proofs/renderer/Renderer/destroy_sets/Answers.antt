@@ -1,4 +1,4 @@
-use Rattle.std.proofs.Common.{refl, subst, arith}
+use Rattle.std.proofs.Common.{refl, subst, arith, rules}
 use Rattle.descriptor_table.specs.Sets.{AreHeldOnce}
 use Rattle.descriptor_renderer.specs.LayoutRegistries.{layout_slots}
 use Rattle.descriptor_renderer.specs.Stores.{NoneComes, slots_in}
@@ -11,8 +11,17 @@ invariant_of-self-clause-sets g c =
     sets_settle NoneComes c.args.last_use (layout_slots c.args.self.now.layouts) c.args.self.now.frame c.args.self.now.renderer c.args.self.now.store c.wait_each.new.self c.wait_each.ensures.settles (let opened = c.if-last_use-self.false in omega arith)
     (λ n x none. absurd none) c.args.self.now.sets
 
-pub returns-clause-names : goal.returns-clause-names
-returns-clause-names g c =
+pub returns : goal.returns
+returns g c =
     let old = c.args.self.now in
     let once = subst (λ n. AreHeldOnce n (slots_in old.store) c.args.sets.now) old.sets.number (c.if-not-wait_each.ensures.once.0 refl) in
-    waited_names old.frame old.is_open old.renderer c.args.last_use c.args.sets.now (slots_in old.store) (slots_in c.wait_each.new.self) once (c.if-not-wait_each.ensures.waits refl)
+    let waits = c.if-not-wait_each.ensures.waits refl in
+    record {
+      waits = waits;
+      names = waited_names old.frame old.is_open old.renderer c.args.last_use c.args.sets.now (slots_in old.store) (slots_in c.wait_each.new.self) once waits;
+      once = once;
+      ahead = search rules;
+      no_set = search rules;
+      stay = tt;
+      rest = search rules;
+    }

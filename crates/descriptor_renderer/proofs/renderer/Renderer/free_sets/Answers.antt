@@ -16,4 +16,4 @@ returns-clause-names g c =
     let old = c.args.self.now in
     let once = subst (λ n. AreHeldOnce n (slots_in old.store) c.args.sets.now) old.sets.number (c.if-not-free_each.ensures.once.0 refl) in
     let frees = c.if-not-free_each.ensures.frees refl in
-    freed_names old.frame old.is_open (generations_in old.store) old.renderer (most_of old.store) c.args.sets.now (slots_in old.store) (slots_in c.free_each.new.self) once frees.named frees.rest
+    freed_names old.frame old.is_open (generations_in old.store) old.renderer (most_of old.store) c.args.sets.now (slots_in old.store) (slots_in c.free_each.new.self) once frees.turns

@@ -5,7 +5,7 @@ use Rattle.descriptor_table.specs.Tables.{count, removed_at, vacated}
 use Rattle.descriptor_table.proofs.Listed.{other_slots, slot_set}
 use Rattle.descriptor_renderer.specs.LayoutRegistries.{layout_slots, layouts_by}
 use Rattle.descriptor_renderer.specs.Own.{AreCounted, AreOwn, HasSetsOf}
-use Rattle.descriptor_renderer.specs.Stores.{generations_in, lists_for, slots_in}
+use Rattle.descriptor_renderer.specs.Stores.{generations_in, lists_for, side_of, slots_in}
 use Rattle.descriptor_renderer.proofs.Owned.{layout_here, layout_listed, layout_within}
 use Rattle.descriptor_renderer.proofs.Removing.{counted_removed, own_removed, removed_fits, removed_names, removed_none}
 use Rattle.descriptor_renderer.proofs.renderer.Renderer.remove_layout.Given.{Over}
@@ -95,6 +95,7 @@ returns-in-Some-clause-rest g c =
       slots = slots_in c.remove_layout.new.self;
       generations = generations_in c.remove_layout.new.self;
       most = now.keeps i;
+      side = side_of c.remove_layout.new.self;
       pools_besides = now.besides i;
       limit = now.limit i;
       bound = now.bound i;

@@ -10,7 +10,7 @@ pub invariant_of-self-in-Ok-clause-exact : goal.invariant_of-self-in-Ok-clause-e
 invariant_of-self-in-Ok-clause-exact g c = λ t.
     let name = g.D.DescriptorDevice.meaning.set_name in
     let more = put_count name _ c.args.layout c.put.result c.in-Ok.set (slots_of c.reserve.new.self) (slots_of c.put.new.self) c.put.ensures.puts t in
-    let same = ap (λ l. count_of t (items_of name (sets_in l))) c.reserve.ensures.slots in
+    let same = ap (λ l. count_of t (items_of name (sets_in l))) c.reserve.ensures.only.slots in
     let given = c.in-Ok.ensures.hands_out.given t in
     let was = c.args.self.now.exact t in
     omega arith
@@ -19,7 +19,7 @@ pub invariant_of-self-in-Ok-clause-accounted : goal.invariant_of-self-in-Ok-clau
 invariant_of-self-in-Ok-clause-accounted g c =
     let name = g.D.DescriptorDevice.meaning.set_name in
     let more = put_many _ c.args.layout c.put.result c.in-Ok.set (slots_of c.reserve.new.self) (slots_of c.put.new.self) c.put.ensures.puts in
-    let same = ap (λ l. length (sets_in l)) c.reserve.ensures.slots in
+    let same = ap (λ l. length (sets_in l)) c.reserve.ensures.only.slots in
     let total = c.in-Ok.ensures.hands_out.totals.0 in
     let was = c.args.self.now.accounted in
     omega arith
@@ -37,7 +37,7 @@ returns-in-Ok-clause-gets g c = record {
       (λ l.
       Puts (generations_of c.reserve.new.self) c.args.layout c.in-Ok.set c.put.result l
       (slots_of c.put.new.self))
-      c.reserve.ensures.slots c.put.ensures.puts);
+      c.reserve.ensures.only.slots c.put.ensures.puts);
   own = c.in-Ok.ensures.own;
   hands_out = c.in-Ok.ensures.hands_out;
 }

@@ -24,11 +24,11 @@ all_held :
     (slots_in c.bring.new.self) (slots_in c.hold_coming.new.self)
 all_held g c =
     let h =
-    held_then c.args.layout (c.args.many - c.len.result) (length (coming_in c.hold_kept.new.self).items)
+    held_then c.args.layout (c.args.many - c.len.result) (length (coming_in c.hold_kept.new.self))
     c.args.handles.now.items c.hold_kept.new.handles.items c.hold_coming.new.handles.items c.bring.new.self
-    c.hold_kept.new.self c.hold_coming.new.self c.hold_kept.ensures.keeps.stays c.hold_kept.ensures.holds
+    c.hold_kept.new.self c.hold_coming.new.self c.hold_kept.ensures.keeps.stays.store c.hold_kept.ensures.holds
     c.hold_coming.ensures.holds in
-    let same = ap (λ v. length v.items) c.hold_kept.ensures.keeps.coming in
+    let same = ap length c.hold_kept.ensures.keeps.stays.coming in
     let few = (brings g c).few in
     let count = c.len.ensures in
     let long = c.bring.new.self.coming.ok.0 in
@@ -37,18 +37,18 @@ all_held g c =
 
 come : (g : Over) (c : After-hold_coming g) → SetsCome (ComesOf g.D.DescriptorDevice.meaning c.args.known.now.layout c.args.layout) (slots_in c.bring.new.self) (slots_in c.hold_coming.new.self)
 come g c =
-    let own = subst (λ v. AreOfLayout g.D.DescriptorDevice.meaning c.args.known.now.layout v.items) (sym c.hold_kept.ensures.keeps.coming) (brings g c).own in
-    kept_then (ComesOf g.D.DescriptorDevice.meaning c.args.known.now.layout c.args.layout) (slots_in c.bring.new.self) (slots_in c.hold_kept.new.self) (slots_in c.hold_coming.new.self) c.hold_kept.ensures.keeps.sets (c.hold_coming.ensures.sets c.args.known.now.layout own)
+    let own = subst (AreOfLayout g.D.DescriptorDevice.meaning c.args.known.now.layout) (sym c.hold_kept.ensures.keeps.stays.coming) (brings g c).own in
+    kept_then (ComesOf g.D.DescriptorDevice.meaning c.args.known.now.layout c.args.layout) (slots_in c.bring.new.self) (slots_in c.hold_kept.new.self) (slots_in c.hold_coming.new.self) c.hold_kept.ensures.keeps.sets (c.hold_coming.ensures.keeps.sets c.args.known.now.layout own)
 
 pub returns-in_err-bring-clause-settles : goal.returns-in_err-bring-clause-settles
 returns-in_err-bring-clause-settles g c =
     let comes = ComesOf g.D.DescriptorDevice.meaning c.args.known.now.layout c.args.layout in
     arrived comes 0 c.args.self.now c.bring.new.self (refused_arrives comes 0 c.args.known.now.layout _ c.args.many c.in_err-bring.field-0.0 c.args.self.now c.bring.new.self c.in_err-bring.ensures.refused) c.in_err-bring.ensures.none c.requires.can.rest (search rules)
 
-pub hold_coming-requires-clause-table : goal.hold_coming-requires-clause-table
-hold_coming-requires-clause-table g c =
-    let same = ap (λ v. length v.items) c.hold_kept.ensures.keeps.coming in
-    subst (λ n. HasRoom n c.hold_kept.new.self.table) (sym same) (c.hold_kept.ensures.keeps.table (length (coming_in c.bring.new.self).items) c.in_ok-bring.ensures.table)
+pub hold_coming-requires-clause-can : goal.hold_coming-requires-clause-can
+hold_coming-requires-clause-can g c =
+    let same = ap length c.hold_kept.ensures.keeps.stays.coming in
+    record { layout = search rules; table = subst (λ n. HasRoom n c.hold_kept.new.self.table) (sym same) (c.hold_kept.ensures.keeps.table (length (coming_in c.bring.new.self)) c.in_ok-bring.ensures.table) }
 
 pub returns-clause-creates : goal.returns-clause-creates
 returns-clause-creates g c =
@@ -57,7 +57,7 @@ returns-clause-creates g c =
     (h.0, h.1, h.2, named, record { mid = slots_in c.bring.new.self; cleared = (brings g c).cleared; holds = h.3 })
 
 pub returns-clause-comes : goal.returns-clause-comes
-returns-clause-comes g c = λ few. (c.bring.new.self, c.in_ok-bring.ensures.asks few, c.hold_coming.ensures.side ∙ c.hold_kept.ensures.keeps.side)
+returns-clause-comes g c = λ few. (c.bring.new.self, c.in_ok-bring.ensures.asks few, c.hold_coming.ensures.keeps.side ∙ c.hold_kept.ensures.keeps.side)
 
 pub returns-clause-settles : goal.returns-clause-settles
 returns-clause-settles g c =
@@ -77,4 +77,4 @@ returns-clause-grows g c =
     let coming = c.hold_coming.ensures.holds in
     let brought = slots_in c.bring.new.self in
     let held = slots_in c.hold_coming.new.self in
-    grow_from (slots_in c.args.self.now) brought held (brings g c).long (grow_more (number_of c.hold_kept.new.self) (current_in c.args.layout c.hold_kept.new.self) coming.0 brought (slots_in c.hold_kept.new.self) held c.hold_kept.ensures.keeps.grows c.hold_coming.ensures.grows coming.3)
+    grow_from (slots_in c.args.self.now) brought held (brings g c).long (grow_more (number_of c.hold_kept.new.self) (current_in c.args.layout c.hold_kept.new.self) coming.0 brought (slots_in c.hold_kept.new.self) held c.hold_kept.ensures.keeps.grows c.hold_coming.ensures.keeps.grows coming.3)

@@ -1,9 +1,8 @@
-use Rattle.std.proofs.Common.{◌≡◌, ◌∙◌, ap, rules}
+use Rattle.std.proofs.Common.{◌≡◌, ◌∙◌, rules}
 use Rattle.descriptor_table.specs.Sets.{sets_in}
 use Rattle.descriptor_table.specs.Slots.{is_due}
-use Rattle.descriptor_table.specs.Tables.{generations_of, slots_of}
+use Rattle.descriptor_table.specs.Tables.{generations_of, slots_of, vacated, IsBack}
 use Rattle.descriptor_table.proofs.Turning.{due_full}
-use Rattle.descriptor_renderer.specs.Stores.{IsBack}
 use Rattle.descriptor_renderer.proofs.Given.{accounted_as, exact_as}
 use Rattle.descriptor_renderer.proofs.Back.{back_not_due, came_back, settled_sets}
 use Rattle.descriptor_renderer.proofs.Following.{follow_turns, follows_back, none_goes}
@@ -48,6 +47,6 @@ returns-clause-settles g c =
     let most = c.args.self.now.table.most in
     let turns = came_back (is_due c.args.frame) (generations_of c.args.self.now.table) most old (slots_of c.settle_due.new.self) new (due_full c.args.frame) (none_goes old c.requires.rest.placed) c.settle_due.ensures.slots c.give.ensures.turns in
     settled 0 c.args.self.now c.give.new.self
-    (follow_turns 0 (is_due c.args.frame) (IsBack (generations_of c.args.self.now.table) most) old new turns
+    (follow_turns 0 (is_due c.args.frame) (IsBack vacated (generations_of c.args.self.now.table) most) old new turns
     (follows_back 0 (generations_of c.args.self.now.table) most new))
-    (ap (λ v. v.items) c.give.ensures.coming ∙ c.requires.rest.none_coming) c.requires.rest (search rules)
+    (c.give.ensures.stays.coming ∙ c.requires.rest.none_coming) c.requires.rest (search rules)

@@ -1,4 +1,4 @@
-use Rattle.std.proofs.Common.{◌≡◌, ◌∙◌, ap, rules}
+use Rattle.std.proofs.Common.{◌≡◌, ◌∙◌, rules}
 use Rattle.descriptor_table.specs.Sets.{sets_in}
 use Rattle.descriptor_table.specs.Slots.{is_due}
 use Rattle.descriptor_table.specs.Tables.{holds, is_kept, slots_of}
@@ -52,4 +52,4 @@ returns-clause-settles g c =
     let kept = slots_of c.trim.new.self in
     let new = slots_of c.give.new.self.table in
     let all = emptied _ c.args.frame _ old aged due held kept new c.requires.rest.placed c.requires.frames c.age.ensures.slots c.settle_due.ensures.slots c.let_held_go.ensures.slots c.trim.ensures.turns.slots c.trim.ensures.few c.give.ensures.turns in
-    settled 0 c.args.self.now c.give.new.self (λ p. (all p).follows) (ap (λ v. v.items) c.give.ensures.coming ∙ c.requires.rest.none_coming) c.requires.rest (search rules)
+    settled 0 c.args.self.now c.give.new.self (λ p. (all p).follows) (c.give.ensures.stays.coming ∙ c.requires.rest.none_coming) c.requires.rest (search rules)

@@ -1,11 +1,12 @@
-use Rattle.std.proofs.Common.{◌≡◌, ◌∙◌, refl, ap, subst, rules}
+use Rattle.std.proofs.Common.{◌≡◌, ◌∙◌, refl, subst, rules}
 use Rattle.descriptor_table.specs.Sets.{sets_in}
 use Rattle.descriptor_table.specs.Slots.{slot_at}
-use Rattle.descriptor_table.specs.Tables.{generations_of, is_taken, place_at, slots_of}
+use Rattle.descriptor_table.specs.Tables.{generations_of, is_taken, place_at, slots_of, vacated, IsBack}
+use Rattle.descriptor_renderer.specs.Stores.{TurnEach}
 use Rattle.descriptor_renderer.proofs.Given.{accounted_as, exact_as}
 use Rattle.descriptor_renderer.proofs.Back.{settled_sets}
 use Rattle.descriptor_renderer.proofs.Following.{follow_each, follows_back}
-use Rattle.descriptor_renderer.proofs.Listed.{BackEach, back_each, took_named, took_sets}
+use Rattle.descriptor_renderer.proofs.Listed.{back_each, took_named, took_sets}
 use Rattle.descriptor_renderer.proofs.Settling.{settled}
 use Rattle.descriptor_renderer.proofs.store.Store.free_each.Goals.{After-settle_each}
 use Rattle.descriptor_renderer.proofs.store.Store.free_each.Goals as goal
@@ -36,9 +37,9 @@ returns-clause-frees g c = λ t.
     let once = c.if-not-take_each.ensures.once.0 refl in
     let gives = c.give.ensures in
     let each = back_each handles old (slots_of c.take_each.new.self) took c.args.self.now.table.number (generations_of c.take_each.new.self) c.take_each.new.self.most (slots_of c.settle_each.new.self) new once c.requires.rest.placed c.settle_each.ensures.slots gives.turns in
-    let few = subst (λ most. BackEach handles (generations_of c.take_each.new.self) most old new) c.take_each.ensures.stays.settings.most each in
-    let back = subst (λ generations. BackEach handles generations c.args.self.now.table.most old new) c.take_each.ensures.stays.settings.generations few in
-    record { long = back.long; named = back.named; rest = back.rest; back = gives.back }
+    let few = subst (λ most. TurnEach handles (IsBack vacated (generations_of c.take_each.new.self) most) old new) c.take_each.ensures.stays.settings.most each in
+    let back = subst (λ generations. TurnEach handles (IsBack vacated generations c.args.self.now.table.most) old new) c.take_each.ensures.stays.settings.generations few in
+    record { turns = back; back = gives.back }
 
 pub returns-clause-settles : goal.returns-clause-settles
 returns-clause-settles g c =
@@ -56,4 +57,4 @@ returns-clause-settles g c =
     follows_back 0 (generations_of c.take_each.new.self) most new (slot_at old p) (slot_at new p)
     (back.named i lt))
     back.rest)
-    (ap (λ v. v.items) c.give.ensures.coming ∙ c.requires.rest.none_coming) c.requires.rest (search rules)
+    (c.give.ensures.stays.coming ∙ c.requires.rest.none_coming) c.requires.rest (search rules)

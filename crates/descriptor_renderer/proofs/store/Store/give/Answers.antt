@@ -9,4 +9,4 @@ use Rattle.descriptor_renderer.proofs.store.Store.give.Goals as goal
 pub returns-then-none_goes : goal.returns-then-none_goes
 returns-then-none_goes g c =
     let s = c.args.self.now in
-    record { back = record { sets = []; returns = returns_none g.D.DescriptorDevice.meaning s.allocator (ledger_of s) }; turns = none_turns goes (slots_of s.table) (c.none_goes.ensures c.if-none_goes.true); keeps = search rules; stays = store_same s; coming = refl }
+    record { back = record { sets = []; returns = returns_none g.D.DescriptorDevice.meaning s.allocator (ledger_of s) }; turns = none_turns goes (slots_of s.table) (c.none_goes.ensures c.if-none_goes.true); keeps = search rules; stays = record { store = store_same s; coming = refl } }

@@ -3,7 +3,7 @@ use Rattle.gpu_descriptor.specs.Caller.Sets.{items_of}
 use Rattle.gpu_descriptor.specs.Model.Agreement.{count_of}
 use Rattle.descriptor_table.specs.Sets.{sets_in}
 use Rattle.descriptor_table.specs.Slots.{goes}
-use Rattle.descriptor_table.specs.Tables.{Stays, Turns, Vacates, slots_of}
+use Rattle.descriptor_table.specs.Tables.{Stays, Turns, Becomes, slots_of, vacated}
 use Rattle.descriptor_table.proofs.Leaving.{given_all, going_all, going_steps}
 use Rattle.descriptor_renderer.proofs.Returned.{all_count, all_many, given_count}
 use Rattle.descriptor_renderer.proofs.store.Store.give_each.Goals as goal
@@ -44,8 +44,7 @@ returns g c =
     let settings = (subst (Stays c.args.self.now.table) (sym c.end.ensures) all.2).settings in
     record {
       back = record { sets = f.sets; returns = f.returns };
-      turns = subst (λ t. Turns goes Vacates (slots_of c.args.self.now.table) (slots_of t)) (sym c.end.ensures) all.0;
+      turns = subst (λ t. Turns goes (Becomes vacated) (slots_of c.args.self.now.table) (slots_of t)) (sym c.end.ensures) all.0;
       keeps = keeps;
-      stays = record { number = settings.number; lists = settings.lists; generations = settings.generations; limit = keeps.limit; bound = keeps.most; besides = keeps.others; keeps = settings.most };
-      coming = refl;
+      stays = record { store = record { number = settings.number; lists = settings.lists; generations = settings.generations; limit = keeps.limit; bound = keeps.most; besides = keeps.others; keeps = settings.most }; coming = refl };
     }

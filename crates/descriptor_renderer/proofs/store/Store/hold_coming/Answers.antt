@@ -9,12 +9,9 @@ loop-init g c = record {
   holds = held_start c.args.layout c.args.handles.now.items c.args.self.now;
   fewer = omega arith;
   room = refl;
-  side = refl;
   own = λ known own. own;
-  sets = λ known own p x e. inl (e, refl);
-  table = c.requires.table;
-  grows = inl refl;
-  stays = store_same c.args.self.now;
+  table = c.requires.can.table;
+  keeps = record { side = refl; sets = λ known own p x e. inl (e, refl); grows = inl refl; stays = store_same c.args.self.now };
 }
 
 pub loop-preserved : goal.loop-preserved
@@ -22,13 +19,15 @@ loop-preserved g c =
     let was = c.loop.invariant in
     let now = c.hold_last.ensures in
     record {
-      holds = held_next c.args.layout c.loop.counter c.args.handles.now.items c.loop.handles.items c.hold_last.new.handles.items c.args.self.now c.loop.self c.hold_last.new.self was.stays was.holds now.holds;
+      holds = held_next c.args.layout c.loop.counter c.args.handles.now.items c.loop.handles.items c.hold_last.new.handles.items c.args.self.now c.loop.self c.hold_last.new.self was.keeps.stays was.holds now.holds;
       fewer = (let a = was.fewer in let b = now.fewer in omega arith);
       room = now.room ∙ was.room;
-      side = now.side ∙ was.side;
       own = λ known own. now.own known (was.own known own);
-      sets = λ known own. sets_then (ComesOf g.D.DescriptorDevice.meaning known c.args.layout) (slots_in c.args.self.now) (slots_in c.loop.self) (slots_in c.hold_last.new.self) (was.sets known own) (now.sets known (was.own known own));
       table = now.table;
-      grows = grow_more (number_of c.loop.self) (current_in c.args.layout c.loop.self) (now.holds.0 ∷ []) (slots_in c.args.self.now) (slots_in c.loop.self) (slots_in c.hold_last.new.self) was.grows now.grows now.holds.2;
-      stays = stays_then c.args.self.now c.loop.self c.hold_last.new.self was.stays now.stays;
+      keeps = record {
+        side = now.keeps.side ∙ was.keeps.side;
+        sets = λ known own. sets_then (ComesOf g.D.DescriptorDevice.meaning known c.args.layout) (slots_in c.args.self.now) (slots_in c.loop.self) (slots_in c.hold_last.new.self) (was.keeps.sets known own) (now.keeps.sets known (was.own known own));
+        grows = grow_more (number_of c.loop.self) (current_in c.args.layout c.loop.self) (now.holds.0 ∷ []) (slots_in c.args.self.now) (slots_in c.loop.self) (slots_in c.hold_last.new.self) was.keeps.grows now.keeps.grows now.holds.2;
+        stays = stays_then c.args.self.now c.loop.self c.hold_last.new.self was.keeps.stays now.keeps.stays;
+      };
     }

@@ -9,7 +9,7 @@ loop-init g c = record {
   holds = held_start c.args.layout c.args.handles.now.items c.args.self.now;
   fewer = omega arith;
   room = refl;
-  keeps = record { side = refl; coming = refl; sets = λ p x e. inl (e, refl); table = λ n room. room; grows = inl refl; stays = store_same c.args.self.now };
+  keeps = record { side = refl; sets = λ p x e. inl (e, refl); table = λ n room. room; grows = inl refl; stays = record { store = store_same c.args.self.now; coming = refl } };
 }
 
 pub loop-preserved : goal.loop-preserved
@@ -17,15 +17,14 @@ loop-preserved g c =
     let was = c.loop.invariant in
     let now = c.hold_next.ensures in
     record {
-      holds = held_next c.args.layout c.loop.counter c.args.handles.now.items c.loop.handles.items c.hold_next.new.handles.items c.args.self.now c.loop.self c.hold_next.new.self was.keeps.stays was.holds now.holds;
+      holds = held_next c.args.layout c.loop.counter c.args.handles.now.items c.loop.handles.items c.hold_next.new.handles.items c.args.self.now c.loop.self c.hold_next.new.self was.keeps.stays.store was.holds now.holds;
       fewer = (let a = was.fewer in let b = now.fewer in omega arith);
       room = now.room ∙ was.room;
       keeps = record {
         side = now.keeps.side ∙ was.keeps.side;
-        coming = now.keeps.coming ∙ was.keeps.coming;
         sets = kept_then NoneComes (slots_in c.args.self.now) (slots_in c.loop.self) (slots_in c.hold_next.new.self) was.keeps.sets now.keeps.sets;
         table = λ n room. now.keeps.table n (was.keeps.table n room);
         grows = grow_more (number_of c.loop.self) (current_in c.args.layout c.loop.self) (now.holds.0 ∷ []) (slots_in c.args.self.now) (slots_in c.loop.self) (slots_in c.hold_next.new.self) was.keeps.grows now.keeps.grows now.holds.2;
-        stays = stays_then c.args.self.now c.loop.self c.hold_next.new.self was.keeps.stays now.keeps.stays;
+        stays = record { store = stays_then c.args.self.now c.loop.self c.hold_next.new.self was.keeps.stays.store now.keeps.stays.store; coming = now.keeps.stays.coming ∙ was.keeps.stays.coming };
       };
     }

@@ -68,11 +68,10 @@ returns-clause-keeps g c =
     let h = (goal.at.returns-clause-keeps g c).After-hold in
     record {
       side = refl;
-      coming = refl;
       sets = search rules;
       table = table g h;
       grows = grow_kept (is_kept_of c.args.layout) c.in-Some.place (number_of c.args.self.now) c.in-Some.place Held c.hold.result
           (slots_in c.args.self.now) (slots_of c.take_kept.new.self) (slots_of c.hold.new.self) c.in-Some.ensures.slots
           (renews g h);
-      stays = search rules;
+      stays = record { store = search rules; coming = refl };
     }

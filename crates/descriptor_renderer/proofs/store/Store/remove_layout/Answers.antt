@@ -1,11 +1,10 @@
-use Rattle.std.proofs.Common.{◌≡◌, ◌<◌, ℕ, ◌∙◌, ap, sym, subst, arith, Vec, rules}
-use Rattle.std.specs.declared.alloc.Global.{Global}
+use Rattle.std.proofs.Common.{◌≡◌, ◌<◌, ℕ, ◌∙◌, ap, sym, subst, arith, rules, List}
 use Rattle.gpu_descriptor.specs.Caller.Sets.{items_of}
 use Rattle.gpu_descriptor.specs.Model.Agreement.{count_of}
 use Rattle.gpu_descriptor.specs.declared.set.DescriptorSet.{DescriptorSet}
 use Rattle.descriptor_table.specs.Sets.{sets_in}
 use Rattle.descriptor_table.specs.Slots.{goes, is_kept_of}
-use Rattle.descriptor_table.specs.Tables.{Turns, Vacates, removed_at, slots_of}
+use Rattle.descriptor_table.specs.Tables.{Turns, Becomes, removed_at, slots_of, vacated}
 use Rattle.descriptor_renderer.specs.Stores.{slots_in}
 use Rattle.descriptor_renderer.proofs.Given.{accounted_as, exact_as}
 use Rattle.descriptor_renderer.proofs.Following.{follow_turns, follows_vacated}
@@ -16,11 +15,11 @@ use Rattle.descriptor_renderer.proofs.store.Store.remove_layout.Goals as goal
 use Rattle.descriptor_renderer.proofs.store.Store.remove_layout.Goals.{After-give, After-remove_layout}
 
 same_sets : (g : Over) (c : After-remove_layout g) → sets_in (slots_of c.remove_layout.new.self) ≡ sets_in (slots_in c.args.self.now)
-same_sets g c = ap (λ v. sets_in v.items) c.remove_layout.ensures.slots ∙ left_sets c.args.layout (slots_in c.args.self.now) (slots_of c.let_kept_go.new.self) c.let_kept_go.ensures.turns.slots
+same_sets g c = ap (λ v. sets_in v.items) c.remove_layout.ensures.only.slots ∙ left_sets c.args.layout (slots_in c.args.self.now) (slots_of c.let_kept_go.new.self) c.let_kept_go.ensures.turns.slots
 
-turns : (g : Over) (c : After-give g) → Turns (is_kept_of c.args.layout) Vacates (slots_in c.args.self.now) (slots_in c.give.new.self)
+turns : (g : Over) (c : After-give g) → Turns (is_kept_of c.args.layout) (Becomes vacated) (slots_in c.args.self.now) (slots_in c.give.new.self)
 turns g c =
-    let gives = subst (λ v. Turns goes Vacates v.items (slots_in c.give.new.self)) c.remove_layout.ensures.slots c.give.ensures.turns in
+    let gives = subst (λ v. Turns goes (Becomes vacated) v.items (slots_in c.give.new.self)) c.remove_layout.ensures.only.slots c.give.ensures.turns in
     removed_turns c.args.layout (slots_in c.args.self.now) (slots_of c.let_kept_go.new.self) (slots_in c.give.new.self) c.requires.rest.placed c.let_kept_go.ensures.turns.slots gives
 
 pub invariant_of-self-clause-exact : goal.invariant_of-self-clause-exact
@@ -39,17 +38,17 @@ returns-clause-removes g c =
     let gives = c.give.ensures in
     record {
       turns = turns g c;
-      generations = c.give.ensures.stays.generations ∙ c.remove_layout.ensures.settings.generations ∙ ap (removed_at c.args.layout) c.let_kept_go.ensures.turns.stays.settings.generations;
+      generations = c.give.ensures.stays.store.generations ∙ c.remove_layout.ensures.only.settings.generations ∙ ap (removed_at c.args.layout) c.let_kept_go.ensures.turns.stays.settings.generations;
       past = λ p at.
           let under = given_under c.args.layout mid new gives.turns p in
           let less = c.remove_layout.ensures.past p (ap (λ (u : ℕ × ℕ). u.0) (sym under) ∙ at) in
           let same = ap (λ (u : ℕ × ℕ). u.1) under in
-          let most = ap (λ (generations : ℕ → ℕ). generations c.args.layout) c.give.ensures.stays.generations in
+          let most = ap (λ (generations : ℕ → ℕ). generations c.args.layout) c.give.ensures.stays.store.generations in
           omega arith;
       back = gives.back;
       gave = λ t. (
-          let coming = λ (v : Vec (DescriptorSet g.row.S.Denot) Global). count_of t (items_of g.D.DescriptorDevice.meaning.set_name v.items) in
-          let none = ap coming c.give.ensures.coming in
+          let coming = λ (l : List (DescriptorSet g.row.S.Denot)). count_of t (items_of g.D.DescriptorDevice.meaning.set_name l) in
+          let none = ap coming c.give.ensures.stays.coming in
           let was = c.args.self.now.exact t in
           let is = c.give.new.self.exact t in
           let back = gives.back.returns.back.returned t in
@@ -61,4 +60,4 @@ pub returns-clause-settles : goal.returns-clause-settles
 returns-clause-settles g c =
     let old = slots_in c.args.self.now in
     let new = slots_in c.give.new.self in
-    settled 0 c.args.self.now c.give.new.self (follow_turns 0 (is_kept_of c.args.layout) Vacates old new (turns g c) (λ o n e. follows_vacated 0 o n e)) (ap (λ v. v.items) c.give.ensures.coming ∙ c.requires.rest.none_coming) c.requires.rest (search rules)
+    settled 0 c.args.self.now c.give.new.self (follow_turns 0 (is_kept_of c.args.layout) (Becomes vacated) old new (turns g c) (λ o n e. follows_vacated 0 o n e)) (c.give.ensures.stays.coming ∙ c.requires.rest.none_coming) c.requires.rest (search rules)

@@ -1,9 +1,8 @@
 use Rattle.std.proofs.Common.{◌≡◌, ◌+◌, ◌-◌, ◌∙◌, ap, subst, arith, rules}
 use Rattle.descriptor_table.specs.Sets.{sets_in}
 use Rattle.descriptor_table.specs.Slots.{goes, is_in}
-use Rattle.descriptor_table.specs.Tables.{Turns, Vacates, count, is_kept, slots_of}
+use Rattle.descriptor_table.specs.Tables.{Turns, Becomes, count, is_kept, slots_of, vacated, MayBecome}
 use Rattle.descriptor_table.proofs.Counts.{chain_count}
-use Rattle.descriptor_renderer.specs.Stores.{MayLeave}
 use Rattle.descriptor_renderer.proofs.Given.{accounted_as, exact_as}
 use Rattle.descriptor_renderer.proofs.Back.{given_kept, left}
 use Rattle.descriptor_renderer.proofs.Cleaned.{gone_sets}
@@ -37,13 +36,13 @@ returns-clause-trims g c =
     let old = slots_of c.args.self.now.table in
     let new = slots_of c.give.new.self.table in
     let gives = c.give.ensures in
-    let turns = subst (λ v. Turns goes Vacates v.items new) c.set_most.ensures.slots gives.turns in
+    let turns = subst (λ v. Turns goes (Becomes vacated) v.items new) c.set_most.ensures.slots gives.turns in
     record { turns = left old (slots_of c.trim.new.self) new (none_goes old c.requires.rest.placed) c.trim.ensures.turns.slots turns; back = gives.back }
 
 pub returns-clause-few : goal.returns-clause-few
 returns-clause-few g c = λ layout.
     let new = slots_of c.give.new.self.table in
-    let turns = subst (λ v. Turns goes Vacates v.items new) c.set_most.ensures.slots c.give.ensures.turns in
+    let turns = subst (λ v. Turns goes (Becomes vacated) v.items new) c.set_most.ensures.slots c.give.ensures.turns in
     let same = given_kept (slots_of c.trim.new.self) new turns (layout + 2) (omega arith) in
     let few = c.trim.ensures.few layout in
     omega arith
@@ -52,6 +51,6 @@ pub returns-clause-settles : goal.returns-clause-settles
 returns-clause-settles g c =
     let old = slots_of c.args.self.now.table in
     let new = slots_of c.give.new.self.table in
-    let turns = subst (λ v. Turns goes Vacates v.items new) c.set_most.ensures.slots c.give.ensures.turns in
+    let turns = subst (λ v. Turns goes (Becomes vacated) v.items new) c.set_most.ensures.slots c.give.ensures.turns in
     let all = left old (slots_of c.trim.new.self) new (none_goes old c.requires.rest.placed) c.trim.ensures.turns.slots turns in
-    settled 0 c.args.self.now c.give.new.self (follow_turns 0 is_kept MayLeave old new all (follows_left 0 new)) (ap (λ v. v.items) c.give.ensures.coming ∙ c.requires.rest.none_coming) c.requires.rest (search rules)
+    settled 0 c.args.self.now c.give.new.self (follow_turns 0 is_kept (MayBecome vacated) old new all (follows_left 0 new)) (c.give.ensures.stays.coming ∙ c.requires.rest.none_coming) c.requires.rest (search rules)

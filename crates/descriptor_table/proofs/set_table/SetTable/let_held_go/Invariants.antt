@@ -1,13 +1,14 @@
 use Rattle.std.proofs.Common.{◌≡◌, ◌<◌, ℕ, false}
 use Rattle.descriptor_table.specs.Slots.{slot_at}
-use Rattle.descriptor_table.specs.Tables.{Leaves, Stays, holds, slots_of}
+use Rattle.descriptor_table.specs.Tables.{Becomes, Stays, holds, slots_of, used_for}
 use Rattle.descriptor_table.proofs.Turning.{Turning}
+use Rattle.descriptor_table.specs.declared.slot.Use.TheVariants.{Going}
 use Rattle.descriptor_table.proofs.set_table.SetTable.let_held_go.Given as goal
 
 -- the held sets of the first slots go
 abbrev pub invariant-loop-place : goal.invariant-loop-place
 invariant-loop-place g l = record {
-  turning : Turning holds Leaves (slots_of l.fn.self) (slots_of l.self);
+  turning : Turning holds (Becomes (used_for Going)) (slots_of l.fn.self) (slots_of l.self);
   done : (p : ℕ) → p < l.place → holds (slot_at (slots_of l.self) p) ≡ false;
   stays : Stays l.fn.self l.self;
 }

@@ -26,9 +26,13 @@ loop-index-preserved g c = record {
   stays = stays_more c.args.self.now c.loop-index.self c.assign.new.self c.loop-index.invariant.stays c.assign.ensures.stays;
 }
 
-pub returns-clause-back : goal.returns-clause-back
-returns-clause-back g c before took =
+pub returns : goal.returns
+returns g c =
     let end = c.loop-index-test.false in
     let le = c.loop-index.auto.index-end in
     let same : c.loop-index.index ≡ c.args.count = omega arith in
-    put_all c.args.handles.now c.args.count before (slots_of c.loop-index.self) (subst (λ m. PutSome c.args.handles.now c.args.count m before (slots_of c.loop-index.self)) same (c.loop-index.invariant.put before took))
+    let inv = c.loop-index.invariant in
+    record {
+      slots = λ before took. put_all c.args.handles.now c.args.count before (slots_of c.loop-index.self) (subst (λ m. PutSome c.args.handles.now c.args.count m before (slots_of c.loop-index.self)) same (inv.put before took));
+      stays = inv.stays;
+    }

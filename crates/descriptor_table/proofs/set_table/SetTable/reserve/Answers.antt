@@ -26,7 +26,7 @@ returns-then-additional-vacant-clause-room g c =
 pub returns-clause-room : goal.returns-clause-room
 returns-clause-room g c =
     let same = vacant g (goal.at.returns-clause-room g c).After-chain-vacant in
-    let usable = ap (count is_usable) c.reserve_slots.ensures.slots in
+    let usable = ap (count is_usable) c.reserve_slots.ensures.only.slots in
     subst (λ (n : ℕ). OnOk c.reserve_slots.result (HasPlaces n c.reserve_slots.new.self)) (omega arith) c.reserve_slots.ensures.room
 
 pub returns-clause-fits : goal.returns-clause-fits

@@ -1,6 +1,6 @@
 use Rattle.std.proofs.Common.{◌≤◌, ◌∙◌, refl, sym, subst, ap}
 use Rattle.descriptor_table.specs.Slots.{is_in, slot_at}
-use Rattle.descriptor_table.specs.Tables.{MayGo, Turns, count, slots_of, used_for}
+use Rattle.descriptor_table.specs.Tables.{MayBecome, Turns, count, slots_of, used_for}
 use Rattle.descriptor_table.specs.declared.slot.Use.TheVariants.{Going, Taken}
 use Rattle.descriptor_table.proofs.Turning.{Goes, going_out, one_fewer, stays_more, turn_some, turn_step, use_again}
 use Rattle.descriptor_table.proofs.Listed.{with_use}
@@ -32,7 +32,7 @@ pub returns-clause-turns : goal.returns-clause-turns
 returns-clause-turns g c =
     let picks = c.in_default.ensures in
     record {
-      slots = subst (Turns (is_in c.args.list) MayGo (slots_of c.args.self.now)) (sym picks.slots.1) (turn_some (is_in c.args.list) (slots_of c.args.self.now) (slots_of c.loop-place.self) c.loop-place.invariant.turning);
+      slots = subst (Turns (is_in c.args.list) (MayBecome (used_for Going)) (slots_of c.args.self.now)) (sym picks.slots.1) (turn_some (is_in c.args.list) (slots_of c.args.self.now) (slots_of c.loop-place.self) c.loop-place.invariant.turning);
       stays = stays_more c.args.self.now c.loop-place.self c.pick_above.new.self c.loop-place.invariant.stays picks.stays;
     }
 

@@ -1,14 +1,14 @@
 use Rattle.descriptor_table.specs.declared.slot.Use.TheVariants.{Waits}
 use Rattle.std.proofs.Common.{refl, ◌≡◌, false, length, inl, inr, sym, subst, ap, arith}
 use Rattle.descriptor_table.specs.Slots.{slot_at}
-use Rattle.descriptor_table.specs.Tables.{WaitsFor, is_taken, place_at, slots_of}
+use Rattle.descriptor_table.specs.Tables.{Becomes, is_taken, place_at, slots_of, used_for}
 use Rattle.descriptor_table.proofs.Counting.{same_or}
 use Rattle.descriptor_table.proofs.Turning.{none_taken, stays_more, stays_same, turn_end, turn_start, use_one}
 use Rattle.descriptor_table.proofs.set_table.SetTable.wait_each.Goals as goal
 
 pub loop-index-init : goal.loop-index-init
 loop-index-init g c = record {
-  turning = turn_start is_taken (WaitsFor c.args.frame) (slots_of c.args.self.now);
+  turning = turn_start is_taken (Becomes (used_for (Waits c.args.frame))) (slots_of c.args.self.now);
   done = λ i lt. absurd (omega arith);
   stays = stays_same c.args.self.now;
 }
@@ -46,6 +46,6 @@ returns g c =
     let now = slots_of c.loop-index.self in
     let end = c.loop-index-test.false in
     record {
-      slots = turn_end is_taken (WaitsFor c.args.frame) old now inv.turning (none_taken (WaitsFor c.args.frame) (length c.args.handles.now) (place_at c.args.handles.now) old now inv.turning (λ o m w. ap is_taken w) c.requires.taken.all (λ i lt. inv.done i (omega arith)));
+      slots = turn_end is_taken (Becomes (used_for (Waits c.args.frame))) old now inv.turning (none_taken (Becomes (used_for (Waits c.args.frame))) (length c.args.handles.now) (place_at c.args.handles.now) old now inv.turning (λ o m w. ap is_taken w) c.requires.taken.all (λ i lt. inv.done i (omega arith)));
       stays = inv.stays;
     }
