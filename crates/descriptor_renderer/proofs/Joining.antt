@@ -5,7 +5,7 @@ use Rattle.std.proofs.lemmas.List.{get_or-append-add, append-nil, get_or_append_
 use Rattle.gpu_descriptor_types.specs.declared.device.DescriptorDevice.{Ghosts}
 use Rattle.gpu_descriptor.specs.declared.set.DescriptorSet.{DescriptorSet}
 use Rattle.descriptor_table.specs.Slots.{frame_in, is_live, slot_at, waits_for}
-use Rattle.descriptor_table.specs.Sets.{find, is_given}
+use Rattle.descriptor_table.specs.Sets.{NameEach, find, is_given, sets_of}
 use Rattle.descriptor_table.specs.Tables.{came_under, current, holds, is_held_use, place_at}
 use Rattle.descriptor_table.specs.declared.handle.SetHandle.{SetHandle}
 use Rattle.descriptor_table.specs.declared.slot.Slot.{Slot}
@@ -13,7 +13,7 @@ use Rattle.descriptor_table.specs.declared.slot.Use.{Use}
 use Rattle.descriptor_table.specs.declared.slot.Use.TheVariants.{Held, Drawn, Waits, Kept, Going, Taken, Vacant}
 use Rattle.descriptor_table.proofs.Chains.{and_true}
 use Rattle.descriptor_table.proofs.Holding.{named_or}
-use Rattle.descriptor_renderer.specs.Stores.{AreNamed, HoldEach, NoneComes, SetsCome, KeepsStore, current_in, is_free, number_of, slots_in}
+use Rattle.descriptor_renderer.specs.Stores.{HoldEach, NoneComes, SetsCome, KeepsStore, current_in, is_free, number_of, slots_in}
 use Rattle.descriptor_renderer.specs.declared.store.Store.{Store}
 use Rattle.descriptor_renderer.proofs.Arriving.{Arrives, arrives_then, clears_arrives, same_arrives, used_placed}
 use Rattle.descriptor_renderer.proofs.Cleared.{Clears}
@@ -172,16 +172,13 @@ module _ {T : Type 0} where
         let held = held_is n (x.held i lt) in
         subst (λ h. IsSome (find number frame opened new h)) (sym (x.is i d lt)) (subst IsSome (sym (seen_next number frame opened q (slot_at mid q) n (x.generation i lt) (ap (is_live frame opened) held.0))) held.1)
 
-    pub are_named : AreNamed number layout handles old new
-    are_named = record {
-      of_layout = x.of_layout;
-      names = λ frame opened. record {
-        never = λ i d lt. subst (λ h. is_given number old h ≡ false) (sym (x.is i d lt)) (let q = place_at handles i in sym (given_clear number (slot_at old q) (slot_at mid q) (next_of number q (slot_at mid q)) (clear q)) ∙ given_never number q (slot_at mid q));
-        once = λ i j d lt less e. x.apart i j lt less (ap (λ (h : SetHandle). h.place) (sym (x.is i d (omega arith)) ∙ e ∙ x.is j d less));
-        given = λ i d lt. subst (λ h. is_given number new h ≡ true) (sym (x.is i d lt)) (let q = place_at handles i in given_next number q (slot_at mid q) (slot_at new q) (x.generation i lt));
-        named = names_set frame opened;
-        others = others_keep frame opened;
-      };
+    pub are_named : (frame : ℕ) (opened : Bool) → NameEach handles (sets_of number frame opened old) (sets_of number frame opened new)
+    are_named frame opened = record {
+      never = λ i d lt. subst (λ h. is_given number old h ≡ false) (sym (x.is i d lt)) (let q = place_at handles i in sym (given_clear number (slot_at old q) (slot_at mid q) (next_of number q (slot_at mid q)) (clear q)) ∙ given_never number q (slot_at mid q));
+      once = λ i j d lt less e. x.apart i j lt less (ap (λ (h : SetHandle). h.place) (sym (x.is i d (omega arith)) ∙ e ∙ x.is j d less));
+      given = λ i d lt. subst (λ h. is_given number new h ≡ true) (sym (x.is i d lt)) (let q = place_at handles i in given_next number q (slot_at mid q) (slot_at new q) (x.generation i lt));
+      named = names_set frame opened;
+      others = others_keep frame opened;
     }
 
 module _ {S : Type 0} where

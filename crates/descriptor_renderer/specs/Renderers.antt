@@ -7,8 +7,6 @@ use Rattle.gpu_descriptor_types.specs.declared.device.DescriptorDevice.{Ghosts}
 use Rattle.gpu_descriptor.specs.Caller.Call.{layout_key}
 use Rattle.gpu_descriptor.specs.Caller.Values.{Allocations}
 use Rattle.gpu_descriptor.specs.Model.Books.{BucketOf, books_of}
-use Rattle.gpu_descriptor.specs.declared.errors.AllocationError.{AllocationError}
-use Rattle.gpu_descriptor.specs.declared.errors.AllocationError.TheVariants.{OutOfHostMemory}
 use Rattle.gpu_descriptor.specs.declared.layout.SetLayout.{SetLayout}
 use Rattle.gpu_descriptor.specs.declared.set.DescriptorSet.{DescriptorSet}
 use Rattle.descriptor_table.specs.Sets.{NameEach, Names, Sets, sets_of, AreHeldOnce, LoseNames}
@@ -24,7 +22,6 @@ use Rattle.descriptor_renderer.specs.declared.errors.RenderError.{RenderError}
 use Rattle.descriptor_renderer.specs.declared.errors.RenderError.TheVariants.{NoFrame, NoLayout}
 use Rattle.descriptor_renderer.specs.declared.errors.DestroyError.{DestroyError}
 use Rattle.descriptor_renderer.specs.declared.errors.DestroyError.TheVariants.{FrameAhead, NoSet}
-use Rattle.descriptor_renderer.specs.declared.store.Store.{Store}
 
 -- what a caller sees of a renderer
 pub record Rendering (L P S : Type 0) : Type 0 where
@@ -47,80 +44,84 @@ pub record Rendering (L P S : Type 0) : Type 0 where
   -- how many descriptors a new pool has at most, unless what is wanting needs more
   pub bound : Option ℕ
 
+-- a renderer over a device
+abbrev pub RendererOver : {L P S D : Type 0} → Ghosts D L P S → Type 0
+RendererOver {L} {P} {S} {D} d = Renderer L P S D d
+
 module _ {L P S D : Type 0} {d : Ghosts D L P S} where
   -- the sets, the allocator and the device
-  abbrev pub store_of : Renderer L P S D d → Store L P S D d
+  abbrev pub store_of : RendererOver d → stores.StoreOver d
   store_of r = r.store
 
   -- the number that its handles have, of sets and of layouts
-  abbrev pub number_of : Renderer L P S D d → ℕ
+  abbrev pub number_of : RendererOver d → ℕ
   number_of r = r.renderer
 
   -- the slots of the layouts
-  abbrev pub layouts_in : Renderer L P S D d → List (Slot (SetLayout L))
+  abbrev pub layouts_in : RendererOver d → List (Slot (SetLayout L))
   layouts_in r = layout_slots r.layouts
 
   -- the layout of a handle. None if the renderer did not give the handle, or the layout was removed
-  abbrev pub layout_of : Renderer L P S D d → LayoutHandle → Option (SetLayout L)
+  abbrev pub layout_of : RendererOver d → LayoutHandle → Option (SetLayout L)
   layout_of r = layout_at r.layouts
 
   -- whether a handle was ever given for a layout
-  abbrev pub layout_given : Renderer L P S D d → LayoutHandle → Bool
+  abbrev pub layout_given : RendererOver d → LayoutHandle → Bool
   layout_given r h = (layouts_by r.layouts).given h.slot
 
   -- the frame that was opened last, 0 before the first
-  abbrev pub frame_of : Renderer L P S D d → ℕ
+  abbrev pub frame_of : RendererOver d → ℕ
   frame_of r = r.frame
 
-  abbrev pub is_open : Renderer L P S D d → Bool
+  abbrev pub is_open : RendererOver d → Bool
   is_open r = r.is_open
 
   -- the slots of all sets
-  abbrev pub slots_of : Renderer L P S D d → List (Slot (DescriptorSet S))
+  abbrev pub slots_of : RendererOver d → List (Slot (DescriptorSet S))
   slots_of r = stores.slots_in r.store
 
   -- the sets by handle: those that are held, and those of the open frame
-  abbrev pub sets_by : Renderer L P S D d → Sets (DescriptorSet S)
+  abbrev pub sets_by : RendererOver d → Sets (DescriptorSet S)
   sets_by r = sets_of r.renderer r.frame r.is_open (slots_of r)
 
   -- how many layouts of each number were removed
-  abbrev pub generations_of : Renderer L P S D d → ℕ → ℕ
+  abbrev pub generations_of : RendererOver d → ℕ → ℕ
   generations_of r = stores.generations_in r.store
 
   -- how many sets of a layout are kept
-  abbrev pub kept_of : LayoutHandle → Renderer L P S D d → ℕ
+  abbrev pub kept_of : LayoutHandle → RendererOver d → ℕ
   kept_of layout r = stores.kept_of layout.slot.place r.store
 
   -- how many sets of a layout are kept at most
-  abbrev pub most_of : Renderer L P S D d → ℕ
+  abbrev pub most_of : RendererOver d → ℕ
   most_of r = stores.most_of r.store
 
   -- the ledger of the device
-  abbrev pub ledger_in : Renderer L P S D d → Ledger
+  abbrev pub ledger_in : RendererOver d → Ledger
   ledger_in r = d.ledger r.store.device
 
   -- the live pools of the device that are none of the renderer's
-  abbrev pub pools_besides : Renderer L P S D d → ℕ → Option Pool
+  abbrev pub pools_besides : RendererOver d → ℕ → Option Pool
   pools_besides r = stores.pools_besides r.store
 
   -- the allocator, and the ledger of the device
-  abbrev pub side_of : Renderer L P S D d → Side (Allocations P)
+  abbrev pub side_of : RendererOver d → Side (Allocations P)
   side_of r = stores.side_of r.store
 
   -- the limit on update-after-bind descriptors
-  abbrev pub limit_of : Renderer L P S D d → ℕ
+  abbrev pub limit_of : RendererOver d → ℕ
   limit_of r = stores.limit_of r.store
 
   -- how many descriptors a new pool has at most, unless what is wanting needs more
-  abbrev pub bound_of : Renderer L P S D d → Option ℕ
+  abbrev pub bound_of : RendererOver d → Option ℕ
   bound_of r = stores.bound_of r.store
 
   -- the last frame that the device can be done with, of those up to this one: the open frame is none of them
-  abbrev pub done_of : ℕ → Renderer L P S D d → ℕ
+  abbrev pub done_of : ℕ → RendererOver d → ℕ
   done_of frame r = if r.is_open then min frame (r.frame - 1) else frame
 
   -- what stays at a call is said of all of it at once, but for the fields that the call may change
-  abbrev pub seen : Renderer L P S D d → Rendering L P S
+  abbrev pub seen : RendererOver d → Rendering L P S
   seen r = record {
     number = number_of r;
     layouts = layout_of r;
@@ -137,39 +138,34 @@ module _ {L P S D : Type 0} {d : Ghosts D L P S} where
   }
 
   -- all that is seen stays, but for the slots of sets, and their pools
-  abbrev pub OnlySetsChange : Renderer L P S D d → Renderer L P S D d → Type 0
+  abbrev pub OnlySetsChange : RendererOver d → RendererOver d → Type 0
   OnlySetsChange old new = seen new ≡ record (seen old) { slots = slots_of new; side = side_of new }
 
   -- a set of the layout has the handle, which was never given; each other handle names what it named
-  pub record Comes (layout : L) (handle : SetHandle) (old new : Renderer L P S D d) : Type 0 where
+  pub record Comes (layout : L) (handle : SetHandle) (old new : RendererOver d) : Type 0 where
     pub set : DescriptorSet S
     pub own : IsOfLayout d.meaning layout set.raw
     pub names : Names handle set (sets_by old) (sets_by new)
 
   -- sets of the layout have the handles, none of which was ever given; each other handle names what it named
-  pub record ComeEach (layout : L) (handles : List SetHandle) (old new : Renderer L P S D d) : Type 0 where
+  pub record ComeEach (layout : L) (handles : List SetHandle) (old new : RendererOver d) : Type 0 where
     pub names : NameEach handles (sets_by old) (sets_by new)
     pub own : (i : ℕ) (e : SetHandle) (x : DescriptorSet S) → i < length handles → (sets_by new).set (slice_index_or handles i e) ≡ Some x → IsOfLayout d.meaning layout x.raw
 
-  -- an allocation failed before the allocator was asked, and nothing changed
-  pub record HasNoMemory (error : AllocationError) (old new : Renderer L P S D d) : Type 0 where
-    pub is : error ≡ OutOfHostMemory
-    pub seen : seen new ≡ seen old
-
   -- sets may come: on an error each handle names what it named, and there are more slots only if each has a set
-  pub record SetsMayCome {R : Type 0} (result : Result R RenderError) (old new : Renderer L P S D d) : Type 0 where
+  pub record SetsMayCome {R : Type 0} (result : Result R RenderError) (old new : RendererOver d) : Type 0 where
     pub stay : OnErr result (sets_by new ≡ sets_by old)
     pub grows : Grows (slots_of old) (slots_of new)
     pub rest : OnlySetsChange old new
 
   -- all that is needed is the layout. Without it nothing changes
-  pub record NeedsLayout {R : Type 0} (layout : LayoutHandle) (result : Result R RenderError) (old new : Renderer L P S D d) : Type 0 where
+  pub record NeedsLayout {R : Type 0} (layout : LayoutHandle) (result : Result R RenderError) (old new : RendererOver d) : Type 0 where
     pub no_frame : ¬ (IsErrOf result NoFrame)
     pub no_layout : (IsErrOf result NoLayout) ↔ (layout_of old layout ≡ None)
     pub early : IsErrOf result NoLayout → seen new ≡ seen old
 
   -- the sets wait for the frame, and their handles name nothing, unless a handle has no held set, or is there twice, or the frame wasn't opened yet
-  pub record Destroys (handles : List SetHandle) (frame : ℕ) (result : Result Unit DestroyError) (old new : Renderer L P S D d) : Type 0 where
+  pub record Destroys (handles : List SetHandle) (frame : ℕ) (result : Result Unit DestroyError) (old new : RendererOver d) : Type 0 where
     pub waits : OnOk result (stores.TurnEach handles (Becomes (used_for (Waits frame))) (slots_of old) (slots_of new))
     pub names : OnOk result (LoseNames handles (sets_by old) (sets_by new))
     pub once : OnOk result (AreHeldOnce (number_of old) (slots_of old) handles)
@@ -179,5 +175,5 @@ module _ {L P S D : Type 0} {d : Ghosts D L P S} where
     pub rest : seen new ≡ record (seen old) { slots = slots_of new }
 
   -- the pools for sets of layouts that have the key of this one
-  abbrev pub pools_for : L → Renderer L P S D d → BucketOf P
+  abbrev pub pools_for : L → RendererOver d → BucketOf P
   pools_for layout r = books_of (side_of r).value.table (layout_key d.meaning layout)

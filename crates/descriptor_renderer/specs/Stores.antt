@@ -18,7 +18,7 @@ use Rattle.gpu_descriptor.specs.declared.errors.AllocationError.{AllocationError
 use Rattle.gpu_descriptor.specs.declared.errors.AllocationError.TheVariants.{OutOfHostMemory}
 use Rattle.gpu_descriptor.specs.declared.layout.SetLayout.{SetLayout}
 use Rattle.gpu_descriptor.specs.declared.set.DescriptorSet.{DescriptorSet}
-use Rattle.descriptor_table.specs.Sets.{NameEach, Names, sets_in, sets_of}
+use Rattle.descriptor_table.specs.Sets.{Names, sets_in, sets_of}
 use Rattle.descriptor_table.specs.Slots.{frame_of, is_kept_of, is_live, slot_at, frame_in}
 use Rattle.descriptor_table.specs.Tables.{Grows, HasRoom, Picks, Puts, Renews, Turns, Becomes, aged, came_under, count, current, generations_of, holds, is_kept, place_at, lists_of, removed_at, slots_of, vacated, waits, MayBecome, IsBack}
 use Rattle.descriptor_table.specs.declared.handle.SetHandle.{SetHandle}
@@ -72,11 +72,6 @@ pub record HoldAtLast {T : Type 0} (number : ℕ) (layout : ℕ × ℕ) (handles
   pub cleared : (mid ≡ old) ⊎ AreCleaned old mid
   pub holds : HoldEach number layout handles mid new
 
--- so many sets, each held, have handles that were never given
-pub record AreNamed {T : Type 0} (number : ℕ) (layout : ℕ × ℕ) (handles : List SetHandle) (old new : List (Slot T)) : Type 0 where
-  pub of_layout : (i : ℕ) → i < length handles → came_under (slot_at new (place_at handles i)) ≡ layout
-  pub names : (frame : ℕ) (opened : Bool) → NameEach handles (sets_of number frame opened old) (sets_of number frame opened new)
-
 -- no set comes
 abbrev pub NoneComes : {S : Type 0} → ℕ → DescriptorSet S → Type 0
 NoneComes layout x = ⊥
@@ -100,68 +95,72 @@ abbrev pub lists_for : ℕ → ℕ
 lists_for zero = 0
 lists_for (suc n) = n + 3
 
+-- a store over a device
+abbrev pub StoreOver : {L P S D : Type 0} → Ghosts D L P S → Type 0
+StoreOver {L} {P} {S} {D} d = Store L P S D d
+
 module _ {L P S D : Type 0} {d : Ghosts D L P S} where
-  abbrev pub slots_in : Store L P S D d → List (Slot (DescriptorSet S))
+  abbrev pub slots_in : StoreOver d → List (Slot (DescriptorSet S))
   slots_in s = slots_of s.table
 
   -- the allocator, and the ledger of the device
-  abbrev pub side_of : Store L P S D d → Side (Allocations P)
+  abbrev pub side_of : StoreOver d → Side (Allocations P)
   side_of s = side s.allocator (d.ledger s.device)
 
-  abbrev pub ledger_of : Store L P S D d → Ledger
+  abbrev pub ledger_of : StoreOver d → Ledger
   ledger_of s = d.ledger s.device
 
   -- the limit of the allocator
-  abbrev pub limit_of : Store L P S D d → ℕ
+  abbrev pub limit_of : StoreOver d → ℕ
   limit_of s = s.allocator.limit
 
   -- how many descriptors a new pool has at most, unless what is wanting needs more
-  abbrev pub bound_of : Store L P S D d → Option ℕ
+  abbrev pub bound_of : StoreOver d → Option ℕ
   bound_of s = s.allocator.most
 
   -- the number that tells the handles of the table from those of others
-  abbrev pub number_of : Store L P S D d → ℕ
+  abbrev pub number_of : StoreOver d → ℕ
   number_of s = s.table.number
 
   -- how many sets of a layout are kept at most
-  abbrev pub most_of : Store L P S D d → ℕ
+  abbrev pub most_of : StoreOver d → ℕ
   most_of s = s.table.most
 
   -- how many lists the table has
-  abbrev pub lists_in : Store L P S D d → ℕ
+  abbrev pub lists_in : StoreOver d → ℕ
   lists_in s = lists_of s.table
 
   -- how many layouts of each number were removed
-  abbrev pub generations_in : Store L P S D d → ℕ → ℕ
+  abbrev pub generations_in : StoreOver d → ℕ → ℕ
   generations_in s = generations_of s.table
 
   -- the layout that has the number now
-  abbrev pub current_in : ℕ → Store L P S D d → ℕ × ℕ
+  abbrev pub current_in : ℕ → StoreOver d → ℕ × ℕ
   current_in layout s = current (generations_in s) layout
 
   -- the layout of this number was added to the table
-  abbrev pub HasLayout : ℕ → Store L P S D d → Type 0
+  abbrev pub HasLayout : ℕ → StoreOver d → Type 0
   HasLayout layout s = layout + 2 < lists_in s
 
   -- the sets that a request has before they are in the table
-  abbrev pub coming_in : Store L P S D d → List (DescriptorSet S)
+  abbrev pub coming_in : StoreOver d → List (DescriptorSet S)
   coming_in s = s.coming.items
 
   -- the live pools of the device that are none of the allocator's
-  abbrev pub pools_besides : Store L P S D d → ℕ → Option Pool
+  abbrev pub pools_besides : StoreOver d → ℕ → Option Pool
   pools_besides s = others_of d.meaning.pool_name s.allocator (d.ledger s.device)
 
   -- how many sets of the layout are kept
-  abbrev pub kept_of : ℕ → Store L P S D d → ℕ
+  abbrev pub kept_of : ℕ → StoreOver d → ℕ
   kept_of layout s = count (is_kept_of layout) (slots_in s)
 
   -- no set is on its way, and each is held, waits for a frame, or is kept
-  pub record IsAtRest (s : Store L P S D d) : Type 0 where
+  pub record IsAtRest (s : StoreOver d) : Type 0 where
     pub none_coming : coming_in s ≡ []
     pub placed : (p : ℕ) → is_placed (slot_at (slots_in s) p) ≡ true
 
   -- number, lists, limit and bound, and what is none of the allocator's are as they were. So many layouts of each number were removed, and so many sets of a layout are kept at most
-  pub record StoreStays (removed : ℕ → ℕ) (most : ℕ) (old new : Store L P S D d) : Type 0 where
+  pub record StoreStays (removed : ℕ → ℕ) (most : ℕ) (old new : StoreOver d) : Type 0 where
     pub number : number_of new ≡ number_of old
     pub lists : lists_in new ≡ lists_in old
     pub generations : generations_in new ≡ removed
@@ -171,117 +170,117 @@ module _ {L P S D : Type 0} {d : Ghosts D L P S} where
     pub keeps : most_of new ≡ most
 
   -- all of these are as they were
-  abbrev pub KeepsStore : Store L P S D d → Store L P S D d → Type 0
+  abbrev pub KeepsStore : StoreOver d → StoreOver d → Type 0
   KeepsStore old new = StoreStays (generations_in old) (most_of old) old new
 
   -- also the sets that are on their way are as they were
-  pub record KeepsComing (old new : Store L P S D d) : Type 0 where
+  pub record KeepsComing (old new : StoreOver d) : Type 0 where
     pub store : KeepsStore old new
     pub coming : coming_in new ≡ coming_in old
 
   -- the slots, the allocator, the ledger and the sets that are on their way are as they were
-  pub record KeepsSets (old new : Store L P S D d) : Type 0 where
+  pub record KeepsSets (old new : StoreOver d) : Type 0 where
     pub slots : slots_in new ≡ slots_in old
     pub side : side_of new ≡ side_of old
     pub coming : coming_in new ≡ coming_in old
 
   -- each set was in its slot before, under its layout, or passes the test; none is on its way, and none waits for a frame later than before, and than this one
-  pub record SettlesTo (removed : ℕ → ℕ) (most : ℕ) (comes : ℕ → DescriptorSet S → Type 0) (frame : ℕ) (old new : Store L P S D d) : Type 0 where
+  pub record SettlesTo (removed : ℕ → ℕ) (most : ℕ) (comes : ℕ → DescriptorSet S → Type 0) (frame : ℕ) (old new : StoreOver d) : Type 0 where
     pub sets : SetsCome comes (slots_in old) (slots_in new)
     pub rest : IsAtRest new
     pub frames : (f : ℕ) → frame ≤ f → IsUpTo f (slots_in old) → IsUpTo f (slots_in new)
     pub stays : StoreStays removed most old new
 
-  abbrev pub Settles : (ℕ → DescriptorSet S → Type 0) → ℕ → Store L P S D d → Store L P S D d → Type 0
+  abbrev pub Settles : (ℕ → DescriptorSet S → Type 0) → ℕ → StoreOver d → StoreOver d → Type 0
   Settles comes frame old new = SettlesTo (generations_in old) (most_of old) comes frame old new
 
   -- sets of the layout, which has this number, may be asked for
-  pub record CanTake (known : SetLayout L) (number : ℕ) (s : Store L P S D d) : Type 0 where
+  pub record CanTake (known : SetLayout L) (number : ℕ) (s : StoreOver d) : Type 0 where
     pub meant : IsMeant d.meaning known
     pub layout : HasLayout number s
     pub rest : IsAtRest s
 
   -- the sets that pass the test left their slots, and were given back in one call, if there were any
-  pub record GivesBack (test : Slot (DescriptorSet S) → Bool) (old new : Store L P S D d) : Type 0 where
+  pub record GivesBack (test : Slot (DescriptorSet S) → Bool) (old new : StoreOver d) : Type 0 where
     pub back : GaveBack d.meaning (side_of old) (side_of new)
     pub turns : Turns test (Becomes vacated) (slots_in old) (slots_in new)
     pub keeps : Keeps d.meaning (side_of old) (side_of new)
     pub stays : KeepsComing old new
 
   -- sets were given back, and then all empty pools went
-  pub record Cleans (old new : Store L P S D d) : Type 0 where
+  pub record Cleans (old new : StoreOver d) : Type 0 where
     pub sets : List (DescriptorSet S)
     pub mid : Side (Allocations P)
     pub returns : Returns d.meaning sets (side_of old) mid
     pub cleans : TrimsPools d.meaning mid (side_of new)
 
   -- the allocator refused so many sets, or an allocation of the table's own failed before it was asked. All slots are as they were
-  pub record IsRefused (layout : L) (many : ℕ) (error : AllocationError) (old new : Store L P S D d) : Type 0 where
+  pub record IsRefused (layout : L) (many : ℕ) (error : AllocationError) (old new : StoreOver d) : Type 0 where
     pub slots : slots_in new ≡ slots_in old
     pub why : HandsOut d.meaning (layout_key d.meaning layout) many (Err error) (side_of old) (side_of new) ⊎ ((error ≡ OutOfHostMemory) × (side_of new ≡ side_of old))
 
   -- so many sets were refused, and then all kept sets were given back, and all empty pools went
-  pub record IsCleared (layout : L) (many : ℕ) (old new : Store L P S D d) : Type 0 where
-    pub refused : Store L P S D d
+  pub record IsCleared (layout : L) (many : ℕ) (old new : StoreOver d) : Type 0 where
+    pub refused : StoreOver d
     pub error : AllocationError
     pub first : IsRefused layout many error old refused
     pub cleaned : AreCleaned (slots_in refused) (slots_in new)
     pub cleans : Cleans refused new
 
   -- no set is kept: so many were refused, or, after a cleanup, this many
-  pub record IsRefusedAtLast (layout : L) (first last : ℕ) (error : AllocationError) (old new : Store L P S D d) : Type 0 where
+  pub record IsRefusedAtLast (layout : L) (first last : ℕ) (error : AllocationError) (old new : StoreOver d) : Type 0 where
     pub none : count is_kept (slots_in new) ≡ 0
-    pub why : IsRefused layout first error old new ⊎ ((mid : Store L P S D d) × IsCleared layout first old mid × IsRefused layout last error mid new)
+    pub why : IsRefused layout first error old new ⊎ ((mid : StoreOver d) × IsCleared layout first old mid × IsRefused layout last error mid new)
 
   -- a set of the layout came from the allocator, and is at the place
-  pub record Gets (layout : L) (number place : ℕ) (old new : Store L P S D d) : Type 0 where
+  pub record Gets (layout : L) (number place : ℕ) (old new : StoreOver d) : Type 0 where
     pub set : DescriptorSet S
     pub puts : Puts (generations_in new) number set place (slots_in old) (slots_in new)
     pub own : IsOfLayout d.meaning layout set.raw
     pub hands_out : HandsOut d.meaning (layout_key d.meaning layout) 1 (Ok (set ∷ [])) (side_of old) (side_of new)
 
   -- a set came from the allocator, at once, or after all kept sets were given back
-  abbrev pub GetsAtLast : L → ℕ → ℕ → Store L P S D d → Store L P S D d → Type 0
-  GetsAtLast layout number place old new = Gets layout number place old new ⊎ ((mid : Store L P S D d) × IsCleared layout 1 old mid × Gets layout number place mid new)
+  abbrev pub GetsAtLast : L → ℕ → ℕ → StoreOver d → StoreOver d → Type 0
+  GetsAtLast layout number place old new = Gets layout number place old new ⊎ ((mid : StoreOver d) × IsCleared layout 1 old mid × Gets layout number place mid new)
 
   -- a new set has the handle, and is in use for this
-  abbrev pub HandlesNew : L → ℕ → Use → SetHandle → Store L P S D d → Store L P S D d → Type 0
-  HandlesNew layout number u handle old new = (mid : Store L P S D d) × GetsAtLast layout number handle.place old mid × Renews (number_of old) handle.place u handle (slots_in mid) (slots_in new) × (side_of new ≡ side_of mid)
+  abbrev pub HandlesNew : L → ℕ → Use → SetHandle → StoreOver d → StoreOver d → Type 0
+  HandlesNew layout number u handle old new = (mid : StoreOver d) × GetsAtLast layout number handle.place old mid × Renews (number_of old) handle.place u handle (slots_in mid) (slots_in new) × (side_of new ≡ side_of mid)
 
   -- a kept set of the layout has the handle, and is in use for this. The device isn't called
-  pub record HandlesKept (number : ℕ) (u : Use) (handle : SetHandle) (old new : Store L P S D d) : Type 0 where
+  pub record HandlesKept (number : ℕ) (u : Use) (handle : SetHandle) (old new : StoreOver d) : Type 0 where
     pub was : is_kept_of number (slot_at (slots_in old) handle.place) ≡ true
     pub renews : Renews (number_of old) handle.place u handle (slots_in old) (slots_in new)
     pub side : side_of new ≡ side_of old
 
   -- a kept set of the layout was taken, without a call of the device
-  pub record TakesKept (number : ℕ) (result : Result ℕ AllocationError) (old new : Store L P S D d) : Type 0 where
+  pub record TakesKept (number : ℕ) (result : Result ℕ AllocationError) (old new : StoreOver d) : Type 0 where
     pub place : ℕ
     pub is : result ≡ Ok place
     pub picks : Picks (is_kept_of number) place (slots_in old) (slots_in new)
     pub side : side_of new ≡ side_of old
 
   -- so many sets of the layout came from the allocator, and are on their way to their slots
-  pub record Asks (layout : L) (many : ℕ) (old new : Store L P S D d) : Type 0 where
+  pub record Asks (layout : L) (many : ℕ) (old new : StoreOver d) : Type 0 where
     pub slots : slots_in new ≡ slots_in old
     pub own : AreOfLayout d.meaning layout (coming_in new)
     pub hands_out : HandsOut d.meaning (layout_key d.meaning layout) many (Ok (coming_in new)) (side_of old) (side_of new)
 
   -- so many sets came from the allocator, at once, or, after all kept sets were given back, as many as all
-  abbrev pub AsksAtLast : L → ℕ → ℕ → Store L P S D d → Store L P S D d → Type 0
-  AsksAtLast layout first last old new = Asks layout first old new ⊎ ((mid : Store L P S D d) × IsCleared layout first old mid × Asks layout last mid new)
+  abbrev pub AsksAtLast : L → ℕ → ℕ → StoreOver d → StoreOver d → Type 0
+  AsksAtLast layout first last old new = Asks layout first old new ⊎ ((mid : StoreOver d) × IsCleared layout first old mid × Asks layout last mid new)
 
   -- so many sets came, and the device was not called after that
-  abbrev pub BringsAtLast : L → ℕ → ℕ → Store L P S D d → Store L P S D d → Type 0
-  BringsAtLast layout first last old new = (mid : Store L P S D d) × AsksAtLast layout first last old mid × (side_of new ≡ side_of mid)
+  abbrev pub BringsAtLast : L → ℕ → ℕ → StoreOver d → StoreOver d → Type 0
+  BringsAtLast layout first last old new = (mid : StoreOver d) × AsksAtLast layout first last old mid × (side_of new ≡ side_of mid)
 
   -- the sets that pass the test came back, and those that are not kept were given back in one call, if there were any
-  pub record ComeBack (test : Slot (DescriptorSet S) → Bool) (old new : Store L P S D d) : Type 0 where
+  pub record ComeBack (test : Slot (DescriptorSet S) → Bool) (old new : StoreOver d) : Type 0 where
     pub turns : Turns test (IsBack vacated (generations_in old) (most_of old)) (slots_in old) (slots_in new)
     pub back : GaveBack d.meaning (side_of old) (side_of new)
 
   -- the kept sets of the layout were given back in one call, if there were any, and all other slots are as they were
-  pub record Removes (layout : ℕ) (old new : Store L P S D d) : Type 0 where
+  pub record Removes (layout : ℕ) (old new : StoreOver d) : Type 0 where
     pub turns : Turns (is_kept_of layout) (Becomes vacated) (slots_in old) (slots_in new)
     -- one layout more of the number was removed. Each set that is left under the number came under one of these, so it isn't kept when it comes back
     pub generations : generations_in new ≡ removed_at layout (generations_in old)
@@ -291,24 +290,24 @@ module _ {L P S D : Type 0} {d : Ghosts D L P S} where
     pub gave : (t : Item) → count_of t (items_of d.meaning.set_name (sets_in (slots_in old))) ≡ count_of t (items_of d.meaning.set_name back.sets) + count_of t (items_of d.meaning.set_name (sets_in (slots_in new)))
 
   -- the sets of the handles came back, and those that are not kept were given back in one call, if there were any
-  pub record FreesEach (handles : List SetHandle) (old new : Store L P S D d) : Type 0 where
+  pub record FreesEach (handles : List SetHandle) (old new : StoreOver d) : Type 0 where
     pub turns : TurnEach handles (IsBack vacated (generations_in old) (most_of old)) (slots_in old) (slots_in new)
     pub back : GaveBack d.meaning (side_of old) (side_of new)
 
   -- kept sets were given back in one call, if there were any, and all else is as it was
-  pub record Trims (old new : Store L P S D d) : Type 0 where
+  pub record Trims (old new : StoreOver d) : Type 0 where
     pub turns : Turns is_kept (MayBecome vacated) (slots_in old) (slots_in new)
     pub back : GaveBack d.meaning (side_of old) (side_of new)
 
   -- all sets were given back in one call, if there were any, and no handle is given again
-  pub record FreesAll (old new : Store L P S D d) : Type 0 where
+  pub record FreesAll (old new : StoreOver d) : Type 0 where
     pub long : length (slots_in new) ≡ length (slots_in old)
     pub none : (p : ℕ) → (slot_at (slots_in new) p).set ≡ None
     pub given : (p : ℕ) → (slot_at (slots_in new) p).generation ≡ (slot_at (slots_in old) p).generation
     pub back : GaveBack d.meaning (side_of old) (side_of new)
 
   -- a set of the layout has a handle, and is in use for this: one that was kept, or, if there was none, one that came
-  pub record TakesOne (layout : L) (number : ℕ) (u : Use) (result : Result SetHandle AllocationError) (old new : Store L P S D d) : Type 0 where
+  pub record TakesOne (layout : L) (number : ℕ) (u : Use) (result : Result SetHandle AllocationError) (old new : StoreOver d) : Type 0 where
     pub named : IfOk result (λ handle. IsNamed (number_of old) (current_in number old) u handle (slots_in old) (slots_in new))
     pub kept : 0 < kept_of number old → (handle : SetHandle) × (result ≡ Ok handle) × HandlesKept number u handle old new
     pub comes : kept_of number old ≡ 0 → IfOk result (λ handle. HandlesNew layout number u handle old new)
@@ -317,19 +316,19 @@ module _ {L P S D : Type 0} {d : Ghosts D L P S} where
     pub grows : Grows (slots_in old) (slots_in new)
 
   -- the sets that are on their way can be held, under the layout of this number
-  pub record CanHold (number : ℕ) (s : Store L P S D d) : Type 0 where
+  pub record CanHold (number : ℕ) (s : StoreOver d) : Type 0 where
     pub layout : HasLayout number s
     pub table : HasRoom (length (coming_in s)) s.table
 
   -- sets that were on their way are held: the device isn't called, and if all were of a layout, no others come
-  pub record HoldsComing (number : ℕ) (old new : Store L P S D d) : Type 0 where
+  pub record HoldsComing (number : ℕ) (old new : StoreOver d) : Type 0 where
     pub side : side_of new ≡ side_of old
     pub sets : (layout : L) → AreOfLayout d.meaning layout (coming_in old) → SetsCome (ComesOf d.meaning layout number) (slots_in old) (slots_in new)
     pub grows : Grows (slots_in old) (slots_in new)
     pub stays : KeepsStore old new
 
   -- kept sets are held: the device isn't called, no set comes, and there is as much room as before
-  pub record HoldsKept (old new : Store L P S D d) : Type 0 where
+  pub record HoldsKept (old new : StoreOver d) : Type 0 where
     pub side : side_of new ≡ side_of old
     pub sets : SetsCome NoneComes (slots_in old) (slots_in new)
     pub table : (n : ℕ) → HasRoom n old.table → HasRoom n new.table

@@ -2,7 +2,7 @@
 use Rattle.std.proofs.Common.{◌≡◌, ◌≢◌, ℕ, zero, suc, ◌+◌, ◌<◌, ◌⊎◌, ◌==◌, ◌&&◌, Bool, true, false, List, [], ◌∷◌, length, get_or, is_some, inl, inr, refl, sym, ap, subst, ◌∙◌, arith, eqb-true}
 use Rattle.std.proofs.lemmas.List.{length-set}
 use Rattle.descriptor_table.specs.Sets.{AreHeldOnce, is_held}
-use Rattle.descriptor_table.specs.Slots.{IsNowhere, slot_at}
+use Rattle.descriptor_table.specs.Slots.{slot_at}
 use Rattle.descriptor_table.specs.Tables.{TookEach, is_held_use, place_at, used_for}
 use Rattle.descriptor_table.specs.declared.handle.SetHandle.{SetHandle}
 use Rattle.descriptor_table.specs.declared.slot.Use.{Use}
@@ -80,13 +80,6 @@ module _ {T : Type 0} where
     pub held : (i : ℕ) (d : SetHandle) → i < n → i < length handles → is_held number old (get_or handles i d) ≡ true
     pub apart : (i j : ℕ) → i < j → j < n → place_at handles i ≢ place_at handles j
 
-  pub took_none : (number : ℕ) (handles : List SetHandle) (old : List (Slot T)) → TookSome number handles 0 old old
-  took_none number handles old = record {
-    took = record { long = refl; held = λ i lt. absurd (omega arith); within = λ i lt. absurd (omega arith); named = λ i lt. absurd (omega arith); rest = λ p none. refl };
-    held = λ i d lt. absurd (omega arith);
-    apart = λ i j lt less. absurd (omega arith);
-  }
-
   module _ (number : ℕ) (handles : List SetHandle) (n : ℕ) (old now : List (Slot T)) (some : TookSome number handles n old now) (h : SetHandle) (lt : n < length handles) (is : (d : SetHandle) → h ≡ get_or handles n d) where
     at : place_at handles n ≡ h.place
     at = ap (λ (x : SetHandle). x.place) (sym (is (record { renderer = 0; place = 0; generation = 0 })))
@@ -151,17 +144,8 @@ module _ {T : Type 0} where
     pub done : (i : ℕ) → i < m → slot_at now (place_at handles i) ≡ slot_at before (place_at handles i)
     pub rest : (p : ℕ) → ((i : ℕ) → i < n → place_at handles i ≢ p) → slot_at now p ≡ slot_at before p
 
-  pub put_none : (handles : List SetHandle) (n : ℕ) (before now : List (Slot T)) → TookEach handles n before now → PutSome handles n 0 before now
-  put_none handles n before now took = record { long = took.long; each = λ i lt. inr (took.named i lt); done = λ i lt. absurd (omega arith); rest = took.rest }
-
   module _ (handles : List SetHandle) (n m : ℕ) (before now start : List (Slot T)) (took : TookEach handles n before start) (some : PutSome handles n m before now) (lt : m < n) where
-    pub put_nowhere : IsNowhere (slot_at now (place_at handles m)).used
-    put_nowhere = elim (some.each m lt) [
-      | inl same ↦ subst IsNowhere (sym (ap (λ (s : Slot T). s.used) same ∙ took.held m lt)) tt
-      | inr taken ↦ subst IsNowhere (sym (ap (λ (s : Slot T). s.used) taken)) tt
-    ]
-
-    pub put_inside : place_at handles m < length now
+    put_inside : place_at handles m < length now
     put_inside = (let a = took.within m lt in let b = some.long in omega arith)
 
     pub put_more : (new : List (Slot T)) → new ≡ with_use (place_at handles m) Held now → PutSome handles n (m + 1) before new

@@ -3,7 +3,7 @@ use Rattle.std.proofs.Common.{◌≡◌, ◌≢◌, ℕ, zero, suc, ◌+◌, ◌
 use Rattle.std.proofs.lemmas.List.{length-set, set-set}
 use Rattle.std.proofs.lemmas.Bool.{ltb-false}
 use Rattle.descriptor_table.specs.Slots.{in_list, is_due, is_in, slot_at, waits_for}
-use Rattle.descriptor_table.specs.Tables.{AtIf, IsBack, KeepsSettings, MayBecome, PicksAbove, PicksFirst, Stays, Turns, count, generations_of, holds, is_held_use, is_kept, is_taken, is_taken_use, may_stay, most_of, next_use, stays, used_for}
+use Rattle.descriptor_table.specs.Tables.{AtIf, IsBack, KeepsSettings, MayBecome, PicksAbove, PicksFirst, Stays, Turns, count, generations_of, holds, is_held_use, is_kept, is_taken, is_taken_use, may_stay, most_of, next_use, stays, used_for, Becomes}
 use Rattle.descriptor_table.specs.declared.set_table.SetTable.{SetTable}
 use Rattle.descriptor_table.specs.declared.slot.Use.{Use}
 use Rattle.descriptor_table.specs.declared.slot.Use.TheVariants.{Held, Drawn, Waits, Kept, Going, Taken, Vacant}
@@ -244,39 +244,6 @@ module _ {T : Type 0} where
   none_passes test (s ∷ slots) past none zero = none 0 (omega arith)
   none_passes test (s ∷ slots) past none (suc p) = none_passes test slots past (λ q lt. none (suc q) (omega arith)) p
 
-  -- all sets that were taken have turned, since each is that of a handle
-  pub none_taken :
-      (becomes : List (Slot T) → Slot T → Slot T → Type 0) (n : ℕ) (place : ℕ → ℕ) (old now : List (Slot T))
-      → Turning is_taken becomes old now → ((o m : Slot T) → becomes now o m → is_taken m ≡ false)
-      → ((p : ℕ) → is_taken (slot_at old p) ≡ true → (i : ℕ) × (i < n) × (place i ≡ p))
-      → ((i : ℕ) → i < n → is_taken (slot_at now (place i)) ≡ false) → (p : ℕ) → is_taken (slot_at now p) ≡ false
-  none_taken becomes n place old now turning done named each p = by_test (is_taken (slot_at now p)) refl
-    where
-      by_test : (b : Bool) → is_taken (slot_at now p) ≡ b → b ≡ false
-      by_test false e = refl
-      by_test true e = elim (turning.each p) [
-        | inl same ↦ (let i = named p (ap is_taken (sym same) ∙ e) in sym e ∙ subst (λ q. is_taken (slot_at now q) ≡ false) i.2 (each i.0 i.1))
-        | inr both ↦ sym e ∙ done (slot_at old p) (slot_at now p) both.1
-      ]
-
-  -- a kept set goes
-  abbrev pub Goes : List (Slot T) → Slot T → Slot T → Type 0
-  Goes l o n = n ≡ used_for Going o
-
-  -- some of the slots that pass the test go
-  pub turn_some : (test : Slot T → Bool) (old now : List (Slot T)) → Turning test Goes old now → Turns test (MayBecome (used_for Going)) old now
-  turn_some test old now turning = record {
-    long = turning.long;
-    rest = λ p out. elim (turning.each p) [
-      | inl same ↦ same
-      | inr both ↦ absurd (let no : true ≡ false = sym both.0 ∙ out in cc)
-    ];
-    here = λ p is. elim (turning.each p) [
-      | inl same ↦ inl same
-      | inr both ↦ inr both.1
-    ];
-  }
-
   pub above_of : (k most : ℕ) (r : Option ℕ) (old new : List (Slot T)) → PicksFirst (is_in k) r old new → PicksAbove k most r old new
   above_of k most None old new picks = (let h = none_count (is_in k) old picks.none in omega arith, picks.slots)
   above_of k most (Some p) old new picks = picks
@@ -308,7 +275,7 @@ module _ {T : Type 0} where
 
   module _ (k : ℕ) (two : 2 ≤ k) (now new : List (Slot T)) (turns : Turns (is_in k) (MayBecome (used_for Going)) now new) where
     -- sets of one list more go
-    pub trim_more : (old : List (Slot T)) → Turning is_kept Goes old now → Turning is_kept Goes old new
+    pub trim_more : (old : List (Slot T)) → Turning is_kept (Becomes (used_for Going)) old now → Turning is_kept (Becomes (used_for Going)) old new
     trim_more old turning = record {
       long = turns.long ∙ turning.long;
       each = λ p. by_test p (is_in k (slot_at now p)) refl;

@@ -1,9 +1,8 @@
 -- What a caller sees of the slots: sets by handle.
 use Rattle.std.specs.Prelude.{◌≡◌, ◌≢◌, ℕ, ◌<◌, ◌==◌, ◌&&◌, nat_le, nat_lt, All, Bool, true, false, List, [], ◌∷◌, length, slice_index_or, if◌then◌else◌, Option, Some, None, IsSome}
-use Rattle.descriptor_table.specs.Slots.{is_live, slot_at}
+use Rattle.descriptor_table.specs.Slots.{Slots, is_live, slot_at}
 use Rattle.descriptor_table.specs.Tables.{holds}
 use Rattle.descriptor_table.specs.declared.handle.SetHandle.{SetHandle}
-use Rattle.descriptor_table.specs.declared.slot.Slot.{Slot}
 
 -- a set, if there is one, before others
 abbrev pub joined : {T : Type 0} → Option T → List T → List T
@@ -23,28 +22,28 @@ pub record Sets (T : Type 0) : Type 0 where
 
 module _ {T : Type 0} where
   -- all sets, in the order of their slots
-  abbrev pub sets_in : List (Slot T) → List T
+  abbrev pub sets_in : Slots T → List T
   sets_in [] = []
   sets_in (s ∷ slots) = joined s.set (sets_in slots)
 
   module _ (number : ℕ) where
     -- whether a handle is the last one that was given for its slot
-    abbrev pub is_last : List (Slot T) → SetHandle → Bool
+    abbrev pub is_last : Slots T → SetHandle → Bool
     is_last slots h = (h.renderer == number) && (h.generation == (slot_at slots h.place).generation)
 
     -- the set that a handle names, in this frame if one is open
-    abbrev pub find : ℕ → Bool → List (Slot T) → SetHandle → Option T
+    abbrev pub find : ℕ → Bool → Slots T → SetHandle → Option T
     find frame opened slots h = if is_last slots h && is_live frame opened (slot_at slots h.place).used then (slot_at slots h.place).set else None
 
     -- whether a handle was ever given
-    abbrev pub is_given : List (Slot T) → SetHandle → Bool
+    abbrev pub is_given : Slots T → SetHandle → Bool
     is_given slots h = (h.renderer == number) && (nat_lt 0 h.generation && nat_le h.generation (slot_at slots h.place).generation)
 
     -- whether a handle has a held set
-    abbrev pub is_held : List (Slot T) → SetHandle → Bool
+    abbrev pub is_held : Slots T → SetHandle → Bool
     is_held slots h = is_last slots h && holds (slot_at slots h.place)
 
-    abbrev pub sets_of : ℕ → Bool → List (Slot T) → Sets T
+    abbrev pub sets_of : ℕ → Bool → Slots T → Sets T
     sets_of frame opened slots = record { set = find frame opened slots; given = is_given slots }
 
   -- the handle, which was never given, names the set, and each other handle names what it named
@@ -70,7 +69,7 @@ module _ {T : Type 0} where
     pub given : (h : SetHandle) → new.given h ≡ old.given h
 
   -- each handle has a held set, and none is there twice
-  pub record AreHeldOnce (number : ℕ) (slots : List (Slot T)) (handles : List SetHandle) : Type 0 where
+  pub record AreHeldOnce (number : ℕ) (slots : Slots T) (handles : List SetHandle) : Type 0 where
     pub held : All (λ h. is_held number slots h ≡ true) handles
     pub once : AreOnce handles
 

@@ -68,9 +68,13 @@ pub record HasFrames (frames : List FrameChain) : Type 0 where
 abbrev pub AreFew : ℕ → List Chain → Type 0
 AreFew most chains = (k : ℕ) → 2 ≤ k → (chain_at chains k).count ≤ most
 
+-- the slots of a table
+abbrev pub Slots : Type 0 → Type 0
+Slots T = List (Slot T)
+
 module _ {T : Type 0} where
   -- the slot at a place. Past the end no set ever was
-  abbrev pub slot_at : List (Slot T) → ℕ → Slot T
+  abbrev pub slot_at : Slots T → ℕ → Slot T
   slot_at slots place = slice_index_or slots place (record { generation = 0; layout = 0; layout_generation = 0; used = Taken; leaves = false; set = None })
 
   -- whether a slot is in the list
@@ -98,18 +102,18 @@ module _ {T : Type 0} where
   frame_of s = frame_in s.used
 
   -- the list has the place of each slot that passes the test once, and no other
-  abbrev pub Lists : (Slot T → Bool) → List (Slot T) → List ℕ → Type 0
+  abbrev pub Lists : (Slot T → Bool) → Slots T → List ℕ → Type 0
   Lists test slots places = (p : ℕ) → times p places ≡ (if test (slot_at slots p) then 1 else 0)
 
   -- each list, by its first place and its count, has the slots that pass its test
-  abbrev pub HasChains : (ℕ → Slot T → Bool) → List (Slot T) → List ℕ → (ℕ → Chain) → Type 0
+  abbrev pub HasChains : (ℕ → Slot T → Bool) → Slots T → List ℕ → (ℕ → Chain) → Type 0
   HasChains test slots next heads = (k : ℕ) → Lists (test k) slots (walk (heads k).count next (heads k).first)
 
-  abbrev pub AreLinked : List (Slot T) → List ℕ → List Chain → Type 0
+  abbrev pub AreLinked : Slots T → List ℕ → List Chain → Type 0
   AreLinked slots next chains = HasChains is_in slots next (chain_at chains)
 
   -- each frame has the sets that wait for it
-  abbrev pub AreFramed : List (Slot T) → List ℕ → List FrameChain → Type 0
+  abbrev pub AreFramed : Slots T → List ℕ → List FrameChain → Type 0
   AreFramed slots next frames = HasChains is_of slots next (chain_of frames)
 
   -- the list of a slot's layout is there. Its set came under this layout, or under one that had the number before, and a kept one under this one
@@ -119,5 +123,5 @@ module _ {T : Type 0} where
     pub kept : is_in (s.layout + 2) s ≡ true → s.layout_generation ≡ generations s.layout
 
   -- each slot has its list
-  abbrev pub HasLists : List (Slot T) → ℕ → (ℕ → ℕ) → Type 0
+  abbrev pub HasLists : Slots T → ℕ → (ℕ → ℕ) → Type 0
   HasLists slots lists generations = (p : ℕ) → p < length slots → IsListed lists generations (slot_at slots p)

@@ -1,6 +1,6 @@
 -- What becomes of the slots of a table.
 use Rattle.std.specs.Prelude.{◌≡◌, ◌≢◌, ℕ, zero, suc, ◌+◌, ◌-◌, ◌<◌, ◌≤◌, ◌⊎◌, ◌==◌, ◌&&◌, nat_lt, Bool, true, false, not, List, [], ◌∷◌, length, slice_index_or, slice_set, vec_capacity, is_some, if◌then◌else◌, Option, Some, None, MatchOption}
-use Rattle.descriptor_table.specs.Slots.{chain_at, generation_at, is_in, is_kept_of, is_of, slot_at, waits_for}
+use Rattle.descriptor_table.specs.Slots.{Slots, chain_at, generation_at, is_in, is_kept_of, is_of, slot_at, waits_for}
 use Rattle.descriptor_table.specs.declared.handle.SetHandle.{SetHandle}
 use Rattle.descriptor_table.specs.declared.set_table.SetTable.{SetTable}
 use Rattle.descriptor_table.specs.declared.slot.Use.{Use}
@@ -49,19 +49,19 @@ module _ {T : Type 0} where
   used_for u s = record s { used = u }
 
   -- one slot became this
-  abbrev pub At : ℕ → (Slot T → Slot T) → List (Slot T) → List (Slot T) → Type 0
+  abbrev pub At : ℕ → (Slot T → Slot T) → Slots T → Slots T → Type 0
   At p becomes old new = new ≡ slice_set old p (becomes (slot_at old p))
 
   -- one slot became this if it passed the test
-  abbrev pub AtIf : (Slot T → Bool) → ℕ → (Slot T → Slot T) → List (Slot T) → List (Slot T) → Type 0
+  abbrev pub AtIf : (Slot T → Bool) → ℕ → (Slot T → Slot T) → Slots T → Slots T → Type 0
   AtIf test p becomes old new = new ≡ (if test (slot_at old p) then slice_set old p (becomes (slot_at old p)) else old)
 
   -- how many slots pass the test
-  abbrev pub count : (Slot T → Bool) → List (Slot T) → ℕ
+  abbrev pub count : (Slot T → Bool) → Slots T → ℕ
   count test [] = 0
   count test (s ∷ slots) = (if test s then 1 else 0) + count test slots
 
-  abbrev pub slots_of : SetTable T → List (Slot T)
+  abbrev pub slots_of : SetTable T → Slots T
   slots_of t = t.slots.items
 
   abbrev pub lists_of : SetTable T → ℕ
@@ -115,7 +115,7 @@ module _ {T : Type 0} where
     pub frames : vec_capacity new.frames ≡ vec_capacity old.frames
 
   -- the slots became what the relation says, and all else is as it was
-  pub record Changes (becomes : List (Slot T) → List (Slot T) → Type 0) (old new : SetTable T) : Type 0 where
+  pub record Changes (becomes : Slots T → Slots T → Type 0) (old new : SetTable T) : Type 0 where
     pub slots : becomes (slots_of old) (slots_of new)
     pub stays : Stays old new
 
@@ -140,37 +140,37 @@ module _ {T : Type 0} where
   HasRoom n t = HasPlaces (n - usable_of t) t
 
   -- a slot that is in no list
-  pub record IsTaken (p : ℕ) (slots : List (Slot T)) : Type 0 where
+  pub record IsTaken (p : ℕ) (slots : Slots T) : Type 0 where
     pub within : p < length slots
     pub taken : (slot_at slots p).used ≡ Taken
 
   -- a set that is in no list
-  pub record HasTaken (p : ℕ) (slots : List (Slot T)) : Type 0 where
+  pub record HasTaken (p : ℕ) (slots : Slots T) : Type 0 where
     pub taken : IsTaken p slots
     pub full : is_some (slot_at slots p).set ≡ true
 
   -- a slot that is in no list, and can have another handle
-  pub record CanRenew (p : ℕ) (slots : List (Slot T)) : Type 0 where
+  pub record CanRenew (p : ℕ) (slots : Slots T) : Type 0 where
     pub taken : IsTaken p slots
     pub next : (slot_at slots p).generation < 4294967295
 
   -- a set that is in no list waits for the frame if it is in use for this
-  pub record CanWait (frame p : ℕ) (u : Use) (slots : List (Slot T)) : Type 0 where
+  pub record CanWait (frame p : ℕ) (u : Use) (slots : Slots T) : Type 0 where
     pub taken : HasTaken p slots
     pub goes : is_of frame (used_for u (slot_at slots p)) ≡ true
 
   -- the slot was in the list, or had its set wait, and left
-  pub record Picks (test : Slot T → Bool) (p : ℕ) (old new : List (Slot T)) : Type 0 where
+  pub record Picks (test : Slot T → Bool) (p : ℕ) (old new : Slots T) : Type 0 where
     pub was : test (slot_at old p) ≡ true
     pub within : p < length old
     pub slots : At p (used_for Taken) old new
 
   -- there is no such slot
-  pub record PicksNone (test : Slot T → Bool) (old new : List (Slot T)) : Type 0 where
+  pub record PicksNone (test : Slot T → Bool) (old new : Slots T) : Type 0 where
     pub none : (p : ℕ) → test (slot_at old p) ≡ false
     pub slots : new ≡ old
 
-  abbrev pub PicksFirst : (Slot T → Bool) → Option ℕ → List (Slot T) → List (Slot T) → Type 0
+  abbrev pub PicksFirst : (Slot T → Bool) → Option ℕ → Slots T → Slots T → Type 0
   PicksFirst test result old new = MatchOption result (PicksNone test old new) (λ p. Picks test p old new)
 
   -- whether a call has a set
@@ -190,27 +190,27 @@ module _ {T : Type 0} where
   stays generations s = (not s.leaves && nat_lt s.generation 4294967295) && is_current generations s
 
   -- whether a set is kept, if at most so many of its layout are
-  abbrev pub may_stay : (ℕ → ℕ) → ℕ → List (Slot T) → Slot T → Bool
+  abbrev pub may_stay : (ℕ → ℕ) → ℕ → Slots T → Slot T → Bool
   may_stay generations most slots s = stays generations s && nat_lt (count (is_kept_of s.layout) slots) most
 
   -- what a set that comes back is in use for
-  abbrev pub next_use : (ℕ → ℕ) → ℕ → List (Slot T) → ℕ → Use
+  abbrev pub next_use : (ℕ → ℕ) → ℕ → Slots T → ℕ → Use
   next_use generations most slots p = if may_stay generations most slots (slot_at slots p) then Kept else Going
 
   -- a set that came back is kept, or its slot became this. If it may be kept, then only if as many are kept as may be
-  abbrev pub IsBack : (Slot T → Slot T) → (ℕ → ℕ) → ℕ → List (Slot T) → Slot T → Slot T → Type 0
+  abbrev pub IsBack : (Slot T → Slot T) → (ℕ → ℕ) → ℕ → Slots T → Slot T → Slot T → Type 0
   IsBack gone generations most new o n = ((n ≡ used_for Kept o) × (stays generations o ≡ true)) ⊎ ((n ≡ gone o) × (stays generations o ≡ true → most ≤ count (is_kept_of o.layout) new))
 
   -- a slot became this
-  abbrev pub Becomes : (Slot T → Slot T) → List (Slot T) → Slot T → Slot T → Type 0
+  abbrev pub Becomes : (Slot T → Slot T) → Slots T → Slot T → Slot T → Type 0
   Becomes into new o n = n ≡ into o
 
   -- a slot is as it was, or became this
-  abbrev pub MayBecome : (Slot T → Slot T) → List (Slot T) → Slot T → Slot T → Type 0
+  abbrev pub MayBecome : (Slot T → Slot T) → Slots T → Slot T → Slot T → Type 0
   MayBecome into new o n = (n ≡ o) ⊎ (n ≡ into o)
 
   -- each slot that passes the test became what the relation says, in the new slots. All others are as they were
-  pub record Turns (test : Slot T → Bool) (becomes : List (Slot T) → Slot T → Slot T → Type 0) (old new : List (Slot T)) : Type 0 where
+  pub record Turns (test : Slot T → Bool) (becomes : Slots T → Slot T → Slot T → Type 0) (old new : Slots T) : Type 0 where
     pub long : length new ≡ length old
     pub rest : (p : ℕ) → test (slot_at old p) ≡ false → slot_at new p ≡ slot_at old p
     pub here : (p : ℕ) → test (slot_at old p) ≡ true → becomes new (slot_at old p) (slot_at new p)
@@ -228,7 +228,7 @@ module _ {T : Type 0} where
   is_kept s = is_kept_of s.layout s
 
   -- a kept set left its list, and as many as so are left, or no more than that were there
-  abbrev pub PicksAbove : ℕ → ℕ → Option ℕ → List (Slot T) → List (Slot T) → Type 0
+  abbrev pub PicksAbove : ℕ → ℕ → Option ℕ → Slots T → Slots T → Type 0
   PicksAbove k most result old new = MatchOption result ((count (is_in k) old ≤ most) × (new ≡ old)) (λ p. Picks (is_in k) p old new)
 
   -- the slots, of which no set is kept when it comes back
@@ -236,11 +236,11 @@ module _ {T : Type 0} where
   aged s = record s { leaves = true }
 
   -- each slot has a set, or had its last generation
-  abbrev pub AreAllUsed : List (Slot T) → Type 0
+  abbrev pub AreAllUsed : Slots T → Type 0
   AreAllUsed slots = (p : ℕ) → is_usable (slot_at slots p) ≡ false
 
   -- a set of the layout came into a slot that had none, and has no handle there yet
-  pub record Puts (generations : ℕ → ℕ) (layout : ℕ) (set : T) (p : ℕ) (old new : List (Slot T)) : Type 0 where
+  pub record Puts (generations : ℕ → ℕ) (layout : ℕ) (set : T) (p : ℕ) (old new : Slots T) : Type 0 where
     pub empty : (slot_at old p).set ≡ None
     pub within : p < length new
     pub next : (slot_at old p).generation < 4294967295
@@ -256,7 +256,7 @@ module _ {T : Type 0} where
     pub settings : KeepsSettings old new
 
   -- there are more slots only if each then has a set, or had its last generation
-  abbrev pub Grows : List (Slot T) → List (Slot T) → Type 0
+  abbrev pub Grows : Slots T → Slots T → Type 0
   Grows old new = (length new ≡ length old) ⊎ AreAllUsed new
 
   -- a slot in its next generation, in use for this
@@ -264,7 +264,7 @@ module _ {T : Type 0} where
   renewed u s = record s { generation = s.generation + 1; used = u }
 
   -- the set at a place has the handle, the next one of the place, and is in use for this
-  pub record Renews (number p : ℕ) (u : Use) (handle : SetHandle) (old new : List (Slot T)) : Type 0 where
+  pub record Renews (number p : ℕ) (u : Use) (handle : SetHandle) (old new : Slots T) : Type 0 where
     pub is : handle ≡ record { renderer = number; place = p; generation = (slot_at old p).generation + 1 }
     pub slots : At p (renewed u) old new
 
@@ -273,18 +273,18 @@ module _ {T : Type 0} where
   vacated s = record s { used = Vacant; set = None }
 
   -- a set that passes the test was taken out of its slot
-  pub record Gives (test : Slot T → Bool) (x : T) (old new : List (Slot T)) : Type 0 where
+  pub record Gives (test : Slot T → Bool) (x : T) (old new : Slots T) : Type 0 where
     pub place : ℕ
     pub within : place < length old
     pub was : test (slot_at old place) ≡ true
     pub full : (slot_at old place).set ≡ Some x
     pub slots : At place vacated old new
 
-  abbrev pub GivesFirst : (Slot T → Bool) → Option T → List (Slot T) → List (Slot T) → Type 0
+  abbrev pub GivesFirst : (Slot T → Bool) → Option T → Slots T → Slots T → Type 0
   GivesFirst test result old new = MatchOption result (PicksNone test old new) (λ x. Gives test x old new)
 
   -- the held sets of the first handles were taken, and all else is as it was
-  pub record TookEach (handles : List SetHandle) (n : ℕ) (old new : List (Slot T)) : Type 0 where
+  pub record TookEach (handles : List SetHandle) (n : ℕ) (old new : Slots T) : Type 0 where
     pub long : length new ≡ length old
     pub held : (i : ℕ) → i < n → (slot_at old (place_at handles i)).used ≡ Held
     pub within : (i : ℕ) → i < n → place_at handles i < length old
@@ -292,11 +292,11 @@ module _ {T : Type 0} where
     pub rest : (p : ℕ) → ((i : ℕ) → i < n → place_at handles i ≢ p) → slot_at new p ≡ slot_at old p
 
   -- the handles have places, and each set that a call has is at one of these
-  pub record AreAllTaken (handles : List SetHandle) (slots : List (Slot T)) : Type 0 where
+  pub record AreAllTaken (handles : List SetHandle) (slots : Slots T) : Type 0 where
     pub within : (i : ℕ) → i < length handles → place_at handles i < length slots
     pub all : (p : ℕ) → is_taken (slot_at slots p) ≡ true → (i : ℕ) × (i < length handles) × (place_at handles i ≡ p)
 
   -- no set that is there is kept when it comes back
-  pub record AreAged (old new : List (Slot T)) : Type 0 where
+  pub record AreAged (old new : Slots T) : Type 0 where
     pub long : length new ≡ length old
     pub each : (p : ℕ) → p < length old → slot_at new p ≡ aged (slot_at old p)

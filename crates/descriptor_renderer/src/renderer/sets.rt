@@ -21,7 +21,7 @@ impl<L: Drop, P: Drop, S: Drop, D: DescriptorDevice<L, P, S>> Renderer<L, P, S, 
     ghost use Rattle.gpu_descriptor.specs.declared.errors.AllocationError.{AllocationError};
     ghost use Rattle.descriptor_table.specs.declared.handle.SetHandle.{SetHandle};
     ghost use Rattle.descriptor_table.specs.declared.slot.Use.{Use};
-    ghost use Rattle.descriptor_renderer.specs.Renderers.{ComeEach, Comes, Destroys, HasNoMemory, NeedsLayout, OnlySetsChange, SetsMayCome};
+    ghost use Rattle.descriptor_renderer.specs.Renderers.{ComeEach, Comes, Destroys, NeedsLayout, OnlySetsChange, SetsMayCome};
     ghost use Rattle.descriptor_renderer.specs.Renderers.{kept_of, layout_of, number_of, seen, sets_by};
     ghost use Rattle.descriptor_renderer.specs.Renderers.{side_of, slots_of, store_of};
 
@@ -74,7 +74,8 @@ impl<L: Drop, P: Drop, S: Drop, D: DescriptorDevice<L, P, S>> Renderer<L, P, S, 
             (many - kept_of layout self.old) many (store_of self.old) (store_of self.new))) }
         ensures needs { NeedsLayout layout result self.old self.new }
         ensures refused { (error : AllocationError) → IsErrOf result (RenderError.Allocation error)
-            → HasNoMemory error self.old self.new ⊎ IfSome (layout_of self.old layout) (λ known.
+            → ((error ≡ AllocationError.OutOfHostMemory) × (seen self.new ≡ seen self.old))
+            ⊎ IfSome (layout_of self.old layout) (λ known.
             IsRefusedAtLast known.layout (many - kept_of layout self.old) many error
             (store_of self.old) (store_of self.new)) }
         ensures sets { SetsMayCome result self.old self.new }

@@ -1,6 +1,6 @@
 //! Sets that are taken for handles, many at once: kept ones first.
 ghost use Rattle.std.specs.Prelude.{◌≡◌, ℕ, ◌+◌, ◌-◌, ◌<◌, ◌≤◌, ◌++◌, [], ◌∷◌, List, length, IfErr, OnErr, OnOk, Ok};
-ghost use Rattle.std.specs.Prelude.{vec_capacity, vec_len};
+ghost use Rattle.std.specs.Prelude.{vec_capacity, vec_len, Bool};
 ghost use Rattle.gpu_descriptor.specs.Caller.SetLayouts.{IsMeant};
 ghost use Rattle.gpu_descriptor.specs.Caller.Sets.{AreOfLayout};
 
@@ -10,9 +10,10 @@ use gpu_descriptor::{AllocationError, DescriptorDevice, SetLayout};
 use std::vec::Vec;
 
 impl<L: Drop, P: Drop, S: Drop, D: DescriptorDevice<L, P, S>> Store<L, P, S, D> {
+    ghost use Rattle.descriptor_table.specs.Sets.{NameEach, sets_of};
     ghost use Rattle.descriptor_table.specs.Tables.{Grows, HasRoom};
     ghost use Rattle.descriptor_table.specs.declared.handle.SetHandle.{SetHandle};
-    ghost use Rattle.descriptor_renderer.specs.Stores.{AreNamed, Asks, AsksAtLast, BringsAtLast, CanTake};
+    ghost use Rattle.descriptor_renderer.specs.Stores.{Asks, AsksAtLast, BringsAtLast, CanTake};
     ghost use Rattle.descriptor_renderer.specs.Stores.{CanHold, ComesOf, HoldAtLast, HoldEach, HoldsComing, HoldsKept};
     ghost use Rattle.descriptor_renderer.specs.Stores.{IsRefused, IsRefusedAtLast, KeepsStore};
     ghost use Rattle.descriptor_renderer.specs.Stores.{Settles, coming_in, current_in, kept_of, number_of};
@@ -154,8 +155,9 @@ impl<L: Drop, P: Drop, S: Drop, D: DescriptorDevice<L, P, S>> Store<L, P, S, D> 
         requires room { vec_len handles.old + many ≤ vec_capacity handles.old }
         ensures creates { OnOk result ((given : List SetHandle)
             × (handles.new.items ≡ handles.old.items ++ given) × (length given ≡ many)
-            × AreNamed (number_of self.old) (current_in layout self.old) given (slots_in self.old)
-            (slots_in self.new) × HoldAtLast (number_of self.old) (current_in layout self.old) given
+            × ((frame : ℕ) (opened : Bool) → NameEach given (sets_of (number_of self.old) frame opened
+            (slots_in self.old)) (sets_of (number_of self.old) frame opened (slots_in self.new)))
+            × HoldAtLast (number_of self.old) (current_in layout self.old) given
             (slots_in self.old) (slots_in self.new)) }
         ensures kept { many ≤ kept_of layout self.old → (result ≡ Ok tt)
             × (side_of self.new ≡ side_of self.old) }

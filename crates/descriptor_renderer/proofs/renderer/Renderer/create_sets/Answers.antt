@@ -38,7 +38,7 @@ returns-in-Ok-clause-creates g c =
     let given = creates.0 in
     let named = creates.3 in
     let new = slots_in c.create_each.new.self in
-    let names = subst (λ n. NameEach given (sets_of n old.frame old.is_open (slots_in old.store)) (sets_of n old.frame old.is_open new)) old.sets.number (named.names old.frame old.is_open) in
+    let names = subst (λ n. NameEach given (sets_of n old.frame old.is_open (slots_in old.store)) (sets_of n old.frame old.is_open new)) old.sets.number (named old.frame old.is_open) in
     if_some _ known _ c.in-Some.ensures.layout (
       given,
       creates.1 ∙ ap (λ l. l ++ given) c.reserve.ensures.items,
@@ -50,7 +50,7 @@ returns-in-Ok-clause-creates g c =
             let same = ap (λ (h : SetHandle). h.place) (same_default given i e (record { renderer = 0; place = 0; generation = 0 }) lt) in
             own_known g.D.DescriptorDevice.meaning (generations_in c.create_each.new.self) (layout_slots old.layouts)
             new (sets g (goal.at.returns-in-Ok-clause-creates g c).After-create_each).own h.place c.place.result x known (found_set old.renderer old.frame old.is_open new h x found)
-            (ap (λ p. came_under (slot_at new p)) same ∙ named.of_layout i lt
+            (ap (λ p. came_under (slot_at new p)) same ∙ creates.4.holds.of_layout i lt
             ∙ ap (λ generations. current generations c.place.result) (sym c.create_each.ensures.settles.stays.generations))
             here;
       },
@@ -63,7 +63,7 @@ returns-in-Err-clause-sets g c =
     record { stay = refused_names c.in-Some.known.now.layout _ c.args.many c.in-Err.error old.store c.create_each.new.self c.in-Err.ensures.refused old.renderer old.frame old.is_open; grows = search rules; rest = search rules }
 
 pub returns-then-is_err-clause-refused : goal.returns-then-is_err-clause-refused
-returns-then-is_err-clause-refused g c = λ error e. inl (record { is = cc; seen = refl })
+returns-then-is_err-clause-refused g c = λ error e. inl (cc, refl)
 
 pub returns-in-Ok-clause-comes : goal.returns-in-Ok-clause-comes
 returns-in-Ok-clause-comes g c = λ few.

@@ -1,24 +1,8 @@
 use Rattle.std.proofs.Common.{◌≡◌, subst, arith}
 use Rattle.descriptor_table.specs.Tables.{slots_of}
-use Rattle.descriptor_table.proofs.Holding.{PutSome, put_all, put_inside, put_more, put_none, put_nowhere}
-use Rattle.descriptor_table.proofs.Turning.{stays_more, stays_same}
+use Rattle.descriptor_table.proofs.Holding.{PutSome, put_all, put_more}
+use Rattle.descriptor_table.proofs.Turning.{stays_more}
 use Rattle.descriptor_table.proofs.set_table.SetTable.put_back.Goals as goal
-
-pub loop-index-init : goal.loop-index-init
-loop-index-init g c = record {
-  put = λ before took. put_none c.args.handles.now c.args.count before (slots_of c.args.self.now) took;
-  stays = stays_same c.args.self.now;
-}
-
-pub assign-requires-clause-within : goal.assign-requires-clause-within
-assign-requires-clause-within g c =
-    let took = c.requires.took in
-    put_inside c.args.handles.now c.args.count c.loop-index.index took.0 (slots_of c.loop-index.self) (slots_of c.args.self.now) took.1 (c.loop-index.invariant.put took.0 took.1) c.loop-index-test.true
-
-pub assign-requires-clause-was : goal.assign-requires-clause-was
-assign-requires-clause-was g c =
-    let took = c.requires.took in
-    put_nowhere c.args.handles.now c.args.count c.loop-index.index took.0 (slots_of c.loop-index.self) (slots_of c.args.self.now) took.1 (c.loop-index.invariant.put took.0 took.1) c.loop-index-test.true
 
 pub loop-index-preserved : goal.loop-index-preserved
 loop-index-preserved g c = record {

@@ -1,6 +1,6 @@
-use Rattle.std.proofs.Common.{◌+◌, ◌&&◌, not, nat_lt, sym, ap, ltb-true, eqb-true, arith}
+use Rattle.std.proofs.Common.{◌+◌, nat_lt, sym, ap, ltb-true, arith}
 use Rattle.descriptor_table.specs.Slots.{chain_at, is_in, slot_at}
-use Rattle.descriptor_table.specs.Tables.{count, generations_of, is_current, stays}
+use Rattle.descriptor_table.specs.Tables.{count, generations_of, stays}
 use Rattle.descriptor_table.specs.declared.slot.Slot.{Slot}
 use Rattle.descriptor_table.proofs.Chains.{and_true}
 use Rattle.descriptor_table.proofs.Counts.{chain_count}
@@ -16,18 +16,3 @@ link-requires-clause-few g c = λ two.
     let all = chain_count s.slots.items s.next.items s.chains.items s.linked (o.layout + 2) in
     let read = ap (λ (w : Slot g.row.T.Denot). (chain_at s.chains.items (w.layout + 2)).count) (read_slot s.slots.items c.args.place c.index.result.now c.requires.taken.within c.index.ensures) in
     omega arith
-
-pub link-requires-clause-list : goal.link-requires-clause-list
-link-requires-clause-list g c =
-    let s = c.args.self.now in
-    let o = slot_at s.slots.items c.args.place in
-    let read = ap (λ (w : Slot g.row.T.Denot). w.layout) (read_slot s.slots.items c.args.place c.index.result.now c.requires.taken.within c.index.ensures) in
-    let lt = (s.known c.args.place c.requires.taken.within).there in
-    omega arith
-
-pub link-requires-clause-current : goal.link-requires-clause-current
-link-requires-clause-current g c = λ kept.
-    let s = c.args.self.now in
-    let o = slot_at s.slots.items c.args.place in
-    let may = (and_true (stays (generations_of s) o) (nat_lt (count (is_in (o.layout + 2)) s.slots.items) s.most) (sym c.if-may_stay.ensures)).0 in
-    eqb-true o.layout_generation (generations_of s o.layout) (and_true (not o.leaves && nat_lt o.generation 4294967295) (is_current (generations_of s) o) may).1

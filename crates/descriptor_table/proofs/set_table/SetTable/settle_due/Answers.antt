@@ -1,7 +1,7 @@
-use Rattle.std.proofs.Common.{◌≡◌, ◌∙◌, sym, subst, ap}
+use Rattle.std.proofs.Common.{◌≡◌, ◌∙◌, ap}
 use Rattle.descriptor_table.specs.Slots.{is_due, slot_at}
-use Rattle.descriptor_table.specs.Tables.{IsBack, Turns, generations_of, next_use, slots_of, used_for}
-use Rattle.descriptor_table.proofs.Turning.{due_not_listed, one_fewer, same_next, settled_grows, settled_here, settled_not_due, settled_set, stays_more, turn_end, turn_step}
+use Rattle.descriptor_table.specs.Tables.{IsBack, generations_of, next_use, slots_of, used_for}
+use Rattle.descriptor_table.proofs.Turning.{due_not_listed, one_fewer, same_next, settled_grows, settled_here, settled_not_due, settled_set, stays_more, turn_step}
 use Rattle.descriptor_table.proofs.Listed.{with_use}
 use Rattle.descriptor_table.proofs.set_table.SetTable.settle_due.Goals.{After-settle}
 use Rattle.descriptor_table.specs.declared.slot.Use.TheVariants.{Going}
@@ -54,13 +54,3 @@ loop-place-smaller g c =
     (used_for (next_use generations most mid p) (slot_at now p))
     (settled_here generations most now mid new p picks.within out picks.slots is))
     (settled_set generations most now mid new p picks.within out picks.slots is)
-
-pub returns : goal.returns
-returns g c =
-    let picks = c.in_default.ensures in
-    let generations = generations_of c.args.self.now in
-    let most = c.args.self.now.most in
-    record {
-      slots = subst (Turns (is_due c.args.frame) (IsBack (used_for Going) generations most) (slots_of c.args.self.now)) (sym picks.slots.slots) (turn_end (is_due c.args.frame) (IsBack (used_for Going) generations most) (slots_of c.args.self.now) (slots_of c.loop-place.self) c.loop-place.invariant.turning picks.slots.none);
-      stays = stays_more c.args.self.now c.loop-place.self c.pick_due.new.self c.loop-place.invariant.stays picks.stays;
-    }

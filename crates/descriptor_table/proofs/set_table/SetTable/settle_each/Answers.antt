@@ -1,24 +1,10 @@
-use Rattle.std.proofs.Common.{◌≡◌, false, length, inl, inr, sym, subst, arith, ap, ◌∙◌, if◌then◌else◌}
+use Rattle.std.proofs.Common.{◌≡◌, false, inl, inr, sym, subst, arith, ap, ◌∙◌, if◌then◌else◌}
 use Rattle.descriptor_table.specs.Slots.{slot_at}
-use Rattle.descriptor_table.specs.Tables.{IsBack, generations_of, is_taken, place_at, slots_of, used_for}
+use Rattle.descriptor_table.specs.Tables.{generations_of, is_taken, place_at, slots_of}
 use Rattle.descriptor_table.proofs.Counting.{same_or}
-use Rattle.descriptor_table.proofs.Turning.{none_taken, same_next, settle_one, settled_not_taken, stays_more, stays_same, turn_end, turn_start}
+use Rattle.descriptor_table.proofs.Turning.{same_next, settle_one, stays_more}
 use Rattle.descriptor_table.proofs.Listed.{with_use}
-use Rattle.descriptor_table.specs.declared.slot.Use.TheVariants.{Going}
 use Rattle.descriptor_table.proofs.set_table.SetTable.settle_each.Goals as goal
-
-pub loop-index-init : goal.loop-index-init
-loop-index-init g c = record {
-  turning = turn_start is_taken (IsBack (used_for Going) (generations_of c.args.self.now) c.args.self.now.most) (slots_of c.args.self.now);
-  done = λ i lt. absurd (omega arith);
-  stays = stays_same c.args.self.now;
-}
-
-pub settle_taken-requires : goal.settle_taken-requires
-settle_taken-requires g c =
-    let lt = c.requires.taken.within c.loop-index.index c.loop-index-test.true in
-    let long = c.loop-index.invariant.turning.long in
-    omega arith
 
 pub loop-index-preserved : goal.loop-index-preserved
 loop-index-preserved g c =
@@ -38,19 +24,4 @@ loop-index-preserved g c =
         | inr ne ↦ one.others (place_at c.args.handles.now i) (inv.done i (omega arith))
       ];
       stays = stays_more c.args.self.now c.loop-index.self c.settle_taken.new.self inv.stays c.settle_taken.ensures.stays;
-    }
-
-pub returns : goal.returns
-returns g c =
-    let inv = c.loop-index.invariant in
-    let old = slots_of c.args.self.now in
-    let now = slots_of c.loop-index.self in
-    let end = c.loop-index-test.false in
-    record {
-      slots = turn_end is_taken (IsBack (used_for Going) (generations_of c.args.self.now) c.args.self.now.most) old now inv.turning
-          (none_taken (IsBack (used_for Going) (generations_of c.args.self.now) c.args.self.now.most) (length c.args.handles.now)
-          (place_at c.args.handles.now) old now inv.turning
-          (settled_not_taken (generations_of c.args.self.now) c.args.self.now.most (slots_of c.loop-index.self))
-          c.requires.taken.all (λ i lt. inv.done i (omega arith)));
-      stays = inv.stays;
     }

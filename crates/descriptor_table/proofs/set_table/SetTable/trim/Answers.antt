@@ -1,19 +1,12 @@
 use Rattle.std.proofs.Common.{◌≤◌, ◌+◌, length, inl, inr, sym, subst, ap, arith}
 use Rattle.std.proofs.lemmas.List.{get_or_past}
 use Rattle.descriptor_table.specs.Slots.{is_in}
-use Rattle.descriptor_table.specs.Tables.{count, is_kept, slots_of}
+use Rattle.descriptor_table.specs.Tables.{count, slots_of}
 use Rattle.descriptor_table.specs.declared.slot.Chain.{Chain}
 use Rattle.descriptor_table.proofs.Counting.{below_or, same_or}
 use Rattle.descriptor_table.proofs.Counts.{chain_count}
-use Rattle.descriptor_table.proofs.Turning.{Goes, stays_more, stays_same, trim_more, trim_others, turn_some, turn_start}
+use Rattle.descriptor_table.proofs.Turning.{stays_more, trim_more, trim_others}
 use Rattle.descriptor_table.proofs.set_table.SetTable.trim.Goals as goal
-
-pub loop-list-init : goal.loop-list-init
-loop-list-init g c = record {
-  turning = turn_start is_kept Goes (slots_of c.args.self.now);
-  few = λ k two lt. absurd (omega arith);
-  stays = stays_same c.args.self.now;
-}
 
 pub loop-list-preserved : goal.loop-list-preserved
 loop-list-preserved g c =
@@ -32,9 +25,6 @@ loop-list-preserved g c =
       ];
       stays = stays_more c.args.self.now c.loop-list.self c.trim_list.new.self inv.stays e.turns.stays;
     }
-
-pub returns-clause-turns : goal.returns-clause-turns
-returns-clause-turns g c = record { slots = turn_some is_kept (slots_of c.args.self.now) (slots_of c.loop-list.self) c.loop-list.invariant.turning; stays = c.loop-list.invariant.stays }
 
 pub returns-clause-few : goal.returns-clause-few
 returns-clause-few g c = λ layout.
