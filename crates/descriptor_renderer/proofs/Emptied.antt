@@ -1,10 +1,11 @@
 -- All sets leave.
-use Rattle.std.proofs.Common.{◌≡◌, ℕ, ◌+◌, ◌<◌, ◌≤◌, ◌⊎◌, ◌&&◌, ◌||◌, not, Bool, true, false, List, length, Option, None, Some, is_some, inl, inr, refl, sym, ap, ◌∙◌, arith, le-leb, nat_le}
+use Rattle.std.proofs.lemmas.Grind.{common_steps}
+use Rattle.std.proofs.Common.{◌≡◌, ℕ, ◌+◌, ◌<◌, ◌≤◌, ◌⊎◌, ◌&&◌, ◌||◌, not, Bool, true, false, List, length, Option, None, Some, is_some, inl, inr, refl, sym, ap, ◌∙◌, arith, nat_le}
 use Rattle.descriptor_table.specs.Slots.{frame_in, frame_of, goes, in_list, is_due, is_in, slot_at, waits_for}
 use Rattle.descriptor_table.specs.Tables.{AreAged, IsBack, Becomes, MayBecome, Turns, count, holds, is_held_use, is_kept, stays, used_for, vacated, waits}
 use Rattle.descriptor_table.specs.declared.slot.Slot.{Slot}
 use Rattle.descriptor_table.specs.declared.slot.Use.{Use}
-use Rattle.descriptor_table.specs.declared.slot.Use.TheVariants.{Held, Drawn, Waits, Kept, Going, Taken, Vacant}
+use Rattle.descriptor_table.specs.declared.slot.Use.TheVariants.{Going}
 use Rattle.descriptor_table.proofs.Counting.{below_or}
 use Rattle.descriptor_table.proofs.Counts.{count_none}
 use Rattle.descriptor_table.proofs.Renewing.{kept_full}
@@ -22,31 +23,13 @@ placed_or true false true d e = inr (inr (inl refl))
 placed_or true false false d e = inr (inr (inr e))
 
 held_not_due : (frame : ℕ) (u : Use) (full : Bool) → (is_held_use u && full) ≡ true → (waits_for (λ w. nat_le w frame) u && full) ≡ false
-held_not_due frame Held full e = refl
-held_not_due frame (Drawn f) full e = absurd (cc)
-held_not_due frame (Waits f) full e = absurd (cc)
-held_not_due frame Kept full e = refl
-held_not_due frame Going full e = refl
-held_not_due frame Taken full e = refl
-held_not_due frame Vacant full e = refl
+held_not_due frame u full e = grind (arith, common_steps)
 
 kept_not_due : (frame : ℕ) (u : Use) (layout generation : ℕ) (full : Bool) → in_list (layout + 2) u layout generation full ≡ true → ((waits_for (λ w. nat_le w frame) u && full) ≡ false) × ((is_held_use u && full) ≡ false)
-kept_not_due frame Held layout generation full e = absurd (cc)
-kept_not_due frame (Drawn f) layout generation full e = absurd (cc)
-kept_not_due frame (Waits f) layout generation full e = absurd (cc)
-kept_not_due frame Kept layout generation full e = (refl, refl)
-kept_not_due frame Going layout generation full e = (refl, refl)
-kept_not_due frame Taken layout generation full e = (refl, refl)
-kept_not_due frame Vacant layout generation full e = (refl, refl)
+kept_not_due frame u layout generation full e = grind (arith, common_steps)
 
 waiting_due : (frame : ℕ) (u : Use) (full : Bool) → frame_in u ≤ frame → (waits_for (λ w. true) u && full) ≡ true → (waits_for (λ w. nat_le w frame) u && full) ≡ true
-waiting_due frame Held full le e = absurd (cc)
-waiting_due frame (Drawn f) full le e = ap (λ b. b && full) (le-leb f frame le) ∙ e
-waiting_due frame (Waits f) full le e = ap (λ b. b && full) (le-leb f frame le) ∙ e
-waiting_due frame Kept full le e = absurd (cc)
-waiting_due frame Going full le e = absurd (cc)
-waiting_due frame Taken full le e = absurd (cc)
-waiting_due frame Vacant full le e = absurd (cc)
+waiting_due frame u full le e = grind (arith, common_steps)
 
 empty_none : {T : Type 0} (o : Option T) → is_some o ≡ false → o ≡ None
 empty_none None e = refl

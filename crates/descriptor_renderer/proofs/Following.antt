@@ -1,11 +1,12 @@
 -- Each kind of change of a slot follows what it was.
-use Rattle.std.proofs.Common.{◌≡◌, ◌≢◌, ℕ, ◌+◌, ◌<◌, ◌&&◌, ◌||◌, nat_lt, not, Bool, true, false, List, length, is_some, inl, inr, refl, sym, ap, subst, ◌∙◌, arith, eq-eqb, ne_eqb}
+use Rattle.std.proofs.lemmas.Grind.{common_steps}
+use Rattle.std.proofs.Common.{◌≡◌, ◌≢◌, ℕ, ◌+◌, ◌<◌, ◌&&◌, ◌||◌, nat_lt, not, Bool, true, false, List, length, is_some, inl, inr, refl, ap, subst, ◌∙◌, arith, eq-eqb}
 use Rattle.descriptor_table.specs.Slots.{frame_of, goes, in_list, slot_at, waits_for}
 use Rattle.descriptor_table.specs.Tables.{Turns, aged, came_under, is_current, is_held_use, is_taken, is_taken_use, place_at, stays, used_for, vacated, MayBecome, IsBack}
 use Rattle.descriptor_table.specs.declared.handle.SetHandle.{SetHandle}
 use Rattle.descriptor_table.specs.declared.slot.Slot.{Slot}
 use Rattle.descriptor_table.specs.declared.slot.Use.{Use}
-use Rattle.descriptor_table.specs.declared.slot.Use.TheVariants.{Held, Drawn, Waits, Kept, Going, Taken, Vacant}
+use Rattle.descriptor_table.specs.declared.slot.Use.TheVariants.{Waits, Kept}
 use Rattle.descriptor_table.proofs.Chains.{and_true}
 use Rattle.descriptor_table.proofs.Holding.{named_or}
 use Rattle.descriptor_renderer.specs.Stores.{is_placed}
@@ -16,24 +17,10 @@ abbrev placed_use : Use → ℕ → ℕ → Bool → Bool
 placed_use u layout generation full = not full || ((is_held_use u && full) || ((waits_for (λ w. true) u && full) || in_list (layout + 2) u layout generation full))
 
 going_use : (u : Use) (layout generation : ℕ) (full : Bool) → placed_use u layout generation full ≡ true → in_list 1 u layout generation full ≡ false
-going_use Held layout generation full e = refl
-going_use (Drawn f) layout generation full e = refl
-going_use (Waits f) layout generation full e = refl
-going_use Kept layout generation full e = ap (λ b. b && (nat_lt generation 4294967295 && full)) (ne_eqb 1 (layout + 2) (λ e. omega arith))
-going_use Going layout generation false e = refl
-going_use Going layout generation true e = absurd (let no : true ≡ false = sym e ∙ ap (λ b. b && true) (ne_eqb (layout + 2) 1 (λ e. omega arith)) in cc)
-going_use Taken layout generation full e = refl
-going_use Vacant layout generation full e = refl
+going_use u layout generation full e = grind (arith, common_steps)
 
 taken_use : (u : Use) (layout generation : ℕ) (full : Bool) → placed_use u layout generation full ≡ true → (is_taken_use u && full) ≡ false
-taken_use Held layout generation full e = refl
-taken_use (Drawn f) layout generation full e = refl
-taken_use (Waits f) layout generation full e = refl
-taken_use Kept layout generation full e = refl
-taken_use Going layout generation full e = refl
-taken_use Taken layout generation false e = refl
-taken_use Taken layout generation true e = absurd (cc)
-taken_use Vacant layout generation full e = refl
+taken_use u layout generation full e = grind (arith, common_steps)
 
 module _ {T : Type 0} where
   abbrev pub ArePlaced : List (Slot T) → Type 0

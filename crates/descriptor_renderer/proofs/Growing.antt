@@ -1,5 +1,6 @@
 -- There are more slots only if each has a set, or had its last generation.
-use Rattle.std.proofs.Common.{◌≡◌, ℕ, ◌<◌, ◌&&◌, Bool, true, false, List, length, is_some, Ok, inl, inr, refl, sym, ap, subst, ◌∙◌, arith}
+use Rattle.std.proofs.lemmas.Grind.{common_steps}
+use Rattle.std.proofs.Common.{◌≡◌, ℕ, ◌<◌, ◌&&◌, Bool, true, false, List, length, is_some, Ok, inl, inr, sym, ap, subst, ◌∙◌, arith}
 use Rattle.std.proofs.lemmas.List.{length-set}
 use Rattle.gpu_descriptor_types.specs.declared.device.DescriptorDevice.{Ghosts}
 use Rattle.gpu_descriptor.specs.declared.errors.AllocationError.{AllocationError}
@@ -9,7 +10,7 @@ use Rattle.descriptor_table.specs.Tables.{Grows, Picks, Puts, Renews, is_held_us
 use Rattle.descriptor_table.specs.declared.handle.SetHandle.{SetHandle}
 use Rattle.descriptor_table.specs.declared.slot.Slot.{Slot}
 use Rattle.descriptor_table.specs.declared.slot.Use.{Use}
-use Rattle.descriptor_table.specs.declared.slot.Use.TheVariants.{Held, Drawn, Waits, Kept, Going, Taken, Vacant}
+use Rattle.descriptor_table.specs.declared.slot.Use.TheVariants.{Taken}
 use Rattle.descriptor_table.proofs.Counting.{below_or, same_or}
 use Rattle.descriptor_table.proofs.Holding.{named_or}
 use Rattle.descriptor_table.proofs.Listed.{other_slots, slot_set}
@@ -17,13 +18,7 @@ use Rattle.descriptor_renderer.specs.Stores.{GetsAtLast, HoldEach, IsCleared, Is
 use Rattle.descriptor_renderer.specs.declared.store.Store.{Store}
 
 held_used : (u : Use) (layout generation : ℕ) (full : Bool) → (is_held_use u && full) ≡ true → in_list 0 u layout generation full ≡ false
-held_used Held layout generation full e = refl
-held_used (Drawn f) layout generation full e = refl
-held_used (Waits f) layout generation full e = refl
-held_used Kept layout generation full e = absurd (cc)
-held_used Going layout generation full e = absurd (cc)
-held_used Taken layout generation full e = refl
-held_used Vacant layout generation full e = absurd (cc)
+held_used u layout generation full e = grind (arith, common_steps)
 
 module _ {T : Type 0} where
   renewed_long : (number p : ℕ) (u : Use) (handle : SetHandle) (old new : List (Slot T)) → Renews number p u handle old new → length new ≡ length old

@@ -1,4 +1,5 @@
 -- Sets that are held, one after another.
+use Rattle.std.proofs.lemmas.Grind.{common_steps}
 use Rattle.std.proofs.Common.{◌≡◌, ◌≢◌, ℕ, zero, suc, ◌+◌, ◌-◌, ◌<◌, ◌≤◌, ◌⊎◌, ◌&&◌, ◌||◌, Bool, true, false, List, [], ◌∷◌, ◌++◌, length, get_or, Some, is_some, IsSome, inl, inr, refl, sym, ap, subst, ◌∙◌, append_assoc, arith}
 use Rattle.std.proofs.lemmas.Bool.{cases_lt}
 use Rattle.std.proofs.lemmas.List.{get_or-append-add, append-nil, get_or_append_left, length-append}
@@ -10,7 +11,7 @@ use Rattle.descriptor_table.specs.Tables.{came_under, current, holds, is_held_us
 use Rattle.descriptor_table.specs.declared.handle.SetHandle.{SetHandle}
 use Rattle.descriptor_table.specs.declared.slot.Slot.{Slot}
 use Rattle.descriptor_table.specs.declared.slot.Use.{Use}
-use Rattle.descriptor_table.specs.declared.slot.Use.TheVariants.{Held, Drawn, Waits, Kept, Going, Taken, Vacant}
+use Rattle.descriptor_table.specs.declared.slot.Use.TheVariants.{Held}
 use Rattle.descriptor_table.proofs.Chains.{and_true}
 use Rattle.descriptor_table.proofs.Holding.{named_or}
 use Rattle.descriptor_renderer.specs.Stores.{HoldEach, NoneComes, SetsCome, KeepsStore, current_in, is_free, number_of, slots_in}
@@ -21,13 +22,7 @@ use Rattle.descriptor_renderer.proofs.Handing.{Fills, some_of}
 use Rattle.descriptor_renderer.proofs.Naming.{free_is, given_apart, given_clear, given_never, given_next, next_of, seen_apart, seen_clear, seen_free, seen_next}
 
 held_use : (u : Use) → is_held_use u ≡ true → u ≡ Held
-held_use Held e = refl
-held_use (Drawn f) e = absurd (cc)
-held_use (Waits f) e = absurd (cc)
-held_use Kept e = absurd (cc)
-held_use Going e = absurd (cc)
-held_use Taken e = absurd (cc)
-held_use Vacant e = absurd (cc)
+held_use u e = grind (arith, common_steps)
 
 -- a place of two lists is one of the first, or of the second
 spot : (a b : List SetHandle) (i : ℕ) → i < length (a ++ b) → ((i < length a) × (place_at (a ++ b) i ≡ place_at a i)) ⊎ ((k : ℕ) × (k < length b) × (i ≡ length a + k) × (place_at (a ++ b) i ≡ place_at b k))

@@ -1,24 +1,18 @@
 -- What handles name when sets come to slots, or leave them.
-use Rattle.std.proofs.Common.{◌≡◌, ◌≢◌, ℕ, ◌+◌, ◌<◌, ◌≤◌, ◌⊎◌, ◌==◌, ◌&&◌, ◌||◌, nat_le, nat_lt, not, Bool, true, false, if◌then◌else◌, Option, None, Some, is_some, inl, inr, refl, sym, ap, ◌∙◌, arith, eq-eqb, eqb-true, ne_eqb}
+use Rattle.std.proofs.lemmas.Grind.{common_steps}
+use Rattle.std.proofs.Common.{◌≡◌, ◌≢◌, ℕ, ◌+◌, ◌<◌, ◌≤◌, ◌⊎◌, ◌==◌, ◌&&◌, ◌||◌, nat_le, nat_lt, not, Bool, true, false, if◌then◌else◌, Option, None, Some, is_some, inl, inr, refl, sym, ap, ◌∙◌, arith, eq-eqb, ne_eqb}
 use Rattle.std.proofs.lemmas.Bool.{and_left, and_right, cases_eq, cases_lt, le-leb, lt-leb, lt-ltb}
 use Rattle.descriptor_table.specs.Slots.{in_list, is_kept_of, is_live}
 use Rattle.descriptor_table.specs.Tables.{is_kept}
 use Rattle.descriptor_table.specs.declared.handle.SetHandle.{SetHandle}
 use Rattle.descriptor_table.specs.declared.slot.Slot.{Slot}
 use Rattle.descriptor_table.specs.declared.slot.Use.{Use}
-use Rattle.descriptor_table.specs.declared.slot.Use.TheVariants.{Held, Drawn, Waits, Kept, Going, Taken, Vacant}
-use Rattle.descriptor_table.proofs.Chains.{and_true}
+use Rattle.descriptor_table.specs.declared.slot.Use.TheVariants.{Kept}
 use Rattle.descriptor_renderer.specs.Stores.{is_free}
 use Rattle.descriptor_renderer.proofs.Cleared.{Clears}
 
 kept_use : (k generation : ℕ) (u : Use) (layout : ℕ) (full : Bool) → in_list (k + 2) u layout generation full ≡ true → (u ≡ Kept) × (k ≡ layout)
-kept_use k generation Held layout full e = absurd (cc)
-kept_use k generation (Drawn f) layout full e = absurd (cc)
-kept_use k generation (Waits f) layout full e = absurd (cc)
-kept_use k generation Kept layout full e = (refl, let z = eqb-true (k + 2) (layout + 2) (and_true ((k + 2) == (layout + 2)) (nat_lt generation 4294967295 && full) e).0 in omega arith)
-kept_use k generation Going layout full e = absurd (let z = eqb-true (k + 2) 1 (and_true ((k + 2) == 1) full e).0 in omega arith)
-kept_use k generation Taken layout full e = absurd (cc)
-kept_use k generation Vacant layout full e = absurd (let z = eqb-true (k + 2) 0 (and_true ((k + 2) == 0) (nat_lt generation 4294967295 && not full) e).0 in omega arith)
+kept_use k generation u layout full e = grind (arith, common_steps)
 
 module _ {T : Type 0} where
   -- what is known of a kept set

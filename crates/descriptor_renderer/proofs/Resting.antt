@@ -1,36 +1,23 @@
 -- How many sets there are if each is held, waits or is kept.
-use Rattle.std.proofs.Common.{◌≡◌, ℕ, suc, ◌+◌, ◌==◌, ◌&&◌, nat_lt, true, false, List, [], ◌∷◌, length, Option, None, Some, is_some, refl, ap, arith, eqb-true, ne_eqb}
-use Rattle.std.proofs.lemmas.Bool.{and_left, and_right}
+use Rattle.std.proofs.lemmas.Grind.{common_steps}
+use Rattle.std.proofs.Common.{◌≡◌, ℕ, suc, ◌+◌, ◌&&◌, true, false, List, [], ◌∷◌, length, Option, None, Some, is_some, refl, ap, arith}
+use Rattle.std.proofs.lemmas.Bool.{and_right}
 use Rattle.descriptor_table.specs.Sets.{joined, sets_in}
 use Rattle.descriptor_table.specs.Slots.{in_list, slot_at, waits_for}
 use Rattle.descriptor_table.specs.Tables.{count, holds, is_held_use, is_kept, waits}
 use Rattle.descriptor_table.specs.declared.slot.Slot.{Slot}
 use Rattle.descriptor_table.specs.declared.slot.Use.{Use}
-use Rattle.descriptor_table.specs.declared.slot.Use.TheVariants.{Held, Drawn, Waits, Kept, Going, Taken, Vacant}
-use Rattle.descriptor_table.proofs.Chains.{and_true}
 use Rattle.descriptor_table.proofs.Counts.{bit}
 use Rattle.descriptor_renderer.specs.Stores.{is_placed}
 use Rattle.descriptor_renderer.proofs.Arriving.{placed_in}
 
 -- no set is kept where there is none
 none_kept : (u : Use) (l g : ℕ) → in_list (l + 2) u l g false ≡ false
-none_kept Held l g = refl
-none_kept (Drawn f) l g = refl
-none_kept (Waits f) l g = refl
-none_kept Kept l g = and_right ((l + 2) == (l + 2)) (nat_lt g 4294967295 && false) (and_right (nat_lt g 4294967295) false refl)
-none_kept Going l g = and_right ((l + 2) == 1) false refl
-none_kept Taken l g = refl
-none_kept Vacant l g = and_left ((l + 2) == 0) (nat_lt g 4294967295 && true) (ne_eqb (l + 2) 0 (λ e. omega arith))
+none_kept u l g = grind (arith, common_steps)
 
 -- a set is held, waits or is kept, and only one of these
 one_of : {T : Type 0} (x : T) (u : Use) (l g : ℕ) → placed_in u (Some x) l g ≡ true → 1 ≡ bit (is_held_use u && true) + (bit (waits_for (λ w. true) u && true) + bit (in_list (l + 2) u l g true))
-one_of x Held l g e = refl
-one_of x (Drawn f) l g e = refl
-one_of x (Waits f) l g e = refl
-one_of x Kept l g e = let kept : in_list (l + 2) Kept l g true ≡ true = e in let b = ap bit kept in omega arith
-one_of x Going l g e = absurd (let z = eqb-true (l + 2) 1 (and_true ((l + 2) == 1) true e).0 in omega arith)
-one_of x Taken l g e = absurd (cc)
-one_of x Vacant l g e = absurd (let z = eqb-true (l + 2) 0 (and_true ((l + 2) == 0) (nat_lt g 4294967295 && false) e).0 in omega arith)
+one_of x u l g e = grind (arith, common_steps)
 
 module _ {T : Type 0} where
   placed_bits : (s : Slot T) → is_placed s ≡ true → bit (is_some s.set) ≡ bit (holds s) + (bit (waits s) + bit (is_kept s))

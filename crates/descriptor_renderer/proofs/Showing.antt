@@ -1,6 +1,6 @@
 -- What handles name once sets came back, waited, or were given back.
-use Rattle.std.proofs.Common.{◌≡◌, ℕ, ◌+◌, ◌<◌, ◌&&◌, nat_le, Bool, true, false, List, length, if◌then◌else◌, is_some, None, inl, inr, refl, sym, ap, ◌∙◌, arith, leb-true}
-use Rattle.std.proofs.lemmas.Bool.{ne_eqb}
+use Rattle.std.proofs.lemmas.Grind.{common_steps}
+use Rattle.std.proofs.Common.{◌≡◌, ℕ, ◌+◌, ◌<◌, ◌&&◌, nat_le, Bool, true, false, List, length, if◌then◌else◌, is_some, None, inl, inr, refl, sym, ap, ◌∙◌, arith}
 use Rattle.std.proofs.lemmas.List.{get_or_past}
 use Rattle.descriptor_table.specs.Sets.{AreHeldOnce, LoseNames, sets_of}
 use Rattle.descriptor_table.specs.Slots.{in_list, is_due, is_live, slot_at, waits_for}
@@ -8,40 +8,18 @@ use Rattle.descriptor_table.specs.Tables.{Turns, aged, is_kept, place_at, vacate
 use Rattle.descriptor_table.specs.declared.handle.SetHandle.{SetHandle}
 use Rattle.descriptor_table.specs.declared.slot.Slot.{Slot}
 use Rattle.descriptor_table.specs.declared.slot.Use.{Use}
-use Rattle.descriptor_table.specs.declared.slot.Use.TheVariants.{Held, Drawn, Waits, Kept, Going, Taken, Vacant}
+use Rattle.descriptor_table.specs.declared.slot.Use.TheVariants.{Waits}
 use Rattle.descriptor_table.proofs.Counting.{below_or}
 use Rattle.descriptor_table.proofs.Naming.{ShowsSame, names_kept, names_lost, shown}
 use Rattle.descriptor_renderer.specs.Stores.{AreCleaned, TurnEach}
 
 -- a kept set has no live handle
 kept_use : (u : Use) (k layout generation frame : ℕ) (full opened : Bool) → in_list (layout + 2) u layout generation full ≡ true → is_live frame opened u ≡ false
-kept_use Held k layout generation frame full opened e = absurd (cc)
-kept_use (Drawn f) k layout generation frame full opened e = absurd (cc)
-kept_use (Waits f) k layout generation frame full opened e = refl
-kept_use Kept k layout generation frame full opened e = refl
-kept_use Going k layout generation frame full opened e = refl
-kept_use Taken k layout generation frame full opened e = refl
-kept_use Vacant k layout generation frame full opened e = refl
+kept_use u k layout generation frame full opened e = grind (arith, common_steps)
 
 -- neither has one that waits for a frame that isn't open
 due_use : (u : Use) (due frame : ℕ) (full opened : Bool) → (opened ≡ true → due < frame) → (waits_for (λ w. nat_le w due) u && full) ≡ true → is_live frame opened u ≡ false
-due_use Held due frame full opened later e = absurd (cc)
-due_use (Drawn f) due frame full false later e = refl
-due_use (Drawn f) due frame true true later e = ne_eqb f frame (λ same. let le = leb-true f due (drop_true (nat_le f due) e) in let lt = later refl in omega arith)
-  where
-    drop_true : (b : Bool) → (b && true) ≡ true → b ≡ true
-    drop_true true e = refl
-    drop_true false e = e
-due_use (Drawn f) due frame false true later e = absurd (let no : false ≡ true = sym (and_none (nat_le f due)) ∙ e in cc)
-  where
-    and_none : (b : Bool) → (b && false) ≡ false
-    and_none true = refl
-    and_none false = refl
-due_use (Waits f) due frame full opened later e = refl
-due_use Kept due frame full opened later e = refl
-due_use Going due frame full opened later e = refl
-due_use Taken due frame full opened later e = refl
-due_use Vacant due frame full opened later e = refl
+due_use u due frame full opened later e = grind (arith, common_steps)
 
 module _ {T : Type 0} (frame : ℕ) (opened : Bool) where
   pub same_shown : (o n : Slot T) → n ≡ o → ShowsSame frame opened o n

@@ -1,11 +1,12 @@
 -- The lists of slots, by the code's chains.
-use Rattle.std.proofs.Common.{◌≡◌, ◌≢◌, ℕ, ◌+◌, ◌-◌, ◌<◌, ◌≤◌, ◌==◌, ◌&&◌, Bool, true, false, not, nat_lt, List, length, get_or, set, is_some, inl, inr, refl, sym, ap, subst, ◌∙◌, arith, ne_eqb, eqb-true}
+use Rattle.std.proofs.lemmas.Grind.{common_steps}
+use Rattle.std.proofs.Common.{◌≡◌, ◌≢◌, ℕ, ◌+◌, ◌-◌, ◌<◌, ◌≤◌, ◌==◌, ◌&&◌, Bool, true, false, List, length, get_or, set, is_some, inl, inr, refl, sym, ap, subst, ◌∙◌, arith, ne_eqb, eqb-true}
 use Rattle.std.proofs.lemmas.List.{get_or-set_other, get_or-set_same, get_or_read, length-set}
 use Rattle.descriptor_table.specs.Places.{walk}
 use Rattle.descriptor_table.specs.Slots.{AreFew, AreFramed, AreLinked, HasLists, IsListed, chain_at, chain_of, in_list, is_in, is_of, slot_at, waits_for}
 use Rattle.descriptor_table.specs.Tables.{is_kept, used_for}
 use Rattle.descriptor_table.specs.declared.slot.Use.{Use}
-use Rattle.descriptor_table.specs.declared.slot.Use.TheVariants.{Held, Drawn, Waits, Kept, Going, Taken, Vacant}
+use Rattle.descriptor_table.specs.declared.slot.Use.TheVariants.{Taken}
 use Rattle.descriptor_table.specs.declared.slot.Slot.{Slot}
 use Rattle.descriptor_table.specs.declared.slot.Chain.{Chain}
 use Rattle.descriptor_table.specs.declared.slot.FrameChain.{FrameChain}
@@ -25,42 +26,18 @@ apart_from j k l more e ne =
     ap (λ b. b && more) (ne_eqb j l (λ f. ne (f ∙ sym same)))
 
 one_list : (j k : ℕ) (u : Use) (layout generation : ℕ) (full : Bool) → in_list k u layout generation full ≡ true → j ≢ k → in_list j u layout generation full ≡ false
-one_list j k Held layout generation full e ne = refl
-one_list j k (Drawn frame) layout generation full e ne = refl
-one_list j k (Waits frame) layout generation full e ne = refl
-one_list j k Kept layout generation full e ne = apart_from j k (layout + 2) (nat_lt generation 4294967295 && full) e ne
-one_list j k Going layout generation full e ne = apart_from j k 1 full e ne
-one_list j k Taken layout generation full e ne = refl
-one_list j k Vacant layout generation full e ne = apart_from j k 0 (nat_lt generation 4294967295 && not full) e ne
+one_list j k u layout generation full e ne = grind (arith, common_steps)
 
 one_frame : (j k : ℕ) (u : Use) (full : Bool) → (waits_for (λ w. k == w) u && full) ≡ true → j ≢ k → (waits_for (λ w. j == w) u && full) ≡ false
-one_frame j k Held full e ne = refl
-one_frame j k (Drawn frame) full e ne = apart_from j k frame full e ne
-one_frame j k (Waits frame) full e ne = apart_from j k frame full e ne
-one_frame j k Kept full e ne = refl
-one_frame j k Going full e ne = refl
-one_frame j k Taken full e ne = refl
-one_frame j k Vacant full e ne = refl
+one_frame j k u full e ne = grind (arith, common_steps)
 
 -- a set in a list waits for no frame
 listed_no_frame : (f k : ℕ) (u : Use) (layout generation : ℕ) (full : Bool) → in_list k u layout generation full ≡ true → (waits_for (λ w. f == w) u && full) ≡ false
-listed_no_frame f k Held layout generation full e = refl
-listed_no_frame f k (Drawn frame) layout generation full e = absurd (cc)
-listed_no_frame f k (Waits frame) layout generation full e = absurd (cc)
-listed_no_frame f k Kept layout generation full e = refl
-listed_no_frame f k Going layout generation full e = refl
-listed_no_frame f k Taken layout generation full e = refl
-listed_no_frame f k Vacant layout generation full e = refl
+listed_no_frame f k u layout generation full e = grind (arith, common_steps)
 
 -- a set that waits for a frame is in no list
 pub framed_not_listed : (f k : ℕ) (u : Use) (layout generation : ℕ) (full : Bool) → (waits_for (λ w. f == w) u && full) ≡ true → in_list k u layout generation full ≡ false
-framed_not_listed f k Held layout generation full e = refl
-framed_not_listed f k (Drawn frame) layout generation full e = refl
-framed_not_listed f k (Waits frame) layout generation full e = refl
-framed_not_listed f k Kept layout generation full e = absurd (cc)
-framed_not_listed f k Going layout generation full e = absurd (cc)
-framed_not_listed f k Taken layout generation full e = refl
-framed_not_listed f k Vacant layout generation full e = absurd (cc)
+framed_not_listed f k u layout generation full e = grind (arith, common_steps)
 
 pub lists_apart : {T : Type 0} → IsApart {T = T} is_in
 lists_apart j k s e ne = one_list j k s.used s.layout s.generation (is_some s.set) e ne

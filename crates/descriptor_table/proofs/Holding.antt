@@ -1,4 +1,5 @@
 -- Held sets that are taken by their handles, and held again.
+use Rattle.std.proofs.lemmas.Grind.{common_steps}
 use Rattle.std.proofs.Common.{◌≡◌, ◌≢◌, ℕ, zero, suc, ◌+◌, ◌<◌, ◌⊎◌, ◌==◌, ◌&&◌, Bool, true, false, List, [], ◌∷◌, length, get_or, is_some, inl, inr, refl, sym, ap, subst, ◌∙◌, arith, eqb-true}
 use Rattle.std.proofs.lemmas.List.{length-set}
 use Rattle.descriptor_table.specs.Sets.{AreHeldOnce, is_held}
@@ -6,20 +7,14 @@ use Rattle.descriptor_table.specs.Slots.{slot_at}
 use Rattle.descriptor_table.specs.Tables.{TookEach, is_held_use, place_at, used_for}
 use Rattle.descriptor_table.specs.declared.handle.SetHandle.{SetHandle}
 use Rattle.descriptor_table.specs.declared.slot.Use.{Use}
-use Rattle.descriptor_table.specs.declared.slot.Use.TheVariants.{Held, Drawn, Waits, Kept, Going, Taken, Vacant}
+use Rattle.descriptor_table.specs.declared.slot.Use.TheVariants.{Held, Taken}
 use Rattle.descriptor_table.specs.declared.slot.Slot.{Slot}
 use Rattle.descriptor_table.proofs.Chains.{and_true}
 use Rattle.descriptor_table.proofs.Counting.{same_or}
 use Rattle.descriptor_table.proofs.Listed.{other_slots, slot_set, test_within, with_use}
 
 held_use : (u : Use) → is_held_use u ≡ true → u ≡ Held
-held_use Held e = refl
-held_use (Drawn f) e = absurd (cc)
-held_use (Waits f) e = absurd (cc)
-held_use Kept e = absurd (cc)
-held_use Going e = absurd (cc)
-held_use Taken e = absurd (cc)
-held_use Vacant e = absurd (cc)
+held_use u e = grind (arith, common_steps)
 
 and_none : (b : Bool) → (b && false) ≡ false
 and_none true = refl

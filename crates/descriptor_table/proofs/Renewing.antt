@@ -1,4 +1,5 @@
 -- A set that comes into a slot, gets a handle, or leaves.
+use Rattle.std.proofs.lemmas.Grind.{common_steps}
 use Rattle.std.proofs.Common.{◌≡◌, ◌≢◌, ℕ, ◌+◌, ◌<◌, ◌≤◌, ◌==◌, ◌&&◌, Bool, true, false, not, nat_lt, List, length, set, Option, Some, None, is_some, inl, refl, sym, ap, ◌∙◌, arith, eqb-true, ltb-true}
 use Rattle.std.proofs.lemmas.List.{length-set, set-set}
 use Rattle.descriptor_table.specs.Slots.{goes, in_list, is_in, slot_at}
@@ -18,14 +19,7 @@ module _ {T : Type 0} where
   vacant_is s e = by_use s.used s.set e
     where
       by_use : (u : Use) (o : Option T) → in_list 0 u s.layout s.generation (is_some o) ≡ true → (o ≡ None) × (s.generation < 4294967295)
-      by_use Held o e = absurd (cc)
-      by_use (Drawn frame) o e = absurd (cc)
-      by_use (Waits frame) o e = absurd (cc)
-      by_use Kept o e = absurd (let z = eqb-true 0 (s.layout + 2) (and_true (0 == (s.layout + 2)) (nat_lt s.generation 4294967295 && is_some o) e).0 in omega arith)
-      by_use Going o e = absurd (let z : (0 == 1) && is_some o ≡ true = e in cc)
-      by_use Taken o e = absurd (cc)
-      by_use Vacant None e = (refl, ltb-true s.generation 4294967295 (and_true (nat_lt s.generation 4294967295) true e).0)
-      by_use Vacant (Some x) e = absurd (let z = (and_true (nat_lt s.generation 4294967295) false e).1 in cc)
+      by_use u o e = grind (arith, common_steps)
 
   -- a set came to a vacant slot
   pub puts_again :
@@ -124,13 +118,7 @@ module _ {T : Type 0} where
   goes_full s e = by_use s.used e
     where
       by_use : (u : Use) → in_list 1 u s.layout s.generation (is_some s.set) ≡ true → is_some s.set ≡ true
-      by_use Held e = absurd (cc)
-      by_use (Drawn frame) e = absurd (cc)
-      by_use (Waits frame) e = absurd (cc)
-      by_use Kept e = absurd (let z = eqb-true 1 (s.layout + 2) (and_true (1 == (s.layout + 2)) (nat_lt s.generation 4294967295 && is_some s.set) e).0 in omega arith)
-      by_use Going e = e
-      by_use Taken e = absurd (cc)
-      by_use Vacant e = absurd (cc)
+      by_use u e = grind (arith, common_steps)
 
   -- a kept set is there, and its place has a generation left
   pub kept_is : (k : ℕ) (s : Slot T) → 2 ≤ k → is_in k s ≡ true → (s.generation < 4294967295) × (is_some s.set ≡ true)

@@ -1,12 +1,13 @@
 -- Slots that pass a test are changed, one after another.
-use Rattle.std.proofs.Common.{◌≡◌, ◌≢◌, ℕ, zero, suc, ◌+◌, ◌<◌, ◌≤◌, ◌⊎◌, ◌==◌, ◌&&◌, not, nat_lt, Bool, true, false, if◌then◌else◌, List, [], ◌∷◌, length, set, Option, Some, None, ne_eqb, is_some, inl, inr, refl, sym, ap, subst, ◌∙◌, arith, eq-eqb, eqb-true, nat_le}
+use Rattle.std.proofs.lemmas.Grind.{common_steps}
+use Rattle.std.proofs.Common.{◌≡◌, ◌≢◌, ℕ, zero, suc, ◌+◌, ◌<◌, ◌≤◌, ◌⊎◌, ◌&&◌, nat_lt, Bool, true, false, if◌then◌else◌, List, [], ◌∷◌, length, set, Option, Some, None, ne_eqb, is_some, inl, inr, refl, sym, ap, subst, ◌∙◌, arith, nat_le}
 use Rattle.std.proofs.lemmas.List.{length-set, set-set}
 use Rattle.std.proofs.lemmas.Bool.{ltb-false}
 use Rattle.descriptor_table.specs.Slots.{in_list, is_due, is_in, slot_at, waits_for}
 use Rattle.descriptor_table.specs.Tables.{AtIf, IsBack, KeepsSettings, MayBecome, PicksAbove, PicksFirst, Stays, Turns, count, generations_of, holds, is_held_use, is_kept, is_taken, is_taken_use, may_stay, most_of, next_use, stays, used_for, Becomes}
 use Rattle.descriptor_table.specs.declared.set_table.SetTable.{SetTable}
 use Rattle.descriptor_table.specs.declared.slot.Use.{Use}
-use Rattle.descriptor_table.specs.declared.slot.Use.TheVariants.{Held, Drawn, Waits, Kept, Going, Taken, Vacant}
+use Rattle.descriptor_table.specs.declared.slot.Use.TheVariants.{Held, Kept, Going, Taken}
 use Rattle.descriptor_table.specs.declared.slot.Slot.{Slot}
 use Rattle.descriptor_table.proofs.Chains.{and_true, lists_apart}
 use Rattle.descriptor_table.proofs.Counting.{same_or}
@@ -14,13 +15,7 @@ use Rattle.descriptor_table.proofs.Counts.{bit, count_set, none_count, same_coun
 use Rattle.descriptor_table.proofs.Listed.{other_slots, slot_set, with_use}
 
 taken_use : (u : Use) → is_taken_use u ≡ true → u ≡ Taken
-taken_use Held e = absurd (cc)
-taken_use (Drawn f) e = absurd (cc)
-taken_use (Waits f) e = absurd (cc)
-taken_use Kept e = absurd (cc)
-taken_use Going e = absurd (cc)
-taken_use Taken e = refl
-taken_use Vacant e = absurd (cc)
+taken_use u e = grind (arith, common_steps)
 
 module _ {T : Type 0} where
   -- a slot in use for one thing after another
@@ -126,13 +121,7 @@ module _ {T : Type 0} where
   due_not_listed frame s e k = by_use s.used e
     where
       by_use : (u : Use) → (waits_for (λ w. nat_le w frame) u && is_some s.set) ≡ true → in_list k u s.layout s.generation (is_some s.set) ≡ false
-      by_use Held e = refl
-      by_use (Drawn f) e = refl
-      by_use (Waits f) e = refl
-      by_use Kept e = absurd (cc)
-      by_use Going e = absurd (cc)
-      by_use Taken e = refl
-      by_use Vacant e = absurd (cc)
+      by_use u e = grind (arith, common_steps)
 
   pub due_full : (frame : ℕ) (s : Slot T) → is_due frame s ≡ true → is_some s.set ≡ true
   due_full frame s e = (and_true (waits_for (λ w. nat_le w frame) s.used) (is_some s.set) e).1
@@ -265,13 +254,7 @@ module _ {T : Type 0} where
   kept_of k s two e = by_use s.used e
     where
       by_use : (u : Use) → in_list k u s.layout s.generation (is_some s.set) ≡ true → in_list (s.layout + 2) u s.layout s.generation (is_some s.set) ≡ true
-      by_use Held e = absurd (cc)
-      by_use (Drawn f) e = absurd (cc)
-      by_use (Waits f) e = absurd (cc)
-      by_use Kept e = ap (λ b. b && (nat_lt s.generation 4294967295 && is_some s.set)) (eq-eqb (s.layout + 2) (s.layout + 2) refl) ∙ (and_true (k == (s.layout + 2)) (nat_lt s.generation 4294967295 && is_some s.set) e).1
-      by_use Going e = absurd (let z = eqb-true k 1 (and_true (k == 1) (is_some s.set) e).0 in omega arith)
-      by_use Taken e = absurd (cc)
-      by_use Vacant e = absurd (let z = eqb-true k 0 (and_true (k == 0) (nat_lt s.generation 4294967295 && not (is_some s.set)) e).0 in omega arith)
+      by_use u e = grind (arith, common_steps)
 
   module _ (k : ℕ) (two : 2 ≤ k) (now new : List (Slot T)) (turns : Turns (is_in k) (MayBecome (used_for Going)) now new) where
     -- sets of one list more go
