@@ -1,5 +1,6 @@
 -- A layout that comes into a slot and has a handle, and one that leaves.
-use Rattle.std.proofs.Common.{◌≡◌, ◌≢◌, ℕ, ◌+◌, ◌<◌, ◌⊎◌, zero, suc, Bool, true, false, List, [], ◌∷◌, set, slice_index_or, if◌then◌else◌, Option, None, Some, is_some, IsSome, inl, inr, refl, sym, ap, subst, ◌∙◌, arith}
+use Rattle.std.proofs.lemmas.Grind.{common_steps}
+use Rattle.std.proofs.Common.{◌≡◌, ◌≢◌, ℕ, ◌+◌, ◌<◌, ◌⊎◌, Bool, true, false, List, [], ◌∷◌, set, slice_index_or, if◌then◌else◌, Option, None, Some, is_some, IsSome, inl, inr, refl, sym, ap, subst, ◌∙◌, arith}
 use Rattle.descriptor_table.specs.Sets.{AreHeldOnce, LoseNames, Names, is_held, sets_of}
 use Rattle.descriptor_table.specs.Slots.{is_live, slot_at}
 use Rattle.descriptor_table.specs.Tables.{Grows, Puts, Renews, place_at, renewed, vacated}
@@ -17,9 +18,7 @@ use Rattle.descriptor_renderer.proofs.Handing.{named, new_fills}
 use Rattle.descriptor_renderer.proofs.Owned.{same_some}
 
 one_more : (b c : Bool) (r g h : ℕ) → b ≡ false → c ≡ true → h ≡ g + 1 → g ≡ r + (if b then 1 else 0) → h ≡ r + (if c then 1 else 0)
-one_more false true r g h none some more was = omega arith
-one_more false false r g h none some more was = absurd (cc)
-one_more true c r g h none some more was = absurd (cc)
+one_more x0 c r g h none some more was = grind (arith, common_steps)
 
 module _ {T : Type 0} (number p : ℕ) (x : T) (handle : SetHandle) (old mid new : List (Slot T)) (generations : ℕ → ℕ) (puts : Puts generations 0 x p old mid) (renews : Renews number p Held handle mid new) where
   slot_here : slot_at new p ≡ renewed Held (slot_at mid p)
@@ -67,8 +66,7 @@ module _ {T : Type 0} (number : ℕ) (h : SetHandle) (old new : List (Slot T)) w
   }
     where
       at_first : (i : ℕ) (d : SetHandle) → i < 1 → is_held number old (slice_index_or (h ∷ []) i d) ≡ true
-      at_first zero d lt = held
-      at_first (suc i) d lt = absurd (omega arith)
+      at_first x0 d lt = grind (arith, common_steps)
 
   pub left_names : is_held number old h ≡ true → new ≡ set old h.place (vacated (slot_at old h.place)) → LoseNames (h ∷ []) (sets_of number 0 false old) (sets_of number 0 false new)
   left_names held made =
@@ -77,8 +75,7 @@ module _ {T : Type 0} (number : ℕ) (h : SetHandle) (old new : List (Slot T)) w
       names_lost number 0 false (h ∷ []) old new (only_held held) quiet generation (λ p apart. ap (λ l. slot_at l p) made ∙ other_slots old h.place (vacated (slot_at old h.place)) p (λ e. apart 0 (omega arith) (sym e)))
     where
       here : (i : ℕ) → i < 1 → slot_at new (place_at (h ∷ []) i) ≡ vacated (slot_at old (place_at (h ∷ []) i))
-      here zero lt = ap (λ l. slot_at l h.place) made ∙ slot_set old h.place (vacated (slot_at old h.place)) (held_is number old h held).within
-      here (suc i) lt = absurd (omega arith)
+      here x0 lt = grind (arith, common_steps)
 
   pub left_only : (r : Option T) → (IsSome r → is_held number old h ≡ true) → (IsSome r → new ≡ set old h.place (vacated (slot_at old h.place))) → (r ≡ None → new ≡ old) → (n : ℕ) (y : T) → (slot_at new n).set ≡ Some y → (slot_at old n).set ≡ Some y
   left_only None held made none n y is = ap (λ l. (slot_at l n).set) (sym (none refl)) ∙ is

@@ -1,5 +1,6 @@
 -- What slots may become when sets come to them.
-use Rattle.std.proofs.Common.{◌≡◌, ℕ, ◌+◌, ◌≤◌, ◌⊎◌, ◌&&◌, ◌||◌, not, Bool, true, false, [], Option, Some, None, is_some, inl, inr, refl, sym, ap, subst, ◌∙◌, arith}
+use Rattle.std.proofs.lemmas.Grind.{common_steps}
+use Rattle.std.proofs.Common.{◌≡◌, ℕ, ◌+◌, ◌≤◌, ◌⊎◌, ◌&&◌, ◌||◌, not, Bool, true, [], Option, Some, None, is_some, inl, inr, refl, sym, ap, subst, ◌∙◌, arith}
 use Rattle.gpu_descriptor_types.specs.declared.device.DescriptorDevice.{Ghosts}
 use Rattle.gpu_descriptor.specs.declared.set.DescriptorSet.{DescriptorSet}
 use Rattle.descriptor_table.specs.Slots.{frame_in, frame_of, in_list, slot_at, waits_for}
@@ -25,9 +26,7 @@ module _ {T : Type 0} where
   used_placed s x full e = ap (λ o. placed_in s.used o s.layout s.generation) full ∙ by_use (is_held_use s.used) (waits_for (λ w. true) s.used) (in_list (s.layout + 2) s.used s.layout s.generation true) e
     where
       by_use : (a b c : Bool) → (a || b) ≡ true → ((a && true) || ((b && true) || c)) ≡ true
-      by_use true b c f = refl
-      by_use false true c f = refl
-      by_use false false c f = absurd (cc)
+      by_use x0 b c f = grind (arith, common_steps)
 
   module _ (comes : ℕ → T → Type 0) (f : ℕ) where
     pub clears_arrives : (o n : Slot T) → Clears o n → Arrives comes f o n

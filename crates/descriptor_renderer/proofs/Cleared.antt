@@ -1,4 +1,5 @@
 -- What a slot is like after all kept sets went.
+use Rattle.std.proofs.lemmas.Grind.{common_steps}
 use Rattle.std.proofs.Common.{◌≡◌, ℕ, ◌+◌, ◌≤◌, ◌⊎◌, ◌&&◌, nat_lt, ne_eqb, Bool, true, false, if◌then◌else◌, List, length, None, inl, inr, refl, sym, ap, ◌∙◌, arith}
 use Rattle.std.proofs.lemmas.List.{get_or_past}
 use Rattle.descriptor_table.specs.Slots.{slot_at}
@@ -55,5 +56,4 @@ module _ {T : Type 0} where
       vacant_out s = ap (λ b. b && (nat_lt s.generation 4294967295 && true)) (ne_eqb (s.layout + 2) 0 (λ e. omega arith))
 
       by_test : (s : Slot T) (b : Bool) → is_kept s ≡ b → is_kept (if b then vacated (aged s) else aged s) ≡ false
-      by_test s true e = vacant_out (aged s)
-      by_test s false e = e
+      by_test s x1 e = grind (arith, common_steps)

@@ -1,6 +1,6 @@
 -- All sets leave.
 use Rattle.std.proofs.lemmas.Grind.{common_steps}
-use Rattle.std.proofs.Common.{◌≡◌, ℕ, ◌+◌, ◌<◌, ◌≤◌, ◌⊎◌, ◌&&◌, ◌||◌, not, Bool, true, false, List, length, Option, None, Some, is_some, inl, inr, refl, sym, ap, ◌∙◌, arith, nat_le}
+use Rattle.std.proofs.Common.{◌≡◌, ℕ, ◌+◌, ◌<◌, ◌≤◌, ◌⊎◌, ◌&&◌, ◌||◌, not, Bool, true, false, List, length, Option, None, is_some, inl, inr, refl, sym, ap, ◌∙◌, arith, nat_le}
 use Rattle.descriptor_table.specs.Slots.{frame_in, frame_of, goes, in_list, is_due, is_in, slot_at, waits_for}
 use Rattle.descriptor_table.specs.Tables.{AreAged, IsBack, Becomes, MayBecome, Turns, count, holds, is_held_use, is_kept, stays, used_for, vacated, waits}
 use Rattle.descriptor_table.specs.declared.slot.Slot.{Slot}
@@ -17,10 +17,7 @@ use Rattle.descriptor_renderer.proofs.Settling.{Follows}
 
 -- one of the four ways to be placed
 placed_or : (a b c d : Bool) → (not a || (b || (c || d))) ≡ true → (a ≡ false) ⊎ ((b ≡ true) ⊎ ((c ≡ true) ⊎ (d ≡ true)))
-placed_or false b c d e = inl refl
-placed_or true true c d e = inr (inl refl)
-placed_or true false true d e = inr (inr (inl refl))
-placed_or true false false d e = inr (inr (inr e))
+placed_or x0 b c d e = grind (arith, common_steps)
 
 held_not_due : (frame : ℕ) (u : Use) (full : Bool) → (is_held_use u && full) ≡ true → (waits_for (λ w. nat_le w frame) u && full) ≡ false
 held_not_due frame u full e = grind (arith, common_steps)
@@ -32,19 +29,16 @@ waiting_due : (frame : ℕ) (u : Use) (full : Bool) → frame_in u ≤ frame →
 waiting_due frame u full le e = grind (arith, common_steps)
 
 empty_none : {T : Type 0} (o : Option T) → is_some o ≡ false → o ≡ None
-empty_none None e = refl
-empty_none (Some x) e = absurd (cc)
+empty_none x0 e = grind (arith, common_steps)
 
 empty_out : (a full : Bool) → full ≡ false → (a && full) ≡ false
-empty_out true full e = e
-empty_out false full e = refl
+empty_out x0 full e = grind (arith, common_steps)
 
 empty_kept : {T : Type 0} (s : Slot T) → is_some s.set ≡ false → is_kept s ≡ false
 empty_kept s e = by_kept (is_kept s) refl
   where
     by_kept : (b : Bool) → is_kept s ≡ b → b ≡ false
-    by_kept false k = refl
-    by_kept true k = sym (kept_full s k) ∙ e
+    by_kept x0 k = grind (arith, common_steps)
 
 -- a slot has no set, and is as it was, or its set left
 abbrev HasLeft : {T : Type 0} → Slot T → Slot T → Type 0
@@ -125,7 +119,8 @@ pub record IsEmptied {T : Type 0} (o n : Slot T) : Type 0 where
   pub follows : Follows 0 o n
 
 module _ {T : Type 0} (generations : ℕ → ℕ) (frame most : ℕ) (old a b c d new : List (Slot T)) (placed : ArePlaced old) (up : IsUpTo frame old) where
-  pub emptied : AreAged old a → Turns (is_due frame) (IsBack (used_for Going) generations most) a b → Turns holds (Becomes (used_for Going)) b c → Turns is_kept (MayBecome (used_for Going)) c d → ((layout : ℕ) → count (is_in (layout + 2)) d ≤ 0) → Turns goes (Becomes vacated) d new → (p : ℕ) → IsEmptied (slot_at old p) (slot_at new p)
+  pub emptied :
+      AreAged old a → Turns (is_due frame) (IsBack (used_for Going) generations most) a b → Turns holds (Becomes (used_for Going)) b c → Turns is_kept (MayBecome (used_for Going)) c d → ((layout : ℕ) → count (is_in (layout + 2)) d ≤ 0) → Turns goes (Becomes vacated) d new → (p : ℕ) → IsEmptied (slot_at old p) (slot_at new p)
   emptied ages settles leave trims few gives p = elim (below_or p (length old)) [
     | inl lt ↦ elim (at_place lt) [
       | inl same ↦ record {

@@ -1,13 +1,12 @@
 -- Each kind of change of a slot follows what it was.
 use Rattle.std.proofs.lemmas.Grind.{common_steps}
-use Rattle.std.proofs.Common.{◌≡◌, ◌≢◌, ℕ, ◌+◌, ◌<◌, ◌&&◌, ◌||◌, nat_lt, not, Bool, true, false, List, length, is_some, inl, inr, refl, ap, subst, ◌∙◌, arith, eq-eqb}
+use Rattle.std.proofs.Common.{◌≡◌, ◌≢◌, ℕ, ◌+◌, ◌<◌, ◌&&◌, ◌||◌, not, Bool, true, false, List, length, is_some, inl, inr, refl, ap, subst, ◌∙◌, arith}
 use Rattle.descriptor_table.specs.Slots.{frame_of, goes, in_list, slot_at, waits_for}
-use Rattle.descriptor_table.specs.Tables.{Turns, aged, came_under, is_current, is_held_use, is_taken, is_taken_use, place_at, stays, used_for, vacated, MayBecome, IsBack}
+use Rattle.descriptor_table.specs.Tables.{Turns, aged, came_under, is_held_use, is_taken, is_taken_use, place_at, stays, used_for, vacated, MayBecome, IsBack}
 use Rattle.descriptor_table.specs.declared.handle.SetHandle.{SetHandle}
 use Rattle.descriptor_table.specs.declared.slot.Slot.{Slot}
 use Rattle.descriptor_table.specs.declared.slot.Use.{Use}
 use Rattle.descriptor_table.specs.declared.slot.Use.TheVariants.{Waits, Kept}
-use Rattle.descriptor_table.proofs.Chains.{and_true}
 use Rattle.descriptor_table.proofs.Holding.{named_or}
 use Rattle.descriptor_renderer.specs.Stores.{is_placed}
 use Rattle.descriptor_renderer.proofs.Settling.{Follows}
@@ -78,16 +77,13 @@ module _ {T : Type 0} where
     }
       where
         by_full : (full : Bool) → placed_use Kept o.layout o.generation full ≡ true
-        by_full false = refl
-        by_full true = ap (λ b. b && (nat_lt o.generation 4294967295 && true)) (eq-eqb (o.layout + 2) (o.layout + 2) refl) ∙ ap (λ b. b && true) (and_true (not o.leaves) (nat_lt o.generation 4294967295) (and_true (not o.leaves && nat_lt o.generation 4294967295) (is_current generations o) may).0).1
+        by_full x0 = grind (arith, common_steps)
 
     pub follows_back : (generations : ℕ → ℕ) (most : ℕ) (new : List (Slot T)) (o n : Slot T) → IsBack vacated generations most new o n → Follows f o n
-    follows_back generations most new o n (inl kept) = follows_kept generations o n kept.0 kept.1
-    follows_back generations most new o n (inr gone) = follows_vacated o n gone.0
+    follows_back generations most new o n x5 = grind (arith, common_steps)
 
     pub follows_left : (new : List (Slot T)) (o n : Slot T) → (MayBecome vacated) new o n → Follows f o n
-    follows_left new o n (inl same) = follows_same o n same
-    follows_left new o n (inr gone) = follows_vacated o n gone
+    follows_left new o n x3 = grind (arith, common_steps)
 
     -- each slot follows, since those that turn do
     pub follow_turns : (test : Slot T → Bool) (becomes : List (Slot T) → Slot T → Slot T → Type 0) (old new : List (Slot T)) → Turns test becomes old new → ((o n : Slot T) → becomes new o n → Follows f o n) → (p : ℕ) → Follows f (slot_at old p) (slot_at new p)
@@ -106,8 +102,7 @@ module _ {T : Type 0} where
   }
     where
       by_full : (full : Bool) → placed_use (Waits f) o.layout o.generation full ≡ true
-      by_full false = refl
-      by_full true = refl
+      by_full x0 = grind (arith, common_steps)
 
   -- the slots of handles follow, and so do all others, as they are as they were
   module _ (f : ℕ) (handles : List SetHandle) (old new : List (Slot T)) (named : (i : ℕ) → i < length handles → Follows f (slot_at old (place_at handles i)) (slot_at new (place_at handles i))) where

@@ -1,4 +1,5 @@
 -- A set that gets a handle: a kept one, or one that came.
+use Rattle.std.proofs.lemmas.Grind.{common_steps}
 use Rattle.std.proofs.Common.{◌≡◌, ◌≢◌, ℕ, ◌+◌, ◌<◌, ◌≤◌, ◌⊎◌, ◌||◌, Bool, true, false, List, length, set, Option, Some, None, is_some, Result, Ok, inl, inr, refl, sym, ap, subst, ◌∙◌, arith}
 use Rattle.std.proofs.lemmas.Bool.{cases_eq}
 use Rattle.std.proofs.lemmas.List.{length-set, set-set}
@@ -22,8 +23,7 @@ use Rattle.descriptor_renderer.proofs.Cleared.{Clears, clears, same_clears}
 use Rattle.descriptor_renderer.proofs.Naming.{free_kept, free_none, given_apart, given_clear, given_never, given_next, kept_as, next_of, seen, seen_apart, seen_clear, seen_free, seen_next}
 
 pub some_of : {T : Type 0} (o : Option T) → is_some o ≡ true → (x : T) × (o ≡ Some x)
-some_of None e = absurd (cc)
-some_of (Some x) e = (x, refl)
+some_of x0 e = grind (arith, common_steps)
 
 ok_same : {p q : ℕ} → ◌≡◌ {A = Result ℕ AllocationError} (Ok p) (Ok q) → q ≡ p
 ok_same e = cc

@@ -1,6 +1,6 @@
 -- Sets that are held, one after another.
 use Rattle.std.proofs.lemmas.Grind.{common_steps}
-use Rattle.std.proofs.Common.{◌≡◌, ◌≢◌, ℕ, zero, suc, ◌+◌, ◌-◌, ◌<◌, ◌≤◌, ◌⊎◌, ◌&&◌, ◌||◌, Bool, true, false, List, [], ◌∷◌, ◌++◌, length, get_or, Some, is_some, IsSome, inl, inr, refl, sym, ap, subst, ◌∙◌, append_assoc, arith}
+use Rattle.std.proofs.Common.{◌≡◌, ◌≢◌, ℕ, ◌+◌, ◌-◌, ◌<◌, ◌≤◌, ◌⊎◌, ◌&&◌, ◌||◌, Bool, true, false, List, [], ◌∷◌, ◌++◌, length, get_or, Some, is_some, IsSome, inl, inr, refl, sym, ap, subst, ◌∙◌, append_assoc, arith}
 use Rattle.std.proofs.lemmas.Bool.{cases_lt}
 use Rattle.std.proofs.lemmas.List.{get_or-append-add, append-nil, get_or_append_left, length-append}
 use Rattle.gpu_descriptor_types.specs.declared.device.DescriptorDevice.{Ghosts}
@@ -69,12 +69,10 @@ module _ {T : Type 0} where
   }
     where
       at : (i : ℕ) → i < length (handle ∷ []) → place_at (handle ∷ []) i ≡ p
-      at zero lt = ap (λ (h : SetHandle). h.place) f.is
-      at (suc i) lt = absurd (omega arith)
+      at x0 lt = grind (arith, common_steps)
 
       is_next : (i : ℕ) (e : SetHandle) → i < length (handle ∷ []) → get_or (handle ∷ []) i e ≡ next_of number (place_at (handle ∷ []) i) (slot_at old (place_at (handle ∷ []) i))
-      is_next zero e lt = f.is ∙ ap (λ q. next_of number q (slot_at old q)) (sym (at 0 lt))
-      is_next (suc i) e lt = absurd (omega arith)
+      is_next x0 e lt = grind (arith, common_steps)
 
   module _ (number : ℕ) (layout : ℕ × ℕ) (a b : List SetHandle) (old mid new : List (Slot T)) (x : HoldEach number layout a old mid) (y : HoldEach number layout b mid new) where
     apart_places : (i k : ℕ) → i < length a → k < length b → place_at a i ≢ place_at b k

@@ -61,7 +61,8 @@ module _ {T : Type 0} (handles : List SetHandle) (old now : List (Slot T)) (took
   }
 
   -- those that settled came back, and those of them that went were given back
-  pub back_each : (number : ℕ) (generations : ℕ → ℕ) (most : ℕ) (mid new : List (Slot T)) → AreHeldOnce number old handles → ArePlaced old → Turns is_taken (IsBack (used_for Going) generations most) now mid → Turns goes (Becomes vacated) mid new → TurnEach handles (IsBack vacated generations most) old new
+  pub back_each :
+      (number : ℕ) (generations : ℕ → ℕ) (most : ℕ) (mid new : List (Slot T)) → AreHeldOnce number old handles → ArePlaced old → Turns is_taken (IsBack (used_for Going) generations most) now mid → Turns goes (Becomes vacated) mid new → TurnEach handles (IsBack vacated generations most) old new
   back_each number generations most mid new once placed settles gives =
       let back = came_back is_taken generations most now mid new (λ s e. (taken_is s e).1) (took_none placed) settles gives in
       record {

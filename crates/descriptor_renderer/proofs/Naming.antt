@@ -1,6 +1,6 @@
 -- What handles name when sets come to slots, or leave them.
 use Rattle.std.proofs.lemmas.Grind.{common_steps}
-use Rattle.std.proofs.Common.{◌≡◌, ◌≢◌, ℕ, ◌+◌, ◌<◌, ◌≤◌, ◌⊎◌, ◌==◌, ◌&&◌, ◌||◌, nat_le, nat_lt, not, Bool, true, false, if◌then◌else◌, Option, None, Some, is_some, inl, inr, refl, sym, ap, ◌∙◌, arith, eq-eqb, ne_eqb}
+use Rattle.std.proofs.Common.{◌≡◌, ◌≢◌, ℕ, ◌+◌, ◌<◌, ◌≤◌, ◌⊎◌, ◌==◌, ◌&&◌, ◌||◌, nat_le, nat_lt, not, Bool, true, false, if◌then◌else◌, Option, None, is_some, inl, inr, refl, sym, ap, ◌∙◌, arith, eq-eqb, ne_eqb}
 use Rattle.std.proofs.lemmas.Bool.{and_left, and_right, cases_eq, cases_lt, le-leb, lt-leb, lt-ltb}
 use Rattle.descriptor_table.specs.Slots.{in_list, is_kept_of, is_live}
 use Rattle.descriptor_table.specs.Tables.{is_kept}
@@ -23,8 +23,7 @@ module _ {T : Type 0} where
   free_none s e = ap (λ o. in_list (s.layout + 2) s.used s.layout s.generation (is_some o) || not (is_some o)) e ∙ or_yes (in_list (s.layout + 2) s.used s.layout s.generation false)
     where
       or_yes : (b : Bool) → (b || true) ≡ true
-      or_yes true = refl
-      or_yes false = refl
+      or_yes x0 = grind (arith, common_steps)
 
   pub free_kept : (s : Slot T) → is_kept s ≡ true → is_free s ≡ true
   free_kept s e = ap (λ b. b || not (is_some s.set)) e
@@ -33,12 +32,7 @@ module _ {T : Type 0} where
   free_is s e = by_set s.set refl e
     where
       by_set : (o : Option T) → s.set ≡ o → (in_list (s.layout + 2) s.used s.layout s.generation (is_some o) || not (is_some o)) ≡ true → (s.set ≡ None) ⊎ (s.used ≡ Kept)
-      by_set None is f = inl is
-      by_set (Some x) is f = inr (kept_use s.layout s.generation s.used s.layout true (or_no (in_list (s.layout + 2) s.used s.layout s.generation true) f)).0
-        where
-          or_no : (b : Bool) → (b || false) ≡ true → b ≡ true
-          or_no true g = refl
-          or_no false g = g
+      by_set x0 is f = grind (arith, common_steps)
 
   module _ (number : ℕ) where
     -- whether a handle is the last one of the slot
@@ -58,8 +52,7 @@ module _ {T : Type 0} where
     next_of p s = record { renderer = number; place = p; generation = s.generation + 1 }
 
     if_none : (b : Bool) → ◌≡◌ {A = Option T} (if b then None else None) None
-    if_none true = refl
-    if_none false = refl
+    if_none x0 = grind (arith, common_steps)
 
     pub seen_free : (frame : ℕ) (opened : Bool) (s : Slot T) (h : SetHandle) → is_free s ≡ true → seen frame opened s h ≡ None
     seen_free frame opened s h free = elim (free_is s free) [

@@ -1,5 +1,6 @@
 -- The sets of a renderer stay of their layouts, and what refusals leave.
-use Rattle.std.proofs.Common.{◌≡◌, ℕ, zero, suc, ◌+◌, ◌<◌, ◌≤◌, ◌&&◌, Bool, true, false, List, length, if◌then◌else◌, Option, Some, None, is_some, inl, inr, refl, sym, ap, subst, ◌∙◌, arith, IfSome}
+use Rattle.std.proofs.lemmas.Grind.{common_steps}
+use Rattle.std.proofs.Common.{◌≡◌, ℕ, suc, ◌+◌, ◌<◌, ◌≤◌, ◌&&◌, Bool, true, false, List, length, if◌then◌else◌, Option, Some, None, is_some, inl, inr, sym, ap, subst, ◌∙◌, arith, IfSome}
 use Rattle.gpu_descriptor_types.specs.Meaning.{Meaning, IsOfLayout}
 use Rattle.gpu_descriptor_types.specs.declared.device.DescriptorDevice.{Ghosts}
 use Rattle.gpu_descriptor.specs.declared.errors.AllocationError.{AllocationError}
@@ -103,18 +104,13 @@ module _ {T : Type 0} where
   found_none number frame opened slots h none = by_live (is_last number slots h && is_live frame opened (slot_at slots h.place).used)
     where
       by_live : (b : Bool) → (if b then (slot_at slots h.place).set else None) ≡ None
-      by_live true = none
-      by_live false = refl
+      by_live x0 = grind (arith, common_steps)
 
 pub if_some : {X : Type 0} (o : Option X) (x : X) (P : X → Type 0) → Some x ≡ o → P x → IfSome o P
 if_some o x P is holds = subst (λ o. IfSome o P) is holds
 
 pub lists_more : (n : ℕ) → lists_with (lists_for n) ≡ lists_for (suc n)
-lists_more zero = refl
-lists_more (suc n) = ap lists_with three ∙ (let two = three in omega arith)
-  where
-    three : n + 3 ≡ suc (n + 2)
-    three = omega arith
+lists_more x0 = grind (arith, common_steps)
 
 module _ {X : Type 0} (layouts : List (Slot X)) (n : ℕ) (x : X) (here : (slot_at layouts n).set ≡ Some x) where
   -- a layout is in a slot
@@ -129,8 +125,7 @@ module _ {X : Type 0} (layouts : List (Slot X)) (n : ℕ) (x : X) (here : (slot_
   layout_listed = listed (length layouts) layout_within
     where
       listed : (m : ℕ) → n < m → n + 2 < lists_for m
-      listed zero lt = absurd (omega arith)
-      listed (suc m) lt = omega arith
+      listed x0 lt = grind (arith, common_steps)
 
 -- the layout of a handle is at its place
 pub layout_here : {L P S D : Type 0} {d : Ghosts D L P S} (r : LayoutRegistry L P S D d) (h : LayoutHandle) (known : SetLayout L) (place : ℕ) → place ≡ h.slot.place → layout_at r h ≡ Some known → (slot_at (layout_slots r) place).set ≡ Some known

@@ -1,5 +1,6 @@
 -- What is left after a cleanup.
-use Rattle.std.proofs.Common.{◌≡◌, ℕ, suc, ◌+◌, ◌<◌, ◌&&◌, ◌||◌, nat_lt, Bool, true, false, not, List, [], ◌∷◌, length, if◌then◌else◌, Option, Some, None, is_some, inl, inr, refl, sym, ap, ◌∙◌, arith}
+use Rattle.std.proofs.lemmas.Grind.{common_steps}
+use Rattle.std.proofs.Common.{◌≡◌, ℕ, suc, ◌+◌, ◌<◌, ◌&&◌, nat_lt, Bool, true, false, List, [], ◌∷◌, length, if◌then◌else◌, Option, None, is_some, inl, inr, refl, ap, ◌∙◌, arith}
 use Rattle.std.proofs.lemmas.Bool.{ne_eqb}
 use Rattle.std.proofs.lemmas.List.{get_or_past}
 use Rattle.descriptor_table.specs.Sets.{joined, sets_in}
@@ -11,8 +12,7 @@ use Rattle.descriptor_table.proofs.Counts.{count_none, none_count}
 use Rattle.descriptor_renderer.specs.Stores.{AreCleaned, is_placed}
 
 and_none : (b : Bool) → (b && false) ≡ false
-and_none true = refl
-and_none false = refl
+and_none x0 = grind (arith, common_steps)
 
 module _ {T : Type 0} where
   -- no slot has a set
@@ -31,8 +31,7 @@ module _ {T : Type 0} where
   ])
     where
       by_test : (o : Slot T) (b : Bool) → is_kept o ≡ b → is_kept (if b then vacated (aged o) else aged o) ≡ false
-      by_test o true e = not_kept (aged o)
-      by_test o false e = e
+      by_test o x1 e = grind (arith, common_steps)
 
   -- with none held, and none that waits, no set is left
   pub cleaned_empty : (old new : List (Slot T)) → ((p : ℕ) → is_placed (slot_at old p) ≡ true) → AreCleaned old new → count holds old ≡ 0 → count waits old ≡ 0 → length (sets_in new) ≡ 0
@@ -43,12 +42,7 @@ module _ {T : Type 0} where
       )))
     where
       by_kept : (o : Slot T) (b : Bool) (x : Option T) → is_kept o ≡ b → o.set ≡ x → is_placed o ≡ true → holds o ≡ false → waits o ≡ false → (if b then vacated (aged o) else aged o).set ≡ None
-      by_kept o true x e is at h w = refl
-      by_kept o false None e is at h w = is
-      by_kept o false (Some x) e is at h w = absurd (
-          let no : is_placed o ≡ false = ap (λ y. not (is_some y) || (holds o || (waits o || is_kept o))) is ∙ ap (λ b. b || (waits o || is_kept o)) h ∙ ap (λ b. b || is_kept o) w ∙ e in
-          let both = sym at ∙ no in
-          cc)
+      by_kept o x1 x e is at h w = grind (arith, common_steps)
 
   -- without a set none is held, and none waits
   pub none_held : (slots : List (Slot T)) → ((p : ℕ) → (slot_at slots p).set ≡ None) → count holds slots ≡ 0

@@ -1,4 +1,5 @@
 -- What slots become when a layout is removed.
+use Rattle.std.proofs.lemmas.Grind.{common_steps}
 use Rattle.std.proofs.Common.{◌≡◌, ◌≢◌, ℕ, ◌+◌, ◌<◌, ◌&&◌, nat_lt, Bool, true, false, if◌then◌else◌, List, None, Option, Some, is_some, inl, inr, refl, sym, ap, subst, ◌∙◌, arith, eq-eqb, ne_eqb}
 use Rattle.std.proofs.lemmas.Bool.{cases_eq}
 use Rattle.gpu_descriptor_types.specs.Meaning.{Meaning}
@@ -53,8 +54,7 @@ module _ {T : Type 0} (layout : ℕ) where
         vacant_out s = ap (λ b. b && (nat_lt s.generation 4294967295 && true)) (ne_eqb (layout + 2) 0 (λ e. omega arith))
 
         by_test : (p : ℕ) (b : Bool) → is_kept_of layout (slot_at old p) ≡ b → is_kept_of layout (slot_at new p) ≡ false
-        by_test p true e = ap (is_kept_of layout) (turns.here p e) ∙ vacant_out (slot_at old p)
-        by_test p false e = ap (is_kept_of layout) (turns.rest p e) ∙ e
+        by_test p x1 e = grind (arith, common_steps)
 
 -- another number counts what it counted
 removed_other : (layout : ℕ) (generations : ℕ → ℕ) (n : ℕ) → n ≢ layout → removed_at layout generations n ≡ generations n
@@ -85,9 +85,7 @@ module _ {L P S : Type 0} (means : Meaning L P S) (layout : ℕ) (generations : 
           own p n x (ap (λ (s : Slot (DescriptorSet S)). s.set) (sym same) ∙ full) (ap came_under (sym same) ∙ at ∙ ap (λ g. (n, g)) (removed_other layout generations n ne))
 
 one_less : (b c : Bool) (r s g h : ℕ) → b ≡ true → c ≡ false → s ≡ r + 1 → h ≡ g → g ≡ r + (if b then 1 else 0) → h ≡ s + (if c then 1 else 0)
-one_less true false r s g h some none more same was = omega arith
-one_less true true r s g h some none more same was = absurd (cc)
-one_less false c r s g h some none more same was = absurd (cc)
+one_less x0 c r s g h some none more same was = grind (arith, common_steps)
 
 -- as many handles were given, and one layout more was removed
 pub counted_removed :
@@ -108,8 +106,7 @@ counted_removed {T = T} layout generations layouts fewer counted there gone othe
 ]
 
 some_counted : (b : Bool) (r g : ℕ) → b ≡ true → g ≡ r + (if b then 1 else 0) → g ≡ r + 1
-some_counted true r g some was = was
-some_counted false r g some was = absurd (cc)
+some_counted x0 r g some was = grind (arith, common_steps)
 
 -- another layout of a number can be removed
 pub removed_fits : {T : Type 0} (layout : ℕ) (generations : ℕ → ℕ) (layouts : List (Slot T)) → AreCounted generations layouts → is_some (slot_at layouts layout).set ≡ true → generations layout < 4294967295

@@ -32,8 +32,7 @@ module _ {T : Type 0} where
       by_set (Some x) f = one_of x s.used s.layout s.generation f
 
   joined_length : (o : Option T) (l : List T) → length (joined o l) ≡ bit (is_some o) + length l
-  joined_length None l = omega arith
-  joined_length (Some x) l = omega arith
+  joined_length x0 l = grind (arith, common_steps)
 
   pub placed_count : (slots : List (Slot T)) → ((p : ℕ) → is_placed (slot_at slots p) ≡ true) → length (sets_in slots) ≡ count holds slots + (count waits slots + count is_kept slots)
   placed_count [] placed = refl

@@ -41,6 +41,7 @@ module _ {L P S D : Type 0} {d : Ghosts D L P S} (layout : L) (number : ℕ) (u 
         kept = λ some. (handle, refl, kept_handle number p u handle old mid new (kept some) renews side);
         comes = λ none. (let both = new_handle layout number p u handle old mid (slots_in new) (comes none) renews in (mid, both.0, both.1, side));
         refused = tt;
-        settles = arrived (ComesOf d.meaning layout number) (frame_in u) old new (handled_arrives (ComesOf d.meaning layout number) (number_of old) (generations_in old) number p u handle (slots_in old) (slots_in new) handles (frame_in u) live (omega arith)) (coming ∙ keeps.coming ∙ rest.none_coming) rest stays;
+        settles = arrived (ComesOf d.meaning layout number) (frame_in u) old new
+            (handled_arrives (ComesOf d.meaning layout number) (number_of old) (generations_in old) number p u handle (slots_in old) (slots_in new) handles (frame_in u) live (omega arith)) (coming ∙ keeps.coming ∙ rest.none_coming) rest stays;
         grows = grow_taken layout (number_of old) number p u handle old mid (slots_in new) used kept comes renews;
       }

@@ -14,10 +14,7 @@ use Rattle.descriptor_table.proofs.Counting.{same_or}
 use Rattle.descriptor_table.proofs.Listed.{IsApart, PassesNone, first_in, first_within, linked, one_more, other_slots, slot_set, still_linked, stay_linked, unlinked}
 
 pub and_true : (a b : Bool) → (a && b) ≡ true → (a ≡ true) × (b ≡ true)
-and_true true true e = (refl, refl)
-and_true true false e = (refl, e)
-and_true false true e = (e, refl)
-and_true false false e = (e, e)
+and_true x0 x1 e = grind (arith, common_steps)
 
 -- a slot is in one list
 apart_from : (j k l : ℕ) (more : Bool) → ((k == l) && more) ≡ true → j ≢ k → ((j == l) && more) ≡ false

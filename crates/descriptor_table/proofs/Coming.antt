@@ -1,5 +1,6 @@
 -- A set that came into a slot.
-use Rattle.std.proofs.Common.{◌≡◌, ◌≢◌, ℕ, zero, suc, ◌+◌, List, [], ◌∷◌, Option, Some, None, refl, sym, ap, ◌∙◌, arith, zero-add}
+use Rattle.std.proofs.lemmas.Grind.{common_steps}
+use Rattle.std.proofs.Common.{◌≡◌, ◌≢◌, ℕ, zero, suc, ◌+◌, List, [], ◌∷◌, Option, Some, None, refl, sym, ap, ◌∙◌, arith}
 use Rattle.descriptor_table.specs.Sets.{joined, sets_in}
 use Rattle.descriptor_table.specs.Slots.{slot_at}
 use Rattle.descriptor_table.specs.Tables.{Puts}
@@ -8,8 +9,7 @@ use Rattle.descriptor_table.proofs.Leaving.{tally, weight_of}
 
 module _ {T : Type 0} (weight : T → ℕ) where
   joins : (o : Option T) (l : List T) → tally weight (joined o l) ≡ weight_of weight o + tally weight l
-  joins None l = sym (zero-add (tally weight l))
-  joins (Some x) l = refl
+  joins x0 l = grind (arith, common_steps)
 
   -- slots whose sets weigh the same
   alike : (l m : List (Slot T)) → ((p : ℕ) → (slot_at m p).set ≡ (slot_at l p).set) → tally weight (sets_in m) ≡ tally weight (sets_in l)

@@ -1,5 +1,6 @@
 -- How many slots pass a test.
-use Rattle.std.proofs.Common.{◌≡◌, ℕ, zero, suc, ◌+◌, ◌<◌, ◌≤◌, Bool, true, false, if◌then◌else◌, List, [], ◌∷◌, length, set, None, refl, sym, ap, ◌∙◌, arith}
+use Rattle.std.proofs.lemmas.Grind.{common_steps}
+use Rattle.std.proofs.Common.{◌≡◌, ℕ, zero, suc, ◌+◌, ◌<◌, ◌≤◌, Bool, false, if◌then◌else◌, List, [], ◌∷◌, length, set, None, refl, sym, ap, ◌∙◌, arith}
 use Rattle.std.proofs.lemmas.List.{get_or_past}
 use Rattle.descriptor_table.specs.Places.{times, walk}
 use Rattle.descriptor_table.specs.Slots.{AreLinked, HasChains, Lists, chain_at, is_in, slot_at}
@@ -15,8 +16,7 @@ abbrev pub bit : Bool → ℕ
 bit b = if b then 1 else 0
 
 bit_few : (b : Bool) → bit b ≤ 1
-bit_few true = omega arith
-bit_few false = omega arith
+bit_few x0 = grind (arith, common_steps)
 
 module _ {T : Type 0} where
   pub count_set : (test : Slot T → Bool) (slots : List (Slot T)) (p : ℕ) (s : Slot T) → p < length slots → count test (set slots p s) + (if test (slot_at slots p) then 1 else 0) ≡ count test slots + (if test s then 1 else 0)
@@ -70,10 +70,8 @@ module _ {T : Type 0} where
   count_none test (s ∷ slots) none zero_count zero = by_test (test s) zero_count
     where
       by_test : (b : Bool) → bit b + count test slots ≡ 0 → b ≡ false
-      by_test true e = absurd (omega arith)
-      by_test false e = refl
+      by_test x0 e = grind (arith, common_steps)
   count_none test (s ∷ slots) none zero_count (suc p) = count_none test slots none (let b = few (test s) in omega arith) p
     where
       few : (b : Bool) → 0 ≤ bit b
-      few true = omega arith
-      few false = omega arith
+      few x0 = grind (arith, common_steps)

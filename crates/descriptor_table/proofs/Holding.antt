@@ -17,8 +17,7 @@ held_use : (u : Use) → is_held_use u ≡ true → u ≡ Held
 held_use u e = grind (arith, common_steps)
 
 and_none : (b : Bool) → (b && false) ≡ false
-and_none true = refl
-and_none false = refl
+and_none x0 = grind (arith, common_steps)
 
 -- a place that a handle of the list has, or none has
 pub named_or : (n : ℕ) (place : ℕ → ℕ) (p : ℕ) → ((i : ℕ) × (i < n) × (place i ≡ p)) ⊎ ((i : ℕ) → i < n → place i ≢ p)

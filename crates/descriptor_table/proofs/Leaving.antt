@@ -1,4 +1,5 @@
 -- Sets that leave their slots, and how many are left.
+use Rattle.std.proofs.lemmas.Grind.{common_steps}
 use Rattle.std.proofs.Common.{◌≡◌, ℕ, zero, suc, ◌+◌, ◌<◌, Bool, false, List, [], ◌∷◌, length, set, zero-add, Option, Some, None, refl, sym, ap, subst, ◌∙◌, arith}
 use Rattle.std.specs.Borrow.{MutBor}
 use Rattle.std.specs.Iterator.{MakesProgress, Yields, YieldsThen, at_most}
@@ -25,8 +26,7 @@ weight_of weight (Some x) = weight x
 
 module _ {T : Type 0} (weight : T → ℕ) where
   tally_joined : (o : Option T) (l : List T) → tally weight (joined o l) ≡ weight_of weight o + tally weight l
-  tally_joined None l = sym (zero-add (tally weight l))
-  tally_joined (Some x) l = refl
+  tally_joined x0 l = grind (arith, common_steps)
 
   -- a slot changed
   pub tally_set : (slots : List (Slot T)) (p : ℕ) (s : Slot T) → p < length slots → tally weight (sets_in (set slots p s)) + weight_of weight (slot_at slots p).set ≡ tally weight (sets_in slots) + weight_of weight s.set

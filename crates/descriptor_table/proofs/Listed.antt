@@ -1,4 +1,5 @@
 -- Lists of the places of slots that pass a test, when a slot changes.
+use Rattle.std.proofs.lemmas.Grind.{common_steps}
 use Rattle.std.proofs.Common.{◌≡◌, ◌≢◌, ℕ, zero, suc, ◌+◌, ◌<◌, ◌≤◌, Bool, true, false, if◌then◌else◌, List, [], ◌∷◌, length, get_or, set, None, inl, inr, refl, sym, ap, subst, ◌∙◌, arith, add-one}
 use Rattle.std.proofs.lemmas.List.{get_or-set_other, get_or-set_same, get_or_past, get_or_read, length-set}
 use Rattle.descriptor_table.specs.Places.{times, walk}
@@ -15,16 +16,13 @@ abbrev pub one : Bool → ℕ
 one b = if b then 1 else 0
 
 pub one_less : (b : Bool) (n : ℕ) → n + 1 ≡ one b → (n ≡ 0) × (b ≡ true)
-one_less true n e = (omega arith, refl)
-one_less false n e = absurd (let f : n + 1 ≡ 0 = e in omega arith)
+one_less x0 n e = grind (arith, common_steps)
 
 pub one_none : (b : Bool) → one b ≡ 0 → b ≡ false
-one_none true e = absurd (let f : 1 ≡ 0 = e in omega arith)
-one_none false e = refl
+one_none x0 e = grind (arith, common_steps)
 
 one_few : (b : Bool) → one b ≤ 1
-one_few true = omega arith
-one_few false = omega arith
+one_few x0 = grind (arith, common_steps)
 
 pub walk_length : (n : ℕ) (next : List ℕ) (first : ℕ) → length (walk n next first) ≡ n
 walk_length zero next first = refl

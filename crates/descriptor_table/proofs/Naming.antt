@@ -1,5 +1,6 @@
 -- What handles name once slots changed.
-use Rattle.std.proofs.Common.{◌≡◌, ◌≢◌, ℕ, ◌<◌, ◌==◌, ◌&&◌, nat_le, nat_lt, Bool, true, false, List, length, slice_index_or, if◌then◌else◌, Option, None, inl, inr, refl, sym, ap, subst, ◌∙◌, eqb-true}
+use Rattle.std.proofs.lemmas.Grind.{common_steps}
+use Rattle.std.proofs.Common.{arith, ◌≡◌, ◌≢◌, ℕ, ◌<◌, ◌==◌, ◌&&◌, nat_le, nat_lt, Bool, true, false, List, length, slice_index_or, if◌then◌else◌, Option, None, inl, inr, refl, sym, ap, subst, ◌∙◌, eqb-true}
 use Rattle.descriptor_table.specs.Sets.{AreHeldOnce, LoseNames, find, is_last, sets_of}
 use Rattle.descriptor_table.specs.Slots.{is_live, slot_at}
 use Rattle.descriptor_table.specs.Tables.{place_at}
@@ -9,12 +10,10 @@ use Rattle.descriptor_table.proofs.Chains.{and_true}
 use Rattle.descriptor_table.proofs.Holding.{held_is, named_or, same_default}
 
 if_both : {T : Type 0} (a b : Bool) (x : Option T) → (if a && b then x else None) ≡ (if a then (if b then x else None) else None)
-if_both true b x = refl
-if_both false b x = refl
+if_both x0 b x = grind (arith, common_steps)
 
 if_neither : {T : Type 0} (a b : Bool) (x : Option T) → b ≡ false → (if a && b then x else None) ≡ None
-if_neither true b x e = ap (λ c. if c then x else None) e
-if_neither false b x e = refl
+if_neither x0 b x e = grind (arith, common_steps)
 
 if_not : {T : Type 0} (a b : Bool) (x : Option T) → a ≡ false → (if a && b then x else None) ≡ None
 if_not a b x e = ap (λ c. if c && b then x else None) e

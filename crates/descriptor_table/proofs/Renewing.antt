@@ -1,13 +1,13 @@
 -- A set that comes into a slot, gets a handle, or leaves.
 use Rattle.std.proofs.lemmas.Grind.{common_steps}
-use Rattle.std.proofs.Common.{◌≡◌, ◌≢◌, ℕ, ◌+◌, ◌<◌, ◌≤◌, ◌==◌, ◌&&◌, Bool, true, false, not, nat_lt, List, length, set, Option, Some, None, is_some, inl, refl, sym, ap, ◌∙◌, arith, eqb-true, ltb-true}
+use Rattle.std.proofs.Common.{◌≡◌, ◌≢◌, ℕ, ◌+◌, ◌<◌, ◌≤◌, ◌==◌, ◌&&◌, Bool, true, false, nat_lt, List, length, set, Option, Some, None, is_some, inl, refl, sym, ap, ◌∙◌, arith, ltb-true}
 use Rattle.std.proofs.lemmas.List.{length-set, set-set}
 use Rattle.descriptor_table.specs.Slots.{goes, in_list, is_in, slot_at}
 use Rattle.descriptor_table.specs.Tables.{GivesFirst, HasRoom, Picks, Puts, Renews, Stays, count, is_usable, renewed, slots_of, usable_of, used_for, vacated}
 use Rattle.descriptor_table.specs.declared.handle.SetHandle.{SetHandle}
 use Rattle.descriptor_table.specs.declared.set_table.SetTable.{SetTable}
 use Rattle.descriptor_table.specs.declared.slot.Use.{Use}
-use Rattle.descriptor_table.specs.declared.slot.Use.TheVariants.{Held, Drawn, Waits, Kept, Going, Taken, Vacant}
+use Rattle.descriptor_table.specs.declared.slot.Use.TheVariants.{Held, Drawn, Waits, Kept, Taken, Vacant}
 use Rattle.descriptor_table.specs.declared.slot.Slot.{Slot}
 use Rattle.descriptor_table.proofs.Chains.{and_true, lists_apart, taken_no_list}
 use Rattle.descriptor_table.proofs.Counts.{bit, count_set, same_count}
@@ -131,9 +131,7 @@ module _ {T : Type 0} where
       by_use Kept e =
           let both = and_true (nat_lt s.generation 4294967295) (is_some s.set) (and_true (k == (s.layout + 2)) (nat_lt s.generation 4294967295 && is_some s.set) e).1 in
           (ltb-true s.generation 4294967295 both.0, both.1)
-      by_use Going e = absurd (let z = eqb-true k 1 (and_true (k == 1) (is_some s.set) e).0 in omega arith)
-      by_use Taken e = absurd (cc)
-      by_use Vacant e = absurd (let z = eqb-true k 0 (and_true (k == 0) (nat_lt s.generation 4294967295 && not (is_some s.set)) e).0 in omega arith)
+      by_use x0 e = grind (arith, common_steps)
 
   pub kept_full : (s : Slot T) → is_in (s.layout + 2) s ≡ true → is_some s.set ≡ true
   kept_full s e = (kept_is (s.layout + 2) s (omega arith) e).1

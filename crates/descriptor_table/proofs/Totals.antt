@@ -1,4 +1,5 @@
 -- How many slots there are in several lists together.
+use Rattle.std.proofs.lemmas.Grind.{common_steps}
 use Rattle.std.proofs.Common.{◌≡◌, ◌≢◌, ℕ, zero, suc, ◌+◌, ◌<◌, ◌≤◌, ◌==◌, ◌&&◌, ◌||◌, nat_lt, not, Bool, true, false, List, length, is_some, inl, inr, refl, sym, ap, subst, ◌∙◌, arith, eq-eqb, ne_eqb}
 use Rattle.std.proofs.lemmas.Bool.{and_right, cases_order, le-ltb, lt-ltb, or_from, or_left, or_right}
 use Rattle.std.proofs.lemmas.List.{get_or_past}
@@ -18,8 +19,7 @@ use Rattle.descriptor_table.proofs.Listed.{none_in}
 
 -- the two parts of a test
 bits_here : (more a b c : Bool) → a ≡ true → b ≡ false → c ≡ true → bit (more && a) ≡ bit (more && b) + bit (c && more)
-bits_here true a b c x y z = let a' = ap bit x in let b' = ap bit y in let c' = ap (λ c. bit (c && true)) z in omega arith
-bits_here false a b c x y z = let c' = ap (λ c. bit (c && false)) z in omega arith
+bits_here x0 a b c x y z = grind (arith, common_steps)
 
 bits_other : (more a b c : Bool) → a ≡ b → c ≡ false → bit (more && a) ≡ bit (more && b) + bit (c && more)
 bits_other more a b c x z = let a' = ap (λ a. bit (more && a)) x in let c' = ap (λ c. bit (c && more)) z in omega arith
@@ -28,9 +28,7 @@ bits_none : (x y more a b : Bool) → x ≡ false → y ≡ false → bit ((x &&
 bits_none x y more a b ex ey = let a' = ap (λ x. bit ((x && more) && a)) ex in let b' = ap (λ x. bit ((x && more) && b)) ex in let c' = ap (λ y. bit (y && more)) ey in omega arith
 
 bits_or : (a b : Bool) → (b ≡ true → a ≡ false) → bit (a || b) ≡ bit a + bit b
-bits_or true true apart = absurd (let no : true ≡ false = apart refl in cc)
-bits_or true false apart = omega arith
-bits_or false b apart = omega arith
+bits_or x0 b apart = grind (arith, common_steps)
 
 -- below one number more
 split_below : (n k : ℕ) (more : Bool) → bit (more && nat_lt n (k + 1)) ≡ bit (more && nat_lt n k) + bit ((k == n) && more)
@@ -95,8 +93,7 @@ module _ {T : Type 0} where
   kept_end slots next chains k linked all = count_as (kept_below k) is_kept slots (λ p lt. here (slot_at slots p) p refl)
     where
       and_yes : (a b : Bool) → b ≡ true → (a && b) ≡ a
-      and_yes true b e = e
-      and_yes false b e = refl
+      and_yes x0 b e = grind (arith, common_steps)
 
       none : (j : ℕ) → k ≤ j → (p : ℕ) → is_in j (slot_at slots p) ≡ false
       none j le = none_in is_in slots next (chain_at chains) linked j (ap (λ (d : Chain). d.count) (get_or_past chains j (record { first = 0; count = 0 }) (omega arith)))

@@ -109,12 +109,10 @@ module _ {T : Type 0} where
 
   -- a set that settled waits no longer, and no call has it
   pub settled_not_due : (generations : ℕ → ℕ) (frame most : ℕ) (l : List (Slot T)) (o n : Slot T) → IsBack (used_for Going) generations most l o n → is_due frame n ≡ false
-  settled_not_due generations frame most l o n (inl kept) = ap (is_due frame) kept.0
-  settled_not_due generations frame most l o n (inr goes) = ap (is_due frame) goes.0
+  settled_not_due generations frame most l o n x6 = grind (arith, common_steps)
 
   pub settled_not_taken : (generations : ℕ → ℕ) (most : ℕ) (l : List (Slot T)) (o n : Slot T) → IsBack (used_for Going) generations most l o n → is_taken n ≡ false
-  settled_not_taken generations most l o n (inl kept) = ap is_taken kept.0
-  settled_not_taken generations most l o n (inr goes) = ap is_taken goes.0
+  settled_not_taken generations most l o n x5 = grind (arith, common_steps)
 
   -- a set that waits, or that a call has, is in no list
   pub due_not_listed : (frame : ℕ) (s : Slot T) → is_due frame s ≡ true → (k : ℕ) → is_in k s ≡ false
@@ -163,8 +161,7 @@ module _ {T : Type 0} where
 
   -- a set in use for the other is not taken
   settled_out : (b : Bool) (s : Slot T) → is_taken (used_for (if b then Kept else Going) s) ≡ false
-  settled_out true s = refl
-  settled_out false s = refl
+  settled_out x0 s = grind (arith, common_steps)
 
   -- what becomes of the slots when a slot turns, if it passes the test
   pub record TurnsOne (test : Slot T → Bool) (becomes : List (Slot T) → Slot T → Slot T → Type 0) (old now new : List (Slot T)) (p : ℕ) : Type 0 where
@@ -196,7 +193,8 @@ module _ {T : Type 0} where
               others = λ q none. ap (λ l. test (slot_at l q)) all ∙ none;
             }
 
-  pub settle_one : (generations : ℕ → ℕ) (most : ℕ) (old now new : List (Slot T)) (p : ℕ) → Turning is_taken (IsBack (used_for Going) generations most) old now → p < length now → AtIf is_taken p (used_for (next_use generations most now p)) now new → TurnsOne is_taken (IsBack (used_for Going) generations most) old now new p
+  pub settle_one :
+      (generations : ℕ → ℕ) (most : ℕ) (old now new : List (Slot T)) (p : ℕ) → Turning is_taken (IsBack (used_for Going) generations most) old now → p < length now → AtIf is_taken p (used_for (next_use generations most now p)) now new → TurnsOne is_taken (IsBack (used_for Going) generations most) old now new p
   settle_one generations most old now new p turning within is = turn_one is_taken (IsBack (used_for Going) generations most) old now new p (next_use generations most now p) turning within is step (settled_out (may_stay generations most now (slot_at now p)) (slot_at now p))
     where
       step : is_taken (slot_at now p) ≡ true → Turning is_taken (IsBack (used_for Going) generations most) old new
