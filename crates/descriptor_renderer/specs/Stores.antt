@@ -179,7 +179,7 @@ module _ {L P S D : Type 0} {d : Ghosts D L P S} where
     pub coming : coming_in new ≡ coming_in old
 
   -- the slots, the allocator, the ledger and the sets that are on their way are as they were
-  pub record KeepsSets (old new : StoreOver d) : Type 0 where
+  pub record KeepsContents (old new : StoreOver d) : Type 0 where
     pub slots : slots_in new ≡ slots_in old
     pub side : side_of new ≡ side_of old
     pub coming : coming_in new ≡ coming_in old

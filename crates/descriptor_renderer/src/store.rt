@@ -44,7 +44,7 @@ pub(crate) struct Store<L, P, S, D: DescriptorDevice<L, P, S>> {
 }
 
 impl<L: Drop, P: Drop, S: Drop, D: DescriptorDevice<L, P, S>> Store<L, P, S, D> {
-    ghost use Rattle.descriptor_renderer.specs.Stores.{IsAtRest, KeepsSets, KeepsStore, coming_in, kept_of, ledger_of};
+    ghost use Rattle.descriptor_renderer.specs.Stores.{IsAtRest, KeepsContents, KeepsStore, coming_in, kept_of, ledger_of};
     ghost use Rattle.descriptor_renderer.specs.Stores.{bound_of, limit_of, lists_in, number_of};
     ghost use Rattle.descriptor_renderer.specs.Stores.{pools_besides, side_of, slots_in};
 
@@ -78,7 +78,7 @@ impl<L: Drop, P: Drop, S: Drop, D: DescriptorDevice<L, P, S>> Store<L, P, S, D> 
     /// Reserves memory for one layout more.
     pub(crate) fn reserve_layout(&mut self) -> Result<(), AllocError>
         ensures room { OnOk result (HasListRoom self.new.table) }
-        ensures sets { KeepsSets self.old self.new }
+        ensures sets { KeepsContents self.old self.new }
         ensures stays { KeepsStore self.old self.new }
     {
         self.table.reserve_layout()
@@ -89,7 +89,7 @@ impl<L: Drop, P: Drop, S: Drop, D: DescriptorDevice<L, P, S>> Store<L, P, S, D> 
         requires { HasListRoom self.old.table }
         ensures settings { HasSettings (record (settings_of self.old.table)
             { lists = lists_with (lists_in self.old) }) self.new.table }
-        ensures sets { KeepsSets self.old self.new }
+        ensures sets { KeepsContents self.old self.new }
     {
         self.table.add_layout();
     }
