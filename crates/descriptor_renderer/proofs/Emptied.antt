@@ -120,7 +120,8 @@ pub record IsEmptied {T : Type 0} (o n : Slot T) : Type 0 where
 
 module _ {T : Type 0} (generations : ℕ → ℕ) (frame most : ℕ) (old a b c d new : List (Slot T)) (placed : ArePlaced old) (up : IsUpTo frame old) where
   pub emptied :
-      AreAged old a → Turns (is_due frame) (IsBack (used_for Going) generations most) a b → Turns holds (Becomes (used_for Going)) b c → Turns is_kept (MayBecome (used_for Going)) c d → ((layout : ℕ) → count (is_in (layout + 2)) d ≤ 0) → Turns goes (Becomes vacated) d new → (p : ℕ) → IsEmptied (slot_at old p) (slot_at new p)
+      AreAged old a → Turns (is_due frame) (IsBack (used_for Going) generations most) a b → Turns holds (Becomes (used_for Going)) b c
+      → Turns is_kept (MayBecome (used_for Going)) c d → ((layout : ℕ) → count (is_in (layout + 2)) d ≤ 0) → Turns goes (Becomes vacated) d new → (p : ℕ) → IsEmptied (slot_at old p) (slot_at new p)
   emptied ages settles leave trims few gives p = elim (below_or p (length old)) [
     | inl lt ↦ elim (at_place lt) [
       | inl same ↦ record {

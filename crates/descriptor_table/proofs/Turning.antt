@@ -194,7 +194,8 @@ module _ {T : Type 0} where
             }
 
   pub settle_one :
-      (generations : ℕ → ℕ) (most : ℕ) (old now new : List (Slot T)) (p : ℕ) → Turning is_taken (IsBack (used_for Going) generations most) old now → p < length now → AtIf is_taken p (used_for (next_use generations most now p)) now new → TurnsOne is_taken (IsBack (used_for Going) generations most) old now new p
+      (generations : ℕ → ℕ) (most : ℕ) (old now new : List (Slot T)) (p : ℕ) → Turning is_taken (IsBack (used_for Going) generations most) old now → p < length now
+      → AtIf is_taken p (used_for (next_use generations most now p)) now new → TurnsOne is_taken (IsBack (used_for Going) generations most) old now new p
   settle_one generations most old now new p turning within is = turn_one is_taken (IsBack (used_for Going) generations most) old now new p (next_use generations most now p) turning within is step (settled_out (may_stay generations most now (slot_at now p)) (slot_at now p))
     where
       step : is_taken (slot_at now p) ≡ true → Turning is_taken (IsBack (used_for Going) generations most) old new

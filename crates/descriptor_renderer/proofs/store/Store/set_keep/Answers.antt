@@ -8,7 +8,8 @@ use Rattle.descriptor_renderer.proofs.Back.{given_kept, left}
 use Rattle.descriptor_renderer.proofs.Cleaned.{gone_sets}
 use Rattle.descriptor_renderer.proofs.Following.{follow_turns, follows_left, none_goes}
 use Rattle.descriptor_renderer.proofs.Settling.{settled}
-use Rattle.descriptor_renderer.proofs.store.Store.set_keep.Goals.{After-set_most}
+use Rattle.descriptor_renderer.proofs.store.Store.set_keep.Given.{Over}
+use Rattle.descriptor_renderer.proofs.store.Store.set_keep.Goals.{After-give, After-set_most}
 use Rattle.descriptor_renderer.proofs.store.Store.set_keep.Goals as goal
 
 pub set_most-requires : goal.set_most-requires
@@ -31,19 +32,21 @@ invariant_of-self-clause-exact g c = exact_as c.args.self.now (same_sets g (goal
 pub invariant_of-self-clause-accounted : goal.invariant_of-self-clause-accounted
 invariant_of-self-clause-accounted g c = accounted_as c.args.self.now (same_sets g (goal.at.invariant_of-self-clause-accounted g c).After-set_most)
 
-pub returns-clause-trims : goal.returns-clause-trims
-returns-clause-trims g c =
+-- those that were let go were given back
+gives : (g : Over) (c : After-give g) → Turns goes (Becomes vacated) (slots_of c.trim.new.self) (slots_of c.give.new.self.table)
+gives g c = subst (λ v. Turns goes (Becomes vacated) v.items (slots_of c.give.new.self.table)) c.set_most.ensures.slots c.give.ensures.turns
+
+all : (g : Over) (c : After-give g) → Turns is_kept (MayBecome vacated) (slots_of c.args.self.now.table) (slots_of c.give.new.self.table)
+all g c =
     let old = slots_of c.args.self.now.table in
-    let new = slots_of c.give.new.self.table in
-    let gives = c.give.ensures in
-    let turns = subst (λ v. Turns goes (Becomes vacated) v.items new) c.set_most.ensures.slots gives.turns in
-    record { turns = left old (slots_of c.trim.new.self) new (none_goes old c.requires.rest.placed) c.trim.ensures.turns.slots turns; back = gives.back }
+    left old (slots_of c.trim.new.self) (slots_of c.give.new.self.table) (none_goes old c.requires.rest.placed) c.trim.ensures.turns.slots (gives g c)
+
+pub returns-clause-trims : goal.returns-clause-trims
+returns-clause-trims g c = record { turns = all g c; back = c.give.ensures.back }
 
 pub returns-clause-few : goal.returns-clause-few
 returns-clause-few g c = λ layout.
-    let new = slots_of c.give.new.self.table in
-    let turns = subst (λ v. Turns goes (Becomes vacated) v.items new) c.set_most.ensures.slots c.give.ensures.turns in
-    let same = given_kept (slots_of c.trim.new.self) new turns (layout + 2) (omega arith) in
+    let same = given_kept (slots_of c.trim.new.self) (slots_of c.give.new.self.table) (gives g c) (layout + 2) (omega arith) in
     let few = c.trim.ensures.few layout in
     omega arith
 
@@ -51,6 +54,4 @@ pub returns-clause-settles : goal.returns-clause-settles
 returns-clause-settles g c =
     let old = slots_of c.args.self.now.table in
     let new = slots_of c.give.new.self.table in
-    let turns = subst (λ v. Turns goes (Becomes vacated) v.items new) c.set_most.ensures.slots c.give.ensures.turns in
-    let all = left old (slots_of c.trim.new.self) new (none_goes old c.requires.rest.placed) c.trim.ensures.turns.slots turns in
-    settled 0 c.args.self.now c.give.new.self (follow_turns 0 is_kept (MayBecome vacated) old new all (follows_left 0 new)) (c.give.ensures.stays.coming ∙ c.requires.rest.none_coming) c.requires.rest (search rules)
+    settled 0 c.args.self.now c.give.new.self (follow_turns 0 is_kept (MayBecome vacated) old new (all g c) (follows_left 0 new)) (c.give.ensures.stays.coming ∙ c.requires.rest.none_coming) c.requires.rest (search rules)
