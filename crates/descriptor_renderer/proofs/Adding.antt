@@ -1,6 +1,6 @@
 -- A layout that comes into a slot and has a handle, and one that leaves.
 use Rattle.std.proofs.lemmas.Grind.{common_steps}
-use Rattle.std.proofs.Common.{◌≡◌, ◌≢◌, ℕ, ◌+◌, ◌<◌, ◌⊎◌, Bool, true, false, List, [], ◌∷◌, set, slice_index_or, if◌then◌else◌, Option, None, Some, is_some, IsSome, inl, inr, refl, sym, ap, subst, ◌∙◌, arith}
+use Rattle.std.proofs.Common.{◌≡◌, ◌≢◌, ℕ, ◌+◌, ◌<◌, ◌⊎◌, Bool, true, false, List, [], ◌∷◌, set, slice_index_or, if◌then◌else◌, Option, None, Some, IsSome, inl, inr, refl, sym, ap, subst, ◌∙◌, arith}
 use Rattle.descriptor_table.specs.Sets.{AreHeldOnce, LoseNames, Names, is_held, sets_of}
 use Rattle.descriptor_table.specs.Slots.{is_live, slot_at}
 use Rattle.descriptor_table.specs.Tables.{Grows, Puts, Renews, place_at, renewed, vacated}
@@ -11,7 +11,6 @@ use Rattle.descriptor_table.proofs.Counting.{same_or}
 use Rattle.descriptor_table.proofs.Holding.{held_is}
 use Rattle.descriptor_table.proofs.Naming.{names_lost}
 use Rattle.descriptor_table.proofs.Listed.{other_slots, slot_set}
-use Rattle.descriptor_renderer.specs.Own.{AreCounted, IsCounted}
 use Rattle.descriptor_renderer.proofs.Cleared.{same_clears}
 use Rattle.descriptor_renderer.proofs.Growing.{grow_new}
 use Rattle.descriptor_renderer.proofs.Handing.{named, new_fills}
@@ -42,16 +41,6 @@ module _ {T : Type 0} (number p : ℕ) (x : T) (handle : SetHandle) (old mid new
   added_only n y is = elim (same_or n p) [
     | inl e ↦ inr (same_some y x (sym is ∙ ap (λ q. (slot_at new q).set) e ∙ added_here))
     | inr ne ↦ inl (ap (λ (s : Slot T). s.set) (sym (added_there n ne)) ∙ is)
-  ]
-
-  -- one handle more was given where a layout came
-  pub added_counted : (removed : ℕ → ℕ) → AreCounted removed old → AreCounted removed new
-  added_counted removed counted n = elim (same_or n p) [
-    | inl e ↦ subst (λ n. IsCounted (removed n) (slot_at new n)) (sym e) (
-        let more : (slot_at new p).generation ≡ (slot_at old p).generation + 1 = ap (λ (s : Slot T). s.generation) slot_here ∙ ap (λ (s : Slot T). s.generation + 1) puts.here in
-        let few = puts.next in
-        (one_more (is_some (slot_at old p).set) (is_some (slot_at new p).set) (removed p) (slot_at old p).generation (slot_at new p).generation (ap is_some puts.empty) (ap is_some added_here) more (counted p).0, omega arith))
-    | inr ne ↦ subst (IsCounted (removed n)) (sym (added_there n ne)) (counted n)
   ]
 
   pub added_grows : Grows old new

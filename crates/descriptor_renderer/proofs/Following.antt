@@ -2,11 +2,11 @@
 use Rattle.std.proofs.lemmas.Grind.{common_steps}
 use Rattle.std.proofs.Common.{◌≡◌, ◌≢◌, ℕ, ◌+◌, ◌<◌, ◌&&◌, ◌||◌, not, Bool, true, false, List, length, is_some, inl, inr, refl, ap, subst, ◌∙◌, arith}
 use Rattle.descriptor_table.specs.Slots.{frame_of, goes, in_list, slot_at, waits_for}
-use Rattle.descriptor_table.specs.Tables.{Turns, aged, came_under, is_held_use, is_taken, is_taken_use, place_at, stays, used_for, vacated, MayBecome, IsBack}
+use Rattle.descriptor_table.specs.Tables.{Turns, aged, came_under, is_held_use, is_taken, is_taken_use, place_at, used_for, vacated, MayBecome, IsBack}
 use Rattle.descriptor_table.specs.declared.handle.SetHandle.{SetHandle}
 use Rattle.descriptor_table.specs.declared.slot.Slot.{Slot}
 use Rattle.descriptor_table.specs.declared.slot.Use.{Use}
-use Rattle.descriptor_table.specs.declared.slot.Use.TheVariants.{Waits, Kept}
+use Rattle.descriptor_table.specs.declared.slot.Use.TheVariants.{Waits}
 use Rattle.descriptor_table.proofs.Holding.{named_or}
 use Rattle.descriptor_renderer.specs.Stores.{is_placed}
 use Rattle.descriptor_renderer.proofs.Settling.{Follows}
@@ -67,17 +67,6 @@ module _ {T : Type 0} where
       placed = λ h. two.placed (one.placed h);
       frame = λ g le up. two.frame g le (one.frame g le up);
     }
-
-    -- a set that may stay is kept
-    pub follows_kept : (generations : ℕ → ℕ) (o n : Slot T) → n ≡ used_for Kept o → stays generations o ≡ true → Follows f o n
-    follows_kept generations o n e may = record {
-      set = inr (ap (λ (s : Slot T). s.set) e, ap came_under e);
-      placed = λ h. ap is_placed e ∙ by_full (is_some o.set);
-      frame = λ g le up. (let same = ap frame_of e in omega arith);
-    }
-      where
-        by_full : (full : Bool) → placed_use Kept o.layout o.generation full ≡ true
-        by_full x0 = grind (arith, common_steps)
 
     pub follows_back : (generations : ℕ → ℕ) (most : ℕ) (new : List (Slot T)) (o n : Slot T) → IsBack vacated generations most new o n → Follows f o n
     follows_back generations most new o n x5 = grind (arith, common_steps)

@@ -1,7 +1,6 @@
 -- What is left after a cleanup.
 use Rattle.std.proofs.lemmas.Grind.{common_steps}
-use Rattle.std.proofs.Common.{◌≡◌, ℕ, suc, ◌+◌, ◌<◌, ◌&&◌, nat_lt, Bool, true, false, List, [], ◌∷◌, length, if◌then◌else◌, Option, None, is_some, inl, inr, refl, ap, ◌∙◌, arith}
-use Rattle.std.proofs.lemmas.Bool.{ne_eqb}
+use Rattle.std.proofs.Common.{◌≡◌, ℕ, suc, ◌<◌, ◌&&◌, Bool, true, false, List, [], ◌∷◌, length, if◌then◌else◌, Option, None, is_some, inl, inr, refl, ap, ◌∙◌, arith}
 use Rattle.std.proofs.lemmas.List.{get_or_past}
 use Rattle.descriptor_table.specs.Sets.{joined, sets_in}
 use Rattle.descriptor_table.specs.Slots.{slot_at, waits_for}
@@ -19,9 +18,6 @@ module _ {T : Type 0} where
   pub no_sets : (slots : List (Slot T)) → ((p : ℕ) → p < length slots → (slot_at slots p).set ≡ None) → sets_in slots ≡ []
   no_sets [] none = refl
   no_sets (s ∷ slots) none = ap (λ o. joined o (sets_in slots)) (none 0 (omega arith)) ∙ no_sets slots (λ p within. none (suc p) (omega arith))
-
-  not_kept : (s : Slot T) → is_kept (vacated s) ≡ false
-  not_kept s = ap (λ b. b && (nat_lt s.generation 4294967295 && true)) (ne_eqb (s.layout + 2) 0 (λ e. omega arith))
 
   -- no set is kept
   pub cleaned_kept : (old new : List (Slot T)) → AreCleaned old new → count is_kept new ≡ 0

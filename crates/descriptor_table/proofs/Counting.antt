@@ -1,5 +1,4 @@
 -- Lists of places, and how often each place is in them.
-use Rattle.std.proofs.lemmas.Grind.{common_steps}
 use Rattle.std.proofs.Common.{◌≡◌, ◌≢◌, ℕ, zero, suc, ◌+◌, ◌<◌, ◌≤◌, ◌==◌, Bool, if◌then◌else◌, List, [], ◌∷◌, length, get_or, set, ◌⊎◌, inl, inr, refl, sym, ap, subst, ◌∙◌, arith, eq-eqb, ne_eqb}
 use Rattle.std.proofs.lemmas.List.{get_or-set_other}
 use Rattle.descriptor_table.specs.Places.{times, walk}
@@ -30,9 +29,6 @@ times_there p q l ne = rw (ne_eqb p q ne) refl
 -- one more if the test holds
 abbrev more : Bool → ℕ → ℕ
 more b n = if b then n + 1 else n
-
-more_swap : (a b : Bool) (n : ℕ) → more a (more b n) ≡ more b (more a n)
-more_swap x0 x1 n = grind (arith, common_steps)
 
 -- a list in which no place is has no item
 pub none_times : (l : List ℕ) → ((p : ℕ) → times p l ≡ 0) → l ≡ []

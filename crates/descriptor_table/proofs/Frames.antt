@@ -1,9 +1,6 @@
 -- The lists of sets that wait, by the code's chains of frames.
-use Rattle.std.proofs.Common.{arith, ◌≡◌, ◌≢◌, ℕ, zero, suc, ◌+◌, ◌-◌, ◌<◌, ◌≤◌, ◌==◌, ◌&&◌, nat_le, Bool, true, false}
-use Rattle.std.proofs.Common.{arith, if◌then◌else◌, List, [], ◌∷◌, ◌++◌, insert, length, get_or, set, None}
-use Rattle.std.proofs.Common.{is_some, inl, inr, refl, sym, ap, subst, ◌∙◌, arith, eq-eqb, ne_eqb}
-use Rattle.std.proofs.Common.{arith, leb-true}
-use Rattle.std.proofs.lemmas.List.{length-set}
+use Rattle.std.proofs.Common.{arith, ◌≡◌, ◌≢◌, ℕ, zero, suc, ◌+◌, ◌-◌, ◌<◌, ◌≤◌, ◌==◌, ◌&&◌, nat_le, Bool, true, false, arith, if◌then◌else◌, List, [], ◌∷◌, ◌++◌, insert, length, get_or, set, None, is_some, inl, inr, refl, sym, ap, subst, ◌∙◌, arith, eq-eqb, ne_eqb, arith, leb-true}
+use Rattle.std.proofs.lemmas.List.{length-set, get_or_past, get_or-set_other, get_or-set_same, get_or_read}
 use Rattle.descriptor_table.specs.Places.{times, walk}
 use Rattle.descriptor_table.specs.Slots.{AreFramed, HasFrames, chain_of, frame_at, is_due, is_of, slot_at, waits_for}
 use Rattle.descriptor_table.specs.declared.slot.Use.{Use}
@@ -11,12 +8,10 @@ use Rattle.descriptor_table.specs.declared.slot.Use.TheVariants.{Held, Drawn, Wa
 use Rattle.descriptor_table.specs.declared.slot.Slot.{Slot}
 use Rattle.descriptor_table.specs.declared.slot.Chain.{Chain}
 use Rattle.descriptor_table.specs.declared.slot.FrameChain.{FrameChain}
-use Rattle.descriptor_table.proofs.Counting.{few_places, same_or, times_here, times_there}
+use Rattle.descriptor_table.proofs.Counting.{few_places, same_or, times_here, times_there, below_or}
 use Rattle.descriptor_table.proofs.Listed.{begun, first_in, first_within, linked, none_in, one_more, unlinked}
 use Rattle.descriptor_table.proofs.Chains.{frames_apart, frames_none, taken_no_frame}
 use Rattle.descriptor_table.specs.Tables.{used_for}
-use Rattle.std.proofs.lemmas.List.{get_or_past, get_or-set_other, get_or-set_same, get_or_read}
-use Rattle.descriptor_table.proofs.Counting.{below_or}
 
 -- the chain without its frame
 abbrev pub links_of : FrameChain → Chain

@@ -226,12 +226,6 @@ module _ {T : Type 0} where
           let all : new ≡ with_use p u now = is ∙ ap (λ b. if b then with_use p u now else now) e in
           turn_step test (λ l o n. n ≡ used_for u o) old now new p (used_for u (slot_at now p)) turning within e all (λ o n w. w) (λ o n w. ap test w ∙ out o) refl
 
-  -- a test that no slot passes, nor one past the end
-  pub none_passes : (test : Slot T → Bool) (slots : List (Slot T)) → test (record { generation = 0; layout = 0; layout_generation = 0; used = Taken; leaves = false; set = None }) ≡ false → ((p : ℕ) → p < length slots → test (slot_at slots p) ≡ false) → (p : ℕ) → test (slot_at slots p) ≡ false
-  none_passes test [] past none p = past
-  none_passes test (s ∷ slots) past none zero = none 0 (omega arith)
-  none_passes test (s ∷ slots) past none (suc p) = none_passes test slots past (λ q lt. none (suc q) (omega arith)) p
-
   pub above_of : (k most : ℕ) (r : Option ℕ) (old new : List (Slot T)) → PicksFirst (is_in k) r old new → PicksAbove k most r old new
   above_of k most None old new picks = (let h = none_count (is_in k) old picks.none in omega arith, picks.slots)
   above_of k most (Some p) old new picks = picks

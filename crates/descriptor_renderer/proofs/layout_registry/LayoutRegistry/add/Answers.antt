@@ -2,8 +2,7 @@ use Rattle.std.proofs.Common.{false, inl, inr, sym, subst, ◌∙◌}
 use Rattle.gpu_descriptor.specs.Caller.SetLayouts.{IsMeant}
 use Rattle.descriptor_table.specs.Sets.{Names, sets_of}
 use Rattle.descriptor_table.specs.Tables.{Grows, generations_of, number_of, slots_of}
-use Rattle.descriptor_renderer.specs.Own.{AreCounted}
-use Rattle.descriptor_renderer.proofs.Adding.{added_counted, added_grows, added_names, added_only}
+use Rattle.descriptor_renderer.proofs.Adding.{added_grows, added_names, added_only}
 use Rattle.descriptor_renderer.proofs.layout_registry.LayoutRegistry.add.Goals as goal
 
 pub invariant_of-self-clause-meant : goal.invariant_of-self-clause-meant
@@ -23,13 +22,6 @@ returns-clause-names g c =
     let from = subst (λ l. Names c.hold.result c.args.layout (sets_of (number_of mid) 0 false l) (sets_of (number_of mid) 0 false (slots_of new))) c.reserve.ensures.keeps.slots names in
     let to = subst (λ n. Names c.hold.result c.args.layout (sets_of (number_of mid) 0 false (slots_of old)) (sets_of n 0 false (slots_of new))) (sym c.hold.ensures.stays.settings.number) from in
     subst (λ n. Names c.hold.result c.args.layout (sets_of n 0 false (slots_of old)) (sets_of (number_of new) 0 false (slots_of new))) (c.put-place.ensures.settings.number ∙ c.reserve.ensures.keeps.registry) to
-
-pub returns-clause-counted : goal.returns-clause-counted
-returns-clause-counted g c = λ generations counted.
-    let mid = c.put-place.new.self in
-    added_counted (number_of mid) c.put-place.result c.args.layout c.hold.result (slots_of c.reserve.new.self.table)
-    (slots_of mid) (slots_of c.hold.new.self) (generations_of c.reserve.new.self.table) c.put-place.ensures.puts
-    c.hold.ensures.slots generations (subst (AreCounted generations) (sym c.reserve.ensures.keeps.slots) counted)
 
 pub returns-clause-grows : goal.returns-clause-grows
 returns-clause-grows g c =
