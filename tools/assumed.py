@@ -1,11 +1,11 @@
 #!/usr/bin/env python3
 """A copy of a crate whose proofs are assumed, but for those of some functions: what a mutant's check needs.
 
-rt ci has proved each lemma and each function before mutants are tried, and a function is proved over the
-contracts of those that it calls. So here an axiom of the same statement stands in place of each lemma, and
-of the proof of each function that no mutant changes; a check then takes a quarter of the time. A function
-with such a proof is 'not proved', as the prover says of all that is assumed, so nothing built comes of it.
-Definitions that a proof unfolds stay as they are, and so do the proofs of a trait's functions and laws.
+A function is proved over the contracts of those that it calls, and over lemmas, whose own proofs a mutant
+doesn't touch. So here an axiom of the same statement stands in place of each lemma, and of the proof of
+each function that no mutant changes, and a check takes a quarter of the time. That all of these are proved
+is for rt ci to show. What the copy assumes it calls 'not proved', so nothing built comes of it. Definitions
+that a proof unfolds stay as they are, and so do the proofs of a trait's functions and of laws.
 
 usage: tools/assumed.py CRATE FOLDER [FUNCTION..] ; it writes the copy to a folder, and keeps the proofs of these
 """

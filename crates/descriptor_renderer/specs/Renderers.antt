@@ -69,7 +69,7 @@ module _ {L P S D : Type 0} {d : Ghosts D L P S} where
   abbrev pub layout_given : RendererOver d → LayoutHandle → Bool
   layout_given r h = (layouts_by r.layouts).given h.slot
 
-  -- the frame that was opened last, 0 before the first
+  -- the frame that was opened or skipped last, 0 before the first
   abbrev pub frame_of : RendererOver d → ℕ
   frame_of r = r.frame
 
@@ -152,19 +152,19 @@ module _ {L P S D : Type 0} {d : Ghosts D L P S} where
     pub names : NameEach handles (sets_by old) (sets_by new)
     pub own : (i : ℕ) (e : SetHandle) (x : DescriptorSet S) → i < length handles → (sets_by new).set (slice_index_or handles i e) ≡ Some x → IsOfLayout d.meaning layout x.raw
 
-  -- sets may come: on an error each handle names what it named, and there are more slots only if each has a set
-  pub record SetsMayCome {R : Type 0} (result : Result R RenderError) (old new : RendererOver d) : Type 0 where
+  -- nothing but slots and pools changes: on an error each handle names what it named, and there are more slots only if each has a set, or had its last generation
+  pub record OnlySetsCome {R : Type 0} (result : Result R RenderError) (old new : RendererOver d) : Type 0 where
     pub stay : OnErr result (sets_by new ≡ sets_by old)
     pub grows : Grows (slots_of old) (slots_of new)
     pub rest : OnlySetsChange old new
 
-  -- all that is needed is the layout. Without it nothing changes
+  -- no frame is needed. NoLayout comes exactly without the layout, and then nothing changed
   pub record NeedsLayout {R : Type 0} (layout : LayoutHandle) (result : Result R RenderError) (old new : RendererOver d) : Type 0 where
     pub no_frame : ¬ (IsErrOf result NoFrame)
     pub no_layout : (IsErrOf result NoLayout) ↔ (layout_of old layout ≡ None)
     pub early : IsErrOf result NoLayout → seen new ≡ seen old
 
-  -- the sets wait for the frame, and their handles name nothing, unless a handle has no held set, or is there twice, or the frame wasn't opened yet
+  -- the sets wait for the frame, and their handles name nothing. Nothing changes if the frame is later than the last one, or else if a handle has no held set, or is there twice
   pub record Destroys (handles : List SetHandle) (frame : ℕ) (result : Result Unit DestroyError) (old new : RendererOver d) : Type 0 where
     pub waits : OnOk result (stores.TurnEach handles (Becomes (used_for (Waits frame))) (slots_of old) (slots_of new))
     pub names : OnOk result (LoseNames handles (sets_by old) (sets_by new))

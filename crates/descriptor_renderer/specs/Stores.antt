@@ -173,12 +173,12 @@ module _ {L P S D : Type 0} {d : Ghosts D L P S} where
   abbrev pub KeepsStore : StoreOver d → StoreOver d → Type 0
   KeepsStore old new = StoreStays (generations_in old) (most_of old) old new
 
-  -- also the sets that are on their way are as they were
+  -- all of these are as they were, and the same sets are on their way
   pub record KeepsComing (old new : StoreOver d) : Type 0 where
     pub store : KeepsStore old new
     pub coming : coming_in new ≡ coming_in old
 
-  -- the slots, the allocator, the ledger and the sets that are on their way are as they were
+  -- the slots, the allocator and the ledger are as they were, and the same sets are on their way
   pub record KeepsContents (old new : StoreOver d) : Type 0 where
     pub slots : slots_in new ≡ slots_in old
     pub side : side_of new ≡ side_of old
@@ -191,6 +191,7 @@ module _ {L P S D : Type 0} {d : Ghosts D L P S} where
     pub frames : (f : ℕ) → frame ≤ f → IsUpTo f (slots_in old) → IsUpTo f (slots_in new)
     pub stays : StoreStays removed most old new
 
+  -- the same, with layouts and what may be kept as they were
   abbrev pub Settles : (ℕ → DescriptorSet S → Type 0) → ℕ → StoreOver d → StoreOver d → Type 0
   Settles comes frame old new = SettlesTo (generations_in old) (most_of old) comes frame old new
 
@@ -306,7 +307,7 @@ module _ {L P S D : Type 0} {d : Ghosts D L P S} where
     pub given : (p : ℕ) → (slot_at (slots_in new) p).generation ≡ (slot_at (slots_in old) p).generation
     pub back : GaveBack d.meaning (side_of old) (side_of new)
 
-  -- a set of the layout has a handle, and is in use for this: one that was kept, or, if there was none, one that came
+  -- a set of the layout has a handle, and is in use for this: one that was kept, or, if there was none, one that came. It is refused only if no set of the layout is kept
   pub record TakesOne (layout : L) (number : ℕ) (u : Use) (result : Result SetHandle AllocationError) (old new : StoreOver d) : Type 0 where
     pub named : IfOk result (λ handle. IsNamed (number_of old) (current_in number old) u handle (slots_in old) (slots_in new))
     pub kept : 0 < kept_of number old → (handle : SetHandle) × (result ≡ Ok handle) × HandlesKept number u handle old new

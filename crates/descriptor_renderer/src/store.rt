@@ -78,7 +78,7 @@ impl<L: Drop, P: Drop, S: Drop, D: DescriptorDevice<L, P, S>> Store<L, P, S, D> 
     /// Reserves memory for one layout more.
     pub(crate) fn reserve_layout(&mut self) -> Result<(), AllocError>
         ensures room { OnOk result (HasListRoom self.new.table) }
-        ensures sets { KeepsContents self.old self.new }
+        ensures contents { KeepsContents self.old self.new }
         ensures stays { KeepsStore self.old self.new }
     {
         self.table.reserve_layout()
@@ -89,7 +89,7 @@ impl<L: Drop, P: Drop, S: Drop, D: DescriptorDevice<L, P, S>> Store<L, P, S, D> 
         requires { HasListRoom self.old.table }
         ensures settings { HasSettings (record (settings_of self.old.table)
             { lists = lists_with (lists_in self.old) }) self.new.table }
-        ensures sets { KeepsContents self.old self.new }
+        ensures contents { KeepsContents self.old self.new }
     {
         self.table.add_layout();
     }

@@ -142,7 +142,7 @@ impl DescriptorDevice<ScriptLayout, RawPool, RawSet> for ScriptedDevice {
     fn destroy_descriptor_pool(&mut self, pool: RawPool)
         requires { HasNoSets (pool_id pool) (ledger_of self.old) }
         ensures ledger { ledger_of self.new ≡ after_destroy (pool_id pool) (ledger_of self.old) }
-        ensures silent { ReadsNone self.old self.new }
+        ensures reads { ReadsNone self.old self.new }
     {
         self.pools.destroy(pool.id);
         self.counters.destroyed.rise();
@@ -199,7 +199,7 @@ impl DescriptorDevice<ScriptLayout, RawPool, RawSet> for ScriptedDevice {
         ensures name { pool_id pool.new ≡ pool_id pool.old }
         ensures released { Releases I.next_gives set_id (pool_id pool.old) sets.old sets.new
             (ledger_of self.old) (ledger_of self.new) }
-        ensures silent { ReadsNone self.old self.new }
+        ensures reads { ReadsNone self.old self.new }
     {
         self.pools.release(pool.id, sets);
         self.counters.released.rise();

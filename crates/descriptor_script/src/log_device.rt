@@ -95,7 +95,7 @@ impl LogDevice {
 }
 
 impl DescriptorDevice<ScriptLayout, RawPool, RawSet> for LogDevice {
-    ghost use Rattle.descriptor_script.specs.Scripted.Logged.{IsGrantedByWord, ListsRelease, ReadsNoWord};
+    ghost use Rattle.descriptor_script.specs.Scripted.Logged.{ReadsWordLogged, ListsRelease, ReadsNoneLogged};
     ghost use Rattle.descriptor_script.specs.Scripted.Logged.{calls_of, ledger_logged, next_pool};
 
     ghost meaning = { script_meaning };
@@ -115,7 +115,7 @@ impl DescriptorDevice<ScriptLayout, RawPool, RawSet> for LogDevice {
         ensures err { IfErr result (λ e. ledger_logged self.new
             ≡ after_no_create e (ledger_logged self.old)) }
 
-        ensures word { IsGrantedByWord create_error CreatePoolError.OutOfHostMemory result self.old
+        ensures reads { ReadsWordLogged create_error CreatePoolError.OutOfHostMemory result self.old
             self.new }
 
         // The pool has the next name.
@@ -144,7 +144,7 @@ impl DescriptorDevice<ScriptLayout, RawPool, RawSet> for LogDevice {
         requires { HasNoSets (pool_id pool) (ledger_logged self.old) }
         ensures ledger { ledger_logged self.new ≡ after_destroy (pool_id pool)
             (ledger_logged self.old) }
-        ensures silent { ReadsNoWord self.old self.new }
+        ensures reads { ReadsNoneLogged self.old self.new }
         ensures listed { calls_of self.new ≡ calls_of self.old ++ Call.Destroy (pool_id pool) ∷ [] }
     {
         let name = pool.id();
@@ -168,7 +168,7 @@ impl DescriptorDevice<ScriptLayout, RawPool, RawSet> for LogDevice {
         ensures err { IfErr result (λ e. PutsNone K.sink (pool_id pool.old) e sets.old sets.new
             (ledger_logged self.old) (ledger_logged self.new)) }
 
-        ensures word { IsGrantedByWord alloc_error DeviceAllocationError.OutOfHostMemory result self.old
+        ensures reads { ReadsWordLogged alloc_error DeviceAllocationError.OutOfHostMemory result self.old
             self.new }
 
         // The sets have names in a row, and name their pool.
@@ -211,7 +211,7 @@ impl DescriptorDevice<ScriptLayout, RawPool, RawSet> for LogDevice {
         ensures name { pool_id pool.new ≡ pool_id pool.old }
         ensures released { Releases I.next_gives set_id (pool_id pool.old) sets.old sets.new
             (ledger_logged self.old) (ledger_logged self.new) }
-        ensures silent { ReadsNoWord self.old self.new }
+        ensures reads { ReadsNoneLogged self.old self.new }
         ensures listed { ListsRelease I.next_gives (pool_id pool.old) sets.old sets.new
             (calls_of self.old) (calls_of self.new) }
     {
@@ -239,7 +239,7 @@ fn release<I: Iterator<Item = RawSet>>(
     ensures name { pool_id pool.new ≡ pool_id pool.old }
     ensures released { ReleasesMany I.next_gives set_id (pool_id pool.old) result sets.old sets.new
         (ledger_of device.old) (ledger_of device.new) }
-    ensures silent { ReadsNone device.old device.new }
+    ensures reads { ReadsNone device.old device.new }
 {
     let before = device.live_sets(pool);
     device.dealloc_descriptor_sets(pool, sets);

@@ -250,7 +250,7 @@ module _ {T : Type 0} where
       by_use u e = grind (arith, common_steps)
 
   module _ (k : ℕ) (two : 2 ≤ k) (now new : List (Slot T)) (turns : Turns (is_in k) (MayBecome (used_for Going)) now new) where
-    -- sets of one list more go
+    -- after kept sets of one list more may have gone
     pub trim_more : (old : List (Slot T)) → Turning is_kept (Becomes (used_for Going)) old now → Turning is_kept (Becomes (used_for Going)) old new
     trim_more old turning = record {
       long = turns.long ∙ turning.long;

@@ -109,6 +109,7 @@ module _ {T : Type 0} where
   abbrev pub HasChains : (ℕ → Slot T → Bool) → Slots T → List ℕ → (ℕ → Chain) → Type 0
   HasChains test slots next heads = (k : ℕ) → Lists (test k) slots (walk (heads k).count next (heads k).first)
 
+  -- each list of sets has those that are in it
   abbrev pub AreLinked : Slots T → List ℕ → List Chain → Type 0
   AreLinked slots next chains = HasChains is_in slots next (chain_at chains)
 

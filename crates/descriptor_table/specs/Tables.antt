@@ -139,22 +139,22 @@ module _ {T : Type 0} where
   abbrev pub HasRoom : ℕ → SetTable T → Type 0
   HasRoom n t = HasPlaces (n - usable_of t) t
 
-  -- a slot that is in no list
+  -- a call has the slot
   pub record IsTaken (p : ℕ) (slots : Slots T) : Type 0 where
     pub within : p < length slots
     pub taken : (slot_at slots p).used ≡ Taken
 
-  -- a set that is in no list
+  -- a call has the slot, and a set is in it
   pub record HasTaken (p : ℕ) (slots : Slots T) : Type 0 where
     pub taken : IsTaken p slots
     pub full : is_some (slot_at slots p).set ≡ true
 
-  -- a slot that is in no list, and can have another handle
+  -- a call has the slot, which can have another handle
   pub record CanRenew (p : ℕ) (slots : Slots T) : Type 0 where
     pub taken : IsTaken p slots
     pub next : (slot_at slots p).generation < 4294967295
 
-  -- a set that is in no list waits for the frame if it is in use for this
+  -- a call has a set, which waits for the frame if it is in use for this
   pub record CanWait (frame p : ℕ) (u : Use) (slots : Slots T) : Type 0 where
     pub taken : HasTaken p slots
     pub goes : is_of frame (used_for u (slot_at slots p)) ≡ true
@@ -165,11 +165,12 @@ module _ {T : Type 0} where
     pub within : p < length old
     pub slots : At p (used_for Taken) old new
 
-  -- there is no such slot
+  -- no slot passes the test, and nothing changed
   pub record PicksNone (test : Slot T → Bool) (old new : Slots T) : Type 0 where
     pub none : (p : ℕ) → test (slot_at old p) ≡ false
     pub slots : new ≡ old
 
+  -- a slot that passes the test left, or there is none
   abbrev pub PicksFirst : (Slot T → Bool) → Option ℕ → Slots T → Slots T → Type 0
   PicksFirst test result old new = MatchOption result (PicksNone test old new) (λ p. Picks test p old new)
 
@@ -197,7 +198,7 @@ module _ {T : Type 0} where
   abbrev pub next_use : (ℕ → ℕ) → ℕ → Slots T → ℕ → Use
   next_use generations most slots p = if may_stay generations most slots (slot_at slots p) then Kept else Going
 
-  -- a set that came back is kept, or its slot became this. If it may be kept, then only if as many are kept as may be
+  -- a set that came back is kept, or its slot became this: that of a set that may be kept only if as many are kept as may be
   abbrev pub IsBack : (Slot T → Slot T) → (ℕ → ℕ) → ℕ → Slots T → Slot T → Slot T → Type 0
   IsBack gone generations most new o n = ((n ≡ used_for Kept o) × (stays generations o ≡ true)) ⊎ ((n ≡ gone o) × (stays generations o ≡ true → most ≤ count (is_kept_of o.layout) new))
 
@@ -227,7 +228,7 @@ module _ {T : Type 0} where
   abbrev pub is_kept : Slot T → Bool
   is_kept s = is_kept_of s.layout s
 
-  -- a kept set left its list, and as many as so are left, or no more than that were there
+  -- a kept set left the list, or none did, and no more than so many are in it
   abbrev pub PicksAbove : ℕ → ℕ → Option ℕ → Slots T → Slots T → Type 0
   PicksAbove k most result old new = MatchOption result ((count (is_in k) old ≤ most) × (new ≡ old)) (λ p. Picks (is_in k) p old new)
 
@@ -249,7 +250,7 @@ module _ {T : Type 0} where
     -- the table grows only if each slot has a set, or had its last generation
     pub grows : (length new ≡ length old) ⊎ ((length new ≡ length old + 1) × AreAllUsed old)
 
-  -- so a set came into the table, over memory that was reserved
+  -- a set of the layout came into the table at the place, and took room for one
   pub record PutsInto (layout : ℕ) (set : T) (place : ℕ) (old new : SetTable T) : Type 0 where
     pub puts : Puts (generations_of old) layout set place (slots_of old) (slots_of new)
     pub reserve : (n : ℕ) → HasRoom (n + 1) old → HasRoom n new
@@ -280,6 +281,7 @@ module _ {T : Type 0} where
     pub full : (slot_at old place).set ≡ Some x
     pub slots : At place vacated old new
 
+  -- a set that passes the test was taken out of its slot, or there is none
   abbrev pub GivesFirst : (Slot T → Bool) → Option T → Slots T → Slots T → Type 0
   GivesFirst test result old new = MatchOption result (PicksNone test old new) (λ x. Gives test x old new)
 

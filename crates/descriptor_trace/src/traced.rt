@@ -120,7 +120,7 @@ impl<W: Write> DescriptorDevice<ScriptLayout, RawPool, RawSet> for Traced<W> {
         requires { HasNoSets (pool_id pool) (ledger_of self.old.device) }
         ensures ledger { ledger_of self.new.device
             ≡ after_destroy (pool_id pool) (ledger_of self.old.device) }
-        ensures silent { ReadsNone self.old.device self.new.device }
+        ensures reads { ReadsNone self.old.device self.new.device }
         ensures written { WritesDown W.contents self.old self.new
             (says.destroy_line (pool_id pool)) }
     {
@@ -172,7 +172,7 @@ impl<W: Write> DescriptorDevice<ScriptLayout, RawPool, RawSet> for Traced<W> {
         ensures name { pool_id pool.new ≡ pool_id pool.old }
         ensures released { Releases I.next_gives set_id (pool_id pool.old) sets.old sets.new
             (ledger_of self.old.device) (ledger_of self.new.device) }
-        ensures silent { ReadsNone self.old.device self.new.device }
+        ensures reads { ReadsNone self.old.device self.new.device }
         ensures written { WritesRelease W.contents I.next_gives (pool_id pool.old) sets.old
             sets.new self.old self.new }
     {

@@ -94,6 +94,8 @@ pub fn no_pool_is_lost<P>()
         ≡ others_of name a l → KeepsForeign (state_of name a l) (state_of name b m) }
     ensures lost { (name : P → ℕ) (a b : Allocations P) (l m : Ledger) → others_of name b m
         ≡ others_of name a l → KeepsForeign (state_of name b m) (state_of name a l) }
+
+    // At a cleanup empty pools go from the fronts alone: not everywhere, as at a trim.
     ensures restores { (s t u : State) → HasNoPools s → KeepsForeign s t → KeepsForeign t s → Agree t
         → ((i : Item) → outstanding t i ≡ 0) → LosesEmpty false t u → u.ledger ≡ s.ledger }
     ensures one_or_other { (name : P → ℕ) (a : Allocations P) (l : Ledger) → HasDistinctKeys

@@ -3,7 +3,6 @@ ghost use Rattle.std.specs.Prelude.{◌≡◌, ℕ, ◌+◌, ◌<◌, ◌^◌, �
 ghost use Rattle.std.specs.Prelude.{IfErr, IfOk, IfSome, IsErrOf, IsOk, IsSome, None, OnErr, OnOk};
 ghost use Rattle.std.specs.Prelude.{false, true};
 ghost use Rattle.descriptor_table.specs.Slots.{is_due, slot_at};
-ghost use Rattle.descriptor_table.specs.Tables.{Grows};
 ghost use Rattle.descriptor_renderer.specs.Stores.{ComeBack, HandlesKept, HandlesNew};
 ghost use Rattle.descriptor_renderer.specs.Stores.{IsRefusedAtLast};
 
@@ -17,8 +16,8 @@ impl<L: Drop, P: Drop, S: Drop, D: DescriptorDevice<L, P, S>> Renderer<L, P, S, 
     ghost use Rattle.gpu_descriptor.specs.declared.errors.AllocationError.{AllocationError};
     ghost use Rattle.descriptor_table.specs.declared.handle.SetHandle.{SetHandle};
     ghost use Rattle.descriptor_table.specs.declared.slot.Use.{Use};
-    ghost use Rattle.descriptor_renderer.specs.Renderers.{Comes, OnlySetsChange, SetsMayCome, done_of, frame_of, is_open, kept_of};
-    ghost use Rattle.descriptor_renderer.specs.Renderers.{layout_of, seen, sets_by, side_of, slots_of};
+    ghost use Rattle.descriptor_renderer.specs.Renderers.{Comes, OnlySetsChange, OnlySetsCome, done_of, frame_of, is_open, kept_of};
+    ghost use Rattle.descriptor_renderer.specs.Renderers.{layout_of, seen, sets_by, slots_of};
     ghost use Rattle.descriptor_renderer.specs.Renderers.{store_of};
 
     /// Opens the next frame and returns its number. The first frame has number 1.
@@ -88,7 +87,7 @@ impl<L: Drop, P: Drop, S: Drop, D: DescriptorDevice<L, P, S>> Renderer<L, P, S, 
         ensures refused { (error : AllocationError) → IsErrOf result (RenderError.Allocation error)
             → IfSome (layout_of self.old layout) (λ known. IsRefusedAtLast known.layout 1 1 error
             (store_of self.old) (store_of self.new)) }
-        ensures sets { SetsMayCome result self.old self.new }
+        ensures sets { OnlySetsCome result self.old self.new }
         ensures early { ((IsErrOf result RenderError.NoFrame) ⊎ (IsErrOf result
             RenderError.NoLayout)) → seen self.new ≡ seen self.old }
     {

@@ -1,11 +1,10 @@
 //! Sets that are held until they are freed or destroyed.
-ghost use Rattle.std.specs.Prelude.{◌≡◌, ℕ, ◌-◌, ◌<◌, ◌≤◌, ◌++◌, ◌↔◌, ◌⊎◌, [], ◌∷◌, List, length};
+ghost use Rattle.std.specs.Prelude.{◌≡◌, ℕ, ◌-◌, ◌<◌, ◌≤◌, ◌++◌, ◌⊎◌, [], ◌∷◌, List, length};
 ghost use Rattle.std.specs.Prelude.{IfErr, IfOk, IfSome, IsErrOf, IsSome, None, OnErr, OnOk, Ok, false};
 ghost use Rattle.std.specs.Prelude.{option_map};
 ghost use Rattle.std.specs.Option.{option_copied};
 ghost use Rattle.gpu_descriptor.specs.Caller.Sets.{raw_of};
 ghost use Rattle.descriptor_table.specs.Sets.{AreHeldOnce, LoseNames};
-ghost use Rattle.descriptor_table.specs.Tables.{Grows};
 ghost use Rattle.descriptor_renderer.specs.Stores.{BringsAtLast, FreesAll, FreesEach, HandlesKept};
 ghost use Rattle.descriptor_renderer.specs.Stores.{HandlesNew, HoldAtLast, IsRefusedAtLast};
 ghost use Rattle.descriptor_renderer.specs.Stores.{current_in};
@@ -21,7 +20,7 @@ impl<L: Drop, P: Drop, S: Drop, D: DescriptorDevice<L, P, S>> Renderer<L, P, S, 
     ghost use Rattle.gpu_descriptor.specs.declared.errors.AllocationError.{AllocationError};
     ghost use Rattle.descriptor_table.specs.declared.handle.SetHandle.{SetHandle};
     ghost use Rattle.descriptor_table.specs.declared.slot.Use.{Use};
-    ghost use Rattle.descriptor_renderer.specs.Renderers.{ComeEach, Comes, Destroys, NeedsLayout, OnlySetsChange, SetsMayCome};
+    ghost use Rattle.descriptor_renderer.specs.Renderers.{ComeEach, Comes, Destroys, NeedsLayout, OnlySetsChange, OnlySetsCome};
     ghost use Rattle.descriptor_renderer.specs.Renderers.{kept_of, layout_of, number_of, seen, sets_by};
     ghost use Rattle.descriptor_renderer.specs.Renderers.{side_of, slots_of, store_of};
 
@@ -40,7 +39,7 @@ impl<L: Drop, P: Drop, S: Drop, D: DescriptorDevice<L, P, S>> Renderer<L, P, S, 
         ensures refused { (error : AllocationError) → IsErrOf result (RenderError.Allocation error)
             → IfSome (layout_of self.old layout) (λ known. IsRefusedAtLast known.layout 1 1 error
             (store_of self.old) (store_of self.new)) }
-        ensures sets { SetsMayCome result self.old self.new }
+        ensures sets { OnlySetsCome result self.old self.new }
     {
         let Some(known) = self.layouts.get(layout) else {
             return Err(RenderError::NoLayout);
@@ -78,7 +77,7 @@ impl<L: Drop, P: Drop, S: Drop, D: DescriptorDevice<L, P, S>> Renderer<L, P, S, 
             ⊎ IfSome (layout_of self.old layout) (λ known.
             IsRefusedAtLast known.layout (many - kept_of layout self.old) many error
             (store_of self.old) (store_of self.new)) }
-        ensures sets { SetsMayCome result self.old self.new }
+        ensures sets { OnlySetsCome result self.old self.new }
         ensures handles { OnErr result (handles.new.items ≡ handles.old.items) }
     {
         let Some(known) = self.layouts.get(layout) else {

@@ -31,11 +31,11 @@ pub record IsNewDevice (script : List Answer) (names : Names) (d : ScriptedDevic
   pub script_is : script_of d ≡ script
   pub names_are : names_given d ≡ names
 
--- one word is read, and decides: a call is granted only at Ok, and otherwise refused as the word says
-pub record ReadsWord {R E : Type 0} (error_at : Answer → E) (result : Result R E) (old new : ScriptedDevice) : Type 0 where
+-- one word is read: a granted call read Ok, and a refused one returns the error of its word, which at Ok is that of memory or names
+pub record ReadsWord {R E : Type 0} (error_of : Answer → E) (result : Result R E) (old new : ScriptedDevice) : Type 0 where
   pub rest : script_of new ≡ rest_words (script_of old)
   pub granted : OnOk result (next_word (script_of old) ≡ Ok)
-  pub refused : IfErr result (λ e. e ≡ error_at (next_word (script_of old)))
+  pub refused : IfErr result (λ e. e ≡ error_of (next_word (script_of old)))
 
 -- no word is read, and no name is given
 pub record ReadsNone (old new : ScriptedDevice) : Type 0 where

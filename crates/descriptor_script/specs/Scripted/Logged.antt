@@ -38,15 +38,15 @@ IsErrorOfCall error_of no_memory error old new =
     ((error ≡ error_of (next_word old)) × (new ≡ rest_words old))
     ⊎ ((error ≡ no_memory) × (new ≡ old))
 
--- a call was granted at the word Ok, which it read, or is refused and not listed
-pub record IsGrantedByWord {R E : Type 0} (error_of : Answer → E) (no_memory : E) (result : Result R E) (old new : LogDevice) : Type 0 where
+-- a granted call read the word Ok, and a refused one isn't listed
+pub record ReadsWordLogged {R E : Type 0} (error_of : Answer → E) (no_memory : E) (result : Result R E) (old new : LogDevice) : Type 0 where
   pub granted : OnOk result (next_word (script_logged old) ≡ Ok)
   pub rest : OnOk result (script_logged new ≡ rest_words (script_logged old))
   pub refused : IfErr result (λ e. IsErrorOfCall error_of no_memory e (script_logged old) (script_logged new))
   pub unlisted : OnErr result (calls_of new ≡ calls_of old)
 
 -- no word is read, and the next pool's name stays
-pub record ReadsNoWord (old new : LogDevice) : Type 0 where
+pub record ReadsNoneLogged (old new : LogDevice) : Type 0 where
   pub script : script_logged new ≡ script_logged old
   pub next_pool : next_pool new ≡ next_pool old
 

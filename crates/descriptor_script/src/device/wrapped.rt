@@ -23,7 +23,7 @@ impl ScriptedDevice {
     /// Counts a create that the wrapping device refused. It reads no word.
     pub fn refuse_create(&mut self, error: CreatePoolError)
         ensures ledger { ledger_of self.new ≡ after_no_create error (ledger_of self.old) }
-        ensures silent { ReadsNone self.old self.new }
+        ensures reads { ReadsNone self.old self.new }
     {
         self.counters.refuse_create(error);
     }
@@ -32,7 +32,7 @@ impl ScriptedDevice {
     pub fn refuse_alloc(&mut self, pool: &RawPool, error: DeviceAllocationError)
         ensures ledger { ledger_of self.new ≡ after_no_alloc (pool_id pool.now) error
             (ledger_of self.old) }
-        ensures silent { ReadsNone self.old self.new }
+        ensures reads { ReadsNone self.old self.new }
     {
         self.counters.refuse_alloc(error);
         self.pools.refuse(pool.id, error);

@@ -50,8 +50,8 @@ impl<T> SetTable<T> {
         requires few { count ≤ length handles.now }
         requires took { (before : List (Slot T)) × TookEach handles.now count before
             (slots_of self.old) }
-        ensures { Changes (λ now new. (before : List (Slot T)) → TookEach handles.now count before now
-            → new ≡ before) self.old self.new }
+        ensures { Changes (λ taken back. (before : List (Slot T)) → TookEach handles.now count before taken
+            → back ≡ before) self.old self.new }
     {
         for index in 0..count {
             self.assign(handles[index].place as usize, Use::Held);

@@ -1,5 +1,5 @@
 //! Sets that come into slots, get handles, and leave.
-ghost use Rattle.std.specs.Prelude.{◌≡◌, ℕ, ◌+◌, ◌<◌, ◌≤◌, true, false, length, slice_set, IsSome, None, Some};
+ghost use Rattle.std.specs.Prelude.{◌≡◌, ◌+◌, ◌<◌, ◌≤◌, true, false, length, slice_set, IsSome, None, Some};
 
 use super::{GOING, SetTable, VACANT};
 use crate::handle::SetHandle;

@@ -145,6 +145,7 @@ module _ (everywhere : Bool) where
   pub all_cleared : (n : ℕ) (rows : Rows) → length rows ≤ n → cleared n rows ≡ map cleared_row rows
   all_cleared n rows le = ap (λ (l : Rows). map cleared_row (take n rows) ++ l) (drop_all n rows le) ∙ append-nil (map cleared_row (take n rows)) ∙ ap (map cleared_row) (take_all n rows le)
 
+  -- a key of the cleared rows has the pools that are left of it
   left_books : (rows : Rows) (k : Key) → HasDistinctKeys rows → books_of (filter has_row (map cleared_row rows)) k ≡ with_pools (books_of rows k) (left_of everywhere (books_of rows k).pools)
   left_books [] k d = sym (ap (with_pools no_pools) (no_pools_left everywhere))
   left_books (r ∷ rows) k d = elim (cases_Bool (length (left_of everywhere r.1.pools) == 0)) [

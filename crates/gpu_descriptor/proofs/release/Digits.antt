@@ -1,4 +1,4 @@
--- A number is below the power of two of its digits.
+-- A number is below the power of two of its digits: so many halvings find the pool of a set.
 use Rattle.gpu_descriptor.proofs.Common.{common_steps, ℕ, zero, suc, ◌*◌, ◌^◌, ◌/◌, ◌<◌, ◌≤◌, ◌≡◌, arith, pow-suc, binary_digits, digits_within}
 
 pub twice : (r : ℕ) → 2 ^ suc r ≡ 2 * 2 ^ r

@@ -37,5 +37,6 @@ module _ {P : Type 0} where
   abbrev pub looked_at : OpenPools P → ℕ → DescriptorPool P → OpenPools P
   looked_at v place p = record v { pools = record v.pools { now = deque_with_item v.pools.now place p }; looks = record v.looks { now = record { count = v.looks.now.count + 1 } } }
 
+-- the newest pool is lent, if there is one; the view ends with it as it was left, and one look more
 abbrev pub LendsNewest : (P : RattleType) → MutBor (OpenPools P.Denot) → ℕ → Option (MutBor (DescriptorPool P.Denot)) → Fml
 LendsNewest P v place r = LendsIf (open_pools.the_row (record { mir = named 1; lft = [] }) (record { mir = named 2; lft = [] }) (record { mir = named 3; lft = [] }) P) (pool.the_row P) v r (looked_at v.now place) v.now

@@ -32,7 +32,7 @@ pub record Releases (k : Key) (number : ℕ) (names : List ℕ) (old : Bucket) (
   pub books : new ≡ bucket_back old place (length names) entry
   pub ledger : after ≡ after_release entry.pool (live_sets k.counts names) before
 
--- the number of comparisons rose, by so many at most
+-- the number of comparisons stayed, or rose by so many at most
 pub record Compares (most old new : ℕ) : Type 0 where
   pub rises : old ≤ new
   pub few : new ≤ old + most

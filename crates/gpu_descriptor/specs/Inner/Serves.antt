@@ -44,7 +44,7 @@ module _ {L P S : Type 0} (means : Meaning L P S) where
       pub all : OnOk ended (length sets ≡ count)
       pub taken : IsTaken ended most k room count (items_of means.set_name sets) old new before after
 
-    -- and the table has the key's new bucket
+    -- the table has the key's new bucket, and those of the other keys as they were
     pub record ServesKey (old new : List (Key × BucketOf P)) (before after : Ledger) : Type 0 where
       pub bucket : Bucket
       pub served : IsServed (books_in means.pool_name old k) bucket before after
@@ -52,7 +52,7 @@ module _ {L P S : Type 0} (means : Meaning L P S) where
       pub out : sum_over sets_out new ≡ sum_over sets_out old + length sets
       pub load : sum_over descriptors_out new ≡ sum_over descriptors_out old + set_descriptors k (length sets)
 
-  -- after the tests that come before
+  -- a request within the limit and 64 bits had these sets of an allocator
   pub record Takes (k : Key) (count : ℕ) (sets : List (DescriptorSet S)) (ended : Result (Unit {0}) Stop) (old new : Side (Allocations P)) : Type 0 where
     pub within : k.marked ≡ true → count * sum k.counts + marked_load_of old.value ≤ old.value.limit
     pub fits : outstanding_of old.value + count ≤ greatest_u64

@@ -1,5 +1,5 @@
 //! Giving the sets of a run back to their pool.
-ghost use Rattle.std.specs.Prelude.{◌≡◌, ◌+◌, ◌≤◌, ◌∷◌, ℕ, List, length, slice_get, IsTrue, OnSome, Some, false};
+ghost use Rattle.std.specs.Prelude.{◌≡◌, ◌+◌, ◌∷◌, ℕ, List, length, slice_get, IsTrue, OnSome, Some, false};
 ghost use Rattle.std.specs.Iterator.{HoldsAlong, IsFinite, IsNearerEnd};
 ghost use Rattle.gpu_descriptor.specs.Caller.Comparisons.{gap_digits, search_digits};
 ghost use Rattle.gpu_descriptor.specs.Inner.Buckets.{AreBookedIn};

@@ -55,7 +55,7 @@ impl Error for RenderError {}
 /// Why no set was freed or destroyed.
 #[derive(Clone, Copy, Debug, PartialEq, Eq)]
 pub enum DestroyError {
-    /// The handle names no set that the renderer holds.
+    /// A handle names no set that the renderer holds, or is given twice.
     NoSet,
 
     /// The frame of the last use is still to come.

@@ -14,7 +14,7 @@ reserved g c =
     let old = c.args.self.now in
     let now = c.reserve_layout.ensures in
     sets_as (layout_slots old.layouts) (layout_slots old.layouts) old.frame old.renderer
-    old.store c.reserve_layout.new.self now.sets.slots now.stays.generations now.sets.coming now.stays.number (now.stays.lists ∙ old.sets.lists) (λ n known is. is) (λ counted. counted) old.sets
+    old.store c.reserve_layout.new.self now.contents.slots now.stays.generations now.contents.coming now.stays.number (now.stays.lists ∙ old.sets.lists) (λ n known is. is) (λ counted. counted) old.sets
 
 pub invariant_of-self-clause-sets : goal.invariant_of-self-clause-sets
 invariant_of-self-clause-sets g c = reserved g (goal.at.invariant_of-self-clause-sets g c).After-reserve_layout
@@ -42,7 +42,7 @@ invariant_of-self-then-places-clause-sets g c =
     let now = c.add_layout.ensures in
     let sets = reserved g (goal.at.invariant_of-self-then-places-clause-sets g c).After-reserve_layout in
     sets_as layouts (layout_slots c.add.new.self) old.frame old.renderer
-    c.reserve_layout.new.self c.add_layout.new.self now.sets.slots now.settings.generations now.sets.coming now.settings.number
+    c.reserve_layout.new.self c.add_layout.new.self now.contents.slots now.settings.generations now.contents.coming now.settings.number
     (now.settings.lists ∙ ap lists_with sets.lists ∙ lists_more (length layouts) ∙ ap lists_for long) c.in-Ok.ensures.stay (c.add.ensures.counted (generations_in c.add_layout.new.self)) sets
 
 pub invariant_of-self-else-places-clause-sets : goal.invariant_of-self-else-places-clause-sets
