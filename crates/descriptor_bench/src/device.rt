@@ -1,7 +1,8 @@
 //! A device that only counts, so that what is timed is the allocator.
 ghost use Rattle.std.specs.Prelude.{◌≡◌, ◌+◌, ◌<◌, ◌≤◌, ◌^◌, List, [], ◌++◌, map, None, OnOk};
 ghost use Rattle.std.specs.Prelude.{IfErr};
-ghost use Rattle.std.specs.Iterator.{IsFinite, YieldsThen};
+ghost use Rattle.std.specs.Iterator.{YieldsThen};
+ghost use Rattle.gpu_descriptor_types.specs.Ledger.{CanDrain};
 ghost use Rattle.gpu_descriptor_types.specs.Counts.{kinds};
 ghost use Rattle.gpu_descriptor_types.specs.Layouts.{layout, left};
 ghost use Rattle.descriptor_bench.specs.Sets.{counted_sets, set_name};
@@ -101,8 +102,7 @@ fn take_each<I: Iterator<Item = CountedSet>>(
     sum: &mut u64,
     sets: &mut I,
 )
-    requires can { I.can_next sets.old }
-    requires ends { IsFinite (I.remaining sets.old) }
+    requires ends { CanDrain I.can_next I.remaining sets.old }
     ensures { (items : List CountedSet) × YieldsThen I.next_gives sets.old items None sets.new
         × (owed.new.log ≡ record owed.old.log {
           taken = owed.old.log.taken
@@ -117,7 +117,7 @@ fn take_each<I: Iterator<Item = CountedSet>>(
 
 impl DescriptorDevice<Layout, u64, CountedSet> for CountingDevice {
     ghost use Rattle.descriptor_bench.specs.Device.{bench_meaning, ledger_of};
-    ghost use Rattle.gpu_descriptor_types.specs.Ledger.{CanGive, Puts, PutsNone};
+    ghost use Rattle.gpu_descriptor_types.specs.Ledger.{CanPut, Puts, PutsNone};
 
     ghost meaning = { bench_meaning };
 
@@ -159,9 +159,8 @@ impl DescriptorDevice<Layout, u64, CountedSet> for CountingDevice {
         layouts: Layouts<'_, Layout>,
         sets: &mut K,
     ) -> Result<(), DeviceAllocationError>
-        requires fits { CanGive pool.old (left layouts) (kinds (layout layouts).counts)
-            (layout layouts).mark (ledger_of self.old) }
-        requires room { left layouts ≤ K.sink.room sets.old }
+        requires fits { CanPut K.sink pool.old (left layouts) (kinds (layout layouts).counts)
+            (layout layouts).mark sets.old (ledger_of self.old) }
         ensures name { pool.new ≡ pool.old }
         ensures ok { OnOk result (Puts K.sink bench_meaning (layout layouts.entry) pool.old
             (left layouts.entry) sets.old sets.new (ledger_of self.old) (ledger_of self.new)) }

@@ -3,7 +3,7 @@ ghost use Rattle.std.specs.Prelude.{◌≡◌, ◌+◌, ◌<◌, ◌≤◌, [], 
 ghost use Rattle.gpu_descriptor_types.specs.Counts.{kinds};
 ghost use Rattle.gpu_descriptor_types.specs.Flags.{bits};
 ghost use Rattle.gpu_descriptor_types.specs.Layouts.{layout, left};
-ghost use Rattle.gpu_descriptor_types.specs.Ledger.{CanGive, Puts, PutsNone, after_create};
+ghost use Rattle.gpu_descriptor_types.specs.Ledger.{CanPut, Puts, PutsNone, after_create};
 ghost use Rattle.gpu_descriptor_types.specs.Ledger.{after_no_create};
 ghost use Rattle.descriptor_script.specs.Scripted.Device.{empty_ledger, ledger_of, script_of};
 ghost use Rattle.descriptor_script.specs.Scripted.Raw.{pool_id, script_meaning, set_id};
@@ -84,9 +84,8 @@ impl<const MOST: u32> DescriptorDevice<ScriptLayout, RawPool, RawSet> for FewPoo
         layouts: Layouts<'_, ScriptLayout>,
         sets: &mut K,
     ) -> Result<(), DeviceAllocationError>
-        requires fits { CanGive (pool_id pool.old) (left layouts) (kinds (layout layouts).counts)
-            (layout layouts).mark (few_ledger self.old) }
-        requires room { left layouts ≤ K.sink.room sets.old }
+        requires fits { CanPut K.sink (pool_id pool.old) (left layouts) (kinds (layout layouts).counts)
+            (layout layouts).mark sets.old (few_ledger self.old) }
         ensures name { pool_id pool.new ≡ pool_id pool.old }
         ensures ok { OnOk result (Puts K.sink script_meaning (layout layouts.entry)
             (pool_id pool.old) (left layouts.entry) sets.old sets.new (few_ledger self.old)

@@ -3,7 +3,7 @@ ghost use Rattle.std.specs.Prelude.{◌≡◌, ◌≤◌, false, None, IsSome, O
 ghost use Rattle.gpu_descriptor_types.specs.Counts.{kinds};
 ghost use Rattle.gpu_descriptor_types.specs.Flags.{bits};
 ghost use Rattle.gpu_descriptor_types.specs.Layouts.{layout, left};
-ghost use Rattle.gpu_descriptor_types.specs.Ledger.{CanGive, Puts, PutsNone, after_create};
+ghost use Rattle.gpu_descriptor_types.specs.Ledger.{CanPut, Puts, PutsNone, after_create};
 ghost use Rattle.gpu_descriptor_types.specs.Ledger.{after_no_create};
 ghost use Rattle.descriptor_script.specs.Scripted.Device.{empty_ledger};
 
@@ -94,9 +94,8 @@ impl DescriptorDevice<DescriptorTotalCount, u64, u64> for OnePool {
         layouts: Layouts<'_, DescriptorTotalCount>,
         sets: &mut K,
     ) -> Result<(), DeviceAllocationError>
-        requires fits { CanGive pool.old (left layouts) (kinds (layout layouts)) false
-            (owed_of self.old) }
-        requires room { left layouts ≤ K.sink.room sets.old }
+        requires fits { CanPut K.sink pool.old (left layouts) (kinds (layout layouts)) false
+            sets.old (owed_of self.old) }
         ensures name { pool.new ≡ pool.old }
         ensures ok { OnOk result (Puts K.sink one_meaning (layout layouts.entry) pool.old
             (left layouts.entry) sets.old sets.new (owed_of self.old) (owed_of self.new)) }

@@ -1,7 +1,8 @@
 //! A live pool, and its live sets.
 ghost use Rattle.std.specs.Prelude.{◌≡◌, ℕ, ◌+◌, ◌<◌, ◌≤◌, ◌^◌, ◌++◌, map, None, nat_eq};
 ghost use Rattle.std.specs.List.{range_with_len};
-ghost use Rattle.std.specs.Iterator.{IsFinite, HoldsAlong};
+ghost use Rattle.std.specs.Iterator.{HoldsAlong};
+ghost use Rattle.gpu_descriptor_types.specs.Ledger.{CanDrain};
 ghost use Rattle.indexmap.specs.IndexMap.{get, spare};
 ghost use Rattle.gpu_descriptor_types.specs.Layouts.{layout, left};
 ghost use Rattle.descriptor_script.specs.Scripted.Raw.{raw_sets, set_id};
@@ -58,8 +59,7 @@ pub fn fill<K: SetSink<RawSet>>(
 
 /// Takes each set that the iterator gives from the live sets.
 pub fn take_back<I: Iterator<Item = RawSet>>(live: &mut LiveSets, sets: &mut I)
-    requires can { I.can_next sets.old }
-    requires ends { IsFinite (I.remaining sets.old) }
+    requires ends { CanDrain I.can_next I.remaining sets.old }
     requires live { HoldsAlong I.next_gives sets.old
         (λ xs. HasNamed (map set_id xs) (live_sets_of live.old.entries)) }
     ensures back { TakesOut I.next_gives sets.old sets.new (live_sets_of live.old.entries)

@@ -1,11 +1,11 @@
 //! A device that answers by a script and keeps a list of the calls that it granted.
 ghost use Rattle.std.specs.Prelude.{◌≡◌, ◌+◌, ◌-◌, ◌<◌, ◌≤◌, ◌^◌, ◌++◌, [], ◌∷◌, min, map, None};
 ghost use Rattle.std.specs.Prelude.{ℕ, IfOk, IfErr, OnOk, OnErr};
-ghost use Rattle.std.specs.Iterator.{IsFinite, HoldsAlong};
+ghost use Rattle.std.specs.Iterator.{HoldsAlong};
 ghost use Rattle.gpu_descriptor_types.specs.Counts.{kinds};
 ghost use Rattle.gpu_descriptor_types.specs.Flags.{bits};
 ghost use Rattle.gpu_descriptor_types.specs.Layouts.{layout, left};
-ghost use Rattle.gpu_descriptor_types.specs.Ledger.{AreLive, HasNoSets, CanGive, Puts, PutsNone};
+ghost use Rattle.gpu_descriptor_types.specs.Ledger.{AreLive, CanDrain, CanPut, HasNoSets, Puts, PutsNone};
 ghost use Rattle.gpu_descriptor_types.specs.Ledger.{Releases, after_create, after_destroy};
 ghost use Rattle.gpu_descriptor_types.specs.Ledger.{after_no_create};
 ghost use Rattle.descriptor_script.specs.Scripted.Device.{ReadsNone, ledger_of};
@@ -158,9 +158,8 @@ impl DescriptorDevice<ScriptLayout, RawPool, RawSet> for LogDevice {
         layouts: Layouts<'_, ScriptLayout>,
         sets: &mut K,
     ) -> Result<(), DeviceAllocationError>
-        requires fits { CanGive (pool_id pool.old) (left layouts) (kinds (layout layouts).counts)
-            (layout layouts).mark (ledger_logged self.old) }
-        requires room { left layouts ≤ K.sink.room sets.old }
+        requires fits { CanPut K.sink (pool_id pool.old) (left layouts) (kinds (layout layouts).counts)
+            (layout layouts).mark sets.old (ledger_logged self.old) }
         ensures name { pool_id pool.new ≡ pool_id pool.old }
         ensures ok { OnOk result (Puts K.sink script_meaning (layout layouts.entry)
             (pool_id pool.old) (left layouts.entry) sets.old sets.new (ledger_logged self.old)
@@ -204,8 +203,7 @@ impl DescriptorDevice<ScriptLayout, RawPool, RawSet> for LogDevice {
         pool: &mut RawPool,
         sets: &mut I,
     )
-        requires can { I.can_next sets.old }
-        requires ends { IsFinite (I.remaining sets.old) }
+        requires ends { CanDrain I.can_next I.remaining sets.old }
         requires live { HoldsAlong I.next_gives sets.old
             (λ xs. AreLive (pool_id pool.old) (map set_id xs) (ledger_logged self.old)) }
         ensures name { pool_id pool.new ≡ pool_id pool.old }
@@ -232,8 +230,7 @@ fn release<I: Iterator<Item = RawSet>>(
     pool: &mut RawPool,
     sets: &mut I,
 ) -> usize
-    requires can { I.can_next sets.old }
-    requires ends { IsFinite (I.remaining sets.old) }
+    requires ends { CanDrain I.can_next I.remaining sets.old }
     requires live { HoldsAlong I.next_gives sets.old
         (λ xs. AreLive (pool_id pool.old) (map set_id xs) (ledger_of device.old)) }
     ensures name { pool_id pool.new ≡ pool_id pool.old }

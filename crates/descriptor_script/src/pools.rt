@@ -1,7 +1,7 @@
 //! The live pools of a device, by name.
 ghost use Rattle.std.specs.Prelude.{◌≡◌, ◌+◌, ◌-◌, ◌<◌, ◌≤◌, ◌^◌, ◌++◌, map, Some, None};
 ghost use Rattle.std.specs.Prelude.{IfOk, IfSome, IsSome, OnOk, OnErr, nat_eq};
-ghost use Rattle.std.specs.Iterator.{IsFinite, HoldsAlong};
+ghost use Rattle.std.specs.Iterator.{HoldsAlong};
 ghost use Rattle.std.specs.Map.{update};
 ghost use Rattle.gpu_descriptor_types.specs.Counts.{kinds};
 ghost use Rattle.gpu_descriptor_types.specs.Flags.{bits};
@@ -36,7 +36,7 @@ pub struct Pools {
 
 impl Pools {
     ghost use Rattle.descriptor_script.specs.Inner.Pools.{next_names, owed, pools_of};
-    ghost use Rattle.gpu_descriptor_types.specs.Ledger.{AreLive, Counters, Releases, live_sets};
+    ghost use Rattle.gpu_descriptor_types.specs.Ledger.{AreLive, CanDrain, Counters, Releases, live_sets};
     ghost use Rattle.gpu_descriptor_types.specs.Ledger.{no_rise};
     ghost use Rattle.gpu_descriptor_types.specs.Multiset.{times};
 
@@ -183,8 +183,7 @@ impl Pools {
 
     /// Takes the sets that the iterator gives from the pool.
     pub fn release<I: Iterator<Item = RawSet>>(&mut self, pool: u64, sets: &mut I)
-        requires can { I.can_next sets.old }
-        requires ends { IsFinite (I.remaining sets.old) }
+        requires ends { CanDrain I.can_next I.remaining sets.old }
         requires live { HoldsAlong I.next_gives sets.old (λ xs.
             AreLive pool (map set_id xs) (owed self.old no_rise)) }
         // With whatever counters, of which one rises.

@@ -1,11 +1,11 @@
 //! A device that writes down what passes through it.
 ghost use Rattle.std.specs.Prelude.{◌≡◌, ◌+◌, ◌≤◌, [], map, None, IsFalse, IsOk, IfErr, IfOk};
 ghost use Rattle.std.specs.Prelude.{OnErr, OnOk, string_bytes};
-ghost use Rattle.std.specs.Iterator.{IsFinite, HoldsAlong};
+ghost use Rattle.std.specs.Iterator.{HoldsAlong};
 ghost use Rattle.gpu_descriptor_types.specs.Counts.{kinds};
 ghost use Rattle.gpu_descriptor_types.specs.Flags.{bits};
 ghost use Rattle.gpu_descriptor_types.specs.Layouts.{layout, left};
-ghost use Rattle.gpu_descriptor_types.specs.Ledger.{AreLive, HasNoSets, CanGive, Puts, PutsNone};
+ghost use Rattle.gpu_descriptor_types.specs.Ledger.{AreLive, CanDrain, CanPut, HasNoSets, Puts, PutsNone};
 ghost use Rattle.gpu_descriptor_types.specs.Ledger.{after_create, after_destroy, after_no_create};
 ghost use Rattle.gpu_descriptor_types.specs.Ledger.{Releases};
 ghost use Rattle.descriptor_script.specs.Scripted.Device.{empty_ledger};
@@ -137,9 +137,8 @@ impl<W: Write> DescriptorDevice<ScriptLayout, RawPool, RawSet> for Traced<W> {
         layouts: Layouts<'_, ScriptLayout>,
         sets: &mut K,
     ) -> Result<(), DeviceAllocationError>
-        requires fits { CanGive (pool_id pool.old) (left layouts) (kinds (layout layouts).counts)
-            (layout layouts).mark (ledger_of self.old.device) }
-        requires room { left layouts ≤ K.sink.room sets.old }
+        requires fits { CanPut K.sink (pool_id pool.old) (left layouts) (kinds (layout layouts).counts)
+            (layout layouts).mark sets.old (ledger_of self.old.device) }
         ensures name { pool_id pool.new ≡ pool_id pool.old }
         ensures ok { OnOk result (Puts K.sink script_meaning (layout layouts.entry)
             (pool_id pool.old) (left layouts.entry) sets.old sets.new (ledger_of self.old.device)
@@ -165,8 +164,7 @@ impl<W: Write> DescriptorDevice<ScriptLayout, RawPool, RawSet> for Traced<W> {
         pool: &mut RawPool,
         sets: &mut I,
     )
-        requires can { I.can_next sets.old }
-        requires ends { IsFinite (I.remaining sets.old) }
+        requires ends { CanDrain I.can_next I.remaining sets.old }
         requires live { HoldsAlong I.next_gives sets.old
             (λ xs. AreLive (pool_id pool.old) (map set_id xs) (ledger_of self.old.device)) }
         ensures name { pool_id pool.new ≡ pool_id pool.old }

@@ -3,7 +3,7 @@
 use Rattle.std.specs.Prelude.{◌≡◌, ℕ, ◌+◌, ◌-◌, ◌*◌, ◌≤◌, List, ◌++◌, map, length, Bool, IsTrue, Option, Some, None, nat_eq, slice_index, sum_by, IfSome, All}
 use Rattle.std.specs.Map.{update}
 use Rattle.std.specs.Option.{option_map}
-use Rattle.std.specs.Iterator.{YieldsThen}
+use Rattle.std.specs.Iterator.{Count, IsFinite, YieldsThen}
 use Rattle.gpu_descriptor_types.specs.declared.errors.CreatePoolError.{CreatePoolError}
 use Rattle.gpu_descriptor_types.specs.declared.errors.CreatePoolError.TheVariants.{OutOfDeviceMemory, OutOfHostMemory, Fragmentation}
 use Rattle.gpu_descriptor_types.specs.declared.errors.DeviceAllocationError.{DeviceAllocationError}
@@ -123,6 +123,10 @@ pub record CanGive (name n : ℕ) (counts : List ℕ) (mark : Bool) (l : Ledger)
   pub places : (sets : List LiveSet) → Spells sets pool.live → length sets + n ≤ pool.capacity
   pub each_kind : (sets : List LiveSet) → Spells sets pool.live → (k : ℕ) → sum_by (λ s. slice_index s.counts k) sets + n * slice_index counts k ≤ slice_index pool.counts k
 
+-- the next item may be asked for, up to the end, which comes
+abbrev pub CanDrain : {I : Type 0} → (I → Type 0) → (I → Count) → I → Type 0
+CanDrain can left i = can i × IsFinite (left i)
+
 -- sets of these names are live in the pool, and may be released
 pub record AreLive (name : ℕ) (names : List ℕ) (l : Ledger) : Type 0 where
   pub pool : Pool
@@ -142,6 +146,11 @@ pub record Sink (K S X : Type 0) : Type 0 where
   pub room : K → ℕ
 
 module _ {K S X : Type 0} (sink : Sink K S X) where
+  -- the pool can give n sets of a layout, and the sink has room for them
+  pub record CanPut (name n : ℕ) (counts : List ℕ) (mark : Bool) (sets : K) (l : Ledger) : Type 0 where
+    pub fits : CanGive name n counts mark l
+    pub room : n ≤ sink.room sets
+
   -- exactly n sets of the layout were put, and are live in the pool
   pub record Puts {L P : Type 0} (means : Meaning L P S) (layout : L) (name n : ℕ) (old new : K) (before after : Ledger) : Type 0 where
     pub sets : List S

@@ -1,11 +1,11 @@
 //! The interface of a device.
 ghost use Rattle.std.specs.Prelude.{◌≡◌, ◌≤◌, map, IfOk, IfErr, OnOk, None};
-ghost use Rattle.std.specs.Iterator.{IsFinite, HoldsAlong};
+ghost use Rattle.std.specs.Iterator.{HoldsAlong};
 ghost use Rattle.gpu_descriptor_types.specs.Counts.{kinds};
 ghost use Rattle.gpu_descriptor_types.specs.Flags.{bits};
 ghost use Rattle.gpu_descriptor_types.specs.Layouts.{layout, left};
 ghost use Rattle.gpu_descriptor_types.specs.Ledger.{Ledger, after_create, after_no_create};
-ghost use Rattle.gpu_descriptor_types.specs.Ledger.{after_destroy, HasNoSets, CanGive, AreLive};
+ghost use Rattle.gpu_descriptor_types.specs.Ledger.{after_destroy, AreLive, CanDrain, CanPut, HasNoSets};
 ghost use Rattle.gpu_descriptor_types.specs.Meaning.{Meaning};
 ghost use Rattle.gpu_descriptor_types.specs.Ledger.{Puts, PutsNone, Releases};
 
@@ -52,9 +52,8 @@ pub trait DescriptorDevice<L, P, S> {
         layouts: Layouts<'_, L>,
         sets: &mut K,
     ) -> Result<(), DeviceAllocationError>
-        requires fits { CanGive (meaning.pool_name pool.old) (left layouts) (meaning.counts (layout
-            layouts)) (meaning.mark (layout layouts)) (ledger self.old) }
-        requires room { left layouts ≤ K.sink.room sets.old }
+        requires fits { CanPut K.sink (meaning.pool_name pool.old) (left layouts) (meaning.counts (layout
+            layouts)) (meaning.mark (layout layouts)) sets.old (ledger self.old) }
         ensures name { meaning.pool_name pool.new ≡ meaning.pool_name pool.old }
         ensures ok { OnOk result (Puts K.sink meaning (layout layouts.entry) (meaning.pool_name
             pool.old) (left layouts.entry) sets.old sets.new (ledger self.old) (ledger self.new)) }
@@ -63,8 +62,7 @@ pub trait DescriptorDevice<L, P, S> {
 
     /// Releases the sets that the iterator gives, up to its end. It can't be refused.
     fn dealloc_descriptor_sets<I: Iterator<Item = S>>(&mut self, pool: &mut P, sets: &mut I)
-        requires can { I.can_next sets.old }
-        requires ends { IsFinite (I.remaining sets.old) }
+        requires ends { CanDrain I.can_next I.remaining sets.old }
         requires live { HoldsAlong I.next_gives sets.old (λ xs. AreLive (meaning.pool_name pool.old)
             (map meaning.set_name xs) (ledger self.old)) }
         ensures name { meaning.pool_name pool.new ≡ meaning.pool_name pool.old }

@@ -1,5 +1,6 @@
 //! Freeing sets, at once or when their frames are done, and destroying pools without sets.
-ghost use Rattle.std.specs.Iterator.{HoldsAlong, IsFinite};
+ghost use Rattle.std.specs.Iterator.{HoldsAlong};
+ghost use Rattle.gpu_descriptor_types.specs.Ledger.{CanDrain};
 ghost use Rattle.gpu_descriptor_types.specs.Side.{side};
 ghost use Rattle.gpu_descriptor.specs.Caller.Frees.{Frees, Returns};
 ghost use Rattle.gpu_descriptor.specs.Caller.Keeps.{Keeps};
@@ -28,8 +29,7 @@ impl<P, S> FrameManager<P, S> {
         device: &mut D,
         sets: &mut I,
     )
-        requires can { I.can_next sets.old }
-        requires ends { IsFinite (I.remaining sets.old) }
+        requires ends { CanDrain I.can_next I.remaining sets.old }
         requires agree { Agrees D.meaning.pool_name (allocator_of self.old) (D.ledger device.old) }
         requires in_use { HoldsAlong I.next_gives sets.old (λ xs. AreInUse D.meaning.pool_name
             D.meaning.set_name (items_of D.meaning.set_name xs) self.old (D.ledger device.old)) }

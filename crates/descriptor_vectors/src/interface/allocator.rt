@@ -1,6 +1,7 @@
 //! The allocator, its sets and its errors.
 ghost use Rattle.std.specs.Prelude.{◌≡◌};
-ghost use Rattle.std.specs.Iterator.{HoldsAlong, IsFinite};
+ghost use Rattle.std.specs.Iterator.{HoldsAlong, IsFiniteIterable};
+ghost use Rattle.gpu_descriptor_types.specs.Ledger.{CanDrain};
 ghost use Rattle.gpu_descriptor_types.specs.Counts.{kinds};
 ghost use Rattle.gpu_descriptor.specs.Model.Agreement.{AreOutstanding};
 ghost use Rattle.gpu_descriptor.specs.Caller.Flags.{is_marked};
@@ -132,9 +133,7 @@ fn free<L, P, S, D: DescriptorDevice<L, P, S>, I: IntoIterator<Item = Descriptor
     device: &mut D,
     sets: I,
 )
-    requires can { (iter : I.IntoIter) → I.into_iter_gives sets iter → I.IntoIter.can_next iter }
-    requires ends { (iter : I.IntoIter) → I.into_iter_gives sets iter
-        → IsFinite (I.IntoIter.remaining iter) }
+    requires ends { IsFiniteIterable I.into_iter_gives I.IntoIter.can_next I.IntoIter.remaining sets }
     requires agree { Agrees D.meaning.pool_name allocator.old (D.ledger device.old) }
     requires outstanding { (iter : I.IntoIter) → I.into_iter_gives sets iter → HoldsAlong
         I.IntoIter.next_gives iter (λ xs. AreOutstanding (items_of D.meaning.set_name xs)
@@ -148,8 +147,7 @@ fn free_from<L, P, S, D: DescriptorDevice<L, P, S>, I: Iterator<Item = Descripto
     device: &mut D,
     sets: &mut I,
 )
-    requires can { I.can_next sets.old }
-    requires ends { IsFinite (I.remaining sets.old) }
+    requires ends { CanDrain I.can_next I.remaining sets.old }
     requires agree { Agrees D.meaning.pool_name allocator.old (D.ledger device.old) }
     requires outstanding { HoldsAlong I.next_gives sets.old (λ xs. AreOutstanding
         (items_of D.meaning.set_name xs)

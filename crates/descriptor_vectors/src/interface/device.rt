@@ -1,10 +1,10 @@
 //! Counts, flags, errors, layouts, sinks, pool sizes, and the calls of a device.
 ghost use Rattle.std.specs.Prelude.{◌≡◌, ◌<◌, ◌≤◌};
-ghost use Rattle.std.specs.Iterator.{HoldsAlong, IsFinite};
+ghost use Rattle.std.specs.Iterator.{HoldsAlong};
 ghost use Rattle.std.specs.Prelude.{map};
 ghost use Rattle.gpu_descriptor_types.specs.Counts.{kinds};
 ghost use Rattle.gpu_descriptor_types.specs.Layouts.{layout, left};
-ghost use Rattle.gpu_descriptor_types.specs.Ledger.{AreLive, CanGive, HasNoSets};
+ghost use Rattle.gpu_descriptor_types.specs.Ledger.{AreLive, CanDrain, CanPut, HasNoSets};
 
 use super::{is_debug, is_hashed_value, is_value};
 use bitflags::Flags;
@@ -185,9 +185,8 @@ fn allocate<L, P, S, D: DescriptorDevice<L, P, S>, K: SetSink<S>>(
     layouts: Layouts<'_, L>,
     sets: &mut K,
 ) -> Result<(), DeviceAllocationError>
-    requires fits { CanGive (D.meaning.pool_name pool.old) (left layouts) (D.meaning.counts (layout
-        layouts)) (D.meaning.mark (layout layouts)) (D.ledger device.old) }
-    requires room { left layouts ≤ K.sink.room sets.old }
+    requires fits { CanPut K.sink (D.meaning.pool_name pool.old) (left layouts) (D.meaning.counts (layout
+        layouts)) (D.meaning.mark (layout layouts)) sets.old (D.ledger device.old) }
 {
     device.alloc_descriptor_sets(pool, layouts, sets)
 }
@@ -197,8 +196,7 @@ fn free<L, P, S, D: DescriptorDevice<L, P, S>, I: Iterator<Item = S>>(
     pool: &mut P,
     sets: &mut I,
 )
-    requires can { I.can_next sets.old }
-    requires ends { IsFinite (I.remaining sets.old) }
+    requires ends { CanDrain I.can_next I.remaining sets.old }
     requires live { HoldsAlong I.next_gives sets.old (λ xs. AreLive (D.meaning.pool_name pool.old)
         (map D.meaning.set_name xs) (D.ledger device.old)) }
 {

@@ -1,6 +1,7 @@
 //! Giving sets back.
 ghost use Rattle.std.specs.Prelude.{◌≡◌, ◌<◌, ◌∷◌, OnSome};
-ghost use Rattle.std.specs.Iterator.{HoldsAlong, IsFinite, IsNearerEnd};
+ghost use Rattle.std.specs.Iterator.{HoldsAlong, IsFiniteIterable, IsNearerEnd};
+ghost use Rattle.gpu_descriptor_types.specs.Ledger.{CanDrain};
 ghost use Rattle.gpu_descriptor_types.specs.Side.{side};
 ghost use Rattle.gpu_descriptor.specs.Model.Agreement.{Agree, AreOutstanding};
 ghost use Rattle.gpu_descriptor.specs.Caller.Comparisons.{search_digits};
@@ -22,10 +23,7 @@ impl<P, S> DescriptorAllocator<P, S> {
         device: &mut D,
         sets: I,
     )
-        requires can { (iter : I.IntoIter) → I.into_iter_gives sets iter
-            → I.IntoIter.can_next iter }
-        requires ends { (iter : I.IntoIter) → I.into_iter_gives sets iter
-            → IsFinite (I.IntoIter.remaining iter) }
+        requires ends { IsFiniteIterable I.into_iter_gives I.IntoIter.can_next I.IntoIter.remaining sets }
         requires agree { Agrees D.meaning.pool_name self.old (D.ledger device.old) }
         requires outstanding { (iter : I.IntoIter) → I.into_iter_gives sets iter → HoldsAlong
             I.IntoIter.next_gives iter (λ xs. AreOutstanding (items_of D.meaning.set_name xs)
@@ -53,8 +51,7 @@ impl<P, S> DescriptorAllocator<P, S> {
         device: &mut D,
         sets: &mut I,
     )
-        requires can { I.can_next sets.old }
-        requires ends { IsFinite (I.remaining sets.old) }
+        requires ends { CanDrain I.can_next I.remaining sets.old }
         requires agree { Agrees D.meaning.pool_name self.old (D.ledger device.old) }
         requires outstanding { HoldsAlong I.next_gives sets.old (λ xs. AreOutstanding
             (items_of D.meaning.set_name xs)
@@ -86,8 +83,7 @@ impl<P, S> DescriptorAllocator<P, S> {
         first: DescriptorSet<S>,
         sets: &mut I,
     ) -> Option<DescriptorSet<S>>
-        requires can { I.can_next sets.old }
-        requires ends { IsFinite (I.remaining sets.old) }
+        requires ends { CanDrain I.can_next I.remaining sets.old }
         requires agree { Agree (state_of D.meaning.pool_name self.old (D.ledger device.old)) }
         requires outstanding { HoldsAlong I.next_gives sets.old (λ xs. AreOutstanding
             (items_of D.meaning.set_name (first ∷ xs))

@@ -1,6 +1,7 @@
 //! Giving the sets of a run back to their pool.
 ghost use Rattle.std.specs.Prelude.{◌≡◌, ◌+◌, ◌∷◌, ℕ, List, length, slice_get, IsTrue, OnSome, Some, false};
-ghost use Rattle.std.specs.Iterator.{HoldsAlong, IsFinite, IsNearerEnd};
+ghost use Rattle.std.specs.Iterator.{HoldsAlong, IsNearerEnd};
+ghost use Rattle.gpu_descriptor_types.specs.Ledger.{CanDrain};
 ghost use Rattle.gpu_descriptor.specs.Caller.Comparisons.{gap_digits, search_digits};
 ghost use Rattle.gpu_descriptor.specs.Inner.Buckets.{AreBookedIn};
 ghost use Rattle.gpu_descriptor.specs.Inner.OpenNumbers.{stored_numbers};
@@ -32,8 +33,7 @@ impl<P> DescriptorBucket<P> {
         sets: &mut I,
         comparisons: &mut Tally,
     ) -> Option<DescriptorSet<S>>
-        requires can { I.can_next sets.old }
-        requires ends { IsFinite (I.remaining sets.old) }
+        requires ends { CanDrain I.can_next I.remaining sets.old }
         requires stored { AreBookedIn first.key.is (D.ledger device.old).pools
             (bucket_of D.meaning.pool_name self.old).pools }
         requires taken { HoldsAlong I.next_gives sets.old (λ xs. AllPass

@@ -12,7 +12,7 @@ loop-ahead-init g c = record {
   freed =
       freed_none g.D.DescriptorDevice.meaning g.I.Iterator.next_gives g.I.Iterator.can_next g.I.Iterator.remaining
       c.args.sets.now c.args.self.now (g.D.DescriptorDevice.ledger c.args.device.now) c.next-ahead.result
-      c.next-ahead.new.self c.requires.agree.books c.requires.ends c.next-ahead.ensures.steps
+      c.next-ahead.new.self c.requires.agree.books c.requires.ends.1 c.next-ahead.ensures.steps
       c.next-ahead.ensures.goes;
   limit = λ i. c.args.self.now.limit;
   most = λ i. c.args.self.now.most;

@@ -76,18 +76,18 @@ module _ (g : _) (c : After-finish-count g) where
     changed =
         changed_at g.D.DescriptorDevice.meaning.pool_name c.args.self.now.pools.items place c.index_mut-pool.result.now c.dealloc_descriptor_sets.new.pool c.finish-count.result (length c.dealloc_descriptor_sets.ensures.released.gone) c.dealloc_descriptor_sets.ensures.name counted.1
 
-pub dealloc_descriptor_sets-requires-clause-can : goal.dealloc_descriptor_sets-requires-clause-can
-dealloc_descriptor_sets-requires-clause-can g c =
-    let d = (goal.at.dealloc_descriptor_sets-requires-clause-can g c).After-index_mut-pool in
-    let fits = places g d in (
-      c.requires.can,
+pub dealloc_descriptor_sets-requires-clause-ends : goal.dealloc_descriptor_sets-requires-clause-ends
+dealloc_descriptor_sets-requires-clause-ends g c =
+    let d = (goal.at.dealloc_descriptor_sets-requires-clause-ends g c).After-index_mut-pool in
+    let fits = places g d in ((
+      c.requires.ends.0,
       run_counts g.I.Iterator.next_gives g.I.Iterator.can_next g.I.Iterator.remaining
           g.D.DescriptorDevice.meaning.set_name c.args.sets.now c.args.first
           (bucket_of g.D.DescriptorDevice.meaning.pool_name c.args.self.now)
           (g.D.DescriptorDevice.ledger c.args.device.now).pools
           (entry_of g.D.DescriptorDevice.meaning.pool_name c.index_mut-pool.result.now)
           ((is_at g d).there c.args.self.now.id) (omega arith) c.requires.taken,
-    )
+    ), c.requires.ends.1)
 
 pub dealloc_descriptor_sets-requires-clause-live : goal.dealloc_descriptor_sets-requires-clause-live
 dealloc_descriptor_sets-requires-clause-live g c =
@@ -227,7 +227,7 @@ returns-clause-goes g c =
     let h = c.finish-count.ensures.ahead in
     let v = sym d.run.name in
     let f = c.finish-count.ensures.source in
-    run_goes g.I.Iterator.next_gives g.I.Iterator.can_next g.I.Iterator.remaining g.D.DescriptorDevice.meaning.set_name c.args.first _ c.dealloc_descriptor_sets.new.sets t.items d.run _ _ (search (rules, m, h)) (search (rules, v, f)) c.requires.ends
+    run_goes g.I.Iterator.next_gives g.I.Iterator.can_next g.I.Iterator.remaining g.D.DescriptorDevice.meaning.set_name c.args.first _ c.dealloc_descriptor_sets.new.sets t.items d.run _ _ (search (rules, m, h)) (search (rules, v, f)) c.requires.ends.1
 
 pub returns-clause-compares : goal.returns-clause-compares
 returns-clause-compares g c =
