@@ -14,6 +14,7 @@ abbrev pub row_at : List (ℕ × Option OwedPool) → ℕ → Option OwedPool
 row_at [] q = None
 row_at (r ∷ rs) q = if nat_eq r.0 q then r.1 else row_at rs q
 
+-- the live pools by name: for each name the last that became of it
 abbrev pub pools_owed : List (ℕ × Option OwedPool) → ℕ → Option Pool
 pools_owed rows q = option_map pool_owed (row_at rows q)
 

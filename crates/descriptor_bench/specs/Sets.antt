@@ -3,6 +3,7 @@ use Rattle.std.specs.Prelude.{ℕ, List, map}
 use Rattle.std.specs.List.{range_with_len}
 use Rattle.descriptor_bench.specs.declared.counted_set.CountedSet.{CountedSet}
 
+-- the name of a set
 abbrev pub set_name : CountedSet → ℕ
 set_name set = set.name
 

@@ -159,6 +159,7 @@ impl DescriptorDevice<Layout, u64, CountedSet> for CountingDevice {
         layouts: Layouts<'_, Layout>,
         sets: &mut K,
     ) -> Result<(), DeviceAllocationError>
+        // All of these are the trait's, repeated. The device adds none, here or at its other calls.
         requires fits { CanPut K.sink pool.old (left layouts) (kinds (layout layouts).counts)
             (layout layouts).mark sets.old (ledger_of self.old) }
         ensures name { pool.new ≡ pool.old }

@@ -1,4 +1,4 @@
--- The ledger of a device with one pool.
+-- The ledger of a device with one pool, of the name 0, in which no set is ever live: for the calls of `OnePool`.
 use Rattle.std.proofs.Common.{◌≡◌, ◌≢◌, ◌-◌, ℕ, zero, suc, true, false, List, [], ◌∷◌, map, Option, Some, None, refl, sym, ap, ◌∙◌, arith}
 use Rattle.std.proofs.Math.Path.{fun_ext}
 use Rattle.std.proofs.lemmas.Map.{update_apart}
@@ -24,6 +24,7 @@ only_none = fun_ext each
     each zero = refl
     each (suc name) = refl
 
+-- another pool at the name 0 is another only pool
 pub only_updated : (pool other : Option Pool) → update nat_eq (only pool) 0 other ≡ only other
 only_updated pool other = fun_ext each
   where
@@ -45,6 +46,7 @@ pub no_pool : (o : Option OnlyPool) → is_some o ≡ false → as_created o ≡
 no_pool None none = refl
 no_pool (Some p) none = absurd (let bad : true ≡ false = none in cc)
 
+-- a release of no set leaves the pool as it was created
 pub released_none : (o : Option OnlyPool) → option_map (λ (pool : Pool). record pool { live = λ x. pool.live x - times [] x }) (as_created o) ≡ as_created o
 released_none None = refl
 released_none (Some p) = refl

@@ -4,5 +4,6 @@ use Rattle.gpu_descriptor_types.specs.Ledger.{Ledger}
 use Rattle.descriptor_script.specs.Scripted.Device.{ledger_of}
 use Rattle.descriptor_examples.specs.declared.few_pools.FewPools.{FewPools}
 
+-- the ledger of the scripted device in it
 abbrev pub few_ledger : {MOST : ℕ} → FewPools MOST → Ledger
 few_ledger d = ledger_of d.device

@@ -22,6 +22,7 @@ abbrev pub only : Option Pool → ℕ → Option Pool
 only pool zero = pool
 only pool (suc name) = None
 
+-- the ledger of a device: its pool, if it has one, and its counters
 abbrev pub owed_of : OnePool → Ledger
 owed_of d = record {
   pools = only (as_created d.pool);

@@ -1,4 +1,5 @@
--- What is outstanding and in use, when sets are retired and go back.
+-- What is outstanding and in use, when sets are retired and go back: for `FrameManager::allocate`, `retire` and `finish`.
+-- `all` is a list of the sets `xs` and then `ys`, `u` an item; `s` and `t` are the state before and after.
 use Rattle.std.proofs.Common.{◌≡◌, ℕ, ◌+◌, ◌-◌, ◌≤◌, List, [], ◌++◌, IfOk, OnErr, Result, Ok, Err, refl, ap, ◌∙◌, arith}
 use Rattle.gpu_descriptor.specs.declared.errors.AllocationError.{AllocationError}
 use Rattle.std.proofs.lemmas.Result.{IfOk-weaker}
@@ -47,6 +48,7 @@ module _ {S : Type 0} (name : S → ℕ) (xs ys all : List (DescriptorSet S)) (i
 
 -- ---- a manager that retires sets
 
+-- sets that were in use were appended to the retired ones: they are in use no longer
 pub retires :
     {P S : Type 0} (pool_name : P → ℕ) (set_name : S → ℕ) (old new : FrameManager P S) (l : Ledger)
     (xs : List (DescriptorSet S))
@@ -83,11 +85,13 @@ still_in_use (Err e) m s t same = λ u. ap (λ n. n - count_of u m) (same u)
 
 -- the manager has another allocator after a call
 module _ {L P S : Type 0} (means : Meaning L P S) (m : FrameManager P S) (a : Allocations P) (ordered : AreInOrder (retired_of m) m.greatest) (before after : Ledger) where
+  -- the list stays, and retired sets that were outstanding still are
   pub keeps_retired :
       Keeps means (side m.allocator before) (side a after)
       → (AreRetiredOut means.pool_name means.set_name m before → AreOutstanding (retired_items means.set_name m) (state_of means.pool_name a after)) → KeepsRetired means (side m before) (side (record m { allocator = a; ordered = ordered }) after)
   keeps_retired keeps out = record { allocator = keeps; list = refl; reserve = refl; greatest = refl; outstanding = λ o. record { out = out o } }
 
+  -- a request brings its sets into use, or, if it is refused, none
   pub hands_out_for_use :
       (layout : L) (count : ℕ) (r : Result (List (DescriptorSet S)) AllocationError)
       → HandsOut means (layout_key means layout) count r (side m.allocator before) (side a after)

@@ -18,6 +18,7 @@ use Rattle.descriptor_frames.specs.declared.manager.FrameManager.{FrameManager}
 use Rattle.descriptor_frames.specs.declared.retired.Retired.{Retired}
 
 module _ {P S : Type 0} where
+  -- the value of the manager's allocator
   abbrev pub allocator_of : FrameManager P S → Allocations P
   allocator_of m = m.allocator
 

@@ -1,4 +1,4 @@
--- The kinds of an answer, one by one.
+-- The kinds of an answer, one by one: for the loop of `kinds_answer`.
 use Rattle.std.proofs.Common.{◌≡◌, ℕ, ◌+◌, ◌<◌, ◌≤◌, List, [], ◌++◌, length, take, get_or, refl, ap, sym, ◌∙◌, arith}
 use Rattle.std.specs.List.{flat_map, zip}
 use Rattle.std.proofs.lemmas.List.{take_all, take_more, flat_map_more}
@@ -14,6 +14,7 @@ pub answer_of_none : (names : List (List ℕ)) (counts : List ℕ) → answer_of
 unfolding answer_of_first
 answer_of_none names counts = refl
 
+-- with the next kind its text comes after; and after the last kind this is the whole
 pub answer_of_more : (names : List (List ℕ)) (counts : List ℕ) (n : ℕ) → n < length names → n < length counts → answer_of_first (n + 1) names counts ≡ answer_of_first n names counts ++ kind_answer (get_or names n [], get_or counts n 0)
 unfolding answer_of_first
 answer_of_more names counts n named counted =

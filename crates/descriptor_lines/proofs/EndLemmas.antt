@@ -1,4 +1,5 @@
--- How a run of lines ends.
+-- How a run of lines ends: for `run_lines_on` and `run_to_end`. `Stands` says how far a run came, `Takes` what came of its next line,
+-- and `Writes` what it wrote in the end. If nothing is known of the input (`None`), they say nothing.
 use Rattle.std.proofs.Common.{◌≡◌, if◌then◌else◌, ℕ, ◌+◌, ◌-◌, ◌<◌, ◌≤◌, ◌⊎◌, inl, inr, Bool, true, false, List, [], ◌∷◌, ◌++◌, Option, None, Some, Result, Ok, Err, OnOk, IfErr, drop, take, slice_range, length, length-take, append-nil, subst, refl, sym, ap, ◌∙◌, arith}
 use Rattle.std.specs.Bool.{⊤}
 use Rattle.std.specs.List.{position_or_len}
@@ -35,6 +36,7 @@ pub record IsTaken (number : ℕ) (line bytes : List ℕ) (rest : Option (List �
   pub first : line ≡ before_end bytes
   pub came : Came number line bytes rest outcome text old new
 
+-- the same of the bytes that are left, if they are known
 abbrev pub Takes : ℕ → Option (List ℕ) → Option (List ℕ) → Result Unit Refusal → List ℕ → LineState → LineState → Type 0
 Takes number None rest outcome text old new = ⊤
 Takes number (Some bytes) rest outcome text old new =
@@ -53,6 +55,7 @@ module _ (number : ℕ) (line bytes : List ℕ) (rest : Option (List ℕ)) where
       device = record { script = other.unchanged.script; ledger = other.unchanged.session.ledger };
     }
 
+    -- without a fault the line is answered, with one it is refused, so it is one of the two
     answered : (outcome : Result Unit Refusal) → IsNoFault outcome → Came number line bytes rest outcome text old new → LosesLine (Some bytes) rest × IsAnswered line (said_of number outcome text) old new
     answered (Ok done) fine came = came
     answered (Err refusal.NoMemory) fine came = came
@@ -98,6 +101,7 @@ takes_long number (Some bytes) rest outcome text p is long = (
 
 -- ---- one line more
 
+-- a run that came to a line goes on after it, if that had no fault
 pub stands_on :
     (known left rest : Option (List ℕ)) (start old new : LineState) (answers text : List ℕ) (number : ℕ)
     (outcome : Result Unit Refusal)
@@ -111,6 +115,7 @@ stands_on (Some bytes) (Some left) rest start old new answers text number outcom
 
 -- ---- the ends
 
+-- a run at the end of its input is done, and below one whose input can't be read ends where it came
 pub ends_done : (known left : Option (List ℕ)) (start p : LineState) (answers : List ℕ) (number : ℕ) (old new : Option (List ℕ)) → Stands known start answers number left p → IsAtEnd left → Appends old new answers → Writes known start Done old new p
 ends_done None left start p answers number old new at end grown = tt
 ends_done (Some bytes) None start p answers number old new at end grown = absurd at
@@ -206,6 +211,7 @@ unread_first buffer known empty «open» =
     let nothing : buffered buffer ≡ [] = ap (slice_range buffer.bytes.items buffer.start) (sym empty) ∙ slice_range_none buffer.bytes.items buffer.start in
     ap (λ l. if buffer.is_at_end then Some l else prepend_known l known) nothing ∙ known_left_of_none buffer.is_at_end known «open»
 
+-- what a run wrote, from a program on that had run no line
 pub from_start : (known : Option (List ℕ)) (start last : LineState) (exit : Exit) (old new : Option (List ℕ)) → (exit ≡ NoMemory → ⊥) → IsFresh start → Writes known start exit old new last → WritesFromStart known exit old new last.ledger last.script
 from_start known start last Done old new memory fresh wrote = (start, last, fresh, wrote, refl, refl)
 from_start known start last BadLine old new memory fresh wrote = (start, last, fresh, wrote, refl, refl)

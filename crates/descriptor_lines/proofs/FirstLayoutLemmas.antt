@@ -1,4 +1,4 @@
--- The first layouts of a list that got one more.
+-- The first layouts of a list that got one more: for `LayoutTable::new` and `push`, where each entry is marked if it is the first of its key.
 use Rattle.std.proofs.Common.{◌≡◌, ◌↔◌, ◌&&◌, ◌||◌, not, ℕ, inl, inr, Bool, true, false, cond, IsTrue, List, [], ◌∷◌, ◌++◌, Contains, filter, map, String, Global, refl, subst, ap, sym, ◌∙◌}
 use Rattle.std.proofs.lemmas.Bool.{false≢true, or_cases}
 use Rattle.std.proofs.lemmas.List.{map-append}
@@ -16,6 +16,7 @@ use Rattle.descriptor_lines.proofs.LayoutLemmas.{contains_cases, contains_first,
 abbrev same_key : List ℕ × Layout → List ℕ × Layout → Bool
 same_key m l = key_eq (key_of m.1) (key_of l.1)
 
+-- layouts have one key exactly if the derived test says that they are the same
 same_key_eq : (m l : List ℕ × Layout) → same_key m l ≡ layout_eq m.1 l.1
 same_key_eq m l = ap (λ same. same && beq m.1.mark l.1.mark) (sym (each_is_pointwise (kinds m.1.counts) (kinds l.1.counts)))
 
@@ -26,6 +27,7 @@ same_key_same m l same = same_key_eq m l ∙ ap (λ layout. layout_eq layout l.1
 abbrev any_same : List (List ℕ × Layout) → List ℕ × Layout → Bool
 any_same ls l = list_any (λ m. same_key m l) ls
 
+-- a list has a layout of the key exactly if it contains the layout
 any_from_contains : (ls : List (List ℕ × Layout)) (l : List ℕ × Layout) → Contains (map (λ m. m.1) ls) l.1 → any_same ls l ≡ true
 any_from_contains [] l has = absurd (contains_none l.1 has)
 any_from_contains (m ∷ ls) l has = elim (contains_cases m.1 (map (λ n. n.1) ls) l.1 has) [
@@ -54,6 +56,7 @@ told_by_any flag ls l new = decided flag (any_same ls l) refl new
     decided false true is new = refl
     decided false false is new = new.1 (λ has. absurd (false≢true (sym is ∙ any_from_contains ls l has)))
 
+-- after `m`, a layout `l` is first if it isn't of the key of `m`, nor of one of the others (`any`)
 kept_or_not : (m l : List ℕ × Layout) (any : Bool) → filter (λ n. not (same_key m n)) (cond any [] (l ∷ [])) ≡ cond (same_key m l || any) [] (l ∷ [])
 kept_or_not m l true = with_true (same_key m l)
   where
@@ -66,6 +69,7 @@ kept_or_not m l false = with_false (same_key m l)
     with_false true = refl
     with_false false = refl
 
+-- with `l` at the end the first layouts are those that were, and `l` if no other has its key
 first_of_more : (ls : List (List ℕ × Layout)) (l : List ℕ × Layout) → first_layouts (ls ++ l ∷ []) ≡ first_layouts ls ++ cond (any_same ls l) [] (l ∷ [])
 unfolding first_layouts
 first_of_more [] l = refl

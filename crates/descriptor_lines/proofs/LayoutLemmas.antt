@@ -1,4 +1,4 @@
--- Layouts that are the same, and whether one is in a list.
+-- Layouts that are the same, and whether one is in a list: for `LayoutTable::is_new`, and for `FirstLayoutLemmas`.
 use Rattle.std.proofs.Common.{◌≡◌, ◌⊎◌, ◌&&◌, nat_eq, ℕ, zero, suc, inl, inr, Bool, true, List, [], ◌∷◌, Contains, slice_index, refl, ap, sym, ◌∙◌, arith}
 use Rattle.std.proofs.lemmas.Bool.{and_parts, and_from}
 use Rattle.std.proofs.lemmas.Bool.Decides.{Decides-eqb}
@@ -29,6 +29,7 @@ each_is_pointwise (x ∷ next ∷ xs) (y ∷ other ∷ ys) = ap (λ rest. nat_eq
 abbrev pub layout_eq : Layout → Layout → Bool
 layout_eq a b = each_same (kinds a.counts) (kinds b.counts) && beq a.mark b.mark
 
+-- counts from a list of fourteen numbers
 abbrev counts_of : List ℕ → DescriptorTotalCount
 counts_of n = record {
   sampler = slice_index n 0;
@@ -47,6 +48,7 @@ counts_of n = record {
   inline_uniform_block_bindings = slice_index n 13;
 }
 
+-- the derived test of layouts is exact
 pub same_layout : (a b : Layout) → layout_eq a b ≡ true → a ≡ b
 same_layout a b told =
     let both = and_parts (each_same (kinds a.counts) (kinds b.counts)) (beq a.mark b.mark) told in

@@ -1,4 +1,7 @@
--- Lemmas on the lines that bytes begin with.
+-- The lines that bytes begin with: for `LineBuffer::next_line`, `read_more` and `take_line`, which search a buffer for the end of a line.
+-- `bytes` are those of the buffer: from `start` on they are in no line yet, up to `searched` no line ends among them, and up to `end` they
+-- were read. Byte 10 ends a line. `known` are the bytes that the reader has left, if that is known; `ended`, `was` and `now` say whether
+-- its end was seen.
 use Rattle.std.proofs.Common.{◌≡◌, if◌then◌else◌, ℕ, ◌+◌, ◌-◌, ◌<◌, ◌≤◌, ◌⊎◌, inl, inr, subst, append_assoc, append-nil, length-take, Bool, true, false, IsTrue, List, [], ◌++◌, Option, None, Some, not, is_some, unwrap_or, length, length-take-le, take, drop, position, slice_range, length-append}
 use Rattle.std.proofs.Common.{take-append-drop, refl, sym, ap, ◌∙◌, arith, IfSome}
 use Rattle.std.specs.List.{position_or_len}
@@ -98,6 +101,7 @@ pub record ComesTo (bytes : List ℕ) (start end place : ℕ) (found : Option �
   pub at_end : is_some found ≡ true → place < end
   pub missing : is_some found ≡ false → place ≡ end
 
+-- a search that begins at `searched` comes to the first end of a line from `start` on
 comes_to : (bytes : List ℕ) (start searched end : ℕ) → start ≤ searched → searched ≤ end → end ≤ length bytes → HasNoEnd (slice_range bytes start searched)
     → let rest = slice_range bytes searched end in ComesTo bytes start end (searched + unwrap_or (position (is_byte 10) rest) (length rest)) (position (is_byte 10) rest)
 comes_to bytes start searched end from to fits none =
@@ -140,6 +144,7 @@ rest_from bytes start end place from to is =
 
 -- ---- the first line of bytes, of which more may come
 
+-- a line that ended stays if more bytes come; if none ended, all bytes are the line so far
 pub before_end-append : (front rest : List ℕ) → HasEnd front → before_end (front ++ rest) ≡ before_end front
 before_end-append front rest some = ap (λ k. take k (front ++ rest)) (end_in_front front rest some) ∙ take-append-le (position_or_len (is_byte 10) front) front rest (omega arith)
 
@@ -152,6 +157,7 @@ before_end-whole bytes none = ap (λ k. take k bytes) none ∙ take_all (length 
 pub after_end-whole : (bytes : List ℕ) → HasNoEnd bytes → after_end bytes ≡ []
 after_end-whole bytes none = ap (λ k. drop (k + 1) bytes) none ∙ drop_all (length bytes + 1) bytes (omega arith)
 
+-- the two cases of what follows: a line ends in the front, or none does
 before_end-grows_by : (front rest : List ℕ) → HasEnd front ⊎ (length front ≤ position_or_len (is_byte 10) front) → length (before_end front) ≤ length (before_end (front ++ rest))
 before_end-grows_by front rest (inl some) = omega (arith, ap length (before_end-append front rest some))
 before_end-grows_by front rest (inr none) =
@@ -165,6 +171,7 @@ before_end-grows front rest = before_end-grows_by front rest (cases_lt _ _)
 
 -- ---- known bytes
 
+-- what holds of known bytes, and what they lose, is so of the bytes before, if these were kept
 pub Keeps-IfSome : (a b : Option (List ℕ)) (P : List ℕ → Type 0) → Keeps a b → IfSome b P → IfSome a P
 Keeps-IfSome None b P same h = tt
 Keeps-IfSome (Some x) None P same h = absurd same
@@ -184,6 +191,7 @@ taken false true known bytes rest kept some is = absurd (cc)
 taken false false None bytes rest kept some is = tt
 taken false false (Some more) bytes rest kept some is = (omega (arith, length-append bytes more), ap (λ l. l ++ more) is ∙ sym (after_end-append bytes more some))
 
+-- the line that was taken is the first of all that is unread, and so is one that is too long
 pub taken_line : (ended : Bool) (known : Option (List ℕ)) (bytes line : List ℕ) → HasEnd bytes → line ≡ before_end bytes → IfSome (if ended then Some bytes else prepend_known bytes known) (λ all. line ≡ before_end all)
 taken_line true known bytes line some is = is
 taken_line false None bytes line some is = tt

@@ -1,4 +1,5 @@
--- Lemmas on the texts of replies, and on how long they are.
+-- The texts of replies, and how long they are: for `reply_answer`, `sets_answer` and the loop of `stretches_answer`.
+-- A *stretch* is neighbours that are one pool: `n` of `pool` so far, up to `ticket`, of tickets up to `end`.
 use Rattle.std.proofs.Common.{◌≡◌, ◌≢◌, ℕ, zero, suc, ◌+◌, ◌-◌, ◌<◌, ◌≤◌, ◌^◌, ◌⊎◌, inl, inr, List, [], ◌∷◌, ◌++◌, length, replicate, codes, Option, append-nil, append_assoc, length-append, refl, sym, ap, ◌∙◌, arith}
 use Rattle.std.specs.Fmt.{decimal}
 use Rattle.std.specs.List.{flat_map}
@@ -13,6 +14,7 @@ use Rattle.descriptor_lines.specs.ReplyTexts.{freed_text, front_of, pools_from, 
 
 -- ---- stretches
 
+-- a stretch is as long as its pool is in front, and what comes after it begins with another pool
 front_of_one : (pool n : ℕ) (rest : List ℕ) → front_of pool (replicate n pool ++ rest) ≡ n + front_of pool rest
 front_of_one pool zero rest = grind arith
 front_of_one pool (suc n) rest = grind (arith, nat_tests, front_of_one pool n rest)
@@ -29,6 +31,7 @@ behind_another : (pool next : ℕ) (rest : List ℕ) → next ≢ pool → stret
 unfolding stretches_behind stretches
 behind_another pool next rest apart = grind (arith, nat_tests)
 
+-- the text of a stretch before another pool, and below of the last one
 stretch_over : (pool n next : ℕ) (rest : List ℕ) → 0 < n → next ≢ pool → stretches_text (replicate n pool ++ next ∷ rest) ≡ stretch_text (pool, n) ++ stretches_text (next ∷ rest)
 unfolding stretches_text stretches
 stretch_over pool zero next rest some apart = absurd (omega arith)
@@ -47,6 +50,7 @@ stretch_last pool (suc n) some =
 -- ---- the pools of tickets up to the end, one by one
 
 module _ (slots : List (Option (DescriptorSet RawSet))) (ticket end : ℕ) where
+  -- no ticket is left, or one is next, with its pool
   no_pool : end ≤ ticket → pools_from slots ticket (end - ticket) ≡ []
   no_pool done =
       let none : end - ticket ≡ 0 = omega arith in
@@ -100,6 +104,7 @@ length_of_stretch pool n some named fits =
     let sum : length (decimal pool ++ 42 ∷ decimal n) ≡ length (decimal pool) + suc (length (decimal n)) = length-append (decimal pool) (42 ∷ decimal n) in
     omega (arith, digits_at_most n some fits)
 
+-- a text with numbers is no longer than their digits allow: 20 for a number of 64 bits
 pub length_of_range : (first last : ℕ) → first < 2 ^ 64 → last < 2 ^ 64 → length (range_text first last) ≤ 47
 length_of_range first last from to =
     let low : length (decimal first) ≤ 20 = length-decimal-le 20 first (omega arith) (omega arith) from in

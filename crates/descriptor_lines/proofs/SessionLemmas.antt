@@ -1,4 +1,4 @@
--- Sessions that are ready, and the replies of their steps.
+-- Sessions that are ready, and the replies of their steps: for `Program::new`, `add_layout`, `set_limit` and `ask`.
 use Rattle.std.proofs.Common.{All, ◌≡◌, ◌≢◌, ℕ, zero, suc, zero-le, ◌+◌, ◌-◌, ◌<◌, ◌≤◌, ◌^◌, List, [], ◌∷◌, ◌++◌, length, length-append, map, get_or, Option, None, Some, IsSome, refl, sym, ap, ◌∙◌, arith}
 use Rattle.std.proofs.lemmas.List.{get_or-append_right, length-map}
 use Rattle.std.proofs.lemmas.List.Elements.{All-nil}

@@ -1,4 +1,4 @@
--- The pools of a layout that `show` says, one by one.
+-- The pools of a layout that `show` prints, one by one: for the loops of `Program::show` and `show_pools`.
 use Rattle.std.proofs.Common.{◌≡◌, ℕ, ◌+◌, ◌<◌, ◌≤◌, true, false, List, [], ◌∷◌, ◌++◌, append_assoc, filter, length, map, take, get_or, slice_get, None, Some, String, Global, refl, ap, sym, ◌∙◌, arith}
 use Rattle.std.specs.List.{flat_map}
 use Rattle.std.proofs.lemmas.List.{flat_map_more, length-map, take_all, take_more}
@@ -32,6 +32,7 @@ pub none_so_far : (rows : List (Key × BucketOf RawPool)) (l : List ℕ × Layou
 unfolding pools_so_far
 none_so_far rows l = refl
 
+-- with the next pool its line comes after; and after the last pool these are all lines
 pub one_more : (rows : List (Key × BucketOf RawPool)) (name : List ℕ) (layout : Layout) (n : ℕ) (pool : PoolView) → view_in (books_of rows (key_of layout)) n ≡ Some pool → pools_so_far (n + 1) rows (name, layout) ≡ pools_so_far n rows (name, layout) ++ pool_answer name pool
 unfolding pools_so_far
 one_more rows name layout n pool seen =
@@ -61,6 +62,7 @@ pub said_of_none : (rows : List (Key × BucketOf RawPool)) → said_of_told rows
 unfolding said_of_told
 said_of_none rows = refl
 
+-- an entry that is first adds the lines of its pools, another adds nothing
 pub said_of_first : (rows : List (Key × BucketOf RawPool)) (e : String Global × Entry) (es : List (String Global × Entry)) → e.1.is_first ≡ true → said_of_told rows (e ∷ es) ≡ pools_answer rows (listed e) ++ said_of_told rows es
 unfolding said_of_told
 said_of_first rows e es first = rw first refl

@@ -1,4 +1,4 @@
--- How far a run of lines has come, and one line more.
+-- How far a run of lines has come, and one line more: for the loop of `run_to_end`, by `EndLemmas`.
 use Rattle.std.proofs.Common.{◌≡◌, ℕ, ◌+◌, ◌<◌, ◌≤◌, ◌⊎◌, inl, inr, List, [], ◌∷◌, ◌++◌, Option, None, Some, IfSome, length, length-append, append_assoc, append-nil, subst, refl, sym, ap, ◌∙◌, arith}
 use Rattle.std.specs.Bool.{⊤}
 use Rattle.std.specs.List.{position_or_len, slice_split}
@@ -13,6 +13,7 @@ use Rattle.descriptor_lines.proofs.LineLemmas.{after_end-whole, before_end-whole
 
 -- ---- the lines of bytes
 
+-- a piece before others is a line, and so is a last one that isn't empty
 first_piece : (piece : List ℕ) (pieces : List (List ℕ)) → 0 < length pieces → without_empty_last (piece ∷ pieces) ≡ piece ∷ without_empty_last pieces
 first_piece piece [] some = absurd (omega arith)
 first_piece [] (next ∷ pieces) some = refl
@@ -41,6 +42,7 @@ ended_line bytes ends =
     let others : List (List ℕ) = slice_split (is_byte 10) (after_end bytes) in
     ap without_empty_last (slice_split_first (is_byte 10) bytes 0 ends) ∙ first_piece (before_end bytes) others (omega (arith, length-slice_split (is_byte 10) (after_end bytes)))
 
+-- the two cases of what follows: a line ends among the bytes, or none does
 lines_split_by : (bytes : List ℕ) → 0 < length bytes → HasEnd bytes ⊎ (length bytes ≤ position_or_len (is_byte 10) bytes) → lines_of bytes ≡ before_end bytes ∷ lines_of (after_end bytes)
 lines_split_by bytes some (inl ends) = ended_line bytes ends
 lines_split_by bytes some (inr none) =
@@ -75,6 +77,7 @@ Stands (Some bytes) old text next (Some left) new =
 abbrev pub IsFirstOf : List ℕ → Option (List ℕ) → Type 0
 IsFirstOf line known = IfSome known (λ bytes. line ≡ before_end bytes)
 
+-- a line was answered, and the run stands at the next one
 pub stands_next : (known left rest : Option (List ℕ)) (old p new : LineState) (text answer line : List ℕ) (next : ℕ) → Stands known old text next left p → IsFirstOf line left → LosesLine left rest → IsAnswered line answer p new → Stands known old (text ++ answer) (next + 1) rest new
 stands_next None left rest old p new text answer line next at first loses answered = tt
 stands_next (Some bytes) None rest old p new text answer line next at first loses answered = absurd at

@@ -23,6 +23,7 @@ module _ (layouts : LayoutTable) where
   abbrev pub place_named : List ℕ → Option ℕ
   place_named name = index_of_by (λ key. bytes_eq name (string_bytes key)) layouts.by_name
 
+  -- how many layouts there are
   abbrev pub layout_count : ℕ
   layout_count = length layouts.by_name.entries
 

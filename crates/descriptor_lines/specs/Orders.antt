@@ -34,6 +34,7 @@ pub data Order : Type 0 where
   Cleanup : Order
   Show : Order
 
+-- what a command of the code says
 abbrev pub order_of : Command → Order
 order_of (command.Limit max) = Limit max
 order_of (command.Layout name layout) = Layout name.now (key_of layout)
@@ -49,6 +50,7 @@ abbrev pub word_of_mark : Bool → List ℕ
 word_of_mark false = codes "plain"
 word_of_mark true = codes "mark"
 
+-- the mark that a word gives
 abbrev pub mark_in : List ℕ → Result Bool Fault
 mark_in word = ok_or (named word_of_mark (false ∷ true ∷ []) word) BadMark
 
@@ -130,6 +132,7 @@ HasList keyword.Script = Unit {0}
 HasList keyword.Free = Unit {0}
 HasList keyword = ⊥
 
+-- the words begin with a command that reads a list of words
 abbrev pub BeginsList : List (List ℕ) → Type 0
 BeginsList [] = ⊥
 BeginsList (word ∷ words) = IsSomeAnd (keyword_of word) HasList

@@ -11,6 +11,7 @@ use Rattle.descriptor_script.specs.declared.raw.RawSet.{RawSet}
 use Rattle.descriptor_script.specs.declared.raw.ScriptLayout.{ScriptLayout}
 use Rattle.descriptor_script.specs.declared.session.Session.{Session}
 
+-- a session on the scripted device
 abbrev pub LineSession : Type 0
 LineSession = Session ScriptLayout RawPool RawSet
 
@@ -19,6 +20,7 @@ abbrev pub pool_of : Option (DescriptorSet RawSet) → ℕ
 pool_of None = 0
 pool_of (Some set) = set_pool set.raw
 
+-- the device pool of the set that the ticket has, or 0
 abbrev pub pool_at : List (Option (DescriptorSet RawSet)) → ℕ → ℕ
 pool_at slots ticket = pool_of (set_at slots ticket)
 

@@ -16,6 +16,7 @@ word_of_answer Host = codes "host"
 word_of_answer Frag = codes "frag"
 word_of_answer Pool = codes "pool"
 
+-- the answer that a word of a script gives
 abbrev pub answer_in : List ℕ → Result Answer Fault
 answer_in word =
     ok_or (named word_of_answer (Ok ∷ Device ∷ Host ∷ Frag ∷ Pool ∷ []) word) BadAnswerWord

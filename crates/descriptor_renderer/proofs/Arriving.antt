@@ -22,6 +22,7 @@ module _ {T : Type 0} where
   abbrev pub placed_in : Use → Option T → ℕ → ℕ → Bool
   placed_in u o layout generation = not (is_some o) || ((is_held_use u && is_some o) || ((waits_for (λ w. true) u && is_some o) || in_list (layout + 2) u layout generation (is_some o)))
 
+  -- a set that is held, or waits for a frame, is placed
   pub used_placed : (s : Slot T) (x : T) → s.set ≡ Some x → (is_held_use s.used || waits_for (λ w. true) s.used) ≡ true → is_placed s ≡ true
   used_placed s x full e = ap (λ o. placed_in s.used o s.layout s.generation) full ∙ by_use (is_held_use s.used) (waits_for (λ w. true) s.used) (in_list (s.layout + 2) s.used s.layout s.generation true) e
     where
@@ -29,6 +30,7 @@ module _ {T : Type 0} where
       by_use x0 b c f = grind (arith, common_steps)
 
   module _ (comes : ℕ → T → Type 0) (f : ℕ) where
+    -- changes of a slot that `Arrives` allows: by a cleanup, one after another, and none
     pub clears_arrives : (o n : Slot T) → Clears o n → Arrives comes f o n
     clears_arrives o n c = elim c.is [
       | inl same ↦ record {
@@ -60,6 +62,7 @@ module _ {T : Type 0} where
     same_arrives o n e = subst (Arrives comes f o) (sym e) (record { set = λ x is. inl (is, refl); placed = λ was. was; frame = λ g le up. up })
 
 module _ {L P S D : Type 0} {d : Ghosts D L P S} where
+  -- if each slot became what `Arrives` says, the store settles
   pub arrived : (comes : ℕ → DescriptorSet S → Type 0) (f : ℕ) (old new : Store L P S D d) → ((p : ℕ) → Arrives comes f (slot_at (slots_in old) p) (slot_at (slots_in new) p)) → coming_in new ≡ [] → IsAtRest old → KeepsStore old new → Settles comes f old new
   arrived comes f old new arrives none rest stays = record {
     sets = λ p x e. (arrives p).set x e;

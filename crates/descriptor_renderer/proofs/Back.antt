@@ -19,6 +19,7 @@ module _ {T : Type 0} where
       by_test p false e = ap (λ (s : Slot T). s.set) (t.rest p e)
       by_test p true e = same (slot_at old p) (slot_at new p) (t.here p e)
 
+  -- sets that settle, wait or go are in their slots still
   pub settled_sets : (test : Slot T → Bool) (generations : ℕ → ℕ) (most : ℕ) (old new : List (Slot T)) → Turns test (IsBack (used_for Going) generations most) old new → sets_in new ≡ sets_in old
   settled_sets test generations most old new t = turned_sets test (IsBack (used_for Going) generations most) old new t (λ o n settled. elim settled [
     | inl kept ↦ ap (λ (s : Slot T). s.set) kept.0

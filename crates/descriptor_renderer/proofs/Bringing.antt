@@ -29,6 +29,7 @@ module _ {L P S D : Type 0} {d : Ghosts D L P S} where
       own = asks.own;
     }
 
+  -- what `Store::bring` leaves: nothing changed if enough sets are kept, or the others were asked for
   pub brought : (layout : L) (number many : ℕ) (old new : Store L P S D d) → coming_in old ≡ [] → (many ≤ kept_of number old → new ≡ old) → (kept_of number old < many → AsksAtLast layout (many - kept_of number old) many old new) → Brings layout many old new
   brought layout number many old new none kept asks = elim (below_or (kept_of number old) many) [
     | inl few ↦ elim (asks few) [

@@ -1,4 +1,4 @@
--- Kept sets that all go.
+-- Kept sets that all go: for `Store::cleanup`, `set_keep` and `free_all`.
 use Rattle.std.proofs.Common.{◌≡◌, ℕ, ◌+◌, ◌<◌, ◌≤◌, Bool, true, false, if◌then◌else◌, List, length, None, inl, inr, refl, sym, ap, ◌∙◌, arith}
 use Rattle.std.proofs.lemmas.List.{get_or_past}
 use Rattle.descriptor_table.specs.Sets.{sets_in}
@@ -25,18 +25,21 @@ module _ {T : Type 0} where
     | inr le ↦ (let long = a.long in ap (λ (s : Slot T). s.set) (past new p (omega arith)) ∙ sym (ap (λ (s : Slot T). s.set) (past old p le)))
   ])
 
+  -- sets that go are in their slots still
   pub gone_sets : (test : Slot T → Bool) (old new : List (Slot T)) → Turns test (MayBecome (used_for Going)) old new → sets_in new ≡ sets_in old
   gone_sets test old new t = turned_sets test (MayBecome (used_for Going)) old new t (λ o n may. elim may [
     | inl same ↦ ap (λ (s : Slot T). s.set) same
     | inr going ↦ ap (λ (s : Slot T). s.set) going
   ])
 
+  -- a cleanup in three steps: no set is kept later, the kept ones go, and those that go were given back
   pub cleaned : (old a b new : List (Slot T)) → ArePlaced old → AreAged old a → Turns is_kept (MayBecome (used_for Going)) a b → ((layout : ℕ) → count (is_in (layout + 2)) b ≤ 0) → Turns goes (Becomes vacated) b new → AreCleaned old new
   cleaned old a b new placed aged_all trims few gives = record {
     long = gives.long ∙ trims.long ∙ aged_all.long;
     each = λ p lt. by_test p lt (is_kept (slot_at old p)) refl;
   }
     where
+      -- a slot whose set isn't kept is aged; a kept one is aged, goes, and is given back
       by_test : (p : ℕ) → p < length old → (c : Bool) → is_kept (slot_at old p) ≡ c → slot_at new p ≡ (if is_kept (slot_at old p) then vacated (aged (slot_at old p)) else aged (slot_at old p))
       by_test p lt false e =
           let here = aged_all.each p lt in
@@ -54,6 +57,7 @@ module _ {T : Type 0} where
           let gone : slot_at new p ≡ vacated (slot_at b p) = gives.here p (ap goes leaves ∙ full) in
           gone ∙ ap vacated (leaves ∙ ap (used_for Going) here) ∙ sym (ap (λ c. if c then vacated (aged (slot_at old p)) else aged (slot_at old p)) e)
 
+  -- and so each slot follows what it was
   pub follow_cleaned : (f : ℕ) (old new : List (Slot T)) → AreCleaned old new → (p : ℕ) → Follows f (slot_at old p) (slot_at new p)
   follow_cleaned f old new c p = elim (below_or p (length old)) [
     | inl lt ↦ by_test (is_kept (slot_at old p)) refl (c.each p lt)

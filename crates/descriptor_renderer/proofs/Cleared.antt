@@ -24,6 +24,7 @@ module _ {T : Type 0} where
     is = inl (ap (λ (s : Slot T). s.used) e, ap (λ (s : Slot T). s.set) e);
   }
 
+  -- a slot after a cleanup, by whether its set was kept (`b`)
   cleared_as : (o n : Slot T) (b : Bool) → is_kept o ≡ b → n ≡ (if b then vacated (aged o) else aged o) → Clears o n
   cleared_as o n true kept e = record {
     generation = ap (λ (s : Slot T). s.generation) e;

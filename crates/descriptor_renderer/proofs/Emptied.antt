@@ -1,4 +1,6 @@
--- All sets leave.
+-- All sets leave: the steps of `Store::free_all`. The slots are `a` once no set is kept later (`AreAged`), `b` once those that wait settled,
+-- `c` once the held ones go, `d` once the kept ones go, and `new` once all that go were given back. `one`, `two` and `three` are what
+-- the slot at a place is in `b`, `c` and `d`.
 use Rattle.std.proofs.lemmas.Grind.{common_steps}
 use Rattle.std.proofs.Common.{◌≡◌, ℕ, ◌+◌, ◌<◌, ◌≤◌, ◌⊎◌, ◌&&◌, ◌||◌, not, Bool, true, false, List, length, Option, None, is_some, inl, inr, refl, sym, ap, ◌∙◌, arith, nat_le}
 use Rattle.descriptor_table.specs.Slots.{frame_in, frame_of, goes, in_list, is_due, is_in, slot_at, waits_for}
@@ -56,6 +58,7 @@ module _ {T : Type 0} (generations : ℕ → ℕ) (frame most : ℕ) (a b c d ne
   going : (p : ℕ) (s : Slot T) → is_some s.set ≡ true → slot_at c p ≡ used_for Going s → slot_at new p ≡ vacated s
   going p s full e = given p s full (trims.rest p (ap is_kept e ∙ going_out (s.layout + 2) s (omega arith)) ∙ e)
 
+  -- a slot without a set is as it was
   empty_stays : (p : ℕ) → goes (slot_at a p) ≡ false → is_some (slot_at a p).set ≡ false → slot_at new p ≡ slot_at a p
   empty_stays p none e =
       let s = slot_at a p in
@@ -64,6 +67,7 @@ module _ {T : Type 0} (generations : ℕ → ℕ) (frame most : ℕ) (a b c d ne
       let three : slot_at d p ≡ s = trims.rest p (ap is_kept two ∙ empty_kept s e) ∙ two in
       gives.rest p (ap goes three ∙ none) ∙ three
 
+  -- a held set left its slot, and so below did one that waited, and a kept one
   held_leaves : (p : ℕ) → holds (slot_at a p) ≡ true → is_some (slot_at a p).set ≡ true → slot_at new p ≡ vacated (slot_at a p)
   held_leaves p e full =
       let s = slot_at a p in
@@ -93,6 +97,7 @@ module _ {T : Type 0} (generations : ℕ → ℕ) (frame most : ℕ) (a b c d ne
       ] in
       given p s (kept_full s e) three
 
+  -- so each set of a store at rest left its slot
   all_leave : (p : ℕ) → is_placed (slot_at a p) ≡ true → goes (slot_at a p) ≡ false → frame_of (slot_at a p) ≤ frame → stays generations (slot_at a p) ≡ false → HasLeft (slot_at a p) (slot_at new p)
   all_leave p placed none up old = by_full (is_some (slot_at a p).set) refl
     where
@@ -119,6 +124,7 @@ pub record IsEmptied {T : Type 0} (o n : Slot T) : Type 0 where
   pub follows : Follows 0 o n
 
 module _ {T : Type 0} (generations : ℕ → ℕ) (frame most : ℕ) (old a b c d new : List (Slot T)) (placed : ArePlaced old) (up : IsUpTo frame old) where
+  -- no place has a set then
   pub emptied :
       AreAged old a → Turns (is_due frame) (IsBack (used_for Going) generations most) a b → Turns holds (Becomes (used_for Going)) b c
       → Turns is_kept (MayBecome (used_for Going)) c d → ((layout : ℕ) → count (is_in (layout + 2)) d ≤ 0) → Turns goes (Becomes vacated) d new → (p : ℕ) → IsEmptied (slot_at old p) (slot_at new p)

@@ -1,4 +1,5 @@
--- Each kind of change of a slot follows what it was.
+-- Each kind of change of a slot follows what it was (`Follows`, in `Settling`): its set stays or leaves, and is at rest if it was.
+-- For the calls of `Store` by which sets come back, wait, or go.
 use Rattle.std.proofs.lemmas.Grind.{common_steps}
 use Rattle.std.proofs.Common.{◌≡◌, ◌≢◌, ℕ, ◌+◌, ◌<◌, ◌&&◌, ◌||◌, not, Bool, true, false, List, length, is_some, inl, inr, refl, ap, subst, ◌∙◌, arith}
 use Rattle.descriptor_table.specs.Slots.{frame_of, goes, in_list, slot_at, waits_for}
@@ -15,6 +16,7 @@ use Rattle.descriptor_renderer.proofs.Settling.{Follows}
 abbrev placed_use : Use → ℕ → ℕ → Bool → Bool
 placed_use u layout generation full = not full || ((is_held_use u && full) || ((waits_for (λ w. true) u && full) || in_list (layout + 2) u layout generation full))
 
+-- a set that is held, waits or is kept doesn't go, nor does a call have it
 going_use : (u : Use) (layout generation : ℕ) (full : Bool) → placed_use u layout generation full ≡ true → in_list 1 u layout generation full ≡ false
 going_use u layout generation full e = grind (arith, common_steps)
 
@@ -34,6 +36,7 @@ module _ {T : Type 0} where
     none_taken p = let s = slot_at slots p in taken_use s.used s.layout s.generation (is_some s.set) (placed p)
 
   module _ (f : ℕ) where
+    -- changes of a slot that `Follows` allows: none, aged, vacated, one after another, back, and left
     pub follows_same : (o n : Slot T) → n ≡ o → Follows f o n
     follows_same o n e = record {
       set = inr (ap (λ (s : Slot T). s.set) e, ap came_under e);

@@ -19,6 +19,7 @@ use Rattle.descriptor_table.proofs.Coming.{put_weigh}
 use Rattle.descriptor_table.proofs.Leaving.{tally, tally_length}
 
 module _ {S : Type 0} (name : S → ℕ) where
+  -- what an item weighs in a tally of sets: how often it is there
   weight : Item → DescriptorSet S → ℕ
   weight t x = count_of t (item_of name x ∷ [])
 
@@ -58,6 +59,7 @@ module _ {T : Type 0} where
   set_sets (y ∷ l) zero s same = ap (λ o. joined o (sets_in l)) same
   set_sets (y ∷ l) (suc p) s same = ap (joined y.set) (set_sets l p s same)
 
+  -- no set comes or leaves if a handle is given, or a slot is picked
   pub renewed_sets : (number p : ℕ) (u : Use) (handle : SetHandle) (old new : List (Slot T)) → Renews number p u handle old new → sets_in new ≡ sets_in old
   renewed_sets number p u handle old new renews = ap sets_in renews.slots ∙ set_sets old p (renewed u (slot_at old p)) refl
 

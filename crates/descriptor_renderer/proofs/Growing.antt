@@ -1,4 +1,4 @@
--- There are more slots only if each has a set, or had its last generation.
+-- There are more slots only if each has a set, or had its last generation (`Grows`): for the calls of `Store` that give handles.
 use Rattle.std.proofs.lemmas.Grind.{common_steps}
 use Rattle.std.proofs.Common.{◌≡◌, ℕ, ◌<◌, ◌&&◌, Bool, true, false, List, length, is_some, Ok, inl, inr, sym, ap, subst, ◌∙◌, arith}
 use Rattle.std.proofs.lemmas.List.{length-set}
@@ -55,6 +55,7 @@ module _ {T : Type 0} where
     ]
   ]
 
+  -- a step that left as many slots, before others
   pub grow_from : (old mid new : List (Slot T)) → length mid ≡ length old → Grows mid new → Grows old new
   grow_from old mid new same grows = elim grows [
     | inl long ↦ inl (long ∙ same)

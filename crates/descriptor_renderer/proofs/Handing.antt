@@ -1,4 +1,6 @@
--- A set that gets a handle: a kept one, or one that came.
+-- A set that gets a handle, a kept one or one that came: for `Store::draw` and `create` (by `Taking`), `hold_next` and `hold_last`.
+-- `p` is its place, `u` what it is in use for, and `handle` the next one of the slot. `Fills` says what becomes of the slot, and `Handles`
+-- the same after kept sets may have gone. The slots are `old` before, `mid` or `put` once the set was picked or put, and `new` after.
 use Rattle.std.proofs.lemmas.Grind.{common_steps}
 use Rattle.std.proofs.Common.{◌≡◌, ◌≢◌, ℕ, ◌+◌, ◌<◌, ◌≤◌, ◌⊎◌, ◌||◌, Bool, true, false, List, length, set, Option, Some, None, is_some, Result, Ok, inl, inr, refl, sym, ap, subst, ◌∙◌, arith}
 use Rattle.std.proofs.lemmas.Bool.{cases_eq}
@@ -44,6 +46,7 @@ pub record Fills {T : Type 0} (comes : ℕ → T → Type 0) (number : ℕ) (gen
 abbrev pub IsCurrent : {T : Type 0} → (ℕ → ℕ) → List (Slot T) → Type 0
 IsCurrent generations slots = (p : ℕ) → p < length slots → is_kept (slot_at slots p) ≡ true → (slot_at slots p).layout_generation ≡ generations (slot_at slots p).layout
 
+-- a kept set of the layout came under the layout that has the number now
 kept_under : {T : Type 0} (generations : ℕ → ℕ) (layout : ℕ) (s : Slot T) → s.layout ≡ layout → s.layout_generation ≡ generations s.layout → came_under s ≡ current generations layout
 kept_under generations layout s at now = λ i. (at i, (now ∙ ap generations at) i)
 
@@ -54,6 +57,7 @@ pub record Handles {T : Type 0} (comes : ℕ → T → Type 0) (number : ℕ) (g
   pub fills : Fills comes number generations layout p u handle mid new
 
 module _ {T : Type 0} (comes : ℕ → T → Type 0) (number : ℕ) (generations : ℕ → ℕ) (layout p : ℕ) (u : Use) (handle : SetHandle) where
+  -- a kept set of the layout was picked, and got the handle
   pub kept_fills : (old mid new : List (Slot T)) → IsCurrent generations old → Picks (is_kept_of layout) p old mid → Renews number p u handle mid new → Fills comes number generations layout p u handle old new
   kept_fills old mid new now picks renews =
       let o = slot_at old p in
@@ -76,6 +80,7 @@ module _ {T : Type 0} (comes : ℕ → T → Type 0) (number : ℕ) (generations
         others = λ q ne. ap (λ l. slot_at l q) renews.slots ∙ other_slots mid p (renewed u (slot_at mid p)) q ne ∙ ap (λ l. slot_at l q) picks.slots ∙ other_slots old p (used_for Taken o) q ne;
       }
 
+  -- a set of the layout was put into a slot, and got the handle
   pub new_fills : (x : T) (old put new : List (Slot T)) → Puts generations layout x p old put → comes layout x → Renews number p u handle put new → Fills comes number generations layout p u handle old new
   new_fills x old put new puts came renews =
       let there = puts.here in
@@ -110,6 +115,7 @@ module _ {T : Type 0} (comes : ℕ → T → Type 0) (number : ℕ) (generations
       some_same e = cc
 
   module _ (old new : List (Slot T)) (h : Handles comes number generations layout p u handle old new) where
+    -- the next handle of the slot names the set, and each other handle names what it named
     named_as : IsNamed number (current generations layout) u (next_of number p (slot_at h.mid p)) old new
     named_as =
         let m = slot_at h.mid p in
@@ -139,6 +145,7 @@ module _ {T : Type 0} (comes : ℕ → T → Type 0) (number : ℕ) (generations
         apart : (other : SetHandle) → other ≢ next_of number p (slot_at h.mid p) → other.place ≡ p → other ≢ next_of number other.place (slot_at h.mid other.place)
         apart other ne e f = ne (f ∙ ap (λ q. next_of number q (slot_at h.mid q)) e)
 
+        -- the slot was free, so no handle of it named a set
         seen_none : (frame : ℕ) (opened : Bool) (other : SetHandle) → other.place ≡ p → seen number frame opened (slot_at old other.place) other ≡ None
         seen_none frame opened other e = sym (seen_clear number frame opened (slot_at old other.place) (slot_at h.mid other.place) other (h.clears other.place)) ∙ seen_free number frame opened (slot_at h.mid other.place) other (subst (λ q. is_free (slot_at h.mid q) ≡ true) (sym e) h.fills.free)
 
@@ -148,6 +155,7 @@ module _ {T : Type 0} (comes : ℕ → T → Type 0) (number : ℕ) (generations
     pub named : IsNamed number (current generations layout) u handle old new
     named = subst (λ h. IsNamed number (current generations layout) u h old new) (sym h.fills.is) named_as
 
+    -- each slot then is what `Arrives` says of it
     pub handled_arrives : (f : ℕ) → (is_held_use u || waits_for (λ w. true) u) ≡ true → frame_in u ≤ f → (q : ℕ) → Arrives comes f (slot_at old q) (slot_at new q)
     handled_arrives f live few q = arrives_then comes f (slot_at old q) (slot_at h.mid q) (slot_at new q) (clears_arrives comes f (slot_at old q) (slot_at h.mid q) (h.clears q)) (fills_arrives f live few h.mid new h.fills q)
 
@@ -172,6 +180,7 @@ module _ {T : Type 0} where
       omega arith
 
 module _ {L P S D : Type 0} {d : Ghosts D L P S} where
+  -- after a refusal and a cleanup the kept sets left their slots
   pub cleared_of : (layout : L) (many : ℕ) (old new : Store L P S D d) → IsCleared layout many old new → AreCleaned (slots_in old) (slots_in new)
   cleared_of layout many old new c = subst (λ l. AreCleaned l (slots_in new)) c.first.slots c.cleaned
 

@@ -1,4 +1,6 @@
--- Sets that are held, one after another.
+-- Sets that are held, one after another: for `Store::hold_next`, `hold_last`, `hold_kept`, `hold_coming` and `create_each`.
+-- The slots are `old` before the handles `a` are given, `mid` between, and `new` after the handles `b`; `x` and `y` say so of `a` and `b`.
+-- `start`, `now` and `then` are the vector of handles before, between and after, and `given` are the handles that came to it.
 use Rattle.std.proofs.lemmas.Grind.{common_steps}
 use Rattle.std.proofs.Common.{◌≡◌, ◌≢◌, ℕ, ◌+◌, ◌-◌, ◌<◌, ◌≤◌, ◌⊎◌, ◌&&◌, ◌||◌, Bool, true, false, List, [], ◌∷◌, ◌++◌, length, get_or, Some, is_some, IsSome, inl, inr, refl, sym, ap, subst, ◌∙◌, append_assoc, arith}
 use Rattle.std.proofs.lemmas.Bool.{cases_lt}
@@ -57,6 +59,7 @@ module _ {T : Type 0} where
     rest = λ p none. refl;
   }
 
+  -- a set that got a handle is held by it
   pub hold_one : (comes : ℕ → T → Type 0) (number : ℕ) (generations : ℕ → ℕ) (layout p : ℕ) (handle : SetHandle) (old new : List (Slot T)) → Fills comes number generations layout p Held handle old new → HoldEach number (current generations layout) (handle ∷ []) old new
   hold_one comes number generations layout p handle old new f = record {
     apart = λ i j lt less. absurd (omega arith);
@@ -75,6 +78,7 @@ module _ {T : Type 0} where
       is_next x0 e lt = grind (arith, common_steps)
 
   module _ (number : ℕ) (layout : ℕ × ℕ) (a b : List SetHandle) (old mid new : List (Slot T)) (x : HoldEach number layout a old mid) (y : HoldEach number layout b mid new) where
+    -- no handle of `b` has a place of `a`: the set there is held by then, and so it is not free
     apart_places : (i k : ℕ) → i < length a → k < length b → place_at a i ≢ place_at b k
     apart_places i k lt less e = held_not_free (slot_at mid (place_at b k)) (subst (λ q. holds (slot_at mid q) ≡ true) e (x.held i lt)) (y.was k less)
 
@@ -86,6 +90,7 @@ module _ {T : Type 0} where
     first : (i : ℕ) → i < length a → slot_at new (place_at a i) ≡ slot_at mid (place_at a i)
     first i lt = y.rest (place_at a i) (λ k less e. apart_places i k lt less (sym e))
 
+    -- no two of all these handles have one place
     join_apart : (i j : ℕ) → i < j → j < length (a ++ b) → place_at (a ++ b) i ≢ place_at (a ++ b) j
     join_apart i j lt less e = elim (spot a b i (omega arith)) [
       | inl u ↦ elim (spot a b j less) [
@@ -98,6 +103,7 @@ module _ {T : Type 0} where
       ]
     ]
 
+    -- sets that are held by `a`, and then sets that are held by `b`, are held by the handles of both lists
     pub joined : HoldEach number layout (a ++ b) old new
     joined = record {
       apart = join_apart;
@@ -126,6 +132,7 @@ module _ {T : Type 0} where
           ∙ x.rest p (λ i lt e. none i (let long = length-append a b in omega arith) (ap (λ (h : SetHandle). h.place) (get_or_append_left a b (record { renderer = 0; place = 0; generation = 0 }) i lt) ∙ e));
     }
 
+  -- kept sets may have left their slots before the first set was held
   module _ (number : ℕ) (layout : ℕ × ℕ) (handles : List SetHandle) (old mid new : List (Slot T)) (clear : (q : ℕ) → Clears (slot_at old q) (slot_at mid q)) (x : HoldEach number layout handles mid new) where
     -- each set is there, and waits for no frame
     pub holds_arrives : (comes : ℕ → T → Type 0) (f : ℕ) → ((p : ℕ) (t : T) → (slot_at new p).set ≡ Some t → (((slot_at mid p).set ≡ Some t) × (came_under (slot_at new p) ≡ came_under (slot_at mid p))) ⊎ comes (slot_at new p).layout t) → (q : ℕ) → Arrives comes f (slot_at old q) (slot_at new q)
@@ -158,6 +165,7 @@ module _ {T : Type 0} where
           (seen_clear number frame opened (slot_at old other.place) (slot_at new other.place) other c, given_clear number (slot_at old other.place) (slot_at new other.place) other c)
     ]
 
+    -- each of the handles names a set
     names_set : (frame : ℕ) (opened : Bool) (i : ℕ) (d : SetHandle) → i < length handles → IsSome (find number frame opened new (get_or handles i d))
     names_set frame opened i d lt =
         let q = place_at handles i in
@@ -165,6 +173,7 @@ module _ {T : Type 0} where
         let held = held_is n (x.held i lt) in
         subst (λ h. IsSome (find number frame opened new h)) (sym (x.is i d lt)) (subst IsSome (sym (seen_next number frame opened q (slot_at mid q) n (x.generation i lt) (ap (is_live frame opened) held.0))) held.1)
 
+    -- none of them was ever given before, and all others name what they named
     pub are_named : (frame : ℕ) (opened : Bool) → NameEach handles (sets_of number frame opened old) (sets_of number frame opened new)
     are_named frame opened = record {
       never = λ i d lt. subst (λ h. is_given number old h ≡ false) (sym (x.is i d lt)) (let q = place_at handles i in sym (given_clear number (slot_at old q) (slot_at mid q) (next_of number q (slot_at mid q)) (clear q)) ∙ given_never number q (slot_at mid q));
@@ -175,6 +184,7 @@ module _ {T : Type 0} where
     }
 
 module _ {S : Type 0} where
+  -- sets that came in two steps
   pub sets_then : (comes : ℕ → DescriptorSet S → Type 0) (old mid new : List (Slot (DescriptorSet S))) → SetsCome comes old mid → SetsCome comes mid new → SetsCome comes old new
   sets_then comes old mid new a b p x e = elim (b p x e) [
     | inl stays ↦ elim (a p x stays.0) [
@@ -232,6 +242,7 @@ module _ {L P S D : Type 0} {d : Ghosts D L P S} where
         joined (number_of old) under a.0 b.0 (slots_in old) (slots_in mid) (slots_in new) a.3 each,
       )
 
+  -- one handle more was given
   pub held_next :
       (layout n : ℕ) (start now then : List SetHandle) (old mid new : Store L P S D d)
       → KeepsStore old mid

@@ -11,6 +11,7 @@ use Rattle.descriptor_renderer.specs.Renderers.{pools_for, side_of}
 use Rattle.descriptor_renderer.specs.declared.renderer.Renderer.{Renderer}
 
 module _ {L P S D : Type 0} {d : Ghosts D L P S} (r : Renderer L P S D d) (known : SetLayout L) where
+  -- the books have a layout's pools under the key of its counts and its mark
   pub known_pools : (a : Allocations P) (mark : Bool) → IsMeant d.meaning known → a ≡ (side_of r).value → mark ≡ is_marked known.flags → books_of a.table (record { counts = kinds known.counts; marked = mark }) ≡ pools_for known.layout r
   known_pools a mark meant same is =
       let key : Bool → Key = λ m. record { counts = kinds known.counts; marked = m } in

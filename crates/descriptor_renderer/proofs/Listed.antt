@@ -1,4 +1,4 @@
--- Held sets that come back by their handles.
+-- Held sets that come back by their handles: for `Store::free_each` and `wait_each`. `took` says that a call has all of them.
 use Rattle.std.proofs.Common.{arith, ◌≡◌, ◌≢◌, ℕ, ◌<◌, ◌&&◌, Bool, true, false, List, length, is_some, inl, inr, sym, ap, subst, ◌∙◌}
 use Rattle.descriptor_table.specs.Sets.{AreHeldOnce, sets_in}
 use Rattle.descriptor_table.specs.Slots.{goes, slot_at}

@@ -1,4 +1,5 @@
--- What handles name when sets come to slots, or leave them.
+-- What handles name when sets come to slots, or leave them: for `Handing`, `Joining` and `Removing`.
+-- `o` is a slot before, `n` the same slot after, and `h` a handle of its place; a handle is *apart* if it isn't the next one of the slot.
 use Rattle.std.proofs.lemmas.Grind.{common_steps}
 use Rattle.std.proofs.Common.{◌≡◌, ◌≢◌, ℕ, ◌+◌, ◌<◌, ◌≤◌, ◌⊎◌, ◌==◌, ◌&&◌, ◌||◌, nat_le, nat_lt, not, Bool, true, false, if◌then◌else◌, Option, None, is_some, inl, inr, refl, sym, ap, ◌∙◌, arith, eq-eqb, ne_eqb}
 use Rattle.std.proofs.lemmas.Bool.{and_left, and_right, cases_eq, cases_lt, le-leb, lt-leb, lt-ltb}
@@ -19,6 +20,7 @@ module _ {T : Type 0} where
   pub kept_as : (layout : ℕ) (s : Slot T) → is_kept_of layout s ≡ true → (s.used ≡ Kept) × (s.layout ≡ layout) × (is_kept s ≡ true)
   kept_as layout s e = (let u = kept_use layout s.generation s.used s.layout (is_some s.set) e in (u.0, sym u.1, ap (λ l. is_kept_of l s) (sym u.1) ∙ e))
 
+  -- a slot is free if it has no set or a kept one, and only then
   pub free_none : (s : Slot T) → s.set ≡ None → is_free s ≡ true
   free_none s e = ap (λ o. in_list (s.layout + 2) s.used s.layout s.generation (is_some o) || not (is_some o)) e ∙ or_yes (in_list (s.layout + 2) s.used s.layout s.generation false)
     where
@@ -54,12 +56,14 @@ module _ {T : Type 0} where
     if_none : (b : Bool) → ◌≡◌ {A = Option T} (if b then None else None) None
     if_none x0 = grind (arith, common_steps)
 
+    -- no handle names a set in a free slot
     pub seen_free : (frame : ℕ) (opened : Bool) (s : Slot T) (h : SetHandle) → is_free s ≡ true → seen frame opened s h ≡ None
     seen_free frame opened s h free = elim (free_is s free) [
       | inl none ↦ ap (λ o. if last s h && is_live frame opened s.used then o else None) none ∙ if_none (last s h && is_live frame opened s.used)
       | inr kept ↦ ap (λ u. if last s h && is_live frame opened u then s.set else None) kept ∙ ap (λ b. if b then s.set else None) (and_right (last s h) false refl)
     ]
 
+    -- a cleanup changes neither what a handle names, nor whether it was given
     pub seen_clear : (frame : ℕ) (opened : Bool) (o n : Slot T) (h : SetHandle) → Clears o n → seen frame opened n h ≡ seen frame opened o h
     seen_clear frame opened o n h c = elim c.is [
       | inl same ↦ ap
@@ -87,6 +91,7 @@ module _ {T : Type 0} where
       | inr ne ↦ and_right (h.renderer == number) (h.generation == n.generation) (ne_eqb h.generation n.generation (λ e. ne (e ∙ more)))
     ])
 
+    -- and it was given if it was before
     pub given_apart : (o n : Slot T) (h : SetHandle) → n.generation ≡ o.generation + 1 → h ≢ next_of h.place o → was_given n h ≡ was_given o h
     given_apart o n h more apart = elim (apart_as o h apart) [
       | inl ne ↦ (let no = ne_eqb h.renderer number ne in and_left (h.renderer == number) (nat_lt 0 h.generation && nat_le h.generation n.generation) no ∙ sym (and_left (h.renderer == number) (nat_lt 0 h.generation && nat_le h.generation o.generation) no))
@@ -99,6 +104,7 @@ module _ {T : Type 0} where
         below_more : (g : ℕ) → (g ≤ o.generation) ⊎ (o.generation < g)
         below_more g = elim (cases_lt o.generation g) [ inl lt ↦ inr lt | inr le ↦ inl le ]
 
+    -- in the next generation the next handle names the set; it was never given before, and is given then
     pub seen_next : (frame : ℕ) (opened : Bool) (p : ℕ) (o n : Slot T) → n.generation ≡ o.generation + 1 → is_live frame opened n.used ≡ true → seen frame opened n (next_of p o) ≡ n.set
     seen_next frame opened p o n more live =
         ap (λ b. if (b && ((o.generation + 1) == n.generation)) && is_live frame opened n.used then n.set else None)

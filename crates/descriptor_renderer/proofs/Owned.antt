@@ -1,4 +1,5 @@
--- The sets of a renderer stay of their layouts, and what refusals leave.
+-- The sets of a renderer stay of their layouts, and what refusals leave: each call of `Renderer` leaves `HasSetsOf`, its invariant.
+-- `slots` are those of sets, `layouts` those of layouts, `known` is a layout, and `n` or `number` the number of one.
 use Rattle.std.proofs.lemmas.Grind.{common_steps}
 use Rattle.std.proofs.Common.{◌≡◌, ℕ, suc, ◌+◌, ◌<◌, ◌≤◌, ◌&&◌, Bool, true, false, List, length, if◌then◌else◌, Option, Some, None, is_some, inl, inr, sym, ap, subst, ◌∙◌, arith, IfSome}
 use Rattle.gpu_descriptor_types.specs.Meaning.{Meaning, IsOfLayout}
@@ -109,6 +110,7 @@ module _ {T : Type 0} where
 pub if_some : {X : Type 0} (o : Option X) (x : X) (P : X → Type 0) → Some x ≡ o → P x → IfSome o P
 if_some o x P is holds = subst (λ o. IfSome o P) is holds
 
+-- with one layout more the table has the lists that it should
 pub lists_more : (n : ℕ) → lists_with (lists_for n) ≡ lists_for (suc n)
 lists_more x0 = grind (arith, common_steps)
 

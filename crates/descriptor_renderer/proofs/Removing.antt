@@ -1,4 +1,5 @@
--- What slots become when a layout is removed.
+-- What slots become when a layout is removed: for `Store::remove_layout` and `Renderer::remove_layout`.
+-- `layout` is its number; `layouts` are the slots of layouts before, `fewer` those after. A slot of sets is first let go, then vacated.
 use Rattle.std.proofs.lemmas.Grind.{common_steps}
 use Rattle.std.proofs.Common.{◌≡◌, ◌≢◌, ℕ, ◌+◌, ◌<◌, ◌&&◌, nat_lt, Bool, true, false, if◌then◌else◌, List, None, Option, Some, is_some, inl, inr, refl, sym, ap, subst, ◌∙◌, arith, eq-eqb, ne_eqb}
 use Rattle.std.proofs.lemmas.Bool.{cases_eq}
@@ -20,6 +21,7 @@ use Rattle.descriptor_table.specs.declared.slot.Use.TheVariants.{Going}
 use Rattle.descriptor_renderer.proofs.Showing.{quiet_shown, turned}
 
 module _ {T : Type 0} (layout : ℕ) where
+  -- sets that go are in their slots still
   pub left_sets : (old new : List (Slot T)) → Turns (is_kept_of layout) (Becomes (used_for Going)) old new → sets_in new ≡ sets_in old
   left_sets old new t = turned_sets (is_kept_of layout) (Becomes (used_for Going)) old new t (λ o n e. ap (λ (s : Slot T). s.set) e)
 
@@ -43,6 +45,7 @@ module _ {T : Type 0} (layout : ℕ) where
       by_test false e = ap came_under (gives.rest p e)
 
   module _ (old new : List (Slot T)) (turns : Turns (is_kept_of layout) (Becomes vacated) old new) where
+    -- all handles name what they named, as a kept set has none; and no set of the layout is kept then
     pub removed_names : (number frame : ℕ) (opened : Bool) → sets_of number frame opened new ≡ sets_of number frame opened old
     removed_names number frame opened = names_kept number frame opened old new (turned frame opened (is_kept_of layout) (Becomes vacated) old new turns (λ o n e left.
         quiet_shown frame opened o n (ap (λ (s : Slot T). s.generation) left) (ap (is_live frame opened) (kept_as layout o e).0) (ap (λ (s : Slot T). is_live frame opened s.used) left)))
@@ -84,6 +87,7 @@ module _ {L P S : Type 0} (means : Meaning L P S) (layout : ℕ) (generations : 
           let same = turns.rest p e in
           own p n x (ap (λ (s : Slot (DescriptorSet S)). s.set) (sym same) ∙ full) (ap came_under (sym same) ∙ at ∙ ap (λ g. (n, g)) (removed_other layout generations n ne))
 
+-- a slot that a layout left has as many generations as layouts left it, as `IsCounted` says
 one_less : (b c : Bool) (r s g h : ℕ) → b ≡ true → c ≡ false → s ≡ r + 1 → h ≡ g → g ≡ r + (if b then 1 else 0) → h ≡ s + (if c then 1 else 0)
 one_less x0 c r s g h some none more same was = grind (arith, common_steps)
 

@@ -20,6 +20,7 @@ one_of : {T : Type 0} (x : T) (u : Use) (l g : ℕ) → placed_in u (Some x) l g
 one_of x u l g e = grind (arith, common_steps)
 
 module _ {T : Type 0} where
+  -- a slot of a store at rest counts once if it has a set, by whichever of the three its set is
   placed_bits : (s : Slot T) → is_placed s ≡ true → bit (is_some s.set) ≡ bit (holds s) + (bit (waits s) + bit (is_kept s))
   placed_bits s e = by_set s.set e
     where
@@ -34,6 +35,7 @@ module _ {T : Type 0} where
   joined_length : (o : Option T) (l : List T) → length (joined o l) ≡ bit (is_some o) + length l
   joined_length x0 l = grind (arith, common_steps)
 
+  -- the sets are those that are held, those that wait, and those that are kept
   pub placed_count : (slots : List (Slot T)) → ((p : ℕ) → is_placed (slot_at slots p) ≡ true) → length (sets_in slots) ≡ count holds slots + (count waits slots + count is_kept slots)
   placed_count [] placed = refl
   placed_count (s ∷ slots) placed =

@@ -21,6 +21,7 @@ use Rattle.descriptor_table.specs.declared.slot.Slot.{Slot}
 use Rattle.descriptor_table.proofs.Leaving.{given_weigh, tally, tally_length}
 
 module _ {S : Type 0} (name : S → ℕ) where
+  -- what an item weighs in a tally of sets: how often it is there
   weight : Item → DescriptorSet S → ℕ
   weight t x = count_of t (item_of name x ∷ [])
 

@@ -14,6 +14,7 @@ pub record Follows {T : Type 0} (f : ℕ) (o n : Slot T) : Type 0 where
   pub frame : (g : ℕ) → f ≤ g → frame_of o ≤ g → frame_of n ≤ g
 
 module _ {L P S D : Type 0} {d : Ghosts D L P S} where
+  -- if each slot follows what it was, the store settles
   pub settled : {generations : ℕ → ℕ} {most : ℕ} (f : ℕ) (old new : Store L P S D d) → ((p : ℕ) → Follows f (slot_at (slots_in old) p) (slot_at (slots_in new) p)) → coming_in new ≡ [] → IsAtRest old → StoreStays generations most old new → SettlesTo generations most NoneComes f old new
   settled f old new follows none rest stays = record {
     sets = λ p x e. elim ((follows p).set) [

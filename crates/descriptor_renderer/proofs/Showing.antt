@@ -1,4 +1,4 @@
--- What handles name once sets came back, waited, or were given back.
+-- What handles name once sets came back, waited, or were given back: for `Renderer::gpu_done`, `free_sets`, `cleanup` and others.
 use Rattle.std.proofs.lemmas.Grind.{common_steps}
 use Rattle.std.proofs.Common.{◌≡◌, ℕ, ◌+◌, ◌<◌, ◌&&◌, nat_le, Bool, true, false, List, length, if◌then◌else◌, is_some, None, inl, inr, refl, sym, ap, ◌∙◌, arith}
 use Rattle.std.proofs.lemmas.List.{get_or_past}
@@ -32,12 +32,14 @@ module _ {T : Type 0} (frame : ℕ) (opened : Bool) where
     set = ap (λ b. if b then n.set else None) is ∙ sym (ap (λ b. if b then o.set else None) was);
   }
 
+  -- a set that came back has no live handle, whether it is kept or left
   back_quiet : (generations : ℕ → ℕ) (most : ℕ) (new : List (Slot T)) (o n : Slot T) → IsBack vacated generations most new o n → (is_live frame opened n.used ≡ false) × (n.generation ≡ o.generation)
   back_quiet generations most new o n back = elim back [
     | inl kept ↦ (ap (λ (s : Slot T). is_live frame opened s.used) kept.0, ap (λ (s : Slot T). s.generation) kept.0)
     | inr left ↦ (ap (λ (s : Slot T). is_live frame opened s.used) left.0, ap (λ (s : Slot T). s.generation) left.0)
   ]
 
+  -- each slot shows what it showed, since those that turn do
   pub turned : (test : Slot T → Bool) (becomes : List (Slot T) → Slot T → Slot T → Type 0) (old new : List (Slot T)) → Turns test becomes old new → ((o n : Slot T) → test o ≡ true → becomes new o n → ShowsSame frame opened o n) → (p : ℕ) → ShowsSame frame opened (slot_at old p) (slot_at new p)
   turned test becomes old new turns shows p = by_test (test (slot_at old p)) refl
     where
@@ -51,6 +53,7 @@ module _ {T : Type 0} (frame : ℕ) (opened : Bool) where
       let q = back_quiet generations most new o n back in
       quiet_shown o n q.1 (due_use o.used due frame (is_some o.set) opened later e) q.0))
 
+  -- kept sets that left leave all names, and so does a cleanup, below
   pub trim_names : (number : ℕ) (old new : List (Slot T)) → Turns is_kept (MayBecome vacated) old new → sets_of number frame opened new ≡ sets_of number frame opened old
   trim_names number old new turns = names_kept number frame opened old new (turned is_kept (MayBecome vacated) old new turns (λ o n e leave. elim leave [
     | inl same ↦ same_shown o n same

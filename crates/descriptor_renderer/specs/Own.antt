@@ -36,8 +36,12 @@ AreCounted generations layouts = (n : ℕ) → IsCounted (generations n) (slot_a
 -- the sets of a store are at rest, of these layouts, and wait for no frame later than this one. Their handles have this number
 pub record HasSetsOf {L P S D : Type 0} {d : Ghosts D L P S} (layouts : List (Slot (SetLayout L))) (frame renderer : ℕ) (s : Store L P S D d) : Type 0 where
   pub rest : IsAtRest s
+  -- each set is of the layout that it came under, if that was not removed
   pub own : AreOwn d.meaning (generations_in s) layouts (slots_in s)
+  -- each layout's slot counts the handles that were given for it
   pub counted : AreCounted (generations_in s) layouts
+  -- no set waits for a later frame
   pub rising : IsUpTo frame (slots_in s)
+  -- the table has a list for each layout
   pub lists : lists_in s ≡ lists_for (length layouts)
   pub number : number_of s ≡ renderer

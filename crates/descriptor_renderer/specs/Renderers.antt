@@ -73,6 +73,7 @@ module _ {L P S D : Type 0} {d : Ghosts D L P S} where
   abbrev pub frame_of : RendererOver d → ℕ
   frame_of r = r.frame
 
+  -- whether a frame is open
   abbrev pub is_open : RendererOver d → Bool
   is_open r = r.is_open
 

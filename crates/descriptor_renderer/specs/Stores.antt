@@ -58,8 +58,11 @@ is_free s = is_kept s || not (is_some s.set)
 
 -- sets that were kept, or came, are held by the next handles of their slots, and all else is as it was
 pub record HoldEach {T : Type 0} (number : ℕ) (layout : ℕ × ℕ) (handles : List SetHandle) (old new : List (Slot T)) : Type 0 where
+  -- no two have one place
   pub apart : (i j : ℕ) → i < j → j < length handles → place_at handles i ≢ place_at handles j
+  -- each slot had no set, or a kept one
   pub was : (i : ℕ) → i < length handles → is_free (slot_at old (place_at handles i)) ≡ true
+  -- each is the next handle of its slot
   pub is : (i : ℕ) (e : SetHandle) → i < length handles → slice_index_or handles i e ≡ record { renderer = number; place = place_at handles i; generation = (slot_at old (place_at handles i)).generation + 1 }
   pub generation : (i : ℕ) → i < length handles → (slot_at new (place_at handles i)).generation ≡ (slot_at old (place_at handles i)).generation + 1
   pub of_layout : (i : ℕ) → i < length handles → came_under (slot_at new (place_at handles i)) ≡ layout
@@ -100,6 +103,7 @@ abbrev pub StoreOver : {L P S D : Type 0} → Ghosts D L P S → Type 0
 StoreOver {L} {P} {S} {D} d = Store L P S D d
 
 module _ {L P S D : Type 0} {d : Ghosts D L P S} where
+  -- the slots of the store's table
   abbrev pub slots_in : StoreOver d → List (Slot (DescriptorSet S))
   slots_in s = slots_of s.table
 
@@ -107,6 +111,7 @@ module _ {L P S D : Type 0} {d : Ghosts D L P S} where
   abbrev pub side_of : StoreOver d → Side (Allocations P)
   side_of s = side s.allocator (d.ledger s.device)
 
+  -- the ledger of the device
   abbrev pub ledger_of : StoreOver d → Ledger
   ledger_of s = d.ledger s.device
 

@@ -1,4 +1,4 @@
--- What a call leaves of the ledger, from what it leaves of the pools and the counters.
+-- What a call leaves of the ledger, from what it leaves of the pools and the counters: for `ScriptedDevice::alloc_descriptor_sets`.
 use Rattle.std.proofs.Common.{◌≡◌, ℕ, ◌+◌, ◌++◌, map, refl, ap, ◌∙◌}
 use Rattle.std.proofs.lemmas.List.FromFn.{length-map-range_with_len}
 use Rattle.gpu_descriptor_types.specs.Counts.{kinds}
@@ -13,6 +13,7 @@ use Rattle.descriptor_script.specs.declared.device.ScriptedDevice.{ScriptedDevic
 use Rattle.descriptor_script.specs.declared.raw.RawSet.{RawSet}
 use Rattle.descriptor_script.specs.declared.raw.ScriptLayout.{ScriptLayout}
 
+-- a ledger is its pools and its counters
 pub same_ledger : (a b : Ledger) → a.pools ≡ b.pools → a.counters ≡ b.counters → a ≡ b
 same_ledger a b pools counters = λ i. record { pools = pools i; counters = counters i }
 

@@ -1,4 +1,5 @@
--- Sets that are taken out of their slots, one by one.
+-- Sets that are taken out of their slots, one by one: for `Session::free` and `mark_each`, and the iterator `Taking`, by which they go
+-- to the allocator. `n` and `m` are tickets, `ns` lists of them, `xs` sets; `f` is what a set adds to a `tally`: 1, or how often it is some item.
 use Rattle.std.proofs.Common.{◌≡◌, ◌≢◌, ℕ, zero, suc, ◌+◌, ◌<◌, true, false, List, [], ◌∷◌, length, map, get_or, set, Option, None, Some, inl, inr, refl, sym, ap, ◌∙◌, arith}
 use Rattle.std.proofs.lemmas.Bool.{cases_eq, eqb-false, ne_eqb}
 use Rattle.std.proofs.lemmas.List.{get_or-set_other, get_or_default}
@@ -53,6 +54,7 @@ module _ {X : Type 0} where
   held_less f (None ∷ slots) (suc n) x at = held_less f slots n x at
   held_less f (Some y ∷ slots) (suc n) x at = let h = held_less f slots n x at in omega arith
 
+  -- one set fewer is held then
   pub held_one_less : (slots : List (Option X)) (n : ℕ) → IsSome (get_or slots n None) → length (held_sets (set slots n None)) + 1 ≡ length (held_sets slots)
   held_one_less slots n h =
       let x = some_at (get_or slots n None) h in
@@ -68,6 +70,7 @@ module _ {X : Type 0} where
     | inr other ↦ sym (get_or-set_other slots n m None None other) ∙ h
   ]
 
+  -- so it is for the set of each ticket of a list
   still_each : (slots : List (Option X)) (n : ℕ) (xs : List X) (ns : List ℕ) → map Some xs ≡ map (set_at (set slots n None)) ns → map Some xs ≡ map (set_at slots) ns
   still_each slots n [] [] h = refl
   still_each slots n [] (m ∷ ns) h = absurd (cc)
@@ -86,6 +89,7 @@ module _ {X : Type 0} where
     once = IsDistinct-from_apart nat_eq tickets (λ i j d below lt. ne_eqb (get_or tickets i d) (get_or tickets j d) (λ same. once i j below lt (get_or_default tickets i 0 d (omega arith) ∙ same ∙ get_or_default tickets j d 0 lt)));
   }
 
+  -- and from that: the ticket at each place of the list has a set, and those at two places are not the same
   pub held_at : (slots : List (Option X)) (tickets : List ℕ) → AreHeldOnce slots tickets → (i : ℕ) → i < length tickets → IsSome (set_at slots (get_or tickets i 0))
   held_at slots tickets h i lt = All-get_or (λ n. IsSome (set_at slots n)) tickets i 0 lt h.held
 
@@ -104,6 +108,7 @@ module _ {X : Type 0} where
       ap (λ o. is_some o) e ∙ held_at slots (n ∷ ns) h (suc i) (omega arith))
       (λ i j below lt. apart_at slots (n ∷ ns) h (suc i) (suc j) (omega arith) (omega arith))
 
+  -- the other tickets have the sets that they had
   same_elsewhere : (slots : List (Option X)) (n : ℕ) (ns : List ℕ) → ((i : ℕ) → i < length ns → get_or ns i 0 ≢ n) → map (set_at (set slots n None)) ns ≡ map (set_at slots) ns
   same_elsewhere slots n [] apart = refl
   same_elsewhere slots n (m ∷ ms) apart =
@@ -157,10 +162,12 @@ module _ {S : Type 0} where
   all_emptied (x ∷ xs) s t y none =
       all_emptied xs y.0 t y.2 none ∙ ap (λ l. emptied l (iter_rest y.0.tickets)) y.1.3 ∙ sym (ap (emptied (slots_of s.slots)) y.1.1)
 
+  -- how often an item is among sets, as a tally
   tally-items : (name : S → ℕ) (i : Item) (xs : List (DescriptorSet S)) → tally (λ x. count_of i (item_of name x ∷ [])) xs ≡ count_of i (items_of name xs)
   tally-items name i [] = refl
   tally-items name i (x ∷ xs) = ap (λ n. count_of i (item_of name x ∷ []) + n) (tally-items name i xs) ∙ sym (count_by-append (λ j. item_eq j i) (item_of name x ∷ []) (items_of name xs))
 
+  -- what was taken and what is held are, item by item, what was held
   counted : (name : S → ℕ) (i : Item) (xs : List (DescriptorSet S)) (s t : Taking S) → Yields TakesNext s xs t → count_of i (items_of name xs) + count_of i (items_of name (held_sets (slots_of t.slots))) ≡ count_of i (items_of name (held_sets (slots_of s.slots)))
   counted name i xs s t y =
       let all = taken_from (λ x. count_of i (item_of name x ∷ [])) xs s t y in

@@ -1,4 +1,4 @@
--- Live sets that are taken out of a table, one after another.
+-- Live sets that are taken out of a table, one after another: for `take_back`. An entry has the name of a set and its counts.
 use Rattle.std.proofs.Common.{◌≡◌, ℕ, zero, suc, ◌+◌, ◌<◌, Bool, true, false, cond, ◌==◌, nat_eq, List, [], ◌∷◌, ◌++◌, map, length, get_or, slice_get, position, count_by, Option, None, Some, is_some, inl, inr, refl, sym, ap, ◌∙◌, arith, subst, eqb-true, eq-eqb}
 use Rattle.std.specs.List.{position_or_len, swap_remove}
 use Rattle.std.specs.Map.{lookup, keys_of, values_of}
@@ -35,6 +35,7 @@ count_map p f (x ∷ xs) = elim (cases_Bool (p (f x))) [
   | inr h ↦ count_by_no p (f x) (map f xs) h ∙ count_map p f xs ∙ sym (count_by_no (λ a. p (f a)) x xs h)
 ]
 
+-- without the entry at a place a table counts fewer sets by that one, whatever is counted (`p`)
 swap_counts : (p : LiveSet → Bool) (es : List (ℕ × DescriptorTotalCount)) (i : ℕ) (d : ℕ × DescriptorTotalCount) → i < length es → count_by p (live_sets_of (swap_remove es i d)) + count_by p (live_set_of (get_or es i d) ∷ []) ≡ count_by p (live_sets_of es)
 swap_counts p es i d lt =
     let q : ℕ × DescriptorTotalCount → Bool = λ e. p (live_set_of e) in
@@ -52,6 +53,7 @@ swap_counts p es i d lt =
 pub taken : (n : ℕ) (v : DescriptorTotalCount) (es fs : List (ℕ × DescriptorTotalCount)) → lookup (nat_eq n) es ≡ Some v → fs ≡ swap_remove_entry (nat_eq n) es → (p : LiveSet → Bool) → count_by p (live_sets_of fs) + count_by p (live_set_of (n, v) ∷ []) ≡ count_by p (live_sets_of es)
 taken n v es fs found is p = by (position (nat_eq n) (keys_of es)) refl
   where
+    -- the name is found at a place, and the entry there is taken out
     by : (r : Option ℕ) → position (nat_eq n) (keys_of es) ≡ r → count_by p (live_sets_of fs) + count_by p (live_set_of (n, v) ∷ []) ≡ count_by p (live_sets_of es)
     by None at = absurd (let h : false ≡ true = sym (ap is_some at) ∙ some_index (nat_eq n) es ∙ ap is_some found in cc)
     by (Some i) at =

@@ -1,4 +1,4 @@
--- Sets that are put, one after another.
+-- Sets that are put, one after another: for the loop of `fill`. `a` is the first name, `n` how many were put, and `j` the next name.
 use Rattle.std.proofs.Common.{◌≡◌, ℕ, zero, suc, ◌+◌, ◌≤◌, true, false, cond, nat_eq, eqb-true, Option, Some, None, inl, inr, List, [], ◌∷◌, ◌++◌, map, length, replicate, append_assoc, sym, ap, ◌∙◌, arith}
 use Rattle.std.specs.Prelude.{Result, Ok, Err, IsOk, OnOk}
 use Rattle.std.proofs.lemmas.Bool.{cases_Bool}
@@ -21,6 +21,7 @@ pub record IsNext {X : Type 0} (l x : X) (a b : ℕ) (z : X) : Type 0 where
   pub same : x ≡ l
   pub rest : replicate b z ≡ replicate b l
 
+-- of a list that has `l` some times `x` is the first, so it is `l`, and so are the others
 pub next_same : {X : Type 0} (l x z y : X) (a b : ℕ) → replicate a y ≡ replicate a l → replicate a y ≡ x ∷ replicate b z → IsNext l x a b z
 next_same l x z y zero b all first = absurd (cc)
 next_same l x z y (suc a) b all first =

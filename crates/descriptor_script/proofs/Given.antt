@@ -1,4 +1,4 @@
--- Tickets are given once.
+-- Tickets are given once: for `Session::step`, which ensures `KeepsTickets`.
 use Rattle.std.proofs.Common.{◌≡◌, ℕ, List, [], ◌∷◌, length, get_or, set, Option, None, inl, inr, refl, ap, ◌∙◌, arith}
 use Rattle.std.proofs.lemmas.Bool.{cases_eq}
 use Rattle.std.proofs.lemmas.List.{get_or-set_other, length-set}
@@ -23,6 +23,7 @@ module _ {X : Type 0} where
     | inr other ↦ get_or-set_other slots n m None None other ∙ none
   ]
 
+  -- a slot that is empty stays so
   emptied_none : (slots : List (Option X)) (tickets : List ℕ) (m : ℕ) → get_or slots m None ≡ None → get_or (emptied slots tickets) m None ≡ None
   emptied_none slots [] m none = none
   emptied_none slots (n ∷ ns) m none = emptied_none (set slots n None) ns m (none_set slots n m none)

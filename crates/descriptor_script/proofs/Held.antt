@@ -14,6 +14,7 @@ is_ok_then (Ok x) P fine h = h
 is_ok_then (Err e) P fine h = absurd (let bad : true ≡ false = fine in cc)
 
 module _ {X : Type 0} where
+  -- sets that are put after others are held after them
   pub held_more : (slots : List (Option X)) (given : List X) → held_sets (slots ++ map Some given) ≡ held_sets slots ++ given
   held_more [] [] = refl
   held_more [] (x ∷ given) = ap (λ l. x ∷ l) (held_more [] given)

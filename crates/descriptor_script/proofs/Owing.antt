@@ -1,4 +1,6 @@
--- How the calls that are owed change with the ledger.
+-- How the calls that are owed change with the ledger, call by call: for the calls of `LogDevice`, which has reserved memory for so many.
+-- A *row* is the name of a live pool, with the number of its live sets (`IsOwed`); `l` and `m` are the ledger before and after, `n` and `k`
+-- what is owed then.
 use Rattle.std.proofs.Common.{◌≡◌, ◌≢◌, ℕ, ◌+◌, ◌-◌, ◌≤◌, true, false, cond, nat_eq, List, [], ◌∷◌, ◌++◌, length, length-append, Option, Some, None, inl, inr, refl, sym, ap, subst, ◌∙◌, arith, eqb-true, eq-eqb, ne_eqb}
 use Rattle.std.specs.Prelude.{IfSome}
 use Rattle.std.specs.Map.{lookup, update}
@@ -18,6 +20,7 @@ abbrev without : ℕ → List (ℕ × ℕ) → List (ℕ × ℕ)
 without name [] = []
 without name (row ∷ rows) = cond (nat_eq name row.0) (without name rows) (row ∷ without name rows)
 
+-- fewer rows owe no more
 without_few : (name : ℕ) (rows : List (ℕ × ℕ)) → owed_by (without name rows) ≤ owed_by rows
 without_few name [] = omega arith
 without_few name (row ∷ rows) = (let few = without_few name rows in elim (cases_Bool (nat_eq name row.0)) [
@@ -74,6 +77,7 @@ put l m n k name size pool o is has enough = record {
   enough = (let e : owed_by ((name, size) ∷ without name o.rows) ≤ k = omega (arith, enough) in e);
 }
 
+-- a new pool owes its destroy
 pub created : (l : Ledger) (n name capacity flags : ℕ) (counts : List ℕ) → IsOwed l n → IsOwed (after_create counts capacity flags name l) (n + 1)
 created l n name capacity flags counts o =
     let few = without_few name o.rows in
@@ -88,6 +92,7 @@ still_owed l m n same o = record {
   enough = o.enough;
 }
 
+-- a pool that goes owes one call less
 pub destroyed : (l : Ledger) (n name : ℕ) → HasNoSets name l → IsOwed l n → (1 ≤ n) × IsOwed (after_destroy name l) (n - 1)
 destroyed l n name none o =
     let had = o.listed name none.pool none.is_live in
@@ -113,6 +118,7 @@ changed_owed l m n k name size f pool o live is has more =
     let grows = more had.0 had.2 in
     put l m n k name size (f pool) o (is ∙ ap (λ (x : Option Pool). update nat_eq l.pools name (option_map f x)) live) has (omega arith)
 
+-- each new set owes one call more
 pub allocated : (l : Ledger) (n name : ℕ) (pool : Pool) (sets : List LiveSet) → l.pools name ≡ Some pool → IsOwed l n → IsOwed (after_alloc name sets l) (n + length sets)
 allocated l n name pool sets live o =
     let had = o.listed name pool live in

@@ -1,4 +1,5 @@
--- The parts of the headline hold at each step of a run.
+-- The parts of the headline hold at each step of a run: for `headline`. They follow from what the reply says of the step (`StepsTo`),
+-- and from what every command keeps (`KeepsSession`), as `RunsTo` has both.
 use Rattle.std.proofs.Common.{ℕ, List, [], ◌∷◌, refl, sym, ap, subst, ◌∙◌, arith, inl, inr, true}
 use Rattle.std.specs.Prelude.{◌<◌, slice_get, Option, Some}
 use Rattle.std.specs.Option.{option_map_or}
@@ -78,6 +79,7 @@ module _ {L P S : Type 0} (means : Meaning L P S) where
       )
 
   module _ (old new : Side (Session L P S)) (ready : IsReady means old) where
+    -- a free that was done, and below a request that was met or refused, as the headline says it
     gone_back : (tickets : List ℕ) (many : ℕ) → GivesUp means tickets old new many → GoBack means tickets many old new
     gone_back tickets many h =
         let start = state_of means.pool_name (allocator_of old.value) old.ledger in
@@ -122,6 +124,7 @@ module _ {L P S : Type 0} (means : Meaning L P S) where
       sets = h.sets;
     }
 
+    -- so it is for each command and reply
     replied : (command : Command) (reply : Reply) → StepsTo means command reply old new → HoldsWhatIsOut means command reply old new
     replied (Allocate layout count) (Sets first many) h = met layout count first many h
     replied (Allocate layout count) (Refused e) h = refused layout count e h

@@ -1,4 +1,4 @@
--- A run grows by one command.
+-- A run grows by one command: for the loop of `Session::run`.
 use Rattle.std.proofs.Common.{List, [], ◌∷◌, ◌++◌, refl, subst, ◌∙◌}
 use Rattle.gpu_descriptor_types.specs.Meaning.{Meaning}
 use Rattle.gpu_descriptor_types.specs.Side.{Side}

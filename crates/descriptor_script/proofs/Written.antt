@@ -1,4 +1,5 @@
--- A pool that is written in the table of the live pools.
+-- A pool that is written in the table of the live pools: for `Pools::grant`, `release` and `count_refusal`.
+-- `m` is the table before, `n` after; `next` is the name that came next before, `later` that which comes next after.
 use Rattle.std.proofs.Common.{◌≡◌, ℕ, ◌+◌, ◌≤◌, Bool, true, false, cond, nat_eq, eqb-true, Option, Some, None, is_some, inl, inr, List, [], ◌∷◌, ◌++◌, map, refl, sym, ap, ◌∙◌, arith, subst}
 use Rattle.std.proofs.Math.Path.{fun_ext}
 use Rattle.std.specs.List.{range_with_len}
@@ -33,6 +34,7 @@ module _ {S : Type 0} {m n : IndexMap ℕ LivePool S} {name : ℕ} {old new : Li
   was_at : (q : ℕ) → nat_eq name q ≡ true → get nat_eq m q ≡ Some old
   was_at q same = subst (λ k. get nat_eq m k ≡ Some old) (eqb-true name q same) h.was
 
+  -- names that are still to come are those of no pool, and further below of no set, after as before
   pub pools_below : (next : ℕ) → PoolsAreBelow m next → PoolsAreBelow n next
   pools_below next below q above = elim (cases_Bool (nat_eq name q)) [
     | inl same ↦ absurd (let bad : true ≡ false = sym (ap is_some (was_at q same)) ∙ below q above in cc)
@@ -68,6 +70,7 @@ entries_sets : (c : DescriptorTotalCount) (pool : ℕ) (names : List ℕ) → li
 entries_sets c pool [] = refl
 entries_sets c pool (n ∷ names) = ap (λ l. live_set_of (n, c) ∷ l) (entries_sets c pool names)
 
+-- the sets that were put are live besides those that were
 pub more_live : (old new : List (ℕ × DescriptorTotalCount)) (c : DescriptorTotalCount) (pool first many : ℕ) → new ≡ old ++ map (λ n. (n, c)) (range_with_len first many)
     → times (live_sets_of new) ≡ (λ x. times (live_sets_of old) x + times (live_sets (kinds c) (map set_id (raw_sets pool first many))) x)
 more_live old new c pool first many is = fun_ext (λ x.

@@ -118,6 +118,8 @@ impl DescriptorDevice<ScriptLayout, RawPool, RawSet> for ScriptedDevice {
             max_sets (bits flags) (pool_id pool) (ledger_of self.old)) }
         ensures err { IfErr result (λ e. ledger_of self.new
             ≡ after_no_create e (ledger_of self.old)) }
+
+        // Above are the trait's clauses, repeated; from here on the device's own. A word is read.
         ensures reads { ReadsWord create_error result self.old self.new }
 
         // The pool has the next name.
@@ -142,6 +144,8 @@ impl DescriptorDevice<ScriptLayout, RawPool, RawSet> for ScriptedDevice {
     fn destroy_descriptor_pool(&mut self, pool: RawPool)
         requires { HasNoSets (pool_id pool) (ledger_of self.old) }
         ensures ledger { ledger_of self.new ≡ after_destroy (pool_id pool) (ledger_of self.old) }
+
+        // The device's own, besides the trait's: no word is read, and no name is given.
         ensures reads { ReadsNone self.old self.new }
     {
         self.pools.destroy(pool.id);
@@ -162,6 +166,8 @@ impl DescriptorDevice<ScriptLayout, RawPool, RawSet> for ScriptedDevice {
             (ledger_of self.new)) }
         ensures err { IfErr result (λ e. PutsNone K.sink (pool_id pool.old) e sets.old sets.new
             (ledger_of self.old) (ledger_of self.new)) }
+
+        // Above are the trait's clauses, repeated; from here on the device's own. A word is read.
         ensures reads { ReadsWord alloc_error result self.old self.new }
 
         // The sets have the next names, and name their pool.
@@ -197,6 +203,8 @@ impl DescriptorDevice<ScriptLayout, RawPool, RawSet> for ScriptedDevice {
         ensures name { pool_id pool.new ≡ pool_id pool.old }
         ensures released { Releases I.next_gives set_id (pool_id pool.old) sets.old sets.new
             (ledger_of self.old) (ledger_of self.new) }
+
+        // The device's own, besides the trait's: no word is read, and no name is given.
         ensures reads { ReadsNone self.old self.new }
     {
         self.pools.release(pool.id, sets);

@@ -115,6 +115,8 @@ impl DescriptorDevice<ScriptLayout, RawPool, RawSet> for LogDevice {
         ensures err { IfErr result (λ e. ledger_logged self.new
             ≡ after_no_create e (ledger_logged self.old)) }
 
+        // Above are the trait's clauses, repeated; from here on the device's own. A word is read,
+        // unless an allocation for the list failed.
         ensures reads { ReadsWordLogged create_error CreatePoolError.OutOfHostMemory result self.old
             self.new }
 
@@ -123,6 +125,7 @@ impl DescriptorDevice<ScriptLayout, RawPool, RawSet> for LogDevice {
         ensures named { OnOk result (next_pool self.new ≡ next_pool self.old + 1) }
         ensures unnamed { OnErr result (next_pool self.new ≡ next_pool self.old) }
 
+        // A granted call is listed.
         ensures listed { IfOk result (λ pool. calls_of self.new ≡ calls_of self.old
             ++ Call.Create (pool_id pool) ∷ []) }
     {
@@ -144,6 +147,8 @@ impl DescriptorDevice<ScriptLayout, RawPool, RawSet> for LogDevice {
         requires { HasNoSets (pool_id pool) (ledger_logged self.old) }
         ensures ledger { ledger_logged self.new ≡ after_destroy (pool_id pool)
             (ledger_logged self.old) }
+
+        // The device's own, besides the trait's: no word is read, and the call is listed.
         ensures reads { ReadsNoneLogged self.old self.new }
         ensures listed { calls_of self.new ≡ calls_of self.old ++ Call.Destroy (pool_id pool) ∷ [] }
     {
@@ -167,6 +172,8 @@ impl DescriptorDevice<ScriptLayout, RawPool, RawSet> for LogDevice {
         ensures err { IfErr result (λ e. PutsNone K.sink (pool_id pool.old) e sets.old sets.new
             (ledger_logged self.old) (ledger_logged self.new)) }
 
+        // Above are the trait's clauses, repeated; from here on the device's own. A word is read,
+        // unless an allocation for the list failed.
         ensures reads { ReadsWordLogged alloc_error DeviceAllocationError.OutOfHostMemory result self.old
             self.new }
 
@@ -175,6 +182,7 @@ impl DescriptorDevice<ScriptLayout, RawPool, RawSet> for LogDevice {
             ++ map (K.sink.kept_as sets.old)
             (raw_sets (pool_id pool.old) first (left layouts.entry)))) }
 
+        // No pool is named, and a granted call is listed with the number of its sets.
         ensures next_pool { next_pool self.new ≡ next_pool self.old }
         ensures listed { OnOk result (calls_of self.new ≡ calls_of self.old
             ++ Call.Alloc (pool_id pool.old) (left layouts.entry) ∷ []) }
@@ -209,6 +217,8 @@ impl DescriptorDevice<ScriptLayout, RawPool, RawSet> for LogDevice {
         ensures name { pool_id pool.new ≡ pool_id pool.old }
         ensures released { Releases I.next_gives set_id (pool_id pool.old) sets.old sets.new
             (ledger_logged self.old) (ledger_logged self.new) }
+
+        // The device's own, besides the trait's: no word is read; a release of some sets is listed.
         ensures reads { ReadsNoneLogged self.old self.new }
         ensures listed { ListsRelease I.next_gives (pool_id pool.old) sets.old sets.new
             (calls_of self.old) (calls_of self.new) }

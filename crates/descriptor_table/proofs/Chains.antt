@@ -1,4 +1,6 @@
--- The lists of slots, by the code's chains.
+-- The lists of slots, by the code's chains: for `SetTable::pick`, `link`, `settle`, `join`, `start` and others.
+-- What `Listed` says of any lists, for those of sets (`AreLinked`, by `is_in`) and of frames (`AreFramed`, by `is_of`): that no slot is
+-- in two lists (`apart`), and the slot past the end in none (`none`). `pick` takes a slot out of a list, `link` puts it into one.
 use Rattle.std.proofs.lemmas.Grind.{common_steps}
 use Rattle.std.proofs.Common.{◌≡◌, ◌≢◌, ℕ, ◌+◌, ◌-◌, ◌<◌, ◌≤◌, ◌==◌, ◌&&◌, Bool, true, false, List, length, get_or, set, is_some, inl, inr, refl, sym, ap, subst, ◌∙◌, arith, ne_eqb, eqb-true}
 use Rattle.std.proofs.lemmas.List.{get_or-set_other, get_or-set_same, get_or_read, length-set}
@@ -16,7 +18,7 @@ use Rattle.descriptor_table.proofs.Listed.{IsApart, PassesNone, first_in, first_
 pub and_true : (a b : Bool) → (a && b) ≡ true → (a ≡ true) × (b ≡ true)
 and_true x0 x1 e = grind (arith, common_steps)
 
--- a slot is in one list
+-- a slot is in one list, and waits for one frame
 apart_from : (j k l : ℕ) (more : Bool) → ((k == l) && more) ≡ true → j ≢ k → ((j == l) && more) ≡ false
 apart_from j k l more e ne =
     let same : k ≡ l = eqb-true k l (and_true (k == l) more e).0 in
@@ -36,6 +38,7 @@ listed_no_frame f k u layout generation full e = grind (arith, common_steps)
 pub framed_not_listed : (f k : ℕ) (u : Use) (layout generation : ℕ) (full : Bool) → (waits_for (λ w. f == w) u && full) ≡ true → in_list k u layout generation full ≡ false
 framed_not_listed f k u layout generation full e = grind (arith, common_steps)
 
+-- so it is for whole slots; and the slot past the end, in which no set ever was, is in no list
 pub lists_apart : {T : Type 0} → IsApart {T = T} is_in
 lists_apart j k s e ne = one_list j k s.used s.layout s.generation (is_some s.set) e ne
 
@@ -49,6 +52,7 @@ pub frames_none : (T : Type 0) → PassesNone {T = T} is_of
 frames_none T k = refl
 
 module _ {T : Type 0} where
+  -- a slot that is in a list waits for no frame, and one that waits is in no list
   pub in_no_frame : (k : ℕ) (s : Slot T) → is_in k s ≡ true → (f : ℕ) → is_of f s ≡ false
   in_no_frame k s e f = listed_no_frame f k s.used s.layout s.generation (is_some s.set) e
 
@@ -105,6 +109,7 @@ module _ {T : Type 0} where
 one_before : (n : ℕ) → n ≢ 0 → n ≡ n - 1 + 1
 one_before n some = omega arith
 
+-- a list that isn't empty, by its first place and how many come after it
 pub split_chain : (d c : Chain) → d ≡ c → c.count ≢ 0 → d ≡ record { first = c.first; count = c.count - 1 + 1 }
 split_chain d c e some = e ∙ (λ i. record { first = c.first; count = one_before c.count some i })
 
@@ -113,6 +118,7 @@ module _ {T : Type 0} (slots : List (Slot T)) (next : List ℕ) (chains : List C
   pub picked : c.count ≢ 0 → (c.first < length slots) × (is_in k (slot_at slots c.first) ≡ true)
   picked some = (first_within is_in slots next (chain_at chains) linked_all (lists_none T) k (c.count - 1) c.first (split_chain (chain_at chains k) c is some), first_in is_in slots next (chain_at chains) linked_all k (c.count - 1) c.first (split_chain (chain_at chains k) c is some))
 
+  -- the first slot left the list
   pub pick_linked : (was : Slot T) (after : ℕ) → c.count ≢ 0 → k < length chains → after ≡ get_or next c.first 0 → AreLinked (set slots c.first (used_for Taken was)) next (set chains k (record { first = after; count = c.count - 1 }))
   pick_linked was after some within told =
       let d : Chain = record { first = after; count = c.count - 1 } in
@@ -122,6 +128,7 @@ module _ {T : Type 0} (slots : List (Slot T)) (next : List ℕ) (chains : List C
       ∙ ap (walk (c.count - 1) next) told)
       (other_chains chains k d) (λ j. refl)
 
+  -- a slot that a call had came first in the list, which has no more places then than there are slots
   pub link_linked : (p : ℕ) (s : Slot T) → p < length slots → length next ≡ length slots → k < length chains → (slot_at slots p).used ≡ Taken → is_in k s ≡ true → AreLinked (set slots p s) (set next p c.first) (set chains k (record { first = p; count = c.count + 1 }))
   link_linked p s inside long within taken goes =
       let d : Chain = record { first = p; count = c.count + 1 } in
@@ -141,6 +148,7 @@ module _ {T : Type 0} (slots : List (Slot T)) (next : List ℕ) (frames : List F
   pub link_framed : (x : ℕ) → p < length slots → ((f : ℕ) → is_of f (slot_at slots p) ≡ false) → ((f : ℕ) → is_of f s ≡ false) → AreFramed (set slots p s) (set next p x) frames
   link_framed x within was now = still_linked is_of slots next (chain_of frames) framed p x s within was now
 
+-- the lists of sets stay if a slot comes to the list of a frame, or leaves it: it is in none of them before and after
 module _ {T : Type 0} (slots : List (Slot T)) (next : List ℕ) (chains : List Chain) (h : AreLinked slots next chains) (p : ℕ) (s : Slot T) where
   pub wait_linked : (x : ℕ) → p < length slots → (slot_at slots p).used ≡ Taken → ((k : ℕ) → is_in k s ≡ false) → AreLinked (set slots p s) (set next p x) chains
   wait_linked x within taken now = still_linked is_in slots next (chain_at chains) h p x s within (taken_no_list (slot_at slots p) taken) now
@@ -148,5 +156,6 @@ module _ {T : Type 0} (slots : List (Slot T)) (next : List ℕ) (chains : List C
   pub out_linked : p < length slots → ((k : ℕ) → is_in k (slot_at slots p) ≡ false) → ((k : ℕ) → is_in k s ≡ false) → AreLinked (set slots p s) next chains
   out_linked within was now = stay_linked is_in slots next (chain_at chains) h p s within (λ k. now k ∙ sym (was k))
 
+-- there are as many lists if one changed
 pub known_chains : {T : Type 0} (slots : List (Slot T)) (chains : List Chain) (k : ℕ) (d : Chain) (generations : ℕ → ℕ) → HasLists slots (length chains) generations → HasLists slots (length (set chains k d)) generations
 known_chains slots chains k d generations known = subst (λ n. HasLists slots n generations) (sym (length-set chains k d)) known

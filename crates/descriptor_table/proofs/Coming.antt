@@ -1,4 +1,4 @@
--- A set that came into a slot.
+-- A set that came into a slot adds its weight (`tally`) to that of the sets that there are: for `Given` of the renderer.
 use Rattle.std.proofs.lemmas.Grind.{common_steps}
 use Rattle.std.proofs.Common.{◌≡◌, ◌≢◌, ℕ, zero, suc, ◌+◌, List, [], ◌∷◌, Option, Some, None, refl, sym, ap, ◌∙◌, arith}
 use Rattle.descriptor_table.specs.Sets.{joined, sets_in}

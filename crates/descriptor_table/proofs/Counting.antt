@@ -1,4 +1,5 @@
--- Lists of places, and how often each place is in them.
+-- Lists of places, and how often each place is in them: a list in which each place below `n` is at most once, and no other,
+-- is no longer than `n`. For the lists of slots, as they are in `Listed`, `Counts` and `Frames`.
 use Rattle.std.proofs.Common.{◌≡◌, ◌≢◌, ℕ, zero, suc, ◌+◌, ◌<◌, ◌≤◌, ◌==◌, Bool, if◌then◌else◌, List, [], ◌∷◌, length, get_or, set, ◌⊎◌, inl, inr, refl, sym, ap, subst, ◌∙◌, arith, eq-eqb, ne_eqb}
 use Rattle.std.proofs.lemmas.List.{get_or-set_other}
 use Rattle.descriptor_table.specs.Places.{times, walk}
@@ -56,6 +57,7 @@ without_length x (y ∷ l) = elim (same_or x y) [
   | inr ne ↦ let b = ap length (without_there x y l ne) in let d = times_there x y l ne in let h = without_length x l in omega arith
 ]
 
+-- the other places are in it as often as before, and this one no more
 without_times : (x p : ℕ) (l : List ℕ) → p ≢ x → times p (without x l) ≡ times p l
 unfolding without
 without_times x p [] apart = refl
@@ -112,6 +114,7 @@ total_same : (f g : ℕ → ℕ) (n : ℕ) → ((p : ℕ) → p < n → f p ≡ 
 total_same f g zero same = refl
 total_same f g (suc n) same = let h = total_same f g n (λ p lt. same p (omega arith)) in let e = same n (omega arith) in omega arith
 
+-- a sum from 0 on, by its first term
 pub total_first : (f : ℕ → ℕ) (n : ℕ) → total f (suc n) ≡ f 0 + total (λ p. f (suc p)) n
 total_first f zero = omega arith
 total_first f (suc n) = let h = total_first f n in omega arith

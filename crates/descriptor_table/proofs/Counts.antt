@@ -1,4 +1,4 @@
--- How many slots pass a test.
+-- How many slots pass a test, when one of them changes, and that a list counts them: for the counts that `SetTable` returns.
 use Rattle.std.proofs.lemmas.Grind.{common_steps}
 use Rattle.std.proofs.Common.{◌≡◌, ℕ, zero, suc, ◌+◌, ◌<◌, ◌≤◌, Bool, false, if◌then◌else◌, List, [], ◌∷◌, length, set, None, refl, sym, ap, ◌∙◌, arith}
 use Rattle.std.proofs.lemmas.List.{get_or_past}
@@ -19,6 +19,7 @@ bit_few : (b : Bool) → bit b ≤ 1
 bit_few x0 = grind (arith, common_steps)
 
 module _ {T : Type 0} where
+  -- what the slot counted before comes off, and what it counts now comes on
   pub count_set : (test : Slot T → Bool) (slots : List (Slot T)) (p : ℕ) (s : Slot T) → p < length slots → count test (set slots p s) + (if test (slot_at slots p) then 1 else 0) ≡ count test slots + (if test s then 1 else 0)
   count_set test [] p s within = absurd (omega arith)
   count_set test (y ∷ slots) zero s within = omega arith
@@ -65,6 +66,7 @@ module _ {T : Type 0} where
   none_count test [] none = refl
   none_count test (s ∷ slots) none = ap (λ b. (if b then 1 else 0) + count test slots) (none 0) ∙ (let h = none_count test slots (λ p. none (suc p)) in omega arith)
 
+  -- if no slot counts, none passes the test, nor does the slot past the end, in which no set ever was
   pub count_none : (test : Slot T → Bool) (slots : List (Slot T)) → test (record { generation = 0; layout = 0; layout_generation = 0; used = Taken; leaves = false; set = None }) ≡ false → count test slots ≡ 0 → (p : ℕ) → test (slot_at slots p) ≡ false
   count_none test [] none zero_count p = none
   count_none test (s ∷ slots) none zero_count zero = by_test (test s) zero_count

@@ -1,4 +1,6 @@
--- The lists of sets that wait, by the code's chains of frames.
+-- The lists of sets that wait, by the code's chains of frames: a list for each frame, later frames first (`HasFrames`).
+-- What `chain_of` finds there once a list changed, came or went, and that each still has the sets of its frame (`AreFramed`):
+-- for `SetTable::join`, `start`, `pick_first` and `pick_last`. `c` and `d` are lists, `i` is the place of one, `p` that of a slot.
 use Rattle.std.proofs.Common.{arith, ◌≡◌, ◌≢◌, ℕ, zero, suc, ◌+◌, ◌-◌, ◌<◌, ◌≤◌, ◌==◌, ◌&&◌, nat_le, Bool, true, false, arith, if◌then◌else◌, List, [], ◌∷◌, ◌++◌, insert, length, get_or, set, None, is_some, inl, inr, refl, sym, ap, subst, ◌∙◌, arith, eq-eqb, ne_eqb, arith, leb-true}
 use Rattle.std.proofs.lemmas.List.{length-set, get_or_past, get_or-set_other, get_or-set_same, get_or_read}
 use Rattle.descriptor_table.specs.Places.{times, walk}
@@ -46,6 +48,7 @@ set_here (d ∷ frames) (suc i) c falls lt same =
     let below = falls 0 (suc i) (omega arith) lt in
     ap (λ b. if b then links_of d else chain_of (set frames i c) c.frame) (ne_eqb c.frame d.frame (λ e. omega arith)) ∙ set_here frames i c (tail_falls d frames falls) (omega arith) same
 
+-- each other frame has the list that it had
 pub set_others : (frames : List FrameChain) (i : ℕ) (c : FrameChain) (g : ℕ) → c.frame ≡ (frame_at frames i).frame → g ≢ c.frame → chain_of (set frames i c) g ≡ chain_of frames g
 set_others [] i c g same ne = refl
 set_others (d ∷ frames) zero c g same ne =
@@ -92,6 +95,7 @@ has_set frames i c has within same some =
       falls = λ j k lt within. (let a = frame j in let b = frame k in let h = has.falls j k lt (omega arith) in omega arith);
     }
 
+-- what is at each place once a list came at the place `i`: the list there, and before and after it what was there
 insert_length : (frames : List FrameChain) (i : ℕ) (c : FrameChain) → i ≤ length frames → length (insert frames i c) ≡ length frames + 1
 insert_length frames zero c le = omega arith
 insert_length [] (suc i) c le = absurd (omega arith)
@@ -145,6 +149,7 @@ has_put frames i c has le some before after =
     behind zero lt above = absurd (omega arith)
     behind (suc k) lt above = subst (λ (d : FrameChain). d.frame < c.frame) (sym (insert_after frames i c k le (omega arith))) (after k (omega arith) (omega arith))
 
+    -- of two lists after the new one the first is of the later frame
     both_behind : (j k : ℕ) → j < k → k < length frames + 1 → i < j → (frame_at (insert frames i c) k).frame < (frame_at (insert frames i c) j).frame
     both_behind zero k lt within above = absurd (omega arith)
     both_behind (suc j) zero lt within above = absurd (omega arith)
@@ -154,6 +159,7 @@ has_put frames i c has le some before after =
         let h = has.falls j k (omega arith) (omega arith) in
         omega arith
 
+    -- and so of any two lists, if the second is the new one, or after it
     falls_after : (j k : ℕ) → j < k → k < length frames + 1 → i ≤ k → (frame_at (insert frames i c) k).frame < (frame_at (insert frames i c) j).frame
     falls_after j k lt within a = elim (same_or k i) [
       | inl e ↦ (let x = subst (λ q. (frame_at (insert frames i c) q).frame ≡ c.frame) (sym e) (ap (λ (d : FrameChain). d.frame) (insert_at frames i c le)) in let y = ap (λ (d : FrameChain). d.frame) (insert_before frames i c j le (omega arith)) in let h = before j (omega arith) in omega arith)
@@ -166,6 +172,7 @@ has_put frames i c has le some before after =
       ]
     ]
 
+-- the lists before the last one, and the last one
 front_at : (frames : List FrameChain) (c : FrameChain) (i : ℕ) → i < length frames → frame_at (frames ++ c ∷ []) i ≡ frame_at frames i
 front_at [] c i lt = absurd (omega arith)
 front_at (d ∷ frames) c zero lt = refl
@@ -179,6 +186,7 @@ last_length : (frames : List FrameChain) (c : FrameChain) → length (frames ++ 
 last_length [] c = refl
 last_length (d ∷ frames) c = let h = last_length frames c in omega arith
 
+-- without the last list, none is empty still, and later frames come first
 pub has_front : (frames : List FrameChain) (c : FrameChain) → HasFrames (frames ++ c ∷ []) → HasFrames frames
 has_front frames c has =
     let size = last_length frames c in
@@ -202,6 +210,7 @@ module _ {T : Type 0} (slots : List (Slot T)) where
   abbrev FirstsWait : List FrameChain → Type 0
   FirstsWait l = (i : ℕ) → i < length l → is_of (frame_at l i).frame (slot_at slots (frame_at l i).first) ≡ true
 
+  -- a slot whose set waits for none of the frames is the first of no list
   no_first : (l : List FrameChain) (q : ℕ) → FirstsWait l → ((i : ℕ) → i < length l → is_of (frame_at l i).frame (slot_at slots q) ≡ false) → times q (firsts l) ≡ 0
   unfolding firsts
   no_first [] q wait none = refl
@@ -210,6 +219,7 @@ module _ {T : Type 0} (slots : List (Slot T)) where
     | inr ne ↦ times_there q c.first (firsts l) ne ∙ no_first l q (λ i lt. wait (suc i) (omega arith)) (λ i lt. none (suc i) (omega arith))
   ]
 
+  -- no slot is the first of two lists
   firsts_once : (l : List FrameChain) (q : ℕ) → FirstsWait l → Falls l → times q (firsts l) ≤ 1
   unfolding firsts
   firsts_once [] q wait falls = omega arith
@@ -223,12 +233,14 @@ module _ {T : Type 0} (slots : List (Slot T)) where
   ]
 
   module _ (next : List ℕ) (frames : List FrameChain) (framed : AreFramed slots next frames) (has : HasFrames frames) where
+    -- a list that is there has a first slot, and so many after it as it counts less one
     head_of : (i : ℕ) → i < length frames → chain_of frames (frame_at frames i).frame ≡ record { first = (frame_at frames i).first; count = (frame_at frames i).count - 1 + 1 }
     head_of i lt = chain_here frames i has.falls lt ∙ (λ j. record { first = (frame_at frames i).first; count = before (frame_at frames i).count (has.some i lt) j })
       where
         before : (n : ℕ) → 0 < n → n ≡ n - 1 + 1
         before n some = omega arith
 
+    -- that slot's set waits for the frame, and the slot is one of the table's
     pub first_waits : (i : ℕ) → i < length frames → is_of (frame_at frames i).frame (slot_at slots (frame_at frames i).first) ≡ true
     first_waits i lt = first_in is_of slots next (chain_of frames) framed (frame_at frames i).frame ((frame_at frames i).count - 1) (frame_at frames i).first (head_of i lt)
 
@@ -276,6 +288,7 @@ module _ {T : Type 0} (slots : List (Slot T)) where
         let here : chain_of frames c.frame ≡ links_of c = subst (λ (e : FrameChain). chain_of frames e.frame ≡ links_of e) (sym is) (chain_here frames i has.falls lt) in
         linked is_of slots next (chain_of frames) framed frames_apart (chain_of (set frames i d)) c.frame p (links_of c) s here inside long (set_here frames i d has.falls lt same) (λ g ne. set_others frames i d g same ne) (taken_no_frame (slot_at slots p) taken) goes
 
+    -- the list has no more places then than there are slots
     pub join_more : (i p : ℕ) (c : FrameChain) (s : Slot T) → i < length frames → c ≡ frame_at frames i → p < length slots → (slot_at slots p).used ≡ Taken → is_of c.frame s ≡ true → c.count + 1 ≤ length slots
     join_more i p c s lt is inside taken goes =
         let here : chain_of frames c.frame ≡ links_of c = subst (λ (e : FrameChain). chain_of frames e.frame ≡ links_of e) (sym is) (chain_here frames i has.falls lt) in
@@ -310,6 +323,7 @@ module _ {T : Type 0} (slots : List (Slot T)) where
     pub none_due : (frame : ℕ) → ((i : ℕ) → i < length frames → frame < (frame_at frames i).frame) → (q : ℕ) → is_due frame (slot_at slots q) ≡ false
     none_due frame later q = not_due (slot_at slots q) (λ g le. none_in is_of slots next (chain_of frames) framed g (ap (λ (e : Chain). e.count) (none_of frames g (λ i lt e. let h = later i lt in omega arith))) q)
       where
+        -- a set that waits for no frame up to this one isn't due
         not_due : (s : Slot T) → ((g : ℕ) → g ≤ frame → is_of g s ≡ false) → is_due frame s ≡ false
         not_due s none = by_use s.used (is_some s.set) none
           where

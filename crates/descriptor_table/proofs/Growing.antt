@@ -1,4 +1,5 @@
--- The lists of slots, when a slot comes at the end.
+-- The lists of slots, when a slot comes at the end, whose set a call has: for `SetTable::push`.
+-- No list changes: the new slot is in none, as the slot past the end is in none.
 use Rattle.std.proofs.Common.{◌≡◌, ◌≢◌, ℕ, zero, suc, ◌+◌, Bool, false, if◌then◌else◌, List, [], ◌∷◌, ◌++◌, length, get_or, Some, None, inl, inr, refl, sym, ap, subst, ◌∙◌, arith}
 use Rattle.descriptor_table.specs.Places.{times, walk}
 use Rattle.descriptor_table.specs.Slots.{AreFramed, AreLinked, HasChains, HasLists, IsListed, chain_at, chain_of, is_in, is_of, slot_at}
@@ -10,6 +11,7 @@ use Rattle.descriptor_table.specs.declared.slot.FrameChain.{FrameChain}
 use Rattle.descriptor_table.proofs.Chains.{taken_no_frame, taken_no_list}
 use Rattle.descriptor_table.proofs.Counting.{same_or}
 
+-- the next of each place stays with a 0 at the end, and so does each list
 next_grown : (next : List ℕ) (q : ℕ) → get_or (next ++ 0 ∷ []) q 0 ≡ get_or next q 0
 next_grown [] zero = refl
 next_grown [] (suc q) = refl
@@ -21,7 +23,7 @@ walk_grown zero next first = refl
 walk_grown (suc n) next first = ap (λ y. first ∷ walk n (next ++ 0 ∷ []) y) (next_grown next first) ∙ ap (λ l. first ∷ l) (walk_grown n next (get_or next first 0))
 
 module _ {T : Type 0} where
-  -- what a slot that comes at the end has as one past it
+  -- what `f` says of each place stays, if it says of the slot at the end what it says of the slot past the end
   grown : {X : Type 0} (f : Slot T → X) (slots : List (Slot T)) (s : Slot T) (q : ℕ) → f s ≡ f (record { generation = 0; layout = 0; layout_generation = 0; used = Taken; leaves = false; set = None }) → f (slot_at (slots ++ s ∷ []) q) ≡ f (slot_at slots q)
   grown f [] s zero same = same
   grown f [] s (suc q) same = refl
@@ -42,6 +44,7 @@ module _ {T : Type 0} where
   past [] = refl
   past (x ∷ slots) = past slots
 
+  -- the lists stay if the slot that comes at the end is in none, as the slot past the end is in none
   chains_grown :
       (test : ℕ → Slot T → Bool) (slots : List (Slot T)) (next : List ℕ) (heads : ℕ → Chain) (s : Slot T)
       → ((k : ℕ)
@@ -57,6 +60,7 @@ module _ {T : Type 0} where
   pub framed_grown : (slots : List (Slot T)) (next : List ℕ) (frames : List FrameChain) (s : Slot T) → s.used ≡ Taken → AreFramed slots next frames → AreFramed (slots ++ s ∷ []) (next ++ 0 ∷ []) frames
   framed_grown slots next frames s taken h = chains_grown is_of slots next (chain_of frames) s (taken_no_frame s taken) h
 
+  -- the layout of each slot has its list, also that of the new slot
   pub known_grown : (slots : List (Slot T)) (s : Slot T) (lists : ℕ) (generations : ℕ → ℕ) → IsListed lists generations s → HasLists slots lists generations → length (slots ++ s ∷ []) ≡ length slots + 1 → HasLists (slots ++ s ∷ []) lists generations
   known_grown slots s lists generations here known long q within = elim (same_or q (length slots)) [
     | inl e ↦ subst (IsListed lists generations) (sym (ap (slot_at (slots ++ s ∷ [])) e ∙ last_slot slots s)) here

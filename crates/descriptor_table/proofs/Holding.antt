@@ -1,4 +1,5 @@
--- Held sets that are taken by their handles, and held again.
+-- Held sets that are taken by their handles, one after another, and held again if one of the handles has no held set, or is there twice:
+-- for `SetTable::take_each` (`TookSome`) and `put_back` (`PutSome`). `n` is how many were taken, `m` how many of them are held again.
 use Rattle.std.proofs.lemmas.Grind.{common_steps}
 use Rattle.std.proofs.Common.{◌≡◌, ◌≢◌, ℕ, zero, suc, ◌+◌, ◌<◌, ◌⊎◌, ◌==◌, ◌&&◌, Bool, true, false, List, [], ◌∷◌, length, get_or, is_some, inl, inr, refl, sym, ap, subst, ◌∙◌, arith, eqb-true}
 use Rattle.std.proofs.lemmas.List.{length-set}
@@ -33,6 +34,7 @@ named_or (suc n) place p = elim (same_or (place n) p) [
   ]
 ]
 
+-- a handle that is in the list is the same, whatever is said of those past the end
 pub same_default : (l : List SetHandle) (i : ℕ) (d e : SetHandle) → i < length l → get_or l i d ≡ get_or l i e
 same_default [] i d e lt = absurd (omega arith)
 same_default (x ∷ l) zero d e lt = refl
@@ -46,6 +48,7 @@ module _ {T : Type 0} where
     pub used : (slot_at slots h.place).used ≡ Held
     pub within : h.place < length slots
 
+  -- a handle that passes the test `is_held` has all that
   pub held_is : (number : ℕ) (slots : List (Slot T)) (h : SetHandle) → is_held number slots h ≡ true → IsHeld number slots h
   held_is number slots h e =
       let s = slot_at slots h.place in
@@ -62,6 +65,7 @@ module _ {T : Type 0} where
   used_same : (s : Slot T) (u : Use) → s.used ≡ u → used_for u s ≡ s
   used_same s u e = ap (λ v. used_for v s) (sym e)
 
+  -- lists with the same slot at each place are the same
   pub all_same : (l m : List (Slot T)) → length l ≡ length m → ((p : ℕ) → slot_at l p ≡ slot_at m p) → l ≡ m
   all_same [] [] long same = refl
   all_same [] (y ∷ m) long same = absurd (omega arith)
@@ -88,6 +92,7 @@ module _ {T : Type 0} where
         held_taken : ◌≡◌ {A = Use} Held Taken → ⊥
         held_taken e = (let f : true ≡ false = ap is_held_use e in cc)
 
+    -- one set more was taken
     pub take_more : is_held number now h ≡ true → (new : List (Slot T)) → new ≡ with_use h.place Taken now → TookSome number handles (n + 1) old new
     take_more e new made =
         let held = held_is number now h e in
@@ -125,6 +130,7 @@ module _ {T : Type 0} where
           ];
         }
 
+  -- once all are taken, each handle had a held set, and none is in the list twice
   pub took_all : (number : ℕ) (handles : List SetHandle) (old now : List (Slot T)) → TookSome number handles (length handles) old now → AreHeldOnce number old handles
   took_all number handles old now some = record {
     held = λ i d lt. some.held i d lt lt;
@@ -134,6 +140,7 @@ module _ {T : Type 0} where
   -- the sets of the first handles are held again
   pub record PutSome (handles : List SetHandle) (n m : ℕ) (before now : List (Slot T)) : Type 0 where
     pub long : length now ≡ length before
+    -- a slot of the handles is as it was before, or its set is taken still
     pub each : (i : ℕ) → i < n → (slot_at now (place_at handles i) ≡ slot_at before (place_at handles i)) ⊎ (slot_at now (place_at handles i) ≡ used_for Taken (slot_at before (place_at handles i)))
     pub done : (i : ℕ) → i < m → slot_at now (place_at handles i) ≡ slot_at before (place_at handles i)
     pub rest : (p : ℕ) → ((i : ℕ) → i < n → place_at handles i ≢ p) → slot_at now p ≡ slot_at before p
@@ -142,6 +149,7 @@ module _ {T : Type 0} where
     put_inside : place_at handles m < length now
     put_inside = (let a = took.within m lt in let b = some.long in omega arith)
 
+    -- one set more is held again
     pub put_more : (new : List (Slot T)) → new ≡ with_use (place_at handles m) Held now → PutSome handles n (m + 1) before new
     put_more new made =
         let p = place_at handles m in
@@ -171,6 +179,7 @@ module _ {T : Type 0} where
           rest = λ q none. far q (λ e. none m lt (sym e)) ∙ some.rest q none;
         }
 
+  -- once all are held again, the slots are as they were before
   pub put_all : (handles : List SetHandle) (n : ℕ) (before now : List (Slot T)) → PutSome handles n n before now → now ≡ before
   put_all handles n before now some = all_same now before some.long (λ p. elim (named_or n (place_at handles) p) [
     | inl found ↦ subst (λ q. slot_at now q ≡ slot_at before q) found.2 (some.done found.0 found.1)

@@ -1,4 +1,6 @@
--- Sets that leave their slots, and how many are left.
+-- Sets that leave their slots, and how many are left: for the iterators `Giving` and `Due`, and what is left once they gave all that they have.
+-- Sets are counted by a weight that each has: with weight 1 it is their number, and for `Given` and `Returned` of the renderer how often
+-- an item is among them. `xs` are the sets that were given, `s` and `t` the iterator, or its table, before and after.
 use Rattle.std.proofs.lemmas.Grind.{common_steps}
 use Rattle.std.proofs.Common.{◌≡◌, ℕ, zero, suc, ◌+◌, ◌<◌, Bool, false, List, [], ◌∷◌, length, set, zero-add, Option, Some, None, refl, sym, ap, subst, ◌∙◌, arith}
 use Rattle.std.specs.Borrow.{MutBor}
@@ -34,6 +36,7 @@ module _ {T : Type 0} (weight : T → ℕ) where
   tally_set (y ∷ slots) zero s within = let a = tally_joined s.set (sets_in slots) in let b = tally_joined y.set (sets_in slots) in omega arith
   tally_set (y ∷ slots) (suc p) s within = let h = tally_set slots p s (omega arith) in let a = tally_joined y.set (sets_in (set slots p s)) in let b = tally_joined y.set (sets_in slots) in omega arith
 
+  -- without a set that was taken out the others weigh less by its weight
   pub gives_weigh : (test : Slot T → Bool) (x : T) (old new : List (Slot T)) → Gives test x old new → tally weight (sets_in old) ≡ weight x + tally weight (sets_in new)
   gives_weigh test x old new g =
       let h = tally_set old g.place (vacated (slot_at old g.place)) g.within in
@@ -84,6 +87,7 @@ module _ {T : Type 0} where
         let g = y.1.gives.slots in
         given_turns xs u t old y.2 (turn_step test (Becomes vacated) old now (slots_of u.now) g.place (vacated (slot_at now g.place)) turning g.within g.was g.slots (λ o n w. w) (λ o n w. ap test w ∙ out o) refl)
 
+    -- settings and memory stayed, and it is the same borrow of the table
     given_stays : (xs : List T) (s t : MutBor (SetTable T)) → Yields (GivesFrom test) s xs t → (t.ghost_name ≡ s.ghost_name) × Stays s.now t.now
     given_stays [] s t y = (ap (λ (u : MutBor (SetTable T)). u.ghost_name) (sym y), subst (λ (u : MutBor (SetTable T)). Stays s.now u.now) y (stays_same s.now))
     given_stays (x ∷ xs) s t y =

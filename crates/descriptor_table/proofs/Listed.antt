@@ -1,4 +1,6 @@
--- Lists of the places of slots that pass a test, when a slot changes.
+-- Lists of the places of slots that pass a test, when a slot changes: of sets and of frames alike.
+-- `test k` says which slots the list `k` has (`is_in`, or `is_of` for a frame), `heads k` is its first place and its count, and `next` has
+-- for each place the next one; `heads'` are the heads after the change. Two lists are *apart* if no slot is in both.
 use Rattle.std.proofs.lemmas.Grind.{common_steps}
 use Rattle.std.proofs.Common.{◌≡◌, ◌≢◌, ℕ, zero, suc, ◌+◌, ◌<◌, ◌≤◌, Bool, true, false, if◌then◌else◌, List, [], ◌∷◌, length, get_or, set, None, inl, inr, refl, sym, ap, subst, ◌∙◌, arith, add-one}
 use Rattle.std.proofs.lemmas.List.{get_or-set_other, get_or-set_same, get_or_past, get_or_read, length-set}
@@ -43,12 +45,13 @@ module _ {T : Type 0} where
   pub read_slot : (slots : List (Slot T)) (p : ℕ) (s : Slot T) → p < length slots → s ≡ get_or slots p s → s ≡ slot_at slots p
   read_slot slots p s within is = get_or_read slots p s within is (record { generation = 0; layout = 0; layout_generation = 0; used = Taken; leaves = false; set = None })
 
-  -- a test that holds nowhere past the end
+  -- a slot that passes a test is in the table, if the slot past the end, in which no set ever was, doesn't pass it
   pub test_within : (t : Slot T → Bool) (slots : List (Slot T)) (p : ℕ) → t (record { generation = 0; layout = 0; layout_generation = 0; used = Taken; leaves = false; set = None }) ≡ false → t (slot_at slots p) ≡ true → p < length slots
   test_within t [] p not is = absurd (cc)
   test_within t (s ∷ slots) zero not is = omega arith
   test_within t (s ∷ slots) (suc p) not is = let h = test_within t slots p not is in omega arith
 
+  -- a list stays if the slot that changed passes its test as before; below it gets a place in front, or loses it
   pub lists_other : (t : Slot T → Bool) (slots : List (Slot T)) (p : ℕ) (s : Slot T) (l : List ℕ) → Lists t slots l → p < length slots → t s ≡ t (slot_at slots p) → Lists t (set slots p s) l
   lists_other t slots p s l h within same = λ q. elim (same_or q p) [
     | inl e ↦ subst (λ q. times q l ≡ one (t (slot_at (set slots p s) q))) (sym e) (h p ∙ ap one (sym same) ∙ ap (λ x. one (t x)) (sym (slot_set slots p s within)))
@@ -71,7 +74,7 @@ module _ {T : Type 0} where
     | inr ne ↦ sym (times_there q p l ne) ∙ h q ∙ ap (λ x. one (t x)) (sym (other_slots slots p s q ne))
   ]
 
-  -- a list has no more places than there are slots
+  -- a list has no more places than there are slots, if the slot past the end, in which no set ever was, isn't in it
   pub lists_few : (t : Slot T → Bool) (slots : List (Slot T)) (l : List ℕ) → t (record { generation = 0; layout = 0; layout_generation = 0; used = Taken; leaves = false; set = None }) ≡ false → Lists t slots l → length l ≤ length slots
   lists_few t slots l none h =
       few_places (length slots) l (λ p. subst (λ n. n ≤ 1) (sym (h p)) (one_few (t (slot_at slots p))))
@@ -95,7 +98,7 @@ module _ {T : Type 0} where
   not_listed t slots l p h out = h p ∙ ap one out
 
   module _ (test : ℕ → Slot T → Bool) where
-    -- a slot past the end is in no list
+    -- the slot past the end, in which no set ever was, is in no list
     abbrev pub PassesNone : Type 0
     PassesNone = (k : ℕ) → test k (record { generation = 0; layout = 0; layout_generation = 0; used = Taken; leaves = false; set = None }) ≡ false
 
@@ -104,9 +107,11 @@ module _ {T : Type 0} where
     IsApart = (j k : ℕ) (s : Slot T) → test k s ≡ true → j ≢ k → test j s ≡ false
 
     module _ (slots : List (Slot T)) (next : List ℕ) (heads : ℕ → Chain) (h : HasChains test slots next heads) where
+      -- a list that isn't empty is its first place, and then what begins with the next of that
       walk_first : (k m p : ℕ) → heads k ≡ record { first = p; count = m + 1 } → walk (heads k).count next (heads k).first ≡ p ∷ walk m next (get_or next p 0)
       walk_first k m p e = ap (λ (c : Chain). walk c.count next c.first) e ∙ ap (λ n. walk n next p) (add-one m)
 
+      -- a list counts no more than there are slots
       pub count_few : PassesNone → (k : ℕ) → (heads k).count ≤ length slots
       count_few none k = let a = lists_few (test k) slots (walk (heads k).count next (heads k).first) (none k) (h k) in let b = walk_length (heads k).count next (heads k).first in omega arith
 

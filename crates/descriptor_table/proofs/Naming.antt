@@ -1,4 +1,5 @@
--- What handles name once slots changed.
+-- What handles name once slots changed: for `LayoutRegistry`, and for the calls of a renderer by which sets come back, wait or go.
+-- A handle is the *last* of its slot if no later one was given for the place; `shown` is what that one names.
 use Rattle.std.proofs.lemmas.Grind.{common_steps}
 use Rattle.std.proofs.Common.{arith, ◌≡◌, ◌≢◌, ℕ, ◌<◌, ◌==◌, ◌&&◌, nat_le, nat_lt, Bool, true, false, List, length, slice_index_or, if◌then◌else◌, Option, None, inl, inr, refl, sym, ap, subst, ◌∙◌, eqb-true}
 use Rattle.descriptor_table.specs.Sets.{AreHeldOnce, LoseNames, find, is_last, sets_of}
@@ -18,6 +19,7 @@ if_neither x0 b x e = grind (arith, common_steps)
 if_not : {T : Type 0} (a b : Bool) (x : Option T) → a ≡ false → (if a && b then x else None) ≡ None
 if_not a b x e = ap (λ c. if c && b then x else None) e
 
+-- handles with the same three numbers are the same
 handle_is : (a b : SetHandle) → a.renderer ≡ b.renderer → a.place ≡ b.place → a.generation ≡ b.generation → a ≡ b
 handle_is a b r p g =
     ap (λ n. record { renderer = n; place = a.place; generation = a.generation }) r
@@ -34,6 +36,7 @@ module _ {T : Type 0} where
     pub generation : n.generation ≡ o.generation
     pub set : shown frame opened n ≡ shown frame opened o
 
+  -- if each slot shows what it showed, all handles name what they named
   pub names_kept : (number frame : ℕ) (opened : Bool) (old new : List (Slot T)) → ((p : ℕ) → ShowsSame frame opened (slot_at old p) (slot_at new p)) → sets_of number frame opened new ≡ sets_of number frame opened old
   names_kept number frame opened old new same i = record {
     set = λ h. (
@@ -66,6 +69,7 @@ module _ {T : Type 0} where
       | inr apart ↦ ap (λ (s : Slot T). s.generation) (rest p apart)
     ]
 
+    -- a handle that isn't in the list is not the last one of a place of the list, since that of the list is
     not_last : (other : SetHandle) → ((i : ℕ) (e : SetHandle) → i < length handles → slice_index_or handles i e ≢ other) → (i : ℕ) → i < length handles → place_at handles i ≡ other.place → (b : Bool) → is_last number old other ≡ b → b ≡ false
     not_last other apart i lt e false l = refl
     not_last other apart i lt e true l =
@@ -78,6 +82,7 @@ module _ {T : Type 0} where
     abbrev finds : ℕ → Slot T → SetHandle → Option T
     finds n s h = if ((h.renderer == number) && (h.generation == n)) && is_live frame opened s.used then s.set else None
 
+    -- the handles name nothing, and each other one what it named
     pub names_lost : LoseNames handles (sets_of number frame opened old) (sets_of number frame opened new)
     names_lost = record {
       gone = λ i e lt.

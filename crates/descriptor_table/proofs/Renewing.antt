@@ -1,4 +1,5 @@
--- A set that comes into a slot, gets a handle, or leaves.
+-- A set that comes into a slot, gets a handle, or leaves: for `SetTable::put`, `draw`, `take_out`, `take_going` and `take_due`.
+-- `old` are the slots before, `mid` those once the slot was picked from its list or its set taken out, `new` those after.
 use Rattle.std.proofs.lemmas.Grind.{common_steps}
 use Rattle.std.proofs.Common.{◌≡◌, ◌≢◌, ℕ, ◌+◌, ◌<◌, ◌≤◌, ◌==◌, ◌&&◌, Bool, true, false, nat_lt, List, length, set, Option, Some, None, is_some, inl, refl, sym, ap, ◌∙◌, arith, ltb-true}
 use Rattle.std.proofs.lemmas.List.{length-set, set-set}
@@ -51,7 +52,7 @@ module _ {T : Type 0} where
         grows = inl long;
       }
 
-  -- room that is kept
+  -- there is room for as many sets if as many slots are usable, and nothing else changed
   pub room_stays : (n : ℕ) (a b : SetTable T) → Stays a b → length (slots_of b) ≡ length (slots_of a) → usable_of b ≡ usable_of a → HasRoom n a → HasRoom n b
   room_stays n a b stays long usable room =
       let slots = stays.slots in
@@ -59,7 +60,7 @@ module _ {T : Type 0} where
       let frames = stays.frames in
       record { few = (let h = room.few in omega arith); slots = (let h = room.slots in omega arith); next = (let h = room.next in omega arith); frames = (let h = room.frames in omega arith) }
 
-  -- a slot that there was got a set
+  -- a vacant slot got a set, and so there is room for one fewer
   pub room_less : (n p : ℕ) (s : Slot T) (a b c : SetTable T) → Picks is_usable p (slots_of a) (slots_of b) → slots_of c ≡ set (slots_of b) p s → is_usable s ≡ false → Stays a b → Stays b c → HasRoom (n + 1) a → HasRoom n c
   room_less n p s a b c picks is used before after room =
       let o = slot_at (slots_of a) p in
@@ -75,10 +76,11 @@ module _ {T : Type 0} where
       let frames = after.frames ∙ before.frames in
       record { few = (let h = room.few in omega arith); slots = (let h = room.slots in omega arith); next = (let h = room.next in omega arith); frames = (let h = room.frames in omega arith) }
 
-  -- a set that leaves a list, or gets a handle, leaves as many slots to which one can come
+  -- a set that leaves a list of sets leaves as many slots to which another can come
   pub usable_picked : (k p : ℕ) (old new : List (Slot T)) → 0 ≢ k → Picks (is_in k) p old new → count is_usable new ≡ count is_usable old
   usable_picked k p old new apart picks = ap (count is_usable) picks.slots ∙ same_count is_usable old p (used_for Taken (slot_at old p)) picks.within (sym (lists_apart 0 k (slot_at old p) picks.was apart))
 
+  -- and so does one that gets a handle, if a call has its slot
   pub usable_renewed : (number p : ℕ) (u : Use) (handle : SetHandle) (old new : List (Slot T)) → Renews number p u handle old new → p < length old → (slot_at old p).used ≡ Taken → is_usable (renewed u (slot_at old p)) ≡ false → count is_usable new ≡ count is_usable old
   usable_renewed number p u handle old new r within taken used = ap (count is_usable) r.slots ∙ same_count is_usable old p (renewed u (slot_at old p)) within (used ∙ sym (taken_no_list (slot_at old p) taken 0))
 

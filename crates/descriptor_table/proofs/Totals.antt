@@ -1,4 +1,5 @@
--- How many slots there are in several lists together.
+-- How many slots there are in several lists together: the loops of `SetTable::kept_total` and `waiting_total`.
+-- `kept_` is of kept sets by layout, `first_` of sets that wait by frame: at the start, with one list more, and with all.
 use Rattle.std.proofs.lemmas.Grind.{common_steps}
 use Rattle.std.proofs.Common.{◌≡◌, ◌≢◌, ℕ, zero, suc, ◌+◌, ◌<◌, ◌≤◌, ◌==◌, ◌&&◌, ◌||◌, nat_lt, not, Bool, true, false, List, length, is_some, inl, inr, refl, sym, ap, subst, ◌∙◌, arith, eq-eqb, ne_eqb}
 use Rattle.std.proofs.lemmas.Bool.{and_right, cases_order, le-ltb, lt-ltb, or_from, or_left, or_right}
@@ -17,7 +18,7 @@ use Rattle.descriptor_table.proofs.Frames.{chain_here, none_of}
 use Rattle.descriptor_table.proofs.Holding.{named_or}
 use Rattle.descriptor_table.proofs.Listed.{none_in}
 
--- the two parts of a test
+-- what a slot counts up to the next list: it is of that list, of another, or of none
 bits_here : (more a b c : Bool) → a ≡ true → b ≡ false → c ≡ true → bit (more && a) ≡ bit (more && b) + bit (c && more)
 bits_here x0 a b c x y z = grind (arith, common_steps)
 
@@ -61,6 +62,7 @@ module _ {T : Type 0} where
   abbrev pub kept_below : ℕ → Slot T → Bool
   kept_below k s = is_kept s && nat_lt (s.layout + 2) k
 
+  -- a set in a list before the next one is in one before this, or in this
   kept_split : (k : ℕ) → 2 ≤ k → (s : Slot T) → bit (kept_below (k + 1) s) ≡ bit (kept_below k s) + bit (is_in k s)
   kept_split k two s = by_use s.used
     where
@@ -135,6 +137,7 @@ module _ {T : Type 0} where
         known : (p f : ℕ) → ((i : ℕ) → i < length frames → f ≢ (frame_at frames i).frame) → is_of f (slot_at slots p) ≡ false
         known p f none = none_in is_of slots next (chain_of frames) framed f (ap (λ (d : Chain). d.count) (none_of frames f none)) p
 
+        -- a set that waits, waits for one of the frames that have a list
         by_frame : (f : ℕ) (full : Bool) → ((g : ℕ) → ((i : ℕ) → i < length frames → g ≢ (frame_at frames i).frame) → ((g == f) && full) ≡ false) → any_of (λ i. ((frame_at frames i).frame == f) && full) (length frames) ≡ full
         by_frame f false none = any_none (λ i. ((frame_at frames i).frame == f) && false) (length frames) (λ i lt. and_right ((frame_at frames i).frame == f) false refl)
         by_frame f true none = elim (named_or (length frames) (λ i. (frame_at frames i).frame) f) [

@@ -1,4 +1,6 @@
--- Slots that pass a test are changed, one after another.
+-- Slots that pass a test are changed, one after another, as in the loops of `SetTable`: `settle_due`, `wait_each`, `trim` and others.
+-- `old` are the slots before a loop, `now` those before a step of it, `new` those after; `Turning` is the loop's invariant, and `Turns`
+-- what it leaves at its end. A set that comes back *settles*: it is kept, or goes. `o` is a slot before that, `n` the same slot after.
 use Rattle.std.proofs.lemmas.Grind.{common_steps}
 use Rattle.std.proofs.Common.{◌≡◌, ◌≢◌, ℕ, zero, suc, ◌+◌, ◌<◌, ◌≤◌, ◌⊎◌, ◌&&◌, nat_lt, Bool, true, false, if◌then◌else◌, List, [], ◌∷◌, length, set, Option, Some, None, ne_eqb, is_some, inl, inr, refl, sym, ap, subst, ◌∙◌, arith, nat_le}
 use Rattle.std.proofs.lemmas.List.{length-set, set-set}
@@ -74,13 +76,16 @@ module _ {T : Type 0} where
 
   -- a set of a slot that is in no list settled
   module _ (generations : ℕ → ℕ) (most : ℕ) (now mid new : List (Slot T)) (p : ℕ) (within : p < length now) (out : (k : ℕ) → is_in k (slot_at now p) ≡ false) (left : mid ≡ with_use p Taken now) (is : new ≡ with_use p (next_use generations most mid p) mid) where
+    -- only the use of its slot changed
     pub settled_set : new ≡ set now p (used_for (next_use generations most mid p) (slot_at now p))
     settled_set = is ∙ ap (λ l. with_use p (next_use generations most mid p) l) left ∙ use_again now p Taken (next_use generations most mid p) within
 
+    -- of sets that settled before it `IsBack` still holds, as no fewer sets of any layout are kept than then
     pub settled_grows : (o n : Slot T) → IsBack (used_for Going) generations most now o n → IsBack (used_for Going) generations most new o n
     settled_grows o n (inl kept) = inl kept
     settled_grows o n (inr goes) = inr (goes.0, λ may. (let a = goes.1 may in let b = kept_grows (o.layout + 2) p now (used_for (next_use generations most mid p) (slot_at now p)) within (out (o.layout + 2)) in let c = ap (count (is_in (o.layout + 2))) settled_set in omega arith))
 
+    -- it is kept if it may be, and else goes
     pub settled_here : IsBack (used_for Going) generations most new (slot_at now p) (used_for (next_use generations most mid p) (slot_at now p))
     settled_here = by_test (may_stay generations most mid (slot_at mid p)) refl
       where
@@ -169,6 +174,7 @@ module _ {T : Type 0} where
     pub here : test (slot_at new p) ≡ false
     pub others : (q : ℕ) → test (slot_at now q) ≡ false → test (slot_at new q) ≡ false
 
+  -- a step of a loop at a place: a slot that passes the test turns, another stays
   module _ (test : Slot T → Bool) (becomes : List (Slot T) → Slot T → Slot T → Type 0) (old now new : List (Slot T)) (p : ℕ) (u : Use) (turning : Turning test becomes old now) (within : p < length now) where
     turn_one : AtIf test p (used_for u) now new → (test (slot_at now p) ≡ true → Turning test becomes old new) → test (used_for u (slot_at now p)) ≡ false → TurnsOne test becomes old now new p
     turn_one is step out = by_test (test (slot_at now p)) refl
@@ -193,6 +199,7 @@ module _ {T : Type 0} where
               others = λ q none. ap (λ l. test (slot_at l q)) all ∙ none;
             }
 
+  -- a step of `settle_each`: a set that a call has settles
   pub settle_one :
       (generations : ℕ → ℕ) (most : ℕ) (old now new : List (Slot T)) (p : ℕ) → Turning is_taken (IsBack (used_for Going) generations most) old now → p < length now
       → AtIf is_taken p (used_for (next_use generations most now p)) now new → TurnsOne is_taken (IsBack (used_for Going) generations most) old now new p
@@ -226,23 +233,26 @@ module _ {T : Type 0} where
           let all : new ≡ with_use p u now = is ∙ ap (λ b. if b then with_use p u now else now) e in
           turn_step test (λ l o n. n ≡ used_for u o) old now new p (used_for u (slot_at now p)) turning within e all (λ o n w. w) (λ o n w. ap test w ∙ out o) refl
 
+  -- a set was picked from a list, or there was none in it, and then no more than so many are
   pub above_of : (k most : ℕ) (r : Option ℕ) (old new : List (Slot T)) → PicksFirst (is_in k) r old new → PicksAbove k most r old new
   above_of k most None old new picks = (let h = none_count (is_in k) old picks.none in omega arith, picks.slots)
   above_of k most (Some p) old new picks = picks
 
-  -- a set in a list is in no other
+  -- a set that goes is in no list of kept sets
   pub going_out : (k : ℕ) (s : Slot T) → 2 ≤ k → is_in k (used_for Going s) ≡ false
   going_out k s two = ap (λ b. b && is_some s.set) (ne_eqb k 1 (λ e. omega arith))
 
   pub stays_same : (a : SetTable T) → Stays a a
   stays_same a = record { settings = record { number = refl; lists = refl; generations = refl; most = refl }; slots = refl; next = refl; frames = refl }
 
+  -- as many slots pass the test, if at each place the slot does as before
   pub count_same : (test : Slot T → Bool) (l m : List (Slot T)) → length m ≡ length l → ((p : ℕ) → test (slot_at m p) ≡ test (slot_at l p)) → count test m ≡ count test l
   count_same test [] [] long same = refl
   count_same test [] (y ∷ m) long same = absurd (omega arith)
   count_same test (x ∷ l) [] long same = absurd (omega arith)
   count_same test (x ∷ l) (y ∷ m) long same = let a = ap bit (same 0) in let h = count_same test l m (omega arith) (λ p. same (suc p)) in omega arith
 
+  -- a set in a list of kept sets is kept
   kept_of : (k : ℕ) (s : Slot T) → 2 ≤ k → is_in k s ≡ true → is_kept s ≡ true
   kept_of k s two e = by_use s.used e
     where

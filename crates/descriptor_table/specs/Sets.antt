@@ -43,6 +43,7 @@ module _ {T : Type 0} where
     abbrev pub is_held : Slots T → SetHandle → Bool
     is_held slots h = is_last slots h && holds (slot_at slots h.place)
 
+    -- the sets by handle, in this frame if one is open
     abbrev pub sets_of : ℕ → Bool → Slots T → Sets T
     sets_of frame opened slots = record { set = find frame opened slots; given = is_given slots }
 

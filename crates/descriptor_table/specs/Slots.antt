@@ -38,6 +38,7 @@ frame_in (Drawn frame) = frame
 frame_in (Waits frame) = frame
 frame_in _ = 0
 
+-- the list of a number, empty if there is none
 abbrev pub chain_at : List Chain → ℕ → Chain
 chain_at chains k = slice_index_or chains k (record { first = 0; count = 0 })
 
@@ -45,6 +46,7 @@ chain_at chains k = slice_index_or chains k (record { first = 0; count = 0 })
 abbrev pub generation_at : List ℕ → ℕ → ℕ
 generation_at generations layout = slice_index_or generations (layout + 2) 0
 
+-- the list of a frame at a place of the lists, empty if there is none
 abbrev pub frame_at : List FrameChain → ℕ → FrameChain
 frame_at frames i = slice_index_or frames i (record { frame = 0; first = 0; count = 0 })
 
@@ -53,15 +55,18 @@ abbrev pub chain_of : List FrameChain → ℕ → Chain
 chain_of [] f = record { first = 0; count = 0 }
 chain_of (c ∷ frames) f = if f == c.frame then record { first = c.first; count = c.count } else chain_of frames f
 
--- how many slots there are, and nexts, and for how many frames there is memory
+-- a table's vectors fit each other: so many slots and nexts there are, and for so many frames there is memory
 pub record AreSized (slots nexts frames : ℕ) : Type 0 where
   pub few : slots < 4294967296
   pub links : nexts ≡ slots
+  -- a frame for each slot, so that a set can wait without an allocation
   pub room : slots ≤ frames
 
--- the lists of frames: none is empty, and later frames come first
+-- what holds of the lists of frames
 pub record HasFrames (frames : List FrameChain) : Type 0 where
+  -- no list is empty
   pub some : (i : ℕ) → i < length frames → 0 < (frame_at frames i).count
+  -- frames fall from list to list
   pub falls : (i j : ℕ) → i < j → j < length frames → (frame_at frames j).frame < (frame_at frames i).frame
 
 -- at most so many sets of a layout are kept
@@ -73,7 +78,7 @@ abbrev pub Slots : Type 0 → Type 0
 Slots T = List (Slot T)
 
 module _ {T : Type 0} where
-  -- the slot at a place. Past the end no set ever was
+  -- the slot at a place, or else the slot past the end, in which no set ever was
   abbrev pub slot_at : Slots T → ℕ → Slot T
   slot_at slots place = slice_index_or slots place (record { generation = 0; layout = 0; layout_generation = 0; used = Taken; leaves = false; set = None })
 

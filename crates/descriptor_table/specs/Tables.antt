@@ -7,10 +7,12 @@ use Rattle.descriptor_table.specs.declared.slot.Use.{Use}
 use Rattle.descriptor_table.specs.declared.slot.Use.TheVariants.{Held, Kept, Going, Taken, Vacant}
 use Rattle.descriptor_table.specs.declared.slot.Slot.{Slot}
 
+-- whether a set in such a use is one that a call has
 abbrev pub is_taken_use : Use → Bool
 is_taken_use Taken = true
 is_taken_use _ = false
 
+-- whether a set in such a use is held
 abbrev pub is_held_use : Use → Bool
 is_held_use Held = true
 is_held_use _ = false
@@ -61,9 +63,11 @@ module _ {T : Type 0} where
   count test [] = 0
   count test (s ∷ slots) = (if test s then 1 else 0) + count test slots
 
+  -- the slots of a table, by place
   abbrev pub slots_of : SetTable T → Slots T
   slots_of t = t.slots.items
 
+  -- how many lists a table has: of slots without a set, of sets that go, and of kept ones by layout
   abbrev pub lists_of : SetTable T → ℕ
   lists_of t = length t.chains.items
 
@@ -83,6 +87,7 @@ module _ {T : Type 0} where
   abbrev pub count_of : ℕ → SetTable T → ℕ
   count_of k t = (chain_at t.chains.items k).count
 
+  -- what a table has besides slots and memory
   abbrev pub settings_of : SetTable T → Settings
   settings_of t = record { number = number_of t; lists = lists_of t; generations = generations_of t; most = most_of t }
 

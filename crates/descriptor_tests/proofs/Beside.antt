@@ -1,4 +1,4 @@
--- Two sessions on one device: what a step of one leaves of the other.
+-- Two sessions on one device: what a step of one leaves of the other, for `Pair`. `x` makes the step, and is `x'` then; `y` is the other.
 use Rattle.std.proofs.Common.{◌≡◌, ℕ, List, [], slice_get, Option, None, Some, refl, sym, ap, ◌∙◌}
 use Rattle.gpu_descriptor_types.specs.Ledger.{Ledger}
 use Rattle.gpu_descriptor.specs.Model.Promises.{IsUntouched}
@@ -36,6 +36,7 @@ module _ (x x' y : Held) (l m : Ledger) (same : others_of pool_id (allocator_of 
       let after = from_others pool_id (allocator_of x) (allocator_of x') l m same e.pool b.0 (λ j i d there. pair.apart j k i n d e there at) b.1 in
       (after.0 ∙ sym b.1, after.1)
 
+  -- so each key of the other is untouched
   keeps : (k : Key) → IsUntouched k (session_state y l) (session_state y m)
   keeps k = record { books = refl; pools = λ n e at. (not_touched k n e at).0 }
 

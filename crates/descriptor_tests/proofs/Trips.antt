@@ -1,4 +1,5 @@
--- What a ledger is after each step of a round trip.
+-- What a ledger is after each step of a round trip: for `round_trip` and `trip`. The ledgers are `l0` before the create, `l1` after it,
+-- `l2` after the sets were put, and `l3` after they were released; `put` are the sets, `name` or `other` is the pool's name.
 use Rattle.std.proofs.Common.{◌≡◌, ℕ, zero, suc, ◌+◌, ◌*◌, ◌-◌, ◌≤◌, List, [], ◌∷◌, ◌++◌, map, length, count_by, sum_by, Bool, true, false, Option, Some, cond, slice_index, replicate, bit_and, refl, sym, ap, ◌∙◌, subst, arith}
 use Rattle.std.specs.Prelude.{IfSome}
 use Rattle.std.proofs.lemmas.List.{length-map}
@@ -31,6 +32,7 @@ can_give l1 counts capacity flags name n layout mark live plain few h = record {
   each_kind = λ sets spelled k. rw (none_spelled sets spelled) (let hk = h k in omega arith);
 }
 
+-- sets that are put under names have these names
 named_sets : (c ns : List ℕ) → map (λ (s : LiveSet). s.name) (live_sets c ns) ≡ ns
 named_sets c [] = refl
 named_sets c (n ∷ ns) = ap (λ l. n ∷ l) (named_sets c ns)

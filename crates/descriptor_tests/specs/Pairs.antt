@@ -37,5 +37,6 @@ pub record ArePaired (x y : Session ScriptLayout RawPool RawSet) (l : Ledger) : 
   pub other : IsReady script_meaning (side y l)
   pub apart : AreApart (session_state x l) (session_state y l)
 
+-- that two sessions are paired has one proof at most, so a struct can keep it as a ghost field
 pub paired-prop : (x y : Session ScriptLayout RawPool RawSet) (l : Ledger) → IsProp (ArePaired x y l)
 paired-prop x y l = Prim.hlevel (Agrees-prop, props)

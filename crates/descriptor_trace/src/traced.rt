@@ -99,6 +99,9 @@ impl<W: Write> DescriptorDevice<ScriptLayout, RawPool, RawSet> for Traced<W> {
             (kinds counts.now) max_sets (bits flags) (pool_id pool) (ledger_of self.old.device)) }
         ensures err { IfErr result (λ e. ledger_of self.new.device
             ≡ after_no_create e (ledger_of self.old.device)) }
+
+        // Above are the trait's clauses, repeated; from here on those of the scripted device: a word
+        // is read, and the pool has the next name.
         ensures reads { ReadsWord create_error result self.old.device self.new.device }
         ensures next_name { IfOk result (λ pool. pool_id pool
             ≡ (names_given self.old.device).pools) }
@@ -106,6 +109,8 @@ impl<W: Write> DescriptorDevice<ScriptLayout, RawPool, RawSet> for Traced<W> {
             ≡ record (names_given self.old.device)
             { pools = (names_given self.old.device).pools + 1 }) }
         ensures unnamed { OnErr result (names_given self.new.device ≡ names_given self.old.device) }
+
+        // The device's own: the call is written down, whether it is granted or refused.
         ensures written { WritesDown W.contents self.old self.new
             (says.create_line max_sets (bits flags) (kinds counts.now) result) }
     {
@@ -120,6 +125,8 @@ impl<W: Write> DescriptorDevice<ScriptLayout, RawPool, RawSet> for Traced<W> {
         requires { HasNoSets (pool_id pool) (ledger_of self.old.device) }
         ensures ledger { ledger_of self.new.device
             ≡ after_destroy (pool_id pool) (ledger_of self.old.device) }
+
+        // Besides the trait's: no word is read, and no name is given; and the call is written down.
         ensures reads { ReadsNone self.old.device self.new.device }
         ensures written { WritesDown W.contents self.old self.new
             (says.destroy_line (pool_id pool)) }
@@ -145,8 +152,13 @@ impl<W: Write> DescriptorDevice<ScriptLayout, RawPool, RawSet> for Traced<W> {
             (ledger_of self.new.device)) }
         ensures err { IfErr result (λ e. PutsNone K.sink (pool_id pool.old) e sets.old sets.new
             (ledger_of self.old.device) (ledger_of self.new.device)) }
+
+        // Above are the trait's clauses, repeated; from here on those of the scripted device: a word
+        // is read, and no pool is named.
         ensures reads { ReadsWord alloc_error result self.old.device self.new.device }
         ensures pools { (names_given self.new.device).pools ≡ (names_given self.old.device).pools }
+
+        // The device's own: the call is written down, whether it is granted or refused.
         ensures written { WritesDown W.contents self.old self.new
             (says.alloc_line (pool_id pool.old) (left layouts.entry) (layout layouts.entry).mark
             (kinds (layout layouts.entry).counts) result) }
@@ -170,6 +182,8 @@ impl<W: Write> DescriptorDevice<ScriptLayout, RawPool, RawSet> for Traced<W> {
         ensures name { pool_id pool.new ≡ pool_id pool.old }
         ensures released { Releases I.next_gives set_id (pool_id pool.old) sets.old sets.new
             (ledger_of self.old.device) (ledger_of self.new.device) }
+
+        // Besides the trait's: no word is read, and no name is given; and the call is written down.
         ensures reads { ReadsNone self.old.device self.new.device }
         ensures written { WritesRelease W.contents I.next_gives (pool_id pool.old) sets.old
             sets.new self.old self.new }
@@ -197,6 +211,8 @@ impl<W: Write> LineDevice for Traced<W> {
     fn hear(&mut self, line: &[u8])
         ensures ledger { ledger_of self.new.device ≡ ledger_of self.old.device }
         ensures script { script_of self.new.device ≡ script_of self.old.device }
+
+        // The device's own, besides the trait's: the line is written down before its calls.
         ensures written { WritesDown W.contents self.old self.new (says.input_line line.now) }
     {
         let is_written = !self.has_lost
@@ -215,6 +231,8 @@ impl<W: Write> LineDevice for Traced<W> {
     fn load(&mut self, words: Vec<Answer>)
         ensures script { script_of self.new.device ≡ words.items }
         ensures ledger { ledger_of self.new.device ≡ ledger_of self.old.device }
+
+        // The device's own, besides the trait's: names and output stay.
         ensures names { names_given self.new.device ≡ names_given self.old.device }
         ensures output { self.new.output ≡ self.old.output }
         ensures lost { self.new.has_lost ≡ self.old.has_lost }

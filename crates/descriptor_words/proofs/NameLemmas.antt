@@ -1,4 +1,4 @@
--- A name is text.
+-- A name is text: all its bytes are ASCII, so they are UTF-8. For the function `name`.
 use Rattle.std.proofs.Common.{◌≡◌, ℕ, ◌<◌, ◌≤◌, ◌⊎◌, true, List, length, get_or, nat_le, ◌&&◌, inl, inr, arith}
 use Rattle.std.proofs.lemmas.Grind.{common_steps}
 use Rattle.std.specs.List.{list_all}

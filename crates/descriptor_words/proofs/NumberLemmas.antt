@@ -1,4 +1,4 @@
--- The value of a number, digit by digit.
+-- The value of a number, digit by digit: for the loop of `number_within`.
 use Rattle.std.proofs.Common.{◌≡◌, ℕ, ◌+◌, ◌-◌, ◌*◌, ◌<◌, true, List, None, length, take, get_or, nat_le, ◌&&◌, arith, ap, ◌∙◌}
 use Rattle.std.specs.Char.{IsAsciiDigit, digit_value, is_ascii_digit}
 use Rattle.std.specs.List.{list_all}

@@ -1,4 +1,4 @@
--- The first word of a line, and the others; and a word whose bytes are known one by one.
+-- The first word of a line, and the others, for the iterator `Words`; and a word whose bytes are known one by one, for the keywords.
 use Rattle.std.proofs.Common.{◌≡◌, ℕ, ◌+◌, ◌<◌, ◌≤◌, ◌⊎◌, inl, inr, true, false, List, [], ◌∷◌, length, take, drop, get_or, slice_index, filter, unwrap_or, position, length-take, refl, arith, ap, sym, ◌∙◌}
 use Rattle.std.specs.List.{position_or_len, slice_split}
 use Rattle.std.proofs.lemmas.Bool.{cases_lt}
@@ -11,6 +11,7 @@ use Rattle.descriptor_words.specs.Words.{words, is_blank, has_bytes}
 words-blank : (byte : ℕ) (line : List ℕ) → is_blank byte ≡ true → words (byte ∷ line) ≡ words line
 words-blank byte line blank = simp blank
 
+-- a piece that isn't empty is a word
 filter-piece : (piece : List ℕ) (pieces : List (List ℕ)) → 0 < length piece → filter has_bytes (piece ∷ pieces) ≡ piece ∷ filter has_bytes pieces
 filter-piece [] pieces some = elim some [ ]
 filter-piece (byte ∷ bytes) pieces some = refl
@@ -30,6 +31,7 @@ words_last line some ends =
     let whole : slice_split is_blank line ≡ line ∷ [] = slice_split_none is_blank line (λ k d inside. fails_before_first is_blank line k d (omega arith)) in
     ap (filter has_bytes) whole ∙ filter-piece line [] some ∙ rw (take_all end line ends, drop_all end line ends)
 
+-- a line that begins with no blank has a word before its first blank
 begins_some : (line : List ℕ) → 0 < length line → is_blank (slice_index line 0) ≡ false → 0 < position_or_len is_blank line
 begins_some [] some begins = elim some [ ]
 begins_some (byte ∷ line) some begins = simp begins (omega arith)
@@ -38,6 +40,7 @@ words_first_by : (line : List ℕ) → 0 < length line → is_blank (slice_index
 words_first_by line some begins (inl ends) = words_before line ends (begins_some line some begins)
 words_first_by line some begins (inr ends) = words_last line some ends
 
+-- so the first word is what is before the first blank, and the others are those of the rest
 pub words_first : (line : List ℕ) → 0 < length line → is_blank (slice_index line 0) ≡ false → let end = position_or_len is_blank line in words line ≡ take end line ∷ words (drop end line)
 words_first line some begins = words_first_by line some begins (cases_lt _ _)
 

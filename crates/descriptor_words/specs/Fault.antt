@@ -5,6 +5,7 @@ use Rattle.descriptor_words.specs.declared.fault.Fault.TheVariants.{LineTooLong,
 use Rattle.descriptor_words.specs.declared.fault.Refusal.{Refusal}
 use Rattle.descriptor_words.specs.declared.fault.Refusal.TheVariants as refusal
 
+-- what the output says of a fault
 abbrev pub words_of_fault : Fault → List ℕ
 words_of_fault LineTooLong = codes "line too long"
 words_of_fault UnknownCommand = codes "unknown command"

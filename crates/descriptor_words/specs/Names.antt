@@ -14,5 +14,6 @@ is_name_byte byte = is_ascii_alphanumeric byte || byte == 95 || byte == 45
 unfoldable pub is_name : List ℕ → Bool
 is_name word = nat_le 1 (length word) && nat_le (length word) 32 && list_all is_name_byte word
 
+-- the name that a word is, or the fault that it is none
 abbrev pub name_in : List ℕ → Result (List ℕ) Fault
 name_in word = ok_or (then_some (is_name word) word) BadName

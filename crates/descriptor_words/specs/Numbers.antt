@@ -20,5 +20,6 @@ unfoldable pub number_within : ℕ → List ℕ → Option ℕ
 number_within greatest word =
     then_some (is_number word && nat_le (value_of word) greatest) (value_of word)
 
+-- the number that a word writes, if it is at most `greatest`, or the fault that it writes none
 abbrev pub number_in : ℕ → List ℕ → Result ℕ Fault
 number_in greatest word = ok_or (number_within greatest word) BadNumber

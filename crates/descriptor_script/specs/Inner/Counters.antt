@@ -2,6 +2,7 @@
 use Rattle.descriptor_script.specs.declared.counters.Counters.{Counters}
 use Rattle.gpu_descriptor_types.specs.Ledger as ledger
 
+-- the counters as the ledger has them: how often each was raised
 abbrev pub counters_of : Counters → ledger.Counters
 counters_of n = record {
   created = n.created.tally.count;

@@ -11,6 +11,7 @@ use Rattle.descriptor_script.specs.declared.raw.RawSet.{RawSet}
 abbrev pub live_set_of : ℕ × DescriptorTotalCount → LiveSet
 live_set_of e = record { name = e.0; counts = kinds e.1 }
 
+-- the sets of a table's entries
 abbrev pub live_sets_of : List (ℕ × DescriptorTotalCount) → List LiveSet
 live_sets_of entries = map live_set_of entries
 

@@ -5,9 +5,11 @@ use Rattle.descriptor_script.specs.Scripted.Raw.{Names}
 use Rattle.descriptor_script.specs.Inner.Table.{pools_in}
 use Rattle.descriptor_script.specs.declared.pools.Pools.{Pools}
 
+-- the live pools by name, as the ledger has them
 abbrev pub pools_of : Pools → ℕ → Option Pool
 pools_of p = pools_in p.live
 
+-- the names of the pool and of the set that come next
 abbrev pub next_names : Pools → Names
 next_names p = record { pools = p.next_pool; sets = p.next_set }
 

@@ -4,6 +4,7 @@ use Rattle.gpu_descriptor.specs.declared.set.DescriptorSet.{DescriptorSet}
 use Rattle.descriptor_script.specs.declared.slots.Slots.{Slots}
 
 module _ {S : Type 0} where
+  -- for each ticket its set, if that is held
   abbrev pub slots_of : Slots S → List (Option (DescriptorSet S))
   slots_of s = s.sets.items
 

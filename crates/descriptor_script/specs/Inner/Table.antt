@@ -19,6 +19,7 @@ has_set n None = false
 has_set n (Some p) = is_some (get nat_eq p.sets n)
 
 module _ {S : Type 0} (live : IndexMap ℕ LivePool S) where
+  -- the pools of the table by name, as the ledger shows them
   abbrev pub pools_in : ℕ → Option Pool
   pools_in q = option_map seen (get nat_eq live q)
 

@@ -10,6 +10,7 @@ use Rattle.descriptor_script.specs.declared.answer.Answer.{Answer}
 use Rattle.descriptor_script.specs.declared.answer.Answer.TheVariants.{Ok}
 use Rattle.descriptor_script.specs.declared.device.ScriptedDevice.{ScriptedDevice}
 
+-- the ledger of a device: its pools and its counters
 abbrev pub ledger_of : ScriptedDevice → Ledger
 ledger_of d = owed d.pools (counters_of d.counters)
 

@@ -10,6 +10,7 @@ use Rattle.descriptor_script.specs.declared.log.Call.{Call}
 use Rattle.descriptor_script.specs.declared.log.Call.TheVariants.{Release}
 use Rattle.descriptor_script.specs.declared.log_device.LogDevice.{LogDevice}
 
+-- the ledger of the scripted device in it
 abbrev pub ledger_logged : LogDevice → Ledger
 ledger_logged d = ledger_of d.device
 

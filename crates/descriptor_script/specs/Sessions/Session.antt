@@ -23,6 +23,7 @@ module _ {L P S : Type 0} where
   abbrev pub allocator_on : Side (Session L P S) → Side (Allocations P)
   allocator_on s = side (allocator_of s.value) s.ledger
 
+  -- the layouts of a session, which commands name by their places
   abbrev pub layouts_of : Session L P S → List (SetLayout L)
   layouts_of s = s.layouts.items
 

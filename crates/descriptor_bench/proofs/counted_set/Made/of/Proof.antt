@@ -1,3 +1,4 @@
+-- The proof of `Made::of` by hand, since no body of a function can write ghost data down.
 use Rattle.descriptor_bench.specs.contracts.counted_set.Made as made
 use mathlib.Core.Path.{refl}
 use mathlib.Core.List.{[], ◌∷◌}
