@@ -84,6 +84,7 @@ impl<P> DescriptorBucket<P> {
     }
 }
 
+/// The number of the next pool after these: the newest's plus 1, or 0 if there is none.
 fn next_number_of<P>(pools: &VecDeque<DescriptorPool<P>>) -> u64
     requires { number_after (stored_numbers pools.now.items) < 2 ^ 64 }
     ensures { result ≡ number_after (stored_numbers pools.now.items) }
@@ -94,6 +95,7 @@ fn next_number_of<P>(pools: &VecDeque<DescriptorPool<P>>) -> u64
     }
 }
 
+/// The ordinal of the first of these pools: the number of the next one less how many there are.
 fn first_ordinal_of<P>(pools: &VecDeque<DescriptorPool<P>>) -> u64
     requires numbered { number_after (stored_numbers pools.now.items) < 2 ^ 64 }
     requires rising { rises (stored_numbers pools.now.items) ≡ true }

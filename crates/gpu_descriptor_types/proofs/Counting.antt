@@ -1,4 +1,5 @@
 -- Lists seen through how often each element stands in them.
+-- For lists of items and of live sets, in both crates: count_by (λ y. eq y x) is how often x is there, if the test eq is exact.
 use Rattle.std.proofs.Common.{◌≡◌, suc, ◌+◌, ◌<◌, ◌≤◌, Bool, true, false, ltb, ◌==◌, List, [], ◌∷◌, ◌++◌, length, count_by, inl, inr, refl, sym, ap, ◌∙◌, arith, eqb-true, eq-eqb, nat_eq, lt_of_lt_of_le, le_of_eq, lt-ltb}
 use Rattle.std.specs.List.{list_any}
 use Rattle.std.proofs.lemmas.Bool.{cases_Bool, and_parts, and_from, or_left, or_right, or_cases}
@@ -19,6 +20,7 @@ pub record IsExact {A : Type 0} (eq : A → A → Bool) : Type 0 where
   pub same : (a b : A) → eq a b ≡ true → a ≡ b
   pub self : (a : A) → eq a a ≡ true
 
+-- live sets are the same exactly if their names and counts are
 pub set_exact : IsExact set_eq
 set_exact = record {
   same = λ a b h.
@@ -29,6 +31,7 @@ set_exact = record {
   self = λ a. and_from _ _ (eq-eqb a.name a.name refl) ((pointwise_decides Decides-eqb a.counts a.counts).1 refl);
 }
 
+-- an element in front that passes counts one more; one that doesn't (`count_by_no`) counts nothing
 pub count_by_yes : {A : Type 0} (p : A → Bool) (x : A) (xs : List A) → p x ≡ true → count_by p (x ∷ xs) ≡ suc (count_by p xs)
 count_by_yes p x xs h = sym (length-filter p (x ∷ xs)) ∙ rw h (ap suc (length-filter p xs))
 
@@ -150,6 +153,7 @@ any_from {A} {eq} exact p (y ∷ xs) x lt h = elim (cases_Bool (eq y x)) [
       or_right (p y) (list_any p xs) (any_from exact p xs x (omega arith) h))
 ]
 
+-- and what a test finds is in the list
 pub any_found : {A : Type 0} {eq : A → A → Bool} → IsExact eq → (p : A → Bool) (xs : List A) → list_any p xs ≡ true → (x : A) × (0 < count_by (λ y. eq y x) xs) × (p x ≡ true)
 any_found exact p [] h = absurd (let bad : true ≡ false = sym h in cc)
 any_found {A} {eq} exact p (y ∷ xs) h = elim (or_cases (p y) (list_any p xs) h) [

@@ -1,4 +1,5 @@
 -- Least powers of two.
+-- For `rounded_up` and for Sizes: power is the least power of two that is not below start, and size is what start is rounded up to.
 use Rattle.std.proofs.Common.{◌≡◌, ℕ, zero, suc, ◌*◌, ◌^◌, ◌<◌, ◌≤◌, inl, inr, arith, refl, ap, Bool, true, false, Option, Some, None, MatchOption, unwrap_or}
 use Rattle.std.specs.Prelude.{nat_le, min}
 use Rattle.std.specs.Int.{IsNextPowerOfTwo}

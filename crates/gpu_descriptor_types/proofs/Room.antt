@@ -1,4 +1,5 @@
 -- How many of a pool's sets the room for descriptors lets it have, and a bound on its descriptors.
+-- For `cut_pool_size` and `next_size`. A set has each descriptors; the pool would have whole sets, and has sets of them.
 use Rattle.std.proofs.Common.{◌≡◌, ℕ, ◌+◌, ◌-◌, ◌*◌, ◌/◌, ◌≤◌, ◌<◌, ◌==◌, max, min, Option, None, Some, inl, inr, refl, ap, ◌∙◌, arith, eqb-true}
 use Rattle.std.proofs.Math.Nat.{div-mul-le_self, mul-le-mul_right}
 use Rattle.std.proofs.lemmas.Nat.{le-div}
@@ -11,6 +12,7 @@ few_in_room room each whole = elim (cases_Bool (each == 0)) [
   | inr some ↦ rw some (omega arith)
 ]
 
+-- the descriptors of these sets are within the room
 pub fits_in_room : (room each whole sets : ℕ) → sets ≡ sets_in_room room each whole → 1 ≤ sets → max 1 (sets * each) ≤ room
 fits_in_room room each whole sets is one = elim (cases_Bool (each == 0)) [
   | inl none ↦ elim (cases_Bool (room == 0)) [
@@ -34,6 +36,7 @@ fits_in_room room each whole sets is one = elim (cases_Bool (each == 0)) [
 times_more : (n m : ℕ) → (n + 1) * m ≡ n * m + m
 times_more n m = grind arith
 
+-- if one set more would fit, none was cut off
 pub whole_in_room : (room each whole sets : ℕ) → sets ≡ sets_in_room room each whole → 1 ≤ sets → max 1 (1 * each) ≤ room - max 1 (sets * each) → sets ≡ whole
 whole_in_room room each whole sets is one more = elim (cases_Bool (each == 0)) [
   | inl none ↦ elim (cases_Bool (room == 0)) [

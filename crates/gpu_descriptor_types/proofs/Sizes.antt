@@ -1,4 +1,4 @@
--- What the size of a new pool keeps.
+-- What the size of a new pool keeps: for `new_pool_size` and `cut_pool_size`, and for the new pools of a request.
 use Rattle.std.proofs.Common.{◌≡◌, ℕ, ◌*◌, ◌/◌, ◌^◌, ◌<◌, ◌≤◌, max, min, List, length, map, slice_index_or, sym, ap, subst, ◌∙◌, arith}
 use Rattle.std.specs.Prelude.{fold, if◌then◌else◌, nat_le}
 use Rattle.std.proofs.Math.Nat.{mul-div-le, div-mul-le_self, mul-le-mul_left, mul-le-mul_right}

@@ -2,13 +2,15 @@
 use Rattle.std.specs.Prelude.{◌≡◌, ℕ, ◌+◌, Bool, if◌then◌else◌, bit_and}
 use Rattle.gpu_descriptor_types.specs.declared.flags.DescriptorPoolCreateFlags.{DescriptorPoolCreateFlags}
 
+-- the number of a value of flags
 abbrev pub bits : DescriptorPoolCreateFlags → ℕ
 bits flags = flags.0
 
--- the bits
+-- the bit of a pool whose sets may be freed singly
 abbrev pub free_descriptor_set : ℕ
 free_descriptor_set = 1
 
+-- the bit of a pool for sets of marked layouts
 abbrev pub update_after_bind : ℕ
 update_after_bind = 2
 

@@ -50,6 +50,7 @@ on_pool name f pools = update nat_eq pools name (option_map f (pools name))
 abbrev pub fresh : List ℕ → ℕ → ℕ → Pool
 fresh counts capacity flags = record { counts = counts; capacity = capacity; flags = flags; refusals = 0; live = λ _. 0 }
 
+-- a pool of these counts, this capacity and these flags was created, under this name
 abbrev pub after_create : List ℕ → ℕ → ℕ → ℕ → Ledger → Ledger
 after_create counts capacity flags name l = record {
   pools = update nat_eq l.pools name (Some (fresh counts capacity flags));
@@ -62,9 +63,11 @@ create_refused OutOfDeviceMemory n = record n { device_memory = n.device_memory 
 create_refused OutOfHostMemory n = record n { host_memory = n.host_memory + 1 }
 create_refused Fragmentation n = record n { fragmentation = n.fragmentation + 1 }
 
+-- a create was refused: no pool changes
 abbrev pub after_no_create : CreatePoolError → Ledger → Ledger
 after_no_create e l = record { pools = l.pools; counters = create_refused e l.counters }
 
+-- the pool of this name was destroyed
 abbrev pub after_destroy : ℕ → Ledger → Ledger
 after_destroy name l = record {
   pools = update nat_eq l.pools name None;
@@ -75,6 +78,7 @@ after_destroy name l = record {
 abbrev pub live_sets : List ℕ → List ℕ → List LiveSet
 live_sets counts names = map (λ n. record { name = n; counts = counts }) names
 
+-- the pool of this name was asked and gave these sets
 abbrev pub after_alloc : ℕ → List LiveSet → Ledger → Ledger
 after_alloc name sets l = record {
   pools = on_pool name (λ pool. record pool { live = λ x. pool.live x + times sets x }) l.pools;
@@ -95,12 +99,14 @@ pool_refusals alloc_error.OutOfHostMemory = 0
 pool_refusals alloc_error.FragmentedPool = 1
 pool_refusals alloc_error.OutOfPoolMemory = 1
 
+-- the pool of this name was asked and refused, which counts among its refusals if it was as fragmented or full
 abbrev pub after_no_alloc : ℕ → DeviceAllocationError → Ledger → Ledger
 after_no_alloc name e l = record {
   pools = on_pool name (λ pool. record pool { refusals = pool.refusals + pool_refusals e }) l.pools;
   counters = alloc_refused e l.counters;
 }
 
+-- these sets left the pool of this name, in one call
 abbrev pub after_release : ℕ → List LiveSet → Ledger → Ledger
 after_release name gone l = record {
   pools = on_pool name (λ pool. record pool { live = λ x. pool.live x - times gone x }) l.pools;
@@ -109,6 +115,7 @@ after_release name gone l = record {
 
 -- ---- what each call requires
 
+-- the pool of this name is live and has no live set, so it may be destroyed
 pub record HasNoSets (name : ℕ) (l : Ledger) : Type 0 where
   pub pool : Pool
   pub is_live : l.pools name ≡ Some pool
@@ -118,9 +125,11 @@ pub record HasNoSets (name : ℕ) (l : Ledger) : Type 0 where
 pub record CanGive (name n : ℕ) (counts : List ℕ) (mark : Bool) (l : Ledger) : Type 0 where
   pub pool : Pool
   pub is_live : l.pools name ≡ Some pool
+  -- for sets of a marked layout the pool has the flag
   pub marked : IsTrue mark → IsUpdateAfterBind pool.flags
   -- whatever list spells the live sets; if none does, nothing is required
   pub places : (sets : List LiveSet) → Spells sets pool.live → length sets + n ≤ pool.capacity
+  -- the pool has the descriptors of each kind that these and n more sets have
   pub each_kind : (sets : List LiveSet) → Spells sets pool.live → (k : ℕ) → sum_by (λ s. slice_index s.counts k) sets + n * slice_index counts k ≤ slice_index pool.counts k
 
 -- the next item may be asked for, up to the end, which comes
@@ -141,6 +150,7 @@ pub record AreLive (name : ℕ) (names : List ℕ) (l : Ledger) : Type 0 where
 
 -- what a sink shows of itself
 pub record Sink (K S X : Type 0) : Type 0 where
+  -- what it kept of the sets that were put, in order; what it would keep of a set; and how many more sets fit
   pub kept : K → List X
   pub kept_as : K → S → X
   pub room : K → ℕ
@@ -155,7 +165,9 @@ module _ {K S X : Type 0} (sink : Sink K S X) where
   pub record Puts {L P : Type 0} (means : Meaning L P S) (layout : L) (name n : ℕ) (old new : K) (before after : Ledger) : Type 0 where
     pub sets : List S
     pub many : length sets ≡ n
+    -- each was made with the layout
     pub own : All (IsOfLayout means layout) sets
+    -- they come after what the sink had, it keeps further sets in the same way, and has room for as many fewer
     pub kept : sink.kept new ≡ sink.kept old ++ map (sink.kept_as old) sets
     pub alike : sink.kept_as new ≡ sink.kept_as old
     pub room : sink.room new + n ≡ sink.room old
@@ -173,6 +185,7 @@ pub record Releases {I S : Type 0} (steps : I → Option S → I → Type 0) (se
   pub items : List S
   pub drained : YieldsThen steps old items None new
   pub gone : List LiveSet
+  -- these live sets have the names of the items. If a name is live with two counts, the device chose
   pub named : map (λ s. s.name) gone ≡ map set_name items
   pub live : IfSome (before.pools name) (λ pool. AreIn gone pool.live)
   pub ledger : after ≡ after_release name gone before

@@ -7,6 +7,7 @@ pub record LiveSet : Type 0 where
   pub name : ℕ
   pub counts : List ℕ
 
+-- whether two live sets have the same name and the same counts
 abbrev pub set_eq : LiveSet → LiveSet → Bool
 set_eq x y = (x.name == y.name) && pointwise nat_eq x.counts y.counts
 

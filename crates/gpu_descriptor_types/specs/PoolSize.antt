@@ -40,6 +40,7 @@ sets_of_kind count = greatest_u32 / max 1 count
 pub record IsPoolSize (counts : List ℕ) (total wanted sets : ℕ) : Type 0 where
   pub start : ℕ
   pub rounded : IsRounded (start_size total wanted) start
+  -- the start rounded up, but no more than keep the count of each kind within 32 bits
   pub is_least : sets ≡ fold min start (map sets_of_kind counts)
 
 -- how many of so many sets a pool may hold if room is left for so many descriptors, of which each set has as many as each says. Sets without descriptors all fit, if there is room for one descriptor
@@ -48,6 +49,7 @@ sets_in_room room each sets = if each == 0 then (if room == 0 then 0 else sets) 
 
 -- the size of a new pool, cut to the room for its descriptors
 pub record IsCutSize (counts : List ℕ) (room total wanted sets : ℕ) : Type 0 where
+  -- its size without a cut
   pub whole : ℕ
   pub is_whole : IsPoolSize counts total wanted whole
   pub cut : sets ≡ sets_in_room room (sum counts) whole

@@ -6,5 +6,6 @@ pub record Side (X : Type 0) : Type 0 where
   pub value : X
   pub ledger : Ledger
 
+-- a value and a ledger, as a side
 abbrev pub side : {X : Type 0} → X → Ledger → Side X
 side value ledger = record { value = value; ledger = ledger }

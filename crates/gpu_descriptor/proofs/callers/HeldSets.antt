@@ -26,6 +26,7 @@ module _ {S : Type 0} (name : S → ℕ) where
   pub count_parts : (xs ys : List (DescriptorSet S)) (u : Item) → count_of u (items_of name (xs ++ ys)) ≡ count_of u (items_of name xs) + count_of u (items_of name ys)
   count_parts xs ys u = ap (count_of u) (map-append (λ (x : DescriptorSet S). item_of name x) xs ys) ∙ count_of-append u (items_of name xs) (items_of name ys)
 
+  -- held sets are outstanding still: with those that came, after a call that leaves them, in parts, in another order
   pub out_more : (xs ys : List (DescriptorSet S)) (s t : State) → AreOutstanding (items_of name xs) s → AreOutBesides (items_of name ys) s t → AreOutstanding (items_of name (xs ++ ys)) t
   out_more xs ys s t out added u = (let a = count_parts xs ys u in let b = out u in let c = added u in omega arith)
 

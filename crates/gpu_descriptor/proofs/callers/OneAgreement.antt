@@ -8,6 +8,7 @@ booked_prop k pool e = Prim.hlevel props
 name_set : (o p : Option Pool) → IsProp (o ≡ p)
 name_set o p = Prim.hlevel props
 
+-- an entry has one pool in the ledger, with one proof that it is as booked
 found_prop : (k : Key) (o : Option Pool) (e : Entry) → IsProp ((pool : Pool) × (o ≡ Some pool) × IsAsBooked k pool e)
 found_prop k o e x y =
     let both : ◌≡◌ {A = Option Pool} (Some x.0) (Some y.0) = sym x.1 ∙ y.1 in

@@ -1,4 +1,5 @@
 -- Cleaning up and trimming: each key loses empty pools.
+-- For `sweep` and `laws::clean_again`. t is the state that a cleanup or a trim leaves of s, and u what the same leaves of t.
 use Rattle.gpu_descriptor.proofs.Common.{if◌then◌else◌, ◌≡◌, ℕ, suc, ◌==◌, ◌<◌, Bool, true, false, List, [], ◌∷◌, length, count_by, slice_get, Option, Some, None, inl, inr, refl, sym, ap, ◌∙◌, subst, arith, eq-eqb, ne_eqb, ∥∥₁_elim, props, list_any, cases_eq, false_from_ne_true, sum_by-cons}
 use Rattle.gpu_descriptor.proofs.Common.{set_of, Item, State, live_in, outstanding, HasSize, Agree, HasNoPools, live_at, Key, key_eq, Entry, Bucket, entry_at, no_pools, LiveSet, set_eq, set_exact, count_by_yes, common_steps, LosesEmpty, are_named, gone_of, left_of, pools_lost, with_pools}
 use Rattle.gpu_descriptor.proofs.Common.{is_empty, rises, numbers_of}
@@ -44,6 +45,7 @@ module _ (everywhere : Bool) where
   pub pools_left : (s t : State) → LosesEmpty everywhere s t → (k : Key) → (t.books k).pools ≡ left s k
   pools_left s t less k = ap (λ (b : Bucket). b.pools) (less.books k) ∙ pools_with (s.books k) (left s k)
 
+  -- a second time nothing changes, and no pool goes
   pub again : (s t u : State) → LosesEmpty everywhere s t → LosesEmpty everywhere t u → u ≡ t
   again s t u first second =
       let none : (k : Key) → gone t k ≡ [] = λ k. ap (gone_of everywhere) (pools_left s t first k) ∙ gone_twice everywhere (s.books k).pools in
@@ -56,6 +58,7 @@ module _ (everywhere : Bool) where
   again_none [] s t less = refl
   again_none (k ∷ keys) s t less = grind (arith, common_steps, gone, gone_twice, pools_left, sum_by-cons, (again_none keys s t less))
 
+  -- with no set outstanding no key has a pool left, and no pool of the books is live
   pub nothing_left : (s t : State) → Agree s → ((i : Item) → outstanding s i ≡ 0) → LosesEmpty everywhere s t → (k : Key) → t.books k ≡ no_pools
   nothing_left s t agree nothing less k = less.books k ∙ ap (with_pools (s.books k)) (all_go everywhere (s.books k).pools (all_empty s agree nothing k))
 
@@ -98,6 +101,7 @@ module _ (everywhere : Bool) where
       let here : slice_get (gone s k) g.0 ≡ Some g.1 = subst (λ (x : Key). slice_get (gone s x) g.0 ≡ Some g.1) same.0 g.2 in
       apart (s.books k).pools (left s k) (gone s k) (split everywhere (s.books k).pools) (λ i j d e a b same. (agree.distinct k k i j d e a b same).1) i g.0 e g.1 was.2 here (sym g.3)))
 
+  -- books and ledger agree afterwards, and the same sets are outstanding (`takes_none`)
   pub clean_agrees : (s t : State) → Agree s → LosesEmpty everywhere s t → Agree t
   clean_agrees s t agree less = record {
     distinct = λ k l i j d e at at' same.

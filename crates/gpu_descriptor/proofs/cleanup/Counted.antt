@@ -5,6 +5,7 @@ use Rattle.gpu_descriptor.proofs.release.Fronts.{less-less, spent_front-less}
 use Rattle.gpu_descriptor.proofs.release.Places.{back}
 use Rattle.gpu_descriptor.proofs.release.Parts.{trimmed_if, names_key, quiet_key, back_still}
 
+-- of one key, which each part names or not
 count_law : (first second : Bool) (f g : ℕ → ℕ) (b : Bucket) → (second ≡ false → bucket_less (λ p. f p + g p) b ≡ bucket_less f b)
     → (if first then spent_front (bucket_less f b) else 0) + (if second then spent_front (bucket_less g (trimmed_if first (bucket_less f b))) else 0) ≡ (if first || second then spent_front (bucket_less (λ p. f p + g p) b) else 0)
 count_law true true f g b quiet = sym (ap spent_front (sym (less-less f g b)) ∙ spent_front-less g (bucket_less f b))
@@ -16,6 +17,7 @@ sum_both : (f g h : Key → ℕ) → ((k : Key) → f k + g k ≡ h k) → (keys
 sum_both f g h each [] = omega arith
 sum_both f g h each (k ∷ keys) = grind (arith, common_steps, (sum_both f g h each keys))
 
+-- of all keys: those that go with the first part and those that go with the second are those of both
 pub gone : (keys : List Key) (m n : List Item) (s : State) → Agree s → AreOutstanding (m ++ n) s → pools_gone keys m s + pools_gone keys n (released m s) ≡ pools_gone keys (m ++ n) s
 gone keys m n s agree out =
     let u = released m s in

@@ -1,4 +1,6 @@
 -- Pools are taken from the front, one after another: an empty one is destroyed, and any other goes to the back.
+-- For `destroy_without_sets`, the loop of a trim. old are the pools before it, now those after n were taken, and x is the next; after
+-- the last one the pools with sets are left, in their order (`end`).
 use Rattle.gpu_descriptor.proofs.Common.{common_steps, ◌≡◌, ℕ, suc, ◌+◌, ◌<◌, ◌≤◌, Bool, true, false, nat_lt, List, [], ◌∷◌, ◌++◌, length, take, drop, map, filter, slice_get, Some, None, inl, inr, refl, sym, ap, ◌∙◌, subst, arith, eq-eqb, ne_eqb, lt-ltb, ltb-false, sum_by, cases_Bool, append-nil}
 use Rattle.gpu_descriptor.proofs.Common.{append_assoc, length-append, map-append, list_any-append, if◌then◌else◌, take_all, drop_all, Ledger, HasNoSets, after_destroy, DescriptorPool, Key, Entry, AreBookedIn, ledger_but, are_named, gone_of, is_empty, entry_of, has_sets, more_destroyed}
 use Rattle.std.proofs.lemmas.List.Elements.{filter-append}
@@ -24,12 +26,14 @@ module _ {P : Type 0} (name : P → ℕ) (k : Key) where
       refl_but = (let same : l.counters.destroyed ≡ l.counters.destroyed + 0 = omega arith in λ i. record { pools = l.pools; counters = record l.counters { destroyed = same i } })
 
   module _ (old now : List (DescriptorPool P)) (n : ℕ) (before after : Ledger) (turned : Turning old now n before after) (x : DescriptorPool P) (at : slice_get old n ≡ Some x) where
+    -- the next pool is the first, and is in the ledger as the books say
     pub first : now ≡ x ∷ (drop (suc n) old ++ filter has_sets (take n old))
     first = turned.pools ∙ ap (λ l. l ++ filter has_sets (take n old)) (drop_at old n x at)
 
     next_stored : AreBookedIn k after.pools (entry_of name x ∷ entries (drop (suc n) old))
     next_stored = (let is : entries (drop n old) ≡ entry_of name x ∷ entries (drop (suc n) old) = ap entries (drop_at old n x at) in subst (λ l. AreBookedIn k after.pools l) is turned.stored)
 
+    -- with this pool: those that stay, and those that go
     kept_more : (b : Bool) → has_sets x ≡ b → filter has_sets (take (suc n) old) ≡ filter has_sets (take n old) ++ (if b then x ∷ [] else [])
     kept_more b is = ap (filter has_sets) (take_get old n x at) ∙ filter-append has_sets (take n old) (x ∷ []) ∙ ap (λ l. filter has_sets (take n old) ++ l) (one b is)
       where

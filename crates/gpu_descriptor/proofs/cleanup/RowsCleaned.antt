@@ -1,4 +1,6 @@
 -- Cleaning up and trimming, row by row.
+-- For `sweep`, whose loop *clears* the rows of the table one after another: pools of a row that go are destroyed. Then the rows
+-- without pools are dropped. es, now and fs are the map's entries before, between and after. everywhere is true for a trim.
 use Rattle.gpu_descriptor.proofs.Common.{◌≡◌, ℕ, zero, suc, ◌+◌, ◌<◌, ◌≤◌, Bool, true, false, not, ◌==◌, List, [], ◌∷◌, ◌++◌, length, map, filter, set, take, drop, sum_by, slice_get, Option, Some, None, option_map, inl, inr, refl, sym, ap, subst, ◌∙◌, arith, eq-eqb, ne_eqb, if◌then◌else◌, fun_ext}
 use Rattle.gpu_descriptor.proofs.Common.{list_any, cases_Bool, false_from_ne_true, append-nil, drop_all, length-map, take_all, sum_by-cons, sum_by_more, get_or_from_slice_get, slice_get-map, slice_get_within, Pool, Ledger, BucketKey, DescriptorPool, DescriptorBucket, State, Agree, Key, key_eq}
 use Rattle.gpu_descriptor.proofs.Common.{Bucket, Entry, no_pools, books_of, HasDistinctKeys, key_of, Allocations, common_steps, list_any_more, AreBookedIn, has_pools, ledger_but, more_destroyed, LosesEmpty, are_named, gone_of, left_of, pools_lost, with_pools, named_row, state_of, row_of}
@@ -19,12 +21,14 @@ Rows = List (Key × Bucket)
 
 -- ---- rows with distinct keys
 
+-- rows at two places have different keys
 apart : (rows : Rows) (j i : ℕ) (r s : Key × Bucket) → HasDistinctKeys rows → j < i → slice_get rows j ≡ Some r → slice_get rows i ≡ Some s → r.0 ≡ s.0 → ⊥
 apart [] j i r s h lt at at' same = (let bad : ◌≡◌ {A = Option (Key × Bucket)} None (Some r) = at in cc)
 apart (x ∷ rows) j zero r s h lt at at' same = omega arith
 apart (x ∷ rows) zero (suc i) r s h lt at at' same = grind (arith, key_exact, none_at)
 apart (x ∷ rows) (suc j) (suc i) r s h lt at at' same = apart rows j i r s h.1 (omega arith) at at' same
 
+-- at the key of a row the books have its bucket
 pub row_books : (rows : Rows) (i : ℕ) (r : Key × Bucket) → HasDistinctKeys rows → slice_get rows i ≡ Some r → books_of rows r.0 ≡ r.1
 row_books [] i r h at = absurd (let bad : ◌≡◌ {A = Option (Key × Bucket)} None (Some r) = at in cc)
 row_books (x ∷ rows) zero r h at = (let is : Some x ≡ Some r = at in let eq : x ≡ r = cc in subst (λ (y : Key × Bucket). books_of (x ∷ rows) y.0 ≡ y.1) eq (rw (key_exact.self x.0) refl))
@@ -42,6 +46,7 @@ rows_left name [] = refl
 rows_left name (e ∷ es) = grind (arith, length-map, (rows_left name es))
 
 module _ (everywhere : Bool) where
+  -- whether the pool of this name goes from a bucket; the bucket that is left; and a row with what is left
   abbrev pub goes : Bucket → ℕ → Bool
   goes b p = are_named (gone_of everywhere b.pools) p
 
@@ -55,6 +60,7 @@ module _ (everywhere : Bool) where
   abbrev pub cleared : ℕ → Rows → Rows
   cleared n rows = map cleared_row (take n rows) ++ drop n rows
 
+  -- whether the pool goes from one of these rows; the ledger's pools without those that do
   abbrev pub gone : Rows → ℕ → Bool
   gone rows p = list_any (λ r. goes r.1 p) rows
 
@@ -67,6 +73,7 @@ module _ (everywhere : Bool) where
 
   -- ---- one row more
 
+  -- the first i steps leave row i, and the next one clears it
   cleared_at : (rows : Rows) (i : ℕ) → slice_get (cleared i rows) i ≡ slice_get rows i
   cleared_at [] zero = refl
   cleared_at [] (suc i) = refl
@@ -79,6 +86,7 @@ module _ (everywhere : Bool) where
   cleared_set (x ∷ rows) (suc i) r at = ap (λ (l : Rows). cleared_row x ∷ l) (cleared_set rows i r at)
 
   module _ {P : Type 0} (name : P → ℕ) where
+    -- a bucket that is written at a place of the map is that of the row there
     rows_set : (es : List (BucketKey × DescriptorBucket P)) (i : ℕ) (k : BucketKey) (v w : DescriptorBucket P) → slice_get es i ≡ Some (k, v) → rows_in name (set_value_at es i w) ≡ set (rows_in name es) i (key_of k, bucket_of name w)
     rows_set [] i k v w at = absurd (let bad : ◌≡◌ {A = Option (BucketKey × DescriptorBucket P)} None (Some (k, v)) = at in cc)
     rows_set (e ∷ es) zero k v w at = (let same : Some e ≡ Some (k, v) = at in let eq : e ≡ (k, v) = cc in ap (λ (x : BucketKey × DescriptorBucket P). (key_of x.0, bucket_of name w) ∷ rows_in name es) eq)
@@ -88,6 +96,7 @@ module _ (everywhere : Bool) where
     pub next : (i : ℕ) (es : List (BucketKey × DescriptorBucket P)) (rows : Rows) (k : BucketKey) (v : DescriptorBucket P) → rows_in name es ≡ cleared i rows → slice_get es i ≡ Some (k, v) → slice_get rows i ≡ Some (key_of k, bucket_of name v)
     next i es rows k v h at = sym (cleared_at rows i) ∙ ap (λ (l : Rows). slice_get l i) (sym h) ∙ slice_get-map (λ (e : BucketKey × DescriptorBucket P). (key_of e.0, bucket_of name e.1)) es i ∙ ap (option_map (λ (e : BucketKey × DescriptorBucket P). (key_of e.0, bucket_of name e.1))) at
 
+    -- one step of the loop: what it leaves of the rows, and of the ledger
     pub step_rows : (i : ℕ) (es : List (BucketKey × DescriptorBucket P)) (rows : Rows) (k : BucketKey) (v w : DescriptorBucket P) → rows_in name es ≡ cleared i rows → slice_get es i ≡ Some (k, v) → bucket_of name w ≡ less (bucket_of name v) → rows_in name (set_value_at es i w) ≡ cleared (suc i) rows
     step_rows i es rows k v w h at new =
         rows_set es i k v w at ∙ ap (λ (b : Bucket). set (rows_in name es) i (key_of k, b)) new
@@ -127,6 +136,7 @@ module _ (everywhere : Bool) where
       none_named true p = refl
       none_named false p = refl
 
+  -- what goes from the books of a key goes from a row
   any_gone : (rows : Rows) (k : Key) (p : ℕ) → goes (books_of rows k) p ≡ true → gone rows p ≡ true
   any_gone [] k p h = absurd (let bad : true ≡ false = sym h ∙ nothing_goes p in cc)
   any_gone (r ∷ rows) k p h = grind (arith, (any_gone rows k p))
@@ -162,6 +172,7 @@ module _ (everywhere : Bool) where
   ]
 
   module _ {P : Type 0} (name : P → ℕ) where
+    -- so each key loses its empty pools, and nothing else changes
     pub is_cleaned : (es : List (BucketKey × DescriptorBucket P)) (rows : Rows) (pools : ℕ → Option Pool) → HasDistinctKeys rows → rows_in name es ≡ map cleared_row rows
         → LosesEmpty everywhere (record { books = books_of rows; ledger = pools }) (record { books = books_of (rows_in name (filter (λ e. has_pools e.1) es)); ledger = pools_less rows pools })
     is_cleaned es rows pools d h = record {
@@ -182,6 +193,7 @@ module _ (everywhere : Bool) where
   skip_row r rows [] none = refl
   skip_row r rows (q ∷ qs) none = grind (arith, common_steps, key_eq_symm, (skip_row r rows qs))
 
+  -- summed over the keys or over the rows, as many pools go
   by_keys : (rows : Rows) → HasDistinctKeys rows → sum_by (λ k. length (gone_of everywhere (books_of rows k).pools)) (map (λ r. r.0) rows) ≡ sum_by (λ r. length (gone_of everywhere r.1.pools)) rows
   by_keys [] d = refl
   by_keys (r ∷ rows) d =
@@ -189,6 +201,7 @@ module _ (everywhere : Bool) where
       grind (arith, common_steps, key_exact, sum_by-cons, (by_keys rows d.1))
 
   module _ {P : Type 0} (name : P → ℕ) where
+    -- of an allocator with this table: its state, its agreement, the whole sweep, and how many pools that destroys
     state_is : (a : Allocations P) (l : Ledger) (es : List (BucketKey × DescriptorBucket P)) → a.table ≡ map row_of es → state_of name a l ≡ record { books = books_of (rows_in name es); ledger = l.pools }
     state_is a l es is = (let rows = ap (map (named_row name)) is ∙ rows_are name es in λ i. record { books = books_of (rows i); ledger = l.pools })
 
@@ -241,6 +254,7 @@ module _ {P : Type 0} where
   none_out : (b : DescriptorBucket P) → has_pools b ≡ false → b.total ≡ 0
   none_out b h = b.counted ∙ ap (sum_by (λ (p : DescriptorPool P). p.allocated)) (empty_bucket b h)
 
+  -- a bucket lost empty pools: the totals are right if the room grew by what they had
   pub counted_put :
       (limit marked room left out : ℕ) (es : List (BucketKey × DescriptorBucket P)) (i : ℕ) (k : BucketKey)
       (v w : DescriptorBucket P)
@@ -248,5 +262,6 @@ module _ {P : Type 0} where
       → IsConsistent limit marked room out es → IsConsistent limit marked left out (set_value_at es i w)
   counted_put limit marked room left out es i k v w at same moved counted = grind (arith, rows_load, rows_out, rows_pool_load, sum_put)
 
+  -- dropping the keys without pools changes no total
   pub counted_filter : (limit marked room out : ℕ) (es fs : List (BucketKey × DescriptorBucket P)) → fs ≡ filter (λ e. has_pools e.1) es → IsConsistent limit marked room out es → IsConsistent limit marked room out fs
   counted_filter limit marked room out es fs kept counted = grind (arith, common_steps, set_descriptors-none, rows_load, rows_out, rows_pool_load, stored_load_in, sum_filter)

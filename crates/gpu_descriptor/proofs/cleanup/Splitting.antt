@@ -1,8 +1,11 @@
 -- The pools of a key in two lists, those that are left and the empty ones that go, each in their order.
+-- For cleanup and trim alike (`sweep`): what holds of each such split holds of the two that `left_of` and `gone_of` make, one for
+-- each value of everywhere.
 use Rattle.gpu_descriptor.proofs.Common.{common_steps, ◌≡◌, ◌≢◌, ◌⊎◌, ℕ, zero, suc, ◌==◌, Bool, true, false, nat_lt, List, [], ◌∷◌, take, drop, filter, slice_get, Option, Some, None, inl, inr, refl, sym, ap, ◌∙◌, arith, eq-eqb, eqb-true, ne_eqb, lt-ltb, and_parts, and_from, cases_Bool, list_all}
 use Rattle.gpu_descriptor.proofs.Common.{or_right, or_cases, prefix_len, Entry, Bucket, rises, numbers_of, no_pools, is_empty, are_named, gone_of, left_of, with_pools}
 use Rattle.gpu_descriptor.proofs.lists.Numbers.{number_of, rises_at}
 
+-- each pool is the next that is left, or it is empty and the next that goes
 abbrev pub Split : (pools left gone : List Entry) → Type 0
 Split [] left gone = (left ≡ []) × (gone ≡ [])
 Split (e ∷ pools) left gone = ((rest : List Entry) × (left ≡ e ∷ rest) × Split pools rest gone) ⊎ ((rest : List Entry) × (gone ≡ e ∷ rest) × (is_empty e ≡ true) × Split pools left rest)
@@ -19,6 +22,7 @@ none_first : (pools : List Entry) → Split pools pools []
 none_first [] = (refl, refl)
 none_first (e ∷ pools) = inl (pools, refl, none_first pools)
 
+-- by a cleanup the front goes, and by a trim (`split_all`) each empty pool
 split_front : (pools : List Entry) → Split pools (drop (prefix_len is_empty pools) pools) (take (prefix_len is_empty pools) pools)
 split_front [] = (refl, refl)
 split_front (e ∷ pools) = elim (cases_Bool (is_empty e)) [
@@ -118,7 +122,7 @@ one_place es h i j e at at' = grind (arith, common_steps, number_of, rises_at)
 
 -- ---- a second time nothing goes
 
--- where no pool is empty
+-- what is left when the front goes has no empty pool in front
 stays_front : (pools : List Entry) → prefix_len is_empty (drop (prefix_len is_empty pools) pools) ≡ 0
 stays_front [] = refl
 stays_front (e ∷ pools) = grind (arith, common_steps, front_no, front_yes, (stays_front pools))
@@ -138,6 +142,7 @@ none_twice (e ∷ pools) = go e.allocated refl (none_twice pools)
         let full : is_empty e ≡ false = ne_eqb e.allocated 0 (λ z. omega arith) in
         rw some (rw full rest)
 
+-- so what is left stays, and none of it goes
 pub left_twice : (everywhere : Bool) (pools : List Entry) → left_of everywhere (left_of everywhere pools) ≡ left_of everywhere pools
 left_twice true pools = filter_twice pools
 left_twice false pools = ap (λ n. drop n (drop (prefix_len is_empty pools) pools)) (stays_front pools)
@@ -161,6 +166,7 @@ all_go false (e ∷ pools) h = rw (front_yes e pools (h 0 e refl)) (all_go false
 
 -- ---- names and buckets
 
+-- a name among entries is that of one at a place; and the name of an entry at a place is among them
 pub named_at : (es : List Entry) (pool : ℕ) → are_named es pool ≡ true → (i : ℕ) × (e : Entry) × (slice_get es i ≡ Some e) × (e.pool ≡ pool)
 named_at [] pool h = absurd (let bad : true ≡ false = sym h in cc)
 named_at (x ∷ es) pool h = elim (or_cases (x.pool == pool) (are_named es pool) h) [
@@ -173,6 +179,7 @@ is_named_at [] i e at = absurd (let bad : ◌≡◌ {A = Option Entry} None (Som
 is_named_at (x ∷ es) zero e at = (let is : x ≡ e = cc in rw (eq-eqb x.pool e.pool (ap (λ (y : Entry). y.pool) is)) refl)
 is_named_at (x ∷ es) (suc i) e at = or_right (x.pool == e.pool) (are_named es e.pool) (is_named_at es i e at)
 
+-- the bucket with these of its pools: its pools, its id if there are some, and itself cleaned up or trimmed again
 pub pools_with : (b : Bucket) (es : List Entry) → (with_pools b es).pools ≡ es
 pools_with b [] = refl
 pools_with b (e ∷ es) = refl

@@ -1,4 +1,4 @@
--- What an allocator leaves of the ledger when it is done: nothing of its own.
+-- What an allocator leaves of the ledger when it is done, nothing of its own: for `laws::no_pool_is_lost`.
 use Rattle.gpu_descriptor.proofs.Common.{Allocations, ◌≡◌, ◌≢◌, ◌⊎◌, ℕ, zero, suc, ◌==◌, true, false, List, [], ◌∷◌, slice_get, Option, Some, None, inl, inr, refl, sym, ap, ◌∙◌, arith, eqb-true, fun_ext, list_any, cases_Bool, or_cases, Pool, Ledger, State, Item, outstanding, Agree, HasNoPools}
 use Rattle.gpu_descriptor.proofs.Common.{Key, key_eq, Entry, Bucket, HasDistinctKeys, books_of, entry_at, no_pools, common_steps, LosesEmpty, IsForeign, IsNamed, KeepsForeign, table_of, state_of}
 use Rattle.gpu_descriptor.proofs.cleanup.Cleaning.{no_pool_left}
@@ -18,6 +18,7 @@ nothing_at b i e empty at = (let bad : ◌≡◌ {A = Option Entry} None (Some e
 pub all_foreign : (s : State) → HasNoPools s → (name : ℕ) → IsForeign s name
 all_foreign s empty name k n e at same = nothing_at (s.books k) n e (empty k) at
 
+-- from no pools, by calls that lose no pool, to a cleanup with no set out: the ledger has the pools that it had
 pub restores : (s t u : State) → HasNoPools s → KeepsForeign s t → KeepsForeign t s → Agree t → ((i : Item) → outstanding t i ≡ 0) → LosesEmpty false t u → u.ledger ≡ s.ledger
 restores s t u began keeps loses agree nothing clean =
     let kept = foreign_through s t u keeps (cleaned_foreign false t u clean) in
@@ -43,6 +44,7 @@ none_in [] name none i e at same = (let bad : ◌≡◌ {A = Option Entry} None 
 none_in (x ∷ es) name none zero e at same = grind arith
 none_in (x ∷ es) name none (suc i) e at same = grind (arith, (none_in es name))
 
+-- the books of a table name a pool, or it is foreign
 in_table : (l : ℕ → Option Pool) (rows : List (Key × Bucket)) → HasDistinctKeys rows → (name : ℕ) → IsNamed (record { books = books_of rows; ledger = l }) name ⊎ IsForeign (record { books = books_of rows; ledger = l }) name
 in_table l [] distinct name = inr (λ k n e at same. nothing_at no_pools n e refl at)
 in_table l (row ∷ rows) distinct name = elim (cases_Bool (list_any (λ e. e.pool == name) row.1.pools)) [

@@ -1,4 +1,5 @@
 -- The pools that are none of the allocator's are a function of books and ledger, and each call leaves it.
+-- For the field `others` of Keeps, and `emptied` of Sweeps. a and l are the allocator and its ledger before a call, b and m after it.
 use Rattle.gpu_descriptor.proofs.Common.{common_steps, ◌≡◌, ℕ, Bool, true, false, List, [], ◌∷◌, Option, Some, None, inl, inr, refl, sym, ap, ◌∙◌, arith, fun_ext, list_any, cases_Bool, nil_from_length, ∥∥₁_elim, props, Pool, Ledger, State, Item, Agree, HasNoPools, count_of, outstanding, Key}
 use Rattle.gpu_descriptor.proofs.Common.{Bucket, HasDistinctKeys, books_of, Allocations, LosesEmpty, IsForeign, IsNamed, KeepsForeign, is_named, outstanding_of, state_of, table_of, side, GivesBack, Meaning, DescriptorSet}
 use Rattle.gpu_descriptor.specs.Caller.Others.{others_of}
@@ -15,6 +16,7 @@ found_row g [] any = absurd (let bad : true ≡ false = sym any in cc)
 found_row g (x ∷ rows) any = grind (arith, (found_row g rows))
 
 module _ (table : List (Key × Bucket)) (l : ℕ → Option Pool) (pool : ℕ) where
+  -- whether a table's books name a pool: the test and the statement
   pub named : is_named table pool ≡ true → IsNamed (record { books = books_of table; ledger = l }) pool
   named any = grind (arith, common_steps, found_in, found_row)
 
@@ -35,6 +37,7 @@ module _ {P : Type 0} (name : P → ℕ) where
   apart : (c : Allocations P) (n : Ledger) (q : ℕ) → is_named (table_of name c) q ≡ true → IsForeign (state_of name c n) q → ⊥
   apart c n q is foreign = (let x = named (table_of name c) n.pools q is in foreign x.0 x.1 x.2 x.3 x.4)
 
+  -- if foreign pools stay and none gets lost, the pools of others are the same; and the other way (`from_others`)
   pub others_stay : (a b : Allocations P) (l m : Ledger) → KeepsForeign (state_of name a l) (state_of name b m) → KeepsForeign (state_of name b m) (state_of name a l) → others_of name b m ≡ others_of name a l
   unfolding others_of
   others_stay a b l m keeps loses = fun_ext (λ q. elim (cases_Bool (is_named (table_of name a) q)) [

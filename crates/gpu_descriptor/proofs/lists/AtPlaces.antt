@@ -22,6 +22,7 @@ found_before p (x ∷ xs) (suc n) h = elim (or_cases (p x) (list_any p (take n x
   | inr later ↦ (let found = found_before p xs n later in let below = found.2 in (suc found.0, found.1, (let lt : suc found.0 < suc n = omega arith in lt), found.3, found.4))
 ]
 
+-- one that passes at a place is found, and if none is found none passes
 pub any_here : {A : Type 0} (p : A → Bool) (xs : List A) (i : ℕ) (x : A) → slice_get xs i ≡ Some x → p x ≡ true → list_any p xs ≡ true
 any_here p [] i x at hit = absurd (cc)
 any_here p (y ∷ xs) zero x at hit = (let same : y ≡ x = cc in or_left (p y) (list_any p xs) (ap p same ∙ hit))

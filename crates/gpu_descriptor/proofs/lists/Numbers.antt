@@ -1,4 +1,5 @@
 -- The numbers of a key's pools: they rise, so each number stands at one place.
+-- For whatever finds a pool by its number (`place_of_pool`), a key by its id (`place_of_id`), or has to say that numbers rise.
 use Rattle.gpu_descriptor.proofs.Common.{common_steps, ◌≡◌, ℕ, zero, suc, ◌+◌, ◌-◌, ◌<◌, ◌≤◌, ◌==◌, Bool, true, false, nat_lt, List, [], ◌∷◌, ◌++◌, length, map, drop, filter, slice_get, slice_index, slice_index_or, IsNonDecreasing, IsPartitionPoint, Option, Some, None, option_map, inl, inr, refl}
 use Rattle.gpu_descriptor.proofs.Common.{sym, ap, ◌∙◌, arith, eq-eqb, eqb-true, lt-ltb, ltb-false, and_parts, and_from, cases_Bool, cases_lt, list_all, slice_get_within, EntryOf, Entry, Bucket, entry_at, rises, number_after, numbers_of}
 use Rattle.std.specs.List.{find}
@@ -106,6 +107,7 @@ read_at [] i d lt = absurd (omega arith)
 read_at (x ∷ xs) zero d lt = refl
 read_at (x ∷ xs) (suc i) d lt = read_at xs i d (omega arith)
 
+-- numbers that rise are sorted, as a search by halving requires
 pub rises_sorted : (xs : List ℕ) → rises xs ≡ true → IsNonDecreasing xs
 rises_sorted xs h i j d le lt = elim (cases_lt i j) [
   | inl less ↦ (let rest = rises_at xs h i j _ _ less (read_at xs i d (omega arith)) (read_at xs j d lt) in omega arith)
@@ -168,6 +170,7 @@ module _ {X : Type 0} where
   numbers_map f same [] = refl
   numbers_map f same (e ∷ es) = λ i. same e i ∷ numbers_map f same es i
 
+-- the first entry of a number is at a place; and if numbers rise, an entry at a place is the first of its number
 find_place : (es : List Entry) (n : ℕ) (e : Entry) → find (λ d. d.number == n) es ≡ Some e → (i : ℕ) × (slice_get es i ≡ Some e) × (e.number ≡ n)
 find_place [] n e h = absurd (let bad : ◌≡◌ {A = Option Entry} None (Some e) = h in cc)
 find_place (x ∷ es) n e h = elim (cases_Bool (x.number == n)) [
@@ -191,6 +194,7 @@ entry_at-from b i e h at = place_find b.pools i e h at
 pub entry_at-named : (b : Bucket) (i n : ℕ) (e : Entry) → rises (numbers_of b.pools) ≡ true → slice_get b.pools i ≡ Some e → e.number ≡ n → entry_at b n ≡ Some e
 entry_at-named b i n e h at is = ap (entry_at b) (sym is) ∙ entry_at-from b i e h at
 
+-- a change that leaves numbers leaves which entry is found
 pub find_map : (n : ℕ) (f : Entry → Entry) → ((e : Entry) → (f e).number ≡ e.number) → (es : List Entry) → find (λ e. e.number == n) (map f es) ≡ option_map f (find (λ e. e.number == n) es)
 find_map n f same [] = refl
 find_map n f same (e ∷ es) = grind (arith, common_steps, (find_map n f same es))

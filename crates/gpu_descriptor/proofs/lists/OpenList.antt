@@ -1,4 +1,4 @@
--- The numbers of the open pools, as the code keeps them.
+-- The ordinals of the open pools, as the code keeps them: numbers is the list of a bucket, items are its pools.
 use Rattle.gpu_descriptor.proofs.Common.{◌≡◌, ℕ, ◌+◌, ◌<◌, ◌≤◌, ◌++◌, ◌∷◌, [], List, length, insert, arith, ap, sym, ◌∙◌, slice_set, nat_eq, true, false, Some, slice_get, length-map, map-append, map-set, slice_get-map, option_map, IsPartitionPoint, DescriptorPool, common_steps, free_in}
 use Rattle.gpu_descriptor.proofs.Common.{open_numbers, IsEntered}
 use Rattle.gpu_descriptor.proofs.lists.OpenNumbers.{IsNewestOpen, open_few, open_few_at, open_push_none, open_push_some, open_set_open, open_gains, open_closes}
@@ -10,6 +10,7 @@ module _ {P : Type 0} (first : ℕ) (items : List (DescriptorPool P)) (numbers :
   pushed : (p : DescriptorPool P) → free_in (items ++ p ∷ []) ≡ free_in items ++ p.available ∷ []
   pushed p = map-append (λ p. p.available) items (p ∷ [])
 
+  -- a new pool is listed if it has known free places
   pub listed_push_open : (p : DescriptorPool P) → 0 < p.available → numbers ++ (first + length items) ∷ [] ≡ open_numbers first (free_in (items ++ p ∷ []))
   listed_push_open p some = grind (arith, common_steps, open_push_some)
 

@@ -1,7 +1,10 @@
 -- How the list of open pools changes with the pools.
+-- For lists.OpenList, `release_sets` and the walk. xs says of each pool, oldest first, how many free places are known. The list has
+-- the ordinals of those with some, called numbers here; first is the ordinal of the first pool.
 use Rattle.gpu_descriptor.proofs.Common.{ℕ, zero, suc, ◌+◌, ◌<◌, ◌≤◌, ◌≡◌, List, [], ◌∷◌, ◌++◌, length, take, drop, get_or, slice_set, insert, arith, refl, sym, ap, ◌∙◌, subst, slice_get, Some, append-nil, set_split, IsNonDecreasing, IsPartitionPoint, slice_get_within, common_steps, open_numbers}
 use Rattle.gpu_descriptor.proofs.lists.AtPlaces.{get_drop, long_take, split_at}
 
+-- of pools in two parts
 pub open_append : (first : ℕ) (xs ys : List ℕ) → open_numbers first (xs ++ ys) ≡ open_numbers first xs ++ open_numbers (first + length xs) ys
 open_append first [] ys = ap (λ n. open_numbers n ys) (let e : first ≡ first + 0 = omega arith in e)
 open_append first (zero ∷ xs) ys = open_append (suc first) xs ys ∙ ap (λ n. open_numbers (suc first) xs ++ open_numbers n ys) (let e : suc first + length xs ≡ first + suc (length xs) = omega arith in e)
@@ -23,6 +26,7 @@ wider : (low low' high high' : ℕ) (xs : List ℕ) → low ≤ low' → high' �
 wider low low' high high' [] h k a = tt
 wider low low' high high' (x ∷ xs) h k a = (omega (arith, h, a.0), omega (arith, k, a.1), wider low low' high high' xs h k a.2)
 
+-- the numbers are the ordinals of pools, and rise
 pub open_between : (first : ℕ) (xs : List ℕ) → AreBetween first (first + length xs) (open_numbers first xs)
 open_between first [] = tt
 open_between first (zero ∷ xs) = wider first (suc first) (first + suc (length xs)) (suc first + length xs) (open_numbers (suc first) xs) (omega arith) (omega arith) (open_between (suc first) xs)
@@ -52,6 +56,7 @@ open_few first (suc x ∷ xs) = (let h = open_few (suc first) xs in omega arith)
 
 -- ---- a pool behind the others
 
+-- it is listed exactly if it has known free places
 pub open_push_none : (first : ℕ) (xs : List ℕ) → open_numbers first (xs ++ 0 ∷ []) ≡ open_numbers first xs
 open_push_none first xs = open_append first xs (0 ∷ []) ∙ append-nil (open_numbers first xs)
 
@@ -68,6 +73,7 @@ before first xs i = open_numbers first (take i xs)
 abbrev pub appended : ℕ → List ℕ → ℕ → List ℕ
 appended first xs i = open_numbers (first + suc i) (drop (suc i) xs)
 
+-- the list around the pool at place i, and once that has m known free places
 pub open_around : (first : ℕ) (xs : List ℕ) (i n : ℕ) → slice_get xs i ≡ Some n → open_numbers first xs ≡ before first xs i ++ open_numbers (first + i) (n ∷ drop (suc i) xs)
 open_around first xs i n at =
     ap (open_numbers first) (split_at xs i n at) ∙ open_append first (take i xs) (n ∷ drop (suc i) xs)
@@ -133,6 +139,7 @@ pub record IsNewestOpen (first : ℕ) (xs front : List ℕ) (number : ℕ) : Typ
   pub older : front ≡ open_numbers first (take place xs)
   pub newer : (i n : ℕ) → place < i → slice_get xs i ≡ Some n → n ≡ 0
 
+-- so is the last number of the list
 pub newest_open : (first : ℕ) (xs front : List ℕ) (number : ℕ) → open_numbers first xs ≡ front ++ number ∷ [] → IsNewestOpen first xs front number
 newest_open first [] [] number h = absurd (cc)
 newest_open first [] (y ∷ front) number h = absurd (cc)

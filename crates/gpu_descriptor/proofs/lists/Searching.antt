@@ -1,4 +1,4 @@
--- How far a binary search has come.
+-- How far a binary search has come: the invariant of `place_of`. It began with before comparisons, and has count now.
 use Rattle.gpu_descriptor.proofs.Common.{ℕ, zero, suc, ◌+◌, ◌-◌, ◌/◌, ◌^◌, ◌<◌, ◌≤◌, ◌≡◌, List, length, get_or, nat_lt, true, false, arith, ltb-true, ltb-false, get_or_default, AllWithin, IsNonDecreasing, refl, common_steps, binary_digits}
 use Rattle.gpu_descriptor.proofs.release.Digits.{digits_enough, twice}
 

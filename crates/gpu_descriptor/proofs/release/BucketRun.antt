@@ -1,4 +1,5 @@
 -- Giving one run back to a stored bucket.
+-- For `release_sets`. names are those of the run's sets, ls the live sets that left the pool q, whose entry e is at place i.
 use Rattle.gpu_descriptor.proofs.Common.{entry_at, greatest_pool_size, ◌≡◌, ℕ, zero, suc, ◌+◌, ◌-◌, ◌<◌, ◌≤◌, List, [], ◌∷◌, length, map, sum_by, set, get_or, slice_get, Option, Some, option_map, inl, inr, refl, sym, ap, ◌∙◌, arith, IfSome, slice_get-map, slice_get_read, length-map, sum_by-cons}
 use Rattle.gpu_descriptor.proofs.Common.{Pool, live_sets, LiveSet, times, AreIn, DescriptorPool, live_in, IsAsBooked, Key, Entry, Bucket, ∥∥₁_elim, ∥∥₁_map, props, common_steps, AreBookedIn, IsTakenAt, entry_less, pool_less, entry_of}
 use Rattle.gpu_descriptor.proofs.foreign.LedgerPools.{taken_from, with_pool_same, with_pool_other, size_minus, only_these}

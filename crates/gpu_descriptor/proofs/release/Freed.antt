@@ -1,4 +1,6 @@
 -- What the loop over the runs keeps.
+-- For `free_from`: Freed is the invariant of its loop. first is the iterator before the loop, old and before are the allocator and its
+-- ledger then; now and mid are those of this turn; x is in hand and begins the next run, and rest is the iterator after it.
 use Rattle.gpu_descriptor.proofs.Common.{search_digits, ◌≡◌, ℕ, ◌+◌, ◌<◌, true, false, ◌&&◌, ◌==◌, List, [], ◌∷◌, ◌++◌, sum_by, refl, sym, ap, subst, ◌∙◌, arith, append_assoc, append-nil, length-append, Option, Some, None, MatchOption, OnSome, IfSome, Count, HoldsAlong, IsFinite, IsNearerEnd}
 use Rattle.gpu_descriptor.proofs.Common.{MakesProgress, size, Yields, YieldsThen, and_parts, and_from, map-append, sum_by-append, side, Meaning, Counters, Ledger, bool_iff, DescriptorSet, State, Item, AreOutstanding, Agree, count_of, Key, key_eq, Allocations, common_steps, set_descriptors}
 use Rattle.gpu_descriptor.proofs.Common.{more_released, more_destroyed, released, given_back, pools_gone, run_digits, GivesBack, FreesRun, runs, item_of, items_of, AllPass, state_of, Compares}
@@ -45,6 +47,7 @@ module _ {L P S : Type 0} (means : Meaning L P S) where
   abbrev pub items : List (DescriptorSet S) → List Item
   items xs = items_of means.set_name xs
 
+  -- a run before sets of another place is one run more
   pub run_then : (k : Key) (n : ℕ) (x : DescriptorSet S) (xs zs : List (DescriptorSet S)) → lies_at k n x ≡ true → AllPass (lies_at k n) xs → BeginsApart k n zs → runs (items ((x ∷ xs) ++ zs)) ≡ 1 + runs (items zs)
   run_then k n x [] [] own have apart = refl
   run_then k n x [] (z ∷ zs) own have apart = grind (arith, same_spot)
@@ -134,9 +137,11 @@ module _ {L P S : Type 0} (means : Meaning L P S) where
       came_out : (zs : List (DescriptorSet S)) (t : T) → Yields steps rest zs t → AreOutstanding (items r.sets) (state_of means.pool_name old before)
       came_out zs t z u = grind arith
 
+      -- what is to come is still outstanding, as the next run requires
       pub call_out : HoldsAlong steps rest (λ zs. AreOutstanding (items (x ∷ zs)) (state_of means.pool_name now mid))
       call_out zs t z = grind (arith, common_steps, agree, all_out, came_out, count_of-append, takes)
 
+      -- one turn of the loop: the next run went back, too
       pub freed_more : (new : Allocations P) (after : Ledger) (a : Option (DescriptorSet S)) (t : T) → FreesRun steps means x rest a t (side now mid) (side new after) → keys_of new ≡ keys_of now → OnSome a (IsNearerEnd can left rest t)
           → Compares (search_digits ((state_of means.pool_name now mid).books x.key.is)) now.comparisons new.comparisons → Freed first old before new after a t
       freed_more new after a t run same n more = record {
@@ -155,6 +160,7 @@ module _ {L P S : Type 0} (means : Meaning L P S) where
           behind_it : (zs : List (DescriptorSet S)) → BeginsApart x.key.is x.number zs → runs (items (x ∷ (xs ++ zs))) ≡ 1 + runs (items zs)
           behind_it zs b = run_then x.key.is x.number x xs zs (lies_own x) run.came.0 b
 
+          -- this run is one, and one more than the runs before it
           alone : runs (items (x ∷ xs)) ≡ 1
           alone = ap (λ zs. runs (items (x ∷ zs))) (sym (append-nil xs)) ∙ behind_it [] tt ∙ refl
 
@@ -172,6 +178,7 @@ module _ {L P S : Type 0} (means : Meaning L P S) where
           came : Yields steps first (r.sets ++ x ∷ xs) run.came.1.0
           came = appended first r.sets x xs rest run.came.1.0 r.comes.0 run.came.1.1
 
+          -- a set of another place begins the next run
           parted : (y : DescriptorSet S) → lies_at x.key.is x.number y ≡ false → Splits (r.sets ++ x ∷ xs) y
           parted y b zs =
               let whole : runs (items ((r.sets ++ x ∷ xs) ++ y ∷ zs)) ≡ runs (items (r.sets ++ x ∷ (xs ++ y ∷ zs))) = ap (λ vs. runs (items vs)) (append_assoc r.sets (x ∷ xs) (y ∷ zs)) in
@@ -184,10 +191,12 @@ module _ {L P S : Type 0} (means : Meaning L P S) where
           stop None s b n = (run.came.1.0, came, s)
           stop (Some y) s b n = (Yields-more steps first (r.sets ++ x ∷ xs) run.came.1.0 y t came s, parted y b, n.0, n.1)
 
+    -- with each turn fewer sets are to come, so the loop ends
     pub less : (rest : T) (a : Option (DescriptorSet S)) (t : T) → OnSome a (IsNearerEnd can left rest t) → weight a (size (left t)) < size (left rest) + 1
     less rest None t n = omega arith
     less rest (Some y) t n = omega (arith, n.2)
 
+    -- before the first turn
     pub freed_none : (first : T) (old : Allocations P) (before : Ledger) (a : Option (DescriptorSet S)) (rest : T) → Agree (state_of means.pool_name old before) → IsFinite (left first) → steps first a rest → MakesProgress can left first a rest → Freed first old before old before a rest
     freed_none first old before a rest agree finite step goes = record { sets = []; back = gives_none old before; agree = agree; keys = refl; compares = record { rises = omega arith; few = omega arith }; comes = begin a step goes }
       where

@@ -1,4 +1,5 @@
 -- One pool leaves the front.
+-- For `destroy_empty_front`: each turn of its loop destroys x, the first of items, and news are left; keep is how many are to stay.
 use Rattle.gpu_descriptor.proofs.Common.{◌≡◌, ◌≢◌, ℕ, suc, ◌<◌, ◌≤◌, true, List, [], ◌∷◌, length, map, drop, get_or, Option, None, inl, inr, refl, sym, ap, ◌∙◌, arith, eq-eqb, cases_eq, length-map, Pool, Ledger, HasNoSets, after_destroy, DescriptorPool, Key, Entry, Bucket, AreBookedIn, front_but}
 use Rattle.gpu_descriptor.proofs.Common.{bucket_but_front, ledger_but_front, is_empty, entry_of}
 use Rattle.gpu_descriptor.proofs.table.Exact.{bucket}
@@ -6,12 +7,14 @@ use Rattle.gpu_descriptor.proofs.release.Fronts.{trim_yes, trim_short}
 use Rattle.gpu_descriptor.proofs.release.Places.{size_pos}
 use Rattle.gpu_descriptor.proofs.foreign.LedgerPools.{with_pool, with_pool_other}
 
+-- what is left in the end is the same from before the turn and from after it, in the books and in the ledger
 pub step_books : (keep id : ℕ) (x : Entry) (es : List Entry) → keep ≤ length es → is_empty x ≡ true → bucket_but_front keep (bucket id es) ≡ bucket_but_front keep (bucket id (x ∷ es))
 step_books keep id x es le empty = grind (arith, trim_yes)
 
 pub step_ledger : (keep id : ℕ) (x : Entry) (es : List Entry) (l : Ledger) → keep ≤ length es → is_empty x ≡ true → ledger_but_front keep (bucket id es) (after_destroy x.pool l) ≡ ledger_but_front keep (bucket id (x ∷ es)) l
 step_ledger keep id x es l le empty = grind (arith, trim_yes)
 
+-- if none of its sets is allocated, it has none on the device
 pub front_unused : (k : Key) (x : Entry) (es : List Entry) (l : Ledger) → AreBookedIn k l.pools (x ∷ es) → x.allocated ≡ 0 → HasNoSets x.pool l
 front_unused k x es l stored none =
     let found = stored.each 0 x refl in
@@ -54,6 +57,7 @@ module _ {P : Type 0} (name : P → ℕ) (keep : ℕ) where
   turn_unused k [] p l front agree = (let bad = front.long in absurd (omega arith))
   turn_unused k (x ∷ items) p l front agree = grind (arith, front_unused)
 
+  -- one turn of the loop
   pub record Turned (k : Key) (id : ℕ) (items news : List (DescriptorPool P)) (before after : Ledger) : Type 0 where
     pub agree : stored k news after.pools
     pub books : bucket_but_front keep (bucket id (map (entry_of name) news)) ≡ bucket_but_front keep (bucket id (map (entry_of name) items))

@@ -1,4 +1,5 @@
 -- The front of a bucket: what giving back does to it, and which places keep their pools when it goes.
+-- For release.Parts, which takes the law of one key from it, and release.FrontPool. es are entries, keep is how many are to stay.
 use Rattle.gpu_descriptor.proofs.Common.{◌≡◌, ℕ, zero, suc, ◌+◌, ◌-◌, ◌<◌, ◌≤◌, true, false, min, List, [], ◌∷◌, length, map, drop, slice_get, Some, inl, inr, refl, sym, ap, ◌∙◌, arith, drop-drop, prefix_len, cases_Bool, cases_lt, drop-map, Entry, Bucket, entry_at, rises, numbers_of, common_steps}
 use Rattle.gpu_descriptor.proofs.Common.{bucket_but_front, entry_less, bucket_less, is_empty, empty_front, spent_front, without_front}
 use Rattle.gpu_descriptor.proofs.lists.AtPlaces.{get_drop}
@@ -54,6 +55,7 @@ entry_at-kept b f n e rising le h full =
           entry_at-named (without_front f b) (found.0 - f) n e rest (get_drop b.pools f (found.0 - f) ∙ ap (slice_get b.pools) place ∙ found.1) found.2)
     ]
 
+-- giving back in two parts, to an entry and to a bucket, also one of which the front goes
 pub entry_less-less : (a c : ℕ) (e : Entry) → entry_less c (entry_less a e) ≡ entry_less (a + c) e
 entry_less-less a c e = grind arith
 

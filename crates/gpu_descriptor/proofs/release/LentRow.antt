@@ -1,4 +1,4 @@
--- One run through a row that the table lends.
+-- One run, x and xs, through a row that the table lends to `release_run`: its bucket is bucket before, and w after.
 use Rattle.gpu_descriptor.proofs.Common.{◌≡◌, ℕ, Bool, List, ◌∷◌, map, count_by, Option, None, Some, IsSome, length, refl, sym, ap, subst, ◌∙◌, fun_ext, lookup, set_value, option_map_or, Ledger, after_release, live_sets, BucketKey, DescriptorSet, DescriptorBucket, Agree, AreOutstanding, Key}
 use Rattle.gpu_descriptor.proofs.Common.{key_eq, Bucket, no_pools, books_of, HasDistinctKeys, key_of, Allocations, AreBookedIn, IsTakenAt, Releases, names_of, bucket_back, bucket_but_front, ledger_but_front, more_destroyed, more_released, released, pools_gone, search_digits, items_of, named_row}
 use Rattle.gpu_descriptor.proofs.Common.{state_of, AllPass, books_in, row_of, bucket_of}
@@ -18,6 +18,7 @@ module _ {P S : Type 0} (name : P → ℕ) (set_name : S → ℕ) (a : Allocatio
   at_key o found = ap (λ (f : Key → Bucket). f x.key.is) books_are ∙ looked_up name test x.key.is same es ∙ ap (λ (o : Option (DescriptorBucket P)). option_map_or (bucket_of name) o no_pools) found
 
   module _ (bucket : DescriptorBucket P) (found : lookup test es ≡ Some bucket) where
+    -- the bucket is the key's in the books: as booked, with the same search digits, and the run is in it
     pub row_stored : AreBookedIn x.key.is l.pools (bucket_of name bucket).pools
     row_stored = subst (λ (b : Bucket). AreBookedIn x.key.is l.pools b.pools) (at_key (Some bucket) found) (booked_of (state_of name a l) x.key.is agree)
 
@@ -36,6 +37,7 @@ module _ {P S : Type 0} (name : P → ℕ) (set_name : S → ℕ) (a : Allocatio
       ledger : after ≡ ledger_but_front 1 (bucket_back ((state_of name a l).books x.key.is) here.place (length (names_of set_name (x ∷ xs))) here.entry) (after_release here.entry.pool (live_sets x.key.is.counts (names_of set_name (x ∷ xs))) l)
       ledger = gone ∙ (λ i. ledger_but_front 1 (here.books i) (here.ledger i))
 
+      -- the state is released of the run's sets, and the counters rose so
       pub row_ran : (limit : ℕ) (fs : List (BucketKey × DescriptorBucket P)) → fs ≡ set_value test es w → state_of name (record { limit = limit; most = None; table = map row_of fs; looks = 0; comparisons = 0 }) after ≡ released (items_of set_name (x ∷ xs)) (state_of name a l)
       row_ran limit fs wrote =
           let new : Allocations P = record { limit = limit; most = None; table = map row_of fs; looks = 0; comparisons = 0 } in

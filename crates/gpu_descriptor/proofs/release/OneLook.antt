@@ -1,4 +1,4 @@
--- What one look at the caller's iterator leaves.
+-- What one look of a run leaves: at the set ahead, or at the caller's iterator. For `RunIterator::next`.
 use Rattle.gpu_descriptor.proofs.Common.{◌≡◌, ℕ, ◌+◌, ◌<◌, ◌^◌, Bool, true, false, [], ◌∷◌, length, refl, sym, ◌∙◌, arith, Option, Some, None, Count, IsFinite, size, option_len, DescriptorSet, Run, CountsFrom, Looks, RunStep}
 use Rattle.gpu_descriptor.specs.Inner.RunSteps.{at_place}
 

@@ -1,4 +1,5 @@
 -- One run: what the device may take of the caller's iterator, and what it took.
+-- For `release_sets`. x is the run's first set, s and u are the Run before and after; e is the entry of its pool, at place p of b.
 use Rattle.gpu_descriptor.proofs.Common.{entry_at, greatest_pool_size, ◌≡◌, ℕ, ◌+◌, ◌≤◌, true, List, [], ◌∷◌, length, map, slice_get, refl, sym, ap, subst, ◌∙◌, arith, eq-eqb, Option, Some, None, OnSome, Count, HoldsAlong, IsFinite, IsNearerEnd, Yields, YieldsThen, and_from, length-map, Pool}
 use Rattle.gpu_descriptor.proofs.Common.{Ledger, AreLive, live_sets, CanFree, LiveSet, DescriptorSet, live_in, Key, Entry, Bucket, Run, AreBookedIn, IsTakenAt, names_of, RunStep, CountsFrom, EndsRun, AllPass, flags_of}
 use Rattle.gpu_descriptor.specs.Inner.RunSteps.{at_place}
@@ -22,6 +23,7 @@ module _ {T S : Type 0} (steps : T → Option (DescriptorSet S) → T → Type 0
   abbrev pub Takes : T → DescriptorSet S → Bucket → (ℕ → Option Pool) → Type 0
   Takes rest x b pools = HoldsAlong steps rest (λ xs. AllPass (at_place x.id x.number) xs → IsTakenAt x.key.is x.number (names_of name (x ∷ xs)) b pools)
 
+  -- the count of a run stays within 32 bits
   pub run_counts : (rest : T) (x : DescriptorSet S) (b : Bucket) (pools : ℕ → Option Pool) (e : Entry) → entry_at b x.number ≡ Some e → e.allocated ≤ greatest_pool_size → Takes rest x b pools → CountsFrom steps x.id x.number rest (0 + 1)
   run_counts rest x b pools e at small h = grind (arith, length-map)
 
@@ -54,6 +56,7 @@ module _ {T S : Type 0} (steps : T → Option (DescriptorSet S) → T → Type 0
           let take = can_take x.key.is x.number (names_of name (x ∷ f.xs)) b l.pools e (h f.xs f.source f.came have) there in
           subst (λ ns. (ls : List LiveSet) × AreTaken ns (live_in l.pools e.pool) ls) m (live_sets x.key.is.counts (names_of name (x ∷ f.xs)), record { are = of_names x.key.is (names_of name (x ∷ f.xs)); within = take.live })
 
+  -- of a whole run: its names, its length, where it ended, and that the iterator came nearer to its end
   pub run_names : (x : DescriptorSet S) (s u : Run T S) (ys : List S) (w : Whole steps can left s x ys u) → map name ys ≡ names_of name (x ∷ w.xs)
   run_names x s u ys w = ap (λ zs. map name zs) (sym w.raws) ∙ names name (x ∷ w.xs)
 

@@ -8,6 +8,7 @@ use Rattle.gpu_descriptor.proofs.release.Places.{back, lies_in-found, some_befor
 use Rattle.gpu_descriptor.proofs.request.Rollback.{other_key}
 
 module _ {A : Type 0} (f g : A → Bool) (le : (t : A) → f t ≡ true → g t ≡ true) where
+  -- a test f that only passes where g does finds nothing where g doesn't
   off : (t : A) → g t ≡ false → f t ≡ false
   off t none = false_from_ne_true (f t) (λ on. (let bad : true ≡ false = sym (le t on) ∙ none in cc))
 

@@ -1,4 +1,5 @@
 -- The row of a set that is out: its key's, and the only one with its id.
+-- For `release_run`, which finds the row of a run by its id and compares no keys. es are the entries of the map, and s is the state.
 use Rattle.gpu_descriptor.proofs.Common.{◌≡◌, ◌<◌, ℕ, suc, true, false, List, [], ◌∷◌, ◌++◌, slice_get, Option, Some, None, IfSome, inl, inr, refl, sym, ap, subst, ◌∙◌, arith, eq-eqb, eqb-true, map, nat_eq, lookup, option_map_or, HoldsAlong, cases_Bool, and_from, and_parts, false_from_ne_true}
 use Rattle.gpu_descriptor.proofs.Common.{Ledger, count_by_yes, BucketKey, DescriptorSet, DescriptorBucket, AreOutstanding, Item, State, item_eq, outstanding, Bucket, Key, entry_at, no_pools, key_of, Allocations, item_of, items_of, state_of, is_of, rises, stored_ids, EndsRun, AllPass}
 use Rattle.gpu_descriptor.proofs.Common.{bucket_of, row_of}
@@ -38,6 +39,7 @@ unfolding at_place
 placed i n x a b = and_from _ _ (eq-eqb x.id i a) (eq-eqb x.number n b)
 
 module _ {P : Type 0} where
+  -- what the test for a key finds is at a place
   pub stands : (k : Key) (es : List (BucketKey × DescriptorBucket P)) (w : DescriptorBucket P) → lookup (is_of k) es ≡ Some w → Stands k w es
   stands k [] w found = absurd (let bad : ◌≡◌ {A = Option (DescriptorBucket P)} None (Some w) = found in cc)
   stands k (e ∷ es) w found = elim (cases_Bool (is_of k e.0)) [
@@ -58,6 +60,7 @@ module _ {P S : Type 0} (name : P → ℕ) (set_name : S → ℕ) (a : Allocatio
   abbrev s : State
   s = state_of name a l
 
+  -- the books of a key are those of the entry that its test finds
   looked : (k : Key) (o : Option (DescriptorBucket P)) → lookup (is_of k) es ≡ o → s.books k ≡ option_map_or (bucket_of name) o no_pools
   looked k o found = books_at a es is name l k ∙ looked_up name (is_of k) k (λ q. refl) es ∙ ap (λ (o : Option (DescriptorBucket P)). option_map_or (bucket_of name) o no_pools) found
 

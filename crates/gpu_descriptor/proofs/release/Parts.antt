@@ -1,4 +1,6 @@
 -- Giving back in two parts is giving back at once.
+-- For `laws::release_parts`, and for `free_from`, which frees run by run. The parts are m and n; first and second say whether they
+-- name a key, f and g how many sets they give back to a pool. `quiet`: a part that doesn't name the key gives its pools nothing.
 use Rattle.gpu_descriptor.proofs.Common.{common_steps, ◌≡◌, ℕ, suc, ◌+◌, ◌<◌, Bool, true, false, ◌&&◌, ◌||◌, ◌==◌, List, [], ◌∷◌, ◌++◌, map, take, drop, slice_get, Option, Some, None, option_map, refl, sym, ap, ◌∙◌, arith, take-add, if◌then◌else◌, fun_ext, list_any, and_parts, and_from}
 use Rattle.gpu_descriptor.proofs.Common.{false_from_ne_true, take-map, set_of, State, Item, item_eq, count_of, AreOutstanding, Agree, Key, key_eq, Entry, Bucket, Pool, LiveSet, set_eq, count_by-append, count_by_alike, count_by_none, any_from, any_found, list_any-append, bucket_but_front, lies_in}
 use Rattle.gpu_descriptor.proofs.Common.{entry_less, bucket_less, pool_less, spent_front, without_front, in_front, released}
@@ -11,6 +13,7 @@ use Rattle.gpu_descriptor.proofs.release.Places.{back, back_named, lies_in-at, l
 abbrev pub trimmed_if : Bool → Bucket → Bucket
 trimmed_if named b = if named then without_front (spent_front b) b else b
 
+-- whether a set of the list is of the key
 abbrev pub names_key : List Item → Key → Bool
 names_key m k = list_any (λ t. key_eq t.key k) m
 
@@ -24,6 +27,7 @@ books_law true false f g b quiet =
 books_law false true f g b quiet = ap (bucket_but_front 1) (less-less f g b)
 books_law false false f g b quiet = less-less f g b
 
+-- giving back leaves the names of a bucket's pools, and so those of its front
 same_names : (g : ℕ → ℕ) (pool : ℕ) (es : List Entry) → list_any (λ e. e.pool == pool) (map (λ e. entry_less (g e.pool) e) es) ≡ list_any (λ e. e.pool == pool) es
 same_names g pool [] = refl
 same_names g pool (e ∷ es) = ap (λ (b : Bool). (e.pool == pool) || b) (same_names g pool es)
@@ -74,6 +78,7 @@ key_any test m k h =
     let t = found.0 in
     any_from item_exact (λ u. test u.key) m t found.1 (ap test (key_exact.same t.key k found.2) ∙ both.1)
 
+-- a test of the keys that one part or the other names, over the two lists together
 any_law : (a b c : Key → Bool) (m n : List Item) → ((k : Key) → ((names_key m k || names_key n k) && a k) ≡ ((names_key m k && b k) || (names_key n k && c k))) → list_any (λ t. a t.key) (m ++ n) ≡ (list_any (λ t. b t.key) m || list_any (λ t. c t.key) n)
 any_law a b c m n h = grind (arith, any_key, key_any, list_any-append)
 
@@ -98,6 +103,7 @@ untouched n s agree k none i e at = count_by_none item_exact (lies_in s.books e.
     let named : names_key n k ≡ true = any_from item_exact (λ u. key_eq u.key k) n t in_n (rw same.0 (key_exact.self k)) in
     let bad : true ≡ false = sym named ∙ none in cc))
 
+-- so its bucket is as the first part left it
 pub quiet_key : (m n : List Item) (s : State) → Agree s → (k : Key) → names_key n k ≡ false → bucket_less (λ p. back m s p + back n s p) (s.books k) ≡ bucket_less (back m s) (s.books k)
 quiet_key m n s agree k none = grind (arith, common_steps, back, each_alike, untouched)
 
@@ -115,6 +121,7 @@ still_lies m n s agree out pool t in_n =
 pub back_still : (m n : List Item) (s : State) → Agree s → AreOutstanding (m ++ n) s → back n (released m s) ≡ back n s
 back_still m n s agree out = fun_ext (λ pool. count_by_alike item_exact (lies_in (released m s).books pool) (lies_in s.books pool) n (still_lies m n s agree out pool))
 
+-- THE LAW: one part and then the other leave what both at once leave
 pub parts : (m n : List Item) (s : State) → Agree s → AreOutstanding (m ++ n) s → released n (released m s) ≡ released (m ++ n) s
 parts m n s agree out =
     let u = released m s in

@@ -1,4 +1,6 @@
 -- Which places of the books keep their pools when sets go back: those that still have a set out.
+-- For the laws of `released` in release.ReleaseAgrees and Parts. The items m go back to the state s; back m s counts those of a pool,
+-- `back_named` those of a live set in it; `front_of` is how many pools a key then loses.
 use Rattle.gpu_descriptor.proofs.Common.{◌≡◌, ℕ, ◌+◌, ◌-◌, ◌<◌, ◌≤◌, Bool, true, false, cond, ◌&&◌, ◌==◌, List, [], ◌∷◌, length, map, filter, count_by, Option, Some, None, option_map, inl, inr, refl, sym, ap, ◌∙◌, arith, eqb-true, eq-eqb, ne_eqb, option_map_or, list_any, cases_Bool}
 use Rattle.gpu_descriptor.proofs.Common.{false_from_ne_true, and_parts, and_from, length-map, length-filter, count_by-le-length, slice_get, slice_get-map, rises, numbers_of, set_of, State, Item, item_eq, count_of, live_in, outstanding, AreOutstanding, HasSize, Agree, live_at, Key, key_eq, Entry}
 use Rattle.gpu_descriptor.proofs.Common.{Bucket, entry_at, no_pools, Pool, LiveSet, set_eq, bool_iff, count_by_alike, count_by_none, set_exact, all_taken_out, ∥∥₁_elim, ∥∥₁_map, props, common_steps, lies_in, entry_less, bucket_less, is_empty, empty_front, spent_front, without_front, released}
@@ -44,6 +46,7 @@ rest_less live a lies m size fits =
       ),
     )
 
+-- the same if it is only known that the live sets have some list
 pub size_less :
     (live : LiveSet → ℕ) (a : ℕ) (lies : Item → Bool) (m : List Item) → ∥ HasSize live a ∥₁
     → ((name : LiveSet) → count_by (λ t. lies t && (set_eq (set_of t) name)) m ≤ live name)
@@ -60,6 +63,7 @@ some_of : (o : Option Entry) (pool : ℕ) → option_map_or (λ e. e.pool == poo
 some_of None pool h = absurd (let bad : true ≡ false = sym h in cc)
 some_of (Some e) pool h = (e, refl, eqb-true e.pool pool h)
 
+-- a set lies in the pool that the entry of its key and number names
 pub lies_in-found : (books : Key → Bucket) (pool : ℕ) (t : Item) → lies_in books pool t ≡ true → (e : Entry) × (entry_at (books t.key) t.number ≡ Some e) × (e.pool ≡ pool)
 lies_in-found books pool t h = some_of (entry_at (books t.key) t.number) pool h
 
@@ -93,10 +97,11 @@ back_other m s agree k i e at x other = count_by_none item_exact (λ t. lies_in 
     let one : set_of t ≡ x = set_exact.same (set_of t) x both.1 in
     grind (arith, common_steps, distinct_at, lies_in-found, set_exact)))
 
+-- how often a set is live at its place, read from the pool there
 pub live_there_at : (s : State) (t : Item) (e : Entry) (pool : Pool) → entry_at (s.books t.key) t.number ≡ Some e → s.ledger e.pool ≡ Some pool → live_at s.ledger (s.books t.key) t ≡ pool.live (set_of t)
 live_there_at s t e pool at found = rw at (rw found refl)
 
--- how often a set is outstanding, read from the pool of its place
+-- and how often it is outstanding, if its id is the key's
 pub outstanding_at : (s : State) (t : Item) (e : Entry) (pool : Pool) → (s.books t.key).id ≡ t.id → entry_at (s.books t.key) t.number ≡ Some e → s.ledger e.pool ≡ Some pool → outstanding s t ≡ pool.live (set_of t)
 outstanding_at s t e pool own at found = rw (eq-eqb (s.books t.key).id t.id own) (rw at (rw found refl))
 
@@ -116,6 +121,7 @@ part_fits m s agree out k i e pool at found x =
       | inr other ↦ (let none = back_other m s agree k i e at x other in omega arith)
     ]
 
+-- an outstanding set has an entry, in whose pool it is live, and the id of its key
 pub outstanding_found : (s : State) (t : Item) (a : ℕ) → a < outstanding s t → (e : Entry) × (entry_at (s.books t.key) t.number ≡ Some e) × (a < live_in s.ledger e.pool (set_of t)) × ((s.books t.key).id ≡ t.id)
 outstanding_found s t a h = grind arith
 
@@ -123,6 +129,7 @@ outstanding_found s t a h = grind arith
 pub none_out : (s : State) (t : Item) → s.books t.key ≡ no_pools → outstanding s t ≡ 0
 none_out s t none = grind arith
 
+-- the entry of a number once sets went back
 pub entry_at-less : (g : ℕ → ℕ) (b : Bucket) (n : ℕ) → entry_at (bucket_less g b) n ≡ option_map (λ e. entry_less (g e.pool) e) (entry_at b n)
 entry_at-less g b n = find_map n (λ e. entry_less (g e.pool) e) (λ e. refl) b.pools
 
@@ -138,6 +145,7 @@ some_before f (Some d) e h = (d, refl, (let is : ◌≡◌ {A = Option Entry} (S
 abbrev pub front_of : List Item → State → Key → ℕ
 front_of m s k = cond (list_any (λ t. key_eq t.key k) m) (spent_front (bucket_less (back m s) (s.books k))) 0
 
+-- the books of a key afterwards: less, and without so many pools of the front, which are all empty
 pub released_books : (m : List Item) (s : State) (k : Key) → (released m s).books k ≡ without_front (front_of m s k) (bucket_less (back m s) (s.books k))
 released_books m s k = grind arith
 

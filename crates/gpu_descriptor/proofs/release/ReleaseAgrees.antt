@@ -1,4 +1,5 @@
 -- What giving back keeps: agreement, and what is outstanding but for the sets given; and that neither order nor parts matter.
+-- The laws of `released`, for `laws::release_parts` and for whatever frees. The items m, and then n, go back to the state s.
 use Rattle.gpu_descriptor.proofs.Common.{◌≡◌, ℕ, ◌+◌, ◌-◌, ◌<◌, ◌≤◌, Bool, true, false, ltb, ◌&&◌, ◌==◌, List, [], ◌∷◌, ◌++◌, flat_map, map, take, count_by, slice_get, slice_get-map, Option, Some, None, option_map, inl, inr, refl, sym, ap, ◌∙◌, subst, arith, eqb-true, if◌then◌else◌, fun_ext}
 use Rattle.gpu_descriptor.proofs.Common.{list_any, cases_lt, and_parts, false_from_ne_true, set_of, State, Item, count_of, outstanding, AreOutstanding, IsAsBooked, Agree, Key, Entry, Bucket, entry_at, rises, numbers_of, Pool, set_eq, counts_alike, count_by-append, list_any-count_by, common_steps}
 use Rattle.gpu_descriptor.proofs.Common.{lies_in, entry_less, bucket_less, pool_less, given_back, spent_front, released, singly, released_each}
@@ -43,6 +44,7 @@ less_booked m s agree out k i d pool at live is =
     let left = size_less pool.live d.allocated (lies_in s.books d.pool) m is.allocated (part_fits m s agree out k d.number d pool (entry_at-from (s.books k) i d (agree.rising k) at) live) in
     grind (arith, common_steps, back)
 
+-- books and ledger agree afterwards
 pub agrees : (m : List Item) (s : State) → Agree s → AreOutstanding m s → Agree (released m s)
 agrees m s agree out = record {
   distinct = λ k l i j d e at at' same.
@@ -74,6 +76,7 @@ agrees m s agree out = record {
 pub same_id : (m : List Item) (s : State) (k : Key) → ((released m s).books k).id ≡ (s.books k).id
 same_id m s k = ap (λ (b : Bucket). b.id) (released_books m s k)
 
+-- a set is outstanding as often less as it went back: one with the id of its key, and then any
 takes_own : (m : List Item) (s : State) → Agree s → AreOutstanding m s → (t : Item) → (s.books t.key).id ≡ t.id → outstanding (released m s) t + count_of t m ≡ outstanding s t
 takes_own m s agree out t own = elim (cases_option (entry_at ((released m s).books t.key) t.number)) [
   | inl none ↦ elim (cases_lt (count_of t m) (outstanding s t)) [
@@ -105,6 +108,7 @@ takes_own m s agree out t own = elim (cases_option (entry_at ((released m s).boo
 pub takes : (m : List Item) (s : State) → Agree s → AreOutstanding m s → (t : Item) → outstanding (released m s) t + count_of t m ≡ outstanding s t
 takes m s agree out t = grind (arith, takes_own)
 
+-- lists that have each set equally often leave the same state
 pub order : (m n : List Item) (s : State) → ((t : Item) → count_of t m ≡ count_of t n) → released m s ≡ released n s
 order m n s alike =
     let counts : (p : Item → Bool) → count_by p m ≡ count_by p n = counts_alike item_exact m n alike in
@@ -148,6 +152,7 @@ singly_whole : (m : List Item) → flat_map (λ (n : List Item). n) (singly m) �
 singly_whole [] = refl
 singly_whole (t ∷ m) = ap (λ (n : List Item). t ∷ n) (singly_whole m)
 
+-- freeing the sets one by one, in any order, leaves what freeing all at once leaves
 pub one_by_one : (m order : List Item) (s : State) → Agree s → AreOutstanding m s → ((t : Item) → count_of t order ≡ count_of t m) → released_each (singly order) s ≡ released m s
 one_by_one m turned s agree out alike =
     let whole = singly_whole turned in

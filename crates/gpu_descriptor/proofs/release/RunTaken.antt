@@ -1,8 +1,11 @@
 -- What a whole run took of the caller's iterator.
+-- For `release_sets`, by release.OneRun: a device takes raw sets of a Run up to its end. s is the Run at first, t and u are later
+-- ones; source is the caller's iterator, ahead the set read ahead; xs are sets that source gave, ys raw ones that the Run gave.
 use Rattle.gpu_descriptor.proofs.Common.{ap, ◌≡◌, ℕ, ◌+◌, ◌≤◌, List, [], ◌∷◌, length, map, Bool, true, false, refl, sym, subst, ◌∙◌, arith, Option, Some, None, MatchOption, MatchBool, Count, IsFinite, size, MakesProgress, Yields, YieldsThen, DescriptorSet, Run, AllPass, Looks, Hands, RunStep}
 use Rattle.gpu_descriptor.specs.Inner.RunSteps.{at_place}
 
 module _ {T S : Type 0} (steps : T → Option (DescriptorSet S) → T → Type 0) (can : T → Type 0) (left : T → Count) where
+  -- a step gave the raw set y, of an item in the run's place
   record Gave (s : Run T S) (y : S) (t : Run T S) : Type 0 where
     item : DescriptorSet S
     looks : Looks steps can left s.source.now s.ahead.now (Some item) t.source.now
@@ -58,6 +61,7 @@ module _ {T S : Type 0} (steps : T → Option (DescriptorSet S) → T → Type 0
   took_none : (s : Run T S) → s.ahead.now ≡ None → Took s [] s
   took_none s n = record { xs = []; raws = refl; keys = tt; came = refl; ahead = n; key = refl; number = refl; name = refl; aname = refl; count = omega arith; goes = λ c. c; ends = λ f. (f, omega arith) }
 
+  -- by induction over what the steps gave
   pub took : (ys : List S) (s t : Run T S) → s.ahead.now ≡ None → Yields (RunStep steps can left) s ys t → Took s ys t
   took [] s t n y = subst (λ u. Took s [] u) y (took_none s n)
   took (z ∷ zs) s t n y =

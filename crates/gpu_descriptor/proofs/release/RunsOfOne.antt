@@ -16,6 +16,7 @@ count_all (x ∷ xs) = count_by_yes (λ _. true) x xs refl ∙ ap suc (count_all
 pub run_lies : (k : Key) (i : ℕ) (m : List Item) (s : State) (e : Entry) → IsRun k i m → entry_at (s.books k) i ≡ Some e → (pool : ℕ) (t : Item) → 0 < count_of t m → lies_in s.books pool t ≡ (e.pool == pool)
 run_lies k i m s e run at pool t in_m = grind arith
 
+-- all its sets go back to that pool, and none to another
 pub run_back : (k : Key) (i : ℕ) (m : List Item) (s : State) (e : Entry) → IsRun k i m → entry_at (s.books k) i ≡ Some e → (pool : ℕ) → back m s pool ≡ (if e.pool == pool then length m else 0)
 run_back k i m s e run at pool = elim (cases_Bool (e.pool == pool)) [
   | inl same ↦ rw same (count_by_alike item_exact (lies_in s.books pool) (λ _. true) m (λ t in_m. run_lies k i m s e run at pool t in_m ∙ same) ∙ count_all m)

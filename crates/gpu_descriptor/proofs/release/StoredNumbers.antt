@@ -1,4 +1,5 @@
 -- The numbers of the pools that a bucket stores are those of its books.
+-- For `take`, `release_sets`, `destroy_empty` and its parts. items are the pools of the code, listed is its list of open ones.
 use Rattle.gpu_descriptor.proofs.Common.{◌⊎◌, inl, inr, Bool, filter, cases_Bool, ◌+◌, ◌≤◌, false, nat_lt, drop, and_parts, list_all, lt-ltb, first_ordinal, free_in, number_after, open_numbers, ◌≡◌, ℕ, zero, suc, ◌<◌, true, List, [], ◌∷◌, length, map, get_or, slice_get, slice_set, Some, refl, sym}
 use Rattle.gpu_descriptor.proofs.Common.{ap, ◌∙◌, arith, length-map, slice_get_within, slice_get-map, slice_get_read, option_map, Entry, entry_at, rises, numbers_of, DescriptorPool, entry_of, stored_numbers}
 use Rattle.gpu_descriptor.proofs.table.Exact.{bucket}
@@ -41,6 +42,7 @@ module _ {P : Type 0} (name : P → ℕ) where
 -- ---- the first pool goes
 
 module _ {P : Type 0} where
+  -- the pools after it keep their ordinals
   open_behind : (p : DescriptorPool P) (items : List (DescriptorPool P)) → rises (stored_numbers (p ∷ items)) ≡ true → open_numbers (suc (first_ordinal (p ∷ items))) (free_in items) ≡ open_numbers (first_ordinal items) (free_in items)
   open_behind p [] h = refl
   open_behind p (q ∷ items) h =
@@ -48,6 +50,7 @@ module _ {P : Type 0} where
       let long : length (stored_numbers (q ∷ items)) ≡ length (q ∷ items) = length-map (q ∷ items) (λ (x : DescriptorPool P). x.number) in
       ap (λ n. open_numbers n (free_in (q ∷ items))) (let e : suc (first_ordinal (p ∷ q ∷ items)) ≡ first_ordinal (q ∷ items) = omega arith in e)
 
+  -- the list loses its first ordinal if the pool was open, and else stays
   listed_behind : (p : DescriptorPool P) (items : List (DescriptorPool P)) (listed listed' : List ℕ) (free : ℕ) → p.available ≡ free → rises (stored_numbers (p ∷ items)) ≡ true → listed ≡ open_numbers (first_ordinal (p ∷ items)) (free_in (p ∷ items))
       → (nat_lt 0 p.available ≡ true → listed' ≡ drop 1 listed) → (nat_lt 0 p.available ≡ false → listed' ≡ listed) → listed' ≡ open_numbers (first_ordinal items) (free_in items)
   listed_behind p items listed listed' zero is h was popped stays =
@@ -61,6 +64,7 @@ module _ {P : Type 0} where
   popped_open p (x ∷ items) news listed listed' some is rest h was popped stays =
       rw rest (listed_behind x items listed listed' x.available refl h was (λ t. popped (ap (λ (q : DescriptorPool P). nat_lt 0 q.available) is ∙ t)) (λ f. stays (ap (λ (q : DescriptorPool P). nat_lt 0 q.available) is ∙ f)))
 
+  -- the numbers still rise, and the next one is no greater
   pub popped_numbers : (items news : List (DescriptorPool P)) → news ≡ drop 1 items → rises (stored_numbers items) ≡ true → (number_after (stored_numbers news) ≤ number_after (stored_numbers items)) × (rises (stored_numbers news) ≡ true)
   popped_numbers [] news rest h = rw rest (omega arith, h)
   popped_numbers (x ∷ []) news rest h = rw rest (omega arith, refl)

@@ -1,4 +1,6 @@
 -- Giving one run back, over the books of all keys.
+-- For `release_run`, by release.LentRow: a run leaves the state released of its sets. x is its first set, xs are the others, all of
+-- one key and pool number; m are their items; e is the entry of their pool, at place i of the key's bucket.
 use Rattle.gpu_descriptor.proofs.Common.{slice_get, ◌≡◌, ℕ, suc, ◌<◌, ◌≤◌, Bool, true, false, ◌==◌, List, [], ◌∷◌, length, map, count_by, sum_by, Option, Some, None, option_map, inl, inr, refl, sym, ap, ◌∙◌, arith, eq-eqb, ne_eqb, if◌then◌else◌, fun_ext, list_any, cases_Bool, cases_eq, and_parts}
 use Rattle.gpu_descriptor.proofs.Common.{and_from, false_from_ne_true, length-map, sum_by-cons, Pool, live_sets, LiveSet, set_eq, times, bool_iff, any_found, any_from, count_by_yes, count_by_no, DescriptorSet, set_of, State, Item, item_eq, count_of, live_in, AreOutstanding, Agree, Key, key_eq}
 use Rattle.gpu_descriptor.proofs.Common.{Entry, Bucket, entry_at, common_steps, IsTakenAt, names_of, bucket_back, bucket_but_front, entry_less, pool_less, given_back, fronts_gone, released, spent_front, pools_gone, in_front, item_of, items_of, AllPass}
@@ -16,6 +18,7 @@ use Rattle.gpu_descriptor.proofs.table.TableBooks.{put_books}
 abbrev pub trimmed_pools : Bucket → (ℕ → Option Pool) → ℕ → Option Pool
 trimmed_pools b pools = (λ p. if in_front (spent_front b) b p then None else pools p)
 
+-- whether a set is of a key and a pool number: from both, of the set's own, and to both
 pub at_from : {S : Type 0} (k : Key) (n : ℕ) (x : DescriptorSet S) → x.key.is ≡ k → x.number ≡ n → lies_at k n x ≡ true
 unfolding lies_at
 at_from k n x e f = and_from _ _ (ap (λ (l : Key). key_eq l k) e ∙ key_exact.self k) (eq-eqb x.number n f)
@@ -29,6 +32,7 @@ unfolding lies_at
 at_parts k n x h = grind (arith, key_exact)
 
 module _ {S : Type 0} (name : S → ℕ) where
+  -- the items of such sets are a run
   in_run : (k : Key) (n : ℕ) (xs : List (DescriptorSet S)) → AllPass (lies_at k n) xs → (t : Item) → 0 < count_of t (items_of name xs) → (t.key ≡ k) × (t.number ≡ n)
   in_run k n [] have t h = absurd (omega arith)
   in_run k n (x ∷ xs) have t h =
@@ -57,7 +61,7 @@ module _ {S : Type 0} (name : S → ℕ) where
   all_have : (x : DescriptorSet S) (xs : List (DescriptorSet S)) → AllPass (lies_at x.key.is x.number) xs → AllPass (lies_at x.key.is x.number) (x ∷ xs)
   all_have x xs have = (lies_own x, have)
 
-  -- where a run lies
+  -- a run that is outstanding is in one pool, which has so many sets, each of them live
   pub taken_of : (s : State) → Agree s → (x : DescriptorSet S) (xs : List (DescriptorSet S)) → AllPass (lies_at x.key.is x.number) xs → AreOutstanding (items_of name (x ∷ xs)) s → IsTakenAt x.key.is x.number (names_of name (x ∷ xs)) (s.books x.key.is) s.ledger
   taken_of s agree x xs have out =
       let k = x.key.is in

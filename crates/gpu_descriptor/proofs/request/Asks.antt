@@ -1,7 +1,9 @@
 -- What asking one pool does, from what the device did.
+-- For `ask`; `same_counters` for whatever counts calls. e is the pool's entry, l and m are the ledgers before and after.
 use Rattle.gpu_descriptor.proofs.Common.{◌≡◌, ℕ, ◌+◌, ◌-◌, ◌<◌, min, List, [], length, Bool, true, false, cond, ◌&&◌, Option, Some, None, nat_eq, nat_lt, refl, sym, ap, ◌∙◌, arith, lt-ltb, eqb-true, fun_ext, and_from, Key, Entry, Pool, Ledger, Counters, live_sets, on_pool, option_map, after_alloc}
 use Rattle.gpu_descriptor.proofs.Common.{after_no_alloc, alloc_refused, pool_refusals, no_rise, LiveSet, DeviceAllocationError, pool_with, risen, IsAsked, IsNoMemory}
 
+-- entries, and counters, with equal fields are equal
 pub same_entry : (a b : Entry) → a.number ≡ b.number → a.pool ≡ b.pool → a.capacity ≡ b.capacity → a.allocated ≡ b.allocated → a.available ≡ b.available → a ≡ b
 same_entry a b number pool capacity allocated free = λ i. record { number = number i; pool = pool i; capacity = capacity i; allocated = allocated i; available = free i }
 
@@ -19,6 +21,7 @@ pub none_with : (o : Option Pool) → option_map (pool_with [] false) o ≡ o
 none_with None = refl
 none_with (Some p) = ap (λ (x : Pool). Some x) (pool_same p)
 
+-- a pool is asked exactly if it has places and sets are wanting
 asks_some : (free wanted : ℕ) → 0 < min wanted free → nat_lt 0 free && nat_lt 0 wanted ≡ true
 asks_some free wanted h = and_from _ _ (lt-ltb 0 free (omega arith)) (lt-ltb 0 wanted (omega arith))
 
@@ -37,6 +40,7 @@ on_id name pools f same = fun_ext (λ q. at (nat_eq name q) q refl)
     at true q h = each (pools name) ∙ ap pools (eqb-true name q h)
     at false q h = refl
 
+-- it isn't asked, and nothing changes
 pub skipped : (k : Key) (wanted : ℕ) (e : Entry) (l : Ledger) → min wanted e.available ≡ 0 → IsAsked k wanted [] e e l l
 skipped k wanted e l h = record {
   refused = false;
@@ -47,6 +51,7 @@ skipped k wanted e l h = record {
   counters = (let t = asks_none e.available wanted h in rw t (let n = l.counters in same_counters _ _ (omega arith) (omega arith) (omega arith) (omega arith) (omega arith) (omega arith) (omega arith) (omega arith)));
 }
 
+-- it gave what is wanting or all it has; it refused as fragmented or full; it returned a memory error (`no_memory`)
 pub given :
     (k : Key) (wanted : ℕ) (names : List ℕ) (e : Entry) (l m : Ledger) → 0 < min wanted e.available
     → length names ≡ min wanted e.available → m ≡ after_alloc e.pool (live_sets k.counts names) l

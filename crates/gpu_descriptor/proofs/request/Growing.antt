@@ -1,4 +1,6 @@
 -- The new pools of a request, as far as it has come.
+-- For `take`: Growing is the invariant of its loop, from after the walk (`grow_start`) to the end or a stop.
+-- `_more`: with one new pool more at the end. `_now`: with the new pool f, named q, which gave the sets more; m' is the ledger then.
 use Rattle.gpu_descriptor.proofs.Common.{common_steps, ◌≡◌, ℕ, zero, suc, take, drop, ◌+◌, ◌-◌, ◌<◌, List, [], ◌∷◌, ◌++◌, length, map, Bool, true, false, cond, ◌==◌, nat_eq, Option, Some, None, Ok, Err, refl, sym, ap, ◌∙◌, subst, arith, eqb-true, eq-eqb, fun_ext, nil_from_length, eqb-false}
 use Rattle.gpu_descriptor.proofs.Common.{map-append, append-nil, sum_by-cons, sum_by-append, list_any, update, if◌then◌else◌, option_map, Item, flags_of, Key, Entry, Bucket, Pool, Ledger, live_sets, on_pool, or_from, or_parts, pool_counts, Stop, list_any-append, Fresh, fresh_portions}
 use Rattle.gpu_descriptor.proofs.Common.{fresh_entries, fresh_entry, number_after, numbers_of, given_by, IsNextSize, room_after, AreSized, AreFull, AreNew, IsFreshPrefix, IsFreshList, Grant, Part, items_at, portion_of, came, pool_with, ledger_with, fresh_or, IsGrown, IsTaken, IsRefused}
@@ -16,9 +18,11 @@ use Rattle.gpu_descriptor.proofs.request.Shares.{IsApart, apart_from, not_refuse
 use Rattle.gpu_descriptor.proofs.request.WalkStep.{grant_of, items_more, ledger_more, part}
 use Rattle.gpu_descriptor.proofs.request.TakenPlaces.{came_long, fresh_or_past, given_at, no_fresh, no_share}
 
+-- what was taken of all existing pools and of these new ones
 abbrev pub all_so_far : ℕ → (ℕ → Bool) → List Fresh → List Part → Grant
 all_so_far id refused fresh parts = grant_of id 0 refused fresh parts
 
+-- old and l are the key's entries and the ledger at first, new and m those now; of the room start, room is left
 pub record Growing (most : Option ℕ) (k : Key) (start n id room total wanting : ℕ) (items : List Item) (old new : List Entry) (l m : Ledger) : Type 0 where
   pub refused : ℕ → Bool
   pub parts : List Part
@@ -27,6 +31,7 @@ pub record Growing (most : Option ℕ) (k : Key) (start n id room total wanting 
   pub wants : wanting + given_by fresh ≡ rest refused n old
   pub sized : AreSized most k start (allocated_in (all_shared refused n old)) (rest refused n old) fresh
   pub room_now : room ≡ room_after k start fresh
+  -- as long as sets are wanting each new pool gave all that it has, and once none is they are a whole fresh list
   pub full : 0 < wanting → AreFull fresh
   pub list : wanting ≡ 0 → IsFreshList most k start (allocated_in (all_shared refused n old)) (rest refused n old) fresh
   pub taken : HasTaken k n (all_so_far id refused fresh parts) items (bucket id old) (bucket id new) l m
@@ -42,6 +47,7 @@ fresh_or_none f k q [] None e = (refl, refl)
 fresh_or_none f k q [] (Some p) e = absurd (cc)
 fresh_or_none f k q (h ∷ fs) o e = grind (arith, common_steps, or_from, (fresh_or_none f k q fs o))
 
+-- one new pool more: in the ledger, in the portions, among the new names, in the sum, in the sizes, and all full
 fresh_or_more : (k : Key) (q : ℕ) (fs : List Fresh) (f : Fresh) (o : Option Pool) → fresh_or k (fs ++ f ∷ []) q o ≡ fresh_or k fs q (fresh_or k (f ∷ []) q o)
 fresh_or_more k q [] f o = refl
 fresh_or_more k q (h ∷ fs) f o = ap (λ (x : Option Pool). if h.pool == q then Some (ledgers.fresh (pool_counts k.counts h.size) h.size (flags_of k)) else x) (fresh_or_more k q fs f o)
@@ -78,6 +84,7 @@ full_more (h ∷ fs) f all one = (all.0, full_more fs f all.1 one)
 
 module _ {most : Option ℕ} {k : Key} {start n id room left total wanting : ℕ} {items : List Item} {old new new' : List Entry} {l m m' : Ledger} {more : List ℕ}
     (booked : AreBookedIn k l.pools old) (s : Growing most k start n id room total wanting items old new l m) (a : IsGrown most k room left total wanting more new new' m m') where
+  -- the pool and its name, the new pools with it, the number of the first, the part that came, and all parts
   abbrev f : Fresh
   f = a.pool
 
@@ -96,6 +103,7 @@ module _ {most : Option ℕ} {k : Key} {start n id room left total wanting : ℕ
   abbrev parts_now : List Part
   parts_now = s.parts ++ part_now ∷ []
 
+  -- no new pool before had the name, nor a pool that was live, nor one of the key's: so none refused or gave under it
   none_before : (list_any (λ h. h.pool == q) s.fresh ≡ false) × (l.pools q ≡ None)
   none_before = fresh_or_none (pool_with (live_sets k.counts (came s.parts q)) (s.refused q)) k q s.fresh (l.pools q) (ap (λ (x : ℕ → Option Pool). x q) (sym s.taken.pools) ∙ a.is_new)
 
@@ -118,6 +126,7 @@ module _ {most : Option ℕ} {k : Key} {start n id room left total wanting : ℕ
   abbrev made : Pool
   made = ledgers.fresh (pool_counts k.counts f.size) f.size (flags_of k)
 
+  -- what the grant says with this pool: the ledger, portions, numbers, entries, counters and sizes
   pools_now : m'.pools ≡ ledger_with k (all_so_far id s.refused fresh_now parts_now) l.pools
   pools_now = a.pools ∙ ap (on_pool q (pool_with (live_sets k.counts more) false)) (ap (λ x. update nat_eq x q (Some made)) s.taken.pools ∙ fun_ext (λ r. at (nat_eq q r) r refl)) ∙ ledger_more k s.refused fresh_now s.parts false (next + length s.fresh) q more l.pools id 0 0 not_yet
     where
@@ -140,6 +149,7 @@ module _ {most : Option ℕ} {k : Key} {start n id room left total wanting : ℕ
   sized_now : AreSized most k start (allocated_in (all_shared s.refused n old)) (rest s.refused n old) fresh_now
   sized_now = (let w = s.wants in sized_more most k start _ _ s.fresh f room total wanting s.sized s.room_now s.totals (omega arith) a.size)
 
+  -- one turn of the loop: the new pool gave all that was wanting, or all that it has
   pub grow_more : {total' wanting' number : ℕ} {put : List Item} → 0 < wanting → total' ≡ total + length more → wanting' + length more ≡ wanting → number ≡ number_after (numbers_of new) → put ≡ items ++ items_at k id number more → Growing most k start n id left total' wanting' put old new' l m'
   grow_more some totals' less named put_is =
       let all = given_more s.fresh f in
@@ -164,7 +174,7 @@ module _ {most : Option ℕ} {k : Key} {start n id room left total wanting : ℕ
         };
       }
 
--- a walk goes before
+-- after the walk, before the first new pool
 pub grow_start : {most : Option ℕ} {k : Key} {start n id own total wanting : ℕ} {items : List Item} {old new : List Entry} {l m : Ledger}
     → IsWalked k n wanting items (bucket id old) (bucket own new) l m → own ≡ id → total + wanting ≡ allocated_in old + n → Growing most k start n id start total wanting items old new l m
 grow_start {most} {k} {n = n} {id = id} {items = items} {old = old} {new = new} {l = l} {m = m} walked ids totals =
@@ -187,6 +197,7 @@ grow_start {most} {k} {n = n} {id = id} {items = items} {old = old} {new = new} 
       taken = subst (λ (g : Grant). HasTaken k n g items (bucket id old) (bucket id new) l m) grant w.taken;
     }
 
+-- the loop ends with no set wanting, and all was taken; or it stops before (`grow_stop`), and so much was
 pub grow_end : {most : Option ℕ} {k : Key} {start n id own room total wanting : ℕ} {items : List Item} {old new : List Entry} {l m : Ledger}
     → Growing most k start n id room total wanting items old new l m → wanting ≡ 0 → own ≡ id → (done : Unit {0}) → IsTaken (Ok done) most k start n items (bucket id old) (bucket own new) l m
 grow_end s end ids done = rw (ids) (all_so_far _ s.refused s.fresh s.parts, s.taken, refl, s.list end)
@@ -207,6 +218,7 @@ grow_stop why {most} {k} {start} {n} {id} {old = old} {m = m} some s same_sets s
 
 -- ---- the descriptors of a key's pools, as a request goes on
 
+-- a new pool adds its descriptors, and what existing ones give adds none
 pub load_more : (k : Key) (number : ℕ) (es : List Entry) (f : Fresh) → pools_load k (es ++ fresh_entry number f ∷ []) ≡ pools_load k es + pool_descriptors k f.size
 load_more k number es f = sum_by-append (λ (e : Entry). pool_descriptors k e.capacity) es (fresh_entry number f ∷ []) ∙ (let one : pools_load k (fresh_entry number f ∷ []) ≡ pool_descriptors k f.size = omega arith in omega arith)
 

@@ -1,4 +1,5 @@
 -- All that is promised of a request, from what it took: kept, given back, declined, or for no sets.
+-- For `fill`: each lemma makes a whole record of its contract, field by field.
 use Rattle.gpu_descriptor.proofs.Common.{◌≡◌, ◌≤◌, true, false, is_some, ℕ, ◌+◌, ◌<◌, List, Option, None, Some, Result, Ok, Err, sym, ap, ◌∙◌, arith, side, Meaning, Ledger, Counters, AllocationError, DescriptorSet, Stop, Agree, outstanding, HasDistinctKeys, Key, Allocations, run_digits, Grant}
 use Rattle.gpu_descriptor.proofs.Common.{granted, items_in, stop_error, call_of, Returns, with_key, items_of, Agrees, marked_load_of, outstanding_of, pool_load_of, state_of, table_of, IsDeclined, Takes}
 use Rattle.gpu_descriptor.specs.Caller.HandsOut.{HandsOut}
@@ -10,6 +11,7 @@ use Rattle.gpu_descriptor.proofs.request.Promises.{short}
 
 module _ {L P S : Type 0} {means : Meaning L P S} {k : Key} {count : ℕ} {sets : List (DescriptorSet S)} {ended : Result (Unit {0}) Stop} {old new : Allocations P} {before after : Ledger}
     (t : Takes means k count sets ended (side old before) (side new after)) (agree : Agree (state_of means.pool_name old before)) where
+  -- what every call keeps: once the sets came, and once they went back
   pub keeps_all : HasDistinctKeys (table_of means.pool_name new) → new.limit ≡ old.limit → new.most ≡ old.most → marked_load_of new ≤ new.limit → pool_load_of new ≤ new.limit → Keeps means (side old before) (side new after)
   keeps_all rows limit most load pool_load =
       record {
@@ -35,6 +37,7 @@ module _ {L P S : Type 0} {means : Meaning L P S} {k : Key} {count : ℕ} {sets 
 module _ {L P S : Type 0} {means : Meaning L P S} {k : Key} {count : ℕ} (sets : List (DescriptorSet S)) {ended : Result (Unit {0}) Stop} {old new : Allocations P} {before after : Ledger}
     (t : Takes means k count sets ended (side old before) (side new after)) (agree : Agrees means.pool_name old before) (keys : keys_of new ≡ with_key k (keys_of old))
     (looks : new.looks + before.counters.asked ≡ old.looks + after.counters.asked) (comparisons : new.comparisons ≡ old.comparisons) (some : 0 < count) where
+  -- the sets are kept
   pub hands_all : {x : Unit {0}} → ended ≡ Ok x → HandsOut means k count (Ok sets) (side old before) (side new after)
   hands_all is =
       let all = kept t agree.books some is in

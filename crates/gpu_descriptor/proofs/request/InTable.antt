@@ -1,4 +1,5 @@
 -- What a request takes of one key, in the table of keys.
+-- For `serve`, if the key has a row, and `serve_absent`, if it has none. v and w are the key's bucket before and after.
 use Rattle.gpu_descriptor.proofs.Common.{bool_iff, ltb-true, ◌≡◌, ℕ, ◌+◌, ◌≤◌, Bool, true, false, List, [], ◌∷◌, ◌++◌, length, Option, Some, None, is_some, Result, Ok, Err, inl, inr, refl, sym, ap, ◌∙◌, subst, arith, ◌-◌, ◌&&◌, lt-ltb, map, lookup, set_value, option_map_or, nat_lt, sum_by}
 use Rattle.gpu_descriptor.proofs.Common.{if◌then◌else◌, cases_Bool, sum_by-append, Meaning, Ledger, Pool, BucketKey, DescriptorSet, DescriptorBucket, Stop, Key, key_eq, Bucket, no_pools, key_of, Item, set_descriptors, books_in, bucket_of, row_of, HasTaken, Grant, IsGrantOf, IsServed, ServesKey}
 use Rattle.std.proofs.lemmas.Map.Steps.{set_value_same}
@@ -23,6 +24,7 @@ books_end {P} name k w test same (e ∷ es) none l = elim (cases_Bool (test e.0)
       ])
 ]
 
+-- the books have the bucket of a key's row, and none of a key without one
 pub present : {P : Type 0} (name : P → ℕ) {k : Key} {es : List (BucketKey × DescriptorBucket P)} {v : DescriptorBucket P} → IsRow k es v → books_in name (map row_of es) k ≡ bucket_of name v
 present {P} name {k} {es} row = looked_up name row.test k row.same es ∙ ap (λ (o : Option (DescriptorBucket P)). option_map_or (bucket_of name) o no_pools) row.at
 
@@ -52,6 +54,7 @@ served_new {ended = Err why} s = record { numbers = s.numbers; few = s.few; all 
 module _ {L P S : Type 0} {means : Meaning L P S} (k : BucketKey) (w : DescriptorBucket P) {old : Bucket} {most : Option ℕ} {room count : ℕ} {sets : List (DescriptorSet S)} {ended : Result (Unit {0}) Stop} {before after : Ledger}
     (s : IsServed means most (key_of k) room count sets ended old (bucket_of means.pool_name w) before after) where
   module _ {had : ℕ} (total : w.total ≡ had + length sets) (es : List (BucketKey × DescriptorBucket P)) {fs : List (BucketKey × DescriptorBucket P)} where
+    -- the key had a row, which was written; or its row came last (`serves_new`)
     pub serves_present : {v : DescriptorBucket P} → bucket_of means.pool_name v ≡ old → v.total ≡ had → IsWritten (key_of k) es fs v w → ServesKey means most (key_of k) room count sets ended (map row_of es) (map row_of fs) before after
     serves_present {v} was many r =
         let here : books_in means.pool_name (map row_of es) (key_of k) ≡ old = present means.pool_name r.row ∙ was in

@@ -1,4 +1,4 @@
--- What a request takes of a key's pools leaves books and ledger of the key in agreement.
+-- What a request takes of one pool leaves its entry as booked; how often each set came from it. For request.TakenAgrees.
 use Rattle.gpu_descriptor.proofs.Common.{common_steps, ◌≡◌, ◌≢◌, ℕ, ◌+◌, ◌<◌, ◌≤◌, inl, inr, List, [], ◌∷◌, ◌++◌, length, Bool, false, refl, sym, ap, ◌∙◌, arith, length-append, cases_Bool, cases_lt, length-map, if◌then◌else◌, Pool, live_sets, LiveSet, set_eq, times, bool_iff, count_by_yes}
 use Rattle.gpu_descriptor.proofs.Common.{count_by_no, set_exact, times-append, Key, Entry, Item, item_eq, set_of, count_of, IsAsBooked, ∥∥₁_map, count_by-append, items_at, pool_with}
 use Rattle.gpu_descriptor.proofs.table.Exact.{item_exact, item_from}
@@ -51,6 +51,7 @@ pool_booked k pool e f names refused b became = record {
 pub count_append : (t : Item) (a b : List Item) → count_of t (a ++ b) ≡ count_of t a + count_of t b
 count_append t a b = count_by-append (λ u. item_eq u t) a b
 
+-- an item among those of a pool has its key, number and id
 pub place_of_items : (k : Key) (id number : ℕ) (names : List ℕ) (t : Item) → 0 < count_of t (items_at k id number names) → (t.key ≡ k) × (t.number ≡ number) × (t.id ≡ id)
 place_of_items k id number [] t some = absurd (omega arith)
 place_of_items k id number (n ∷ names) t some =

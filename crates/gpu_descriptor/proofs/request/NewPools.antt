@@ -1,4 +1,4 @@
--- The new pools of a request: their sizes, their numbers, and what the pools before them have left.
+-- The new pools of a request: their sizes, and what the pools before them have left. For request.Promises.
 use Rattle.gpu_descriptor.proofs.Common.{common_steps, ◌≡◌, ℕ, ◌+◌, ◌-◌, ◌<◌, Bool, List, [], ◌∷◌, ◌++◌, length, take, refl, sym, ap, ◌∙◌, arith, append_assoc, length-append, All, take_at, All-nil, All-cons, All-append, All-same, sum_by-cons, Option, State, Key, Entry, Fresh, AreSized, AreFull}
 use Rattle.gpu_descriptor.proofs.Common.{IsFreshList, given_by, fresh_entries, fresh_entry, next_number, Grant, granted, pool_descriptors, Call, IsDone, out_then, wanting, AreBelowTwice, offer, rest, shared, all_shared}
 use Rattle.gpu_descriptor.specs.Model.FreshPools.IsFreshList.{none as no_fresh, some as some_fresh}
@@ -8,6 +8,7 @@ use Rattle.gpu_descriptor.proofs.request.NextSize.{next_below}
 
 -- ---- sizes
 
+-- each is below twice its start size: in a prefix, and in a prefix and one more
 pub prefix_below : (most : Option ℕ) (k : Key) (room total wanted : ℕ) (pools : List Fresh) → AreSized most k room total wanted pools → AreFull pools → given_by pools < wanted → AreBelowTwice total wanted pools
 prefix_below most k room total wanted [] sized full short = tt
 prefix_below most k room total wanted (f ∷ pools) sized full short =

@@ -17,6 +17,7 @@ module _ (most : Option ℕ) (k : Key) (room total wanted size : ℕ) (s : IsNex
   few : size ≤ s.whole
   few = grind (arith, common_steps, few_in_room, least)
 
+  -- its size is one that a pool may have, below twice the start size, and within the room
   pub next_small : size ≤ greatest_pool_size
   next_small = (let a = few in let b = pool_size_small k.counts total wanted s.whole s.is_whole in omega arith)
 

@@ -1,4 +1,6 @@
 -- The walk over the open pools: the pools between them have nothing to give.
+-- For `walk`: OpenWalk is the invariant of its loop, which asks the last pool of the list of open ones. numbers is that list, front
+-- is it without its last, place is where the last one's pool is; p is that pool before it is asked, and q after.
 use Rattle.gpu_descriptor.proofs.Common.{common_steps, ◌≡◌, ℕ, suc, ◌+◌, ◌-◌, ◌<◌, ◌≤◌, List, [], ◌∷◌, ◌++◌, length, min, slice_set, None, Some, Err, refl, sym, ap, ◌∙◌, arith, inl, inr, map, length-map, map-set, length-set, slice_get-map, slice_get_within, lt-ltb, cases_lt, slice_get, option_map}
 use Rattle.gpu_descriptor.proofs.Common.{Ledger, Counters, DescriptorPool, Item, Key, Entry, DeviceAllocationError, AreBookedIn, IsBookedIn, free_in, open_numbers, entry_of, IsAsked, IsNoMemory, IsTaken, items_at}
 use Rattle.gpu_descriptor.specs.declared.bucket.stop.Stop.TheVariants.{ExistingPoolWithoutMemory}
@@ -15,6 +17,7 @@ pub record OpenWalk {P : Type 0} (name : P → ℕ) (k : Key) (n id first wantin
   pub listed : numbers ≡ open_numbers first (free_in items)
   pub left : ℕ
   pub within : left ≤ length old
+  -- the pools from there on have nothing, or nothing is wanting
   pub closed : (j : ℕ) (e : Entry) → left ≤ j → slice_get (map (entry_of name) items) j ≡ Some e → min wanting e.available ≡ 0
   pub walking : Walking k n id left wanting out old (map (entry_of name) items) l m
 
@@ -32,6 +35,7 @@ module _ {P : Type 0} {name : P → ℕ} {k : Key} {n id first wanting : ℕ} {o
   walk_empty none = walk_gap k n id wanting out old (map (entry_of name) items) l m booked s.left 0 s.left (omega arith) s.within (λ j e le lt at. (let z = open_all_none first (free_in items) (sym s.listed ∙ none) j e.available (free_get j e at) in omega arith)) s.walking
 
   module _ (some : 0 < wanting) (front : List ℕ) (place : ℕ) (last : numbers ≡ front ++ (first + place) ∷ []) where
+    -- the pool of the last number is the newest open one
     newest : IsNewestOpen first (free_in items) front (first + place)
     newest = newest_open first (free_in items) front (first + place) (sym s.listed ∙ last)
 
@@ -52,6 +56,7 @@ module _ {P : Type 0} {name : P → ℕ} {k : Key} {n id first wanting : ℕ} {o
       pub has_free : 0 < p.available
       has_free = grind (arith, common_steps, entry_at_place, free_get, newest, place_is)
 
+      -- the walk passes the pools after it, which have nothing, and comes to it
       pub walk_reaches : Walking k n id (suc place) wanting out old (map (entry_of name) items) l m
       walk_reaches =
           let to : suc place ≤ s.left = elim (cases_lt place s.left) [ inl lt ↦ omega arith | inr le ↦ (let a = s.closed place (entry_of name p) le entry_at_place in let b = has_free in absurd (omega arith)) ] in
@@ -62,6 +67,7 @@ module _ {P : Type 0} {name : P → ℕ} {k : Key} {n id first wanting : ℕ} {o
 
       -- what stands in the books and the list once it was asked
       module _ (q : DescriptorPool P) where
+        -- the list lacks the pool's number if it has no known free place left, and else is as it was
         pub listed_now_closed : q.available ≡ 0 → front ≡ open_numbers first (free_in (slice_set items place q))
         listed_now_closed none = listed_closes first items numbers s.listed front (first + place) newest q none ∙ ap (λ (i : ℕ). open_numbers first (free_in (slice_set items i q))) place_is
 
@@ -76,6 +82,7 @@ module _ {P : Type 0} {name : P → ℕ} {k : Key} {n id first wanting : ℕ} {o
         pub one_asked : (names : List ℕ) (m' : Ledger) → IsAsked k wanting names (entry_of name p) (entry_of name q) m m' → m'.counters.asked ≡ m.counters.asked + 1
         one_asked names m' asked = ap (λ (x : Counters). x.asked) asked.counters ∙ rw (lt-ltb 0 p.available has_free, lt-ltb 0 wanting some) refl
 
+        -- one turn of the loop: the pool gave, or refused as fragmented or full. On an error of memory the walk stops
         pub open_walk_more : {put : List Item} {items' : List (DescriptorPool P)} {numbers' : List ℕ} {own start wanting' : ℕ} {names : List ℕ} {m' : Ledger}
             → own ≡ id → start ≡ first → put ≡ out ++ items_at k id p.number names → items' ≡ slice_set items place q → numbers' ≡ open_numbers first (free_in (slice_set items place q))
             → IsAsked k wanting names (entry_of name p) (entry_of name q) m m' → wanting' + length names ≡ wanting → OpenWalk name k n own start wanting' put old items' numbers' l m'

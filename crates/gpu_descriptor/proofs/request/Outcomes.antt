@@ -1,4 +1,6 @@
 -- A request that took sets is as the definitions say: kept whole, or given back.
+-- For `fill`, by request.HandedOut. Between old, before and new, after it took sets (Takes); if it stopped they went back, which left
+-- last and final. `taken_` is of what it took, `kept_` of a request that was met, `back_` of one whose sets went back.
 use Rattle.gpu_descriptor.proofs.Common.{common_steps, fun_ext, ◌≡◌, ℕ, ◌+◌, ◌-◌, ◌<◌, Some, is_some, true, List, [], ◌∷◌, length, arith, Result, Ok, Err, OnOk, refl, sym, ap, ◌∙◌, subst, length-map, side, Meaning, Ledger, no_rise, AllocationError, DescriptorSet, Stop, State, Item, Agree}
 use Rattle.gpu_descriptor.proofs.Common.{AreOutstanding, Option, Pool, count_of, outstanding, key_eq, if◌then◌else◌, Key, Bucket, HasDistinctKeys, Allocations, KeepsForeign, GivesBack, Grant, IsGrantOf, bucket_with, items_in, granted, ledger_with, IsTaken, IsRefused, set_descriptors, Allocates}
 use Rattle.gpu_descriptor.proofs.Common.{Call, Proceeds, taken_by, risen, rollback_rise, StopsAt, stop_error, stop_rise, IsUntouched, KeepsOtherKeys, AreOfKey, AreOutBesides, KeepsOutstanding, released, pools_gone, call_of, Takes, runs, item_of, items_of, state_of, table_of, outstanding_of}
@@ -27,6 +29,7 @@ record Had (k : Key) (n : ℕ) (items : List Item) (old new : Bucket) (l m : ℕ
   bucket : new ≡ bucket_with n g old
   ledger : m ≡ ledger_with k g l
 
+-- a bucket gave so much, whether the request had all or stopped
 had_taken : (ended : Result (Unit {0}) Stop) (most : Option ℕ) (k : Key) (room n : ℕ) (items : List Item) (old new : Bucket) (l m : Ledger) → IsTaken ended most k room n items old new l m → Had k n items old new l.pools m.pools
 had_taken (Ok x) most k room n items old new l m t = record { g = t.0; grant = t.1.grant; made = made_all most k t.0.fresh room _ _ t.3; came = t.1.came; bucket = t.1.bucket; ledger = t.1.pools }
 had_taken (Err why) most k room n items old new l m t = record { g = t.0; grant = t.2.grant; made = made_before why t.3; came = t.2.came; bucket = t.2.bucket; ledger = t.4.pools ∙ t.2.pools }
@@ -47,6 +50,7 @@ module _ {L P S : Type 0} {means : Meaning L P S} {k : Key} {count : ℕ} {sets 
   abbrev room : ℕ
   room = old.limit - pool_load_of old
 
+  -- the state after has another bucket of the key and another ledger: it is `granted` of what the request had
   state : state_of means.pool_name new after ≡ with_bucket k t.serves.bucket after.pools s
   state = λ i. record { books = fun_ext t.serves.books i; ledger = after.pools }
 
@@ -68,6 +72,7 @@ module _ {L P S : Type 0} {means : Meaning L P S} {k : Key} {count : ℕ} {sets 
   pub taken_given : AreOutstanding items (state_of means.pool_name new after)
   taken_given u = (let e = taken_out u in omega arith)
 
+  -- they are of the key; other keys are untouched; and the pools of others are the same
   pub taken_own : AreOfKey k items
   taken_own = subst (AreOfKey k) had.came (granted_own k count had.g s agree had.grant had.made)
 
@@ -80,6 +85,7 @@ module _ {L P S : Type 0} {means : Meaning L P S} {k : Key} {count : ℕ} {sets 
       let lost = subst (λ t. KeepsForeign t s) as_granted (granted_loses_none k count had.g s agree had.grant had.made) in
       others_stay means.pool_name old new before after keeps lost
 
+  -- it passed the tests before the walk
   pub proceeds : 0 < count → (last : Allocations P) (final : Ledger) (answer : Result (List Item) AllocationError) → Proceeds (call_of means k count (side old before) (side last final) answer)
   proceeds some last final answer = record {
     some = some;
@@ -95,6 +101,7 @@ module _ {L P S : Type 0} {means : Meaning L P S} {k : Key} {count : ℕ} {sets 
     gone : pools_gone (keys_of new) items (state_of means.pool_name new after) ≡ pools_gone (k ∷ []) items (state_of means.pool_name new after)
     gone = ap (λ (keys : List Key). pools_gone keys items (state_of means.pool_name new after)) (keys_table means.pool_name new.table) ∙ only_key k items (state_of means.pool_name new after) (table_of means.pool_name new) still (λ l. refl) taken_own
 
+    -- how the counters rose when the sets went back
     went : (m : List Item) (u : State) → m ≡ items → u ≡ state_of means.pool_name new after → final.counters ≡ risen (rollback_rise m k u) after.counters
     went m u is same = back.counters ∙ give_back_rise _ (runs items) after.counters ∙ (λ i. risen (record no_rise { released = runs (sym is i); destroyed = (gone ∙ (λ j. pools_gone (k ∷ []) (sym is j) (sym same j))) i }) after.counters)
 
@@ -109,6 +116,7 @@ module _ {L P S : Type 0} {means : Meaning L P S} {k : Key} {count : ℕ} {sets 
       now : state_of means.pool_name new after ≡ granted k count g s
       now = state ∙ (λ i. with_bucket k (taken.bucket i) ((refused.pools ∙ taken.pools) i) s)
 
+      -- it is the outcome `stopped`, for this reason, and so for whatever reason (`went_back`)
       rolls : StopsAt why old.most k room count g (s.books k).pools → Rolls why
       rolls at = (
         stopped (proceeds some last final _) (record {
@@ -159,6 +167,7 @@ module _ {L P S : Type 0} {means : Meaning L P S} {k : Key} {count : ℕ} {sets 
 
   -- ---- the sets are kept
 
+  -- a request that didn't stop took all: as many sets as it was for, and the totals rose by them
   all_of : {x : Unit {0}} → ended ≡ Ok x → IsTaken (Ok x) old.most k room count items (s.books k) t.serves.bucket before after
   all_of is = subst (λ (r : Result (Unit {0}) Stop). IsTaken r old.most k room count items (s.books k) t.serves.bucket before after) is t.serves.served.taken
 
@@ -168,6 +177,7 @@ module _ {L P S : Type 0} {means : Meaning L P S} {k : Key} {count : ℕ} {sets 
   pub kept_totals : {x : Unit {0}} → ended ≡ Ok x → (outstanding_of new ≡ outstanding_of old + count) × (marked_load_of new ≡ marked_load_of old + set_descriptors k count)
   kept_totals is = grind (arith, common_steps, kept_many)
 
+  -- it is the outcome `done`
   pub kept : 0 < count → {x : Unit {0}} → ended ≡ Ok x → (o : Allocates (call_of means k count (side old before) (side new after) (Ok items))) × (is_some (taken_by o) ≡ true)
   kept some is =
       let all = all_of is in (

@@ -1,4 +1,4 @@
--- Known free places are room on the device.
+-- Known free places are room on the device: so `ask` may call the device for sets (CanGive).
 use Rattle.gpu_descriptor.proofs.Common.{common_steps, ◌≡◌, ℕ, zero, suc, ◌+◌, ◌*◌, ◌<◌, ◌≤◌, List, [], ◌∷◌, length, map, Bool, true, false, slice_index, refl, sym, ap, subst, arith, mul-le-mul_right, sum_by-cons, IsTrue, sum, sum_by, flags_of, Key, Entry, count_by_yes, set_exact}
 use Rattle.gpu_descriptor.proofs.Common.{IsUpdateAfterBind, Ledger, CanGive, LiveSet, set_eq, times, pool_counts, IsBookedIn}
 use Rattle.gpu_descriptor.proofs.lists.AtPlaces.{count_by_more}

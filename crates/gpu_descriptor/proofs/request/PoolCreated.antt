@@ -1,4 +1,5 @@
 -- What a new pool does to the ledger.
+-- For `take_from_new`. l is the ledger at first, m that after the create, m' after the call for sets, m'' after a destroy.
 use Rattle.gpu_descriptor.proofs.Common.{◌↔◌, ◌≡◌, ◌≢◌, ◌<◌, ℕ, ◌+◌, ◌-◌, ◌≤◌, min, List, [], ◌∷◌, ◌++◌, length, Bool, true, false, cond, nat_eq, Option, Some, None, slice_index, refl, sym, ap, ◌∙◌, arith, eqb-true, mul-le-mul_right, fun_ext, update, flags_of, Key, Entry, Pool, Ledger, Counters}
 use Rattle.gpu_descriptor.proofs.Common.{CanGive, HasNoSets, live_sets, fresh, after_create, after_no_create, after_alloc, after_no_alloc, after_destroy, create_refused, alloc_refused, pool_refusals, no_rise, CreatePoolError, pool_counts, DeviceAllocationError, Stop, update_here, IsNextSize}
 use Rattle.gpu_descriptor.proofs.Common.{pool_descriptors, IsGrown, IsRefused, risen, stop_rise, option_map, fresh_entry, number_after, numbers_of}
@@ -11,6 +12,7 @@ use Rattle.gpu_descriptor.proofs.request.PlacesFree.{key_with, wide, marked_flag
 pub created_at : (k : Key) (size name : ℕ) (l m : Ledger) → m ≡ after_create (pool_counts k.counts size) size (flags_of k) name l → m.pools name ≡ Some (fresh (pool_counts k.counts size) size (flags_of k))
 created_at k size name l m is = ap (λ (x : Ledger). x.pools name) is ∙ update_here l.pools name (Some (fresh (pool_counts k.counts size) size (flags_of k)))
 
+-- it can give as many sets as it was created for
 pub fresh_room : (counts : List ℕ) (mark : Bool) (size name n : ℕ) (m : Ledger) → m.pools name ≡ Some (fresh (pool_counts counts size) size (flags_of (key_with counts mark))) → n ≤ size → CanGive name n counts mark m
 fresh_room counts mark size name n m is few = record {
   pool = fresh (pool_counts counts size) size (flags_of (key_with counts mark));
@@ -20,6 +22,7 @@ fresh_room counts mark size name n m is few = record {
   each_kind = λ sets spelled j. rw (none_spelled sets spelled) (let has = wide (key_with counts mark) size j in let some = mul-le-mul_right (slice_index counts j) few in omega arith);
 }
 
+-- if it refused it has no sets, so it may be destroyed
 pub no_sets : (k : Key) (size name : ℕ) (error : DeviceAllocationError) (m m' : Ledger) → m.pools name ≡ Some (fresh (pool_counts k.counts size) size (flags_of k)) → m' ≡ after_no_alloc name error m → HasNoSets name m'
 no_sets k size name error m m' at is =
     let pool : Pool = fresh (pool_counts k.counts size) size (flags_of k) in
@@ -29,6 +32,7 @@ no_sets k size name error m m' at is =
       empty = λ x. refl;
     }
 
+-- it gave sets: what it adds to a request
 pub grown : (most : Option ℕ) (k : Key) (room left total wanted size name number : ℕ) (names : List ℕ) (old new : List Entry) (l m m' : Ledger)
     → IsNextSize most k room total wanted size → left + pool_descriptors k size ≡ room → length names ≡ min size wanted → l.pools name ≡ None
     → m ≡ after_create (pool_counts k.counts size) size (flags_of k) name l → m' ≡ after_alloc name (live_sets k.counts names) m → number ≡ number_after (numbers_of old)

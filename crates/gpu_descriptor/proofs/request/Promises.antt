@@ -1,4 +1,5 @@
 -- What every outcome of a request promises.
+-- For request.HandedOut: `short` is the clause that pools are created only if the existing ones fall short, and few (IsShort).
 use Rattle.gpu_descriptor.proofs.Common.{common_steps, ◌≡◌, ◌≢◌, ℕ, suc, ◌+◌, ◌-◌, ◌*◌, ◌<◌, ◌≤◌, Bool, Option, List, [], ◌∷◌, map, length, sum_by, inl, inr, refl, sym, ap, ◌∙◌, subst, arith, length-map, length-append, sum_by-cons, sum_by-append, pool_size_floor, ◌↔◌, OnOk, Counters}
 use Rattle.gpu_descriptor.proofs.Common.{create_refused, alloc_refused, no_rise, CreatePoolError, DeviceAllocationError, Stop, Key, Entry, cases_lt, ◌⊎◌, Allocates, Call, IsBack, IsDone, IsStopped, StopsAt, out_then, stop_rise, wanting, Fresh, IsFreshPrefix, IsNextSize, room_after, AreSized}
 use Rattle.gpu_descriptor.proofs.Common.{AreFull, IsFreshList, given_by, Grant, Part, portion_of, items_in, AreBelowTwice, IsShort, CreatesOnlyWhereShort, pool_descriptors, Portion, rest, portions_of}
@@ -14,6 +15,7 @@ use Rattle.gpu_descriptor.proofs.request.NewPools.{AreFilled, shares_used, done_
 abbrev pub sum_given : List Portion → ℕ
 sum_given ps = sum_by (λ p. p.given) ps
 
+-- as many items came as the portions say; and shares and rest together are all that was asked for
 pub length_items : (k : Key) (id : ℕ) (parts : List Part) → length (items_in k id parts) ≡ sum_given (map portion_of parts)
 length_items k id [] = refl
 length_items k id (p ∷ parts) = grind (arith, common_steps, length-map, sum_by-cons, (length_items k id parts))
@@ -44,6 +46,7 @@ few most k room total wanted (f ∷ h ∷ pools) sized full short more why =
     let rest = few most k (room - pool_descriptors k f.size) (total + f.given) (wanted - f.given) (h ∷ pools) sized.1 full.1 (omega arith) more why in
     omega arith
 
+-- a request that created n pools is short (IsShort) if n is so small
 pools_short : (c : Call) (g : Grant) → 0 < wanting c g → AreBelowTwice (out_then c g) (wanting c g) g.fresh → OnOk c.answer (AreFilled c) → (n : ℕ) → c.after.created ≡ c.before.created + n → n * pool_size_floor c.key.counts < wanting c g + pool_size_floor c.key.counts → IsShort c g
 pools_short c g some below filled n rise few = record {
   short = omega arith;
@@ -56,6 +59,7 @@ pools_short c g some below filled n rise few = record {
       subst (λ i. i * m < wanting c g + m) (sym same) few);
 }
 
+-- of a request that stopped after a prefix; a new pool that was destroyed at once counts, too
 prefix_short : (c : Call) (s : IsStopped c) (why : Stop) (room : ℕ) → IsBack c s.grant why → IsFreshPrefix c.most c.key room (out_then c s.grant) (wanting c s.grant) s.grant.fresh
     → ((stop_rise why).created * pool_size_floor c.key.counts ≡ 0) ⊎ (((stop_rise why).created * pool_size_floor c.key.counts ≡ pool_size_floor c.key.counts) × (pool_descriptors c.key 1 ≤ room_after c.key room s.grant.fresh)) → IsShort c s.grant
 prefix_short c s why room back front more =
@@ -64,6 +68,7 @@ prefix_short c s why room back front more =
     let all = few c.most c.key room _ _ s.grant.fresh front.sized front.full short ((stop_rise why).created * pool_size_floor c.key.counts) more in
     pools_short c s.grant (omega arith) (prefix_below c.most c.key room _ _ s.grant.fresh front.sized front.full short) (rw back.answer tt) (length s.grant.fresh + (stop_rise why).created) (omega arith) (omega arith)
 
+-- of a request that was met
 done_short : (c : Call) (d : IsDone c) → IsFreshList c.most c.key (c.limit - c.pooled) (out_then c d.grant) (wanting c d.grant) d.grant.fresh → 0 < length d.grant.fresh → IsShort c d.grant
 done_short c d (no_fresh zero_wanted empty) some = (let e = ap length empty in absurd (omega arith))
 done_short c d (some_fresh front last parts short sized le given) some =

@@ -1,4 +1,6 @@
 -- What a request leaves of an allocator: why it is declined before the walk, and what it took.
+-- For `append_sets` and `serve_if_allowed`. es are the map's entries before and fs those after; max, marked, room and out are fields
+-- of the allocator. above and past are the results of its tests, against the limit and against 64 bits.
 use Rattle.gpu_descriptor.proofs.Common.{common_steps, side, Meaning, greatest_u64, [], ◌≡◌, ℕ, ◌+◌, ◌*◌, ◌<◌, ◌≤◌, ◌&&◌, Bool, true, false, List, map, length, sum, Option, Result, Err, inl, inr, refl, sym, ap, subst, ◌∙◌, arith, mul-le-mul_right, and_parts, ltb-true, ltb-false, IsDistinct}
 use Rattle.gpu_descriptor.proofs.Common.{nat_lt, ◌⊎◌, kinds, Ledger, AllocationError, BucketKey, DescriptorSet, DescriptorBucket, Stop, Key, key_eq, Bucket, BucketOf, HasDistinctKeys, books_of, next_number, sum_over, key_of, Allocations, bucket_load, set_descriptors, IsWithinLimit, call_of}
 use Rattle.gpu_descriptor.proofs.Common.{IsDeclined, IsUnserved, IsSound, ServesKey, Takes, named_row, state_of, table_of, outstanding_of, marked_load_of, pool_load_of, IsConsistent, row_of, stored_keys, books_in}
@@ -61,6 +63,7 @@ module _ {L P S : Type 0} (means : Meaning L P S) {a : Allocations P} {max looks
   abbrev Declines : AllocationError → Type 0
   Declines error = IsDeclined (call_of means (key_of key) count (side a before) (side a before) (Err error))
 
+  -- why it is declined: the marked load would pass the limit, or one of two sums would pass 64 bits
   pub declined_by_limit : above ≡ true → Declines Fragmentation
   declined_by_limit passed = grind (arith, common_steps, and_parts, ltb-true)
 
@@ -74,6 +77,7 @@ module _ {L P S : Type 0} (means : Meaning L P S) {a : Allocations P} {max looks
     pub declined_by_bound : past ≡ true → Declines Fragmentation
     declined_by_bound passed = grind (arith, common_steps, declined_past, ltb-true)
 
+    -- the table gave nothing, as an allocation failed or the pools' numbers would pass 64 bits
     pub declined_unserved :
         past ≡ false → {b : Allocations P} {after : Ledger} → b ≡ a → after ≡ before → (e : AllocationError)
         → IsUnserved count (next_number (books_in means.pool_name (map row_of es) (key_of key))) e
@@ -98,6 +102,7 @@ module _ {L P S : Type 0} {means : Meaning L P S} {most : Option ℕ} {key : Buc
   pub given_fits : {given : ℕ} → given ≡ length sets → set_descriptors (key_of key) given + marked ≤ max
   given_fits {given} long = grind (arith, common_steps, mul-le-mul_right, sets_within)
 
+  -- the totals that the code then writes are right
   pub counted_now : {given more left : ℕ} → given ≡ length sets → more ≡ set_descriptors (key_of key) given → left + sum_over bucket_load (map row_of fs) ≡ room + sum_over bucket_load (map row_of es) → IsConsistent max (marked + more) left (out + given) fs
   counted_now long load moved = grind (arith, common_steps, given_fits)
 

@@ -1,4 +1,4 @@
--- What giving the sets of a request back leaves, and how it raises the counters.
+-- What is left once the sets of a request, all of one key k, went back, and how the counters rose. For request.Outcomes.
 use Rattle.gpu_descriptor.proofs.Common.{common_steps, ◌+◌, ◌≡◌, ℕ, ◌<◌, false, List, [], ◌∷◌, map, sum_by, inl, inr, refl, sym, ap, ◌∙◌, arith, suc, length, fun_ext, cases_Bool, or_parts, false_from_ne_true, sum_by-cons, list_any, if◌then◌else◌, any_found, count_by_yes, Counters, no_rise, State}
 use Rattle.gpu_descriptor.proofs.Common.{Item, item_eq, count_of, Agree, Key, key_eq, Bucket, BucketOf, books_of, no_pools, HasDistinctKeys, set_descriptors, more_released, more_destroyed, given_back, released, pools_gone, spent_front, bucket_less, marked_descriptors, risen, named_row}
 use Rattle.gpu_descriptor.proofs.lists.AtPlaces.{count_by_more}
@@ -18,6 +18,7 @@ give_back_rise gone calls c = same_counters _ _ (omega arith) (omega arith) (ome
 -- ---- the pools that go are the key's
 
 module _ (k : Key) (f : Key → ℕ) (none : (l : Key) → key_eq k l ≡ false → f l ≡ 0) where
+  -- what is 0 at all keys but k adds up over a table to what it is at k
   others : (j : Key) → j ≡ k → (t : List (Key × Bucket)) → list_any (λ row. key_eq row.0 j) t ≡ false → sum_by f (map (λ row. row.0) t) ≡ 0
   others j is [] h = refl
   others j is (row ∷ t) h = grind (arith, common_steps, key_eq_symm, or_parts, sum_by-cons, (others j is t))

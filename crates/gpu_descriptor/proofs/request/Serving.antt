@@ -1,4 +1,4 @@
--- What a table leaves of a request for sets of one of its keys.
+-- What a table leaves of a request for sets of one of its keys: the contract of `serve` and `serve_absent`.
 use Rattle.gpu_descriptor.proofs.Common.{◌≡◌, ◌+◌, ◌<◌, ◌^◌, ℕ, List, length, map, Result, Ok, Err, OnOk, sym, ap, arith, subst, Meaning, Ledger, AllocationError, BucketKey, DescriptorBucket, DescriptorPool, DescriptorSet, Stop, entry_of, Key, next_number, number_after, sum_over, bucket_load}
 use Rattle.gpu_descriptor.proofs.Common.{items_of, bucket_of, books_in, row_of, stored_numbers, stored_keys, with_key, CountsLooks, IsTaken, IsServed, IsUnserved, ServesKey}
 use Rattle.std.proofs.lemmas.Result.{on_ok_weaker}

@@ -1,4 +1,6 @@
 -- What a request takes keeps books and ledger in agreement, and exactly its sets are outstanding besides.
+-- For request.Outcomes, and so for `fill`: a request of n sets of a key took the grant g, and left the state t of s (`granted_`).
+-- `placed`: a portion's pool has its number. `apart`: of another name, or of another key.
 use Rattle.gpu_descriptor.proofs.Common.{◌≡◌, ◌≢◌, ℕ, suc, take, drop, ◌+◌, ◌-◌, ◌<◌, ◌⊎◌, inl, inr, List, [], ◌∷◌, ◌++◌, length, map, Bool, true, false, ◌==◌, Option, Some, None, refl, sym, ap, ◌∙◌, subst, arith, cases_Bool, cases_lt, ne_eqb, eqb-true, nil_from_length}
 use Rattle.gpu_descriptor.proofs.Common.{length-append, sum_by-append, slice_get, slice_get_within, slice_get_past, list_any, option_map, option_map_or, if◌then◌else◌, flags_of, Key, key_eq, Entry, Bucket, Pool, State, Item, LiveSet, live_sets, times, Agree, IsAsBooked, entry_at, live_at, live_in}
 use Rattle.gpu_descriptor.proofs.Common.{set_of, count_of, outstanding, pool_counts, map-append, times-append, eqb-false, slice_get-get_or, get_or_from_slice_get, get_or, IsBookedIn, Fresh, fresh_entries, fresh_entry, fresh_portions, next_number, numbers_of, rises, Grant, Part, IsGrantOf}
@@ -21,10 +23,12 @@ use Rattle.gpu_descriptor.proofs.request.TakenPlaces.{AreMade, apart_drop, came_
 abbrev IsPlaced : Bucket → ℕ → ℕ → Type 0
 IsPlaced b m q = (d : Entry) × (entry_at b m ≡ Some d) × (d.pool ≡ q)
 
+-- and so did each of a list
 abbrev ArePlaced : Bucket → List Portion → Type 0
 ArePlaced b [] = Unit {0}
 ArePlaced b (r ∷ rows) = IsPlaced b r.number r.pool × ArePlaced b rows
 
+-- so did those of two such lists, the shares of existing pools, and what new pools gave
 placed_append : (b : Bucket) (rows more : List Portion) → ArePlaced b rows → ArePlaced b more → ArePlaced b (rows ++ more)
 placed_append b [] more first last = last
 placed_append b (r ∷ rows) more first last = (first.0, placed_append b rows more first.1 last)
@@ -71,6 +75,7 @@ all_came k id b apart u f at key own (p ∷ parts) placed =
 -- ---- books and ledger
 
 module _ (k : Key) (n : ℕ) (g : Grant) (s : State) (agree : Agree s) (grant : IsGrantOf n (s.books k) s.ledger g) (made : AreMade g.fresh) where
+  -- the key's bucket before and after; the ledger and the state after; the live sets that came from the pool q
   abbrev b : Bucket
   b = s.books k
 
@@ -86,6 +91,7 @@ module _ (k : Key) (n : ℕ) (g : Grant) (s : State) (agree : Agree s) (grant : 
   abbrev sets : ℕ → List LiveSet
   sets q = live_sets k.counts (came g.parts q)
 
+  -- what the existing pools gave, what the new ones did, and the items that came
   abbrev shares : List Portion
   shares = portions_of g.refused n (drop g.skipped b.pools)
 
@@ -98,6 +104,7 @@ module _ (k : Key) (n : ℕ) (g : Grant) (s : State) (agree : Agree s) (grant : 
   no_item : (u : Item) → ((0 < count_of u items) → ⊥) → count_of u items ≡ 0
   no_item u never = elim (cases_lt 0 (count_of u items)) [ inl some ↦ absurd (never some) | inr none ↦ (omega arith) ]
 
+  -- as many sets came from a pool as the portions say
   came_is : (q : ℕ) → length (came g.parts q) ≡ given_at q shares + given_at q rest
   came_is q = came_long q g.parts ∙ ap (given_at q) grant.parts ∙ sum_by-append _ shares rest
 
@@ -122,6 +129,7 @@ module _ (k : Key) (n : ℕ) (g : Grant) (s : State) (agree : Agree s) (grant : 
   abbrev IsFresh : ℕ → Entry → Type 0
   IsFresh i f = (s.ledger f.pool ≡ None) × (j : ℕ) × (x : Fresh) × (i ≡ length b.pools + j) × (slice_get g.fresh j ≡ Some x) × (x.pool ≡ f.pool) × (f.number ≡ next_number b + j)
 
+  -- an entry f at place i of the new bucket: where it is from, that it is as booked, and what is live in its pool
   record Stands (i : ℕ) (f : Entry) : Type 0 where
     origin : WasAt k i f ⊎ IsFresh i f
     booked : IsBookedIn k after f
@@ -142,6 +150,7 @@ module _ (k : Key) (n : ℕ) (g : Grant) (s : State) (agree : Agree s) (grant : 
             omega arith);
       }
 
+  -- each entry of a new pool is so, and then each of the new bucket
   fresh_stands : (i j : ℕ) (f : Entry) → i ≡ length b.pools + j → slice_get (fresh_entries (next_number b) g.fresh) j ≡ Some f → Stands i f
   fresh_stands i j f place at =
       let x = new_stands k s.ledger (next_number b) g.fresh grant.new made j f at in
@@ -174,6 +183,7 @@ module _ (k : Key) (n : ℕ) (g : Grant) (s : State) (agree : Agree s) (grant : 
         | inr fresh ↦ fresh_stands i fresh.0 f fresh.1 fresh.2
       ]
 
+  -- a pool in the books of any key afterwards was there before, or is a new one of the request's key
   origin : (l : Key) (i : ℕ) (f : Entry) → slice_get (t.books l).pools i ≡ Some f → WasAt l i f ⊎ ((k ≡ l) × IsFresh i f)
   origin l i f at = elim (cases_Bool (key_eq k l)) [
     | inl is ↦ (
@@ -185,6 +195,7 @@ module _ (k : Key) (n : ℕ) (g : Grant) (s : State) (agree : Agree s) (grant : 
     | inr apart ↦ inl (f, rw apart at at, refl, refl)
   ]
 
+  -- a pool in the books before was live, so it hasn't a name that was free
   was_there : (l : Key) (i : ℕ) (e : Entry) (q : ℕ) → slice_get (s.books l).pools i ≡ Some e → s.ledger q ≡ None → e.pool ≢ q
   was_there l i e q at none same = (let was = agree.booked l i e at in let bad : ◌≡◌ {A = Option Pool} None (Some was.0) = sym none ∙ ap s.ledger (sym same) ∙ was.1 in absurd (cc))
 
@@ -352,6 +363,7 @@ module _ (k : Key) (n : ℕ) (g : Grant) (s : State) (agree : Agree s) (grant : 
     ],
   )
 
+  -- and a live pool that isn't in the books afterwards wasn't in them before, and was live as it is
   pub granted_loses_none : KeepsForeign t s
   granted_loses_none name pool foreign live =
       let new_ones : (j : ℕ) (f : Fresh) → slice_get g.fresh j ≡ Some f → (f.pool == name) ≡ false = λ j f at. ne_eqb f.pool name (foreign k (length b.pools + j) (fresh_entry (next_number b + j) f) (rw (key_exact.self k) (fresh_there j f at))) in

@@ -1,4 +1,6 @@
 -- What stands at the places of a key's pools once a request took sets of them: an old pool with what it gave, or a new one.
+-- For request.TakenAgrees. es are the entries before, of which the oldest, left of them, weren't asked; fs are the new pools, or their
+-- entries; q is the name of a pool. `apart`: of other names.
 use Rattle.gpu_descriptor.proofs.Common.{common_steps, greatest_pool_size, ◌≡◌, ◌≢◌, ℕ, zero, suc, take, drop, ◌+◌, ◌≤◌, ◌⊎◌, inl, inr, List, [], ◌∷◌, ◌++◌, length, map, Bool, false, ◌==◌, Option, Some, None, refl, sym, ap, ◌∙◌, subst, arith, cases_Bool, eq-eqb, ne_eqb, eqb-false, or_parts}
 use Rattle.gpu_descriptor.proofs.Common.{or_from, sum_by, sum_by-cons, sum_by-append, slice_get, list_any, if◌then◌else◌, flags_of, Key, Entry, Pool, pool_counts, Fresh, AreNew, AreSized, AreFull, IsFreshList, fresh_entries, fresh_entry, fresh_portions, Part, portion_of, came, fresh_or, Portion}
 use Rattle.gpu_descriptor.proofs.Common.{offer, share, shared, all_shared, portions_of}
@@ -11,6 +13,7 @@ use Rattle.gpu_descriptor.proofs.request.Shares.{IsApart, apart_from}
 
 -- ---- how many sets came from the pool of a name
 
+-- what a portion has of the pool named q, and what a list of them has
 abbrev gave : ℕ → Portion → ℕ
 gave q r = if r.pool == q then r.given else 0
 
@@ -32,6 +35,7 @@ no_fresh q number (f ∷ fs) none = grind (arith, common_steps, gave, or_parts, 
 
 -- ---- the old pools
 
+-- an existing pool gave its share
 became_shared : (refused : ℕ → Bool) (n : ℕ) (newer : List Entry) (e : Entry) → Became (share refused n newer e) (refused e.pool) e (shared refused n newer e)
 became_shared refused n newer e = record {
   number = refl;
@@ -66,6 +70,7 @@ apart_at q (x ∷ es) (suc i) e apart at = apart_at q es i e apart.1 at
 abbrev Stands : (ℕ → Bool) → List Portion → List Entry → List Entry → ℕ → Entry → Type 0
 Stands refused rows es fs i f = ((e : Entry) × (slice_get es i ≡ Some e) × Became (given_at e.pool rows) (refused e.pool) e f) ⊎ ((j : ℕ) × (i ≡ length es + j) × (slice_get fs j ≡ Some f))
 
+-- if none of the oldest is left alone
 shared_stands : (refused : ℕ → Bool) (n : ℕ) (es fs : List Entry) → AreApart es → (i : ℕ) (f : Entry) → slice_get (all_shared refused n es ++ fs) i ≡ Some f → Stands refused (portions_of refused n es) es fs i f
 shared_stands refused n [] fs apart i f at = inr (i, (omega arith), at)
 shared_stands refused n (e ∷ newer) fs apart zero f at =
@@ -126,6 +131,7 @@ abbrev pub AreMade : List Fresh → Type 0
 AreMade [] = Unit {0}
 AreMade (f ∷ fs) = (1 ≤ f.size) × (f.size ≤ greatest_pool_size) × (f.given ≤ f.size) × AreMade fs
 
+-- so do those of a prefix, of a prefix and one more, and of a fresh list
 pub made_prefix : (most : Option ℕ) (k : Key) (fs : List Fresh) (room total wanted : ℕ) → AreSized most k room total wanted fs → AreFull fs → AreMade fs
 made_prefix most k [] room total wanted sized full = tt
 made_prefix most k (f ∷ fs) room total wanted sized full = (sized.0.some, next_small most k _ _ _ f.size sized.0, (let is = full.0 in omega arith), made_prefix most k fs _ _ _ sized.1 full.1)
@@ -143,6 +149,7 @@ pub not_new : (ledger : ℕ → Option Pool) (q : ℕ) (pool : Pool) (fs : List 
 not_new ledger q pool [] new live = refl
 not_new ledger q pool (f ∷ fs) new live = or_from (f.pool == q) (list_any (λ f. f.pool == q) fs) (ne_eqb f.pool q (λ same. (let bad : ◌≡◌ {A = Option Pool} None (Some pool) = sym new.0 ∙ ap ledger same ∙ live in absurd (cc)))) (not_new ledger q pool fs new.2 live)
 
+-- a name of no new pool is in the ledger as it was
 pub fresh_or_past : (k : Key) (q : ℕ) (fs : List Fresh) (o : Option Pool) → list_any (λ f. f.pool == q) fs ≡ false → fresh_or k fs q o ≡ o
 fresh_or_past k q [] o none = refl
 fresh_or_past k q (f ∷ fs) o none = (let both = or_parts (f.pool == q) (list_any (λ f. f.pool == q) fs) none in rw both.0 (fresh_or_past k q fs o both.1))
@@ -157,6 +164,7 @@ pub record IsNew (k : Key) (ledger : ℕ → Option Pool) (number : ℕ) (fs : L
   pub there : (o : Option Pool) → fresh_or k fs fresh.pool o ≡ Some (ledgers.fresh (pool_counts k.counts fresh.size) fresh.size (flags_of k))
   pub made : (1 ≤ fresh.size) × (fresh.size ≤ greatest_pool_size) × (fresh.given ≤ fresh.size)
 
+-- so is each entry of the new pools
 pub new_stands : (k : Key) (ledger : ℕ → Option Pool) (number : ℕ) (fs : List Fresh) → AreNew ledger fs → AreMade fs → (j : ℕ) (e : Entry) → slice_get (fresh_entries number fs) j ≡ Some e → IsNew k ledger number fs j e
 new_stands k ledger number [] new made j e at = absurd (cc)
 new_stands k ledger number (f ∷ fs) new made zero e at = grind (arith, common_steps, gave, no_fresh, sum_by-cons)

@@ -1,4 +1,6 @@
 -- One step of the walk over a key's pools.
+-- For request.Walking. The pool at place i is asked: its entry e becomes f, and the sets names came. newer are the pools after it,
+-- refused says which of them refused, and parts what they gave; `_now` is what the grant says after the step.
 use Rattle.gpu_descriptor.proofs.Common.{common_steps, ◌≡◌, ℕ, suc, ◌+◌, inl, inr, List, [], ◌∷◌, ◌++◌, length, map, take, drop, slice_set, Bool, true, false, cond, ◌&&◌, ◌==◌, nat_eq, nat_lt, Option, Some, None, refl, sym, ap, ◌∙◌, subst, arith, eqb-true, eq-eqb, or_cases, and_parts, and_from}
 use Rattle.gpu_descriptor.proofs.Common.{or_left, or_right, eqb-false, fun_ext, map-append, append-nil, sum_by-cons, if◌then◌else◌, option_map, times-append, Key, Entry, Bucket, Item, Pool, Ledger, Counters, live_sets, on_pool, flat_map-append, Grant, Part, fresh_or, items_at, items_in}
 use Rattle.gpu_descriptor.proofs.Common.{portion_of, came, pool_with, ledger_with, Fresh, risen, grant_rise, offer, rest, is_asked, share, all_shared, asked_count, refused_count, OnlyAskedRefuse, portions_of, IsAsked, HasTaken}
@@ -7,6 +9,7 @@ use Rattle.gpu_descriptor.proofs.request.Asks.{same_counters}
 use Rattle.gpu_descriptor.proofs.table.Exact.{bucket}
 use Rattle.gpu_descriptor.proofs.request.Shares.{IsApart, or_at, or_at_apart, or_at_here, AreSame, all_same}
 
+-- parts and grants by their fields, and a grant without new pools
 abbrev pub part : ℕ → ℕ → List ℕ → Part
 part number pool names = record { number = number; pool = pool; names = names }
 
@@ -63,6 +66,7 @@ module _ (id n i : ℕ) (refused : ℕ → Bool) (parts : List Part) (old : List
   abbrev part_now : Part
   part_now = part e.number e.pool names
 
+  -- of the newer pools nothing changes; this one is asked, offers and gives as the device had it
   same : AreSame now refused n newer
   same = all_same a.refused e.pool refused n newer apart
 
@@ -85,6 +89,7 @@ module _ (id n i : ℕ) (refused : ℕ → Bool) (parts : List Part) (old : List
     | inr before ↦ or_right _ _ (same.asks name ∙ was name before)
   ]
 
+  -- so the grant after the step: its portions, entries, counts, counters, parts and ledger
   rows_now : portions_of now n (e ∷ newer) ≡ portions_of refused n newer ++ record { number = e.number; pool = e.pool; given = length names } ∷ []
   rows_now = (let r = same.rows in let s = share_now in cc)
 

@@ -1,4 +1,6 @@
 -- The walk over a key's pools, as far as it has come.
+-- For `walk`, by request.OpenWalk. Of n sets, wanting are still wanting; left is how many of the oldest pools weren't asked yet.
+-- old and l are the key's entries and the ledger before the walk, new and m those now; items are the sets that came.
 use Rattle.gpu_descriptor.proofs.Common.{common_steps, ◌≡◌, ◌≢◌, ℕ, zero, suc, ◌+◌, ◌<◌, ◌≤◌, List, [], ◌∷◌, ◌++◌, length, map, min, take, drop, slice_set, Bool, false, nat_lt, ◌&&◌, Option, None, Some, Err, refl, sym, ap, ◌∙◌, subst, arith, append-nil, drop_all, fun_ext, slice_get, Key, Entry}
 use Rattle.gpu_descriptor.proofs.Common.{Item, Pool, Ledger, live_sets, DeviceAllocationError, set_at, update_apart, items_of, Part, items_at, pool_with, ledger_with, rest, all_shared, IsBookedIn, AreBookedIn, IsAsked, IsNoMemory, HasTaken, IsWalked, IsTaken, option_map}
 use Rattle.gpu_descriptor.specs.declared.bucket.stop.Stop.TheVariants.{ExistingPoolWithoutMemory}
@@ -14,6 +16,7 @@ pub record Walking (k : Key) (n id left wanting : ℕ) (items : List Item) (old 
   pub parts : List Part
   pub wants : wanting ≡ rest refused n (drop left old)
   pub taken : HasTaken k n (so_far id left refused parts) items (bucket id old) (bucket id new) l m
+  -- a pool that wasn't asked yet is as it was
   pub untouched : (j : ℕ) (e : Entry) → j < left → slice_get old j ≡ Some e → m.pools e.pool ≡ l.pools e.pool
 
 get_take : {A : Type 0} (xs ys : List A) (i : ℕ) → i < length xs → slice_get (take (suc i) xs ++ ys) i ≡ slice_get xs i
@@ -22,6 +25,7 @@ get_take (x ∷ xs) ys zero h = refl
 get_take (x ∷ xs) ys (suc i) h = get_take xs ys i (omega arith)
 
 module _ (k : Key) (n id i wanting : ℕ) (items : List Item) (old new : List Entry) (l m : Ledger) (booked : AreBookedIn k l.pools old) (s : Walking k n id (suc i) wanting items old new l m) where
+  -- the next pool is as it was in the books, and in the ledger as they say
   pub next_was : i < length old → slice_get new i ≡ slice_get old i
   next_was here = grind (arith, common_steps, append-nil, get_take)
 
@@ -33,6 +37,7 @@ module _ (k : Key) (n id i wanting : ℕ) (items : List Item) (old new : List En
   apart : (e : Entry) → slice_get old i ≡ Some e → IsApart e.pool (drop (suc i) old)
   apart e at = apart_from e.pool (drop (suc i) old) (λ j d there same. (let place = booked.distinct (suc i + j) i d e (sym (get_drop old (suc i) j) ∙ there) at same in absurd (omega arith)))
 
+  -- one step: the next pool was asked
   pub walk_more : (e f : Entry) (more : List ℕ) (m' : Ledger) (wanting' : ℕ) → slice_get old i ≡ Some e → IsAsked k wanting more e f m m' → wanting' + length more ≡ wanting → Walking k n id i wanting' (items ++ items_at k id e.number more) old (slice_set new i f) l m'
   walk_more e f more m' wanting' at asked less =
       let a : IsAsked k (rest s.refused n (drop (suc i) old)) more e f m m' = subst (λ (w : ℕ). IsAsked k w more e f m m') s.wants asked in
@@ -54,6 +59,7 @@ module _ (k : Key) (n id i wanting : ℕ) (items : List Item) (old new : List En
 ledger_none : (k : Key) (id left : ℕ) (pools : ℕ → Option Pool) → pools ≡ ledger_with k (so_far id left (λ _. false) []) pools
 ledger_none k id left pools = fun_ext (λ q. sym (none_with (pools q)))
 
+-- before the first step, after the last one (`walk_end`), and at a pool that returned a memory error (`walk_stop`)
 pub walk_start : (k : Key) (n id : ℕ) (old : List Entry) (l : Ledger) → Walking k n id (length old) n [] old old l l
 walk_start k n id old l =
     let none : drop (length old) old ≡ [] = drop_all (length old) old (omega arith) in

@@ -1,4 +1,6 @@
 -- The running totals of a table, and what a run takes from them.
+-- For the functions of the allocator that keep its totals (IsConsistent). es and fs are the map's entries before and after a write, v
+-- and w the bucket of the key k that was there and that is; left is the room then.
 use Rattle.gpu_descriptor.proofs.Common.{◌≡◌, ℕ, ◌+◌, ◌-◌, ◌≤◌, Bool, true, List, [], ◌∷◌, ◌++◌, length, map, sum_by, Option, Some, None, inl, inr, refl, sym, ap, ◌∙◌, arith, zero, suc, slice_get, lookup, set_value, cases_Bool, sum_by-cons, BucketKey, DescriptorSet, DescriptorBucket, Key, key_eq}
 use Rattle.gpu_descriptor.proofs.Common.{sum_over, key_of, Allocations, common_steps, bucket_load, descriptors_out, set_descriptors, sets_out, marked_descriptors, items_of, outstanding_of, marked_load_of, AllPass, kept_in, kept_of, row_of, stored_load, IsConsistent}
 use Rattle.indexmap.specs.Layout.{set_value_at}
@@ -67,12 +69,14 @@ module _ {P : Type 0} where
 
   -- ---- the totals that the code keeps are those that callers see
 
+  -- what an entry of the map adds to the marked load, and to the pool load
   abbrev pub load_in : BucketKey × DescriptorBucket P → ℕ
   load_in r = set_descriptors (key_of r.0) r.1.total
 
   abbrev pub stored_load_in : BucketKey × DescriptorBucket P → ℕ
   stored_load_in r = stored_load (key_of r.0) r.1.pools.items
 
+  -- sets that are out, marked load, pool load: the sums over the rows are sums over the map's entries
   pools_out : (r : BucketKey × DescriptorBucket P) → sets_out (key_of r.0) (kept_in r.1) ≡ r.1.total
   pools_out r = sum_map _ kept_of _ (λ p. refl) r.1.pools.items ∙ sym r.1.counted
 
@@ -89,6 +93,7 @@ pub run_load : {S : Type 0} (name : S → ℕ) (k : Key) (n : ℕ) (xs : List (D
 run_load name k n [] have = sym (set_descriptors-none k)
 run_load name k n (x ∷ xs) have = grind (arith, common_steps, at_parts, (run_load name k n xs have.1))
 
+-- a new key comes last, and its pools took of the room
 pub pools_end : {P : Type 0} (k : BucketKey) (es : List (BucketKey × DescriptorBucket P)) (w : DescriptorBucket P) (left room : ℕ) → left + stored_load (key_of k) w.pools.items ≡ room → left + sum_over bucket_load (map row_of (es ++ (k, w) ∷ [])) ≡ room + sum_over bucket_load (map row_of es)
 pools_end {P} k es w left room moved = grind (arith, common_steps)
 
@@ -112,6 +117,7 @@ module _ {P : Type 0} {k : Key} {es : List (BucketKey × DescriptorBucket P)} {v
       omega arith
 
 module _ {P : Type 0} {k : Key} {es fs : List (BucketKey × DescriptorBucket P)} {v w : DescriptorBucket P} (r : IsWritten k es fs v w) where
+  -- the pools of the bucket took of the room, or gave some back
   pub pools_set : (left room : ℕ) → left + stored_load k w.pools.items ≡ room + stored_load k v.pools.items → left + sum_over bucket_load (map row_of fs) ≡ room + sum_over bucket_load (map row_of es)
   pools_set left room moved =
       let a = sum_set (stored_load_in {P = P}) r.row.test es v w r.row.at in
@@ -123,6 +129,7 @@ module _ {P : Type 0} {k : Key} {es fs : List (BucketKey × DescriptorBucket P)}
       let sums = a.3 in
       omega arith
 
+  -- of the bucket n sets fewer are out: so it is of the totals
   taken_out : (n : ℕ) → w.total + n ≡ v.total → sum_over sets_out (map row_of (set_value r.row.test es w)) + n ≡ sum_over sets_out (map row_of es)
   taken_out n total = (let moved = (sum_set (λ (b : BucketKey × DescriptorBucket P). b.1.total) r.row.test es v w r.row.at).3 in let was = rows_out es in let is = rows_out (set_value r.row.test es w) in omega arith)
 
@@ -145,6 +152,7 @@ module _ {P : Type 0} {k : Key} {n : ℕ} {es fs : List (BucketKey × Descriptor
   pub load_fits : {limit marked room out : ℕ} → IsConsistent limit marked room out es → set_descriptors k n ≤ marked
   load_fits counted = (let is = counted.is_load in let load = t.load in omega arith)
 
+  -- the totals that the code then writes are right
   pub counted_after : {limit marked room left out less : ℕ} → IsConsistent limit marked room out es → less ≡ set_descriptors k n → left + sum_over bucket_load (map row_of fs) ≡ room + sum_over bucket_load (map row_of es) → IsConsistent limit (marked - less) left (out - n) fs
   counted_after counted load pools = grind arith
 

@@ -1,4 +1,6 @@
 -- As many sets are out as are outstanding.
+-- For `laws::out_is_outstanding`. A list is made, pool by pool and row by row, that has each item as often as it is outstanding. It is
+-- in ∥ ∥₁, as the agreement says of a pool's live sets only that they have a list.
 use Rattle.std.specs.List.{find}
 use Rattle.gpu_descriptor.proofs.Common.{list_all, nat_lt, and_parts, ltb-true, eqb-true, eqb-false, rises, numbers_of, ◌≡◌, ℕ, suc, ◌+◌, ◌<◌, ◌≤◌, ◌==◌, true, false, List, [], ◌∷◌, ◌++◌, length, map, sum_by, slice_get, Option, Some, None, inl, inr, refl, sym, ap, ◌∙◌, arith, length-append}
 use Rattle.gpu_descriptor.proofs.Common.{if◌then◌else◌, cases_Bool, cases_lt, length-map, sum_by-append, sum_by-cons, Pool, live_sets, LiveSet, set_eq, times, count_by_yes, count_by_no, counts_alike, set_exact, State, Agree, Item, item_eq, set_of, count_of, live_at, outstanding, Key, key_eq}
@@ -41,6 +43,7 @@ absent_behind : (es : List Entry) (n : ℕ) → list_all (nat_lt n) (numbers_of 
 absent_behind [] n h = refl
 absent_behind (e ∷ es) n h = grind (arith, common_steps, and_parts, ltb-true, (absent_behind es n))
 
+-- by induction over the key's pools: the sets of the first pool, and those out of the later ones
 key_out : (k : Key) (id : ℕ) (es : List Entry) (ledger : ℕ → Option Pool) → rises (numbers_of es) ≡ true → ((i : ℕ) (e : Entry) → slice_get es i ≡ Some e → IsBookedIn k ledger e) → ∥ OutOf k (bucket id es) ledger ∥₁
 unfolding names_in
 key_out k id [] ledger rising booked = ∣ record { items = []; many = refl; of_key = λ t some. absurd (omega arith); each = λ t key own_id. sym (none_out ledger id t) } ∣₁
@@ -95,6 +98,7 @@ each_out k b ledger out t key = grind arith
 abbrev OutOfAll : (ℕ → Option Pool) → List (Key × Bucket) → Type 0
 OutOfAll ledger table = (items : List Item) × (length items ≡ sum_over sets_out table) × ((t : Item) → count_of t items ≡ out_at ledger (books_of table t.key) t) × (marked_descriptors items ≡ sum_over descriptors_out table)
 
+-- by induction over the rows: the sets out of the first row's pools, and those of the others
 table_out : (ledger : ℕ → Option Pool) (table : List (Key × Bucket)) → HasDistinctKeys table → ((k : Key) → rises (numbers_of (books_of table k).pools) ≡ true) → ((k : Key) (i : ℕ) (e : Entry) → slice_get (books_of table k).pools i ≡ Some e → IsBookedIn k ledger e) → ∥ OutOfAll ledger table ∥₁
 table_out ledger [] distinct rising booked = ∣ ([], refl, (λ t. sym (out_of_none ledger t)), refl) ∣₁
 table_out ledger (row ∷ table) distinct rising booked =
@@ -134,6 +138,7 @@ table_out ledger (row ∷ table) distinct rising booked =
 all_out : (s : State) (f : Key → Bucket → ℕ) (n : ℕ) → Agree s → (out : AddsUp f s.books n) → ∥ OutOfAll s.ledger out.table ∥₁
 all_out s f n agree out = table_out s.ledger out.table out.distinct (λ k. ap (λ (b : Bucket). rises (numbers_of b.pools)) (out.keeps k) ∙ agree.rising k) (λ k i e at. (booked_of s k agree).each i e (ap (λ (b : Bucket). slice_get b.pools i) (sym (out.keeps k)) ∙ at))
 
+-- the sum over the books is how many sets are outstanding: some list has them, and each that does is so long
 pub out_is_size : (s : State) (n : ℕ) → Agree s → AddsUp sets_out s.books n → ∥ ((items : List Item) × (length items ≡ n) × ((t : Item) → count_of t items ≡ outstanding s t)) ∥₁
 out_is_size s n agree out = ∥∥₁_map (all_out s sets_out n agree out) (λ all. (all.0, all.1 ∙ out.total, λ t. all.2 t ∙ ap (λ (b : Bucket). out_at s.ledger b t) (out.keeps t.key)))
 
@@ -163,6 +168,7 @@ removed f t (u ∷ m) some = elim (cases_Bool (item_eq u t)) [
       ))
 ]
 
+-- lists that have each item equally often have equal sums
 sums_alike : (f : Item → ℕ) (m n : List Item) → ((u : Item) → count_of u m ≡ count_of u n) → sum_by f m ≡ sum_by f n
 sums_alike f [] [] alike = refl
 sums_alike f [] (t ∷ n) alike =
@@ -175,6 +181,7 @@ sums_alike f (t ∷ m) n alike =
     let rest = sums_alike f m out.0 (λ u. let a = alike u in let b = out.1 u in let c = cons_count u t m in let d = cons_count u t out.0 in omega arith) in
     grind (arith, common_steps, sum_by-cons)
 
+-- so the marked load is the descriptors of the outstanding marked sets
 pub load_is_descriptors : (s : State) (n : ℕ) → Agree s → AddsUp descriptors_out s.books n → (items : List Item) → ((t : Item) → count_of t items ≡ outstanding s t) → marked_descriptors items ≡ n
 load_is_descriptors s n agree load items alike = ∥∥₁_elim (all_out s descriptors_out n agree load) (search props) (λ all.
     sums_alike (λ (t : Item). set_descriptors t.key 1) items all.0 (λ t. alike t ∙ sym (all.2 t ∙ ap (λ (b : Bucket). out_at s.ledger b t) (load.keeps t.key))) ∙ all.3 ∙ load.total)

@@ -7,6 +7,7 @@ use Rattle.gpu_descriptor.proofs.sums.Loads.{set_descriptors-none, set_descripto
 use Rattle.gpu_descriptor.proofs.sums.PoolCounts.{booked_load}
 use Rattle.gpu_descriptor.proofs.table.Tables.{sum_over_below, sum_by_books}
 
+-- each of these entries is in the ledger as the books say
 abbrev AllBooked : Key → (ℕ → Option Pool) → List Entry → Type 0
 AllBooked k ledger es = (i : ℕ) (e : Entry) → slice_get es i ≡ Some e → IsBookedIn k ledger e
 
@@ -29,6 +30,7 @@ plain_entries k (e ∷ es) plain = grind (arith, (plain_entries k es plain))
 
 -- ---- what is out of a key's pools
 
+-- so many sets have no more descriptors than a pool of them
 out_of_entry : (k : Key) (n : ℕ) → set_descriptors k n ≤ pool_descriptors k n
 out_of_entry k n = elim (cases_Bool k.marked) [ inl on ↦ rw on (omega arith) | inr off ↦ rw off (omega arith) ]
 

@@ -1,4 +1,5 @@
 -- The ids of a table's keys: they rise, so one place has each, and one key.
+-- For `place_of_id`, which finds an entry of the map by halving, and for `release_run`.
 use Rattle.gpu_descriptor.proofs.Common.{◌≡◌, ◌<◌, ℕ, zero, suc, Bool, true, false, ◌∷◌, [], List, length, slice_get, Option, Some, None, inl, inr, refl, sym, ap, subst, ◌∙◌, arith, slice_index_or, nat_lt, list_all, IsNonDecreasingBy, IsPartitionPoint, IsPartitionedBy, lookup, values_of}
 use Rattle.gpu_descriptor.proofs.Common.{cases_Bool, cases_lt, and_parts, ltb-true, ltb-false, BucketKey, DescriptorBucket, Key, key_eq, key_of, common_steps, rises, stored_ids}
 use Rattle.gpu_descriptor.proofs.lists.Numbers.{all_above, rises_at}
@@ -70,6 +71,7 @@ module _ {P : Type 0} where
   abbrev Is : BucketKey × DescriptorBucket P → Key → DescriptorBucket P → Type 0
   Is e k w = (key_of e.0 ≡ k) × (e.1 ≡ w)
 
+  -- the row that a key's test finds is the first, if that has its id, or else among the later ones
   first_is : (x : BucketKey × DescriptorBucket P) (es : List (BucketKey × DescriptorBucket P)) → list_all (nat_lt x.1.id) (stored_ids es) ≡ true → (k : Key) (w : DescriptorBucket P) → lookup (λ l. key_eq k (key_of l)) (x ∷ es) ≡ Some w → x.1.id ≡ w.id → Is x k w
   first_is x es above k w found same = elim (cases_Bool (key_eq k (key_of x.0))) [
     | inl hit ↦ (sym (key_exact.same k (key_of x.0) hit), inside x.1 w (rw hit at found))

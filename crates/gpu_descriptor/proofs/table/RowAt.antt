@@ -1,4 +1,5 @@
 -- The row at a place of the table is the row of its key.
+-- For `serve`, `release_run` and `sweep`, which read and write the map at a place, while lemmas on books go by the key.
 use Rattle.gpu_descriptor.proofs.Common.{◌≡◌, ℕ, zero, suc, Bool, true, false, sym, List, [], ◌∷◌, slice_get, Option, Some, None, refl, ap, ◌∙◌, IsDistinct, AllByRecursion, lookup, set_value, values_of, BucketKey, DescriptorBucket, Key, key_eq, key_of, arith, is_of, stored_keys}
 use Rattle.indexmap.specs.Layout.{set_value_at}
 use Rattle.gpu_descriptor.proofs.table.Exact.{key_exact}
@@ -24,6 +25,7 @@ module _ {P : Type 0} (k : Key) where
   none_here e (x ∷ es) all zero v h = key_eq_symm k (key_of e.0) ∙ ap (key_eq (key_of e.0)) (sym (is_here x es v h)) ∙ all.0
   none_here e (x ∷ es) all (suc i) v h = none_here e es all.1 i v (record { key = h.key; at = h.at; is = h.is })
 
+  -- the key's test finds the bucket at the place, and a write by it is one there
   pub found_at : (es : List (BucketKey × DescriptorBucket P)) → IsDistinct key_eq (stored_keys es) → (i : ℕ) (v : DescriptorBucket P) → IsAt k es i v → lookup (is_of k) es ≡ Some v
   unfolding IsDistinct
   found_at [] d i v h = absurd (let at = h.at in let bad : ◌≡◌ {A = Option (BucketKey × DescriptorBucket P)} None (Some (h.key, v)) = at in cc)

@@ -1,4 +1,4 @@
--- Sums over a table depend on the books that it keeps, and not on its order.
+-- Sums over a table depend on the books that it keeps, and not on its order: for `laws::books_alone`.
 use Rattle.gpu_descriptor.proofs.Common.{◌≡◌, ℕ, ◌+◌, ◌≤◌, true, false, cond, List, [], ◌∷◌, inl, inr, refl, sym, ap, ◌∙◌, subst, arith, list_any, cases_Bool, sum_by-append, Key, key_eq, Bucket, no_pools, books_of, HasDistinctKeys, sum_over, common_steps}
 use Rattle.gpu_descriptor.proofs.table.Exact.{key_exact}
 
@@ -32,6 +32,7 @@ sum_over_below f g (row ∷ t) none distinct below =
     let here : f row.0 row.1 ≤ g row.0 row.1 = subst (λ (b : Bucket). f row.0 b ≤ g row.0 b) (first_books row t) (below row.0) in
     grind (arith, common_steps, none_behind, sum_more, (sum_over_below f g t none distinct.1))
 
+-- the table without a key's row: its sum, its keys, its books
 sum_without : (f : Key → Bucket → ℕ) → ((k : Key) → f k no_pools ≡ 0) → (k : Key) (t : List (Key × Bucket)) → sum_over f t ≡ f k (books_of t k) + sum_over f (without k t)
 unfolding without
 sum_without f none k [] = (let e = none k in omega arith)
@@ -56,6 +57,7 @@ unfolding without
 books_without k l [] h = elim (cases_Bool (key_eq k l)) [ inl e ↦ rw e refl | inr e ↦ rw e refl ]
 books_without k l (row ∷ t) h = grind (arith, absent, key_exact, (books_without k l t h.1))
 
+-- by induction over the table t, whose rows are taken out of u one by one
 pub sum_by_books : (f : Key → Bucket → ℕ) (t u : List (Key × Bucket)) → ((k : Key) → f k no_pools ≡ 0) → HasDistinctKeys t → HasDistinctKeys u → ((k : Key) → books_of t k ≡ books_of u k) → sum_over f t ≡ sum_over f u
 sum_by_books f [] u none dt du same = sym (nothing u du (λ k. sym (same k)))
   where

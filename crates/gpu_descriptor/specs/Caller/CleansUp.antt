@@ -10,6 +10,7 @@ use Rattle.gpu_descriptor.specs.Caller.Others.{others_of}
 use Rattle.gpu_descriptor.specs.Caller.States.{keys_of, marked_load_of, outstanding_of, state_of}
 use Rattle.gpu_descriptor.specs.Caller.Values.{Allocations}
 
+-- each key lost its empty pools: all of them if everywhere is true (a trim), or those at its front (a cleanup)
 pub record Sweeps (everywhere : Bool) {L P S : Type 0} (means : Meaning L P S) (old new : Side (Allocations P)) : Type 0 where
   -- each key loses its empty pools, or those at its front, the last pool too
   pub cleaned : LosesEmpty everywhere (state_of means.pool_name old.value old.ledger) (state_of means.pool_name new.value new.ledger)

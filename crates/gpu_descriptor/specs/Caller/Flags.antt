@@ -2,6 +2,7 @@
 use Rattle.std.specs.Prelude.{ℕ, Bool, ◌==◌, bit_and}
 use Rattle.gpu_descriptor.specs.declared.flags.DescriptorSetLayoutCreateFlags.{DescriptorSetLayoutCreateFlags}
 
+-- the number of a value of flags
 abbrev pub layout_bits : DescriptorSetLayoutCreateFlags → ℕ
 layout_bits flags = flags.0
 

@@ -36,6 +36,7 @@ module _ {L P S : Type 0} (means : Meaning L P S) where
 
   -- these sets are freed, in one release call for each run
   pub record Returns (sets : List (DescriptorSet S)) (old new : Side (Allocations P)) : Type 0 where
+    -- in as many calls as the list has runs
     pub back : GivesBack sets (runs (items_of means.set_name sets)) old new
     -- the keys keep their order
     pub keys : keys_of new.value ≡ keys_of old.value

@@ -48,13 +48,18 @@ pub record HandsOut {L P S : Type 0} (means : Meaning L P S) (k : Key) (count : 
   pub declined : taken_by outcome ≡ None → (new.value ≡ old.value) × (new.ledger ≡ old.ledger)
   -- a rollback compares no more than a release of its sets, and no other request compares
   pub searches : OnErr answer (MatchOption (taken_by outcome) (new.value.comparisons ≡ old.value.comparisons) (λ g. new.value.comparisons ≤ old.value.comparisons + run_digits (granted k count g (state_of means.pool_name old.value old.ledger)) (items_in k g.id g.parts)))
+  -- a request that was met compares nothing
   pub comparisons_stay : OnOk answer (new.value.comparisons ≡ old.value.comparisons)
   -- the number of comparisons never falls
   pub compared : old.value.comparisons ≤ new.value.comparisons
 
 -- a request of so many sets of a layout appended them to a list
 pub record HandsInto {L P S : Type 0} (means : Meaning L P S) (layout : L) (count : ℕ) (answer : Result (Unit {0}) AllocationError) (had has : List (DescriptorSet S)) (old new : Side (Allocations P)) : Type 0 where
+  -- what a request leaves of the allocator and the ledger, with the sets that were appended as its result
   pub hands_out : HandsOut means (layout_key means layout) count (map_ok (λ done. appended had has) answer) old new
+  -- what was in the list stays, in front
   pub front : OnOk answer (has ≡ had ++ appended had has)
+  -- the sets that were appended were made with the layout
   pub own : OnOk answer (AreOfLayout means layout (appended had has))
+  -- a refused request leaves the list
   pub sets_stay : OnErr answer (has ≡ had)

@@ -17,8 +17,10 @@ module _ {L P S : Type 0} (means : Meaning L P S) where
 
   -- so many sets of the layout, and of its key, were appended to a list
   pub record Adds (layout : L) (count : ℕ) (old new : List (DescriptorSet S)) : Type 0 where
+    -- the sets that were appended
     pub sets : List (DescriptorSet S)
     pub many : length sets ≡ count
     pub own : AreOfLayout means layout sets
     pub of_key : AreOfKey (layout_key means layout) (items_of means.set_name sets)
+    -- they come after what was in the list
     pub appended : new ≡ old ++ sets

@@ -11,10 +11,11 @@ module _ {P : Type 0} (name : P → ℕ) where
   abbrev pub named : EntryOf P → Entry
   named e = record { number = e.number; pool = name e.pool; capacity = e.capacity; allocated = e.allocated; available = e.available }
 
-  -- and a bucket, and a row
+  -- and a bucket with its pools named so
   abbrev pub named_bucket : BucketOf P → Bucket
   named_bucket b = record { id = b.id; pools = map named b.pools }
 
+  -- and a row of the table
   abbrev pub named_row : Key × BucketOf P → Key × Bucket
   named_row r = (r.0, named_bucket r.1)
 

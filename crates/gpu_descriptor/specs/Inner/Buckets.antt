@@ -10,6 +10,7 @@ use Rattle.gpu_descriptor.specs.Model.Release.{empty_front, without_front, in_fr
 -- an entry has its pool in the ledger
 pub record IsBookedIn (k : Key) (pools : ℕ → Option Pool) (e : Entry) : Type 0 where
   pub pool : Pool
+  -- it is live under the entry's name
   pub is_live : pools e.pool ≡ Some pool
   pub booked : IsAsBooked k pool e
 

@@ -16,12 +16,16 @@ use Rattle.gpu_descriptor.specs.Inner.Walk.{HasTaken, IsRefused}
 -- a new pool was created and gave what it has of so many sets. It took of the room what it has
 pub record IsGrown (most : Option ℕ) (k : Key) (room left total wanted : ℕ) (names : List ℕ) (old new : List Entry) (before after : Ledger) : Type 0 where
   pub pool : Fresh
+  -- it has the size of the key's next pool at that moment
   pub size : IsNextSize most k room total wanted pool.size
   pub less : left + pool_descriptors k pool.size ≡ room
   pub given : pool.given ≡ min pool.size wanted
   pub many : length names ≡ pool.given
+  -- its name was that of no live pool
   pub is_new : before.pools pool.pool ≡ None
+  -- its entry comes last, with the next number
   pub entries : new ≡ old ++ fresh_entry (number_after (numbers_of old)) pool ∷ []
+  -- it was created in the ledger, and has the sets
   pub pools : after.pools ≡ on_pool pool.pool (pool_with (live_sets k.counts names) false) (update nat_eq before.pools pool.pool (Some (fresh (pool_counts k.counts pool.size) pool.size (flags_of k))))
   pub counters : after.counters ≡ risen (record no_rise { created = 1; asked = 1 }) before.counters
 

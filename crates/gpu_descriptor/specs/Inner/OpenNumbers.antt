@@ -18,6 +18,7 @@ stored_numbers pools = map (λ p. p.number) pools
 abbrev pub first_ordinal : {P : Type 0} → List (DescriptorPool P) → ℕ
 first_ordinal pools = number_after (stored_numbers pools) - length pools
 
+-- how many free places each pool is known to have
 abbrev pub free_in : {P : Type 0} → List (DescriptorPool P) → List ℕ
 free_in pools = map (λ p. p.available) pools
 
@@ -25,5 +26,6 @@ free_in pools = map (λ p. p.available) pools
 pub record IsEntered (number : ℕ) (old new : List ℕ) : Type 0 where
   pub place : ℕ
   pub within : place ≤ length old
+  -- the numbers before the place are below it, and none from the place on is
   pub point : IsPartitionPoint (λ x. x < number) (λ x. number ≤ x) old place
   pub is : new ≡ insert old place number

@@ -15,8 +15,11 @@ use Rattle.gpu_descriptor.specs.Model.Books.{Key, Entry, Bucket, entry_at}
 -- the sets of these names are live in the key's pool with the number
 pub record IsTakenAt (k : Key) (number : ℕ) (names : List ℕ) (b : Bucket) (pools : ℕ → Option Pool) : Type 0 where
   pub entry : Entry
+  -- the pool of the number has this entry
   pub at : entry_at b number ≡ Some entry
+  -- so many sets are allocated from it
   pub fits : length names ≤ entry.allocated
+  -- each set is live in it, at least as often as its name is in the list
   pub live : (x : LiveSet) → times (live_sets k.counts names) x ≤ live_in pools entry.pool x
 
 -- the bucket once n sets of the pool at a place are freed
@@ -27,6 +30,7 @@ bucket_back b place n e = record b { pools = set b.pools place (entry_less n e) 
 pub record Releases (k : Key) (number : ℕ) (names : List ℕ) (old : Bucket) (before : Ledger) (new : Bucket) (after : Ledger) : Type 0 where
   pub place : ℕ
   pub entry : Entry
+  -- the pool has this entry, at this place of the bucket
   pub at : slice_get old.pools place ≡ Some entry
   pub named : entry.number ≡ number
   pub books : new ≡ bucket_back old place (length names) entry
@@ -45,5 +49,7 @@ names_of name xs = map (λ x. name x.raw) xs
 pub record FreesRun {L P S T : Type 0} (steps : T → Option (DescriptorSet S) → T → Type 0) (means : Meaning L P S) (first : DescriptorSet S) (given : T) (ahead : Option (DescriptorSet S)) (left : T) (old new : Side (Allocations P)) : Type 0 where
   -- the sets after first
   pub sets : List (DescriptorSet S)
+  -- the iterator gave these, all of the run's key and pool, and then a set that isn't, or its end
   pub came : EndsRun steps (lies_at first.key.is first.number) given sets ahead left
+  -- the run was freed, in one call
   pub back : GivesBack means (first ∷ sets) 1 old new

@@ -40,6 +40,7 @@ module _ {T S : Type 0} (steps : T → Option (DescriptorSet S) → T → Type 0
         (λ x. MatchBool (at_place s.id s.number x) ((r ≡ Some x.raw) × (t.ahead.now ≡ None) × (t.count ≡ s.count + 1))
         ((r ≡ None) × (t.ahead.now ≡ Some x) × (t.count ≡ s.count)))
 
+    -- one step of a run: it looks at the set ahead or at the source's next, and gives the raw set or stops
     abbrev pub RunStep : Run T S → Option S → Run T S → Type 0
     RunStep s r t = (t.id ≡ s.id) × (t.number ≡ s.number) × (t.source.ghost_name ≡ s.source.ghost_name) × (t.ahead.ghost_name ≡ s.ahead.ghost_name)
         × ((o : Option (DescriptorSet S)) × Looks s.source.now s.ahead.now o t.source.now × Hands s o r t)

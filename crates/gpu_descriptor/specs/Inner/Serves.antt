@@ -32,13 +32,16 @@ pub record IsSound {P : Type 0} (name : P → ℕ) (a : Allocations P) : Type 0 
 module _ {L P S : Type 0} (means : Meaning L P S) where
   -- sets of a layout were appended to a list, and so many of them are left to come
   pub record Appends (layout : L) (count left : ℕ) (old new : List (DescriptorSet S)) : Type 0 where
+    -- what was in the list stays, in front
     pub front : new ≡ old ++ appended old new
+    -- those that were appended were made with the layout
     pub own : PutsOfLayout means layout old new
     pub rest : length (appended old new) + left ≡ count
 
   module _ (most : Option ℕ) (k : Key) (room count : ℕ) (sets : List (DescriptorSet S)) (ended : Result (Unit {0}) Stop) where
     -- a request had these sets of a bucket
     pub record IsServed (old new : Bucket) (before after : Ledger) : Type 0 where
+      -- the numbers of so many new pools would keep 64 bits
       pub numbers : next_number old + count ≤ greatest_u64
       pub few : length sets ≤ count
       pub all : OnOk ended (length sets ≡ count)
@@ -47,15 +50,20 @@ module _ {L P S : Type 0} (means : Meaning L P S) where
     -- the table has the key's new bucket, and those of the other keys as they were
     pub record ServesKey (old new : List (Key × BucketOf P)) (before after : Ledger) : Type 0 where
       pub bucket : Bucket
+      -- what the key's bucket gave
       pub served : IsServed (books_in means.pool_name old k) bucket before after
+      -- the bucket of the key is another, and all other keys' are the same
       pub books : (l : Key) → books_in means.pool_name new l ≡ (if key_eq k l then bucket else books_in means.pool_name old l)
+      -- as many sets more are out as came, and the marked load rises by their descriptors
       pub out : sum_over sets_out new ≡ sum_over sets_out old + length sets
       pub load : sum_over descriptors_out new ≡ sum_over descriptors_out old + set_descriptors k (length sets)
 
   -- a request within the limit and 64 bits had these sets of an allocator
   pub record Takes (k : Key) (count : ℕ) (sets : List (DescriptorSet S)) (ended : Result (Unit {0}) Stop) (old new : Side (Allocations P)) : Type 0 where
+    -- if the key is marked, the marked load with all sets of the request is within the limit
     pub within : k.marked ≡ true → count * sum k.counts + marked_load_of old.value ≤ old.value.limit
     pub fits : outstanding_of old.value + count ≤ greatest_u64
+    -- what the table gave, with the room that the limit left
     pub serves : ServesKey old.value.most k (old.value.limit - pool_load_of old.value) count sets ended old.value.table new.value.table old.ledger new.ledger
 
 -- a request ended before the walk
@@ -71,9 +79,12 @@ module _ {L P S : Type 0} (means : Meaning L P S) where
   pub record ServesRequest
       (layout : L) (k : Key) (count left : ℕ) (result : Result (Result (Unit {0}) Stop) AllocationError) (old new : List (BucketKey × DescriptorBucket P))
       (was is : Budget) (had has : List (DescriptorSet S)) (before after : Ledger) : Type 0 where
+    -- it gave sets of the key's bucket; the inner result says whether the request stopped
     pub served : IfOk result (λ ended. ServesKey means was.most k was.room count (appended had has) ended (map row_of old) (map row_of new) before after)
     pub appends : OnOk result (Appends means layout count left had has)
+    -- the key is in the table then, last if it is new
     pub keys : OnOk result (stored_keys new ≡ with_key k (stored_keys old))
+    -- or nothing was taken
     pub refused : IfErr result (IsUnserved count (next_number (books_in means.pool_name (map row_of old) k)))
     -- an error changes nothing
     pub sets : OnErr result (has ≡ had)
@@ -82,5 +93,6 @@ module _ {L P S : Type 0} (means : Meaning L P S) where
     pub ledger : OnErr result (after ≡ before)
     -- what new pools of a marked key have is taken of the room
     pub room : is.room + sum_over bucket_load (map row_of new) ≡ was.room + sum_over bucket_load (map row_of old)
+    -- the bound stays, and each call that asks a pool is a look
     pub most : is.most ≡ was.most
     pub looks : CountsLooks was.looks.count is.looks.count before after

@@ -1,4 +1,4 @@
--- The table of keys, as the code has it.
+-- The table of keys, as the code has it: how its pools, buckets and rows are read off it, and its totals.
 use Rattle.std.specs.Prelude.{◌≡◌, ℕ, ◌+◌, ◌≤◌, Bool, nat_lt, List, map, sum_by}
 use Rattle.gpu_descriptor.specs.declared.key.BucketKey.{BucketKey}
 use Rattle.gpu_descriptor.specs.declared.bucket.DescriptorPool.{DescriptorPool}
@@ -9,12 +9,15 @@ use Rattle.gpu_descriptor.specs.Caller.States.{named, named_row}
 use Rattle.gpu_descriptor.specs.Inner.KeyOf.{key_of}
 
 module _ {P : Type 0} where
+  -- what callers see of a stored pool: its entry, with the raw pool in the place of the name
   abbrev pub kept_of : DescriptorPool P → EntryOf P
   kept_of p = record { number = p.number; pool = p.raw; capacity = p.capacity; allocated = p.allocated; available = p.available }
 
+  -- and of a stored bucket: the key's id and its pools
   abbrev pub kept_in : DescriptorBucket P → BucketOf P
   kept_in b = record { id = b.id; pools = map kept_of b.pools.items }
 
+  -- the row of the table that an entry of the map is: the allocator's value is read off the map by it
   abbrev pub row_of : BucketKey × DescriptorBucket P → Key × BucketOf P
   row_of r = (key_of r.0, kept_in r.1)
 
@@ -43,9 +46,11 @@ module _ {P : Type 0} where
   IsCounted limit marked room out table = IsConsistent limit marked room out table
 
   module _ (name : P → ℕ) where
+    -- the entry of a stored pool, under the name that the device gives it
     abbrev pub entry_of : DescriptorPool P → Entry
     entry_of p = named name (kept_of p)
 
+    -- the bucket of the books that a stored bucket is, with its pools named so
     abbrev pub bucket_of : DescriptorBucket P → Bucket
     bucket_of b = record { id = b.id; pools = map entry_of b.pools.items }
 

@@ -12,8 +12,10 @@ use Rattle.gpu_descriptor.specs.Model.Outcomes.{risen, grant_rise, stop_rise}
 
 -- a pool was asked for what it has of so many sets, or skipped if it has no places or none are wanted
 pub record IsAsked (k : Key) (wanted : ℕ) (names : List ℕ) (old new : Entry) (before after : Ledger) : Type 0 where
+  -- whether it refused as fragmented or full, which only a pool that was asked does
   pub refused : Bool
   pub refusing : refused ≡ true → nat_lt 0 old.available && nat_lt 0 wanted ≡ true
+  -- as many sets came as it has and as are wanting, or none
   pub many : length names ≡ min (if refused then 0 else old.available) wanted
   pub entry : new ≡ record old { allocated = old.allocated + length names; available = (if refused then 0 else old.available) - length names }
   pub pools : after.pools ≡ on_pool old.pool (pool_with (live_sets k.counts names) refused) before.pools
@@ -32,6 +34,7 @@ pub record IsNoMemory (wanted : ℕ) (e : Entry) (error : DeviceAllocationError)
 
 -- a request of n sets took so much of a key's pools, and these sets came
 pub record HasTaken (k : Key) (n : ℕ) (g : Grant) (items : List Item) (old new : Bucket) (before after : Ledger) : Type 0 where
+  -- so much could be taken of the bucket and the ledger before, and what is after follows from it
   pub grant : IsGrantOf n old before.pools g
   pub came : items_in k g.id g.parts ≡ items
   pub bucket : new ≡ bucket_with n g old
@@ -43,5 +46,6 @@ pub record IsWalked (k : Key) (n wanting : ℕ) (items : List Item) (old new : B
   pub grant : Grant
   pub all : grant.skipped ≡ 0
   pub no_fresh : grant.fresh ≡ []
+  -- what the shares leave to come
   pub wants : wanting ≡ rest grant.refused n old.pools
   pub taken : HasTaken k n grant items old new before after

@@ -66,13 +66,17 @@ flags_of k = pool_flags k.marked
 -- the device's pool is as the entry says
 pub record IsAsBooked (k : Key) (pool : Pool) (e : Entry) : Type 0 where
   pub flags : pool.flags ≡ flags_of k
+  -- its capacity is from 1 to 2147483648 sets, and is that of the entry
   pub at_least : 1 ≤ pool.capacity
   pub small : pool.capacity ≤ greatest_pool_size
   pub capacity : e.capacity ≡ pool.capacity
+  -- it was created with the counts of so many sets of the key
   pub counts : pool.counts ≡ pool_counts k.counts pool.capacity
+  -- each live set has the key's counts
   pub sets : (x : LiveSet) → 0 < pool.live x → x.counts ≡ k.counts
-  -- only that there is a list: so there is one proof at most that books and ledger agree
+  -- so many sets are live. Only that there is a list: so there is one proof at most that books and ledger agree
   pub allocated : ∥ HasSize pool.live e.allocated ∥₁
+  -- what is allocated and what is known to be free is within the capacity, and all of it if the pool never refused
   pub fits : e.allocated + e.available ≤ pool.capacity
   pub full : pool.refusals ≡ 0 → e.allocated + e.available ≡ pool.capacity
 
@@ -80,6 +84,7 @@ pub record IsAsBooked (k : Key) (pool : Pool) (e : Entry) : Type 0 where
 pub record Agree (s : State) : Type 0 where
   -- no two places of the books name one pool
   pub distinct : (k l : Key) (i j : ℕ) (d e : Entry) → slice_get (s.books k).pools i ≡ Some d → slice_get (s.books l).pools j ≡ Some e → d.pool ≡ e.pool → (k ≡ l) × (i ≡ j)
+  -- each pool of the books is live, and as its entry says
   pub booked : (k : Key) (i : ℕ) (e : Entry) → slice_get (s.books k).pools i ≡ Some e → (pool : Pool) × (s.ledger e.pool ≡ Some pool) × IsAsBooked k pool e
   -- a pool's number is greater than that of each older one of its key
   pub rising : (k : Key) → rises (numbers_of (s.books k).pools) ≡ true

@@ -9,12 +9,14 @@ pub record Key : Type 0 where
   pub counts : List ℕ
   pub marked : Bool
 
+-- whether two keys have the same counts and the same mark
 abbrev pub key_eq : Key → Key → Bool
 key_eq k l = pointwise nat_eq k.counts l.counts && beq k.marked l.marked
 
 -- a pool in the books: its number among those of its key, its capacity in sets, how many sets are allocated, how many free places are known
 pub record EntryOf (X : Type 0) : Type 0 where
   pub number : ℕ
+  -- its name, or the raw pool itself
   pub pool : X
   pub capacity : ℕ
   pub allocated : ℕ
@@ -25,10 +27,11 @@ pub record BucketOf (X : Type 0) : Type 0 where
   pub id : ℕ
   pub pools : List (EntryOf X)
 
--- with the names that the device gives to pools
+-- a pool, with the name that the device gives it
 abbrev pub Entry : Type 0
 Entry = EntryOf ℕ
 
+-- a key's pools, named so
 abbrev pub Bucket : Type 0
 Bucket = BucketOf ℕ
 
@@ -80,6 +83,7 @@ module _ {X : Type 0} where
 -- f of each key's bucket adds up to n over all keys. A table has each key that has pools
 pub record AddsUp (f : Key → Bucket → ℕ) (books : Key → Bucket) (n : ℕ) : Type 0 where
   pub table : List (Key × Bucket)
+  -- no key has two rows, so the sum over the rows is one over all keys
   pub distinct : HasDistinctKeys table
   pub keeps : (k : Key) → books_of table k ≡ books k
   pub total : sum_over f table ≡ n

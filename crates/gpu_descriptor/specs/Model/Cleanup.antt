@@ -9,11 +9,13 @@ use Rattle.gpu_descriptor.specs.Model.Release.{is_empty}
 abbrev pub are_named : List Entry → ℕ → Bool
 are_named pools pool = list_any (λ e. e.pool == pool) pools
 
--- everywhere: all empty pools go. Else those at the front do, the last pool too
+-- everywhere is true for a trim: all empty pools go. For a cleanup it is false: those at the front go, the last pool too
 module _ (everywhere : Bool) where
+  -- which of a key's pools go
   abbrev pub gone_of : List Entry → List Entry
   gone_of pools = if everywhere then filter is_empty pools else take (prefix_len is_empty pools) pools
 
+  -- which of them are left, in their order
   abbrev pub left_of : List Entry → List Entry
   left_of pools = if everywhere then filter (λ e. nat_lt 0 e.allocated) pools else drop (prefix_len is_empty pools) pools
 
@@ -22,7 +24,7 @@ abbrev pub with_pools : Bucket → List Entry → Bucket
 with_pools b [] = no_pools
 with_pools b (e ∷ pools) = record b { pools = e ∷ pools }
 
--- Each key keeps its other pools. A pool that goes is gone from the ledger, and every other stays
+-- each key keeps its other pools. A pool that goes is gone from the ledger, and every other stays
 pub record LosesEmpty (everywhere : Bool) (old new : State) : Type 0 where
   pub books : (k : Key) → new.books k ≡ with_pools (old.books k) (left_of everywhere (old.books k).pools)
   pub gone : (k : Key) (pool : ℕ) → are_named (gone_of everywhere (old.books k).pools) pool ≡ true → new.ledger pool ≡ None

@@ -13,11 +13,13 @@ pub record Fresh : Type 0 where
   pub size : ℕ
   pub given : ℕ
 
+-- how many sets these pools gave together
 abbrev pub given_by : List Fresh → ℕ
 given_by pools = sum_by (λ f. f.given) pools
 
 -- how many sets a key's next pool holds: as many as a new pool, but if the key is marked no more than there is room for, and no more than the bound on the descriptors of a new pool leaves
 pub record IsNextSize (most : Option ℕ) (k : Key) (room total wanted size : ℕ) : Type 0 where
+  -- how many sets it would hold, without room and bound
   pub whole : ℕ
   pub is_whole : IsPoolSize k.counts total wanted whole
   pub cut : size ≡ bounded_sets most (sum k.counts) wanted (if k.marked then sets_in_room room (sum k.counts) whole else whole)
@@ -33,6 +35,7 @@ abbrev pub room_after : Key → ℕ → List Fresh → ℕ
 room_after k room [] = room
 room_after k room (f ∷ pools) = room_after k (room - pool_descriptors k f.size) pools
 
+-- each gave all the sets that it holds
 abbrev pub AreFull : List Fresh → Type 0
 AreFull [] = Unit {0}
 AreFull (f ∷ pools) = (f.given ≡ f.size) × AreFull pools
@@ -45,6 +48,7 @@ AreNew ledger (f ∷ pools) = (ledger f.pool ≡ None) × (list_any (λ h. h.poo
 module _ (most : Option ℕ) (k : Key) (room total wanted : ℕ) where
   -- new pools that gave all they have, and sets are still wanting
   pub record IsFreshPrefix (pools : List Fresh) : Type 0 where
+    -- each was created in its size, gave all sets that it holds, and together they gave too few
     pub sized : AreSized most k room total wanted pools
     pub full : AreFull pools
     pub short : given_by pools < wanted

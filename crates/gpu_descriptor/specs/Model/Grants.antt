@@ -14,6 +14,7 @@ pub record Part : Type 0 where
   pub pool : ℕ
   pub names : List ℕ
 
+-- the part without the names of its sets
 abbrev pub portion_of : Part → Portion
 portion_of p = record { number = p.number; pool = p.pool; given = length p.names }
 
@@ -21,7 +22,9 @@ portion_of p = record { number = p.number; pool = p.pool; given = length p.names
 pub record Grant : Type 0 where
   -- the id of the key from then on
   pub id : ℕ
+  -- how many of the oldest pools gave nothing, because the request stopped at the newest of these
   pub skipped : ℕ
+  -- which existing pools refused as fragmented or full, by name
   pub refused : ℕ → Bool
   pub fresh : List Fresh
   pub parts : List Part
@@ -30,8 +33,11 @@ pub record Grant : Type 0 where
 pub record IsGrantOf (n : ℕ) (b : Bucket) (ledger : ℕ → Option Pool) (g : Grant) : Type 0 where
   -- a key that has pools keeps its id
   pub id : 0 < length b.pools → g.id ≡ b.id
+  -- only a pool that was asked refused
   pub refusing : OnlyAskedRefuse g.refused n (drop g.skipped b.pools)
+  -- the parts are the shares of the existing pools, the newest first, and then what the new pools gave
   pub parts : map portion_of g.parts ≡ portions_of g.refused n (drop g.skipped b.pools) ++ fresh_portions (next_number b) g.fresh
+  -- no new pool has the name of a live one
   pub new : AreNew ledger g.fresh
 
 -- sets of a key's pool under these names
@@ -59,6 +65,7 @@ fresh_or k (f ∷ pools) name old = if f.pool == name then Some (fresh (pool_cou
 abbrev pub pool_with : List LiveSet → Bool → Pool → Pool
 pool_with sets refused p = record p { live = λ x. p.live x + times sets x; refusals = if refused then p.refusals + 1 else p.refusals }
 
+-- the ledger's pools and the new ones, each with the sets that came from it, and with its refusal if it refused
 abbrev pub ledger_with : Key → Grant → (ℕ → Option Pool) → ℕ → Option Pool
 ledger_with k g ledger name = option_map (pool_with (live_sets k.counts (came g.parts name)) (g.refused name)) (fresh_or k g.fresh name (ledger name))
 

@@ -17,14 +17,15 @@ module _ {X : Type 0} where
   abbrev pub allocated_in : List (EntryOf X) → ℕ
   allocated_in pools = sum_by (λ e. e.allocated) pools
 
-  -- over all keys: what a key with its bucket adds to each of the three sums
+  -- what a key with its bucket adds to the three sums over all keys. To the outstanding sets: how many are out of its pools
   abbrev pub sets_out : Key → BucketOf X → ℕ
   sets_out k b = allocated_in b.pools
 
+  -- to the marked load: how many descriptors these sets have, if the key is marked
   abbrev pub descriptors_out : Key → BucketOf X → ℕ
   descriptors_out k b = set_descriptors k (allocated_in b.pools)
 
-  -- of all pools of a key
+  -- to the pool load: the descriptors of all its pools, if it is marked
   abbrev pub bucket_load : Key → BucketOf X → ℕ
   bucket_load k b = sum_by (λ e. pool_descriptors k e.capacity) b.pools
 

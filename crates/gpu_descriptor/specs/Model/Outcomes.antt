@@ -34,6 +34,7 @@ error_of_alloc alloc_error.OutOfPoolMemory = Fragmentation
 
 -- ---- counters
 
+-- the counters n, each risen by as much as by says
 abbrev pub risen : Counters → Counters → Counters
 risen by n = record {
   created = n.created + by.created;
@@ -72,10 +73,13 @@ pub record Call : Type 0 where
   pub out : ℕ
   pub load : ℕ
   pub pooled : ℕ
+  -- books and ledger before the request and after it
   pub old : State
   pub new : State
+  -- the device's counters before it and after it
   pub before : Counters
   pub after : Counters
+  -- its result, with the sets as the books see them
   pub answer : Result (List Item) AllocationError
 
 -- ---- why a request stops
@@ -101,9 +105,12 @@ pub record EndsAtPool (n : ℕ) (pools : List Entry) (error : DeviceAllocationEr
   pub older : List Entry
   pub pool : Entry
   pub newer : List Entry
+  -- the pool is one of the existing pools, with others older and newer
   pub here : pools ≡ older ++ pool ∷ newer
+  -- neither it nor the older ones gave a set, and no new pool was created
   pub skipped : g.skipped ≡ length older + 1
   pub no_fresh : g.fresh ≡ []
+  -- it was asked, and the error is one of memory
   pub asked : is_asked g.refused n newer pool ≡ true
   pub memory : pool_refusals error ≡ 0
 
@@ -124,10 +131,11 @@ module _ (c : Call) where
   abbrev pub IsGrant : Grant → Type 0
   IsGrant g = IsGrantOf c.count (c.old.books c.key) c.old.ledger g
 
-  -- what is wanting after the existing pools, and what is out of the key's pools then
+  -- how many sets are wanting after the existing pools
   abbrev pub wanting : Grant → ℕ
   wanting g = rest g.refused c.count (c.old.books c.key).pools
 
+  -- how many sets are out of the key's pools then, with what they gave of this request
   abbrev pub out_then : Grant → ℕ
   out_then g = allocated_in (all_shared g.refused c.count (c.old.books c.key).pools)
 
@@ -136,10 +144,12 @@ module _ (c : Call) where
     pub state : c.new ≡ c.old
     pub counters : c.after ≡ c.before
 
+  -- the key is marked, and the marked load would pass the limit with the sets of the request
   pub record IsAboveLimit : Type 0 where
     pub marked : c.key.marked ≡ true
     pub above : c.limit < c.count * sum c.key.counts + c.load
 
+  -- the marked load would keep the limit, or the key is plain
   abbrev pub IsWithinLimit : Type 0
   IsWithinLimit = c.key.marked ≡ true → c.count * sum c.key.counts + c.load ≤ c.limit
 
@@ -178,6 +188,7 @@ module _ (c : Call) where
     pub at : StopsAt why c.most c.key (c.limit - c.pooled) c.count grant (c.old.books c.key).pools
     pub back : IsBack grant why
 
+  -- the six outcomes of a request for sets: when each comes, its result, and what it leaves
   pub data Allocates : Type 0 where
     none : c.count ≡ 0 → c.answer ≡ Ok [] → Stays → Allocates
     above_limit : 0 < c.count → IsAboveLimit → c.answer ≡ Err Fragmentation → Stays → Allocates

@@ -35,6 +35,7 @@ module _ (refused : ℕ → Bool) where
     abbrev pub shared : List Entry → Entry → Entry
     shared newer e = let given = share newer e in record e { allocated = e.allocated + given; available = offer e - given }
 
+    -- the entries of all these pools after they gave their shares
     abbrev pub all_shared : List Entry → List Entry
     all_shared [] = []
     all_shared (e ∷ newer) = shared newer e ∷ all_shared newer

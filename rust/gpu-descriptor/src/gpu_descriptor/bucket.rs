@@ -69,6 +69,7 @@ impl<P> DescriptorBucket<P> {
     }
 }
 
+/// The number of the next pool after these: the newest's plus 1, or 0 if there is none.
 fn next_number_of<P>(pools: &VecDeque<DescriptorPool<P>>) -> u64
 {
     match pools.back() {
@@ -77,6 +78,7 @@ fn next_number_of<P>(pools: &VecDeque<DescriptorPool<P>>) -> u64
     }
 }
 
+/// The ordinal of the first of these pools: the number of the next one less how many there are.
 fn first_ordinal_of<P>(pools: &VecDeque<DescriptorPool<P>>) -> u64
 {
     next_number_of(pools) - pools.len() as u64
