@@ -1,13 +1,13 @@
 -- Kept sets that all go: for `Store::cleanup`, `set_keep` and `free_all`.
-use Rattle.std.proofs.Common.{◌≡◌, ℕ, ◌+◌, ◌<◌, ◌≤◌, Bool, true, false, if◌then◌else◌, List, length, None, inl, inr, refl, sym, ap, ◌∙◌, arith}
-use Rattle.std.proofs.lemmas.List.{get_or_past}
+use Rattle.std.proofs.Common.{◌≡◌, ℕ, ◌+◌, ◌<◌, ◌≤◌, Bool, true, false, if◌then◌else◌, List, length, inl, inr, refl, sym, ap, ◌∙◌, arith}
 use Rattle.descriptor_table.specs.Sets.{sets_in}
 use Rattle.descriptor_table.specs.Slots.{goes, is_in, slot_at}
 use Rattle.descriptor_table.specs.Tables.{AreAged, MayBecome, Turns, Becomes, aged, count, is_kept, used_for, vacated}
-use Rattle.descriptor_table.specs.declared.slot.Use.TheVariants.{Going, Taken}
+use Rattle.descriptor_table.specs.declared.slot.Use.TheVariants.{Going}
 use Rattle.descriptor_table.specs.declared.slot.Slot.{Slot}
 use Rattle.descriptor_table.proofs.Counting.{below_or}
 use Rattle.descriptor_table.proofs.Counts.{count_none}
+use Rattle.descriptor_table.proofs.Listed.{past_end}
 use Rattle.descriptor_table.proofs.Leaving.{same_sets}
 use Rattle.descriptor_table.proofs.Renewing.{kept_full}
 use Rattle.descriptor_renderer.specs.Stores.{AreCleaned}
@@ -16,13 +16,11 @@ use Rattle.descriptor_renderer.proofs.Following.{ArePlaced, follows_aged, follow
 use Rattle.descriptor_renderer.proofs.Settling.{Follows}
 
 module _ {T : Type 0} where
-  pub past : (l : List (Slot T)) (p : ℕ) → length l ≤ p → slot_at l p ≡ record { generation = 0; layout = 0; layout_generation = 0; used = Taken; leaves = false; set = None }
-  past l p le = get_or_past l p (record { generation = 0; layout = 0; layout_generation = 0; used = Taken; leaves = false; set = None }) le
 
   pub aged_sets : (old new : List (Slot T)) → AreAged old new → sets_in new ≡ sets_in old
   aged_sets old new a = same_sets old new a.long (λ p. elim (below_or p (length old)) [
     | inl lt ↦ ap (λ (s : Slot T). s.set) (a.each p lt)
-    | inr le ↦ (let long = a.long in ap (λ (s : Slot T). s.set) (past new p (omega arith)) ∙ sym (ap (λ (s : Slot T). s.set) (past old p le)))
+    | inr le ↦ (let long = a.long in ap (λ (s : Slot T). s.set) (past_end new p (omega arith)) ∙ sym (ap (λ (s : Slot T). s.set) (past_end old p le)))
   ])
 
   -- sets that go are in their slots still
@@ -61,7 +59,7 @@ module _ {T : Type 0} where
   pub follow_cleaned : (f : ℕ) (old new : List (Slot T)) → AreCleaned old new → (p : ℕ) → Follows f (slot_at old p) (slot_at new p)
   follow_cleaned f old new c p = elim (below_or p (length old)) [
     | inl lt ↦ by_test (is_kept (slot_at old p)) refl (c.each p lt)
-    | inr le ↦ (let long = c.long in follows_same f (slot_at old p) (slot_at new p) (past new p (omega arith) ∙ sym (past old p le)))
+    | inr le ↦ (let long = c.long in follows_same f (slot_at old p) (slot_at new p) (past_end new p (omega arith) ∙ sym (past_end old p le)))
   ]
     where
       by_test : (b : Bool) → is_kept (slot_at old p) ≡ b → slot_at new p ≡ (if is_kept (slot_at old p) then vacated (aged (slot_at old p)) else aged (slot_at old p)) → Follows f (slot_at old p) (slot_at new p)

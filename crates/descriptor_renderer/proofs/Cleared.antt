@@ -1,13 +1,13 @@
 -- What a slot is like after all kept sets went.
 use Rattle.std.proofs.lemmas.Grind.{common_steps}
-use Rattle.std.proofs.Common.{◌≡◌, ℕ, ◌+◌, ◌≤◌, ◌⊎◌, ◌&&◌, nat_lt, ne_eqb, Bool, true, false, if◌then◌else◌, List, length, None, inl, inr, refl, sym, ap, ◌∙◌, arith}
-use Rattle.std.proofs.lemmas.List.{get_or_past}
+use Rattle.std.proofs.Common.{◌≡◌, ℕ, ◌+◌, ◌⊎◌, ◌&&◌, nat_lt, ne_eqb, Bool, true, false, if◌then◌else◌, List, length, None, inl, inr, refl, sym, ap, ◌∙◌, arith}
 use Rattle.descriptor_table.specs.Slots.{slot_at}
 use Rattle.descriptor_table.specs.Tables.{aged, came_under, count, is_kept, vacated}
 use Rattle.descriptor_table.specs.declared.slot.Slot.{Slot}
-use Rattle.descriptor_table.specs.declared.slot.Use.TheVariants.{Taken, Vacant}
+use Rattle.descriptor_table.specs.declared.slot.Use.TheVariants.{Vacant}
 use Rattle.descriptor_table.proofs.Counting.{below_or}
 use Rattle.descriptor_table.proofs.Counts.{none_count}
+use Rattle.descriptor_table.proofs.Listed.{past_end}
 use Rattle.descriptor_renderer.specs.Stores.{AreCleaned}
 
 -- a set that was kept may be gone, and any other is there
@@ -37,20 +37,17 @@ module _ {T : Type 0} where
     is = inl (ap (λ (s : Slot T). s.used) e, ap (λ (s : Slot T). s.set) e);
   }
 
-  past : (l : List (Slot T)) (p : ℕ) → length l ≤ p → slot_at l p ≡ record { generation = 0; layout = 0; layout_generation = 0; used = Taken; leaves = false; set = None }
-  past l p le = get_or_past l p (record { generation = 0; layout = 0; layout_generation = 0; used = Taken; leaves = false; set = None }) le
-
   pub clears : (old new : List (Slot T)) → AreCleaned old new → (p : ℕ) → Clears (slot_at old p) (slot_at new p)
   clears old new c p = elim (below_or p (length old)) [
     | inl lt ↦ cleared_as (slot_at old p) (slot_at new p) (is_kept (slot_at old p)) refl (c.each p lt)
-    | inr le ↦ (let long = c.long in same_clears (slot_at old p) (slot_at new p) (past new p (omega arith) ∙ sym (past old p le)))
+    | inr le ↦ (let long = c.long in same_clears (slot_at old p) (slot_at new p) (past_end new p (omega arith) ∙ sym (past_end old p le)))
   ]
 
   -- no set is kept then
   pub none_left : (old new : List (Slot T)) → AreCleaned old new → count is_kept new ≡ 0
   none_left old new c = none_count is_kept new (λ p. elim (below_or p (length old)) [
     | inl lt ↦ ap is_kept (c.each p lt) ∙ by_test (slot_at old p) (is_kept (slot_at old p)) refl
-    | inr le ↦ (let long = c.long in ap is_kept (past new p (omega arith)))
+    | inr le ↦ (let long = c.long in ap is_kept (past_end new p (omega arith)))
   ])
     where
       vacant_out : (s : Slot T) → is_kept (vacated s) ≡ false

@@ -13,7 +13,7 @@ use Rattle.descriptor_table.proofs.Counts.{count_none}
 use Rattle.descriptor_table.proofs.Renewing.{kept_full}
 use Rattle.descriptor_table.proofs.Turning.{going_out}
 use Rattle.descriptor_renderer.specs.Stores.{IsUpTo, is_placed}
-use Rattle.descriptor_renderer.proofs.Cleaned.{past}
+use Rattle.descriptor_table.proofs.Listed.{past_end}
 use Rattle.descriptor_renderer.proofs.Following.{ArePlaced, follows_aged, follows_same, follows_then, follows_vacated, none_goes}
 use Rattle.descriptor_renderer.proofs.Settling.{Follows}
 
@@ -141,8 +141,8 @@ module _ {T : Type 0} (generations : ℕ → ℕ) (frame most : ℕ) (old a b c 
         follows = follows_then 0 o (slot_at a p) n (follows_aged 0 o (slot_at a p) (ages.each p lt)) (follows_vacated 0 (slot_at a p) n gone);
       }
     ]
-    | inr le ↦ (let end : slot_at new p ≡ slot_at old p = past new p (long le) ∙ sym (past old p le) in record {
-      none = ap (λ (s : Slot T). s.set) (past new p (long le));
+    | inr le ↦ (let end : slot_at new p ≡ slot_at old p = past_end new p (long le) ∙ sym (past_end old p le) in record {
+      none = ap (λ (s : Slot T). s.set) (past_end new p (long le));
       given = ap (λ (s : Slot T). s.generation) end;
       follows = follows_same 0 o n end;
     })

@@ -20,10 +20,10 @@ use Rattle.descriptor_table.proofs.Leaving.{tally, tally_length}
 
 module _ {S : Type 0} (name : S → ℕ) where
   -- what an item weighs in a tally of sets: how often it is there
-  weight : Item → DescriptorSet S → ℕ
+  pub weight : Item → DescriptorSet S → ℕ
   weight t x = count_of t (item_of name x ∷ [])
 
-  counts : (t : Item) (l : List (DescriptorSet S)) → count_of t (items_of name l) ≡ tally (weight t) l
+  pub counts : (t : Item) (l : List (DescriptorSet S)) → count_of t (items_of name l) ≡ tally (weight t) l
   unfolding weight
   counts t [] = refl
   counts t (x ∷ l) = count_parts name (x ∷ []) l t ∙ ap (λ n. count_of t (item_of name x ∷ []) + n) (counts t l)

@@ -1,12 +1,10 @@
 -- What is left after a cleanup.
 use Rattle.std.proofs.lemmas.Grind.{common_steps}
-use Rattle.std.proofs.Common.{◌≡◌, ℕ, suc, ◌<◌, ◌&&◌, Bool, true, false, List, [], ◌∷◌, length, if◌then◌else◌, Option, None, is_some, inl, inr, refl, ap, ◌∙◌, arith}
-use Rattle.std.proofs.lemmas.List.{get_or_past}
+use Rattle.std.proofs.Common.{◌≡◌, ℕ, suc, ◌<◌, ◌&&◌, Bool, true, false, List, [], ◌∷◌, length, if◌then◌else◌, Option, None, is_some, refl, ap, ◌∙◌, arith}
 use Rattle.descriptor_table.specs.Sets.{joined, sets_in}
 use Rattle.descriptor_table.specs.Slots.{slot_at, waits_for}
 use Rattle.descriptor_table.specs.Tables.{aged, count, holds, is_held_use, is_kept, vacated, waits}
 use Rattle.descriptor_table.specs.declared.slot.Slot.{Slot}
-use Rattle.descriptor_table.proofs.Counting.{below_or}
 use Rattle.descriptor_table.proofs.Counts.{count_none, none_count}
 use Rattle.descriptor_renderer.specs.Stores.{AreCleaned, is_placed}
 
@@ -18,16 +16,6 @@ module _ {T : Type 0} where
   pub no_sets : (slots : List (Slot T)) → ((p : ℕ) → p < length slots → (slot_at slots p).set ≡ None) → sets_in slots ≡ []
   no_sets [] none = refl
   no_sets (s ∷ slots) none = ap (λ o. joined o (sets_in slots)) (none 0 (omega arith)) ∙ no_sets slots (λ p within. none (suc p) (omega arith))
-
-  -- no set is kept
-  pub cleaned_kept : (old new : List (Slot T)) → AreCleaned old new → count is_kept new ≡ 0
-  cleaned_kept old new cleaned = none_count is_kept new (λ p. elim (below_or p (length old)) [
-    | inl within ↦ ap is_kept (cleaned.each p within) ∙ by_test (slot_at old p) (is_kept (slot_at old p)) refl
-    | inr past ↦ ap is_kept (get_or_past new p _ (let long = cleaned.long in omega arith))
-  ])
-    where
-      by_test : (o : Slot T) (b : Bool) → is_kept o ≡ b → is_kept (if b then vacated (aged o) else aged o) ≡ false
-      by_test o x1 e = grind (arith, common_steps)
 
   -- with none held, and none that waits, no set is left
   pub cleaned_empty : (old new : List (Slot T)) → ((p : ℕ) → is_placed (slot_at old p) ≡ true) → AreCleaned old new → count holds old ≡ 0 → count waits old ≡ 0 → length (sets_in new) ≡ 0

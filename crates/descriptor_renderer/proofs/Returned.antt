@@ -1,16 +1,15 @@
 -- Sets that were given back are counted, and what becomes of all if there are none.
-use Rattle.std.proofs.Common.{◌≡◌, ℕ, ◌+◌, true, false, Bool, List, [], ◌∷◌, length, None, refl, sym, ap, ◌∙◌, arith}
+use Rattle.std.proofs.Common.{◌≡◌, ℕ, ◌+◌, true, false, Bool, List, [], length, None, refl, sym, ap, ◌∙◌, arith}
 use Rattle.std.specs.Borrow.{MutBor}
 use Rattle.std.specs.Iterator.{Yields, YieldsThen}
 use Rattle.gpu_descriptor_types.specs.Ledger.{Ledger}
 use Rattle.gpu_descriptor_types.specs.Meaning.{Meaning}
 use Rattle.gpu_descriptor_types.specs.Side.{side}
 use Rattle.gpu_descriptor.specs.Caller.Frees.{Returns}
-use Rattle.gpu_descriptor.specs.Caller.Sets.{item_of, items_of}
+use Rattle.gpu_descriptor.specs.Caller.Sets.{items_of}
 use Rattle.gpu_descriptor.specs.Caller.Values.{Allocations}
 use Rattle.gpu_descriptor.specs.Model.Agreement.{Item, count_of}
 use Rattle.gpu_descriptor.specs.declared.set.DescriptorSet.{DescriptorSet}
-use Rattle.gpu_descriptor.proofs.callers.HeldSets.{count_parts}
 use Rattle.gpu_descriptor.proofs.release.Freed.{gives_none}
 use Rattle.descriptor_table.specs.Giving.{GivesFrom}
 use Rattle.descriptor_table.specs.Sets.{sets_in}
@@ -18,18 +17,10 @@ use Rattle.descriptor_table.specs.Slots.{slot_at}
 use Rattle.descriptor_table.specs.Tables.{Turns, Becomes, slots_of, vacated}
 use Rattle.descriptor_table.specs.declared.set_table.SetTable.{SetTable}
 use Rattle.descriptor_table.specs.declared.slot.Slot.{Slot}
-use Rattle.descriptor_table.proofs.Leaving.{given_weigh, tally, tally_length}
+use Rattle.descriptor_table.proofs.Leaving.{given_weigh, tally_length}
+use Rattle.descriptor_renderer.proofs.Given.{counts, weight}
 
 module _ {S : Type 0} (name : S → ℕ) where
-  -- what an item weighs in a tally of sets: how often it is there
-  weight : Item → DescriptorSet S → ℕ
-  weight t x = count_of t (item_of name x ∷ [])
-
-  counts : (t : Item) (l : List (DescriptorSet S)) → count_of t (items_of name l) ≡ tally (weight t) l
-  unfolding weight
-  counts t [] = refl
-  counts t (x ∷ l) = count_parts name (x ∷ []) l t ∙ ap (λ n. count_of t (item_of name x ∷ []) + n) (counts t l)
-
   -- what was given back, and what is left, is what there was
   pub given_count :
       (test : Slot (DescriptorSet S) → Bool) (xs : List (DescriptorSet S)) (s u : MutBor (SetTable (DescriptorSet S)))
@@ -37,10 +28,10 @@ module _ {S : Type 0} (name : S → ℕ) where
       → count_of t (items_of name (sets_in (slots_of s.now)))
       ≡ count_of t (items_of name xs) + count_of t (items_of name (sets_in (slots_of u.now)))
   given_count test xs s u y t =
-      let h = given_weigh (weight t) test xs s u y in
-      let a = counts t (sets_in (slots_of s.now)) in
-      let b = counts t xs in
-      let c = counts t (sets_in (slots_of u.now)) in
+      let h = given_weigh (weight name t) test xs s u y in
+      let a = counts name t (sets_in (slots_of s.now)) in
+      let b = counts name t xs in
+      let c = counts name t (sets_in (slots_of u.now)) in
       omega arith
 
   given_many : (test : Slot (DescriptorSet S) → Bool) (xs : List (DescriptorSet S)) (s u : MutBor (SetTable (DescriptorSet S))) → Yields (GivesFrom test) s xs u → length (sets_in (slots_of s.now)) ≡ length xs + length (sets_in (slots_of u.now))

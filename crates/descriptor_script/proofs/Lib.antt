@@ -9,4 +9,3 @@ pub mod Owing
 mod Promised
 mod Running
 mod Written
-pub mod OneReady

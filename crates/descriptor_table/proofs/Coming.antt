@@ -1,46 +1,42 @@
 -- A set that came into a slot adds its weight (`tally`) to that of the sets that there are: for `Given` of the renderer.
-use Rattle.std.proofs.lemmas.Grind.{common_steps}
 use Rattle.std.proofs.Common.{◌≡◌, ◌≢◌, ℕ, zero, suc, ◌+◌, List, [], ◌∷◌, Option, Some, None, refl, sym, ap, ◌∙◌, arith}
 use Rattle.descriptor_table.specs.Sets.{joined, sets_in}
 use Rattle.descriptor_table.specs.Slots.{slot_at}
 use Rattle.descriptor_table.specs.Tables.{Puts}
 use Rattle.descriptor_table.specs.declared.slot.Slot.{Slot}
-use Rattle.descriptor_table.proofs.Leaving.{tally, weight_of}
+use Rattle.descriptor_table.proofs.Leaving.{tally, tally_joined, weight_of}
 
 module _ {T : Type 0} (weight : T → ℕ) where
-  joins : (o : Option T) (l : List T) → tally weight (joined o l) ≡ weight_of weight o + tally weight l
-  joins x0 l = grind (arith, common_steps)
-
   -- slots whose sets weigh the same
   alike : (l m : List (Slot T)) → ((p : ℕ) → (slot_at m p).set ≡ (slot_at l p).set) → tally weight (sets_in m) ≡ tally weight (sets_in l)
   alike [] [] same = refl
   alike [] (y ∷ m) same = ap (λ o. tally weight (joined o (sets_in m))) (same 0) ∙ alike [] m (λ p. same (suc p))
   alike (x ∷ l) [] same = alike l [] (λ p. same (suc p)) ∙ ap (λ o. tally weight (joined o (sets_in l))) (same 0)
-  alike (x ∷ l) (y ∷ m) same = joins y.set (sets_in m) ∙ (let a = ap (weight_of weight) (same 0) in let h = alike l m (λ p. same (suc p)) in omega arith) ∙ sym (joins x.set (sets_in l))
+  alike (x ∷ l) (y ∷ m) same = tally_joined weight y.set (sets_in m) ∙ (let a = ap (weight_of weight) (same 0) in let h = alike l m (λ p. same (suc p)) in omega arith) ∙ sym (tally_joined weight x.set (sets_in l))
 
   -- one slot got a set
   got : (l m : List (Slot T)) (p : ℕ) (x : T) → (slot_at l p).set ≡ None → (slot_at m p).set ≡ Some x → ((q : ℕ) → q ≢ p → (slot_at m q).set ≡ (slot_at l q).set) → tally weight (sets_in m) ≡ tally weight (sets_in l) + weight x
   got l [] p x none here others = absurd (let bad : ◌≡◌ {A = Option T} None (Some x) = here in cc)
   got [] (y ∷ m) zero x none here others =
-      let a = joins y.set (sets_in m) in
+      let a = tally_joined weight y.set (sets_in m) in
       let b = ap (weight_of weight) here in
       let h = alike [] m (λ q. others (suc q) (λ e. omega arith)) in
       omega arith
   got [] (y ∷ m) (suc p) x none here others =
-      let a = joins y.set (sets_in m) in
+      let a = tally_joined weight y.set (sets_in m) in
       let b = ap (weight_of weight) (others 0 (λ e. omega arith)) in
       let h = got [] m p x refl here (λ q ne. others (suc q) (λ e. ne (omega arith))) in
       omega arith
   got (z ∷ l) (y ∷ m) zero x none here others =
-      let a = joins y.set (sets_in m) in
-      let c = joins z.set (sets_in l) in
+      let a = tally_joined weight y.set (sets_in m) in
+      let c = tally_joined weight z.set (sets_in l) in
       let b = ap (weight_of weight) here in
       let d = ap (weight_of weight) none in
       let h = alike l m (λ q. others (suc q) (λ e. omega arith)) in
       omega arith
   got (z ∷ l) (y ∷ m) (suc p) x none here others =
-      let a = joins y.set (sets_in m) in
-      let c = joins z.set (sets_in l) in
+      let a = tally_joined weight y.set (sets_in m) in
+      let c = tally_joined weight z.set (sets_in l) in
       let b = ap (weight_of weight) (others 0 (λ e. omega arith)) in
       let h = got l m p x none here (λ q ne. others (suc q) (λ e. ne (omega arith))) in
       omega arith

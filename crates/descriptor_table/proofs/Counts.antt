@@ -1,15 +1,13 @@
 -- How many slots pass a test, when one of them changes, and that a list counts them: for the counts that `SetTable` returns.
 use Rattle.std.proofs.lemmas.Grind.{common_steps}
-use Rattle.std.proofs.Common.{◌≡◌, ℕ, zero, suc, ◌+◌, ◌<◌, ◌≤◌, Bool, false, if◌then◌else◌, List, [], ◌∷◌, length, set, None, refl, sym, ap, ◌∙◌, arith}
-use Rattle.std.proofs.lemmas.List.{get_or_past}
+use Rattle.std.proofs.Common.{◌≡◌, ℕ, zero, suc, ◌+◌, ◌<◌, ◌≤◌, Bool, false, if◌then◌else◌, List, [], ◌∷◌, length, set, refl, sym, ap, ◌∙◌, arith}
 use Rattle.descriptor_table.specs.Places.{times, walk}
-use Rattle.descriptor_table.specs.Slots.{AreLinked, HasChains, Lists, chain_at, is_in, slot_at}
+use Rattle.descriptor_table.specs.Slots.{AreLinked, HasChains, Lists, chain_at, is_in, no_slot, slot_at}
 use Rattle.descriptor_table.specs.Tables.{count}
-use Rattle.descriptor_table.specs.declared.slot.Use.TheVariants.{Taken}
 use Rattle.descriptor_table.specs.declared.slot.Slot.{Slot}
 use Rattle.descriptor_table.specs.declared.slot.Chain.{Chain}
 use Rattle.descriptor_table.proofs.Counting.{places_total, total, total_as, total_first}
-use Rattle.descriptor_table.proofs.Listed.{PassesNone, walk_length}
+use Rattle.descriptor_table.proofs.Listed.{PassesNone, past_end, walk_length}
 
 -- 1 if the test holds
 abbrev pub bit : Bool → ℕ
@@ -29,9 +27,9 @@ module _ {T : Type 0} where
   same_count test slots p s within same = let h = count_set test slots p s within in let e = ap bit same in omega arith
 
   -- as many slots as places in a list
-  listed_count : (test : Slot T → Bool) (slots : List (Slot T)) (l : List ℕ) → test (record { generation = 0; layout = 0; layout_generation = 0; used = Taken; leaves = false; set = None }) ≡ false → Lists test slots l → length l ≡ count test slots
+  listed_count : (test : Slot T → Bool) (slots : List (Slot T)) (l : List ℕ) → test no_slot ≡ false → Lists test slots l → length l ≡ count test slots
   listed_count test slots l none h =
-      places_total (length slots) l (λ p past. h p ∙ ap (λ x. if test x then 1 else 0) (get_or_past slots p (record { generation = 0; layout = 0; layout_generation = 0; used = Taken; leaves = false; set = None }) past) ∙ ap bit none)
+      places_total (length slots) l (λ p past. h p ∙ ap (λ x. if test x then 1 else 0) (past_end slots p past) ∙ ap bit none)
       ∙ total_as (λ p. times p l) (λ p. if test (slot_at slots p) then 1 else 0) (length slots) h
       ∙ all_count slots
     where
@@ -67,7 +65,7 @@ module _ {T : Type 0} where
   none_count test (s ∷ slots) none = ap (λ b. (if b then 1 else 0) + count test slots) (none 0) ∙ (let h = none_count test slots (λ p. none (suc p)) in omega arith)
 
   -- if no slot counts, none passes the test, nor does the slot past the end, in which no set ever was
-  pub count_none : (test : Slot T → Bool) (slots : List (Slot T)) → test (record { generation = 0; layout = 0; layout_generation = 0; used = Taken; leaves = false; set = None }) ≡ false → count test slots ≡ 0 → (p : ℕ) → test (slot_at slots p) ≡ false
+  pub count_none : (test : Slot T → Bool) (slots : List (Slot T)) → test no_slot ≡ false → count test slots ≡ 0 → (p : ℕ) → test (slot_at slots p) ≡ false
   count_none test [] none zero_count p = none
   count_none test (s ∷ slots) none zero_count zero = by_test (test s) zero_count
     where

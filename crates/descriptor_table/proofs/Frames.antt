@@ -1,8 +1,8 @@
 -- The lists of sets that wait, by the code's chains of frames: a list for each frame, later frames first (`HasFrames`).
 -- What `chain_of` finds there once a list changed, came or went, and that each still has the sets of its frame (`AreFramed`):
 -- for `SetTable::join`, `start`, `pick_first` and `pick_last`. `c` and `d` are lists, `i` is the place of one, `p` that of a slot.
-use Rattle.std.proofs.Common.{arith, ◌≡◌, ◌≢◌, ℕ, zero, suc, ◌+◌, ◌-◌, ◌<◌, ◌≤◌, ◌==◌, ◌&&◌, nat_le, Bool, true, false, arith, if◌then◌else◌, List, [], ◌∷◌, ◌++◌, insert, length, get_or, set, None, is_some, inl, inr, refl, sym, ap, subst, ◌∙◌, arith, eq-eqb, ne_eqb, arith, leb-true}
-use Rattle.std.proofs.lemmas.List.{length-set, get_or_past, get_or-set_other, get_or-set_same, get_or_read}
+use Rattle.std.proofs.Common.{arith, ◌≡◌, ◌≢◌, ℕ, zero, suc, ◌+◌, ◌-◌, ◌<◌, ◌≤◌, ◌==◌, ◌&&◌, nat_le, Bool, true, false, arith, if◌then◌else◌, List, [], ◌∷◌, ◌++◌, insert, length, get_or, set, is_some, inl, inr, refl, sym, ap, subst, ◌∙◌, arith, eq-eqb, ne_eqb, arith, leb-true}
+use Rattle.std.proofs.lemmas.List.{length-set, get_or-set_other, get_or-set_same, get_or_read}
 use Rattle.descriptor_table.specs.Places.{times, walk}
 use Rattle.descriptor_table.specs.Slots.{AreFramed, HasFrames, chain_of, frame_at, is_due, is_of, slot_at, waits_for}
 use Rattle.descriptor_table.specs.declared.slot.Use.{Use}
@@ -11,7 +11,7 @@ use Rattle.descriptor_table.specs.declared.slot.Slot.{Slot}
 use Rattle.descriptor_table.specs.declared.slot.Chain.{Chain}
 use Rattle.descriptor_table.specs.declared.slot.FrameChain.{FrameChain}
 use Rattle.descriptor_table.proofs.Counting.{few_places, same_or, times_here, times_there, below_or}
-use Rattle.descriptor_table.proofs.Listed.{begun, first_in, first_within, linked, none_in, one_more, unlinked}
+use Rattle.descriptor_table.proofs.Listed.{begun, first_in, first_within, linked, none_in, one_more, past_end, unlinked}
 use Rattle.descriptor_table.proofs.Chains.{frames_apart, frames_none, taken_no_frame}
 use Rattle.descriptor_table.specs.Tables.{used_for}
 
@@ -262,16 +262,7 @@ module _ {T : Type 0} (slots : List (Slot T)) where
         ∙ no_first frames q first_waits
         (λ i lt.
         ap (is_of (frame_at frames i).frame)
-        (get_or_past slots q
-        (record {
-          generation = 0;
-          layout = 0;
-          layout_generation = 0;
-          used = Taken;
-          leaves = false;
-          set = None;
-        })
-        le)) in
+        (past_end slots q le)) in
         let few = few_places (length slots) l once past in
         let size = firsts_length frames in
         omega arith

@@ -1,8 +1,8 @@
 -- The lists of slots, when a slot comes at the end, whose set a call has: for `SetTable::push`.
 -- No list changes: the new slot is in none, as the slot past the end is in none.
-use Rattle.std.proofs.Common.{◌≡◌, ◌≢◌, ℕ, zero, suc, ◌+◌, Bool, false, if◌then◌else◌, List, [], ◌∷◌, ◌++◌, length, get_or, Some, None, inl, inr, refl, sym, ap, subst, ◌∙◌, arith}
+use Rattle.std.proofs.Common.{◌≡◌, ◌≢◌, ℕ, zero, suc, ◌+◌, Bool, false, if◌then◌else◌, List, [], ◌∷◌, ◌++◌, length, get_or, Some, inl, inr, refl, sym, ap, subst, ◌∙◌, arith}
 use Rattle.descriptor_table.specs.Places.{times, walk}
-use Rattle.descriptor_table.specs.Slots.{AreFramed, AreLinked, HasChains, HasLists, IsListed, chain_at, chain_of, is_in, is_of, slot_at}
+use Rattle.descriptor_table.specs.Slots.{AreFramed, AreLinked, HasChains, HasLists, IsListed, chain_at, chain_of, is_in, is_of, no_slot, slot_at}
 use Rattle.descriptor_table.specs.Tables.{Puts, count, is_usable}
 use Rattle.descriptor_table.specs.declared.slot.Use.TheVariants.{Taken}
 use Rattle.descriptor_table.specs.declared.slot.Slot.{Slot}
@@ -24,7 +24,7 @@ walk_grown (suc n) next first = ap (λ y. first ∷ walk n (next ++ 0 ∷ []) y)
 
 module _ {T : Type 0} where
   -- what `f` says of each place stays, if it says of the slot at the end what it says of the slot past the end
-  grown : {X : Type 0} (f : Slot T → X) (slots : List (Slot T)) (s : Slot T) (q : ℕ) → f s ≡ f (record { generation = 0; layout = 0; layout_generation = 0; used = Taken; leaves = false; set = None }) → f (slot_at (slots ++ s ∷ []) q) ≡ f (slot_at slots q)
+  grown : {X : Type 0} (f : Slot T → X) (slots : List (Slot T)) (s : Slot T) (q : ℕ) → f s ≡ f no_slot → f (slot_at (slots ++ s ∷ []) q) ≡ f (slot_at slots q)
   grown f [] s zero same = same
   grown f [] s (suc q) same = refl
   grown f (x ∷ slots) s zero same = refl
@@ -40,7 +40,7 @@ module _ {T : Type 0} where
   slots_before (x ∷ slots) s zero apart = refl
   slots_before (x ∷ slots) s (suc q) apart = slots_before slots s q (λ e. apart (ap suc e))
 
-  past : (slots : List (Slot T)) → slot_at slots (length slots) ≡ record { generation = 0; layout = 0; layout_generation = 0; used = Taken; leaves = false; set = None }
+  past : (slots : List (Slot T)) → slot_at slots (length slots) ≡ no_slot
   past [] = refl
   past (x ∷ slots) = past slots
 
@@ -50,7 +50,7 @@ module _ {T : Type 0} where
       → ((k : ℕ)
       → test k s
       ≡ test k
-      (record { generation = 0; layout = 0; layout_generation = 0; used = Taken; leaves = false; set = None }))
+      no_slot)
       → HasChains test slots next heads → HasChains test (slots ++ s ∷ []) (next ++ 0 ∷ []) heads
   chains_grown test slots next heads s same h = λ k q. ap (times q) (walk_grown (heads k).count next (heads k).first) ∙ h k q ∙ ap (λ b. if b then 1 else 0) (sym (grown (test k) slots s q (same k)))
 
@@ -93,7 +93,7 @@ module _ {T : Type 0} where
       → ((q : ℕ) → is_usable (slot_at old q) ≡ false) → Puts generations layout x p old new
   puts_last generations layout x old new p at is full =
       let s : Slot T = record { generation = 0; layout = layout; layout_generation = generations layout; used = Taken; leaves = false; set = Some x } in
-      let none : slot_at old p ≡ record { generation = 0; layout = 0; layout_generation = 0; used = Taken; leaves = false; set = None } = ap (slot_at old) at ∙ past old in
+      let none : slot_at old p ≡ no_slot = ap (slot_at old) at ∙ past old in
       let long = ap length is ∙ long_grown old s in
       let generation = ap (λ (o : Slot T). o.generation) none in
       record {

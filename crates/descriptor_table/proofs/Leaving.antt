@@ -27,7 +27,7 @@ weight_of weight None = 0
 weight_of weight (Some x) = weight x
 
 module _ {T : Type 0} (weight : T → ℕ) where
-  tally_joined : (o : Option T) (l : List T) → tally weight (joined o l) ≡ weight_of weight o + tally weight l
+  pub tally_joined : (o : Option T) (l : List T) → tally weight (joined o l) ≡ weight_of weight o + tally weight l
   tally_joined x0 l = grind (arith, common_steps)
 
   -- a slot changed

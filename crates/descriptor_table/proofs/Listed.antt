@@ -2,13 +2,12 @@
 -- `test k` says which slots the list `k` has (`is_in`, or `is_of` for a frame), `heads k` is its first place and its count, and `next` has
 -- for each place the next one; `heads'` are the heads after the change. Two lists are *apart* if no slot is in both.
 use Rattle.std.proofs.lemmas.Grind.{common_steps}
-use Rattle.std.proofs.Common.{◌≡◌, ◌≢◌, ℕ, zero, suc, ◌+◌, ◌<◌, ◌≤◌, Bool, true, false, if◌then◌else◌, List, [], ◌∷◌, length, get_or, set, None, inl, inr, refl, sym, ap, subst, ◌∙◌, arith, add-one}
+use Rattle.std.proofs.Common.{◌≡◌, ◌≢◌, ℕ, zero, suc, ◌+◌, ◌<◌, ◌≤◌, Bool, true, false, if◌then◌else◌, List, [], ◌∷◌, length, get_or, set, inl, inr, refl, sym, ap, subst, ◌∙◌, arith, add-one}
 use Rattle.std.proofs.lemmas.List.{get_or-set_other, get_or-set_same, get_or_past, get_or_read, length-set}
 use Rattle.descriptor_table.specs.Places.{times, walk}
-use Rattle.descriptor_table.specs.Slots.{HasChains, Lists, slot_at}
+use Rattle.descriptor_table.specs.Slots.{HasChains, Lists, no_slot, slot_at}
 use Rattle.descriptor_table.specs.Tables.{used_for}
 use Rattle.descriptor_table.specs.declared.slot.Use.{Use}
-use Rattle.descriptor_table.specs.declared.slot.Use.TheVariants.{Taken}
 use Rattle.descriptor_table.specs.declared.slot.Slot.{Slot}
 use Rattle.descriptor_table.specs.declared.slot.Chain.{Chain}
 use Rattle.descriptor_table.proofs.Counting.{few_places, same_or, times_here, times_there, walk_other}
@@ -36,17 +35,17 @@ module _ {T : Type 0} where
   with_use p u slots = set slots p (used_for u (slot_at slots p))
 
   pub slot_set : (slots : List (Slot T)) (p : ℕ) (s : Slot T) → p < length slots → slot_at (set slots p s) p ≡ s
-  slot_set slots p s within = get_or-set_same slots p s (record { generation = 0; layout = 0; layout_generation = 0; used = Taken; leaves = false; set = None }) within
+  slot_set slots p s within = get_or-set_same slots p s no_slot within
 
   pub other_slots : (slots : List (Slot T)) (p : ℕ) (s : Slot T) (q : ℕ) → q ≢ p → slot_at (set slots p s) q ≡ slot_at slots q
-  other_slots slots p s q ne = get_or-set_other slots p q s (record { generation = 0; layout = 0; layout_generation = 0; used = Taken; leaves = false; set = None }) ne
+  other_slots slots p s q ne = get_or-set_other slots p q s no_slot ne
 
   -- what the code's index reads
   pub read_slot : (slots : List (Slot T)) (p : ℕ) (s : Slot T) → p < length slots → s ≡ get_or slots p s → s ≡ slot_at slots p
-  read_slot slots p s within is = get_or_read slots p s within is (record { generation = 0; layout = 0; layout_generation = 0; used = Taken; leaves = false; set = None })
+  read_slot slots p s within is = get_or_read slots p s within is no_slot
 
   -- a slot that passes a test is in the table, if the slot past the end, in which no set ever was, doesn't pass it
-  pub test_within : (t : Slot T → Bool) (slots : List (Slot T)) (p : ℕ) → t (record { generation = 0; layout = 0; layout_generation = 0; used = Taken; leaves = false; set = None }) ≡ false → t (slot_at slots p) ≡ true → p < length slots
+  pub test_within : (t : Slot T → Bool) (slots : List (Slot T)) (p : ℕ) → t no_slot ≡ false → t (slot_at slots p) ≡ true → p < length slots
   test_within t [] p not is = absurd (cc)
   test_within t (s ∷ slots) zero not is = omega arith
   test_within t (s ∷ slots) (suc p) not is = let h = test_within t slots p not is in omega arith
@@ -74,23 +73,17 @@ module _ {T : Type 0} where
     | inr ne ↦ sym (times_there q p l ne) ∙ h q ∙ ap (λ x. one (t x)) (sym (other_slots slots p s q ne))
   ]
 
-  -- a list has no more places than there are slots, if the slot past the end, in which no set ever was, isn't in it
-  pub lists_few : (t : Slot T → Bool) (slots : List (Slot T)) (l : List ℕ) → t (record { generation = 0; layout = 0; layout_generation = 0; used = Taken; leaves = false; set = None }) ≡ false → Lists t slots l → length l ≤ length slots
+  pub past_end : (slots : List (Slot T)) (p : ℕ) → length slots ≤ p → slot_at slots p ≡ no_slot
+  past_end slots p le = get_or_past slots p no_slot le
+
+  -- a list has no more places than there are slots, if the slot past the end isn't in it
+  pub lists_few : (t : Slot T → Bool) (slots : List (Slot T)) (l : List ℕ) → t no_slot ≡ false → Lists t slots l → length l ≤ length slots
   lists_few t slots l none h =
       few_places (length slots) l (λ p. subst (λ n. n ≤ 1) (sym (h p)) (one_few (t (slot_at slots p))))
       (λ p past.
       h p
       ∙ ap (λ x. one (t x))
-      (get_or_past slots p
-      (record {
-        generation = 0;
-        layout = 0;
-        layout_generation = 0;
-        used = Taken;
-        leaves = false;
-        set = None;
-      })
-      past)
+      (past_end slots p past)
       ∙ ap one none)
 
   -- a slot that does not pass the test is not in the list
@@ -100,7 +93,7 @@ module _ {T : Type 0} where
   module _ (test : ℕ → Slot T → Bool) where
     -- the slot past the end, in which no set ever was, is in no list
     abbrev pub PassesNone : Type 0
-    PassesNone = (k : ℕ) → test k (record { generation = 0; layout = 0; layout_generation = 0; used = Taken; leaves = false; set = None }) ≡ false
+    PassesNone = (k : ℕ) → test k no_slot ≡ false
 
     -- a slot is in one list
     abbrev pub IsApart : Type 0

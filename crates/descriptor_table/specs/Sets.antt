@@ -73,8 +73,3 @@ module _ {T : Type 0} where
   pub record AreHeldOnce (number : ℕ) (slots : Slots T) (handles : List SetHandle) : Type 0 where
     pub held : All (λ h. is_held number slots h ≡ true) handles
     pub once : AreOnce handles
-
--- whether a handle of the list is of the place
-abbrev pub names_place : List SetHandle → ℕ → Bool
-names_place [] p = false
-names_place (h ∷ handles) p = if p == h.place then true else names_place handles p

@@ -78,9 +78,13 @@ abbrev pub Slots : Type 0 → Type 0
 Slots T = List (Slot T)
 
 module _ {T : Type 0} where
-  -- the slot at a place, or else the slot past the end, in which no set ever was
+  -- the slot past the end, in which no set ever was
+  abbrev pub no_slot : Slot T
+  no_slot = record { generation = 0; layout = 0; layout_generation = 0; used = Taken; leaves = false; set = None }
+
+  -- the slot at a place, or else the slot past the end
   abbrev pub slot_at : Slots T → ℕ → Slot T
-  slot_at slots place = slice_index_or slots place (record { generation = 0; layout = 0; layout_generation = 0; used = Taken; leaves = false; set = None })
+  slot_at slots place = slice_index_or slots place no_slot
 
   -- whether a slot is in the list
   abbrev pub is_in : ℕ → Slot T → Bool

@@ -3,7 +3,8 @@ use Rattle.descriptor_renderer.specs.LayoutRegistries.{layout_slots}
 use Rattle.descriptor_renderer.specs.Stores.{NoneComes, slots_in}
 use Rattle.descriptor_renderer.proofs.Owned.{sets_settle}
 use Rattle.descriptor_renderer.proofs.Showing.{cleaned_names}
-use Rattle.descriptor_renderer.proofs.Remaining.{cleaned_empty, cleaned_kept}
+use Rattle.descriptor_renderer.proofs.Cleared.{none_left}
+use Rattle.descriptor_renderer.proofs.Remaining.{cleaned_empty}
 use Rattle.descriptor_renderer.proofs.renderer.Renderer.cleanup.Goals as goal
 
 pub invariant_of-self-clause-sets : goal.invariant_of-self-clause-sets
@@ -17,7 +18,7 @@ returns-clause-emptied g c = λ held waiting.
     c.cleanup.ensures.emptied (cleaned_empty (slots_in old) (slots_in c.cleanup.new.self) c.args.self.now.sets.rest.placed c.cleanup.ensures.cleaned held waiting)
 
 pub returns-clause-none_kept : goal.returns-clause-none_kept
-returns-clause-none_kept g c = cleaned_kept (slots_in c.args.self.now.store) (slots_in c.cleanup.new.self) c.cleanup.ensures.cleaned
+returns-clause-none_kept g c = none_left (slots_in c.args.self.now.store) (slots_in c.cleanup.new.self) c.cleanup.ensures.cleaned
 
 pub returns-clause-names : goal.returns-clause-names
 returns-clause-names g c =
