@@ -35,6 +35,11 @@ pub record CanRun (p : LineState) : Type 0 where
   -- before the first command there is no layout
   pub fresh : IsFalse p.has_begun → layout_count p.layouts ≡ 0
 
+-- the program can run a line, and the text that gets the answer is empty
+pub record CanAnswer (text : List ℕ) (p : LineState) : Type 0 where
+  pub ready : CanRun p
+  pub empty : text ≡ []
+
 -- no line was run yet
 pub record IsFresh (p : LineState) : Type 0 where
   pub layouts : layouts_in p.layouts ≡ []

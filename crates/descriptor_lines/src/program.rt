@@ -8,7 +8,7 @@ ghost use Rattle.descriptor_script.specs.Scripted.Device.{empty_ledger};
 ghost use Rattle.descriptor_lines.specs.Outcomes.{EndsInFault};
 ghost use Rattle.descriptor_lines.specs.LineBuffers.{most_reads, unread};
 ghost use Rattle.descriptor_lines.specs.LineStates.{line_state};
-ghost use Rattle.descriptor_lines.specs.Programs.{CanRun, DoesLine, IsFresh, IsNotRun};
+ghost use Rattle.descriptor_lines.specs.Programs.{CanAnswer, CanRun, DoesLine, IsFresh, IsNotRun};
 ghost use Rattle.descriptor_lines.specs.Transcripts.{RunsLines, Writes};
 ghost use Rattle.descriptor_words.specs.Words.{words};
 
@@ -66,10 +66,9 @@ impl<D: LineDevice> Program<D> {
     }
 
     /// Runs a line, and puts its answer into the empty text. An error changes nothing but whether a line
-    /// has come.
+    /// had a command.
     fn run_line(&mut self, line: &[u8], answer: &mut String) -> Result<(), Refusal>
-        requires ready { CanRun (line_state D.ledger D.script self.old) }
-        requires empty { string_bytes answer.old ≡ [] }
+        requires can { CanAnswer (string_bytes answer.old) (line_state D.ledger D.script self.old) }
         ensures ready { CanRun (line_state D.ledger D.script self.new) }
         ensures does { OnOk result (DoesLine (words line.now) (string_bytes answer.new)
             (line_state D.ledger D.script self.old) (line_state D.ledger D.script self.new)) }
@@ -100,8 +99,7 @@ fn run_to_end<D: LineDevice, R: Read, W: Write>(
     input: &mut R,
     output: &mut W,
 ) -> Exit
-    requires ready { CanRun (line_state D.ledger D.script program.old) }
-    requires empty { string_bytes answer.old ≡ [] }
+    requires can { CanAnswer (string_bytes answer.old) (line_state D.ledger D.script program.old) }
     requires open { IsFalse lines.old.is_at_end }
     requires reads { lines.old.reads_left ≡ most_reads }
     ensures writes { Writes (unread lines.old (R.remaining input.old))
@@ -132,8 +130,8 @@ fn run_to_end<D: LineDevice, R: Read, W: Write>(
 }
 
 /// Reads lines from `input` to its end, and writes the answer of each to `output` before the next
-/// is run. It ends early at a faulty line, at a read or a write that fails, of whatever kind, and
-/// after 100000000 read calls.
+/// is run. It ends early without memory to begin, at a faulty line, at a read or a write that
+/// fails, of whatever kind, and after 100000000 read calls.
 pub fn run_lines<R: Read, W: Write>(alloc: Global, input: &mut R, output: &mut W) -> Exit
     ensures runs { (ledger : Ledger) × (script : List Answer)
         × RunsLines (R.remaining input.old) (R.remaining input.new) result

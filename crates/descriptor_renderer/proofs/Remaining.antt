@@ -1,4 +1,4 @@
--- What is left after a cleanup.
+-- What is left after a cleanup, and if no slot has a set: for `Renderer::cleanup` and `shutdown`.
 use Rattle.std.proofs.lemmas.Grind.{common_steps}
 use Rattle.std.proofs.Common.{◌≡◌, ℕ, suc, ◌<◌, ◌&&◌, Bool, true, false, List, [], ◌∷◌, length, if◌then◌else◌, Option, None, is_some, refl, ap, ◌∙◌, arith}
 use Rattle.descriptor_table.specs.Sets.{joined, sets_in}

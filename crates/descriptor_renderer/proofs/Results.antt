@@ -1,4 +1,4 @@
--- What is said of a result's value.
+-- What holds of a result's value, given the result: for the store's and the renderer's clauses `IfOk`, `IfErr`, `OnOk`.
 use Rattle.std.specs.Prelude.{IfErr, IfOk, OnOk, Result, Ok, Err}
 
 pub if_ok : {X E : Type 0} (P Q : X → Type 0) (r : Result X E) → IfOk r P → ((x : X) → P x → Q x) → IfOk r Q

@@ -1,4 +1,4 @@
--- A set that was taken gets a handle.
+-- A set that a call has (`Taken`) gets its next handle: for `Store::draw` and `create`.
 use Rattle.std.proofs.Common.{◌≡◌, ◌∙◌, ℕ, ◌<◌, ◌||◌, true, false, Ok, Err, subst, refl, arith}
 use Rattle.gpu_descriptor_types.specs.declared.device.DescriptorDevice.{Ghosts}
 use Rattle.gpu_descriptor.specs.declared.errors.AllocationError.{AllocationError}

@@ -1,4 +1,4 @@
--- Marks of slots.
+-- Marks of slots: one more that is not set, for `Slots::push`.
 use Rattle.std.proofs.Common.{zero, suc, Bool, false, List, [], ◌∷◌, ◌++◌, refl}
 use Rattle.descriptor_script.specs.Inner.Marks.{AreClear}
 

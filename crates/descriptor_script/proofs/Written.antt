@@ -22,6 +22,7 @@ pub record IsWritten {S : Type 0} (m n : IndexMap ℕ LivePool S) (name : ℕ) (
   pub was : get nat_eq m name ≡ Some old
   pub now : (q : ℕ) → get nat_eq n q ≡ cond (nat_eq name q) (Some new) (get nat_eq m q)
 
+-- the names of pools after a write through `get_mut`
 pub written : {S : Type 0} (m n : IndexMap ℕ LivePool S) (name : ℕ) (old new : LivePool) → Some old ≡ get nat_eq m name → WritesThrough nat_eq (nat_eq name) m new n → IsWritten m n name old new
 written m n name old new was through = record { was = sym was; now = (through.3 (ap is_some (sym was))).0 }
 

@@ -233,7 +233,7 @@ module _ {T : Type 0} where
   abbrev pub is_kept : Slot T → Bool
   is_kept s = is_kept_of s.layout s
 
-  -- a kept set left the list, or none did, and no more than so many are in it
+  -- a kept set left the list, or none did, since no more than so many are in it
   abbrev pub PicksAbove : ℕ → ℕ → Option ℕ → Slots T → Slots T → Type 0
   PicksAbove k most result old new = MatchOption result ((count (is_in k) old ≤ most) × (new ≡ old)) (λ p. Picks (is_in k) p old new)
 

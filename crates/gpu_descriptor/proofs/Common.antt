@@ -51,7 +51,7 @@ pub use Rattle.gpu_descriptor.specs.Caller.States.{Agrees, marked_load_of, named
 pub use Rattle.gpu_descriptor.specs.Inner.Buckets.{AreBookedIn, IsBookedIn, front_but, has_pools, ledger_but, bucket_but_front, ledger_but_front}
 pub use Rattle.gpu_descriptor.specs.Inner.Grow.{IsGrown, IsTaken}
 pub use Rattle.gpu_descriptor.specs.Inner.Ids.{is_of, stored_ids}
-pub use Rattle.gpu_descriptor.specs.Inner.OpenNumbers.{IsEntered, first_ordinal, free_in, open_numbers, stored_numbers}
+pub use Rattle.gpu_descriptor.specs.Inner.OpenOrdinals.{IsEntered, first_ordinal, free_in, open_ordinals, stored_numbers}
 pub use Rattle.gpu_descriptor.specs.Inner.OpenPools.{CountsLooks, KeepsView, bucket_in, looked_at, newest_place}
 pub use Rattle.gpu_descriptor.specs.Inner.Releases.{Compares, FreesRun, IsTakenAt, Releases, bucket_back, names_of}
 pub use Rattle.gpu_descriptor.specs.Inner.RunSteps.{AllPass, CountsFrom, EndsRun, Hands, Looks, RunStep}

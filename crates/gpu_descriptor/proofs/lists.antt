@@ -1,7 +1,7 @@
 pub mod AtPlaces
 pub mod Appended
 pub mod OpenList
-pub mod OpenNumbers
+pub mod OpenOrdinals
 pub mod Numbers
 pub mod Searching
 pub mod Ordinals

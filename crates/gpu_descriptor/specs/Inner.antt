@@ -3,7 +3,7 @@ pub mod Buckets
 pub mod Grow
 pub mod Ids
 pub mod KeyOf
-pub mod OpenNumbers
+pub mod OpenOrdinals
 pub mod OpenPools
 pub mod Releases
 pub mod RunSteps

@@ -2,8 +2,8 @@
 ghost use Rattle.std.specs.Prelude.{◌≡◌, ◌+◌, ◌<◌, ◌≤◌, ◌^◌, length, nat_lt, sum_by, true};
 ghost use Rattle.std.specs.VecDeque.{deque_capacity};
 ghost use Rattle.gpu_descriptor_types.specs.Bounds.{greatest_u64};
-ghost use Rattle.gpu_descriptor.specs.Inner.OpenNumbers.{first_ordinal, free_in, open_numbers};
-ghost use Rattle.gpu_descriptor.specs.Inner.OpenNumbers.{stored_numbers};
+ghost use Rattle.gpu_descriptor.specs.Inner.OpenOrdinals.{first_ordinal, free_in, open_ordinals};
+ghost use Rattle.gpu_descriptor.specs.Inner.OpenOrdinals.{stored_numbers};
 ghost use Rattle.gpu_descriptor.specs.Model.Books.{number_after, rises};
 
 mod existing;
@@ -62,7 +62,7 @@ pub(crate) struct DescriptorBucket<P> {
     ghost numbered: { number_after (stored_numbers pools.items) < 2 ^ 64 },
     ghost rising: { rises (stored_numbers pools.items) ≡ true },
     ghost counted: { total ≡ sum_by (λ p. p.allocated) pools.items },
-    ghost open: { listed.items ≡ open_numbers (first_ordinal pools.items) (free_in pools.items) },
+    ghost open: { listed.items ≡ open_ordinals (first_ordinal pools.items) (free_in pools.items) },
     ghost capacity: { length pools.items ≤ deque_capacity listed },
 }
 

@@ -7,7 +7,7 @@ ghost use Rattle.descriptor_lines.specs.FirstLayouts.{key_of};
 ghost use Rattle.descriptor_lines.specs.LayoutTables.{layout_count, layout_named};
 ghost use Rattle.descriptor_lines.specs.LineStates.{line_state};
 ghost use Rattle.descriptor_lines.specs.Orders.{Limit, Layout as NewLayout, Script, order_of};
-ghost use Rattle.descriptor_lines.specs.Programs.{CanRun, Does, DoesOrder, RunsAs};
+ghost use Rattle.descriptor_lines.specs.Programs.{CanAnswer, Does, DoesOrder, RunsAs};
 ghost use Rattle.descriptor_script.specs.Scripted.Raw.{script_meaning};
 ghost use Rattle.descriptor_script.specs.Sessions.Steps.{StepsTo};
 
@@ -29,10 +29,9 @@ impl<D: LineDevice> Program<D> {
         command: Command<'_>,
         answer: &mut String,
     ) -> Result<(), AllocError>
-        requires ready { CanRun (line_state D.ledger D.script self.old) }
+        requires can { CanAnswer (string_bytes answer.old) (line_state D.ledger D.script self.old) }
         requires begun { IsTrue self.old.has_begun }
         requires runnable { IsRunnable self.old.layouts command }
-        requires empty { string_bytes answer.old ≡ [] }
         ensures runs { RunsAs (DoesOrder (order_of command.entry)) result (string_bytes answer.new)
             (line_state D.ledger D.script self.old) (line_state D.ledger D.script self.new) }
     {
@@ -56,9 +55,8 @@ impl<D: LineDevice> Program<D> {
 
     /// Begins with this limit on marked descriptors, and puts the answer into the empty text.
     fn set_limit(&mut self, max: u32, answer: &mut String) -> Result<(), AllocError>
-        requires ready { CanRun (line_state D.ledger D.script self.old) }
+        requires can { CanAnswer (string_bytes answer.old) (line_state D.ledger D.script self.old) }
         requires fresh { layout_count self.old.layouts ≡ 0 }
-        requires empty { string_bytes answer.old ≡ [] }
         ensures runs { RunsAs (DoesOrder (Limit max)) result (string_bytes answer.new)
             (line_state D.ledger D.script self.old) (line_state D.ledger D.script self.new) }
     {
@@ -74,10 +72,9 @@ impl<D: LineDevice> Program<D> {
         layout: Layout,
         answer: &mut String,
     ) -> Result<(), AllocError>
-        requires ready { CanRun (line_state D.ledger D.script self.old) }
+        requires can { CanAnswer (string_bytes answer.old) (line_state D.ledger D.script self.old) }
         requires begun { IsTrue self.old.has_begun }
         requires absent { layout_named self.old.layouts name.now ≡ None }
-        requires empty { string_bytes answer.old ≡ [] }
         ensures runs { RunsAs (DoesOrder (NewLayout name.now (key_of layout))) result
             (string_bytes answer.new) (line_state D.ledger D.script self.old)
             (line_state D.ledger D.script self.new) }
@@ -98,8 +95,7 @@ impl<D: LineDevice> Program<D> {
 
     /// Gives the device a new script, and puts the answer into the empty text.
     fn load(&mut self, script: Vec<Answer>, answer: &mut String) -> Result<(), AllocError>
-        requires ready { CanRun (line_state D.ledger D.script self.old) }
-        requires empty { string_bytes answer.old ≡ [] }
+        requires can { CanAnswer (string_bytes answer.old) (line_state D.ledger D.script self.old) }
         ensures runs { RunsAs (DoesOrder (Script script.items)) result (string_bytes answer.new)
             (line_state D.ledger D.script self.old) (line_state D.ledger D.script self.new) }
     {
@@ -110,9 +106,8 @@ impl<D: LineDevice> Program<D> {
 
     /// Runs a command of the session, and puts its answer into the empty text.
     fn ask(&mut self, command: SessionCommand, answer: &mut String) -> Result<(), AllocError>
-        requires ready { CanRun (line_state D.ledger D.script self.old) }
+        requires can { CanAnswer (string_bytes answer.old) (line_state D.ledger D.script self.old) }
         requires known { IsKnown (layout_count self.old.layouts) command }
-        requires empty { string_bytes answer.old ≡ [] }
         ensures runs { RunsAs (Does (StepsTo script_meaning command)) result
             (string_bytes answer.new) (line_state D.ledger D.script self.old)
             (line_state D.ledger D.script self.new) }

@@ -153,7 +153,7 @@ impl<T> SetTable<T> {
         self.pick(list)
     }
 
-    /// Lets kept sets of a layout go, but so many.
+    /// Lets kept sets of a list go, until no more than so many are left.
     fn trim_list(&mut self, list: usize, most: u32)
         requires list { 2 ≤ list }
         requires within { list < lists_of self.old }
@@ -175,7 +175,7 @@ impl<T> SetTable<T> {
         self.trim_list(layout as usize + KEPT, 0);
     }
 
-    /// Lets kept sets go, but so many of each layout.
+    /// Lets kept sets go, until no more than so many of each layout are left.
     pub fn trim(&mut self, most: u32)
         ensures turns { Changes (Turns is_kept (MayBecome (used_for Use.Going))) self.old self.new }
         ensures few { (layout : ℕ) → count (is_kept_of layout) (slots_of self.new) ≤ most }

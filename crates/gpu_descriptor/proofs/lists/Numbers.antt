@@ -55,7 +55,7 @@ next_push [] n = refl
 next_push (x ∷ []) n = refl
 next_push (x ∷ y ∷ xs) n = next_push (y ∷ xs) n
 
--- there are as many numbers below the next one at least
+-- a key has no more pools than the number of its next one, so `first_ordinal` takes nothing below 0
 pub few_numbers : (xs : List ℕ) → rises xs ≡ true → length xs ≤ number_after xs
 few_numbers xs h = at_least xs h 0 (λ i m at. omega arith)
   where

@@ -1,6 +1,6 @@
 -- What comparisons the runs of a list may take: a run more adds the digits at its first set.
 use Rattle.gpu_descriptor.proofs.Common.{◌≡◌, ℕ, zero, suc, ◌+◌, ◌<◌, Bool, true, false, List, [], ◌∷◌, ◌++◌, map, length, count_by, refl, sym, ap, ◌∙◌, arith, append_assoc, lt-ltb, append-nil, nat_lt, if◌then◌else◌, count_by_no, count_by_yes, DescriptorPool, State, Item, Entry, digits_at}
-use Rattle.gpu_descriptor.proofs.Common.{digits_behind, run_digits, open_numbers, free_in, runs, entry_of}
+use Rattle.gpu_descriptor.proofs.Common.{digits_behind, run_digits, open_ordinals, free_in, runs, entry_of}
 
 none_of : (b : Bool) → ◌≡◌ {A = ℕ} (if b then 0 else 1) 1 → b ≡ false
 none_of true h = absurd (omega arith)
@@ -32,10 +32,10 @@ module _ (state : State) where
 abbrev is_open : Entry → Bool
 is_open e = nat_lt 0 e.available
 
-one_listed : (first n : ℕ) (free : List ℕ) (e : Entry) (es : List Entry) → e.available ≡ n → ((next : ℕ) → length (open_numbers next free) ≡ count_by is_open es) → length (open_numbers first (n ∷ free)) ≡ count_by is_open (e ∷ es)
+one_listed : (first n : ℕ) (free : List ℕ) (e : Entry) (es : List Entry) → e.available ≡ n → ((next : ℕ) → length (open_ordinals next free) ≡ count_by is_open es) → length (open_ordinals first (n ∷ free)) ≡ count_by is_open (e ∷ es)
 one_listed first zero free e es is rest = rest (suc first) ∙ sym (count_by_no is_open e es (ap (nat_lt 0) is))
 one_listed first (suc n) free e es is rest = ap suc (rest (suc first)) ∙ sym (count_by_yes is_open e es (lt-ltb 0 e.available (omega (arith, is))))
 
-pub listed_count : {P : Type 0} (name : P → ℕ) (first : ℕ) (pools : List (DescriptorPool P)) → length (open_numbers first (free_in pools)) ≡ count_by is_open (map (entry_of name) pools)
+pub listed_count : {P : Type 0} (name : P → ℕ) (first : ℕ) (pools : List (DescriptorPool P)) → length (open_ordinals first (free_in pools)) ≡ count_by is_open (map (entry_of name) pools)
 listed_count name first [] = refl
 listed_count name first (p ∷ pools) = one_listed first p.available (free_in pools) (entry_of name p) (map (entry_of name) pools) refl (λ next. listed_count name next pools)

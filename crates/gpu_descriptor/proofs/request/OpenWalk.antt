@@ -2,11 +2,11 @@
 -- For `walk`: OpenWalk is the invariant of its loop, which asks the last pool of the list of open ones. numbers is that list, front
 -- is it without its last, place is where the last one's pool is; p is that pool before it is asked, and q after.
 use Rattle.gpu_descriptor.proofs.Common.{common_steps, ◌≡◌, ℕ, suc, ◌+◌, ◌-◌, ◌<◌, ◌≤◌, List, [], ◌∷◌, ◌++◌, length, min, slice_set, None, Some, Err, refl, sym, ap, ◌∙◌, arith, inl, inr, map, length-map, map-set, length-set, slice_get-map, slice_get_within, lt-ltb, cases_lt, slice_get, option_map}
-use Rattle.gpu_descriptor.proofs.Common.{Ledger, Counters, DescriptorPool, Item, Key, Entry, DeviceAllocationError, AreBookedIn, IsBookedIn, free_in, open_numbers, entry_of, IsAsked, IsNoMemory, IsTaken, items_at}
+use Rattle.gpu_descriptor.proofs.Common.{Ledger, Counters, DescriptorPool, Item, Key, Entry, DeviceAllocationError, AreBookedIn, IsBookedIn, free_in, open_ordinals, entry_of, IsAsked, IsNoMemory, IsTaken, items_at}
 use Rattle.gpu_descriptor.specs.declared.bucket.stop.Stop.TheVariants.{ExistingPoolWithoutMemory}
 use Rattle.gpu_descriptor.proofs.table.Exact.{bucket}
 use Rattle.gpu_descriptor.proofs.lists.OpenList.{listed_closes, listed_stays}
-use Rattle.gpu_descriptor.proofs.lists.OpenNumbers.{IsNewestOpen, newest_open, open_all_none}
+use Rattle.gpu_descriptor.proofs.lists.OpenOrdinals.{IsNewestOpen, newest_open, open_all_none}
 use Rattle.gpu_descriptor.proofs.request.Walking.{Walking, walk_gap, walk_start, walk_more, walk_stop, next_was, next_booked}
 use Rattle.gpu_descriptor.proofs.lists.AtPlaces.{set_got}
 use Rattle.std.proofs.lemmas.Simd.{map-map}
@@ -14,7 +14,7 @@ use Rattle.std.proofs.lemmas.Simd.{map-map}
 -- so far the pools from a place on were asked as far as they had something, and the list has the open pools
 pub record OpenWalk {P : Type 0} (name : P → ℕ) (k : Key) (n id first wanting : ℕ) (out : List Item) (old : List Entry) (items : List (DescriptorPool P)) (numbers : List ℕ) (l m : Ledger) : Type 0 where
   pub long : length items ≡ length old
-  pub listed : numbers ≡ open_numbers first (free_in items)
+  pub listed : numbers ≡ open_ordinals first (free_in items)
   pub left : ℕ
   pub within : left ≤ length old
   -- the pools from there on have nothing, or nothing is wanting
@@ -68,10 +68,10 @@ module _ {P : Type 0} {name : P → ℕ} {k : Key} {n id first wanting : ℕ} {o
       -- what stands in the books and the list once it was asked
       module _ (q : DescriptorPool P) where
         -- the list lacks the pool's number if it has no known free place left, and else is as it was
-        pub listed_now_closed : q.available ≡ 0 → front ≡ open_numbers first (free_in (slice_set items place q))
-        listed_now_closed none = listed_closes first items numbers s.listed front (first + place) newest q none ∙ ap (λ (i : ℕ). open_numbers first (free_in (slice_set items i q))) place_is
+        pub listed_now_closed : q.available ≡ 0 → front ≡ open_ordinals first (free_in (slice_set items place q))
+        listed_now_closed none = listed_closes first items numbers s.listed front (first + place) newest q none ∙ ap (λ (i : ℕ). open_ordinals first (free_in (slice_set items i q))) place_is
 
-        pub listed_now_open : 0 < q.available → numbers ≡ open_numbers first (free_in (slice_set items place q))
+        pub listed_now_open : 0 < q.available → numbers ≡ open_ordinals first (free_in (slice_set items place q))
         listed_now_open has = listed_stays first items numbers s.listed place p q at has_free has
 
         pub closed_now : (names : List ℕ) (m' : Ledger) (wanting' : ℕ) → IsAsked k wanting names (entry_of name p) (entry_of name q) m m' → wanting' + length names ≡ wanting
@@ -84,7 +84,7 @@ module _ {P : Type 0} {name : P → ℕ} {k : Key} {n id first wanting : ℕ} {o
 
         -- one turn of the loop: the pool gave, or refused as fragmented or full. On an error of memory the walk stops
         pub open_walk_more : {put : List Item} {items' : List (DescriptorPool P)} {numbers' : List ℕ} {own start wanting' : ℕ} {names : List ℕ} {m' : Ledger}
-            → own ≡ id → start ≡ first → put ≡ out ++ items_at k id p.number names → items' ≡ slice_set items place q → numbers' ≡ open_numbers first (free_in (slice_set items place q))
+            → own ≡ id → start ≡ first → put ≡ out ++ items_at k id p.number names → items' ≡ slice_set items place q → numbers' ≡ open_ordinals first (free_in (slice_set items place q))
             → IsAsked k wanting names (entry_of name p) (entry_of name q) m m' → wanting' + length names ≡ wanting → OpenWalk name k n own start wanting' put old items' numbers' l m'
         open_walk_more {put} {wanting' = wanting'} {names = names} {m' = m'} ids starts put_is items_is listed' asked less =
             let next = walk_more k n id place wanting out old (map (entry_of name) items) l m booked walk_reaches (entry_of name p) (entry_of name q) names m' wanting' was asked less in
@@ -101,13 +101,13 @@ module _ {P : Type 0} {name : P → ℕ} {k : Key} {n id first wanting : ℕ} {o
             → IsTaken (Err (ExistingPoolWithoutMemory error)) None k room n out (bucket own old) (bucket id (map (entry_of name) (slice_set items place q))) l m'
         open_walk_stop room error m' ids same none = rw (sym ids, map-set (entry_of name) items place q) (walk_stop k room n id place wanting out old (map (entry_of name) items) l m m' (entry_of name p) (entry_of name q) error walk_reaches was entry_at_place same none)
 
-        pub listed_now_same : entry_of name q ≡ entry_of name p → numbers ≡ open_numbers first (free_in (slice_set items place q))
+        pub listed_now_same : entry_of name q ≡ entry_of name p → numbers ≡ open_ordinals first (free_in (slice_set items place q))
         listed_now_same same = listed_now_open (let a : q.available ≡ p.available = ap (λ (d : Entry). d.available) same in let b = has_free in omega arith)
 
       pub next_is_booked : IsBookedIn k m.pools (entry_of name p)
       next_is_booked = next_booked k n id place wanting out old (map (entry_of name) items) l m booked walk_reaches (entry_of name p) was
 
-pub open_walk_start : {P : Type 0} (name : P → ℕ) (k : Key) (n id first : ℕ) (items : List (DescriptorPool P)) (numbers : List ℕ) (l : Ledger) → numbers ≡ open_numbers first (free_in items) → OpenWalk name k n id first n [] (map (entry_of name) items) items numbers l l
+pub open_walk_start : {P : Type 0} (name : P → ℕ) (k : Key) (n id first : ℕ) (items : List (DescriptorPool P)) (numbers : List ℕ) (l : Ledger) → numbers ≡ open_ordinals first (free_in items) → OpenWalk name k n id first n [] (map (entry_of name) items) items numbers l l
 open_walk_start name k n id first items numbers l listed = record {
   long = sym (length-map items (entry_of name));
   listed = listed;

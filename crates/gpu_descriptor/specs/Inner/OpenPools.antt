@@ -5,7 +5,7 @@ use Rattle.std.specs.VecDeque.{deque_with_item}
 use Rattle.std.specs.Borrow.{LendsIf, MutBor, Fml, RattleType}
 use mir.Syntax.{named}
 use Rattle.gpu_descriptor_types.specs.Ledger.{Ledger}
-use Rattle.gpu_descriptor.specs.Inner.OpenNumbers.{open_numbers, free_in}
+use Rattle.gpu_descriptor.specs.Inner.OpenOrdinals.{open_ordinals, free_in}
 use Rattle.gpu_descriptor.specs.Model.Books.{Bucket}
 use Rattle.gpu_descriptor.specs.declared.bucket.DescriptorPool.{DescriptorPool}
 use Rattle.gpu_descriptor.specs.declared.bucket.open_pools.OpenPools.{OpenPools}
@@ -19,7 +19,7 @@ CountsLooks old new before after = new + before.counters.asked ≡ old + after.c
 module _ {P : Type 0} where
   -- the list has exactly the open pools
   abbrev pub IsListed : OpenPools P → Type 0
-  IsListed v = v.listed.now.items ≡ open_numbers v.offset (free_in v.pools.now.items)
+  IsListed v = v.listed.now.items ≡ open_ordinals v.offset (free_in v.pools.now.items)
 
   -- the key's pools, as the view has them
   abbrev pub bucket_in : (P → ℕ) → OpenPools P → Bucket

@@ -12,7 +12,7 @@ ghost use Rattle.gpu_descriptor.specs.Inner.KeyOf.{key_of};
 ghost use Rattle.gpu_descriptor.specs.Inner.OpenPools.{CountsLooks, IsListed, KeepsView, bucket_in};
 ghost use Rattle.gpu_descriptor.specs.Inner.Serves.{Appends};
 ghost use Rattle.gpu_descriptor.specs.Inner.SetAt.{set_at};
-ghost use Rattle.gpu_descriptor.specs.Inner.OpenNumbers.{stored_numbers};
+ghost use Rattle.gpu_descriptor.specs.Inner.OpenOrdinals.{stored_numbers};
 ghost use Rattle.gpu_descriptor.specs.Inner.Stored.{bucket_of, entry_of};
 ghost use Rattle.gpu_descriptor.specs.Inner.Walk.{IsAsked, IsNoMemory, IsWalked};
 

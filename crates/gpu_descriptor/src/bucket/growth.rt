@@ -10,7 +10,7 @@ ghost use Rattle.gpu_descriptor.specs.Inner.Grow.{IsGrown};
 ghost use Rattle.gpu_descriptor.specs.Inner.KeyOf.{key_of};
 ghost use Rattle.gpu_descriptor.specs.Inner.OpenPools.{CountsLooks};
 ghost use Rattle.gpu_descriptor.specs.Inner.SetAt.{set_at};
-ghost use Rattle.gpu_descriptor.specs.Inner.OpenNumbers.{stored_numbers};
+ghost use Rattle.gpu_descriptor.specs.Inner.OpenOrdinals.{stored_numbers};
 ghost use Rattle.gpu_descriptor.specs.Inner.Stored.{bucket_of};
 ghost use Rattle.gpu_descriptor.specs.Model.Books.{next_number, number_after};
 ghost use Rattle.gpu_descriptor.specs.Inner.Walk.{IsRefused};

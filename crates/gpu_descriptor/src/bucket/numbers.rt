@@ -1,6 +1,7 @@
-//! A view of numbers that are read one at a time.
+//! What `search.rs` searches by halves: a rising list of ordinals, or the pools by their numbers. Each read
+//! counts as a comparison.
 ghost use Rattle.std.specs.Prelude.{◌≡◌, ◌+◌, ◌<◌, ℕ, List, length, nat_lt, slice_index};
-ghost use Rattle.gpu_descriptor.specs.Inner.OpenNumbers.{stored_numbers};
+ghost use Rattle.gpu_descriptor.specs.Inner.OpenOrdinals.{stored_numbers};
 
 use crate::bucket::DescriptorPool;
 use gpu_descriptor_types::Tally;
@@ -19,6 +20,7 @@ pub(crate) trait Numbered {
         ensures { result ≡ slice_index (numbers self.now) place };
 }
 
+/// The ordinals of the pools with known free places.
 impl Numbered for VecDeque<u64> {
     ghost numbers = { λ ordinals. ordinals.items };
 
@@ -44,7 +46,7 @@ impl<P> Numbered for VecDeque<DescriptorPool<P>> {
     }
 }
 
-/// Numbers that are read one at a time.
+/// A list whose numbers are read one at a time.
 #[derive(Drop)]
 pub(crate) struct Numbers<'a, 'b, N> {
     numbers: &'a N,

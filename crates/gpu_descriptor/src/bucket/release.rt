@@ -4,7 +4,7 @@ ghost use Rattle.std.specs.Iterator.{HoldsAlong, IsNearerEnd};
 ghost use Rattle.gpu_descriptor_types.specs.Ledger.{CanDrain};
 ghost use Rattle.gpu_descriptor.specs.Caller.Comparisons.{gap_digits, search_digits};
 ghost use Rattle.gpu_descriptor.specs.Inner.Buckets.{AreBookedIn};
-ghost use Rattle.gpu_descriptor.specs.Inner.OpenNumbers.{stored_numbers};
+ghost use Rattle.gpu_descriptor.specs.Inner.OpenOrdinals.{stored_numbers};
 ghost use Rattle.gpu_descriptor.specs.Inner.Releases.{Compares, IsTakenAt, Releases, names_of};
 ghost use Rattle.gpu_descriptor.specs.Inner.RunSteps.{AllPass, EndsRun, at_place};
 ghost use Rattle.gpu_descriptor.specs.Inner.Stored.{bucket_of, stored_load};
@@ -19,7 +19,7 @@ use gpu_descriptor_types::{DescriptorDevice, Tally};
 impl<P> DescriptorBucket<P> {
     /// Gives back the sets of one run of this key in one device call.
     ///
-    /// The run goes from `first` to before the first set that lies elsewhere, which is handed back.
+    /// The run goes from `first` to before the first set that lies elsewhere, which is returned.
     #[inline]
     pub(crate) fn release_sets<
         L,

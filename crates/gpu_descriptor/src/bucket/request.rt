@@ -10,7 +10,7 @@ ghost use Rattle.gpu_descriptor.specs.Inner.OpenPools.{CountsLooks};
 ghost use Rattle.gpu_descriptor.specs.Inner.Serves.{Appends, IsUnserved};
 ghost use Rattle.gpu_descriptor.specs.Inner.Stored.{bucket_of, stored_load};
 ghost use Rattle.gpu_descriptor.specs.Model.Books.{number_after};
-ghost use Rattle.gpu_descriptor.specs.Inner.OpenNumbers.{stored_numbers};
+ghost use Rattle.gpu_descriptor.specs.Inner.OpenOrdinals.{stored_numbers};
 
 use crate::bucket::request_sink::RequestSink;
 use crate::bucket::stop::Stop;

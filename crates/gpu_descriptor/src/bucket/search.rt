@@ -4,7 +4,7 @@ ghost use Rattle.std.specs.Prelude.{◌≡◌, ◌+◌, ◌<◌, ◌≤◌, ℕ,
 ghost use Rattle.std.specs.VecDeque.{deque_capacity};
 ghost use Rattle.std.specs.List.Sorted.{IsNonDecreasing, IsPartitionPoint};
 ghost use Rattle.gpu_descriptor.specs.Caller.Comparisons.{binary_digits};
-ghost use Rattle.gpu_descriptor.specs.Inner.OpenNumbers.{IsEntered, stored_numbers};
+ghost use Rattle.gpu_descriptor.specs.Inner.OpenOrdinals.{IsEntered, stored_numbers};
 ghost use Rattle.gpu_descriptor.specs.Inner.Releases.{Compares};
 ghost use Rattle.gpu_descriptor.specs.Model.Books.{rises};
 

@@ -3,8 +3,8 @@ ghost use Rattle.std.specs.Prelude.{◌≡◌, ◌+◌, ◌<◌, ◌≤◌, ◌^
 ghost use Rattle.std.specs.VecDeque.{deque_capacity};
 ghost use Rattle.gpu_descriptor.specs.Inner.Buckets.{AreBookedIn, ledger_but};
 ghost use Rattle.gpu_descriptor.specs.Inner.KeyOf.{key_of};
-ghost use Rattle.gpu_descriptor.specs.Inner.OpenNumbers.{first_ordinal, free_in, open_numbers};
-ghost use Rattle.gpu_descriptor.specs.Inner.OpenNumbers.{stored_numbers};
+ghost use Rattle.gpu_descriptor.specs.Inner.OpenOrdinals.{first_ordinal, free_in, open_ordinals};
+ghost use Rattle.gpu_descriptor.specs.Inner.OpenOrdinals.{stored_numbers};
 ghost use Rattle.gpu_descriptor.specs.Inner.Stored.{bucket_of, entry_of, has_sets, stored_load};
 ghost use Rattle.gpu_descriptor.specs.Model.Books.{Key, number_after, rises};
 ghost use Rattle.gpu_descriptor.specs.Model.Cleanup.{gone_of, left_of};
@@ -82,7 +82,7 @@ fn relist<P>(listed: &mut VecDeque<u64>, pools: &VecDeque<DescriptorPool<P>>)
     requires rising { rises (stored_numbers pools.now.items) ≡ true }
     requires numbered { number_after (stored_numbers pools.now.items) < 2 ^ 64 }
     requires capacity { length pools.now.items ≤ deque_capacity listed.old }
-    ensures listed { listed.new.items ≡ open_numbers (first_ordinal pools.now.items)
+    ensures listed { listed.new.items ≡ open_ordinals (first_ordinal pools.now.items)
         (free_in pools.now.items) }
     ensures capacity { deque_capacity listed.new ≡ deque_capacity listed.old }
 {

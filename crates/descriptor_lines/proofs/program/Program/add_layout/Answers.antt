@@ -13,7 +13,7 @@ use Rattle.descriptor_lines.proofs.program.Program.add_layout.Goals as goal
 
 pub returns-in-Err : goal.returns-in-Err
 returns-in-Err g c =
-    let old = c.requires.ready in
+    let old = c.requires.can.ready in
     let added = c.add_layout.ensures in
     record {
       runs = record {
@@ -30,11 +30,11 @@ returns-in-Err g c =
 
 pub returns-in-Ok : goal.returns-in-Ok
 returns-in-Ok g c =
-    let old = c.requires.ready in
+    let old = c.requires.can.ready in
     let added = c.add_layout.ensures in
     record {
       runs = record {
-        done = (c.args.layout, refl, search rules, c.in_ok-layout_answer.ensures ∙ ap (λ text. text ++ layout_answer c.args.name.now (sum (kinds c.args.layout.counts))) c.requires.empty);
+        done = (c.args.layout, refl, search rules, c.in_ok-layout_answer.ensures ∙ ap (λ text. text ++ layout_answer c.args.name.now (sum (kinds c.args.layout.counts))) c.requires.can.empty);
         err = tt;
         ready = record {
           ready = same_is_ready c.args.self.now.session c.add_layout.new.self _ old.ready added.allocator added.sets (rw c.in-Ok.ensures.last (All-push (IsMeant script_meaning) (layouts_of c.args.self.now.session) _ old.ready.meant (record { counted = refl; marked = c.flags.ensures })));

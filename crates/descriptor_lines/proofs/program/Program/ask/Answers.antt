@@ -12,7 +12,7 @@ pub reply_answer-requires : goal.reply_answer-requires
 reply_answer-requires g c =
     let old = side c.args.self.now.session (g.D.DescriptorDevice.ledger c.args.self.now.device) in
     let new = side c.step.new.self (g.D.DescriptorDevice.ledger c.step.new.device) in
-    let known : IsKnown (length (layouts_of old.value)) c.args.command = rw (as_many (line_state g.D.DescriptorDevice.ledger g.D.LineDevice.script c.args.self.now) c.requires.ready) at c.requires.known in
+    let known : IsKnown (length (layouts_of old.value)) c.args.command = rw (as_many (line_state g.D.DescriptorDevice.ledger g.D.LineDevice.script c.args.self.now) c.requires.can.ready) at c.requires.known in
     let step = subst (λ m. StepsTo m c.args.command c.step.result old new) g.met.D.ScriptedMeaning.scripted c.step.ensures.step in
     let few : sets_given c.step.result ≤ sets_asked c.args.command = given_as_asked c.args.command c.step.result old.value new.value old.ledger new.ledger step in
     record {

@@ -6,12 +6,12 @@ use Rattle.descriptor_lines.proofs.program.Program.set_limit.Goals as goal
 pub returns : goal.returns
 returns g c = record {
   runs = record {
-    done = (search rules, c.in_ok-limit_answer.ensures ∙ ap (λ text. text ++ limit_answer c.args.max) c.requires.empty);
+    done = (search rules, c.in_ok-limit_answer.ensures ∙ ap (λ text. text ++ limit_answer c.args.max) c.requires.can.empty);
     err = tt;
     ready = record {
       ready = new_is_ready c.new.result _ _ c.new.ensures.allocator c.new.ensures.layouts c.new.ensures.sets;
       layouts = rw (c.new.ensures.layouts, none_in c.args.self.now.layouts c.requires.fresh) refl;
-      fresh = c.requires.ready.fresh;
+      fresh = c.requires.can.ready.fresh;
     };
     begun = refl;
   };

@@ -5,6 +5,7 @@ use Rattle.gpu_descriptor.proofs.request.Outcomes.{taken_agree, taken_given}
 use Rattle.gpu_descriptor.proofs.request.HandedOut.{hands_all, hands_back, hands_none, keeps_all, keeps_back}
 use Rattle.gpu_descriptor.proofs.request.OwnLayout.{own_behind}
 use Rattle.gpu_descriptor.proofs.allocator.DescriptorAllocator.fill.Goals.{After-free_after, In-Ok}
+use Rattle.gpu_descriptor.proofs.callers.Unchanged.{keeps_still}
 use Rattle.gpu_descriptor.proofs.allocator.DescriptorAllocator.fill.Goals as goal
 
 -- what came
@@ -109,3 +110,7 @@ pub returns-in-Err-ended-clause-keeps : goal.returns-in-Err-ended-clause-keeps
 returns-in-Err-ended-clause-keeps g c =
     let at = goal.at.returns-in-Err-ended-clause-keeps g c in
     keeps_back (taken g at.In-Ok) c.requires.agree.books (returned g at.After-free_after) c.in-Ok.ensures.limit c.in-Ok.ensures.most c.free_after.ensures.keeps
+
+pub returns-in-Err-clause-keeps : goal.returns-in-Err-clause-keeps
+returns-in-Err-clause-keeps g c =
+    keeps_still c.in-Err.ensures.allocator c.in-Err.ensures.ledger c.requires.agree c.in-Err.ensures.within.load c.in-Err.ensures.within.pool_load

@@ -186,3 +186,6 @@ returns-clause-compares g c =
     let count = ap (λ (a : Allocations _). a.comparisons) c.self.view_is in
     let most = c.release_sets-ahead.ensures.compares in
     record { rises = omega arith; few = omega arith }
+
+pub destroy_empty_front-requires-clause-stored : goal.destroy_empty_front-requires-clause-stored
+destroy_empty_front-requires-clause-stored g c = (c.args.first.key.is, c.release_sets-ahead.ensures.stored)

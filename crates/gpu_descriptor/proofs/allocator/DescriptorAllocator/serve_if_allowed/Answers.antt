@@ -1,10 +1,11 @@
-use Rattle.gpu_descriptor.proofs.Common.{common_steps, ◌≡◌, ◌+◌, ◌≤◌, length, arith, refl, None, ap, ltb-false, key_of, set_descriptors, IsConsistent}
+use Rattle.gpu_descriptor.proofs.Common.{common_steps, ◌≡◌, ◌+◌, ◌≤◌, length, arith, refl, None, ap, ltb-false, key_of, set_descriptors, IsConsistent, subst, Ledger, Bucket, state_of, AreBookedIn}
 use Rattle.gpu_descriptor.proofs.sums.Loads.{opened, closed}
 use Rattle.gpu_descriptor.proofs.cleanup.KeyOrder.{keys_seen}
-use Rattle.gpu_descriptor.proofs.request.Requested.{keeps_limit, seen, seen_again, table_is, declined_by_limit, declined_by_bound, declined_unserved, given_fits, counted_now, takes_of}
+use Rattle.gpu_descriptor.proofs.request.Requested.{keeps_limit, seen, seen_again, table_is, declined_by_limit, declined_by_bound, declined_unserved, given_fits, counted_now, takes_of, books_at}
 use Rattle.gpu_descriptor.specs.Caller.SetLists.{appended}
 use Rattle.gpu_descriptor.proofs.request.Passed.{passed}
 use Rattle.gpu_descriptor.proofs.allocator.DescriptorAllocator.serve_if_allowed.Goals.{After-from-taken, After-marked_descriptors_of_sets-descriptors}
+use Rattle.gpu_descriptor.proofs.request.StateAgrees.{booked_of}
 use Rattle.gpu_descriptor.proofs.allocator.DescriptorAllocator.serve_if_allowed.Goals as goal
 
 pub returns-then-would_exceed_limit-clause-declined : goal.returns-then-would_exceed_limit-clause-declined
@@ -76,3 +77,9 @@ returns-then-would_exceed_64_bits-clause-within g c = keeps_limit c.self.view_is
 
 pub returns-in_err-ended-clause-within : goal.returns-in_err-ended-clause-within
 returns-in_err-ended-clause-within g c = rw c.in_err-ended.ensures.serves.entries (keeps_limit refl (opened c.self.invariant) c.self.inside.table.distinct g.D.DescriptorDevice.meaning.pool_name)
+
+pub serve-requires-clause-booked : goal.serve-requires-clause-booked
+serve-requires-clause-booked g c =
+    let l : Ledger = g.D.DescriptorDevice.ledger c.args.device.now in
+    let is = books_at c.args.self.now c.self.inside.table.buckets.entries (table_is _ c.self.view_is) g.D.DescriptorDevice.meaning.pool_name l (key_of c.args.request.now.key) in
+    subst (λ (b : Bucket). AreBookedIn (key_of c.args.request.now.key) l.pools b.pools) is (booked_of (state_of g.D.DescriptorDevice.meaning.pool_name c.args.self.now l) (key_of c.args.request.now.key) c.requires.agree.books)

@@ -1,4 +1,4 @@
-use Rattle.gpu_descriptor.proofs.Common.{common_steps, ◌≡◌, ℕ, ◌++◌, ◌∷◌, [], ◌+◌, length, length-append, sum_by, arith, ap, sym, ◌∙◌, sum_by-append, DescriptorPool, first_ordinal, free_in, number_after, open_numbers, rises, stored_numbers}
+use Rattle.gpu_descriptor.proofs.Common.{common_steps, ◌≡◌, ℕ, ◌++◌, ◌∷◌, [], ◌+◌, length, length-append, sum_by, arith, ap, sym, ◌∙◌, sum_by-append, DescriptorPool, first_ordinal, free_in, number_after, open_ordinals, rises, stored_numbers}
 use Rattle.gpu_descriptor.proofs.lists.Numbers.{next_push, rises_push}
 use Rattle.gpu_descriptor.proofs.lists.OpenList.{few_listed, listed_push_open, listed_push_closed}
 use Rattle.gpu_descriptor.proofs.lists.Ordinals.{first_fits, first_push, stored_push}
@@ -25,10 +25,10 @@ module _ (g : _) (c : After-push_back_reserved g) where
   first : first_ordinal c.push_back_reserved.new.self.items ≡ first_ordinal c.args.self.now.pools.items
   first = ap first_ordinal c.push_back_reserved.ensures.items ∙ first_push c.args.self.now.pools.items c.args.pool c.requires.number
 
-  ordinals : open_numbers (first_ordinal c.push_back_reserved.new.self.items) (free_in c.push_back_reserved.new.self.items) ≡ open_numbers (first_ordinal c.args.self.now.pools.items) (free_in (c.args.self.now.pools.items ++ c.args.pool ∷ []))
+  ordinals : open_ordinals (first_ordinal c.push_back_reserved.new.self.items) (free_in c.push_back_reserved.new.self.items) ≡ open_ordinals (first_ordinal c.args.self.now.pools.items) (free_in (c.args.self.now.pools.items ++ c.args.pool ∷ []))
   ordinals =
       let is = c.push_back_reserved.ensures.items in
-      λ i. open_numbers (first i) (free_in (is i))
+      λ i. open_ordinals (first i) (free_in (is i))
 
 pub invariant_of-self : goal.invariant_of-self
 invariant_of-self g c =

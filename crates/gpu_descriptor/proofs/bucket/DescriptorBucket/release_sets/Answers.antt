@@ -1,6 +1,6 @@
 use Rattle.gpu_descriptor.proofs.Common.{greatest_pool_size, ◌≡◌, ℕ, List, set, ◌+◌, ◌<◌, ◌≤◌, ◌-◌, rules, arith, sym, refl, ◌∙◌, ap, subst, length, map, slice_get, [], ◌∷◌, Some, length-set, eqb-true, length-map, slice_get_read, DescriptorPool, Ledger, after_release, LiveSet}
 use Rattle.gpu_descriptor.proofs.Common.{DescriptorSet, live_in, Entry, IsNonDecreasing, AreBookedIn, IsTakenAt, free_in, entry_less, bucket_of, entry_of, binary_digits, gap_digits, first_ordinal, number_after, rises, slice_set}
-use Rattle.gpu_descriptor.proofs.lists.OpenNumbers.{open_rises}
+use Rattle.gpu_descriptor.proofs.lists.OpenOrdinals.{open_rises}
 use Rattle.gpu_descriptor.proofs.lists.OpenList.{listed_again, fewer_listed}
 use Rattle.gpu_descriptor.proofs.release.Comparisons.{listed_count}
 use Rattle.gpu_descriptor.proofs.release.BucketRun.{AreTaken, are_taken, changed_at, stored_after, total_less, place_fits}

@@ -1,5 +1,5 @@
 use Rattle.gpu_descriptor.proofs.Common.{◌≡◌, ℕ, Global, ◌+◌, ◌++◌, arith, length, sum_by, List, None, Result, Ok, Err, sym, ap, ◌∙◌, subst, map, OnOk, IfErr, length-map, Ledger, DeviceAllocationError, DescriptorSet, DescriptorPool, Bucket, Key, key_of, allocated_in, items_of, item_of}
-use Rattle.gpu_descriptor.proofs.Common.{AreBookedIn, IsTaken, bucket_in, bucket_of, entry_of, free_in, number_after, numbers_of, open_numbers, rises, stored_numbers, IsWalked}
+use Rattle.gpu_descriptor.proofs.Common.{AreBookedIn, IsTaken, bucket_in, bucket_of, entry_of, free_in, number_after, numbers_of, open_ordinals, rises, stored_numbers, IsWalked}
 use Rattle.std.specs.declared.collections.VecDeque.{VecDeque}
 use Rattle.std.proofs.lemmas.Result.{IfErr-weaker, on_ok_weaker}
 use Rattle.gpu_descriptor.specs.declared.bucket.stop.Stop.TheVariants.{ExistingPoolWithoutMemory}
@@ -113,7 +113,7 @@ pub invariant_of-self-clause-open : goal.invariant_of-self-clause-open
 invariant_of-self-clause-open g c =
     let at = (goal.at.invariant_of-self-clause-open g c).After-walk-walked in
     let first = c.walk-walked.ensures.kept.0 ∙ c.new-view.ensures.offset ∙ c.first_ordinal.ensures.first ∙ sym (first_stays c.args.self.now.pools.items (new g at) (numbers_stay g at)) in
-    c.walk-walked.ensures.listed ∙ ap (λ (i : ℕ). open_numbers i (free_in (new g at))) first
+    c.walk-walked.ensures.listed ∙ ap (λ (i : ℕ). open_ordinals i (free_in (new g at))) first
 
 pub invariant_of-self-clause-counted : goal.invariant_of-self-clause-counted
 invariant_of-self-clause-counted g c =

@@ -155,3 +155,7 @@ returns-in-Ok-alloc_descriptor_sets-clause-own g c =
 
 pub returns-in-Err-alloc_descriptor_sets-clause-own : goal.returns-in-Err-alloc_descriptor_sets-clause-own
 returns-in-Err-alloc_descriptor_sets-clause-own g c = none_own g.D.DescriptorDevice.meaning c.args.request.now.layout.now (c.in-Err-alloc_descriptor_sets.ensures.err.kept ∙ ap g.K.SetPlaces.items c.aim.ensures.sets)
+
+pub returns-in_default-clause-err : goal.returns-in_default-clause-err
+returns-in_default-clause-err g c =
+    (refl, refl, refl, refl, refl, none_asked (g.D.DescriptorDevice.ledger c.args.device.now) stop.NoRoomUnderLimit refl, (λ is. c.in_default.ensures.none, λ none. refl))

@@ -1,6 +1,6 @@
 use Rattle.gpu_descriptor.proofs.Common.{◌≡◌, ℕ, ◌+◌, ◌-◌, ◌<◌, ◌≤◌, List, [], length, map, refl, sym, ap, ◌∙◌, subst, arith, min, length-map, append-nil, if◌then◌else◌, Ledger, after_alloc, live_sets, pool_refusals, Entry, Key, key_of, entry_of, IsBookedIn, IsAsked}
 use Rattle.gpu_descriptor.proofs.request.PlacesFree.{can_give}
-use Rattle.gpu_descriptor.proofs.request.OwnLayout.{put_own}
+use Rattle.gpu_descriptor.proofs.request.OwnLayout.{put_own, none_own}
 use Rattle.gpu_descriptor.proofs.request.Asks.{same_entry, given, refuses}
 use Rattle.gpu_descriptor.proofs.bucket.existing.ask.Goals as goal
 
@@ -50,3 +50,6 @@ returns-then-is_of_pool-clause-asked g c =
 
 pub returns-in-Ok-clause-own : goal.returns-in-Ok-clause-own
 returns-in-Ok-clause-own g c = (let put = c.in-Ok.ensures.ok in put_own g.D.DescriptorDevice.meaning c.args.request.now.layout.now (g.K.SetPlaces.items c.args.sink.now.sets) (key_of c.args.sink.now.key.now) c.args.sink.now.id c.args.sink.now.number put.sets c.new.ensures.layout put.kept put.own)
+
+pub returns-then-is_of_pool-clause-own : goal.returns-then-is_of_pool-clause-own
+returns-then-is_of_pool-clause-own g c = none_own g.D.DescriptorDevice.meaning c.args.request.now.layout.now c.in-Err.ensures.err.kept

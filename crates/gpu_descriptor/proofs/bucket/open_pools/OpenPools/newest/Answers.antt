@@ -1,7 +1,7 @@
 use Rattle.gpu_descriptor.proofs.Common.{◌≡◌, ◌+◌, ◌-◌, ◌<◌, ◌++◌, ◌∷◌, [], inl, refl, ℕ, length, take, slice_get, arith, ap, sym, ◌∙◌, length-map, slice_get_read, slice_get_within, DescriptorPool, free_in, looked_at, newest_place}
 use Rattle.gpu_descriptor_types.specs.declared.tally.Tally.{Tally}
 use Rattle.gpu_descriptor.specs.declared.bucket.open_pools.OpenPools.{OpenPools}
-use Rattle.gpu_descriptor.proofs.lists.OpenNumbers.{IsNewestOpen, newest_open}
+use Rattle.gpu_descriptor.proofs.lists.OpenOrdinals.{IsNewestOpen, newest_open}
 use Rattle.gpu_descriptor.proofs.lists.AtPlaces.{last_index}
 use Rattle.gpu_descriptor.proofs.bucket.open_pools.OpenPools.newest.Goals.{In-Some}
 use Rattle.gpu_descriptor.proofs.bucket.open_pools.OpenPools.newest.Goals as goal

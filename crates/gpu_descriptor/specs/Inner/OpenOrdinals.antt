@@ -5,10 +5,10 @@ use Rattle.std.specs.List.Sorted.{IsPartitionPoint}
 use Rattle.gpu_descriptor.specs.declared.bucket.DescriptorPool.{DescriptorPool}
 
 -- the ordinals of the open pools, rising. The first pool has the ordinal first, and free says of each pool how many places it is known to have
-abbrev pub open_numbers : ℕ → List ℕ → List ℕ
-open_numbers first [] = []
-open_numbers first (zero ∷ free) = open_numbers (suc first) free
-open_numbers first (suc n ∷ free) = first ∷ open_numbers (suc first) free
+abbrev pub open_ordinals : ℕ → List ℕ → List ℕ
+open_ordinals first [] = []
+open_ordinals first (zero ∷ free) = open_ordinals (suc first) free
+open_ordinals first (suc n ∷ free) = first ∷ open_ordinals (suc first) free
 
 -- the numbers of a bucket's pools
 abbrev pub stored_numbers : {P : Type 0} → List (DescriptorPool P) → List ℕ
