@@ -3,6 +3,8 @@
 use Rattle.gpu_descriptor.proofs.Common.{if◌then◌else◌, ◌≡◌, ℕ, suc, ◌==◌, ◌<◌, Bool, true, false, List, [], ◌∷◌, length, count_by, slice_get, Option, Some, None, inl, inr, refl, sym, ap, ◌∙◌, subst, arith, eq-eqb, ne_eqb, ∥∥₁_elim, props, list_any, cases_eq, false_from_ne_true, sum_by-cons}
 use Rattle.gpu_descriptor.proofs.Common.{set_of, Item, State, live_in, outstanding, HasSize, Agree, HasNoPools, live_at, Key, key_eq, Entry, Bucket, entry_at, no_pools, LiveSet, set_eq, set_exact, count_by_yes, common_steps, LosesEmpty, are_named, gone_of, left_of, pools_lost, with_pools}
 use Rattle.gpu_descriptor.proofs.Common.{is_empty, rises, numbers_of}
+use Rattle.std.proofs.lemmas.Option.{none-some}
+use Rattle.std.proofs.lemmas.Bool.{true≢false}
 use Rattle.gpu_descriptor.proofs.cleanup.Splitting.{all_go, apart, gone_at, gone_twice, id_with, is_named_at, left_at, left_or_gone, left_rises, left_twice, named_at, one_place, pools_with, split, with_twice}
 use Rattle.gpu_descriptor.proofs.lists.AtPlaces.{cases_option, if_none}
 use Rattle.gpu_descriptor.proofs.lists.Numbers.{entry_at-found, entry_at-from, entry_at-named}
@@ -67,7 +69,7 @@ module _ (everywhere : Bool) where
 
   pub all_gone : (s t : State) → Agree s → ((i : Item) → outstanding s i ≡ 0) → LosesEmpty everywhere s t → (k : Key) (i : ℕ) (e : Entry) → slice_get (s.books k).pools i ≡ Some e → t.ledger e.pool ≡ None
   all_gone s t agree nothing less k i e at = elim (left_or_gone (s.books k).pools (left s k) (gone s k) (split everywhere (s.books k).pools) i e at) [
-    | inl l ↦ absurd (let bad : ◌≡◌ {A = Option Entry} None (Some e) = ap (λ es. slice_get es l.0) (sym (all_go everywhere (s.books k).pools (all_empty s agree nothing k))) ∙ l.1 in cc)
+    | inl l ↦ absurd (none-some e (ap (λ es. slice_get es l.0) (sym (all_go everywhere (s.books k).pools (all_empty s agree nothing k))) ∙ l.1))
     | inr g ↦ less.gone k e.pool (is_named_at (gone s k) g.0 e g.1)
   ]
 
@@ -88,7 +90,7 @@ module _ (everywhere : Bool) where
       let pools = pools_left s t less k in
       elim (left_or_gone (s.books k).pools (left s k) (gone s k) (split everywhere (s.books k).pools) found.0 e found.1) [
         | inl l ↦ entry_at-named (t.books k) l.0 n e (ap (λ (es : List Entry). rises (numbers_of es)) pools ∙ left_rise s agree k) (ap (λ es. slice_get es l.0) pools ∙ l.1) found.2
-        | inr g ↦ absurd (let empty = gone_at (s.books k).pools (left s k) (gone s k) (split everywhere (s.books k).pools) g.0 e g.1 in let bad : true ≡ false = sym empty.2 ∙ full in cc)
+        | inr g ↦ absurd (let empty = gone_at (s.books k).pools (left s k) (gone s k) (split everywhere (s.books k).pools) g.0 e g.1 in true≢false (sym empty.2 ∙ full))
       ]
 
   -- the ledger keeps a pool that the books keep
@@ -144,7 +146,7 @@ module _ (everywhere : Bool) where
               let above = here.2 in
               let some : 0 < e.allocated = size_pos booked.0.live e.allocated (set_of x) booked.2.allocated (omega arith) in
               let there = still_there s t agree less x.key x.number e here.1 (ne_eqb e.allocated 0 (λ bad. omega arith)) in
-              absurd (let bad : ◌≡◌ {A = Option Entry} None (Some e) = sym missing ∙ there in cc))
+              absurd (none-some e (sym missing ∙ there)))
         ])
   ]
 

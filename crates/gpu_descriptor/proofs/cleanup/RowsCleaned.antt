@@ -5,6 +5,8 @@ use Rattle.gpu_descriptor.proofs.Common.{◌≡◌, ℕ, zero, suc, ◌+◌, ◌
 use Rattle.gpu_descriptor.proofs.Common.{list_any, cases_Bool, false_from_ne_true, append-nil, drop_all, length-map, take_all, sum_by-cons, sum_by_more, get_or_from_slice_get, slice_get-map, slice_get_within, Pool, Ledger, BucketKey, DescriptorPool, DescriptorBucket, State, Agree, Key, key_eq}
 use Rattle.gpu_descriptor.proofs.Common.{Bucket, Entry, no_pools, books_of, HasDistinctKeys, key_of, Allocations, common_steps, list_any_more, AreBookedIn, has_pools, ledger_but, more_destroyed, LosesEmpty, are_named, gone_of, left_of, pools_lost, with_pools, named_row, state_of, row_of}
 use Rattle.gpu_descriptor.proofs.Common.{bucket_of, IsConsistent}
+use Rattle.std.proofs.lemmas.Option.{none-some, same_Some}
+use Rattle.std.proofs.lemmas.Bool.{true≢false}
 use Rattle.indexmap.specs.Layout.{set_value_at}
 use Rattle.gpu_descriptor.specs.Caller.States.{keys_of}
 use Rattle.gpu_descriptor.proofs.lists.AtPlaces.{found_before, none_at}
@@ -23,15 +25,15 @@ Rows = List (Key × Bucket)
 
 -- rows at two places have different keys
 apart : (rows : Rows) (j i : ℕ) (r s : Key × Bucket) → HasDistinctKeys rows → j < i → slice_get rows j ≡ Some r → slice_get rows i ≡ Some s → r.0 ≡ s.0 → ⊥
-apart [] j i r s h lt at at' same = (let bad : ◌≡◌ {A = Option (Key × Bucket)} None (Some r) = at in cc)
+apart [] j i r s h lt at at' same = none-some r at
 apart (x ∷ rows) j zero r s h lt at at' same = omega arith
 apart (x ∷ rows) zero (suc i) r s h lt at at' same = grind (arith, key_exact, none_at)
 apart (x ∷ rows) (suc j) (suc i) r s h lt at at' same = apart rows j i r s h.1 (omega arith) at at' same
 
 -- at the key of a row the books have its bucket
 pub row_books : (rows : Rows) (i : ℕ) (r : Key × Bucket) → HasDistinctKeys rows → slice_get rows i ≡ Some r → books_of rows r.0 ≡ r.1
-row_books [] i r h at = absurd (let bad : ◌≡◌ {A = Option (Key × Bucket)} None (Some r) = at in cc)
-row_books (x ∷ rows) zero r h at = (let is : Some x ≡ Some r = at in let eq : x ≡ r = cc in subst (λ (y : Key × Bucket). books_of (x ∷ rows) y.0 ≡ y.1) eq (rw (key_exact.self x.0) refl))
+row_books [] i r h at = absurd (none-some r at)
+row_books (x ∷ rows) zero r h at = (let eq : x ≡ r = same_Some x r at in subst (λ (y : Key × Bucket). books_of (x ∷ rows) y.0 ≡ y.1) eq (rw (key_exact.self x.0) refl))
 row_books (x ∷ rows) (suc i) r h at = grind (arith, key_eq_symm, none_at, (row_books rows i r h.1 at))
 
 -- a row's key has no other
@@ -81,15 +83,15 @@ module _ (everywhere : Bool) where
   cleared_at (x ∷ rows) (suc i) = cleared_at rows i
 
   cleared_set : (rows : Rows) (i : ℕ) (r : Key × Bucket) → slice_get rows i ≡ Some r → set (cleared i rows) i (cleared_row r) ≡ cleared (suc i) rows
-  cleared_set [] i r at = absurd (let bad : ◌≡◌ {A = Option (Key × Bucket)} None (Some r) = at in cc)
-  cleared_set (x ∷ rows) zero r at = (let same : Some x ≡ Some r = at in let eq : x ≡ r = cc in ap (λ (y : Key × Bucket). cleared_row y ∷ rows) (sym eq))
+  cleared_set [] i r at = absurd (none-some r at)
+  cleared_set (x ∷ rows) zero r at = (let eq : x ≡ r = same_Some x r at in ap (λ (y : Key × Bucket). cleared_row y ∷ rows) (sym eq))
   cleared_set (x ∷ rows) (suc i) r at = ap (λ (l : Rows). cleared_row x ∷ l) (cleared_set rows i r at)
 
   module _ {P : Type 0} (name : P → ℕ) where
     -- a bucket that is written at a place of the map is that of the row there
     rows_set : (es : List (BucketKey × DescriptorBucket P)) (i : ℕ) (k : BucketKey) (v w : DescriptorBucket P) → slice_get es i ≡ Some (k, v) → rows_in name (set_value_at es i w) ≡ set (rows_in name es) i (key_of k, bucket_of name w)
-    rows_set [] i k v w at = absurd (let bad : ◌≡◌ {A = Option (BucketKey × DescriptorBucket P)} None (Some (k, v)) = at in cc)
-    rows_set (e ∷ es) zero k v w at = (let same : Some e ≡ Some (k, v) = at in let eq : e ≡ (k, v) = cc in ap (λ (x : BucketKey × DescriptorBucket P). (key_of x.0, bucket_of name w) ∷ rows_in name es) eq)
+    rows_set [] i k v w at = absurd (none-some (k, v) at)
+    rows_set (e ∷ es) zero k v w at = (let eq : e ≡ (k, v) = same_Some e (k, v) at in ap (λ (x : BucketKey × DescriptorBucket P). (key_of x.0, bucket_of name w) ∷ rows_in name es) eq)
     rows_set (e ∷ es) (suc i) k v w at = ap (λ (l : Rows). (key_of e.0, bucket_of name e.1) ∷ l) (rows_set es i k v w at)
 
     -- the row that is next stands there as it did
@@ -138,17 +140,17 @@ module _ (everywhere : Bool) where
 
   -- what goes from the books of a key goes from a row
   any_gone : (rows : Rows) (k : Key) (p : ℕ) → goes (books_of rows k) p ≡ true → gone rows p ≡ true
-  any_gone [] k p h = absurd (let bad : true ≡ false = sym h ∙ nothing_goes p in cc)
+  any_gone [] k p h = absurd (true≢false (sym h ∙ nothing_goes p))
   any_gone (r ∷ rows) k p h = grind (arith, (any_gone rows k p))
 
   -- what is left of a bucket that is cleared
   left_some : (b : Bucket) (es : List Entry) → (length es == 0) ≡ false → ◌≡◌ {A = Bucket} (record b { pools = es }) (with_pools b es)
-  left_some b [] more = absurd (let bad : true ≡ false = sym (eq-eqb 0 0 refl) ∙ more in cc)
+  left_some b [] more = absurd (true≢false (sym (eq-eqb 0 0 refl) ∙ more))
   left_some b (e ∷ es) more = refl
 
   left_none : (b : Bucket) (es : List Entry) → (length es == 0) ≡ true → with_pools b es ≡ no_pools
   left_none b [] none = refl
-  left_none b (e ∷ es) none = absurd (let bad : true ≡ false = sym none ∙ ne_eqb (length (e ∷ es)) 0 (λ z. omega arith) in cc)
+  left_none b (e ∷ es) none = absurd (true≢false (sym none ∙ ne_eqb (length (e ∷ es)) 0 (λ z. omega arith)))
 
   -- ---- all rows
 
@@ -182,7 +184,7 @@ module _ (everywhere : Bool) where
           let stays : gone rows p ≡ false = false_from_ne_true (gone rows p) (λ hit.
           let found = found_before (λ (x : Key × Bucket). goes x.1 p) rows (length rows) (ap (λ (l : Rows). gone l p) (take_all (length rows) rows (omega arith)) ∙ hit) in
           let own = row_books rows found.0 found.1 d found.3 in
-          let bad : true ≡ false = sym (ap (λ (b : Bucket). goes b p) own ∙ found.4) ∙ no_key found.1.0 in cc) in
+          true≢false (sym (ap (λ (b : Bucket). goes b p) own ∙ found.4) ∙ no_key found.1.0)) in
           rw stays refl);
     }
 

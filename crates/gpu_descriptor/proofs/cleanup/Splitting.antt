@@ -3,6 +3,8 @@
 -- each value of everywhere.
 use Rattle.gpu_descriptor.proofs.Common.{common_steps, ◌≡◌, ◌≢◌, ◌⊎◌, ℕ, zero, suc, ◌==◌, Bool, true, false, nat_lt, List, [], ◌∷◌, take, drop, filter, slice_get, Option, Some, None, inl, inr, refl, sym, ap, ◌∙◌, arith, eq-eqb, eqb-true, ne_eqb, lt-ltb, and_parts, and_from, cases_Bool, list_all}
 use Rattle.gpu_descriptor.proofs.Common.{or_right, or_cases, prefix_len, Entry, Bucket, rises, numbers_of, no_pools, is_empty, are_named, gone_of, left_of, with_pools}
+use Rattle.std.proofs.lemmas.Option.{none-some, same_Some}
+use Rattle.std.proofs.lemmas.Bool.{true≢false}
 use Rattle.gpu_descriptor.proofs.lists.Numbers.{number_of, rises_at}
 
 -- each pool is the next that is left, or it is empty and the next that goes
@@ -55,24 +57,24 @@ split false pools = split_front pools
 
 -- what is left stood at a place
 pub left_at : (pools left gone : List Entry) → Split pools left gone → (i : ℕ) (e : Entry) → slice_get left i ≡ Some e → (j : ℕ) × (slice_get pools j ≡ Some e)
-left_at [] left gone s i e at = absurd (let bad : ◌≡◌ {A = Option Entry} None (Some e) = ap (λ l. slice_get l i) (sym s.0) ∙ at in cc)
+left_at [] left gone s i e at = absurd (none-some e (ap (λ l. slice_get l i) (sym s.0) ∙ at))
 left_at (x ∷ pools) left gone (inl s) zero e at = (0, ap (λ l. slice_get l 0) (sym s.1) ∙ at)
 left_at (x ∷ pools) left gone (inl s) (suc i) e at = (let r = left_at pools s.0 gone s.2 i e (ap (λ l. slice_get l (suc i)) (sym s.1) ∙ at) in (suc r.0, r.1))
 left_at (x ∷ pools) left gone (inr s) i e at = (let r = left_at pools left s.0 s.3 i e at in (suc r.0, r.1))
 
 -- what goes stood at a place, and is empty
 pub gone_at : (pools left gone : List Entry) → Split pools left gone → (i : ℕ) (e : Entry) → slice_get gone i ≡ Some e → (j : ℕ) × (slice_get pools j ≡ Some e) × (is_empty e ≡ true)
-gone_at [] left gone s i e at = absurd (let bad : ◌≡◌ {A = Option Entry} None (Some e) = ap (λ l. slice_get l i) (sym s.1) ∙ at in cc)
+gone_at [] left gone s i e at = absurd (none-some e (ap (λ l. slice_get l i) (sym s.1) ∙ at))
 gone_at (x ∷ pools) left gone (inl s) i e at = (let r = gone_at pools s.0 gone s.2 i e at in (suc r.0, r.1, r.2))
 gone_at (x ∷ pools) left gone (inr s) zero e at = (
     let here : Some x ≡ Some e = ap (λ l. slice_get l 0) (sym s.1) ∙ at in
-    let is : x ≡ e = cc in
+    let is : x ≡ e = same_Some x e here in
     (0, here, ap is_empty (sym is) ∙ s.2))
 gone_at (x ∷ pools) left gone (inr s) (suc i) e at = (let r = gone_at pools left s.0 s.3 i e (ap (λ l. slice_get l (suc i)) (sym s.1) ∙ at) in (suc r.0, r.1, r.2))
 
 -- each pool is left or goes
 pub left_or_gone : (pools left gone : List Entry) → Split pools left gone → (j : ℕ) (e : Entry) → slice_get pools j ≡ Some e → ((i : ℕ) × (slice_get left i ≡ Some e)) ⊎ ((i : ℕ) × (slice_get gone i ≡ Some e))
-left_or_gone [] left gone s j e at = absurd (let bad : ◌≡◌ {A = Option Entry} None (Some e) = at in cc)
+left_or_gone [] left gone s j e at = absurd (none-some e at)
 left_or_gone (x ∷ pools) left gone (inl s) zero e at = inl (0, ap (λ l. slice_get l 0) s.1 ∙ at)
 left_or_gone (x ∷ pools) left gone (inr s) zero e at = inr (0, ap (λ l. slice_get l 0) s.1 ∙ at)
 left_or_gone (x ∷ pools) left gone (inl s) (suc j) e at = elim (left_or_gone pools s.0 gone s.2 j e at) [
@@ -87,7 +89,7 @@ left_or_gone (x ∷ pools) left gone (inr s) (suc j) e at = elim (left_or_gone p
 -- and none does both: a pool that goes has the name of none that is left
 pub apart : (pools left gone : List Entry) → Split pools left gone → ((i j : ℕ) (d e : Entry) → slice_get pools i ≡ Some d → slice_get pools j ≡ Some e → d.pool ≡ e.pool → i ≡ j)
     → (i j : ℕ) (d e : Entry) → slice_get left i ≡ Some d → slice_get gone j ≡ Some e → d.pool ≢ e.pool
-apart [] left gone s distinct i j d e at at' same = absurd (let bad : ◌≡◌ {A = Option Entry} None (Some d) = ap (λ l. slice_get l i) (sym s.0) ∙ at in cc)
+apart [] left gone s distinct i j d e at at' same = absurd (none-some d (ap (λ l. slice_get l i) (sym s.0) ∙ at))
 apart (x ∷ pools) left gone (inl s) distinct zero j d e at at' same =
     let there = gone_at pools s.0 gone s.2 j e at' in
     let bad : 0 ≡ suc there.0 = distinct 0 (suc there.0) d e (ap (λ l. slice_get l 0) (sym s.1) ∙ at) there.1 same in
@@ -168,14 +170,14 @@ all_go false (e ∷ pools) h = rw (front_yes e pools (h 0 e refl)) (all_go false
 
 -- a name among entries is that of one at a place; and the name of an entry at a place is among them
 pub named_at : (es : List Entry) (pool : ℕ) → are_named es pool ≡ true → (i : ℕ) × (e : Entry) × (slice_get es i ≡ Some e) × (e.pool ≡ pool)
-named_at [] pool h = absurd (let bad : true ≡ false = sym h in cc)
+named_at [] pool h = absurd (true≢false (sym h))
 named_at (x ∷ es) pool h = elim (or_cases (x.pool == pool) (are_named es pool) h) [
   | inl here ↦ (0, x, refl, eqb-true x.pool pool here)
   | inr later ↦ (let f = named_at es pool later in (suc f.0, f.1, f.2, f.3))
 ]
 
 pub is_named_at : (es : List Entry) (i : ℕ) (e : Entry) → slice_get es i ≡ Some e → are_named es e.pool ≡ true
-is_named_at [] i e at = absurd (let bad : ◌≡◌ {A = Option Entry} None (Some e) = at in cc)
+is_named_at [] i e at = absurd (none-some e at)
 is_named_at (x ∷ es) zero e at = (let is : x ≡ e = cc in rw (eq-eqb x.pool e.pool (ap (λ (y : Entry). y.pool) is)) refl)
 is_named_at (x ∷ es) (suc i) e at = or_right (x.pool == e.pool) (are_named es e.pool) (is_named_at es i e at)
 
@@ -185,7 +187,7 @@ pools_with b [] = refl
 pools_with b (e ∷ es) = refl
 
 pub id_with : (b : Bucket) (es : List Entry) (i : ℕ) (e : Entry) → slice_get es i ≡ Some e → (with_pools b es).id ≡ b.id
-id_with b [] i e at = absurd (let bad : ◌≡◌ {A = Option Entry} None (Some e) = at in cc)
+id_with b [] i e at = absurd (none-some e at)
 id_with b (x ∷ es) i e at = refl
 
 pub with_twice : (b : Bucket) (everywhere : Bool) (es : List Entry) → left_of everywhere es ≡ es → with_pools (with_pools b es) (left_of everywhere (with_pools b es).pools) ≡ with_pools b es

@@ -4,6 +4,7 @@
 use Rattle.gpu_descriptor.proofs.Common.{common_steps, ◌≡◌, ℕ, zero, suc, ◌+◌, ◌-◌, ◌<◌, ◌==◌, ◌&&◌, Bool, true, false, List, [], ◌∷◌, take, count_by, Option, Some, None, option_map, slice_get, inl, inr, refl, sym, ap, ◌∙◌, subst, arith, fun_ext, cases_lt, or_from, or_right, false_from_ne_true}
 use Rattle.gpu_descriptor.proofs.Common.{list_any, slice_get-map, if◌then◌else◌, side, Meaning, Pool, Ledger, LiveSet, set_eq, State, Item, set_of, Key, Entry, Bucket, DescriptorSet, Allocations, IsForeign, KeepsForeign, LosesEmpty, are_named, gone_of, left_of, given_back, released, bucket_less}
 use Rattle.gpu_descriptor.proofs.Common.{entry_less, spent_front, in_front, lies_in, pool_less, GivesBack, items_of, state_of}
+use Rattle.std.proofs.lemmas.Option.{none-some}
 use Rattle.gpu_descriptor.proofs.lists.Numbers.{entry_at-found}
 use Rattle.gpu_descriptor.proofs.release.ReleaseAgrees.{front_found, none_back}
 use Rattle.gpu_descriptor.proofs.cleanup.Cleaning.{pools_left, was_kept}
@@ -22,7 +23,7 @@ any_none f none (t ∷ m) = or_from (f t) (list_any f m) (none t) (any_none f no
 
 among_front : (es : List Entry) (f i : ℕ) (e : Entry) → slice_get es i ≡ Some e → i < f → list_any (λ d. d.pool == e.pool) (take f es) ≡ true
 among_front es zero i e at lt = absurd (omega arith)
-among_front [] (suc f) i e at lt = absurd (let bad : ◌≡◌ {A = Option Entry} None (Some e) = at in cc)
+among_front [] (suc f) i e at lt = absurd (none-some e at)
 among_front (x ∷ es) (suc f) zero e at lt = grind arith
 among_front (x ∷ es) (suc f) (suc i) e at lt = or_right (x.pool == e.pool) (list_any (λ d. d.pool == e.pool) (take f es)) (among_front es f i e at (omega arith))
 
@@ -58,7 +59,7 @@ released_named m s name pool foreign live k n e at same =
           let any : list_any (λ t. let b = (given_back m s).books t.key in in_front (spent_front b) b name) m ≡ true =
           key_any (λ l. let b = (given_back m s).books l in in_front (spent_front b) b name) m k (rw (f.0, named) refl) in
           let gone : (released m s).ledger name ≡ None = rw any refl in
-          let bad : ◌≡◌ {A = Option Pool} None (Some pool) = sym gone ∙ live in cc)
+          none-some pool (sym gone ∙ live))
       | inr ge ↦ (
           let f = front_of m s k in
           let place : f + (n - f) ≡ n = omega arith in
@@ -94,7 +95,7 @@ module _ (everywhere : Bool) where
         | inl l ↦ foreign k l.0 e (ap (λ ds. slice_get ds l.0) (pools_left everywhere s t less k) ∙ l.1) same
         | inr g ↦ (
             let gone = less.gone k e.pool (is_named_at (gone_of everywhere es) g.0 e g.1) in
-            let bad : ◌≡◌ {A = Option Pool} None (Some pool) = sym gone ∙ ap t.ledger same ∙ live in cc)
+            none-some pool (sym gone ∙ ap t.ledger same ∙ live))
       ]
 
   pub cleaned_loses : (s t : State) → LosesEmpty everywhere s t → KeepsForeign t s

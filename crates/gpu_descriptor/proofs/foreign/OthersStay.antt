@@ -2,6 +2,8 @@
 -- For the field `others` of Keeps, and `emptied` of Sweeps. a and l are the allocator and its ledger before a call, b and m after it.
 use Rattle.gpu_descriptor.proofs.Common.{common_steps, ◌≡◌, ℕ, Bool, true, false, List, [], ◌∷◌, Option, Some, None, inl, inr, refl, sym, ap, ◌∙◌, arith, fun_ext, list_any, cases_Bool, nil_from_length, ∥∥₁_elim, props, Pool, Ledger, State, Item, Agree, HasNoPools, count_of, outstanding, Key}
 use Rattle.gpu_descriptor.proofs.Common.{Bucket, HasDistinctKeys, books_of, Allocations, LosesEmpty, IsForeign, IsNamed, KeepsForeign, is_named, outstanding_of, state_of, table_of, side, GivesBack, Meaning, DescriptorSet}
+use Rattle.std.proofs.lemmas.Option.{none-some}
+use Rattle.std.proofs.lemmas.Bool.{true≢false}
 use Rattle.gpu_descriptor.specs.Caller.Others.{others_of}
 use Rattle.gpu_descriptor.proofs.cleanup.Cleaning.{no_pool_left}
 use Rattle.gpu_descriptor.proofs.table.Exact.{key_exact}
@@ -12,7 +14,7 @@ use Rattle.gpu_descriptor.proofs.table.Tables.{absent}
 use Rattle.gpu_descriptor.proofs.sums.TableSums.{outstanding_of-table}
 
 found_row : {R : Type 0} (g : R → Bool) (rows : List R) → list_any g rows ≡ true → (row : R) × (g row ≡ true) × ((f : R → Bool) → f row ≡ true → list_any f rows ≡ true)
-found_row g [] any = absurd (let bad : true ≡ false = sym any in cc)
+found_row g [] any = absurd (true≢false (sym any))
 found_row g (x ∷ rows) any = grind (arith, (found_row g rows))
 
 module _ (table : List (Key × Bucket)) (l : ℕ → Option Pool) (pool : ℕ) where
@@ -58,7 +60,7 @@ module _ {P : Type 0} (name : P → ℕ) where
     | inr was ↦ (
         let here : others_of name b m q ≡ Some p = ap (λ (f : ℕ → Option Pool). f q) same ∙ rw was live in
         elim (cases_Bool (is_named (table_of name b) q)) [
-          | inl is ↦ absurd (let bad : ◌≡◌ {A = Option Pool} None (Some p) = rw is at here in cc)
+          | inl is ↦ absurd (none-some p (rw is at here))
           | inr is ↦ (rw is at here, unnamed (table_of name b) m.pools q is)
         ])
   ]

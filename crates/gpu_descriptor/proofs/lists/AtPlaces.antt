@@ -2,6 +2,7 @@
 use Rattle.gpu_descriptor.proofs.Common.{common_steps, ◌≡◌, ◌≢◌, ℕ, zero, suc, ◌-◌, ◌<◌, slice_index, inl, inr, List, [], ◌∷◌, ◌++◌, length, take, slice_set, Bool, true, false, Some, None, refl, sym, ap, ◌∙◌, arith, drop, ◌+◌, or_cases, or_left, or_right, slice_get, list_any, ◌⊎◌}
 use Rattle.gpu_descriptor.proofs.Common.{get_or_from_slice_get, slice_get_within, length-take-le, set-get_or, ◌≤◌, count_by, count_by_no, count_by_yes, Option, cases_Bool, or_from, if◌then◌else◌}
 use Rattle.std.proofs.Math.Seq.{get_or-append_seam, take-suc}
+use Rattle.std.proofs.lemmas.Bool.{true≢false}
 
 pub cases_option : {A : Type 0} (o : Option A) → (o ≡ None) ⊎ ((x : A) × (o ≡ Some x))
 cases_option None = inl refl
@@ -15,8 +16,8 @@ if_none false = refl
 
 -- one that passes stands among the first n
 pub found_before : {A : Type 0} (p : A → Bool) (xs : List A) (n : ℕ) → list_any p (take n xs) ≡ true → (j : ℕ) × (x : A) × (j < n) × (slice_get xs j ≡ Some x) × (p x ≡ true)
-found_before p xs zero h = absurd (let bad : true ≡ false = sym h in cc)
-found_before p [] (suc n) h = absurd (let bad : true ≡ false = sym h in cc)
+found_before p xs zero h = absurd (true≢false (sym h))
+found_before p [] (suc n) h = absurd (true≢false (sym h))
 found_before p (x ∷ xs) (suc n) h = elim (or_cases (p x) (list_any p (take n xs)) h) [
   | inl here ↦ (0, x, (let lt : 0 < suc n = omega arith in lt), refl, here)
   | inr later ↦ (let found = found_before p xs n later in let below = found.2 in (suc found.0, found.1, (let lt : suc found.0 < suc n = omega arith in lt), found.3, found.4))

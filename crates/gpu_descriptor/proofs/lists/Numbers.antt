@@ -2,11 +2,12 @@
 -- For whatever finds a pool by its number (`place_of_pool`), a key by its id (`place_of_id`), or has to say that numbers rise.
 use Rattle.gpu_descriptor.proofs.Common.{common_steps, ◌≡◌, ℕ, zero, suc, ◌+◌, ◌-◌, ◌<◌, ◌≤◌, ◌==◌, Bool, true, false, nat_lt, List, [], ◌∷◌, ◌++◌, length, map, drop, filter, slice_get, slice_index, slice_index_or, IsNonDecreasing, IsPartitionPoint, Option, Some, None, option_map, inl, inr, refl}
 use Rattle.gpu_descriptor.proofs.Common.{sym, ap, ◌∙◌, arith, eq-eqb, eqb-true, lt-ltb, ltb-false, and_parts, and_from, cases_Bool, cases_lt, list_all, slice_get_within, EntryOf, Entry, Bucket, entry_at, rises, number_after, numbers_of}
+use Rattle.std.proofs.lemmas.Option.{none-some, same_Some}
 use Rattle.std.specs.List.{find}
 
 -- a number that is below all of a list
 pub all_above : (n : ℕ) (xs : List ℕ) → list_all (nat_lt n) xs ≡ true → (i m : ℕ) → slice_get xs i ≡ Some m → n < m
-all_above n [] h i m at = absurd (let bad : ◌≡◌ {A = Option ℕ} None (Some m) = at in cc)
+all_above n [] h i m at = absurd (none-some m at)
 all_above n (x ∷ xs) h zero m at = grind arith
 all_above n (x ∷ xs) h (suc i) m at = all_above n xs (and_parts (nat_lt n x) (list_all (nat_lt n) xs) h).1 i m at
 
@@ -17,16 +18,16 @@ all_from n (x ∷ xs) h = and_from _ _ (lt-ltb n x (h 0 x refl)) (all_from n xs 
 -- ---- what rises
 
 pub rises_at : (xs : List ℕ) → rises xs ≡ true → (i j m n : ℕ) → i < j → slice_get xs i ≡ Some m → slice_get xs j ≡ Some n → m < n
-rises_at [] h i j m n lt a b = absurd (let bad : ◌≡◌ {A = Option ℕ} None (Some m) = a in cc)
+rises_at [] h i j m n lt a b = absurd (none-some m a)
 rises_at (x ∷ xs) h i zero m n lt a b = absurd (omega arith)
 rises_at (x ∷ xs) h zero (suc j) m n lt a b = grind (arith, common_steps, all_above, and_parts, rises)
 rises_at (x ∷ xs) h (suc i) (suc j) m n lt a b = rises_at xs (and_parts (list_all (nat_lt x) xs) (rises xs) h).1 i j m n (omega arith) a b
 
 -- the next number is above all
 pub below_next : (xs : List ℕ) → rises xs ≡ true → (i m : ℕ) → slice_get xs i ≡ Some m → m < number_after xs
-below_next [] h i m at = absurd (let bad : ◌≡◌ {A = Option ℕ} None (Some m) = at in cc)
+below_next [] h i m at = absurd (none-some m at)
 below_next (x ∷ []) h zero m at = (let same : x ≡ m = cc in omega arith)
-below_next (x ∷ []) h (suc i) m at = absurd (let bad : ◌≡◌ {A = Option ℕ} None (Some m) = at in cc)
+below_next (x ∷ []) h (suc i) m at = absurd (none-some m at)
 below_next (x ∷ y ∷ xs) h zero m at =
     let same : x ≡ m = cc in
     let first = all_above x (y ∷ xs) (and_parts (list_all (nat_lt x) (y ∷ xs)) (rises (y ∷ xs)) h).0 0 y refl in
@@ -75,16 +76,16 @@ few_numbers xs h = at_least xs h 0 (λ i m at. omega arith)
 
 -- each is as far above the first as it stands behind it, at least
 pub above_first : (xs : List ℕ) → rises xs ≡ true → (i n : ℕ) → slice_get xs i ≡ Some n → slice_index xs 0 + i ≤ n
-above_first [] h i n at = absurd (let bad : ◌≡◌ {A = Option ℕ} None (Some n) = at in cc)
+above_first [] h i n at = absurd (none-some n at)
 above_first (x ∷ xs) h zero n at = (let same : x ≡ n = cc in omega arith)
-above_first (x ∷ []) h (suc i) n at = absurd (let bad : ◌≡◌ {A = Option ℕ} None (Some n) = at in cc)
+above_first (x ∷ []) h (suc i) n at = absurd (none-some n at)
 above_first (x ∷ y ∷ xs) h (suc i) n at = grind (arith, common_steps, all_above, and_parts, rises, (above_first (y ∷ xs)))
 
 -- and as far below the next one
 pub below_last : (xs : List ℕ) → rises xs ≡ true → (i n : ℕ) → slice_get xs i ≡ Some n → n + length xs ≤ number_after xs + i
-below_last [] h i n at = absurd (let bad : ◌≡◌ {A = Option ℕ} None (Some n) = at in cc)
+below_last [] h i n at = absurd (none-some n at)
 below_last (x ∷ []) h zero n at = (let same : x ≡ n = cc in omega arith)
-below_last (x ∷ []) h (suc i) n at = absurd (let bad : ◌≡◌ {A = Option ℕ} None (Some n) = at in cc)
+below_last (x ∷ []) h (suc i) n at = absurd (none-some n at)
 below_last (x ∷ y ∷ xs) h zero n at =
     let same : x ≡ n = cc in
     let both = and_parts (list_all (nat_lt x) (y ∷ xs)) (rises (y ∷ xs)) h in
@@ -126,8 +127,7 @@ search_ends xs h n r point i at =
       | inr least ↦ elim (cases_lt i r) [
         | inl after ↦ absurd (
             let less = point.0 i 0 (omega arith) after in
-            let same : Some n ≡ Some (slice_index_or xs i 0) = sym at ∙ read_at xs i 0 within in
-            let is : n ≡ slice_index_or xs i 0 = cc in
+            let is : n ≡ slice_index_or xs i 0 = same_Some n (slice_index_or xs i 0) (sym at ∙ read_at xs i 0 within) in
             omega arith)
         | inr above ↦ (let is : r ≡ i = omega arith in ap (slice_get xs) is ∙ at)
       ]
@@ -156,7 +156,7 @@ rises_filter f stays ys (e ∷ es) h = grind (arith, all_filter, (rises_filter f
 
 module _ {X : Type 0} where
   pub number_of : (es : List (EntryOf X)) (i : ℕ) (e : EntryOf X) → slice_get es i ≡ Some e → slice_get (numbers_of es) i ≡ Some e.number
-  number_of [] i e at = absurd (let bad : ◌≡◌ {A = Option (EntryOf X)} None (Some e) = at in cc)
+  number_of [] i e at = absurd (none-some e at)
   number_of (x ∷ es) zero e at = (let same : x ≡ e = cc in ap (λ (y : EntryOf X). Some y.number) same)
   number_of (x ∷ es) (suc i) e at = number_of es i e at
 
@@ -172,14 +172,14 @@ module _ {X : Type 0} where
 
 -- the first entry of a number is at a place; and if numbers rise, an entry at a place is the first of its number
 find_place : (es : List Entry) (n : ℕ) (e : Entry) → find (λ d. d.number == n) es ≡ Some e → (i : ℕ) × (slice_get es i ≡ Some e) × (e.number ≡ n)
-find_place [] n e h = absurd (let bad : ◌≡◌ {A = Option Entry} None (Some e) = h in cc)
+find_place [] n e h = absurd (none-some e h)
 find_place (x ∷ es) n e h = elim (cases_Bool (x.number == n)) [
-  | inl hit ↦ (let same : Some x ≡ Some e = rw hit at h in let is : x ≡ e = cc in (0, same, ap (λ (y : Entry). y.number) (sym is) ∙ eqb-true x.number n hit))
+  | inl hit ↦ (let same : Some x ≡ Some e = rw hit at h in let is : x ≡ e = same_Some x e same in (0, same, ap (λ (y : Entry). y.number) (sym is) ∙ eqb-true x.number n hit))
   | inr miss ↦ (let later = find_place es n e (rw miss at h) in (suc later.0, later.1, later.2))
 ]
 
 place_find : (es : List Entry) (i : ℕ) (e : Entry) → rises (numbers_of es) ≡ true → slice_get es i ≡ Some e → find (λ d. d.number == e.number) es ≡ Some e
-place_find [] i e h at = absurd (let bad : ◌≡◌ {A = Option Entry} None (Some e) = at in cc)
+place_find [] i e h at = absurd (none-some e at)
 place_find (x ∷ es) zero e h at = (let same : x ≡ e = cc in rw (eq-eqb x.number e.number (ap (λ (y : Entry). y.number) same)) at)
 place_find (x ∷ es) (suc i) e h at = grind (arith, common_steps, all_above, and_parts, number_of, rises, (place_find es i e))
 

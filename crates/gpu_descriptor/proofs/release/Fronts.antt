@@ -2,6 +2,7 @@
 -- For release.Parts, which takes the law of one key from it, and release.FrontPool. es are entries, keep is how many are to stay.
 use Rattle.gpu_descriptor.proofs.Common.{◌≡◌, ℕ, zero, suc, ◌+◌, ◌-◌, ◌<◌, ◌≤◌, true, false, min, List, [], ◌∷◌, length, map, drop, slice_get, Some, inl, inr, refl, sym, ap, ◌∙◌, arith, drop-drop, prefix_len, cases_Bool, cases_lt, drop-map, Entry, Bucket, entry_at, rises, numbers_of, common_steps}
 use Rattle.gpu_descriptor.proofs.Common.{bucket_but_front, entry_less, bucket_less, is_empty, empty_front, spent_front, without_front}
+use Rattle.std.proofs.lemmas.Bool.{true≢false}
 use Rattle.gpu_descriptor.proofs.lists.AtPlaces.{get_drop}
 use Rattle.gpu_descriptor.proofs.lists.Numbers.{entry_at-found, entry_at-named, numbers_drop, rises_drop}
 
@@ -49,7 +50,7 @@ entry_at-kept b f n e rising le h full =
     let found = entry_at-found b n e h in
     let rest : rises (numbers_of (drop f b.pools)) ≡ true = ap rises (numbers_drop b.pools f) ∙ rises_drop (numbers_of b.pools) f rising in
     elim (cases_lt found.0 f) [
-      | inl lt ↦ absurd (let empty = front_empty b.pools found.0 e found.1 (omega arith) in let bad : true ≡ false = sym empty ∙ full in cc)
+      | inl lt ↦ absurd (let empty = front_empty b.pools found.0 e found.1 (omega arith) in true≢false (sym empty ∙ full))
       | inr ge ↦ (
           let place : f + (found.0 - f) ≡ found.0 = omega arith in
           entry_at-named (without_front f b) (found.0 - f) n e rest (get_drop b.pools f (found.0 - f) ∙ ap (slice_get b.pools) place ∙ found.1) found.2)

@@ -1,6 +1,7 @@
 -- Giving sets back leaves the keys of which none of them is.
 use Rattle.gpu_descriptor.proofs.Common.{◌≡◌, ℕ, ◌&&◌, Bool, true, false, List, [], ◌∷◌, count_by, Some, None, option_map, slice_get, slice_get-map, entry_less, refl, sym, ap, ◌∙◌, arith, fun_ext, and_parts, false_from_ne_true, list_any, if◌then◌else◌, LiveSet, set_eq, State, Item, Agree, set_of}
 use Rattle.gpu_descriptor.proofs.Common.{Key, key_eq, Bucket, Entry, IsUntouched, given_back, released, spent_front, in_front, lies_in, pool_less}
+use Rattle.std.proofs.lemmas.Bool.{true≢false}
 use Rattle.gpu_descriptor.proofs.table.Exact.{key_exact}
 use Rattle.gpu_descriptor.proofs.lists.Numbers.{entry_at-found}
 use Rattle.gpu_descriptor.proofs.release.ReleaseAgrees.{front_found, none_back}
@@ -10,7 +11,7 @@ use Rattle.gpu_descriptor.proofs.request.Rollback.{other_key}
 module _ {A : Type 0} (f g : A → Bool) (le : (t : A) → f t ≡ true → g t ≡ true) where
   -- a test f that only passes where g does finds nothing where g doesn't
   off : (t : A) → g t ≡ false → f t ≡ false
-  off t none = false_from_ne_true (f t) (λ on. (let bad : true ≡ false = sym (le t on) ∙ none in cc))
+  off t none = false_from_ne_true (f t) (λ on. (true≢false (sym (le t on) ∙ none)))
 
   any_off : (m : List A) → list_any g m ≡ false → list_any f m ≡ false
   any_off [] none = refl

@@ -4,6 +4,8 @@ use Rattle.gpu_descriptor.proofs.Common.{◌≡◌, ◌<◌, ℕ, suc, true, fal
 use Rattle.gpu_descriptor.proofs.Common.{Ledger, count_by_yes, BucketKey, DescriptorSet, DescriptorBucket, AreOutstanding, Item, State, item_eq, outstanding, Bucket, Key, entry_at, no_pools, key_of, Allocations, item_of, items_of, state_of, is_of, rises, stored_ids, EndsRun, AllPass}
 use Rattle.gpu_descriptor.proofs.Common.{bucket_of, row_of}
 use Rattle.std.proofs.iter.Next.{Yields-more}
+use Rattle.std.proofs.lemmas.Bool.{true≢false}
+use Rattle.std.proofs.lemmas.Option.{none-some, same_Some}
 use Rattle.gpu_descriptor.specs.Inner.RunSteps.{at_place, lies_at}
 use Rattle.gpu_descriptor.proofs.table.Exact.{item_exact, key_exact}
 use Rattle.gpu_descriptor.proofs.callers.HeldSets.{out_back}
@@ -41,11 +43,10 @@ placed i n x a b = and_from _ _ (eq-eqb x.id i a) (eq-eqb x.number n b)
 module _ {P : Type 0} where
   -- what the test for a key finds is at a place
   pub stands : (k : Key) (es : List (BucketKey × DescriptorBucket P)) (w : DescriptorBucket P) → lookup (is_of k) es ≡ Some w → Stands k w es
-  stands k [] w found = absurd (let bad : ◌≡◌ {A = Option (DescriptorBucket P)} None (Some w) = found in cc)
+  stands k [] w found = absurd (none-some w found)
   stands k (e ∷ es) w found = elim (cases_Bool (is_of k e.0)) [
     | inl hit ↦ (
-        let same : Some e.1 ≡ Some w = rw hit at found in
-        let is : e.1 ≡ w = cc in
+        let is : e.1 ≡ w = same_Some e.1 w (rw hit at found) in
         record { place = 0; entry = e; at = refl; key = sym (key_exact.same k (key_of e.0) hit); is = is; id = ap (λ (b : DescriptorBucket P). Some b.id) is })
     | inr miss ↦ (let r = stands k es w (rw miss at found) in record { place = suc r.place; entry = r.entry; at = r.at; key = r.key; is = r.is; id = r.id })
   ]
@@ -96,9 +97,8 @@ module _ {P S : Type 0} (name : P → ℕ) (set_name : S → ℕ) (a : Allocatio
     lies_apart x out apart = false_from_ne_true (lies_at k n x) (λ h.
         let other = first_owns x [] out in
         let here = at_parts k n x h in
-        let found : Some other.bucket ≡ Some own.bucket = sym other.found ∙ ap (λ (q : Key). lookup (is_of q) es) here.0 ∙ own.found in
-        let same : other.bucket ≡ own.bucket = cc in
-        let bad : true ≡ false = sym (placed id n x (sym other.has ∙ ap (λ (w : DescriptorBucket P). w.id) same ∙ own.has) here.1) ∙ apart in cc)
+        let same : other.bucket ≡ own.bucket = same_Some other.bucket own.bucket (sym other.found ∙ ap (λ (q : Key). lookup (is_of q) es) here.0 ∙ own.found) in
+        true≢false (sym (placed id n x (sym other.has ∙ ap (λ (w : DescriptorBucket P). w.id) same ∙ own.has) here.1) ∙ apart))
 
     -- so a run by the id is one by the key
     pub ends_at :

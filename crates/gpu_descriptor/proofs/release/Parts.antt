@@ -4,6 +4,7 @@
 use Rattle.gpu_descriptor.proofs.Common.{common_steps, ◌≡◌, ℕ, suc, ◌+◌, ◌<◌, Bool, true, false, ◌&&◌, ◌||◌, ◌==◌, List, [], ◌∷◌, ◌++◌, map, take, drop, slice_get, Option, Some, None, option_map, refl, sym, ap, ◌∙◌, arith, take-add, if◌then◌else◌, fun_ext, list_any, and_parts, and_from}
 use Rattle.gpu_descriptor.proofs.Common.{false_from_ne_true, take-map, set_of, State, Item, item_eq, count_of, AreOutstanding, Agree, Key, key_eq, Entry, Bucket, Pool, LiveSet, set_eq, count_by-append, count_by_alike, count_by_none, any_from, any_found, list_any-append, bucket_but_front, lies_in}
 use Rattle.gpu_descriptor.proofs.Common.{entry_less, bucket_less, pool_less, spent_front, without_front, in_front, released}
+use Rattle.std.proofs.lemmas.Bool.{true≢false}
 use Rattle.gpu_descriptor.proofs.lists.Numbers.{entry_at-found}
 use Rattle.gpu_descriptor.proofs.release.Fronts.{less-less, less-without, one_key, spent_front-less}
 use Rattle.gpu_descriptor.proofs.table.Exact.{key_exact, item_exact}
@@ -101,7 +102,7 @@ untouched n s agree k none i e at = count_by_none item_exact (lies_in s.books e.
     let there = entry_at-found (s.books t.key) t.number found.0 found.1 in
     let same = agree.distinct t.key k there.0 i found.0 e there.1 at found.2 in
     let named : names_key n k ≡ true = any_from item_exact (λ u. key_eq u.key k) n t in_n (rw same.0 (key_exact.self k)) in
-    let bad : true ≡ false = sym named ∙ none in cc))
+    true≢false (sym named ∙ none)))
 
 -- so its bucket is as the first part left it
 pub quiet_key : (m n : List Item) (s : State) → Agree s → (k : Key) → names_key n k ≡ false → bucket_less (λ p. back m s p + back n s p) (s.books k) ≡ bucket_less (back m s) (s.books k)

@@ -4,6 +4,8 @@
 use Rattle.gpu_descriptor.proofs.Common.{◌≡◌, ℕ, ◌+◌, ◌-◌, ◌<◌, ◌≤◌, Bool, true, false, cond, ◌&&◌, ◌==◌, List, [], ◌∷◌, length, map, filter, count_by, Option, Some, None, option_map, inl, inr, refl, sym, ap, ◌∙◌, arith, eqb-true, eq-eqb, ne_eqb, option_map_or, list_any, cases_Bool}
 use Rattle.gpu_descriptor.proofs.Common.{false_from_ne_true, and_parts, and_from, length-map, length-filter, count_by-le-length, slice_get, slice_get-map, rises, numbers_of, set_of, State, Item, item_eq, count_of, live_in, outstanding, AreOutstanding, HasSize, Agree, live_at, Key, key_eq, Entry}
 use Rattle.gpu_descriptor.proofs.Common.{Bucket, entry_at, no_pools, Pool, LiveSet, set_eq, bool_iff, count_by_alike, count_by_none, set_exact, all_taken_out, ∥∥₁_elim, ∥∥₁_map, props, common_steps, lies_in, entry_less, bucket_less, is_empty, empty_front, spent_front, without_front, released}
+use Rattle.std.proofs.lemmas.Option.{none-some}
+use Rattle.std.proofs.lemmas.Bool.{true≢false}
 use Rattle.gpu_descriptor.proofs.lists.Numbers.{find_map, numbers_map}
 use Rattle.gpu_descriptor.proofs.lists.AtPlaces.{get_drop}
 use Rattle.gpu_descriptor.proofs.release.Fronts.{entry_at-without, entry_at-kept}
@@ -60,7 +62,7 @@ size_pos live a name listed lt = ∥∥₁_elim listed (search props) (λ size.
     grind (arith, common_steps, count_by-le-length))
 
 some_of : (o : Option Entry) (pool : ℕ) → option_map_or (λ e. e.pool == pool) o false ≡ true → (e : Entry) × (o ≡ Some e) × (e.pool ≡ pool)
-some_of None pool h = absurd (let bad : true ≡ false = sym h in cc)
+some_of None pool h = absurd (true≢false (sym h))
 some_of (Some e) pool h = (e, refl, eqb-true e.pool pool h)
 
 -- a set lies in the pool that the entry of its key and number names
@@ -138,7 +140,7 @@ pub numbers_less : (g : ℕ → ℕ) (b : Bucket) → numbers_of (bucket_less g 
 numbers_less g b = numbers_map (λ e. entry_less (g e.pool) e) (λ e. refl) b.pools
 
 pub some_before : (f : Entry → Entry) (o : Option Entry) (e : Entry) → option_map f o ≡ Some e → (d : Entry) × (o ≡ Some d) × (f d ≡ e)
-some_before f None e h = absurd (let bad : ◌≡◌ {A = Option Entry} None (Some e) = h in cc)
+some_before f None e h = absurd (none-some e h)
 some_before f (Some d) e h = (d, refl, (let is : ◌≡◌ {A = Option Entry} (Some (f d)) (Some e) = h in cc))
 
 -- how many pools leave a key

@@ -3,6 +3,7 @@
 use Rattle.gpu_descriptor.proofs.Common.{◌≡◌, ℕ, ◌+◌, ◌-◌, ◌<◌, ◌≤◌, Bool, true, false, ltb, ◌&&◌, ◌==◌, List, [], ◌∷◌, ◌++◌, flat_map, map, take, count_by, slice_get, slice_get-map, Option, Some, None, option_map, inl, inr, refl, sym, ap, ◌∙◌, subst, arith, eqb-true, if◌then◌else◌, fun_ext}
 use Rattle.gpu_descriptor.proofs.Common.{list_any, cases_lt, and_parts, false_from_ne_true, set_of, State, Item, count_of, outstanding, AreOutstanding, IsAsBooked, Agree, Key, Entry, Bucket, entry_at, rises, numbers_of, Pool, set_eq, counts_alike, count_by-append, list_any-count_by, common_steps}
 use Rattle.gpu_descriptor.proofs.Common.{lies_in, entry_less, bucket_less, pool_less, given_back, spent_front, released, singly, released_each}
+use Rattle.std.proofs.lemmas.Option.{none-some}
 use Rattle.gpu_descriptor.proofs.lists.Numbers.{entry_at-found, entry_at-from, numbers_drop, rises_drop}
 use Rattle.gpu_descriptor.proofs.request.StateAgrees.{booked_at}
 use Rattle.gpu_descriptor.proofs.lists.AtPlaces.{cases_option, found_before, if_none}
@@ -82,7 +83,7 @@ takes_own m s agree out t own = elim (cases_option (entry_at ((released m s).boo
   | inl none ↦ elim (cases_lt (count_of t m) (outstanding s t)) [
     | inl more ↦ (
         let keeps = kept m s agree out t more in
-        absurd (let bad : ◌≡◌ {A = Option Entry} None (Some (entry_less (back m s keeps.0.pool) keeps.0)) = sym none ∙ keeps.2 in cc))
+        absurd (none-some (entry_less (back m s keeps.0.pool) keeps.0) (sym none ∙ keeps.2)))
     | inr all ↦ (
         let nothing : outstanding (released m s) t ≡ 0 = ap (λ (n : ℕ). if ((released m s).books t.key).id == t.id then n else 0) (rw none refl) ∙ if_none (((released m s).books t.key).id == t.id) in
         let fits = out t in

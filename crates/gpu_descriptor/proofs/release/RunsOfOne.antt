@@ -1,6 +1,7 @@
 -- One run: sets of one key and one number. What giving it back changes, and how its front goes pool by pool.
 use Rattle.gpu_descriptor.proofs.Common.{◌≡◌, ◌≢◌, ℕ, zero, suc, ◌<◌, Bool, true, ◌&&◌, ◌==◌, List, [], ◌∷◌, length, map, set, count_by, slice_get, Option, Some, None, inl, inr, refl, sym, ap, ◌∙◌, arith, eq-eqb, ne_eqb, if◌then◌else◌, cases_Bool, set_of, State, Item, count_of, Agree, Key, Entry}
 use Rattle.gpu_descriptor.proofs.Common.{entry_at, LiveSet, set_eq, count_by_yes, count_by_alike, count_by_none, lies_in, entry_less, given_back}
+use Rattle.std.proofs.lemmas.Option.{none-some}
 use Rattle.gpu_descriptor.proofs.table.Exact.{item_exact}
 use Rattle.gpu_descriptor.proofs.release.Places.{back, back_named}
 
@@ -44,7 +45,7 @@ HasDistinctNames es = (i j : ℕ) (d e : Entry) → slice_get es i ≡ Some d �
 
 -- the one entry that changes
 pub less_at : (n : ℕ) (es : List Entry) (j : ℕ) (e : Entry) → HasDistinctNames es → slice_get es j ≡ Some e → map (λ d. entry_less (if e.pool == d.pool then n else 0) d) es ≡ set es j (entry_less n e)
-less_at n [] j e distinct at = absurd (let bad : ◌≡◌ {A = Option Entry} None (Some e) = at in cc)
+less_at n [] j e distinct at = absurd (none-some e at)
 less_at n (x ∷ es) zero e distinct at =
     let same : x ≡ e = cc in
     let head : entry_less (if e.pool == x.pool then n else 0) x ≡ entry_less n e = rw (eq-eqb e.pool x.pool (ap (λ (y : Entry). y.pool) (sym same))) (ap (entry_less n) same) in

@@ -4,6 +4,7 @@
 use Rattle.gpu_descriptor.proofs.Common.{slice_get, ◌≡◌, ℕ, suc, ◌<◌, ◌≤◌, Bool, true, false, ◌==◌, List, [], ◌∷◌, length, map, count_by, sum_by, Option, Some, None, option_map, inl, inr, refl, sym, ap, ◌∙◌, arith, eq-eqb, ne_eqb, if◌then◌else◌, fun_ext, list_any, cases_Bool, cases_eq, and_parts}
 use Rattle.gpu_descriptor.proofs.Common.{and_from, false_from_ne_true, length-map, sum_by-cons, Pool, live_sets, LiveSet, set_eq, times, bool_iff, any_found, any_from, count_by_yes, count_by_no, DescriptorSet, set_of, State, Item, item_eq, count_of, live_in, AreOutstanding, Agree, Key, key_eq}
 use Rattle.gpu_descriptor.proofs.Common.{Entry, Bucket, entry_at, common_steps, IsTakenAt, names_of, bucket_back, bucket_but_front, entry_less, pool_less, given_back, fronts_gone, released, spent_front, pools_gone, in_front, item_of, items_of, AllPass}
+use Rattle.std.proofs.lemmas.Bool.{true≢false}
 use Rattle.gpu_descriptor.specs.Inner.RunSteps.{lies_at}
 use Rattle.gpu_descriptor.proofs.table.Exact.{key_exact, item_exact}
 use Rattle.gpu_descriptor.proofs.lists.Numbers.{entry_at-named}
@@ -116,7 +117,7 @@ module _ {S : Type 0} (name : S → ℕ) where
             ap (λ (f : ℕ → ℕ). map (λ (d : Entry). entry_less (f d.pool) d) (s.books l).pools) (fun_ext (run_back k n m s e run at))
             ∙ untouched_rest (length m) e.pool (s.books l).pools (λ j d got same.
             let keys = (agree.distinct k l i j e d place got same).0 in
-            let bad : true ≡ false = sym (ap (key_eq k) (sym keys) ∙ key_exact.self k) ∙ other in cc) in
+            true≢false (sym (ap (key_eq k) (sym keys) ∙ key_exact.self k) ∙ other)) in
             let whole : (given_back m s).books l ≡ s.books l = λ z. record (s.books l) { pools = pools z } in
             whole ∙ sym here)
       ]) in
@@ -151,7 +152,7 @@ module _ {S : Type 0} (name : S → ℕ) where
             let there : (fronts_gone m s).books k ≡ bucket_but_front 1 b = rw named (ap (bucket_but_front 1) own) in
             ap (fronts_gone m s).books (sym same) ∙ there ∙ sym here)
         | inr other ↦ (
-            let unnamed : names_key m l ≡ false = false_from_ne_true (names_key m l) (λ h. let bad : true ≡ false = sym (ap (key_eq k) (sym (only l h)) ∙ key_exact.self k) ∙ other in cc) in
+            let unnamed : names_key m l ≡ false = false_from_ne_true (names_key m l) (λ h. true≢false (sym (ap (key_eq k) (sym (only l h)) ∙ key_exact.self k) ∙ other)) in
             rw (unnamed, other) refl)
       ]) in
       let ledger : (fronts_gone m s).ledger ≡ trimmed_pools b pools = fun_ext (λ p.
@@ -205,7 +206,7 @@ module _ {S : Type 0} (name : S → ℕ) where
       let unnamed : names_key m l ≡ false = false_from_ne_true (names_key m l) (λ h.
       let who = any_found item_exact (λ u. key_eq u.key l) m h in
       let same : k ≡ l = sym (run who.0 who.1).0 ∙ key_exact.same who.0.key l who.2 in
-      let bad : true ≡ false = sym (ap (key_eq k) (sym same) ∙ key_exact.self k) ∙ other in cc) in
+      true≢false (sym (ap (key_eq k) (sym same) ∙ key_exact.self k) ∙ other)) in
       rw unnamed refl in
       let given : (given_back m s).books k ≡ b = ap (λ (t : State). t.books k) (given_run s agree x xs have i e at named_so) ∙ (let own : put_books s.books k b k ≡ b = rw (key_exact.self k) refl in own) in
       let here : f k ≡ spent_front ((given_back m s).books k) = rw named refl in

@@ -1,6 +1,7 @@
 -- The numbers of a key's pools once a request took sets of them: the old pools keep theirs, and the new ones have the next.
 use Rattle.gpu_descriptor.proofs.Common.{common_steps, ◌≡◌, ℕ, zero, suc, ◌+◌, ◌≤◌, Bool, true, List, [], ◌∷◌, ◌++◌, length, take, drop, slice_get, Option, Some, None, refl, sym, ap, ◌∙◌, arith, append-nil, Entry, Bucket, Fresh, fresh_entries, fresh_entry, next_number, number_after, numbers_of}
 use Rattle.gpu_descriptor.proofs.Common.{rises, all_shared, Key, Grant, Item, Ledger, HasTaken}
+use Rattle.std.proofs.lemmas.Option.{none-some}
 use Rattle.gpu_descriptor.proofs.lists.Numbers.{next_push, rises_push}
 
 -- ---- the entries of new pools
@@ -10,7 +11,7 @@ fresh_entries_more number [] f = ap (λ (m : ℕ). fresh_entry m f ∷ []) (let 
 fresh_entries_more number (h ∷ fs) f = grind (arith, common_steps, (fresh_entries_more (number + 1) fs f))
 
 pub fresh_get : (number : ℕ) (fs : List Fresh) (j : ℕ) (f : Fresh) → slice_get fs j ≡ Some f → slice_get (fresh_entries number fs) j ≡ Some (fresh_entry (number + j) f)
-fresh_get number [] j f at = absurd (let bad : ◌≡◌ {A = Option Fresh} None (Some f) = at in cc)
+fresh_get number [] j f at = absurd (none-some f at)
 fresh_get number (h ∷ fs) zero f at = grind (arith, common_steps)
 fresh_get number (h ∷ fs) (suc j) f at = fresh_get (number + 1) fs j f at ∙ ap (λ (m : ℕ). Some (fresh_entry m f)) (let e : number + 1 + j ≡ number + suc j = omega arith in e)
 

@@ -2,6 +2,8 @@
 -- For `fill`: each lemma makes a whole record of its contract, field by field.
 use Rattle.gpu_descriptor.proofs.Common.{◌≡◌, ◌≤◌, true, false, is_some, ℕ, ◌+◌, ◌<◌, List, Option, None, Some, Result, Ok, Err, sym, ap, ◌∙◌, arith, side, Meaning, Ledger, Counters, AllocationError, DescriptorSet, Stop, Agree, outstanding, HasDistinctKeys, Key, Allocations, run_digits, Grant}
 use Rattle.gpu_descriptor.proofs.Common.{granted, items_in, stop_error, call_of, Returns, with_key, items_of, Agrees, marked_load_of, outstanding_of, pool_load_of, state_of, table_of, IsDeclined, Takes}
+use Rattle.std.proofs.lemmas.Option.{none-some}
+use Rattle.std.proofs.lemmas.Bool.{true≢false}
 use Rattle.gpu_descriptor.specs.Caller.HandsOut.{HandsOut}
 use Rattle.gpu_descriptor.specs.Caller.Keeps.{Keeps}
 use Rattle.gpu_descriptor.specs.Caller.States.{keys_of}
@@ -55,7 +57,7 @@ module _ {L P S : Type 0} {means : Meaning L P S} {k : Key} {count : ℕ} (sets 
         other_keys = taken_others t agree.books;
         keys = rw all.1 keys;
         looks = looks;
-        declined = λ none. absurd (let bad : true ≡ false = sym all.1 ∙ ap is_some none in cc);
+        declined = λ none. absurd (true≢false (sym all.1 ∙ ap is_some none));
         searches = tt;
         comparisons_stay = comparisons;
         compared = omega arith;
@@ -81,7 +83,7 @@ module _ {L P S : Type 0} {means : Meaning L P S} {k : Key} {count : ℕ} (sets 
         other_keys = back_others t agree.books r.back;
         keys = rw went.2 (r.keys ∙ keys);
         looks = (let stay = r.looks_stay in omega arith);
-        declined = λ none. absurd (let bad : ◌≡◌ {A = Option Grant} None (Some went.1) = sym none ∙ went.2 in cc);
+        declined = λ none. absurd (none-some went.1 (sym none ∙ went.2));
         searches = rw went.2 (let few = r.comparisons in omega arith);
         comparisons_stay = tt;
         compared = (let more = r.compared in omega arith);

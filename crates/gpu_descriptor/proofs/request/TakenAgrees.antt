@@ -6,6 +6,7 @@ use Rattle.gpu_descriptor.proofs.Common.{length-append, sum_by-append, slice_get
 use Rattle.gpu_descriptor.proofs.Common.{set_of, count_of, outstanding, pool_counts, map-append, times-append, eqb-false, slice_get-get_or, get_or_from_slice_get, get_or, IsBookedIn, Fresh, fresh_entries, fresh_entry, fresh_portions, next_number, numbers_of, rises, Grant, Part, IsGrantOf}
 use Rattle.gpu_descriptor.proofs.Common.{items_in, portion_of, came, bucket_with, ledger_with, fresh_or, pool_with, items_at, granted, Portion, all_shared, portions_of, KeepsForeign, KeepsOtherKeys}
 use Rattle.std.proofs.lemmas.List.{get_or-append-add}
+use Rattle.std.proofs.lemmas.Option.{none-some, same_Some}
 use Rattle.gpu_descriptor.proofs.lists.AtPlaces.{cases_option, get_drop, if_none, none_from}
 use Rattle.gpu_descriptor_types.specs.Ledger as ledgers
 use Rattle.gpu_descriptor.proofs.table.Exact.{key_exact}
@@ -67,7 +68,7 @@ all_came k id b apart u f at key own (p ∷ parts) placed =
           (times-append (live_sets k.counts p.names) (live_sets k.counts (came parts f.pool)) (set_of u)) in
           omega arith)
       | inr off ↦ (
-          let none = count_elsewhere k id p.number p.names u (λ same. eqb-false p.pool f.pool off (let is : Some placed.0.0 ≡ Some f = sym placed.0.1 ∙ ap (entry_at b) (sym same) ∙ at in let entry : placed.0.0 ≡ f = cc in sym placed.0.2 ∙ ap (λ (e : Entry). e.pool) entry)) in
+          let none = count_elsewhere k id p.number p.names u (λ same. eqb-false p.pool f.pool off (let entry : placed.0.0 ≡ f = same_Some placed.0.0 f (sym placed.0.1 ∙ ap (entry_at b) (sym same) ∙ at) in sym placed.0.2 ∙ ap (λ (e : Entry). e.pool) entry)) in
           let sets : times (live_sets k.counts (came (p ∷ parts) f.pool)) (set_of u) ≡ times (live_sets k.counts (came parts f.pool)) (set_of u) = rw off refl in
           omega arith)
     ]
@@ -359,7 +360,7 @@ module _ (k : Key) (n : ℕ) (g : Grant) (s : State) (agree : Agree s) (grant : 
     untouched name (apart_from name b.pools (foreign k)) (not_new s.ledger name pool g.fresh grant.new live) ∙ live,
     λ l i f at same. elim (origin l i f at) [
       | inl old ↦ foreign l i old.0 old.1 (sym old.2 ∙ same)
-      | inr fresh ↦ absurd (let bad : ◌≡◌ {A = Option Pool} None (Some pool) = sym fresh.1.0 ∙ ap s.ledger same ∙ live in cc)
+      | inr fresh ↦ absurd (none-some pool (sym fresh.1.0 ∙ ap s.ledger same ∙ live))
     ],
   )
 

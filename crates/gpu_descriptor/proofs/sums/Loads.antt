@@ -3,6 +3,7 @@
 -- and w the bucket of the key k that was there and that is; left is the room then.
 use Rattle.gpu_descriptor.proofs.Common.{◌≡◌, ℕ, ◌+◌, ◌-◌, ◌≤◌, Bool, true, List, [], ◌∷◌, ◌++◌, length, map, sum_by, Option, Some, None, inl, inr, refl, sym, ap, ◌∙◌, arith, zero, suc, slice_get, lookup, set_value, cases_Bool, sum_by-cons, BucketKey, DescriptorSet, DescriptorBucket, Key, key_eq}
 use Rattle.gpu_descriptor.proofs.Common.{sum_over, key_of, Allocations, common_steps, bucket_load, descriptors_out, set_descriptors, sets_out, marked_descriptors, items_of, outstanding_of, marked_load_of, AllPass, kept_in, kept_of, row_of, stored_load, IsConsistent}
+use Rattle.std.proofs.lemmas.Option.{none-some, same_Some}
 use Rattle.indexmap.specs.Layout.{set_value_at}
 use Rattle.gpu_descriptor.specs.Inner.RunSteps.{lies_at}
 use Rattle.gpu_descriptor.specs.Inner.Stored.{IsCounted}
@@ -42,16 +43,16 @@ pub record IsWritten {P : Type 0} (k : Key) (es fs : List (BucketKey × Descript
 
 -- a sum over all rows, once the value at a place is another
 pub sum_put : {A B : Type 0} (f : A × B → ℕ) (es : List (A × B)) (i : ℕ) (k : A) (v w : B) → slice_get es i ≡ Some (k, v) → (f (k, v) ≤ sum_by f es) × (sum_by f (set_value_at es i w) + f (k, v) ≡ sum_by f es + f (k, w))
-sum_put {A} {B} f [] i k v w at = absurd (let bad : ◌≡◌ {A = Option (A × B)} None (Some (k, v)) = at in cc)
+sum_put {A} {B} f [] i k v w at = absurd (none-some (k, v) at)
 sum_put {A} {B} f (e ∷ es) zero k v w at = grind (arith, sum_by-cons)
 sum_put {A} {B} f (e ∷ es) (suc i) k v w at = grind (arith, common_steps, sum_by-cons, (sum_put f es i k v w at))
 
 module _ {P : Type 0} where
   -- what a look-up finds stands at a place, and a write through the map is one there
   found_place : (test : BucketKey → Bool) (es : List (BucketKey × DescriptorBucket P)) (v : DescriptorBucket P) → lookup test es ≡ Some v → (i : ℕ) × (k : BucketKey) × (test k ≡ true) × (slice_get es i ≡ Some (k, v)) × ((w : DescriptorBucket P) → set_value test es w ≡ set_value_at es i w)
-  found_place test [] v found = absurd (let bad : ◌≡◌ {A = Option (DescriptorBucket P)} None (Some v) = found in cc)
+  found_place test [] v found = absurd (none-some v found)
   found_place test (e ∷ es) v found = elim (cases_Bool (test e.0)) [
-    | inl at ↦ (let is : Some e.1 ≡ Some v = rw at at found in let same : e.1 ≡ v = cc in (0, e.0, at, ap (λ (b : DescriptorBucket P). Some (e.0, b)) same, λ w. rw at refl))
+    | inl at ↦ (let same : e.1 ≡ v = same_Some e.1 v (rw at at found) in (0, e.0, at, ap (λ (b : DescriptorBucket P). Some (e.0, b)) same, λ w. rw at refl))
     | inr at ↦ (let rest = found_place test es v (rw at at found) in (suc rest.0, rest.1, rest.2, rest.3, λ w. rw at (ap (λ (l : List (BucketKey × DescriptorBucket P)). e ∷ l) (rest.4 w))))
   ]
 

@@ -5,6 +5,7 @@ use Rattle.std.specs.List.{find}
 use Rattle.gpu_descriptor.proofs.Common.{list_all, nat_lt, and_parts, ltb-true, eqb-true, eqb-false, rises, numbers_of, ◌≡◌, ℕ, suc, ◌+◌, ◌<◌, ◌≤◌, ◌==◌, true, false, List, [], ◌∷◌, ◌++◌, length, map, sum_by, slice_get, Option, Some, None, inl, inr, refl, sym, ap, ◌∙◌, arith, length-append}
 use Rattle.gpu_descriptor.proofs.Common.{if◌then◌else◌, cases_Bool, cases_lt, length-map, sum_by-append, sum_by-cons, Pool, live_sets, LiveSet, set_eq, times, count_by_yes, count_by_no, counts_alike, set_exact, State, Agree, Item, item_eq, set_of, count_of, live_at, outstanding, Key, key_eq}
 use Rattle.gpu_descriptor.proofs.Common.{Entry, Bucket, no_pools, books_of, HasDistinctKeys, sum_over, AddsUp, ∥∥₁_elim, ∥∥₁_map, ∥∥₁_prop, props, common_steps, items_at, marked_descriptors, set_descriptors, descriptors_out, allocated_in, sets_out, IsBookedIn}
+use Rattle.std.proofs.lemmas.Bool.{true≢false}
 use Rattle.gpu_descriptor.proofs.table.Exact.{bucket, item_exact, key_exact}
 use Rattle.gpu_descriptor.proofs.callers.HeldSets.{count_of-append}
 use Rattle.gpu_descriptor.proofs.request.KeyAgrees.{place_of_items, count_append, count_of_items, count_elsewhere}
@@ -118,7 +119,7 @@ table_out ledger (row ∷ table) distinct rising booked =
             | inr other ↦ (
                 let is : out_at ledger (books_of (row ∷ table) t.key) t ≡ out_at ledger (books_of table t.key) t = rw other refl in
                 elim (cases_lt 0 (count_of t here.items)) [
-                  | inl some ↦ absurd (let bad : true ≡ false = sym (key_exact.self row.0) ∙ ap (key_eq row.0) (sym (here.of_key t some).0) ∙ other in cc)
+                  | inl some ↦ absurd (true≢false (sym (key_exact.self row.0) ∙ ap (key_eq row.0) (sym (here.of_key t some).0) ∙ other))
                   | inr none ↦ omega arith
                 ])
           ]),

@@ -4,6 +4,7 @@ use Rattle.gpu_descriptor.proofs.Common.{◌≡◌, ◌<◌, ℕ, zero, suc, Boo
 use Rattle.gpu_descriptor.proofs.Common.{cases_Bool, cases_lt, and_parts, ltb-true, ltb-false, BucketKey, DescriptorBucket, Key, key_eq, key_of, common_steps, rises, stored_ids}
 use Rattle.gpu_descriptor.proofs.lists.Numbers.{all_above, rises_at}
 use Rattle.std.proofs.lemmas.List.Sorted.{IsPartitionedBy-ltb}
+use Rattle.std.proofs.lemmas.Option.{none-some}
 use Rattle.indexmap.specs.Layout.{set_value_at}
 use Rattle.gpu_descriptor.proofs.table.Exact.{key_exact}
 
@@ -24,7 +25,7 @@ module _ {P : Type 0} where
     pub within : i < length es
 
   pub has_id : (es : List (BucketKey × DescriptorBucket P)) (i id : ℕ) → slice_get (stored_ids es) i ≡ Some id → HasId es i id
-  has_id [] i id at = absurd (let bad : ◌≡◌ {A = Option ℕ} None (Some id) = at in cc)
+  has_id [] i id at = absurd (none-some id at)
   has_id (e ∷ es) zero id at = (let same : Some e.1.id ≡ Some id = at in record { entry = e; at = refl; is = cc; within = omega arith })
   has_id (e ∷ es) (suc i) id at = (let r = has_id es i id at in let lt = r.within in record { entry = r.entry; at = r.at; is = r.is; within = omega arith })
 
@@ -59,11 +60,11 @@ module _ {P : Type 0} where
 module _ {P : Type 0} where
   -- the row that a key's test finds has an id above those before it
   found_above : (n : ℕ) (test : BucketKey → Bool) (es : List (BucketKey × DescriptorBucket P)) (v : DescriptorBucket P) → list_all (nat_lt n) (stored_ids es) ≡ true → lookup test es ≡ Some v → n < v.id
-  found_above n test [] v h found = absurd (let bad : ◌≡◌ {A = Option (DescriptorBucket P)} None (Some v) = found in cc)
+  found_above n test [] v h found = absurd (none-some v found)
   found_above n test (e ∷ es) v h found = grind (arith, (found_above n test es v))
 
   pub id_of : (es : List (BucketKey × DescriptorBucket P)) (i : ℕ) (e : BucketKey × DescriptorBucket P) → slice_get es i ≡ Some e → slice_get (stored_ids es) i ≡ Some e.1.id
-  id_of [] i e at = absurd (let bad : ◌≡◌ {A = Option (BucketKey × DescriptorBucket P)} None (Some e) = at in cc)
+  id_of [] i e at = absurd (none-some e at)
   id_of (x ∷ es) zero e at = ap (λ (r : BucketKey × DescriptorBucket P). Some r.1.id) (inside x e at)
   id_of (x ∷ es) (suc i) e at = id_of es i e at
 
@@ -87,7 +88,7 @@ module _ {P : Type 0} where
 
   -- the row of a key stands where its id does
   pub own_key : (es : List (BucketKey × DescriptorBucket P)) → rises (stored_ids es) ≡ true → (k : Key) (w : DescriptorBucket P) → lookup (λ l. key_eq k (key_of l)) es ≡ Some w → (i : ℕ) (e : BucketKey × DescriptorBucket P) → slice_get es i ≡ Some e → e.1.id ≡ w.id → Is e k w
-  own_key [] rise k w found i e at same = absurd (let bad : ◌≡◌ {A = Option (DescriptorBucket P)} None (Some w) = found in cc)
+  own_key [] rise k w found i e at same = absurd (none-some w found)
   own_key (x ∷ es) rise k w found zero e at same =
       subst (λ (r : BucketKey × DescriptorBucket P). Is r k w) (inside x e at) (first_is x es (and_parts (list_all (nat_lt x.1.id) (stored_ids es)) (rises (stored_ids es)) rise).0 k w found (ap (λ (r : BucketKey × DescriptorBucket P). r.1.id) (inside x e at) ∙ same))
   own_key (x ∷ es) rise k w found (suc i) e at same =

@@ -2,6 +2,8 @@
 -- For what looks up a key or writes its bucket. es are the entries of the map, and test is its test for the key k (same).
 use Rattle.gpu_descriptor.proofs.Common.{◌≡◌, ℕ, arith, Bool, true, false, List, [], ◌∷◌, map, count_by, Option, Some, None, IsSome, inl, inr, refl, sym, ap, ◌∙◌, if◌then◌else◌, list_any, IsDistinct, AllByRecursion, lookup, set_value, option_map_or, cases_Bool, or_from, or_parts, count_by_yes}
 use Rattle.gpu_descriptor.proofs.Common.{count_by_no, BucketKey, DescriptorPool, DescriptorBucket, Key, key_eq, Entry, Bucket, no_pools, HasDistinctKeys, key_of, Allocations, named, named_row, books_in, kept_of, row_of, entry_of, bucket_of, stored_keys}
+use Rattle.std.proofs.lemmas.Option.{none-some}
+use Rattle.std.proofs.lemmas.Bool.{false≢true}
 use Rattle.std.specs.Map.{keys_of as map_keys}
 use Rattle.gpu_descriptor.specs.Caller.States.{keys_of}
 use Rattle.gpu_descriptor.proofs.table.Exact.{key_exact}
@@ -50,7 +52,7 @@ module _ {P : Type 0} (name : P → ℕ) where
       → (es : List (BucketKey × DescriptorBucket P)) (w : DescriptorBucket P) → IsSome (lookup test es) → (l : Key)
       → books_in name (map row_of (set_value test es w)) l
       ≡ put_books (books_in name (map row_of es)) k (bucket_of name w) l
-  written test k same [] w some l = absurd (let bad : false ≡ true = some in cc)
+  written test k same [] w some l = absurd (false≢true some)
   written test k same (e ∷ es) w some l = elim (cases_Bool (test e.0)) [
     | inl h ↦ (
         let is : key_eq k l ≡ key_eq (key_of e.0) l = ap (λ (m : Key). key_eq m l) (key_exact.same k (key_of e.0) (sym (same e.0) ∙ h)) in
@@ -77,7 +79,7 @@ module _ {P : Type 0} (name : P → ℕ) where
 
   -- a key that is in the map is there once
   pub key_once : (test : BucketKey → Bool) (k : Key) → ((l : BucketKey) → test l ≡ key_eq k (key_of l)) → (es : List (BucketKey × DescriptorBucket P)) (v : DescriptorBucket P) → HasDistinctKeys (rows_in es) → lookup test es ≡ Some v → count_by (key_eq k) (map (λ e. key_of e.0) es) ≡ 1
-  key_once test k same [] v h found = absurd (let bad : ◌≡◌ {A = Option (DescriptorBucket P)} None (Some v) = found in cc)
+  key_once test k same [] v h found = absurd (none-some v found)
   key_once test k same (e ∷ es) v h found = elim (cases_Bool (test e.0)) [
     | inl at ↦ (
         let yes : key_eq k (key_of e.0) ≡ true = sym (same e.0) ∙ at in

@@ -1,4 +1,5 @@
 use Rattle.gpu_descriptor.proofs.Common.{map, option_map, ◌<◌, ◌≤◌, arith, rules, ap, sym, ◌∙◌, length, refl, inl, inr, true, false, ◌≡◌, cases_lt, length-map, slice_get-map, slice_get_past, slice_get_read, option_copied, Allocations, Key, BucketOf, EntryOf, key_of, kept_of}
+use Rattle.std.proofs.lemmas.Bool.{false≢true}
 use Rattle.gpu_descriptor.specs.Caller.Views.{view_in}
 use Rattle.gpu_descriptor.proofs.table.Readings.{seen_at}
 use Rattle.gpu_descriptor.proofs.allocator.DescriptorAllocator.pool.Goals as goal
@@ -15,7 +16,7 @@ returns-in_err-pool g c =
     let q = c.in_ok-bucket.bucket.now.pools in
     let long = q.ok.0 in
     let short : length q.items ≤ c.args.index = elim (cases_lt c.args.index q.len) [
-      | inl lt ↦ absurd (let bad : false ≡ true = c.in_err-pool.ensures.variant.1 lt in cc)
+      | inl lt ↦ absurd (false≢true (c.in_err-pool.ensures.variant.1 lt))
       | inr le ↦ omega arith
     ] in
     let here = seen_at _ k (λ l. search rules) c.args.self.now c.self.inside.table.buckets.entries (ap (λ (a : Allocations _). a.table) c.self.view_is) (sym c.get.ensures.value ∙ ap option_copied c.in_ok-bucket.was) in
