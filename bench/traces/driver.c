@@ -8,6 +8,7 @@
 
 static VkDevice device;
 static bool is_timed;
+// How many calls were timed, and their time; and what a look at the clock takes, which is taken off.
 static uint64_t calls, spent, of_the_clock;
 
 static uint64_t now(void) {
@@ -21,6 +22,7 @@ static void end(const uint64_t *start) {
     calls++;
 }
 
+// A function that times the driver's of this name: `end` is called as it returns.
 #define TIMED(RESULT, NAME, DECLARED, ARGUMENTS)                                                         \
     static PFN_vk##NAME plain_##NAME;                                                                    \
     static RESULT timed_##NAME DECLARED {                                                                \
@@ -41,35 +43,40 @@ TIMED(VkResult, AllocateDescriptorSets,
 TIMED(VkResult, FreeDescriptorSets,
       (VkDevice of, VkDescriptorPool pool, uint32_t count, const VkDescriptorSet *sets), (of, pool, count, sets))
 
+// The functions that are timed.
 #define EACH(DO)                                                                                         \
     DO(CreateDescriptorPool)                                                                             \
     DO(DestroyDescriptorPool) DO(ResetDescriptorPool) DO(AllocateDescriptorSets) DO(FreeDescriptorSets)
 
-static void require(VkResult result, const char *what) {
+// How the program ends if a call failed. With MISSING bench/trace_table.py skips what needs a driver.
+enum { FAILED = 1, MISSING = 3 };
+
+// Ends the program so, unless a call succeeded.
+static void require(VkResult result, int otherwise, const char *why) {
     if (result == VK_SUCCESS || result == VK_INCOMPLETE)
         return;
-    fprintf(stderr, "the loader finds no %s\n", what);
-    exit(3);
+    fprintf(stderr, "%s\n", why);
+    exit(otherwise);
 }
 
 static void create_device(void) {
     VkApplicationInfo about = {.sType = VK_STRUCTURE_TYPE_APPLICATION_INFO, .apiVersion = VK_API_VERSION_1_2};
     VkInstanceCreateInfo wanted = {.sType = VK_STRUCTURE_TYPE_INSTANCE_CREATE_INFO, .pApplicationInfo = &about};
     VkInstance instance;
-    require(vkCreateInstance(&wanted, NULL, &instance), "driver");
+    require(vkCreateInstance(&wanted, NULL, &instance), MISSING, "the loader finds no driver");
     VkPhysicalDevice physical;
     uint32_t count = 1;
     VkResult found = vkEnumeratePhysicalDevices(instance, &count, &physical);
-    require(count == 0 ? VK_ERROR_UNKNOWN : found, "device");
+    require(count == 0 ? VK_ERROR_UNKNOWN : found, MISSING, "the loader finds no device");
     float priority = 1;
     VkDeviceQueueCreateInfo queue = {
         .sType = VK_STRUCTURE_TYPE_DEVICE_QUEUE_CREATE_INFO, .queueCount = 1, .pQueuePriorities = &priority};
     VkDeviceCreateInfo info = {
         .sType = VK_STRUCTURE_TYPE_DEVICE_CREATE_INFO, .queueCreateInfoCount = 1, .pQueueCreateInfos = &queue};
-    require(vkCreateDevice(physical, &info, NULL, &device), "device that the driver makes");
+    require(vkCreateDevice(physical, &info, NULL, &device), FAILED, "the driver makes no device");
 }
 
-// Makes the device. The program ends with 3 if there is no driver.
+// Makes the device. The program ends with 3 if there is no driver or no device.
 VkDevice driver_open(bool timed);
 VkDevice driver_open(bool timed) {
     create_device();
@@ -94,6 +101,7 @@ PFN_vkVoidFunction driver_function(VkDevice of, const char *name) {
     return vkGetDeviceProcAddr(of, name);
 }
 
+// A layout with one binding for each kind that it counts. Its inline uniform blocks are one.
 VkDescriptorSetLayout driver_create_layout(const uint32_t *counts, uint32_t flags);
 VkDescriptorSetLayout driver_create_layout(const uint32_t *counts, uint32_t flags) {
     VkDescriptorSetLayoutBinding bindings[GD_KINDS];
@@ -106,7 +114,7 @@ VkDescriptorSetLayout driver_create_layout(const uint32_t *counts, uint32_t flag
                 place, gdv_type(kind), counts[kind], VK_SHADER_STAGE_ALL, NULL};
         }
     VkDescriptorSetLayout layout;
-    require(vkCreateDescriptorSetLayout(device, &info, NULL, &layout), "layout that the driver makes");
+    require(vkCreateDescriptorSetLayout(device, &info, NULL, &layout), FAILED, "the driver makes no layout");
     return layout;
 }
 
@@ -115,12 +123,13 @@ void driver_reset_pool(VkDescriptorPool pool) {
     (void)(is_timed ? timed_ResetDescriptorPool : plain_ResetDescriptorPool)(device, pool, 0);
 }
 
+// The calls until now don't count.
 void driver_forget(void);
 void driver_forget(void) {
     calls = spent = 0;
 }
 
-// The calls since then, and their time without the clock's own.
+// How many calls there were since driver_forget, and their time without the clock's own.
 uint64_t driver_account(uint64_t *time);
 uint64_t driver_account(uint64_t *time) {
     *time = spent - (spent < calls * of_the_clock ? spent : calls * of_the_clock);

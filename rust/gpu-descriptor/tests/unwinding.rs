@@ -4,7 +4,7 @@
 
 mod gpu;
 
-use gpu::{Gpu, Set, layout};
+use gpu::{AS_TOLD, Gpu, Set, layout};
 use gpu_descriptor::frames::FrameManager;
 use gpu_descriptor::renderer::{LayoutHandle, Renderer, SetHandle};
 use gpu_descriptor::*;
@@ -18,9 +18,6 @@ fn panic_of(run: impl FnOnce()) -> String {
         Err(panic) => *panic.downcast::<String>().unwrap(),
     }
 }
-
-/// What the device panics with, at a call for sets and at a release.
-const AS_TOLD: &str = "as it was told";
 
 /// A renderer that is shut down at a drop, as programs do it.
 struct App<'a> {
@@ -140,6 +137,7 @@ impl Drop for Frames<'_> {
     }
 }
 
+/// A manager whose device panicked doesn't call it again either: there is the one release.
 #[test]
 fn a_manager_after_a_panic_of_its_device() {
     let gpu = Gpu::new();
@@ -179,6 +177,7 @@ fn a_set_of_another_manager_after_a_panic() {
         panic!("another");
     });
     assert_eq!(why, "another");
+    // What is left is the other manager's.
     assert_eq!((gpu.live_sets(), gpu.pools()), (1, 1));
     std::mem::forget(other);
 }

@@ -9,19 +9,26 @@ use std::collections::VecDeque;
 /// A raw set is its pool and its place there.
 pub type Set = (usize, usize);
 
+/// How many pools there may be at a time, and how many sets in one.
 const POOLS: usize = 100;
 const PLACES: usize = 512;
 
+/// What the device does at the call with the fault.
 #[derive(Clone, Copy, Debug, PartialEq, Eq)]
 pub enum Fault {
-    /// A refusal: by the number of its reason, of a new pool (3) and of sets (4).
+    /// A refusal, by the number of its reason. A new pool has three reasons, and sets have four.
     Refuses(usize),
     Panics,
 }
 
+/// How many reasons there are to refuse sets. The last two refuse a pool as fragmented.
 pub const REASONS: usize = 4;
 
+/// What the device panics with, at a call for pools and sets and at a release.
+pub const AS_TOLD: &str = "as it was told";
+
 pub struct Gpu {
+    /// Which places of each pool have a set, how many do in all, and which pools exist.
     live: RefCell<Vec<Vec<bool>>>,
     live_sets: Cell<usize>,
     exists: RefCell<Vec<bool>>,
@@ -37,7 +44,7 @@ pub struct Gpu {
     pub faulty: Cell<u64>,
     pub fault: Cell<Fault>,
 
-    /// Whether the next release panics.
+    /// Whether a release panics, and how many there were.
     pub panics_at_release: Cell<bool>,
     pub releases: Cell<u64>,
 }
@@ -96,6 +103,7 @@ impl Gpu {
         self.pools() == 0 && self.live_sets() == 0
     }
 
+    /// A frame is submitted that reads these sets.
     pub fn submit(&self, frame: u64, sets: impl Iterator<Item = Set>) {
         self.reads.borrow_mut().extend(sets.map(|set| (frame, set)));
     }
@@ -112,7 +120,7 @@ impl Gpu {
         }
         match self.fault.get() {
             Fault::Refuses(reason) => Some(reason),
-            Fault::Panics => panic!("as it was told"),
+            Fault::Panics => panic!("{AS_TOLD}"),
         }
     }
 }
@@ -175,7 +183,7 @@ impl DescriptorDevice<u32, usize, Set> for Gpu {
 
     unsafe fn dealloc_descriptor_sets(&self, pool: &mut usize, sets: impl Iterator<Item = Set>) {
         self.releases.set(self.releases.get() + 1);
-        assert!(!self.panics_at_release.get(), "as it was told");
+        assert!(!self.panics_at_release.get(), "{AS_TOLD}");
         for set in sets {
             assert_eq!(set.0, *pool, "it goes to its pool");
             assert!(self.is_live(set), "it goes back once");
