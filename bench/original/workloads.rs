@@ -56,6 +56,7 @@ fn samplers<B: Bench>(bench: &mut B, count: u32) -> B::Layout {
     bench.layout(count, 0, false)
 }
 
+/// Takes so many sets, and gives them back.
 fn round<B: Bench>(bench: &mut B, layout: &B::Layout, count: u32) -> Result<(), B::Error> {
     let sets = bench.take(layout, count)?;
     bench.give_back(sets);
@@ -93,6 +94,7 @@ fn shuffled<B: Bench>(bench: &mut B, n: u32) -> Duration {
     start.elapsed()
 }
 
+/// Rounds of one set for 64 layouts in turn.
 fn keys<B: Bench>(bench: &mut B, n: u32) -> Duration {
     let layouts: Vec<_> = (0..64)
         .map(|i| bench.layout(i + 1, 64 - i, false))
@@ -104,6 +106,7 @@ fn keys<B: Bench>(bench: &mut B, n: u32) -> Duration {
     start.elapsed()
 }
 
+/// Each request needs nine pools, and the device has memory for eight: all go back.
 fn rollback<B: Bench>(bench: &mut B, n: u32) -> Duration {
     let layout = samplers(bench, TWO_A_POOL);
     let start = Instant::now();
@@ -116,6 +119,7 @@ fn rollback<B: Bench>(bench: &mut B, n: u32) -> Duration {
     start.elapsed()
 }
 
+/// Requests beside n pools without a free place.
 fn full<B: Bench>(bench: &mut B, n: u32) -> Duration {
     let layout = samplers(bench, TWO_A_POOL);
     let filling = bench.take(&layout, n.saturating_mul(2)).unwrap();
@@ -128,6 +132,7 @@ fn full<B: Bench>(bench: &mut B, n: u32) -> Duration {
     time
 }
 
+/// All sets of n pools go back in one call.
 fn drained<B: Bench>(bench: &mut B, n: u32) -> Duration {
     let layout = samplers(bench, TWO_A_POOL);
     let filling = bench.take(&layout, n.saturating_mul(2)).unwrap();

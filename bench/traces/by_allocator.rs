@@ -1,4 +1,5 @@
 //! A trace by an allocator with the original's interface: each request is one call, as is each free.
+//! bench/original/main.rs compiles this file too, over the original.
 
 use crate::allocator::{DescriptorAllocator, DescriptorSet, DescriptorSetLayoutCreateFlags};
 use crate::gpu::Gpu;
@@ -59,6 +60,7 @@ impl<G: Gpu> Player<G> for Allocator<G> {
     }
 
     fn add_layout(&mut self, layout: usize, handle: G::Layout, of: &Descriptors) {
+        // Layouts come in the order of their numbers. A further pass begins at 0 again.
         self.layouts.truncate(layout);
         self.layouts.push(Layout {
             handle,

@@ -6,6 +6,7 @@
 #include <stdbool.h>
 #include <stdlib.h>
 
+// The next handle of a pool or a set, and a sum over what came back.
 static uint64_t next_handle = 1, sum;
 
 static gd_status create_pool(void *user, const gd_pool_info *info, uint64_t *pool) {

@@ -9,8 +9,10 @@ struct account {
     uint64_t pools, sets, descriptors;
 };
 static struct account now, most;
+// The descriptors of update-after-bind pools, how many they may have, and the last set's number.
 static uint64_t marked, limit, next_set;
 
+// A pool's handle: bit 0 says whether it is for update-after-bind, then its descriptors, then its sets.
 enum { DESCRIPTORS_SHIFT = 1, SETS_SHIFT = 41 };
 
 static void raise_to(uint64_t *value, uint64_t to) {

@@ -28,8 +28,12 @@ unsafe extern "C" {
     fn measured_create_in_c();
 }
 
+/// The device of `bench/compare --memory`. Its account is in C, so that the library for C allocates over
+/// the same one.
 pub struct Measured {
     limit: u32,
+
+    /// The number of the next set.
     sets: Cell<u64>,
 }
 

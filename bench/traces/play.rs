@@ -50,6 +50,7 @@ pub trait Player<G: Gpu> {
     }
 }
 
+/// A call of a trace, by its numbers of pools and layouts. A request is for so many sets of one layout.
 enum Call {
     Layout(usize, Descriptors),
     Unlayout(usize),

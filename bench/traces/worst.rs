@@ -17,6 +17,7 @@ const UNIFORM_BUFFER: usize = 6;
 /// A layout's flag for update-after-bind.
 const MARKED: u32 = 2;
 
+/// How many sets are out at once, images one set has, and layouts come and go.
 const SPIKE: u32 = 100_000;
 const IMAGES: u32 = 100_000;
 const LAYOUTS: u32 = 10_000;
@@ -126,6 +127,7 @@ impl<P: Trim> Case<P> {
         self.sets.extend(stays);
     }
 
+    /// One set of very many images. Without a bound its pool is for 64 of them.
     fn bindless(&mut self) {
         self.player.add_layout(0, (), &of_images(IMAGES));
         self.take(0, 1);

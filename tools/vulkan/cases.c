@@ -8,10 +8,12 @@
 #include "layer.h"
 #include <pthread.h>
 
+// Sets of a request and threads, sets of a pool, and how often each case is repeated.
 enum { FEW = 4, MANY = 40, ROUNDS = 50, THREAD_ROUNDS = 2000 };
 
 static VkSampler sampler;
 
+// A layout of one binding, which may have a variable count.
 static VkDescriptorSetLayout make_layout(uint32_t binding, VkDescriptorType type, uint32_t count, bool is_variable) {
     VkDescriptorBindingFlags variable = VK_DESCRIPTOR_BINDING_VARIABLE_DESCRIPTOR_COUNT_BIT;
     VkDescriptorSetLayoutBindingFlagsCreateInfo flags = {
@@ -52,6 +54,7 @@ static VkDescriptorPool make_pool(uint32_t max_sets) {
     return made;
 }
 
+// A set of each of these layouts. If one has a variable count, its set gets one descriptor.
 static void request(VkDescriptorPool pool, uint32_t count, const VkDescriptorSetLayout *of, VkDescriptorSet *sets) {
     uint32_t counts[MANY];
     for (uint32_t place = 0; place < count; place++)
@@ -85,6 +88,7 @@ static void write(VkDescriptorSet set, uint32_t binding) {
     vkUpdateDescriptorSets(layer.device, 1, &one, 0, NULL);
 }
 
+// Two calls free the sets of a request, in another order than they came, and a handle that is none.
 static void one_by_one(VkDescriptorSetLayout first, VkDescriptorSetLayout second, VkDescriptorSetLayout block) {
     VkDescriptorPool pool = make_pool(MANY);
     VkDescriptorSetLayout mixed[FEW] = {first, block, second, first};
@@ -134,6 +138,7 @@ static void short_lived(void) {
     vkDestroyDescriptorPool(layer.device, pool, NULL);
 }
 
+// A thread: it allocates from its pool, and frees its sets or resets it.
 static void *use_a_pool(void *of) {
     VkDescriptorPool pool = make_pool(MANY);
     VkDescriptorSetLayout *layout = of;

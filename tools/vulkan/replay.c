@@ -19,6 +19,7 @@
 
 enum { MAX_BLOCKS = 50, MAX_BINDINGS = KINDS + MAX_BLOCKS, MISSING = 3 };
 
+// The types of Vulkan, in the order of a trace's kinds.
 static const VkDescriptorType TYPES[BLOCKS] = {
     VK_DESCRIPTOR_TYPE_SAMPLER, VK_DESCRIPTOR_TYPE_COMBINED_IMAGE_SAMPLER,
     VK_DESCRIPTOR_TYPE_SAMPLED_IMAGE, VK_DESCRIPTOR_TYPE_STORAGE_IMAGE,
@@ -43,6 +44,7 @@ struct trace {
     size_t count;
 };
 
+// A layout that was made, for all calls with its counts and mark.
 struct layout {
     uint32_t counts[KINDS];
     bool mark;
@@ -74,6 +76,7 @@ static void *room(size_t bytes) {
     return it;
 }
 
+// Counts a message of the layer, and shows the first two of a trace.
 static VKAPI_ATTR VkBool32 VKAPI_CALL hear(VkDebugUtilsMessageSeverityFlagBitsEXT severity,
                                            VkDebugUtilsMessageTypeFlagsEXT type,
                                            const VkDebugUtilsMessengerCallbackDataEXT *said,
@@ -118,6 +121,7 @@ static struct call as_it_is_made(struct call call) {
     return call;
 }
 
+// Whether the driver takes a binding of this kind that is updated after it is bound.
 static bool may_update(int kind) {
     const VkPhysicalDeviceVulkan12Features *it = &offered;
     VkBool32 images = it->descriptorBindingSampledImageUpdateAfterBind;
@@ -236,6 +240,7 @@ static struct pool *pool_named(uint64_t name) {
     return it;
 }
 
+// A layout with a binding for each kind, and one for each inline uniform block: all but the last have 4 bytes.
 static VkDescriptorSetLayout make_layout(const struct call *call) {
     VkDescriptorSetLayoutBinding bindings[MAX_BINDINGS] = {0};
     VkDescriptorBindingFlags flags[MAX_BINDINGS] = {0};
@@ -313,6 +318,7 @@ static VkResult create(const struct call *call) {
     return vkCreateDescriptorPool(device, &wanted, NULL, &pool->handle);
 }
 
+// Allocates sets, which come after those that the pool has out.
 static VkResult alloc(const struct call *call) {
     struct pool *pool = pool_named(call->pool);
     VkDescriptorSetLayout *wanted_layouts = room(call->sets * sizeof *wanted_layouts);
@@ -355,6 +361,7 @@ static VkResult destroy(const struct call *call) {
     return VK_SUCCESS;
 }
 
+// Destroys what a replay made.
 static void clear(void) {
     while (pools)
         destroy(&(struct call){.verb = DESTROY, .pool = pools->name});

@@ -18,6 +18,7 @@ struct made {
     bool lives;
 };
 
+// Whether a text is next. Then it is read.
 static bool starts(const char **at, const char *text) {
     size_t length = strlen(text);
     if (strncmp(*at, text, length))
@@ -46,6 +47,7 @@ static bool number_of_32_bits(const char **at, uint32_t *value) {
     return true;
 }
 
+// Reads counts, whose kinds come in the order of NAMES. What is wrong with them; NULL if they are fine.
 static const char *parse_counts(const char **at, uint32_t counts[KINDS]) {
     int kind = 0;
     do {

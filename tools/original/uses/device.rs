@@ -4,6 +4,7 @@ use std::collections::{HashMap, VecDeque};
 use std::ops::Range;
 use std::panic::resume_unwind;
 
+/// How a call ends: granted, or refused for memory of the device or the host, as fragmented, or as full.
 #[derive(Clone, Copy, Debug, PartialEq, Eq, PartialOrd, Ord)]
 pub enum Outcome {
     Granted,
@@ -106,6 +107,8 @@ struct Pool {
     is_marked: bool,
     places: usize,
     live: usize,
+
+    /// Whether it was ever asked for sets. Until then it is new.
     was_asked: bool,
 }
 
@@ -116,16 +119,18 @@ pub struct Device {
     /// The outcomes to come. After them all is granted.
     pub script: VecDeque<Outcome>,
 
-    /// Refuses by chance, one call in so many, where it is not 0: at a pool that was asked before for
-    /// each reason, else for want of memory.
+    /// Refuses by chance, one call in so many, where it is not 0, for each reason of `Call::refusals`.
     pub odds: u64,
 
+    /// The state of the random numbers.
     chance: u64,
 
     /// The limit that the original is held to: where it is about to pass it the run ends.
     limit: Option<u32>,
 
     pools: HashMap<u64, Pool>,
+
+    /// How many pools were created, which is the next one's number.
     created: u64,
 
     /// The pool of each set, until it goes back.
@@ -192,6 +197,7 @@ impl Device {
     }
 
     pub fn create(&mut self, counts: [u32; 14], places: u32, flags: u32) -> Result<u64, Outcome> {
+        // FREE_DESCRIPTOR_SET is 1, and UPDATE_AFTER_BIND, for marked sets, is 2.
         let is_marked = flags == 3;
         assert!(is_marked || flags == 1, "flags {flags}");
         if is_marked && self.passes_limit(&counts) {

@@ -21,6 +21,7 @@ mod there {
 mod here {
     use gpu_descriptor as under_test;
 
+    /// The crate runs to the end.
     const DEPARTS: bool = false;
 
     include!("over.rs");
@@ -86,6 +87,7 @@ fn compare_programs(seeds: Range<u64>) -> Counts {
     })
 }
 
+/// An argument of the program, or else this number.
 fn number(place: usize, otherwise: u64) -> u64 {
     let word = std::env::args().nth(place);
     word.map_or(otherwise, |word| word.parse().expect("a number"))

@@ -11,6 +11,7 @@ pub struct Over {
     device: RefCell<Device>,
 }
 
+/// A set of the device. `free` sees by it whether one list has marked and plain sets.
 #[derive(Debug)]
 pub struct RawSet {
     number: u64,

@@ -6,12 +6,14 @@ use crate::subject::Subject;
 /// Limits on marked descriptors: most programs have the greatest.
 const LIMITS: [u32; 6] = [u32::MAX, u32::MAX, u32::MAX, 100_000, 3000, 128];
 
-/// How many descriptors of a kind sets have. Of the greatest few go to a pool.
+/// How many descriptors of a kind a set has. With the last three a pool is for 100, 3 and 1 sets at most.
 const COUNTS: [u32; 8] = [0, 1, 2, 6, 100, u32::MAX / 100, u32::MAX / 3, u32::MAX];
 
-/// So many of them are few: of these marked layouts are made, which the limit counts.
+/// The first so many of them are small. Marked layouts have these alone, since the limit counts their
+/// descriptors, and so has the second kind of any layout.
 const FEW: usize = 5;
 
+/// What a script has: three calls in eight are granted.
 const OUTCOMES: [Outcome; 8] = [
     Outcome::Granted,
     Outcome::Granted,
@@ -40,6 +42,7 @@ impl Random {
     }
 }
 
+/// A random program as it runs over one of the two allocators that are compared (subject.rs).
 struct Program<S: Subject> {
     random: Random,
     subject: S,
@@ -48,6 +51,7 @@ struct Program<S: Subject> {
     /// The held sets, by the place of their layout.
     held: Vec<Vec<S::Set>>,
 
+    /// Whether calls are refused by scripts, or else by chance.
     is_scripted: bool,
 }
 
@@ -117,6 +121,7 @@ impl<S: Subject> Program<S> {
         self.subject.free(sets);
     }
 
+    /// A stretch of the sets of one layout, which are no longer held.
     fn some_sets(&mut self) -> Vec<S::Set> {
         let place = self.random.below(self.layouts.len());
         let held = &mut self.held[place];
@@ -137,7 +142,7 @@ impl<S: Subject> Program<S> {
         self.subject.device().script = script;
     }
 
-    /// Frees all, and checks that no pool is left.
+    /// Frees all, cleans up, and returns the transcript.
     fn finish(mut self) -> Vec<Event> {
         self.subject.device().script.clear();
         self.subject.device().odds = 0;
