@@ -150,6 +150,7 @@ const std::pair<const char *, PFN_vkVoidFunction> entries[] = {
     TRACED(vkQueuePresentKHR, "present\n"),
 };
 
+/* The layer's function of this name, if the next layer has one or `always`; else the next layer's. */
 PFN_vkVoidFunction function_of(const char *name, PFN_vkVoidFunction next, bool always) {
     for (const auto &[ours, function] : entries)
         if (std::strcmp(ours, name) == 0 && (always || next != nullptr))

@@ -24,6 +24,7 @@ gd_status from_library(device &it, const VkDescriptorSetAllocateInfo &info, gd_s
     return GD_OK;
 }
 
+/* Sets of the library or, if it doesn't serve the request, of the program's own pool. */
 VkResult serve(device &it, const VkDescriptorSetAllocateInfo &info, std::vector<gd_set> &taken,
                VkDescriptorSet *sets) {
     const bool asks = it.allocator.slot != nullptr;
@@ -41,6 +42,7 @@ VkResult serve(device &it, const VkDescriptorSetAllocateInfo &info, std::vector<
     return result;
 }
 
+/* A request in the trace, with the number of its first set or the error. */
 void trace_request(device &it, const VkDescriptorSetAllocateInfo &info, VkResult result) {
     if (!it.trace.is_open())
         return;
@@ -61,6 +63,7 @@ void give_back(device &it, std::vector<gd_set> sets) {
     it.faults += !sets.empty() && gd_free(it.allocator, sets.data(), uint32_t(sets.size())) != GD_OK;
 }
 
+/* All sets of a pool go back, as it is reset or destroyed. */
 void empty(device &it, pool &emptied) {
     std::vector<gd_set> sets;
     for (const auto &entry : emptied.sets)

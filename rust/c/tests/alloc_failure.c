@@ -65,6 +65,7 @@ static uint32_t keep;
         CHECK(memory_requests == requests_before);                                                 \
     } while (0)
 
+// Calls of all kinds: those that may allocate are made again if they fail, and the others allocate nothing.
 static void run(void) {
     static gd_set sets[LAYOUTS][MOST], more[MOST];
     gd_layout layouts[LAYOUTS];
@@ -109,6 +110,7 @@ static void run(void) {
     CHECK(pools == 0 && memory_blocks == 1); // the slot
 }
 
+// Runs all with each allocation refused in turn, until there is none left. How many there were.
 static uint64_t refuse_each(void) {
     uint64_t requests_before, refusals, turns = 0;
     do {

@@ -36,6 +36,7 @@ static uint64_t bytes(void) {
     return info.uordblks + info.hblkhd;
 }
 
+// Prints what so many sets take, allocated one by one or by one request.
 static void measure(uint32_t count, bool is_one_request) {
     gd_device device = {NULL, create_pool, destroy_pool, allocate_sets, free_sets};
     gd_allocator allocator;

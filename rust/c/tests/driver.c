@@ -1,3 +1,4 @@
+// The driver in memory of driver.h.
 #include "driver.h"
 #include "host.h"
 #include "memory.h"
@@ -29,6 +30,7 @@ struct driver driver;
 struct driver_calls driver_calls;
 void (*driver_inside)(void);
 
+// A pool: the descriptors that it was created with and those in use, and its sets.
 struct pool {
     uint32_t counts[GD_KINDS], used[GD_KINDS];
     uint32_t capacity, sets, flags;
@@ -102,6 +104,7 @@ static uint32_t refusal(void) {
     return REASONS[random_below(4)];
 }
 
+// Notes how a call ended.
 static uint32_t note(uint32_t result) {
     CHECK(driver_calls.result_count < 20000);
     driver_calls.results[driver_calls.result_count++] = result;
@@ -124,6 +127,7 @@ static uint64_t greater(uint64_t one, uint64_t other) {
     return one > other ? one : other;
 }
 
+// The numbers with a new pool, and below without one that is destroyed.
 static void count_pool(const struct pool *pool) {
     gd_statistics *it = &driver.numbers;
     it->pools++;
@@ -143,6 +147,7 @@ static void discount_pool(const struct pool *pool) {
     it->update_after_bind_capacity -= load_of(pool);
 }
 
+// What the library asks of the driver, checked and done, here and in the next three.
 static uint32_t create(const gd_pool_info *info, uint64_t *handle) {
     CHECK(info->max_sets >= 1);
     CHECK((info->flags | GD_UPDATE_AFTER_BIND) == (GD_FREE_DESCRIPTOR_SET | GD_UPDATE_AFTER_BIND));
@@ -229,6 +234,7 @@ static void destroy_pool(uint64_t handle) {
 
 // ---- the four functions: the driver's memory is not the library's ----
 
+// A call of the library begins. The test may call the library back from here.
 static void enter(void *user) {
     CHECK(user == &driver);
     memory_pause();

@@ -26,6 +26,7 @@ static uint64_t pool_sets[MOST_POOLS]; // how many are alive, plus 1; 0 if the p
 static uint16_t pool_of[MOST_HANDLES]; // 0 if the set is freed
 static uint32_t pool_count, set_count;
 
+// An allocator, and what it has to have.
 struct side {
     gd_allocator allocator;
     gd_layout layouts[LAYOUTS];
@@ -35,9 +36,11 @@ struct side {
 };
 
 static struct side sides[ALLOCATORS];
+// The held sets, with the allocator of each, and the one that was freed last.
 static gd_set held[MOST_SETS], last;
 static uint32_t held_side[MOST_SETS], held_count;
 
+// What the driver returns: a byte below 230 grants, one from 250 on may be an unknown status.
 static gd_status next_status(void) {
     static const gd_status STATUSES[] = {GD_OUT_OF_DEVICE_MEMORY, GD_OUT_OF_HOST_MEMORY,
                                          GD_FRAGMENTATION, GD_OUT_OF_POOL_MEMORY, 77};
@@ -235,6 +238,7 @@ static void clean_up(struct side *side) {
     CHECK(gd_cleanup(side->allocator) == GD_OK && side->sets == side->out);
 }
 
+// One call, by a byte: its highest bit is the allocator. Then the counts are compared.
 static void act(void) {
     uint8_t byte = next_byte();
     struct side *side = &sides[byte >> 7];

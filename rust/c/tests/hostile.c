@@ -8,6 +8,7 @@
 #include "host.h"
 #include <string.h>
 
+// Sets that are remembered, and sets of a request and of a free.
 enum { KNOWN = 4096, MOST = 300, ALLOCATORS = 2, LAYOUTS = 4 };
 
 struct side {
@@ -26,6 +27,7 @@ static uint64_t any_handle(void) {
     return one_in(4) ? 0 : one_in(2) ? random_below(50) : (uint64_t)random_below(UINT32_MAX) << 20;
 }
 
+// Mostly success, sometimes a refusal, and sometimes any number.
 static gd_status any_status(void) {
     return one_in(8) ? random_below(40) : one_in(8) ? GD_OUT_OF_DEVICE_MEMORY + random_below(4) : 0;
 }
@@ -60,6 +62,7 @@ static void free_sets(void *user, uint64_t pool, uint32_t count, const uint64_t 
     side->alive -= count;
 }
 
+// Counts a status, which is one that the header names, and not that of a busy or a missing allocator.
 static gd_status note(gd_status status) {
     CHECK(status < GD_INTERNAL_ERROR && (status == GD_OK || status >= GD_OUT_OF_DEVICE_MEMORY));
     CHECK(status != GD_BUSY && status != GD_BAD_ALLOCATOR);
@@ -67,6 +70,7 @@ static gd_status note(gd_status status) {
     return status;
 }
 
+// A set that there once was, now and then with a part of another one or of none.
 static gd_set any_set(void) {
     gd_set set = known[random_below(KNOWN)];
     if (one_in(20))
@@ -78,6 +82,7 @@ static gd_set any_set(void) {
     return set;
 }
 
+// A call: a request, sets that are freed or wait, a frame that is done, or a cleanup.
 static void act(struct side *side) {
     gd_set sets[MOST];
     uint64_t out = 0, waiting = 0, frame = operation / 50, before = side->alive;

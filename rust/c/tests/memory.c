@@ -1,3 +1,4 @@
+// The library's memory (memory.h). The linker leads calls of malloc to __wrap_malloc, and so on.
 #include "memory.h"
 #include "host.h"
 

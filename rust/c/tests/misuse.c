@@ -4,25 +4,29 @@
 #include "host.h"
 #include <string.h>
 
+// Sets of a test at most.
 enum { MOST = 4096 };
 
 // A device that counts, with a list of results for the calls that may fail.
 struct world {
+    // What is there, the last handle, and how many calls there were, in all and to free sets.
     uint64_t pools, sets, next, calls, releases;
     uint32_t max_sets; // of the last pool
     uint32_t results[64];
-    uint32_t result_count, used;
+    uint32_t result_count, used; // after the last one all is granted
     gd_allocator back; // called back from each call, if it isn't zeroed
     gd_set any;
     gd_layout layout;
     uint64_t called_back;
 };
 
+// How many sets of a layout are kept: none or all, by the round of `main`.
 static uint32_t keep;
 
 // How many sets there are, if none is kept and if all are.
 #define EITHER(none, all) (keep == 0 ? (none) : (all))
 
+// By this value one sees that a call wrote nothing.
 static const uint64_t UNTOUCHED = 0x756e746f75636864;
 
 // Each function that takes an allocator returns this status, and writes nothing, but that a failed
@@ -57,6 +61,7 @@ static void expect_of_each(gd_status wanted, gd_allocator it, gd_layout known, g
     CHECK(gd_add_layout(it, 1, NULL, 99, NULL) != GD_OK && gd_outstanding(it, NULL) != GD_OK);
 }
 
+// A call of the device. If the world says so, it calls the allocator, which is busy.
 static void call_back(struct world *world) {
     world->calls++;
     if (world->back.id == 0)
@@ -123,6 +128,7 @@ static void create(const gd_device *device, uint32_t limit, gd_allocator *alloca
     CHECK(gd_keep(*allocator, keep) == GD_OK);
 }
 
+// The device and the allocator have so many sets, of which none is kept, and pools.
 static void expect(struct world *world, gd_allocator allocator, uint64_t sets, uint64_t pools) {
     uint64_t said = UNTOUCHED;
     CHECK(world->sets == sets && world->pools == pools);
@@ -130,6 +136,7 @@ static void expect(struct world *world, gd_allocator allocator, uint64_t sets, u
     CHECK(gd_pool_count(allocator, &said) == GD_OK && said == pools);
 }
 
+// Pointers that are missing, unknown flags, and allocators that aren't there.
 static void pass_null(void) {
     struct world world = {0};
     gd_device device = device_of(&world);
@@ -177,6 +184,7 @@ static void pass_null(void) {
     none.id = allocator.id;
     expect_of_each(GD_BAD_ALLOCATOR, none, layout, set);
     none = allocator;
+    // An id with any bit changed is none.
     for (uint32_t bit = 0; bit < 64; bit++) {
         none.id = allocator.id ^ UINT64_C(1) << bit;
         expect_of_each(GD_BAD_ALLOCATOR, none, layout, set);
@@ -227,6 +235,7 @@ static void use_destroyed(void) {
     CHECK(gd_destroy(second) == GD_OK && world.pools == 0);
 }
 
+// Layouts and sets of another allocator, changed in any bit, given twice, freed before, or waiting.
 static void pass_wrong_sets(void) {
     struct world world = {0};
     gd_device device = device_of(&world);
@@ -282,6 +291,7 @@ static void pass_wrong_sets(void) {
         }
     }
     CHECK(world.calls == calls && world.sets == 16);
+    // Of the eight here three are freed, then two wait. The other allocator has eight as well.
     CHECK(gd_free(one, sets, 3) == GD_OK);
     CHECK(gd_free(one, sets, 1) == GD_BAD_SET && gd_free(one, sets, 8) == GD_BAD_SET);
     CHECK(gd_free_after(one, &sets[3], 2, 7) == GD_OK && world.sets == EITHER(13, 16));
@@ -379,6 +389,7 @@ static void return_unknown_statuses(void) {
             world.used = 0;
             memset(sets, 1, sizeof sets);
             CHECK(gd_allocate(allocator, layout, 200, sets) == GD_BAD_RESULT);
+            // The request ends at that call, and gives back what it had.
             CHECK(world.used == at + 1 && world.sets == 0);
             for (uint32_t place = 0; place < 200; place++)
                 CHECK(sets[place].handle == 0 && sets[place].owner == 0);

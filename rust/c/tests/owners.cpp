@@ -15,6 +15,7 @@ namespace {
     std::exit(1);
 }
 
+// The device: what it has, and what its next calls do.
 struct world {
     uint64_t handles = 0, pools = 0, sets = 0, calls_of_free = 0;
     bool is_full = false, gives_zero = false;
@@ -87,6 +88,7 @@ struct room {
     }
 };
 
+// A set is freed at its end, or waits for the last frame that uses it.
 void end_sets() {
     room it;
     { gd::set made = it.one(); }
@@ -111,6 +113,7 @@ void end_sets() {
     CHECK(made.reset() == GD_OK && it.waiting() == 1);
 }
 
+// A moved owner is empty, and the set that is moved over is freed.
 void move_sets() {
     room it;
     gd::set first = it.one(), second = it.one();
@@ -136,6 +139,7 @@ void fail_sets() {
     gd::set old = it.one(), inside = it.one();
     const uint64_t handle = old.handle();
     it.device.is_full = true;
+    // With the two above the pool of 64 sets is full.
     for (int count = 0; count < 62; count++) {
         it.device.is_full = false;
         (void)it.one().release();
@@ -191,6 +195,7 @@ void own_batches() {
     CHECK(many.free_after(8) == GD_BAD_SET && many.size() == 4);
 }
 
+// The sets of a frame wait for it once it ends, begins anew, or is assigned over.
 void draw_frames() {
     room it;
     gd_set drawn[40];

@@ -19,6 +19,7 @@
 #include "names.h"
 #include <string.h>
 
+// Sets of a request, sets of a free or waiting, and held sets beyond which most are freed.
 enum { MOST_SETS = 1600, MOST_FREED = 400, MOST_HELD = 20000 };
 
 static const uint64_t UNTOUCHED = 0x756e746f75636864;
@@ -31,6 +32,7 @@ struct given {
     bool is_held, waits;
 };
 
+// A set that waits for the end of a frame. They are in the order of frames.
 struct waiting {
     uint64_t frame;
     size_t ticket;
@@ -46,6 +48,7 @@ static size_t given_count, held_count, given_room, held_room;
 static struct waiting waiting[MOST_FREED];
 static size_t waiting_count;
 static uint64_t frame = 5;
+// The names that are held, by which a name that comes twice shows.
 static struct names names;
 static bool *in_use; // which sets of the driver are held or wait
 static size_t in_use_count, in_use_room;
@@ -69,6 +72,7 @@ static void call_back(void) {
     CHECK(gd_outstanding(allocator, &number) == GD_BUSY && number == UNTOUCHED);
 }
 
+// A result of the driver as a word of a script.
 static const char *word_of(uint32_t why) {
     switch (why) {
     case GD_OK:
@@ -86,6 +90,7 @@ static const char *word_of(uint32_t why) {
 
 // ---- requests ----
 
+// Writes the tickets of a request, and the pool of each stretch of its sets.
 static void write_sets(uint32_t count) {
     fprintf(expected, "sets %zu-%zu:", given_count, given_count + count - 1);
     for (uint32_t from = 0, to = 0; from < count; from = to) {
@@ -106,6 +111,7 @@ static void use(uint64_t set, uint32_t layout) {
     in_use[number] = true;
 }
 
+// A set of the driver is in use no longer.
 static void unuse(size_t ticket) {
     in_use[driver_set_number(given[ticket].set.handle)] = false;
 }
@@ -338,6 +344,7 @@ static void free_later(void) {
     CHECK(LIBRARY(gd_free_after(allocator, sets, 1, when)) == GD_BAD_SET);
 }
 
+// Frames are done up to this one: what waits for them is freed, in the order of frames.
 static void end_frame(uint64_t done) {
     size_t tickets[MOST_FREED], count = 0;
     uint64_t requests_before = memory_requests;
@@ -445,6 +452,7 @@ static void destroy_too_early(void) {
 
 // ---- the run ----
 
+// Adds a layout, again until there is memory. Added a second time it has the same index.
 static void make_layout_known(uint32_t layout) {
     const struct driver_layout *it = &driver_layouts[layout];
     uint32_t flags = it->is_marked ? GD_UPDATE_AFTER_BIND : 0;
@@ -503,6 +511,7 @@ static void act(void) {
     CHECK(is_number_of_sets(held_count + waiting_count));
 }
 
+// Frees all, looks once more, and destroys the allocator: no memory is left but that of its slot.
 static void close_all(void) {
     gd_allocator old = allocator;
     if (driver.invalid_one_in > 0) { // the line program has no such command

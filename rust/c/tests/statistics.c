@@ -52,6 +52,7 @@ static void expect_numbers_of(gd_allocator allocator, gd_layout layout, gd_layou
     CHECK(gd_kept(allocator, layout, &kept) == GD_OK && kept == wanted.kept);
 }
 
+// The JSON is this, and is cut to the length of any smaller buffer.
 static void expect_text(gd_allocator allocator, const char *wanted) {
     char text[2048];
     size_t length = 0, whole = strlen(wanted);
@@ -148,6 +149,7 @@ static void count_and_write(void) {
     wanted.update_after_bind_capacity = 2 * 4294967;
     expect_numbers(allocator, wanted);
     expect_three(allocator);
+    // Kept sets, pools, and their sets in use and free. Nine were allocated of 64: kept ones are in use.
     expect_numbers_of(allocator, first, (gd_layout_statistics){3, 1, 9, 55});
     expect_numbers_of(allocator, second, (gd_layout_statistics){1, 1, 2, 0});
     expect_numbers_of(allocator, third, (gd_layout_statistics){0, 0, 0, 0});

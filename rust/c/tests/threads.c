@@ -12,10 +12,12 @@
 #include <string.h>
 #include <time.h>
 
+// Threads at once, turns of each, sets of a request, and allocators that come and go.
 enum { THREADS = 4, SETS = 3000, LOT = 5, ALLOCATORS = 500 };
 
 // Not atomic: the allocator lets one call in at a time, and orders them.
 static uint64_t pools, sets_alive, next_handle;
+// How many threads are in the device, how calls ended, and the two halves of the last allocator.
 static atomic_uint inside;
 static atomic_ullong busy, succeeded, gone;
 static _Atomic uint64_t current_slot, current_id;
@@ -66,6 +68,7 @@ static gd_allocator allocator;
 static gd_layout layout;
 static gd_device device = {NULL, create_pool, destroy_pool, allocate_sets, free_sets};
 
+// Whether a call waits for its turn, and the flags of the allocators: by the round of `main`.
 static bool waits;
 static uint32_t flags;
 
@@ -77,6 +80,7 @@ static gd_status counted_call(gd_status status) {
     return status;
 }
 
+// Allocates and frees, at once or by frames.
 static void *use(void *way) {
     for (uint32_t done = 0; done < SETS; done++) {
         gd_set sets[LOT];
@@ -122,6 +126,7 @@ static void *use_late(void *unused) {
     return NULL;
 }
 
+// Allocators come and go while other threads use them.
 static void make_and_destroy(void) {
     uint32_t counts[GD_KINDS] = {1};
     for (uint32_t done = 0; done < ALLOCATORS; done++) {

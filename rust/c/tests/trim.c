@@ -55,6 +55,7 @@ static void try_spike(gd_status (*leave)(gd_allocator), uint32_t keep) {
     for (size_t at = 0; at < SPIKE; at++)
         CHECK(gd_allocate(allocator, layout, 1, sets + at) == GD_OK);
     uint64_t most = pools;
+    // Pools of 64, 64, 128 and 256 sets, and then of 512 each.
     CHECK(most > 190);
     free_the_spike(allocator);
     CHECK(leave(allocator) == GD_OK && pools == 3);

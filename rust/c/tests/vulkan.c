@@ -1,12 +1,13 @@
 // Random requests on a Vulkan driver through gpu_descriptor_vulkan.h, under the validation layer,
 // which must say nothing.
 //
-// Sets are freed at once, or when a frame is done. One of the header's calls in twelve returns an error
-// and doesn't reach the driver, since a driver in software never fails. The header's and the library's memory is refused as well, once in
-// fifty, and once in four while an allocator is opened, which a new one is every few hundred
-// operations. A free asks for no memory. On a device of 1.3 there are marked layouts and inline
-// uniform blocks; on one of 1.0 there are none, and there the layer reports a pool that is asked for
-// more than it has left. KEEP is how many sets are kept, at first all.
+// Sets are freed at once, or when a frame is done. One of the header's calls in twelve returns an
+// error and doesn't reach the driver, since a driver in software never fails. The header's and the
+// library's memory is refused as well, once in fifty, and once in four while an allocator is opened,
+// which a new one is every few hundred operations. A free asks for no memory. On a device of 1.3 there
+// are marked layouts and inline uniform blocks; on one of 1.0 there are none, and there the layer
+// reports a pool that is asked for more than it has left. KEEP is how many sets are kept, at first
+// all.
 //
 // The exit code is 3 if there is no layer or no driver.
 //
@@ -19,6 +20,8 @@
 
 #include "gpu_descriptor_vulkan.h"
 
+// Bindings of a layout, sets of a request and of a free, operations of a round, and sets of the one large
+// request in it.
 enum { MOST_BINDINGS = 5, MOST_SETS = 200, MOST_FREED = 300, ROUND = 300, MANY = 1500 };
 
 // How rarely the driver and the memory refuse.
@@ -87,6 +90,7 @@ static size_t held_count, held_room;
 static struct names names;
 static gd_set freed; // any set that was freed
 static VkSampler sampler;
+// What the driver has, pools, sets and blocks of their memory, and how many calls there were.
 static uint64_t live_pools, live_sets, live_blocks, pools_created, calls_refused, asked_count;
 static uint64_t statuses[GD_INTERNAL_ERROR + 1];
 static uint64_t frame = 10, waiting;
@@ -369,6 +373,7 @@ static void free_some(void) {
         freed = sets[0];
 }
 
+// Layouts and a set that aren't there, and an allocator with sets that is to be destroyed.
 static void make_mistakes(void) {
     gd_set set;
     gd_layout none = {layout_count, allocator.id}, foreign = {0, allocator.id + 1};
@@ -380,6 +385,7 @@ static void make_mistakes(void) {
         CHECK(LIBRARY(gd_destroy(allocator)) == GD_OUTSTANDING);
 }
 
+// The frame is done, and all that waited is freed.
 static void end_frame(void) {
     uint64_t requests_before = memory_requests, left = 0;
     CHECK(LIBRARY(gd_frame_done(allocator, frame++)) == GD_OK);

@@ -29,6 +29,7 @@ namespace {
     std::exit(1);
 }
 
+// What there is, with pools that were created with callbacks as blocks, and the function that `load` lacks.
 uint64_t next_handle, pools, sets_alive, blocks;
 const char *missing = "";
 
@@ -107,6 +108,7 @@ void move_a_renderer() {
     CHECK(pools == 0 && blocks == 0 && sets_alive == 0);
 }
 
+// A function that is missing is a status, and there is no allocator.
 void take_functions() {
     gdv_device vulkan{};
     gd_allocator allocator{};

@@ -69,6 +69,7 @@ fn layout(images: u32, is_marked: bool) -> SetLayout<()> {
     }
 }
 
+/// The bound with which a renderer begins.
 const MOST: Option<u64> = Some(65_536);
 
 /// The pools of these requests to an allocator. With a limit the layout is update-after-bind.
@@ -92,6 +93,7 @@ fn an_allocator_begins_without() {
     assert_eq!(it.most_pool_descriptors(), None);
 }
 
+/// A pool is for as many sets as the bound leaves, but at least for those that are needed.
 #[test]
 fn of_100_000_images() {
     assert_eq!(pools(None, 0, 100_000, &[1]), [64]);

@@ -35,6 +35,8 @@ enum Answer {
 struct Scripted {
     script: RefCell<VecDeque<Answer>>,
     calls: RefCell<Vec<Call>>,
+
+    /// How many pools and sets were ever granted: the next names.
     pools: Cell<u64>,
     sets: Cell<u64>,
 }
@@ -219,6 +221,7 @@ impl Bench {
         self.device.calls.take()
     }
 
+    /// The names of the sets by their tickets, but of those that went back.
     fn names(&self) -> Vec<Option<u64>> {
         let name = |set: &DescriptorSet<Raw>| set.raw().0;
         self.sets.iter().map(|it| it.as_ref().map(name)).collect()
@@ -303,6 +306,7 @@ fn however(
     }
 }
 
+/// Two full pools. The newer one stays, as the last of its key, and the older one is destroyed.
 #[test]
 fn newer_pool_first_however_it_comes_back() {
     let tickets: Vec<usize> = (64..128).chain(0..64).collect();
@@ -318,6 +322,7 @@ fn newer_pool_first_however_it_comes_back() {
     however(1, &[64, 64], &tickets, &calls, (1, 0, 64));
 }
 
+/// Two pools of two sets: a list that goes from one to the other takes a call for each set.
 #[test]
 fn pools_in_turn_however_they_come_back() {
     let calls = [
@@ -381,6 +386,7 @@ fn sets_of_a_refused_request_go_back_as_they_came() {
     bench.end(&[layout]);
 }
 
+/// A pool that a run leaves empty is destroyed before the sets of the next run go back.
 #[test]
 fn front_goes_before_the_next_run() {
     let mut bench = Bench::new(0, []);
@@ -409,6 +415,8 @@ fn pools_count_as_they_were_cut() {
         is_marked: true,
     });
     let mut bench = Bench::new(300, []);
+    // Of the 300 a pool of 64 sets takes 192, one of the other key 64, and one that is cut to 14 sets 42. What
+    // is left has room for no set, so the 20 are refused.
     for (layout, count, answer, loads) in [
         (three, 64, Ok(()), (192, 192)),
         (one, 1, Ok(()), (256, 193)),
@@ -434,6 +442,7 @@ fn refuse_at(place: usize, word: Answer) -> Vec<Answer> {
     script
 }
 
+/// How a call may be refused, and what the request returns then.
 const REFUSALS: [(Answer, AllocationError); 4] = [
     (Answer::Device, OutOfDeviceMemory),
     (Answer::Host, OutOfHostMemory),
@@ -551,6 +560,7 @@ fn one_call_is_refused() {
     }
 }
 
+/// The third call asks the first pool, which has four places: all ten sets come from a new one.
 #[test]
 fn pool_that_is_passed_over_shows_no_free_place() {
     for word in [Answer::Fragmented, Answer::Full] {

@@ -105,6 +105,7 @@ fn a_new_pool_that_refuses_is_destroyed() {
 #[test]
 fn marked_and_plain_sets_go_back_in_one_call() {
     for marked_first in [false, true] {
+        // The marked sets of a round use the whole limit, so a wrong count refuses those of the next.
         let (device, mut allocator) = (Device::default(), Allocator::new(64 * 5));
         for _ in 0..3 {
             let plain = take(&mut allocator, &device, samplers(3), false, 1).unwrap();
@@ -126,6 +127,7 @@ fn marked_and_plain_sets_go_back_in_one_call() {
 #[test]
 fn pools_of_marked_sets_keep_to_the_limit() {
     let (device, mut allocator) = (Device::default(), Allocator::new(100));
+    // Their pool is for ten sets, by the whole limit: another key gets none, and six more sets fit.
     let sets = take(&mut allocator, &device, samplers(10), true, 4).unwrap();
     assert_eq!(sets.len(), 4);
     let refused = take(&mut allocator, &device, samplers(11), true, 1);

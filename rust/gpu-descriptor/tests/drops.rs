@@ -6,6 +6,7 @@ use gpu_descriptor::*;
 
 include!("numbers/device.rs");
 
+/// What a drop says of sets that are out, and of a renderer's pools that exist.
 const SETS: &str = "Descriptor sets were not deallocated";
 const POOLS: &str = "Descriptor pools were not destroyed";
 
@@ -99,6 +100,7 @@ const DROPS: [(Drops, Option<&str>); 9] = [
     ),
 ];
 
+/// Each drop is made in a process of its own, whose standard error is read.
 #[cfg(feature = "std")]
 #[test]
 fn what_a_drop_writes() {

@@ -182,6 +182,7 @@ fn a_panic_at_each_call() {
 /// A request that is refused gives its sets back. A device that panics then has kept them.
 #[test]
 fn a_panic_in_a_rollback() {
+    /// The device, and how many pools were asked for: the third is refused, and from then on a free panics.
     struct Refusing(Device, Cell<u32>);
 
     impl DescriptorDevice<String, u64, Set> for Refusing {
@@ -226,6 +227,7 @@ fn a_panic_in_a_rollback() {
     let flags = DescriptorSetLayoutCreateFlags::empty();
     let take = || unsafe { allocator.allocate(&device, &String::new(), flags, &counts, 6) };
     assert_eq!(panic_of(take), PANICKED);
+    // Two pools gave two sets each. All four are dropped, and stay with the device.
     assert_eq!((device.0.alive(), device.0.granted.borrow().len()), (0, 4));
     assert_broken(&mut allocator, &device.0, Vec::new());
 }
@@ -273,6 +275,7 @@ fn sets_that_a_device_leaves() {
     }
 }
 
+/// After the last set of a release it gets none of the next one.
 #[test]
 fn a_device_that_reads_past_the_end() {
     let (device, mut allocator) = (Device::new(), Allocator::new(0));

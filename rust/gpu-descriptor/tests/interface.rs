@@ -137,6 +137,7 @@ const fn counts(sampler: u32) -> DescriptorTotalCount {
     }
 }
 
+/// So many sets with one sampler each.
 fn take(
     allocator: &mut DescriptorAllocator<Pool, Set>,
     device: &Device,
@@ -146,6 +147,7 @@ fn take(
     unsafe { allocator.allocate(device, &layout, flags, &ONE_SAMPLER, count) }.unwrap()
 }
 
+/// Each call with its type parameters, which programs may write out.
 #[test]
 fn calls_of_an_allocator() {
     let device = Device::default();
@@ -163,6 +165,7 @@ fn calls_of_an_allocator() {
     assert_eq!(device.released.take(), [0, 1, 2]);
 }
 
+/// An option, an array, a part of a vector, a closure, and an iterator that is lent.
 #[test]
 fn sets_go_back_by_any_iterator() {
     let device = Device::default();
@@ -233,6 +236,7 @@ fn places_come_back() {
     assert_eq!(device.pools.get(), 0);
 }
 
+/// A raw set can be read, and be replaced by an unsafe call.
 #[test]
 fn raw_sets() {
     let device = Device::default();
@@ -430,6 +434,7 @@ fn flags() {
     assert_eq!(marked.bits(), 2);
 }
 
+/// A call of these compiles if the type is of the traits.
 fn is_value<T: Copy + Debug + Eq + Hash + Send + Sync + Unpin + 'static>() {}
 fn is_debug<T: Debug>() {}
 fn is_shared<T: Send + Sync + Unpin + UnwindSafe + RefUnwindSafe + 'static>() {}

@@ -24,6 +24,7 @@ const LAYOUTS: usize = 4;
 const MARKED: usize = 3;
 const DESCRIPTORS: u32 = 5;
 
+/// The samplers of a set and whether it is marked, for how many sets the pool is, and how many it has.
 #[derive(Default)]
 struct Pool {
     key: (u32, bool),
@@ -34,6 +35,7 @@ struct Pool {
 /// A device that gives no number twice, to a pool or to a set, and refuses as many calls as it is told.
 #[derive(Default)]
 struct Gpu {
+    /// The number that was given last.
     last: Cell<u64>,
     pools: RefCell<BTreeMap<u64, Pool>>,
 
@@ -48,6 +50,8 @@ struct Gpu {
     refuses: Cell<u64>,
     after: Cell<u64>,
     reason: Cell<usize>,
+
+    /// How many calls were refused so far.
     refused: Cell<u64>,
 }
 
@@ -76,6 +80,7 @@ impl Gpu {
         self.reason.set(reason);
     }
 
+    /// Counts a call. Whether it is refused.
     fn is_refused(&self) -> bool {
         self.calls.set(self.calls.get() + 1);
         if self.refuses.get() == 0 {
@@ -169,6 +174,7 @@ impl DescriptorDevice<u32, u64, u64> for Gpu {
     }
 }
 
+/// The layout with this number, of `LAYOUTS`.
 fn layout(number: usize) -> SetLayout<u32> {
     let mut flags = DescriptorSetLayoutCreateFlags::empty();
     flags.set(
@@ -186,8 +192,10 @@ fn layout(number: usize) -> SetLayout<u32> {
     }
 }
 
+/// The renderer that is tested.
 type Sets<'a> = Renderer<u32, u64, u64, &'a Gpu>;
 
+/// A renderer with all layouts, which keeps so many sets of each.
 fn renderer<'a>(gpu: &'a Gpu, keep: u32) -> (Sets<'a>, [LayoutHandle; LAYOUTS]) {
     let mut it = Renderer::new(gpu, LIMIT);
     it.set_keep(keep);
@@ -209,6 +217,7 @@ fn done(it: &mut Sets, frame: u64) {
     unsafe { it.gpu_done(frame) };
 }
 
+/// Ends a renderer: nothing is left at its device.
 fn shutdown(it: Sets) {
     // SAFETY: as above.
     let gpu = unsafe { it.shutdown() };
@@ -220,6 +229,7 @@ fn raw(it: &Sets, handle: SetHandle) -> u64 {
     *it.set(handle).expect("a set")
 }
 
+/// What `Renderer::counts` has to return.
 fn counts(held: u64, waiting: u64, kept: u64) -> Counts {
     Counts {
         held,
@@ -252,6 +262,7 @@ fn as_many_are_kept_as_are_to_be() {
             (again.count(), gpu.made.get()),
             (kept as usize, 20 - kept as usize)
         );
+        // The device isn't asked if all ten were kept.
         assert_eq!(gpu.calls.get() == calls, kept == 10);
         assert_eq!(it.counts(), counts(10, 0, 0));
 
@@ -262,6 +273,7 @@ fn as_many_are_kept_as_are_to_be() {
             let _draw = it.draw(layouts[0]).unwrap();
         }
         it.end_frame();
+        // Ten were destroyed, and ten were drawn.
         assert_eq!(it.counts(), counts(0, 20, 0));
         let kept = keep.min(20);
         done(&mut it, 1);
@@ -271,6 +283,7 @@ fn as_many_are_kept_as_are_to_be() {
     }
 }
 
+/// The kept sets of a layout are a stack.
 #[test]
 fn the_last_one_that_was_kept_comes_first() {
     let gpu = Gpu::default();
@@ -360,8 +373,9 @@ fn a_refusal_while_sets_are_kept() {
             let kept = it.create_sets(layouts[0], 5).unwrap();
             let held = it.create_set(layouts[2]).unwrap();
             free(&mut it, &kept);
+            // Five are kept and one is held, each layout in a pool of its own.
             assert_eq!((gpu.pools.borrow().len(), gpu.live()), (2, 6));
-            // The first pool of the layout.
+            // The first pool of the layout is refused: once, and the second try is granted, or twice.
             gpu.refuse(count, 0, reason);
             let answer = it.create_set(layouts[3]);
             match count {
@@ -415,6 +429,7 @@ fn a_batch_that_is_refused_while_sets_are_kept() {
 
     gpu.refuse(1, 0, 0);
     let seven = it.create_sets(layouts[0], 7).unwrap();
+    // The five went back, and all seven are new.
     assert_eq!((gpu.made.get(), gpu.live()), (5 + 7, 7));
     assert_eq!(it.counts(), counts(7, 0, 0));
     free(&mut it, &seven);
@@ -460,10 +475,12 @@ fn the_open_frame_is_not_done() {
         let draw = it.draw(layouts[0]).unwrap();
         it.destroy_set(sets[0], frame).unwrap();
         it.destroy_set(sets[1], frame - 1).unwrap();
+        // Three wait: the draw and the first set for the open frame, the second set for the one before.
         for say in [0, frame - 2] {
             done(&mut it, say);
             assert_eq!(it.counts(), counts(0, 3, 0));
         }
+        // The second set alone comes back, whatever is said.
         let kept = u64::from(keep.min(1));
         for say in [frame, u64::MAX, frame - 1] {
             done(&mut it, say);
@@ -490,6 +507,7 @@ fn a_cleanup_while_sets_are_out() {
     let _draw = it.draw(layouts[0]).unwrap();
     free(&mut it, &sets[..1]);
     it.destroy_set(sets[1], 0).unwrap();
+    // Two are held; the destroyed one and the draw wait; the freed one is kept.
     assert_eq!((it.counts(), gpu.live()), (counts(2, 2, 1), 5));
     it.cleanup();
     assert_eq!((it.counts(), gpu.live()), (counts(2, 2, 0), 4));
@@ -519,6 +537,7 @@ fn a_trim_beside_kept_sets() {
     let sets: Vec<SetHandle> = (0..2000)
         .map(|_| it.create_set(layouts[0]).unwrap())
         .collect();
+    // Seven: for 64, 64, 128, 256 and three times 512 sets.
     assert!(gpu.pools.borrow().len() > 6);
     free(&mut it, &sets[1..1999]);
     let counted = it.counts();
@@ -532,6 +551,7 @@ fn a_trim_beside_kept_sets() {
     shutdown(it);
 }
 
+/// A smaller `keep` frees at once what is too much of each layout.
 #[test]
 fn fewer_are_kept_from_now_on() {
     let gpu = Gpu::default();
@@ -542,6 +562,7 @@ fn fewer_are_kept_from_now_on() {
     }
     for keep in [9, 4, 6, 1, 0] {
         it.set_keep(keep);
+        // What is freed with 4 doesn't come back with 6.
         let kept = keep.min(4 + 5 * u32::from(keep == 9));
         assert!(layouts.iter().all(|at| it.kept_count(*at) == kept));
         assert_eq!(gpu.live(), 4 * kept as usize);
@@ -582,10 +603,12 @@ fn a_frame_loop_asks_for_nothing() {
         }
         before = now;
     }
+    // Eight materials, the draws of three frames, and three materials more: two wait as one comes.
     assert_eq!(gpu.made.get(), 8 + 50 * 3 + 3);
     shutdown(it);
 }
 
+/// What a set is in use for. A draw has its frame, and one that waits has its last use.
 #[derive(Clone, Copy, Debug, PartialEq)]
 enum Use {
     Held,
@@ -613,8 +636,12 @@ struct Model<'a> {
     layouts: [LayoutHandle; LAYOUTS],
     keep: u32,
     sets: Vec<Known>,
+
+    /// Handles that name nothing any longer, and all that came, so that none comes twice.
     old: Vec<SetHandle>,
     seen: HashSet<SetHandle>,
+
+    /// How many requests were refused, and how many sets came again.
     refusals: usize,
     again: usize,
 }
@@ -628,6 +655,7 @@ impl Model<'_> {
         self.count(|set| set.layout == layout && set.used == Use::Kept)
     }
 
+    /// The handles of the held sets.
     fn handles(&self) -> Vec<SetHandle> {
         let held = self.sets.iter().filter(|set| set.used == Use::Held);
         held.map(|set| set.handle.unwrap()).collect()
@@ -679,7 +707,7 @@ impl Model<'_> {
         assert_eq!(stay, room);
     }
 
-    /// All kept sets are gone, and the others get old.
+    /// All kept sets are gone, and the others are marked: they aren't kept later.
     fn clean(&mut self) {
         self.sets.retain(|set| set.used != Use::Kept);
         for set in &mut self.sets {
@@ -711,6 +739,7 @@ impl Model<'_> {
         if many <= kept {
             assert_eq!(self.gpu.calls.get(), calls, "enough are kept");
         }
+        // A refusal frees the kept sets of all layouts. Nothing else in a request frees one.
         let gone = all_kept
             .iter()
             .filter(|raw| !self.gpu.is_live(**raw))
@@ -721,6 +750,7 @@ impl Model<'_> {
                 assert!(gone == 0 || gone == all_kept.len());
                 let mut first = kept.min(many);
                 if gone > 0 {
+                    // The device refused, or the limit before it was asked. So no set comes again.
                     assert!(was_refused || layout == MARKED);
                     self.clean();
                     first = 0;
@@ -866,6 +896,7 @@ impl Random {
     }
 }
 
+/// One call by chance. Now and then some of the device's next calls are to be refused.
 fn step(model: &mut Model, random: &mut Random, changes_keep: bool) {
     if random.below(25) == 0 {
         let count = 1 + random.below(3) as u64;
@@ -924,7 +955,7 @@ fn step(model: &mut Model, random: &mut Random, changes_keep: bool) {
     }
 }
 
-/// Runs so many steps. Ends with how many requests were refused, and how many sets came again.
+/// Runs so many steps. Returns how many requests were refused, and how many sets came again.
 fn run(keep: u32, changes_keep: bool, steps: usize) -> (usize, usize) {
     let gpu = Gpu::default();
     let (it, layouts) = renderer(&gpu, keep);
@@ -965,6 +996,7 @@ fn run(keep: u32, changes_keep: bool, steps: usize) -> (usize, usize) {
     (refusals, again)
 }
 
+/// Random steps with each `keep`, and with one that changes. Enough requests have to be refused.
 #[test]
 fn beside_a_model() {
     let steps = std::env::var("STEPS").map_or(20_000, |it| it.parse().unwrap());

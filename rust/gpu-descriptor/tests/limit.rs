@@ -7,6 +7,7 @@ use gpu_descriptor::*;
 
 include!("numbers/device.rs");
 
+/// Nothing, and fewer and more than the 64 sets of a first pool.
 const LIMITS: [u32; 4] = [0, 1, 63, 200];
 
 /// An update-after-bind layout with one descriptor.

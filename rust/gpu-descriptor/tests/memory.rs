@@ -8,11 +8,13 @@ use std::cell::{Cell, RefCell};
 
 /// A device that takes no memory once it is made. A set has its pool and its place.
 struct Device {
+    /// Which places of each pool have a set, which pools exist, and how many calls there were.
     live: RefCell<Vec<Vec<bool>>>,
     exists: RefCell<Vec<bool>>,
     calls: Cell<u64>,
 }
 
+/// How many pools there may be at a time, and how many sets in one.
 const POOLS: usize = 400;
 const PLACES: usize = 600;
 
@@ -95,6 +97,7 @@ impl DescriptorDevice<u32, usize, (usize, usize)> for Device {
 type Allocator = DescriptorAllocator<usize, (usize, usize)>;
 type Set = DescriptorSet<(usize, usize)>;
 
+/// The samplers of a set, whether its layout is marked, and how many sets are asked for.
 #[derive(Clone, Copy)]
 struct Request {
     samplers: u32,
@@ -110,6 +113,7 @@ fn plain(samplers: u32, count: u32) -> Request {
     }
 }
 
+/// Makes a request. Its layout is the number of its samplers.
 fn take(
     allocator: &mut Allocator,
     device: &Device,
@@ -138,13 +142,15 @@ fn books(allocator: &Allocator) -> String {
     )
 }
 
+/// The sets of several requests, all granted.
 fn take_all(allocator: &mut Allocator, device: &Device, requests: &[Request]) -> Vec<Set> {
     let taken = requests.iter().map(|it| take(allocator, device, *it));
     taken.flat_map(Result::unwrap).collect()
 }
 
 /// After the requests of `before`, `last` is made and each allocation in it fails in turn: those at its
-/// start, before its key and pools are looked at, and the others, for the books of new pools.
+/// start, for a new key and for the sets, before the device is asked; and the others, for the books of new
+/// pools.
 fn refuse_each(before: &[Request], last: Request, at_start: u64, others: u64) {
     for number in 0..at_start + others {
         let (device, mut allocator) = (Device::new(), Allocator::new(100_000));
@@ -186,6 +192,7 @@ fn give_back(mut allocator: Allocator, device: &Device, held: Vec<Set>) {
     assert!(device.exists.borrow().iter().all(|it| !it));
 }
 
+/// Sets of so many samplers go two to a pool.
 const TWO_A_POOL: u32 = u32::MAX / 2;
 
 #[test]
@@ -194,6 +201,7 @@ fn first_request() {
     refuse_each(&[], plain(1, 3), 3, 2);
 }
 
+/// The key and a pool with places are there: only the vector of sets takes memory.
 #[test]
 fn places_are_there() {
     refuse_each(&[plain(1, 3)], plain(1, 3), 1, 0);
@@ -208,11 +216,13 @@ fn no_sets() {
 fn many_pools() {
     // Both queues grow to 4, 8 and 16 places.
     refuse_each(&[], plain(TWO_A_POOL, 18), 3, 6);
+    // One pool is there, with queues of 4 places: they grow to 8 and 16.
     refuse_each(&[plain(TWO_A_POOL, 1)], plain(TWO_A_POOL, 18), 1, 4);
     refuse_each(
         &[plain(TWO_A_POOL, 5), plain(7, 100)],
         plain(TWO_A_POOL, 100),
         1,
+        // From 3 pools to 53: to 8, 16, 32 and 64 places.
         8,
     );
 }
@@ -223,6 +233,8 @@ fn marked() {
         is_marked: true,
         ..plain(5, count)
     };
+    // The marked key has books with room for one more pool. Beside a plain key of the same counts it is new:
+    // its pools, and the list of open ones.
     refuse_each(&[marked(10), plain(5, 10)], marked(300), 1, 0);
     refuse_each(&[plain(5, 10)], marked(300), 1, 2);
 }
@@ -238,6 +250,7 @@ fn many_keys() {
     }
 }
 
+/// A plain layout of so many samplers.
 fn layout(samplers: u32) -> SetLayout<u32> {
     SetLayout {
         layout: samplers,
@@ -264,6 +277,8 @@ fn one_set_takes_memory_for_the_books_alone() {
     give_back(allocator, &device, held);
 }
 
+/// Room in the caller's vector is used. If it has too little, one allocation is made, before the device
+/// is asked.
 #[test]
 fn sets_are_appended_to_a_vector() {
     let (device, mut allocator) = (Device::new(), Allocator::new(0));
@@ -296,6 +311,7 @@ fn a_vector_keeps_what_it_had() {
     let (device, mut allocator) = (Device::new(), Allocator::new(0));
     let mut held = take(&mut allocator, &device, plain(TWO_A_POOL, 1)).unwrap();
     let first = *held[0].raw();
+    // Number 0 is for the vector, and 1 for the books of the fifth pool: they had room for four.
     let (result, _) = with_refused(1, || unsafe {
         allocator.allocate_into(&device, &layout(TWO_A_POOL), 40, &mut held)
     });

@@ -28,6 +28,7 @@ enum After {
 }
 use After::*;
 
+/// A public call by its name, and what it does.
 struct Call<T> {
     name: &'static str,
     after: After,
@@ -135,6 +136,7 @@ fn try_each_in_a_drop<T: Stage>(calls: &[Call<T>]) {
     }
 }
 
+/// An allocator, with what its calls take.
 struct Allocating {
     it: DescriptorAllocator<u64, Set>,
     device: Device,
@@ -198,6 +200,7 @@ fn a_poisoned_allocator() {
     try_each_in_a_drop(&calls_of_an_allocator());
 }
 
+/// A manager, with what its calls take. It has a retired set.
 struct Managing {
     it: FrameManager<u64, Set>,
     device: Device,

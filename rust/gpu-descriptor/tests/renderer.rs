@@ -23,6 +23,8 @@ struct Stage<'a> {
     renderer: Sets<'a>,
     keep: u32,
     layouts: Vec<LayoutHandle>,
+
+    /// The draws of the open frame, what is held, and what waits, with its last use.
     drawn: Vec<(SetHandle, Set)>,
     held: Vec<(SetHandle, Set)>,
     retired: Vec<(u64, Set)>,
@@ -33,6 +35,8 @@ struct Stage<'a> {
 
     /// All handles of sets that ever came.
     seen: HashSet<SetHandle>,
+
+    /// Why requests were refused, and how often a layout was.
     refusals: Vec<AllocationError>,
     layouts_refused: u64,
 }
@@ -94,6 +98,7 @@ impl<'a> Stage<'a> {
         self.renderer.frame()
     }
 
+    /// How many sets are kept, of all layouts.
     fn kept(&self) -> u64 {
         let kept = |it: &LayoutHandle| u64::from(self.renderer.kept_count(*it));
         self.layouts.iter().map(kept).sum()
@@ -104,6 +109,7 @@ impl<'a> Stage<'a> {
         self.gpu.live_sets() - self.kept() as usize
     }
 
+    /// The renderer has exactly these sets, and the device no other but those that are kept.
     fn check(&self) {
         let it = &self.renderer;
         let counts = Counts {
@@ -131,6 +137,7 @@ impl<'a> Stage<'a> {
         }
     }
 
+    /// Notes why a request was refused. It changed nothing.
     fn refused(&mut self, error: RenderError) -> bool {
         let RenderError::Allocation(error) = error else {
             panic!("{error}");
@@ -140,6 +147,7 @@ impl<'a> Stage<'a> {
         false
     }
 
+    /// This and the next two make a request, note what came, and return whether it was granted.
     fn draw(&mut self, layout: usize) -> bool {
         match counted(|| self.renderer.draw(self.layouts[layout])) {
             Ok(handle) => {
@@ -180,6 +188,7 @@ impl<'a> Stage<'a> {
         raw
     }
 
+    /// The set of a new handle is held.
     fn hold(&mut self, handle: SetHandle) {
         let raw = self.come(handle);
         self.held.push((handle, raw));
@@ -272,7 +281,7 @@ impl<'a> Stage<'a> {
 }
 
 /// A scene of eight frames, three of them in flight. A call that is refused is made again, and granted.
-/// Ends with the refusals.
+/// Returns the refusals, and how often a layout was refused.
 fn scene(gpu: &Gpu, keep: u32) -> (Vec<AllocationError>, u64) {
     let mut stage = Stage::with_keep(gpu, keep);
     for number in 0..4 {
@@ -321,6 +330,7 @@ fn the_device_refuses_each_call() {
                 assert!(gpu.calls.get() > call, "the call was made");
                 assert!(refusals.len() <= 1);
                 let wanted = [OutOfDeviceMemory, OutOfHostMemory, Fragmentation];
+                // A pool that refuses for its own sake may be passed over; want of memory is reported.
                 if reason < 2 && (keep == 0 || !refusals.is_empty()) {
                     assert_eq!(refusals, [wanted[reason]]);
                 }
@@ -332,6 +342,7 @@ fn the_device_refuses_each_call() {
     }
 }
 
+/// A growth that is refused costs one call, or none if sets are kept: then it is asked once more.
 #[test]
 fn each_growth_is_refused() {
     for keep in KEEPS {
@@ -375,6 +386,7 @@ fn want_of_memory_gives_no_set_back() {
     }
 }
 
+/// Calls by chance, some of which the device refuses.
 #[test]
 fn by_chance() {
     let mut random = Random(1);
@@ -428,6 +440,7 @@ fn by_chance() {
     assert!(refusals > 1000);
 }
 
+/// A handle of a set that was destroyed, or drawn in an older frame, names nothing.
 #[test]
 fn stale_handles() {
     let gpu = Gpu::new();
@@ -464,6 +477,7 @@ fn stale_handles() {
     stage.shutdown();
 }
 
+/// Handles of another renderer name nothing.
 #[test]
 fn foreign_handles() {
     let (gpu, other_gpu) = (Gpu::new(), Gpu::new());
@@ -506,6 +520,7 @@ fn wrong_handles_in_a_batch() {
     other.create_many(0, 40);
     let held: Vec<_> = stage.held.iter().map(|it| it.0).collect();
     let raws: Vec<_> = stage.held.iter().map(|it| it.1).collect();
+    // One that was freed and whose place is taken, one that waits, and two of the other renderer.
     let wrong = [
         stage.old_sets[0],
         stage.old_sets[1],
@@ -600,6 +615,7 @@ fn slots_are_used_again() {
         let mut seen = HashSet::with_capacity(40_000);
         let mut most = 0;
         for round in 0..300 {
+            // One list is freed at once, and the other waits for a frame.
             let mut lists = [Vec::new(), Vec::new()];
             for at in 0..40 {
                 let layout = stage.layouts[0];
@@ -657,6 +673,7 @@ fn memory_follows_the_most_sets_of_all_layouts() {
     }
 }
 
+/// What is held, drawn, waiting and kept is freed.
 #[test]
 fn all_sets_at_once() {
     let gpu = Gpu::new();
@@ -705,6 +722,7 @@ fn frames_are_skipped() {
     stage.destroy_many(0, 2, 70);
     stage.destroy_many(0, 1, 69);
     stage.done(69);
+    // One is held, and two wait for frame 70.
     assert_eq!(stage.live(), 3);
     stage.begin();
     assert_eq!(stage.frame(), 71);
@@ -723,6 +741,7 @@ fn frames_are_skipped() {
     stage.shutdown();
 }
 
+/// Calls for which a frame has to be open, or not to be, and frames that are said to be done too early.
 #[test]
 fn frames_out_of_turn() {
     let gpu = Gpu::new();
@@ -741,8 +760,10 @@ fn frames_out_of_turn() {
     stage.destroy(1, 1);
     stage.create(0);
     stage.destroy(1, 0);
+    // The draw, one that is held, and two that wait.
     assert_eq!(stage.live(), 4);
     stage.done(u64::MAX);
+    // The one with last use 0 came back.
     assert_eq!((stage.drawn.len(), stage.retired.len()), (1, 1));
     stage.done(1);
     assert_eq!(stage.live(), 3);
@@ -826,6 +847,7 @@ fn retired_late() {
         stage.destroy(0, last_use);
         stage.check();
     }
+    // Of those six and a draw of each of five frames: what is left once a frame is done.
     for (done, left) in [(0, 10), (1, 8), (2, 5), (3, 4), (4, 2), (5, 0)] {
         stage.done(done);
         assert_eq!(stage.live(), left);
@@ -841,6 +863,7 @@ fn panics<R>(what: &str, run: impl FnOnce() -> R) {
     assert_eq!(*text, "an earlier call of this allocator panicked");
 }
 
+/// After a panic of the device each call panics, and the device isn't called any more.
 #[test]
 fn a_panic_poisons() {
     let without = Gpu::new();
@@ -859,6 +882,7 @@ fn a_panic_poisons() {
                 stage.end();
             }
         }));
+        // These frames make fewer calls than a scene: the last ones don't come.
         assert_eq!(ran.is_err(), gpu.calls.get() == call + 1);
         if ran.is_ok() {
             stage.shutdown();

@@ -36,6 +36,7 @@ fn pools(allocator: &Allocator, number: u32) -> Vec<PoolView> {
     (0..count).map(|place| view(place).unwrap()).collect()
 }
 
+/// After a spike of sets one of the first pool stays. A trim leaves that pool alone.
 #[test]
 fn an_old_set_keeps_its_pool_alone() {
     let gpu = Gpu::new();
@@ -47,6 +48,7 @@ fn an_old_set_keeps_its_pool_alone() {
     }
     free(&mut allocator, &gpu, spike);
     unsafe { allocator.cleanup(&gpu) };
+    // For 64, 64, 128 and 256 sets, and then for 512 each.
     assert!(gpu.pools() > 40);
     trim(&mut allocator, &gpu);
     assert_eq!(gpu.pools(), 1);

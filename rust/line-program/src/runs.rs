@@ -10,6 +10,7 @@ use std::io::{self, ErrorKind, Read, Write};
 /// A line with its end, and all that it is answered.
 type Exchange = (&'static str, &'static str);
 
+/// Whole runs (docs/LINES.md has the commands). `pool s 1 10/54`: it has ten sets out, and 54 free places.
 const DIALOGUES: [&[Exchange]; 4] = [
     // Sizes of pools, between a comment and carriage returns.
     &[
@@ -102,6 +103,7 @@ struct Stop {
     failure: Option<ErrorKind>,
 }
 
+/// It goes on to the end.
 const NEVER: Stop = Stop {
     behind: usize::MAX,
     failure: None,
@@ -189,6 +191,7 @@ fn expect(input: &[u8], wanted: &str, exit: Exit) {
     assert_eq!(seen, (wanted.as_bytes(), exit), "{input:?}");
 }
 
+/// How a read may fail. None of these is tried again.
 const KINDS: [ErrorKind; 6] = [
     ErrorKind::Other,
     ErrorKind::Interrupted,
@@ -253,6 +256,7 @@ fn last_line_without_an_end() {
     assert_eq!(output.text, b"layout s total 1\n");
 }
 
+/// A line that comes in pieces, or an answer that is taken in pieces, is the same.
 #[test]
 fn few_bytes_a_call() {
     for dialogue in DIALOGUES {
@@ -460,6 +464,7 @@ impl Read for EmptyLines {
     }
 }
 
+/// A line that never ends is refused once it is too long.
 #[test]
 fn line_without_an_end() {
     let mut output = Sink::new();
@@ -467,6 +472,7 @@ fn line_without_an_end() {
     assert_eq!(output.text, b"line 1: line too long\n");
 }
 
+/// After so many read calls the run ends, though there would be more.
 #[test]
 fn as_many_calls_as_may_be() {
     let (mut input, mut output) = (Endless(0), Sink::new());
@@ -474,6 +480,7 @@ fn as_many_calls_as_may_be() {
     assert_eq!((input.0, output.text.len()), (MOST_CALLS, 0));
 }
 
+/// Calls count, and not bytes.
 #[test]
 fn more_bytes_than_calls() {
     let (mut input, mut output) = (EmptyLines(MOST_CALLS + 1), Sink::new());
@@ -483,6 +490,7 @@ fn more_bytes_than_calls() {
 
 // ---- a thousand layouts, and long lines ----
 
+/// There may be 1024 layouts. Of the next one faults in its words are found first.
 #[test]
 fn as_many_layouts_as_may_be() {
     let input: String = (0..1024)
@@ -515,6 +523,7 @@ fn padded(line: &str, length: usize) -> Vec<u8> {
 
 const TOO_LONG: &str = "line 1: line too long\n";
 
+/// A line has 4096 bytes at most, a comment too. Its line feed doesn't count.
 #[test]
 fn long_lines() {
     for (line, length, output, exit) in [
@@ -538,6 +547,7 @@ fn return_counts_to_the_length() {
     expect(format!(" {line}").as_bytes(), TOO_LONG, Exit::BadLine);
 }
 
+/// The byte after the 4096th is the last one that is read.
 #[test]
 fn rest_of_a_long_line_is_not_read() {
     let bytes = padded("# note", 4097);

@@ -1,3 +1,5 @@
+//! The version and the statuses are those of the header.
+
 use super::{ABI, GdStatus};
 use crate::exports::gd_version;
 

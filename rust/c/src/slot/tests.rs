@@ -1,3 +1,5 @@
+//! A call that panics, one inside of another, and one that waits until its allocator is gone.
+
 use super::{GdAllocator, create, destroy, enter};
 use crate::abi::{GdDevice, GdPoolInfo, GdStatus};
 use crate::allocator::Allocator;

@@ -9,6 +9,7 @@ pub const API_VERSION_1_3: u32 = 1 << 22 | 3 << 12;
 pub const SUCCESS: i32 = 0;
 pub const INCOMPLETE: i32 = 5;
 
+/// `VkStructureType` of the structures below, as it is in their first field.
 pub const APPLICATION_INFO: i32 = 0;
 pub const INSTANCE_CREATE_INFO: i32 = 1;
 pub const DEVICE_QUEUE_CREATE_INFO: i32 = 2;
@@ -29,6 +30,7 @@ pub const SHADER_STAGE_FRAGMENT: u32 = 0x10;
 pub const MESSAGE_SEVERITIES: u32 = 0x100 | 0x1000;
 pub const MESSAGE_TYPES: u32 = 0x2 | 0x4;
 
+/// Handles: of an instance and a physical device pointers, and 64 bits of the others.
 #[repr(transparent)]
 #[derive(Clone, Copy)]
 pub struct Instance(pub *mut c_void);

@@ -11,6 +11,7 @@ use std::sync::atomic::{AtomicU64, Ordering};
 /// How many messages the layer had.
 static MESSAGES: AtomicU64 = AtomicU64::new(0);
 
+/// A device with its functions and limits, and what has to be destroyed with it.
 pub struct Gpu {
     pub device: DeviceHandle,
     pub functions: DeviceFunctions,
@@ -27,6 +28,7 @@ pub struct Gpu {
 /// What is missing.
 pub type Missing = &'static str;
 
+/// What the layer calls for each message. The first four are shown.
 unsafe extern "system" fn note_message(
     _: u32,
     _: u32,

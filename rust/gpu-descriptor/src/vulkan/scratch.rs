@@ -5,7 +5,7 @@ use std_alloc::vec::Vec;
 /// So many handles need no allocation.
 const FEW: usize = 32;
 
-/// An array of default values.
+/// An array of values, of default ones at first.
 pub(super) enum Scratch<T> {
     Few([T; FEW], usize),
     Many(Vec<T>),

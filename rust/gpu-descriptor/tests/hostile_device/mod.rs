@@ -7,6 +7,8 @@ use std::collections::BTreeSet;
 use std::panic::{AssertUnwindSafe, catch_unwind};
 use std::rc::Rc;
 
+/// What it does that it may not: gives sets too many or too few, some with a refusal, panics, leaves sets of
+/// a release, or reads on after its end.
 #[derive(Clone, Copy, Debug, PartialEq)]
 pub enum Fault {
     None,
@@ -25,6 +27,7 @@ pub enum Fault {
     ReadsPastTheEnd,
 }
 
+/// The faults at which it panics.
 pub const PANICS: [Fault; 5] = [
     Fault::PanicsAtCreate,
     Fault::PanicsAtAlloc,
@@ -46,6 +49,8 @@ pub struct Device {
     next: Cell<u64>,
     alive: Rc<()>,
     pub pools: RefCell<BTreeSet<u64>>,
+
+    /// The numbers of all sets that it gave, and of those that it has back.
     pub granted: RefCell<BTreeSet<u64>>,
     released: RefCell<BTreeSet<u64>>,
 }
@@ -106,6 +111,7 @@ impl Device {
 
 const MOST_POOLS: usize = 10;
 
+/// What it panics with.
 pub const PANICKED: &str = "as the test wants it";
 
 impl DescriptorDevice<String, u64, Set> for Device {

@@ -13,6 +13,7 @@ use std::cell::Cell;
 use std::ptr::null_mut;
 
 thread_local! {
+    /// How many sets the functions gave, and how many they have back.
     static ALLOCATED: Cell<u32> = const { Cell::new(0) };
     static FREED: Cell<u32> = const { Cell::new(0) };
 }
@@ -83,6 +84,7 @@ fn allocate(count: usize, refused: u64) -> (Result<(), DeviceAllocationError>, u
 #[test]
 fn a_refusal_of_memory_is_out_of_host_memory() {
     let error = Err(DeviceAllocationError::OutOfHostMemory);
+    // More than 32 handles take an allocation: those of the layouts, and those of the sets.
     assert_eq!(allocate(33, u64::MAX), (Ok(()), 33, 2));
     assert_eq!(ALLOCATED.take(), 33);
     assert_eq!(allocate(33, 0), (error, 0, 1));

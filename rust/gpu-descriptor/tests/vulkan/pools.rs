@@ -42,6 +42,7 @@ fn each_type_has_its_number() {
     };
     let mut pool = created(&counts, DescriptorPoolCreateFlags::FREE_DESCRIPTOR_SET);
     pool.sizes.sort_unstable();
+    // The numbers of VkDescriptorType: kinds 0 to 10, inline uniform blocks and acceleration structures.
     let types = (0..11).chain([1_000_138_000, 1_000_150_000]);
     let counts = (11..22).chain([24, 22]);
     assert_eq!(pool.sizes, types.zip(counts).collect::<Vec<_>>());
