@@ -5,12 +5,14 @@ use gpu_descriptor::*;
 use std::cell::{Cell, RefCell};
 use std::collections::HashMap;
 
+/// How few pools there may be, so that some draws find no memory; and how many frames are in flight.
 const MOST_POOLS: usize = 4;
 const IN_FLIGHT: u64 = 3;
 
 /// A device in main memory. Its pools and raw sets are numbers, which it never gives twice.
 #[derive(Default)]
 struct Gpu {
+    /// The pools, the pool of each set, the sets that each frame in flight reads, and the last number.
     pools: RefCell<Vec<u32>>,
     pool_of: RefCell<HashMap<u32, u32>>,
     submitted: RefCell<HashMap<u64, Vec<u32>>>,

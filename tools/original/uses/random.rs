@@ -3,7 +3,7 @@
 use crate::device::{Event, Kind, Outcome};
 use crate::subject::Subject;
 
-/// Limits on marked descriptors: most programs have the greatest.
+/// Limits on marked descriptors: half of the programs have the greatest.
 const LIMITS: [u32; 6] = [u32::MAX, u32::MAX, u32::MAX, 100_000, 3000, 128];
 
 /// How many descriptors of a kind a set has. With the last three a pool is for 100, 3 and 1 sets at most.

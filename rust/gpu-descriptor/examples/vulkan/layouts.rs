@@ -20,6 +20,7 @@ pub struct Layout {
 
 type Bindings<'a> = &'a [(DescriptorType, u32)];
 
+/// Bindings of usual kinds, and below of all others, of none, and of what a device may lack.
 const PLAIN: Bindings = &[
     (DescriptorType::SAMPLER, 1),
     (DescriptorType::UNIFORM_BUFFER, 2),
