@@ -2,6 +2,8 @@
 use Rattle.std.proofs.Common.{◌≡◌, ◌≢◌, ◌-◌, ℕ, zero, suc, true, false, List, [], ◌∷◌, map, Option, Some, None, refl, sym, ap, ◌∙◌, arith}
 use Rattle.std.proofs.Math.Path.{fun_ext}
 use Rattle.std.proofs.lemmas.Map.{update_apart}
+use Rattle.std.proofs.lemmas.Option.{none-some}
+use Rattle.std.proofs.lemmas.Bool.{true≢false}
 use Rattle.std.specs.Map.{update}
 use Rattle.std.specs.Prelude.{IfSome, is_some, nat_eq}
 use Rattle.gpu_descriptor_types.proofs.Counting.{count_by_yes, set_exact}
@@ -15,7 +17,7 @@ use Rattle.descriptor_examples.specs.declared.own_device.OnlyPool.{OnlyPool}
 -- a live pool has the name 0
 pub only_named : (pool : Option Pool) (name : ℕ) (p : Pool) → only pool name ≡ Some p → name ≡ 0
 only_named pool zero p live = refl
-only_named pool (suc name) p live = absurd (let bad : ◌≡◌ {A = Option Pool} None (Some p) = live in cc)
+only_named pool (suc name) p live = absurd (none-some p live)
 
 pub only_none : only None ≡ (λ name. None)
 only_none = fun_ext each
@@ -44,7 +46,7 @@ on_only f o name p live same =
 
 pub no_pool : (o : Option OnlyPool) → is_some o ≡ false → as_created o ≡ None
 no_pool None none = refl
-no_pool (Some p) none = absurd (let bad : true ≡ false = none in cc)
+no_pool (Some p) none = absurd (true≢false none)
 
 -- a release of no set leaves the pool as it was created
 pub released_none : (o : Option OnlyPool) → option_map (λ (pool : Pool). record pool { live = λ x. pool.live x - times [] x }) (as_created o) ≡ as_created o
@@ -60,7 +62,7 @@ pub none_live : (d : OnePool) (name x : ℕ) → AreLive name (x ∷ []) (owed_o
 none_live d name x h = by_gone h.gone h.named h.live
   where
     empty : (o : Option OnlyPool) (n : ℕ) → only (as_created o) n ≡ Some h.pool → (y : LiveSet) → h.pool.live y ≡ 0
-    empty None zero live y = absurd (let bad : ◌≡◌ {A = Option Pool} None (Some h.pool) = live in cc)
+    empty None zero live y = absurd (none-some h.pool live)
     empty (Some p) zero live y = (let same : as_created (Some p) ≡ Some h.pool = live in by_same same)
       where
         by_same : as_created (Some p) ≡ Some h.pool → h.pool.live y ≡ 0
@@ -69,7 +71,7 @@ none_live d name x h = by_gone h.gone h.named h.live
             live_or : Option Pool → ℕ
             live_or None = 0
             live_or (Some q) = q.live y
-    empty o (suc n) live y = absurd (let bad : ◌≡◌ {A = Option Pool} None (Some h.pool) = live in cc)
+    empty o (suc n) live y = absurd (none-some h.pool live)
 
     by_gone : (gone : List LiveSet) → map (λ s. s.name) gone ≡ x ∷ [] → AreIn gone h.pool.live → ⊥
     by_gone [] named live = (let bad : ◌≡◌ {A = List ℕ} [] (x ∷ []) = named in cc)

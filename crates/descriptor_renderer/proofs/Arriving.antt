@@ -1,6 +1,7 @@
 -- What slots may become when sets come to them.
 use Rattle.std.proofs.lemmas.Grind.{common_steps}
 use Rattle.std.proofs.Common.{◌≡◌, ℕ, ◌+◌, ◌≤◌, ◌⊎◌, ◌&&◌, ◌||◌, not, Bool, true, [], Option, Some, None, is_some, inl, inr, refl, sym, ap, subst, ◌∙◌, arith}
+use Rattle.std.proofs.lemmas.Option.{none-some}
 use Rattle.gpu_descriptor_types.specs.declared.device.DescriptorDevice.{Ghosts}
 use Rattle.gpu_descriptor.specs.declared.set.DescriptorSet.{DescriptorSet}
 use Rattle.descriptor_table.specs.Slots.{frame_in, frame_of, in_list, slot_at, waits_for}
@@ -39,7 +40,7 @@ module _ {T : Type 0} where
         frame = λ g le up. subst (λ u. frame_in u ≤ g) (sym same.0) up;
       }
       | inr gone ↦ record {
-        set = λ x e. absurd (let no : Some x ≡ None = sym e ∙ gone.2 in cc);
+        set = λ x e. absurd (none-some x (sym (sym e ∙ gone.2)));
         placed = λ was. ap (λ x. placed_in n.used x n.layout n.generation) gone.2;
         frame = λ g le up. subst (λ u. frame_in u ≤ g) (sym gone.1) (omega arith);
       }

@@ -1,5 +1,6 @@
 -- Kept sets that all go: for `Store::cleanup`, `set_keep` and `free_all`.
 use Rattle.std.proofs.Common.{◌≡◌, ℕ, ◌+◌, ◌<◌, ◌≤◌, Bool, true, false, if◌then◌else◌, List, length, inl, inr, refl, sym, ap, ◌∙◌, arith}
+use Rattle.std.proofs.lemmas.Bool.{true≢false}
 use Rattle.descriptor_table.specs.Sets.{sets_in}
 use Rattle.descriptor_table.specs.Slots.{goes, is_in, slot_at}
 use Rattle.descriptor_table.specs.Tables.{AreAged, MayBecome, Turns, Becomes, aged, count, is_kept, used_for, vacated}
@@ -48,7 +49,7 @@ module _ {T : Type 0} where
           let here = aged_all.each p lt in
           let kept : is_kept (slot_at a p) ≡ true = ap is_kept here ∙ e in
           let leaves : slot_at b p ≡ used_for Going (slot_at a p) = elim (trims.here p kept) [
-            | inl same ↦ absurd (let k = (slot_at a p).layout in let out = count_none (is_in (k + 2)) b refl (let f = few k in omega arith) p in let no : true ≡ false = sym kept ∙ ap (is_in (k + 2)) (sym same) ∙ out in cc)
+            | inl same ↦ absurd (let k = (slot_at a p).layout in let out = count_none (is_in (k + 2)) b refl (let f = few k in omega arith) p in true≢false (sym kept ∙ ap (is_in (k + 2)) (sym same) ∙ out))
             | inr going ↦ going
           ] in
           let full = kept_full (slot_at a p) kept in

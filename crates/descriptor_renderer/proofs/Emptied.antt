@@ -3,6 +3,7 @@
 -- the slot at a place is in `b`, `c` and `d`.
 use Rattle.std.proofs.lemmas.Grind.{common_steps}
 use Rattle.std.proofs.Common.{◌≡◌, ℕ, ◌+◌, ◌<◌, ◌≤◌, ◌⊎◌, ◌&&◌, ◌||◌, not, Bool, true, false, List, length, Option, None, is_some, inl, inr, refl, sym, ap, ◌∙◌, arith, nat_le}
+use Rattle.std.proofs.lemmas.Bool.{true≢false}
 use Rattle.descriptor_table.specs.Slots.{frame_in, frame_of, goes, in_list, is_due, is_in, slot_at, waits_for}
 use Rattle.descriptor_table.specs.Tables.{AreAged, IsBack, Becomes, MayBecome, Turns, count, holds, is_held_use, is_kept, stays, used_for, vacated, waits}
 use Rattle.descriptor_table.specs.declared.slot.Slot.{Slot}
@@ -79,7 +80,7 @@ module _ {T : Type 0} (generations : ℕ → ℕ) (frame most : ℕ) (a b c d ne
   waiting_leaves p e full up old =
       let s = slot_at a p in
       let one : slot_at b p ≡ used_for Going s = elim (settles.here p (waiting_due frame s.used (is_some s.set) up e)) [
-        | inl kept ↦ absurd (let no : true ≡ false = sym kept.1 ∙ old in cc)
+        | inl kept ↦ absurd (true≢false (sym kept.1 ∙ old))
         | inr leaves ↦ leaves.0
       ] in
       going p s full (leave.rest p (ap holds one) ∙ one)
@@ -92,7 +93,7 @@ module _ {T : Type 0} (generations : ℕ → ℕ) (frame most : ℕ) (a b c d ne
       let two : slot_at c p ≡ s = leave.rest p (ap holds one ∙ out.1) ∙ one in
       let kept : is_kept (slot_at c p) ≡ true = ap is_kept two ∙ e in
       let three : slot_at d p ≡ used_for Going s = elim (trims.here p kept) [
-        | inl same ↦ absurd (let k = s.layout in let none = count_none (is_in (k + 2)) d refl (let f = few k in omega arith) p in let no : true ≡ false = sym e ∙ ap (is_in (k + 2)) (sym (same ∙ two)) ∙ none in cc)
+        | inl same ↦ absurd (let k = s.layout in let none = count_none (is_in (k + 2)) d refl (let f = few k in omega arith) p in true≢false (sym e ∙ ap (is_in (k + 2)) (sym (same ∙ two)) ∙ none))
         | inr leaves ↦ leaves ∙ ap (used_for Going) two
       ] in
       given p s (kept_full s e) three
@@ -107,7 +108,7 @@ module _ {T : Type 0} (generations : ℕ → ℕ) (frame most : ℕ) (a b c d ne
       by_full : (full : Bool) → is_some s.set ≡ full → HasLeft s (slot_at new p)
       by_full false e = inl (empty_stays p none e, empty_none s.set e)
       by_full true full = elim (placed_or (is_some s.set) (holds s) (waits s) (is_kept s) placed) [
-        | inl empty ↦ absurd (let no : true ≡ false = sym full ∙ empty in cc)
+        | inl empty ↦ absurd (true≢false (sym full ∙ empty))
         | inr one ↦ elim one [
           | inl held ↦ inr (held_leaves p held full)
           | inr two ↦ elim two [

@@ -3,7 +3,7 @@
 -- `start`, `now` and `then` are the vector of handles before, between and after, and `given` are the handles that came to it.
 use Rattle.std.proofs.lemmas.Grind.{common_steps}
 use Rattle.std.proofs.Common.{◌≡◌, ◌≢◌, ℕ, ◌+◌, ◌-◌, ◌<◌, ◌≤◌, ◌⊎◌, ◌&&◌, ◌||◌, Bool, true, false, List, [], ◌∷◌, ◌++◌, length, get_or, Some, is_some, IsSome, inl, inr, refl, sym, ap, subst, ◌∙◌, append_assoc, arith}
-use Rattle.std.proofs.lemmas.Bool.{cases_lt}
+use Rattle.std.proofs.lemmas.Bool.{cases_lt, false≢true}
 use Rattle.std.proofs.lemmas.List.{get_or-append-add, append-nil, get_or_append_left, length-append}
 use Rattle.gpu_descriptor_types.specs.declared.device.DescriptorDevice.{Ghosts}
 use Rattle.gpu_descriptor.specs.declared.set.DescriptorSet.{DescriptorSet}
@@ -44,8 +44,8 @@ module _ {T : Type 0} where
 
   held_not_free : (s : Slot T) → holds s ≡ true → is_free s ≡ true → ⊥
   held_not_free s held free = elim (free_is s free) [
-    | inl none ↦ (let no : false ≡ true = sym (ap is_some none) ∙ (held_is s held).1 in cc)
-    | inr kept ↦ (let no : false ≡ true = ap is_held_use (sym kept ∙ (held_is s held).0) in cc)
+    | inl none ↦ (false≢true (sym (ap is_some none) ∙ (held_is s held).1))
+    | inr kept ↦ (false≢true (ap is_held_use (sym kept ∙ (held_is s held).0)))
   ]
 
   pub hold_none : (number : ℕ) (layout : ℕ × ℕ) (old : List (Slot T)) → HoldEach number layout [] old old

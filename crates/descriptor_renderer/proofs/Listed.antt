@@ -1,5 +1,6 @@
 -- Held sets that come back by their handles: for `Store::free_each` and `wait_each`. `took` says that a call has all of them.
 use Rattle.std.proofs.Common.{arith, ◌≡◌, ◌≢◌, ℕ, ◌<◌, ◌&&◌, Bool, true, false, List, length, is_some, inl, inr, sym, ap, subst, ◌∙◌}
+use Rattle.std.proofs.lemmas.Bool.{true≢false}
 use Rattle.descriptor_table.specs.Sets.{AreHeldOnce, sets_in}
 use Rattle.descriptor_table.specs.Slots.{goes, slot_at}
 use Rattle.descriptor_table.specs.Tables.{AreAllTaken, IsBack, TookEach, Turns, Becomes, is_held_use, is_taken, place_at, used_for, vacated}
@@ -21,7 +22,7 @@ module _ {T : Type 0} (handles : List SetHandle) (old now : List (Slot T)) (took
     within = λ i lt. (let there = took.within i lt in let long = took.long in omega arith);
     all = λ p e. elim (named_or (length handles) (place_at handles) p) [
       | inl found ↦ found
-      | inr apart ↦ absurd (let no : true ≡ false = sym e ∙ ap is_taken (took.rest p apart) ∙ none_taken old placed p in cc)
+      | inr apart ↦ absurd (true≢false (sym e ∙ ap is_taken (took.rest p apart) ∙ none_taken old placed p))
     ];
   }
 

@@ -8,6 +8,7 @@ use Rattle.gpu_descriptor.specs.declared.errors.AllocationError.{AllocationError
 use Rattle.gpu_descriptor.specs.declared.layout.SetLayout.{SetLayout}
 use Rattle.gpu_descriptor.specs.declared.set.DescriptorSet.{DescriptorSet}
 use Rattle.std.proofs.lemmas.List.{get_or_past}
+use Rattle.std.proofs.lemmas.Option.{none-some}
 use Rattle.descriptor_table.specs.Sets.{Sets, find, is_last, sets_of}
 use Rattle.descriptor_table.specs.Slots.{is_live, slot_at}
 use Rattle.descriptor_table.specs.Tables.{came_under, current, lists_with}
@@ -119,7 +120,7 @@ module _ {X : Type 0} (layouts : List (Slot X)) (n : ℕ) (x : X) (here : (slot_
   pub layout_within : n < length layouts
   layout_within = elim (below_or n (length layouts)) [
     | inl within ↦ within
-    | inr past ↦ absurd (let no : None ≡ Some x = sym (ap (λ (s : Slot X). s.set) (get_or_past layouts n _ past)) ∙ here in cc)
+    | inr past ↦ absurd (none-some x (sym (ap (λ (s : Slot X). s.set) (get_or_past layouts n _ past)) ∙ here))
   ]
 
   -- a layout that is there has its list

@@ -3,6 +3,7 @@
 use Rattle.std.proofs.lemmas.Grind.{common_steps}
 use Rattle.std.proofs.Common.{◌≡◌, ◌≢◌, ℕ, ◌+◌, ◌<◌, ◌&&◌, nat_lt, Bool, true, false, if◌then◌else◌, List, None, Option, Some, is_some, inl, inr, refl, sym, ap, subst, ◌∙◌, arith, eq-eqb, ne_eqb}
 use Rattle.std.proofs.lemmas.Bool.{cases_eq}
+use Rattle.std.proofs.lemmas.Option.{none-some}
 use Rattle.gpu_descriptor_types.specs.Meaning.{Meaning}
 use Rattle.gpu_descriptor.specs.declared.layout.SetLayout.{SetLayout}
 use Rattle.gpu_descriptor.specs.declared.set.DescriptorSet.{DescriptorSet}
@@ -82,7 +83,7 @@ module _ {L P S : Type 0} (means : Meaning L P S) (layout : ℕ) (generations : 
   ]
     where
       by_test : (b : Bool) → is_kept_of layout (slot_at old p) ≡ b → n ≢ layout → IsOwn means layouts n x
-      by_test true e ne = absurd (let no : ◌≡◌ {A = Option (DescriptorSet S)} None (Some x) = sym (ap (λ (s : Slot (DescriptorSet S)). s.set) (turns.here p e)) ∙ full in cc)
+      by_test true e ne = absurd (none-some x (sym (ap (λ (s : Slot (DescriptorSet S)). s.set) (turns.here p e)) ∙ full))
       by_test false e ne =
           let same = turns.rest p e in
           own p n x (ap (λ (s : Slot (DescriptorSet S)). s.set) (sym same) ∙ full) (ap came_under (sym same) ∙ at ∙ ap (λ g. (n, g)) (removed_other layout generations n ne))

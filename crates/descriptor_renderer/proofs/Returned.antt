@@ -1,5 +1,6 @@
 -- Sets that were given back are counted, and what becomes of all if there are none.
 use Rattle.std.proofs.Common.{◌≡◌, ℕ, ◌+◌, true, false, Bool, List, [], length, None, refl, sym, ap, ◌∙◌, arith}
+use Rattle.std.proofs.lemmas.Bool.{false≢true}
 use Rattle.std.specs.Borrow.{MutBor}
 use Rattle.std.specs.Iterator.{Yields, YieldsThen}
 use Rattle.gpu_descriptor_types.specs.Ledger.{Ledger}
@@ -56,4 +57,4 @@ returns_none means old before = record { back = gives_none means old before; key
 
 -- no set passes the test, and so none leaves
 pub none_turns : {T : Type 0} (test : Slot T → Bool) (slots : List (Slot T)) → ((p : ℕ) → test (slot_at slots p) ≡ false) → Turns test (Becomes vacated) slots slots
-none_turns test slots none = record { long = refl; rest = λ p out. refl; here = λ p passes. absurd (let bad : ◌≡◌ {A = Bool} false true = sym (none p) ∙ passes in cc) }
+none_turns test slots none = record { long = refl; rest = λ p out. refl; here = λ p passes. absurd (false≢true (sym (none p) ∙ passes)) }

@@ -1,5 +1,6 @@
 -- What slots may become, so that sets stay in their slots and none is on its way.
 use Rattle.std.proofs.Common.{◌≡◌, ℕ, ◌≤◌, ◌⊎◌, true, [], Some, None, inl, inr, sym, ◌∙◌}
+use Rattle.std.proofs.lemmas.Option.{none-some}
 use Rattle.gpu_descriptor_types.specs.declared.device.DescriptorDevice.{Ghosts}
 use Rattle.descriptor_table.specs.Slots.{frame_of, slot_at}
 use Rattle.descriptor_table.specs.Tables.{came_under}
@@ -18,7 +19,7 @@ module _ {L P S D : Type 0} {d : Ghosts D L P S} where
   pub settled : {generations : ℕ → ℕ} {most : ℕ} (f : ℕ) (old new : Store L P S D d) → ((p : ℕ) → Follows f (slot_at (slots_in old) p) (slot_at (slots_in new) p)) → coming_in new ≡ [] → IsAtRest old → StoreStays generations most old new → SettlesTo generations most NoneComes f old new
   settled f old new follows none rest stays = record {
     sets = λ p x e. elim ((follows p).set) [
-      | inl gone ↦ absurd (let no : Some x ≡ None = sym e ∙ gone in cc)
+      | inl gone ↦ absurd (none-some x (sym (sym e ∙ gone)))
       | inr same ↦ inl (sym same.0 ∙ e, same.1)
     ];
     rest = record { none_coming = none; placed = λ p. (follows p).placed (rest.placed p) };

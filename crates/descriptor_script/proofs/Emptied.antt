@@ -1,12 +1,12 @@
 -- Sets that are taken out of their slots, one by one: for `Session::free` and `mark_each`, and the iterator `Taking`, by which they go
 -- to the allocator. `n` and `m` are tickets, `ns` lists of them, `xs` sets; `f` is what a set adds to a `tally`: 1, or how often it is some item.
 use Rattle.std.proofs.Common.{◌≡◌, ◌≢◌, ℕ, zero, suc, ◌+◌, ◌<◌, true, false, List, [], ◌∷◌, length, map, get_or, set, Option, None, Some, inl, inr, refl, sym, ap, ◌∙◌, arith}
-use Rattle.std.proofs.lemmas.Bool.{cases_eq, eqb-false, ne_eqb}
+use Rattle.std.proofs.lemmas.Bool.{cases_eq, eqb-false, ne_eqb, false≢true}
 use Rattle.std.proofs.lemmas.List.{get_or-set_other, get_or_default}
 use Rattle.std.proofs.lemmas.List.Elements.{All-from_get_or, All-get_or}
 use Rattle.std.proofs.lemmas.Map.Keys.{IsDistinct-from_apart, apart_from_distinct}
 use Rattle.std.specs.Prelude.{nat_eq}
-use Rattle.std.proofs.lemmas.Option.{same_Some}
+use Rattle.std.proofs.lemmas.Option.{same_Some, none-some}
 use Rattle.std.specs.Iterator.{HoldsAlong, Yields}
 use Rattle.std.specs.Option.{IsSome, is_some}
 use Rattle.gpu_descriptor_types.proofs.Counting.{count_by-append}
@@ -37,19 +37,19 @@ module _ {X : Type 0} where
   none_at (o ∷ slots) (suc n) = none_at slots n
 
   pub some_at : (o : Option X) → IsSome o → (x : X) × (o ≡ Some x)
-  some_at None bad = absurd (let b : false ≡ true = bad in cc)
+  some_at None bad = absurd (false≢true bad)
   some_at (Some x) h = (x, refl)
 
   -- a set lies within the slots
   pub some_within : (slots : List (Option X)) (n : ℕ) → IsSome (get_or slots n None) → n < length slots
-  some_within [] n bad = absurd (let b : false ≡ true = bad in cc)
+  some_within [] n bad = absurd (false≢true bad)
   some_within (o ∷ slots) zero h = omega arith
   some_within (o ∷ slots) (suc n) h = let below = some_within slots n h in omega arith
 
   -- a set that is taken is held no longer
   pub held_less : (f : X → ℕ) (slots : List (Option X)) (n : ℕ) (x : X) → get_or slots n None ≡ Some x → f x + tally f (held_sets (set slots n None)) ≡ tally f (held_sets slots)
-  held_less f [] n x at = absurd (let bad : ◌≡◌ {A = Option X} None (Some x) = at in cc)
-  held_less f (None ∷ slots) zero x at = absurd (let bad : ◌≡◌ {A = Option X} None (Some x) = at in cc)
+  held_less f [] n x at = absurd (none-some x at)
+  held_less f (None ∷ slots) zero x at = absurd (none-some x at)
   held_less f (Some y ∷ slots) zero x at = ap (λ z. f z + tally f (held_sets slots)) (sym (same_Some y x at))
   held_less f (None ∷ slots) (suc n) x at = held_less f slots n x at
   held_less f (Some y ∷ slots) (suc n) x at = let h = held_less f slots n x at in omega arith
@@ -66,7 +66,7 @@ module _ {X : Type 0} where
   -- what is held when another is taken was held before
   still : (slots : List (Option X)) (n m : ℕ) (x : X) → get_or (set slots n None) m None ≡ Some x → get_or slots m None ≡ Some x
   still slots n m x h = elim (cases_eq m n) [
-    | inl same ↦ absurd (let bad : ◌≡◌ {A = Option X} None (Some x) = sym (none_at slots n) ∙ ap (λ k. get_or (set slots n None) k None) (sym same) ∙ h in cc)
+    | inl same ↦ absurd (none-some x (sym (none_at slots n) ∙ ap (λ k. get_or (set slots n None) k None) (sym same) ∙ h))
     | inr other ↦ sym (get_or-set_other slots n m None None other) ∙ h
   ]
 

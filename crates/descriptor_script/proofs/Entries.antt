@@ -2,7 +2,7 @@
 use Rattle.std.proofs.Common.{◌≡◌, ℕ, zero, suc, ◌+◌, ◌<◌, Bool, true, false, cond, ◌==◌, nat_eq, List, [], ◌∷◌, ◌++◌, map, length, get_or, slice_get, position, count_by, Option, None, Some, is_some, inl, inr, refl, sym, ap, ◌∙◌, arith, subst, eqb-true, eq-eqb}
 use Rattle.std.specs.List.{position_or_len, swap_remove}
 use Rattle.std.specs.Map.{lookup, keys_of, values_of}
-use Rattle.std.proofs.lemmas.Bool.{cases_Bool}
+use Rattle.std.proofs.lemmas.Bool.{cases_Bool, false≢true, true≢false}
 use Rattle.std.proofs.lemmas.List.{map-append, length-map}
 use Rattle.std.proofs.lemmas.List.Sums.{passes_at_first, sum_by-swap_remove}
 use Rattle.indexmap.specs.IndexMap.{swap_remove_entry}
@@ -55,7 +55,7 @@ taken n v es fs found is p = by (position (nat_eq n) (keys_of es)) refl
   where
     -- the name is found at a place, and the entry there is taken out
     by : (r : Option ℕ) → position (nat_eq n) (keys_of es) ≡ r → count_by p (live_sets_of fs) + count_by p (live_set_of (n, v) ∷ []) ≡ count_by p (live_sets_of es)
-    by None at = absurd (let h : false ≡ true = sym (ap is_some at) ∙ some_index (nat_eq n) es ∙ ap is_some found in cc)
+    by None at = absurd (false≢true (sym (ap is_some at) ∙ some_index (nat_eq n) es ∙ ap is_some found))
     by (Some i) at =
         let f = Found-position (nat_eq n) es i at in
         let long : length (keys_of es) ≡ length es = length-map es (λ (e : ℕ × DescriptorTotalCount). e.0) in
@@ -97,6 +97,6 @@ found_left n (e ∷ es) lt = elim (cases_Bool (nat_eq n e.0)) [
   where
     apart : (a b : ℕ) → nat_eq a b ≡ false → (b == a) ≡ false
     apart a b h = elim (cases_Bool (b == a)) [
-      | inl same ↦ absurd (let k : nat_eq a b ≡ true = eq-eqb a b (sym (eqb-true b a same)) in let bad : true ≡ false = sym k ∙ h in cc)
+      | inl same ↦ absurd (let k : nat_eq a b ≡ true = eq-eqb a b (sym (eqb-true b a same)) in true≢false (sym k ∙ h))
       | inr other ↦ other
     ]

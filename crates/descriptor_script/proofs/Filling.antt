@@ -1,7 +1,7 @@
 -- Sets that are put, one after another: for the loop of `fill`. `a` is the first name, `n` how many were put, and `j` the next name.
 use Rattle.std.proofs.Common.{◌≡◌, ℕ, zero, suc, ◌+◌, ◌≤◌, true, false, cond, nat_eq, eqb-true, Option, Some, None, inl, inr, List, [], ◌∷◌, ◌++◌, map, length, replicate, append_assoc, sym, ap, ◌∙◌, arith}
 use Rattle.std.specs.Prelude.{Result, Ok, Err, IsOk, OnOk}
-use Rattle.std.proofs.lemmas.Bool.{cases_Bool}
+use Rattle.std.proofs.lemmas.Bool.{cases_Bool, false≢true}
 use Rattle.indexmap.specs.IndexMap.{IndexMap, get, insert_entry, Updates}
 use Rattle.indexmap.proofs.CallerLemmas.{insert_entry-new}
 use Rattle.std.specs.List.{range_with_len}
@@ -43,11 +43,11 @@ none_above n m w o above h = elim (cases_Bool (nat_eq n m)) [
 -- an entry that was put under a free name
 pub put_last : {X S E : Type 0} (m n : IndexMap ℕ X S) (k : ℕ) (v : X) (r : Result (Option X) E) → IsOk r → OnOk r (n.entries ≡ insert_entry nat_eq m.entries k v) → get nat_eq m k ≡ None → n.entries ≡ m.entries ++ (k, v) ∷ []
 put_last m n k v (Ok old) ok h free = h ∙ insert_entry-new nat_eq m k v free
-put_last m n k v (Err e) ok h free = absurd (let bad : false ≡ true = ok in cc)
+put_last m n k v (Err e) ok h free = absurd (false≢true ok)
 
 pub put_changes : {X S E : Type 0} (m n : IndexMap ℕ X S) (k : ℕ) (v : X) (r : Result (Option X) E) → IsOk r → OnOk r (Updates nat_eq m n k (Some v)) → (q : ℕ) → get nat_eq n q ≡ cond (nat_eq k q) (Some v) (get nat_eq m q)
 put_changes m n k v (Ok old) ok h = h.0
-put_changes m n k v (Err e) ok h = absurd (let bad : false ≡ true = ok in cc)
+put_changes m n k v (Err e) ok h = absurd (false≢true ok)
 
 -- what a sink keeps of the sets so far, with the next one more
 pub kept_grown : {X : Type 0} (kept_as : RawSet → X) (old now new : List X) (x : X) (pool a n m j : ℕ) → new ≡ now ++ x ∷ [] → now ≡ old ++ map kept_as (raw_sets pool a n) → a + n ≡ j → x ≡ kept_as (raw_set pool j) → m ≡ n + 1 → new ≡ old ++ map kept_as (raw_sets pool a m)

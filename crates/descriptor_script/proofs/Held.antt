@@ -1,5 +1,6 @@
 -- What the steps of a session leave outstanding.
 use Rattle.std.proofs.Common.{◌≡◌, OnOk, Result, Ok, Err, is_err, true, false, ℕ, ◌+◌, ◌≤◌, List, [], ◌∷◌, ◌++◌, length, length-append, map, Option, None, Some, refl, sym, ap, ◌∙◌, arith}
+use Rattle.std.proofs.lemmas.Bool.{true≢false}
 use Rattle.gpu_descriptor_types.proofs.Counting.{count_by-append}
 use Rattle.gpu_descriptor.specs.Model.Agreement.{State, count_of, item_eq}
 use Rattle.gpu_descriptor.specs.Model.Promises.{AreOutBesides}
@@ -11,7 +12,7 @@ use Rattle.descriptor_script.specs.Sessions.Tickets.{held_sets}
 -- what holds of a call that succeeded
 pub is_ok_then : {T E : Type 0} (r : Result T E) (P : Type 0) → is_err r ≡ false → OnOk r P → P
 is_ok_then (Ok x) P fine h = h
-is_ok_then (Err e) P fine h = absurd (let bad : true ≡ false = fine in cc)
+is_ok_then (Err e) P fine h = absurd (true≢false fine)
 
 module _ {X : Type 0} where
   -- sets that are put after others are held after them

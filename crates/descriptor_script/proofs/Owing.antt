@@ -7,6 +7,7 @@ use Rattle.std.specs.Map.{lookup, update}
 use Rattle.std.proofs.lemmas.Bool.{cases_Bool, cases_eq}
 use Rattle.std.proofs.lemmas.List.{length-map}
 use Rattle.std.proofs.lemmas.Map.{update_here, update_apart}
+use Rattle.std.proofs.lemmas.Option.{none-some}
 use Rattle.std.specs.Option.{option_map}
 use Rattle.gpu_descriptor_types.specs.Ledger.{Ledger, Pool, HasNoSets, on_pool, fresh, AreLive, Releases, after_create, after_destroy, after_alloc, after_release}
 use Rattle.gpu_descriptor_types.specs.Multiset.{AreIn, HasSize, LiveSet, times}
@@ -30,7 +31,7 @@ without_few name (row ∷ rows) = (let few = without_few name rows in elim (case
 
 -- a name that is there has a row of its own
 without_own : (name size : ℕ) (rows : List (ℕ × ℕ)) → lookup (nat_eq name) rows ≡ Some size → owed_by (without name rows) + size + 1 ≤ owed_by rows
-without_own name size [] at = absurd (let bad : ◌≡◌ {A = Option ℕ} None (Some size) = at in cc)
+without_own name size [] at = absurd (none-some size at)
 without_own name size (row ∷ rows) at = elim (cases_Bool (nat_eq name row.0)) [
   | inl own ↦ (
       let here : lookup (nat_eq name) (row ∷ rows) ≡ Some row.1 = rw own refl in
@@ -102,7 +103,7 @@ destroyed l n name none o =
       record {
         rows = without name o.rows;
         listed = λ q p live. elim (cases_eq q name) [
-          | inl same ↦ absurd (let bad : ◌≡◌ {A = Option Pool} None (Some p) = sym (ap (after_destroy name l).pools same ∙ update_here l.pools name None) ∙ live in cc)
+          | inl same ↦ absurd (none-some p (sym (ap (after_destroy name l).pools same ∙ update_here l.pools name None) ∙ live))
           | inr apart ↦ (let was = o.listed q p (sym (update_apart l.pools name None q apart) ∙ live) in (was.0, without_other name q apart o.rows ∙ was.1, was.2))
         ];
         enough = omega arith;
@@ -182,6 +183,6 @@ release_counted steps set_name name other before after old new l m r none same h
 pub nothing_owed : (l : Ledger) (n : ℕ) → l.pools ≡ (λ _. None) → IsOwed l n
 nothing_owed l n none = record {
   rows = [];
-  listed = λ q p live. absurd (let bad : ◌≡◌ {A = Option Pool} None (Some p) = sym (ap (λ (f : ℕ → Option Pool). f q) none) ∙ live in cc);
+  listed = λ q p live. absurd (none-some p (sym (ap (λ (f : ℕ → Option Pool). f q) none) ∙ live));
   enough = omega arith;
 }

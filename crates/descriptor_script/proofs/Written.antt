@@ -4,8 +4,9 @@ use Rattle.std.proofs.Common.{◌≡◌, ℕ, ◌+◌, ◌≤◌, Bool, true, fa
 use Rattle.std.proofs.Math.Path.{fun_ext}
 use Rattle.std.specs.List.{range_with_len}
 use Rattle.std.specs.Option.{option_map}
-use Rattle.std.proofs.lemmas.Bool.{cases_Bool}
+use Rattle.std.proofs.lemmas.Bool.{cases_Bool, true≢false}
 use Rattle.std.proofs.lemmas.List.{map-append}
+use Rattle.std.proofs.lemmas.Option.{none-some}
 use Rattle.indexmap.specs.IndexMap.{IndexMap, get, WritesThrough}
 use Rattle.gpu_descriptor_types.specs.Counts.{kinds}
 use Rattle.gpu_descriptor_types.specs.Ledger.{Pool, on_pool, live_sets}
@@ -38,7 +39,7 @@ module _ {S : Type 0} {m n : IndexMap ℕ LivePool S} {name : ℕ} {old new : Li
   -- names that are still to come are those of no pool, and further below of no set, after as before
   pub pools_below : (next : ℕ) → PoolsAreBelow m next → PoolsAreBelow n next
   pools_below next below q above = elim (cases_Bool (nat_eq name q)) [
-    | inl same ↦ absurd (let bad : true ≡ false = sym (ap is_some (was_at q same)) ∙ below q above in cc)
+    | inl same ↦ absurd (true≢false (sym (ap is_some (was_at q same)) ∙ below q above))
     | inr other ↦ ap is_some (h.now q ∙ ap (λ b. cond b (Some new) (get nat_eq m q)) other) ∙ below q above
   ]
 
@@ -84,4 +85,4 @@ same_pool m name old pool was live = (let h : Some pool ≡ Some (seen old) = sy
 
 -- a pool that the ledger shows is in the table
 pub none_is_live : {S : Type 0} (m : IndexMap ℕ LivePool S) (name : ℕ) (pool : Pool) → None ≡ get nat_eq m name → pools_in m name ≡ Some pool → ⊥
-none_is_live m name pool was live = (let h : None ≡ Some pool = ap (option_map seen) was ∙ live in cc)
+none_is_live m name pool was live = (none-some pool (ap (option_map seen) was ∙ live))

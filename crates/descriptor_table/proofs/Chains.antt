@@ -4,6 +4,7 @@
 use Rattle.std.proofs.lemmas.Grind.{common_steps}
 use Rattle.std.proofs.Common.{◌≡◌, ◌≢◌, ℕ, ◌+◌, ◌-◌, ◌<◌, ◌≤◌, ◌==◌, ◌&&◌, Bool, true, false, List, length, get_or, set, is_some, inl, inr, refl, sym, ap, subst, ◌∙◌, arith, ne_eqb, eqb-true}
 use Rattle.std.proofs.lemmas.List.{get_or-set_other, get_or-set_same, get_or_read, length-set}
+use Rattle.std.proofs.lemmas.Bool.{false≢true, true≢false}
 use Rattle.descriptor_table.specs.Places.{walk}
 use Rattle.descriptor_table.specs.Slots.{AreFew, AreFramed, AreLinked, HasLists, IsListed, chain_at, chain_of, in_list, is_in, is_of, slot_at, waits_for}
 use Rattle.descriptor_table.specs.Tables.{is_kept, used_for}
@@ -61,10 +62,10 @@ module _ {T : Type 0} where
 
   -- nor is it kept
   pub waits_unkept : (f : ℕ) (s : Slot T) {X : Type 0} → is_of f s ≡ true → is_kept s ≡ true → X
-  waits_unkept f s waits kept = absurd (let no : true ≡ false = sym kept ∙ in_no_list f s waits (s.layout + 2) in cc)
+  waits_unkept f s waits kept = absurd (true≢false (sym kept ∙ in_no_list f s waits (s.layout + 2)))
 
   pub taken_unkept : (s : Slot T) {X : Type 0} → is_kept (used_for Taken s) ≡ true → X
-  taken_unkept s kept = absurd (let no : false ≡ true = kept in cc)
+  taken_unkept s kept = absurd (false≢true kept)
 
   pub taken_no_list : (s : Slot T) → s.used ≡ Taken → (k : ℕ) → is_in k s ≡ false
   taken_no_list s e k = ap (λ u. in_list k u s.layout s.generation (is_some s.set)) e

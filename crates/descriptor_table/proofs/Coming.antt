@@ -1,5 +1,6 @@
 -- A set that came into a slot adds its weight (`tally`) to that of the sets that there are: for `Given` of the renderer.
 use Rattle.std.proofs.Common.{◌≡◌, ◌≢◌, ℕ, zero, suc, ◌+◌, List, [], ◌∷◌, Option, Some, None, refl, sym, ap, ◌∙◌, arith}
+use Rattle.std.proofs.lemmas.Option.{none-some}
 use Rattle.descriptor_table.specs.Sets.{joined, sets_in}
 use Rattle.descriptor_table.specs.Slots.{slot_at}
 use Rattle.descriptor_table.specs.Tables.{Puts}
@@ -16,7 +17,7 @@ module _ {T : Type 0} (weight : T → ℕ) where
 
   -- one slot got a set
   got : (l m : List (Slot T)) (p : ℕ) (x : T) → (slot_at l p).set ≡ None → (slot_at m p).set ≡ Some x → ((q : ℕ) → q ≢ p → (slot_at m q).set ≡ (slot_at l q).set) → tally weight (sets_in m) ≡ tally weight (sets_in l) + weight x
-  got l [] p x none here others = absurd (let bad : ◌≡◌ {A = Option T} None (Some x) = here in cc)
+  got l [] p x none here others = absurd (none-some x here)
   got [] (y ∷ m) zero x none here others =
       let a = tally_joined weight y.set (sets_in m) in
       let b = ap (weight_of weight) here in

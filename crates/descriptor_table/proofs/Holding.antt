@@ -3,6 +3,7 @@
 use Rattle.std.proofs.lemmas.Grind.{common_steps}
 use Rattle.std.proofs.Common.{◌≡◌, ◌≢◌, ℕ, zero, suc, ◌+◌, ◌<◌, ◌⊎◌, ◌==◌, ◌&&◌, Bool, true, false, List, [], ◌∷◌, length, get_or, is_some, inl, inr, refl, sym, ap, subst, ◌∙◌, arith, eqb-true}
 use Rattle.std.proofs.lemmas.List.{length-set}
+use Rattle.std.proofs.lemmas.Bool.{true≢false}
 use Rattle.descriptor_table.specs.Sets.{AreHeldOnce, is_held}
 use Rattle.descriptor_table.specs.Slots.{slot_at}
 use Rattle.descriptor_table.specs.Tables.{TookEach, is_held_use, place_at, used_for}
@@ -90,7 +91,7 @@ module _ {T : Type 0} where
         held_taken bad
       where
         held_taken : ◌≡◌ {A = Use} Held Taken → ⊥
-        held_taken e = (let f : true ≡ false = ap is_held_use e in cc)
+        held_taken e = (true≢false (ap is_held_use e))
 
     -- one set more was taken
     pub take_more : is_held number now h ≡ true → (new : List (Slot T)) → new ≡ with_use h.place Taken now → TookSome number handles (n + 1) old new

@@ -3,6 +3,7 @@
 use Rattle.std.proofs.lemmas.Grind.{common_steps}
 use Rattle.std.proofs.Common.{◌≡◌, ◌≢◌, ℕ, ◌+◌, ◌<◌, ◌≤◌, ◌==◌, ◌&&◌, Bool, true, false, nat_lt, List, length, set, Option, Some, None, is_some, inl, refl, sym, ap, ◌∙◌, arith, ltb-true}
 use Rattle.std.proofs.lemmas.List.{length-set, set-set}
+use Rattle.std.proofs.lemmas.Bool.{false≢true}
 use Rattle.descriptor_table.specs.Slots.{goes, in_list, is_in, slot_at}
 use Rattle.descriptor_table.specs.Tables.{GivesFirst, HasRoom, Picks, Puts, Renews, Stays, count, is_usable, renewed, slots_of, usable_of, used_for, vacated}
 use Rattle.descriptor_table.specs.declared.handle.SetHandle.{SetHandle}
@@ -103,7 +104,7 @@ module _ {T : Type 0} where
   gives test p None old mid new picks full taken is =
       let slot = ap (λ l. slot_at l p) picks.slots ∙ slot_set old p (used_for Taken (slot_at old p)) picks.within in
       let none : None ≡ (slot_at old p).set = taken ∙ ap (λ (s : Slot T). s.set) slot in
-      absurd (let no : false ≡ true = ap is_some none ∙ full in cc)
+      absurd (false≢true (ap is_some none ∙ full))
   gives test p (Some x) old mid new picks full taken is =
       let o = slot_at old p in
       let slot : slot_at mid p ≡ used_for Taken o = ap (λ l. slot_at l p) picks.slots ∙ slot_set old p (used_for Taken o) picks.within in

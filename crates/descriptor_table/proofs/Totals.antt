@@ -2,7 +2,7 @@
 -- `kept_` is of kept sets by layout, `first_` of sets that wait by frame: at the start, with one list more, and with all.
 use Rattle.std.proofs.lemmas.Grind.{common_steps}
 use Rattle.std.proofs.Common.{◌≡◌, ◌≢◌, ℕ, zero, suc, ◌+◌, ◌<◌, ◌≤◌, ◌==◌, ◌&&◌, ◌||◌, nat_lt, not, Bool, true, false, List, length, is_some, inl, inr, refl, sym, ap, subst, ◌∙◌, arith, eq-eqb, ne_eqb}
-use Rattle.std.proofs.lemmas.Bool.{and_right, cases_order, le-ltb, lt-ltb, or_from, or_left, or_right}
+use Rattle.std.proofs.lemmas.Bool.{and_right, cases_order, le-ltb, lt-ltb, or_from, or_left, or_right, true≢false}
 use Rattle.std.proofs.lemmas.List.{get_or_past}
 use Rattle.descriptor_table.specs.Slots.{AreFramed, AreLinked, HasFrames, chain_at, chain_of, frame_at, in_list, is_in, is_of, slot_at, waits_for}
 use Rattle.descriptor_table.specs.Tables.{count, is_kept, waits}
@@ -142,7 +142,7 @@ module _ {T : Type 0} where
         by_frame f false none = any_none (λ i. ((frame_at frames i).frame == f) && false) (length frames) (λ i lt. and_right ((frame_at frames i).frame == f) false refl)
         by_frame f true none = elim (named_or (length frames) (λ i. (frame_at frames i).frame) f) [
           | inl found ↦ any_some (λ i. ((frame_at frames i).frame == f) && true) (length frames) found.0 found.1 (ap (λ b. b && true) (eq-eqb (frame_at frames found.0).frame f found.2))
-          | inr other ↦ absurd (let no : true ≡ false = sym (ap (λ b. b && true) (eq-eqb f f refl)) ∙ none f (λ i lt e. other i lt (sym e)) in cc)
+          | inr other ↦ absurd (true≢false (sym (ap (λ b. b && true) (eq-eqb f f refl)) ∙ none f (λ i lt e. other i lt (sym e))))
         ]
 
         by_use : (u : Use) (full : Bool) → ((g : ℕ) → ((i : ℕ) → i < length frames → g ≢ (frame_at frames i).frame) → (waits_for (λ w. g == w) u && full) ≡ false) → any_of (λ i. waits_for (λ w. (frame_at frames i).frame == w) u && full) (length frames) ≡ (waits_for (λ w. true) u && full)

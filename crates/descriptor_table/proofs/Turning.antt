@@ -4,7 +4,7 @@
 use Rattle.std.proofs.lemmas.Grind.{common_steps}
 use Rattle.std.proofs.Common.{◌≡◌, ◌≢◌, ℕ, zero, suc, ◌+◌, ◌<◌, ◌≤◌, ◌⊎◌, ◌&&◌, nat_lt, Bool, true, false, if◌then◌else◌, List, [], ◌∷◌, length, set, Option, Some, None, ne_eqb, is_some, inl, inr, refl, sym, ap, subst, ◌∙◌, arith, nat_le}
 use Rattle.std.proofs.lemmas.List.{length-set, set-set}
-use Rattle.std.proofs.lemmas.Bool.{ltb-false}
+use Rattle.std.proofs.lemmas.Bool.{ltb-false, true≢false}
 use Rattle.descriptor_table.specs.Slots.{in_list, is_due, is_in, slot_at, waits_for}
 use Rattle.descriptor_table.specs.Tables.{AtIf, IsBack, KeepsSettings, MayBecome, PicksAbove, PicksFirst, Stays, Turns, count, generations_of, holds, is_held_use, is_kept, is_taken, is_taken_use, may_stay, most_of, next_use, stays, used_for, Becomes}
 use Rattle.descriptor_table.specs.declared.set_table.SetTable.{SetTable}
@@ -43,7 +43,7 @@ module _ {T : Type 0} where
         let here : slot_at new p ≡ s = ap (λ l. slot_at l p) is ∙ slot_set now p s within in
         let stayed : slot_at now p ≡ slot_at old p = elim (turning.each p) [
           | inl same ↦ same
-          | inr both ↦ absurd (let bad = sym was ∙ done (slot_at old p) (slot_at now p) both.1 in let no : true ≡ false = bad in cc)
+          | inr both ↦ absurd (let bad = sym was ∙ done (slot_at old p) (slot_at now p) both.1 in true≢false bad)
         ] in
         record {
           long = ap length is ∙ length-set now p s ∙ turning.long;
@@ -62,10 +62,10 @@ module _ {T : Type 0} where
       long = turning.long;
       rest = λ p out. elim (turning.each p) [
         | inl same ↦ same
-        | inr both ↦ absurd (let no : true ≡ false = sym both.0 ∙ out in cc)
+        | inr both ↦ absurd (true≢false (sym both.0 ∙ out))
       ];
       here = λ p is. elim (turning.each p) [
-        | inl same ↦ absurd (let no : true ≡ false = sym is ∙ ap test (sym same) ∙ none p in cc)
+        | inl same ↦ absurd (true≢false (sym is ∙ ap test (sym same) ∙ none p))
         | inr both ↦ both.1
       ];
     }
@@ -270,7 +270,7 @@ module _ {T : Type 0} where
         gone : (p : ℕ) → is_in k (slot_at now p) ≡ true → slot_at new p ≡ used_for Going (slot_at now p) → (slot_at new p ≡ slot_at old p) ⊎ ((is_kept (slot_at old p) ≡ true) × (slot_at new p ≡ used_for Going (slot_at old p)))
         gone p e goes = elim (turning.each p) [
           | inl same ↦ inr (ap is_kept (sym same) ∙ kept_of k (slot_at now p) two e, goes ∙ ap (used_for Going) same)
-          | inr both ↦ absurd (let no : true ≡ false = sym e ∙ ap (is_in k) both.1 ∙ going_out k (slot_at old p) two in cc)
+          | inr both ↦ absurd (true≢false (sym e ∙ ap (is_in k) both.1 ∙ going_out k (slot_at old p) two))
         ]
 
         by_test : (p : ℕ) (b : Bool) → is_in k (slot_at now p) ≡ b → (slot_at new p ≡ slot_at old p) ⊎ ((is_kept (slot_at old p) ≡ true) × (slot_at new p ≡ used_for Going (slot_at old p)))

@@ -7,6 +7,7 @@ use Rattle.std.proofs.lemmas.List.Sorted.{sum_by-IsPermutation}
 use Rattle.std.proofs.lemmas.List.Sums.{sum_by-cons, sum_by-append}
 use Rattle.std.specs.List.Sorted.{IsPermutation}
 use Rattle.std.proofs.lemmas.Map.{update_here}
+use Rattle.std.proofs.lemmas.Bool.{false≢true}
 use Rattle.std.specs.Option.{option_map}
 use Rattle.gpu_descriptor_types.specs.Ledger.{Ledger, Pool, CanGive, HasNoSets, AreLive, Releases, fresh, on_pool, live_sets, after_create, after_alloc, after_no_alloc, pool_refusals}
 use Rattle.gpu_descriptor_types.specs.Multiset.{LiveSet, set_eq, times, AreIn}
@@ -27,7 +28,7 @@ pub can_give : (l1 : Ledger) (counts : List ℕ) (capacity flags name n : ℕ) (
 can_give l1 counts capacity flags name n layout mark live plain few h = record {
   pool = fresh counts capacity flags;
   is_live = live;
-  marked = λ t. absurd (let k : false ≡ true = sym plain ∙ t in cc);
+  marked = λ t. absurd (false≢true (sym plain ∙ t));
   places = λ sets spelled. rw (none_spelled sets spelled) (omega arith);
   each_kind = λ sets spelled k. rw (none_spelled sets spelled) (let hk = h k in omega arith);
 }

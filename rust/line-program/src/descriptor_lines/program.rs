@@ -49,7 +49,7 @@ impl<D: LineDevice> Program<D> {
     }
 
     /// Runs a line, and puts its answer into the empty text. An error changes nothing but whether a line
-    /// has come.
+    /// had a command.
     fn run_line(&mut self, line: &[u8], answer: &mut String) -> Result<(), Refusal>
     {
         self.device.hear(line);
@@ -95,8 +95,8 @@ fn run_to_end<D: LineDevice, R: Read, W: Write>(
 }
 
 /// Reads lines from `input` to its end, and writes the answer of each to `output` before the next
-/// is run. It ends early at a faulty line, at a read or a write that fails, of whatever kind, and
-/// after 100000000 read calls.
+/// is run. It ends early without memory to begin, at a faulty line, at a read or a write that
+/// fails, of whatever kind, and after 100000000 read calls.
 pub fn run_lines<R: Read, W: Write>(alloc: Global, input: &mut R, output: &mut W) -> Exit
 {
     let device = ScriptedDevice::new(alloc, Vec::new(alloc));

@@ -1,5 +1,5 @@
 use Rattle.std.proofs.Common.{◌≡◌, ◌≢◌, ℕ, ◌<◌, true, false, List, Bool, length, get_or, inl, inr, refl, sym, ap, ◌∙◌, arith, rules, below_more}
-use Rattle.std.proofs.lemmas.Bool.{cases_eq}
+use Rattle.std.proofs.lemmas.Bool.{cases_eq, false≢true, true≢false}
 use Rattle.std.proofs.lemmas.List.{get_or-set_other, get_or-set_same}
 use Rattle.std.specs.Prelude.{IsSome}
 use Rattle.descriptor_script.specs.Sessions.Tickets.{set_at}
@@ -19,7 +19,7 @@ loop-ticket-preserved g c =
     let long = c.requires.long in
     let same_length = c.loop-ticket.auto.marks in
     let within : n < length marks = omega arith in
-    let apart : (j : ℕ) → j < i → get_or ts j 0 ≢ n = λ j below same. (let bad : true ≡ false = sym (inv.marked j below) ∙ ap (λ k. get_or marks k false) same ∙ unmarked in cc) in
+    let apart : (j : ℕ) → j < i → get_or ts j 0 ≢ n = λ j below same. (true≢false (sym (inv.marked j below) ∙ ap (λ k. get_or marks k false) same ∙ unmarked)) in
     record {
       held = below_more _ _ inv.held here;
       marked = below_more _ _ (λ j below. get_or-set_other marks n (get_or ts j 0) true false (apart j below) ∙ inv.marked j below) (get_or-set_same marks n true false within);
@@ -41,7 +41,7 @@ returns-then-not-is_held-clause-answer g c =
     let ts : List ℕ = c.args.tickets.now in
     let n : ℕ = get_or ts i 0 in
     let within : i < length ts = search rules in (
-      λ bad. absurd (let no : false ≡ true = bad in cc),
+      λ bad. absurd (false≢true bad),
       λ once.
           let here = held_at slots ts once i within in
           let marked : get_or c.loop-ticket.marks n false ≡ true = search rules in

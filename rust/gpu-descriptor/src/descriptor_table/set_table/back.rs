@@ -121,7 +121,7 @@ impl<T> SetTable<T> {
         self.pick(list)
     }
 
-    /// Lets kept sets of a layout go, but so many.
+    /// Lets kept sets of a list go, until no more than so many are left.
     fn trim_list(&mut self, list: usize, most: u32)
     {
         while let Some(place) = self.pick_above(list, most) {
@@ -135,7 +135,7 @@ impl<T> SetTable<T> {
         self.trim_list(layout as usize + KEPT, 0);
     }
 
-    /// Lets kept sets go, but so many of each layout.
+    /// Lets kept sets go, until no more than so many of each layout are left.
     pub fn trim(&mut self, most: u32)
     {
         for list in KEPT..self.chains.len() {

@@ -27,7 +27,7 @@ impl<P, S> DescriptorAllocator<P, S> {
     }
 
     /// Gives back one run, from `first` to before the first set that lies elsewhere, which is
-    /// handed back.
+    /// returned.
     #[inline]
     fn release_run<L, D: DescriptorDevice<L, P, S>, I: Iterator<Item = DescriptorSet<S>>>(
         &mut self,

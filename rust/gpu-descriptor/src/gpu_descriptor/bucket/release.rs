@@ -10,7 +10,7 @@ use crate::gpu_descriptor_types::DescriptorDevice;
 impl<P> DescriptorBucket<P> {
     /// Gives back the sets of one run of this key in one device call.
     ///
-    /// The run goes from `first` to before the first set that lies elsewhere, which is handed back.
+    /// The run goes from `first` to before the first set that lies elsewhere, which is returned.
     #[inline]
     pub(crate) fn release_sets<
         L,

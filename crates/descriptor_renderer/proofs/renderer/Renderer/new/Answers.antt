@@ -1,4 +1,5 @@
 use Rattle.std.proofs.Common.{false, ◌≡◌, ℕ, [], None, Some, length, sym, ap, subst, ◌∙◌, arith}
+use Rattle.std.proofs.lemmas.Option.{none-some}
 use Rattle.descriptor_table.specs.Slots.{frame_of, slot_at}
 use Rattle.descriptor_renderer.specs.Own.{IsCounted}
 use Rattle.descriptor_renderer.specs.Stores.{generations_in, lists_for}
@@ -12,7 +13,7 @@ invariant_of-result-clause-sets g c =
     let store = c.new.ensures in
     record {
       rest = store.rest;
-      own = λ p n x full at. absurd (let no : None ≡ Some x = sym (ap (λ l. (slot_at l p).set) store.slots) ∙ full in cc);
+      own = λ p n x full at. absurd (none-some x (sym (ap (λ l. (slot_at l p).set) store.slots) ∙ full));
       counted = λ n. subst (λ l. IsCounted (generations_in c.new.result n) (slot_at l n)) (sym none) (let e = ap (λ (generations : ℕ → ℕ). generations n) store.settings.generations in (omega arith, omega arith));
       rising = λ p. (let e = ap (λ l. frame_of (slot_at l p)) store.slots in omega arith);
       lists = store.settings.lists ∙ ap (λ l. lists_for (length l)) (sym none);

@@ -1,4 +1,5 @@
 use Rattle.std.proofs.Common.{◌≡◌, ℕ, ◌<◌, true, false, List, ◌∷◌, length, Option, None, Some, IsSome, is_some, sym, ap, ◌∙◌, subst, arith}
+use Rattle.std.proofs.lemmas.Bool.{false≢true}
 use Rattle.std.specs.Iterator.{MakesProgress, at_most}
 use Rattle.std.specs.Slice.Iter.{iter_rest}
 use Rattle.descriptor_script.specs.Inner.Slots.{slots_of}
@@ -8,7 +9,7 @@ use Rattle.descriptor_script.proofs.taking.TakingIterator.next.Goals as goal
 
 -- a call that gave an item
 progress : {S A : Type 0} (can : S → Type 0) (left : S → ℕ) (s t : S) (r : Option A) → can t → left t < left s → IsSome r → MakesProgress can (λ u. at_most (left u)) s r t
-progress can left s t None may less some = absurd (let bad : false ≡ true = some in cc)
+progress can left s t None may less some = absurd (false≢true some)
 progress can left s t (Some x) may less some = record { on = λ finite. (may, tt, less); keeps = may; rests = λ finite. tt }
 
 pub returns-clause-goes : goal.returns-clause-goes

@@ -1,4 +1,5 @@
 use Rattle.std.proofs.Common.{◌≡◌, ℕ, true, false, inl, inr, refl, sym, ap, ◌∙◌, arith}
+use Rattle.std.proofs.lemmas.Bool.{true≢false}
 use Rattle.descriptor_table.specs.Slots.{is_kept_of, slot_at}
 use Rattle.descriptor_table.specs.Tables.{slots_of}
 use Rattle.descriptor_table.proofs.Counts.{count_none}
@@ -17,7 +18,7 @@ returns-clause-turns g c =
         long = turns.long;
         rest = turns.rest;
         here = λ p kept. elim (turns.here p kept) [
-          | inl same ↦ absurd (let no : true ≡ false = sym kept ∙ ap (is_kept_of c.args.layout) (sym same) ∙ none g c p in cc)
+          | inl same ↦ absurd (true≢false (sym kept ∙ ap (is_kept_of c.args.layout) (sym same) ∙ none g c p))
           | inr going ↦ going
         ];
       };
