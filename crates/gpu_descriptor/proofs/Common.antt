@@ -11,11 +11,11 @@ pub use Rattle.std.specs.Iterator.{Count, HoldsAlong, IsFinite, IsNearerEnd, Mak
 pub use Rattle.std.specs.Global.{Vec}
 pub use Rattle.std.specs.VecDeque.{deque_capacity}
 pub use Rattle.std.specs.List.Sorted.{IsNonDecreasing, IsNonDecreasingBy, IsPartitionPoint, IsPartitionedBy, IsPermutation}
-pub use Rattle.std.proofs.lemmas.Bool.{and_from, and_parts, cases_Bool, cases_eq, cases_lt, eqb-false, false_from_ne_true, ltb-false, ltb-true, or_cases, or_from, or_left, or_parts, or_right}
+pub use Rattle.std.proofs.lemmas.Bool.{and_from, and_parts, cases_Bool, cases_eq, cases_lt, eqb-false, false_from_ne_true, ltb-false, ltb-true, or_cases, or_from, or_left, or_parts, or_right, false≢true, true≢false}
 pub use Rattle.std.proofs.lemmas.List.{append-nil, drop-map, drop_all, get_or_default, length-map, length-set, length-take-le, map-append, map-set, nil_from_length, set-get_or, set_split, take-map, take_all, take_at}
 pub use Rattle.std.proofs.lemmas.List.Sums.{count_by-le-length, length-filter, prefix_len-le-length, sum_by-append, sum_by-cons, sum_by_more}
 pub use Rattle.std.proofs.lemmas.List.Elements.{All-append, All-cons, All-nil, All-same}
-pub use Rattle.std.proofs.lemmas.Option.{get_or_from_slice_get, slice_get-get_or, slice_get-map, slice_get_past, slice_get_read, slice_get_within}
+pub use Rattle.std.proofs.lemmas.Option.{get_or_from_slice_get, slice_get-get_or, slice_get-map, slice_get_past, slice_get_read, slice_get_within, none-some, same_Some}
 pub use Rattle.std.proofs.Math.Path.{fun_ext}
 pub use Rattle.std.proofs.Math.Nat.{mul-le-mul_right}
 pub use Rattle.std.proofs.Math.Logic.{∥∥₁_elim, ∥∥₁_map, ∥∥₁_prop}

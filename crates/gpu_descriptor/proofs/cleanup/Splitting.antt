@@ -2,9 +2,7 @@
 -- For cleanup and trim alike (`sweep`): what holds of each such split holds of the two that `left_of` and `gone_of` make, one for
 -- each value of everywhere.
 use Rattle.gpu_descriptor.proofs.Common.{common_steps, ◌≡◌, ◌≢◌, ◌⊎◌, ℕ, zero, suc, ◌==◌, Bool, true, false, nat_lt, List, [], ◌∷◌, take, drop, filter, slice_get, Option, Some, None, inl, inr, refl, sym, ap, ◌∙◌, arith, eq-eqb, eqb-true, ne_eqb, lt-ltb, and_parts, and_from, cases_Bool, list_all}
-use Rattle.gpu_descriptor.proofs.Common.{or_right, or_cases, prefix_len, Entry, Bucket, rises, numbers_of, no_pools, is_empty, are_named, gone_of, left_of, with_pools}
-use Rattle.std.proofs.lemmas.Option.{none-some, same_Some}
-use Rattle.std.proofs.lemmas.Bool.{true≢false}
+use Rattle.gpu_descriptor.proofs.Common.{or_right, or_cases, prefix_len, Entry, Bucket, rises, numbers_of, no_pools, is_empty, are_named, gone_of, left_of, with_pools, none-some, same_Some, true≢false}
 use Rattle.gpu_descriptor.proofs.lists.Numbers.{number_of, rises_at}
 
 -- each pool is the next that is left, or it is empty and the next that goes

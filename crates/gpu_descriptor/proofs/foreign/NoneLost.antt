@@ -1,8 +1,6 @@
 -- What an allocator leaves of the ledger when it is done, nothing of its own: for `laws::no_pool_is_lost`.
 use Rattle.gpu_descriptor.proofs.Common.{Allocations, ◌≡◌, ◌≢◌, ◌⊎◌, ℕ, zero, suc, ◌==◌, true, false, List, [], ◌∷◌, slice_get, Option, Some, None, inl, inr, refl, sym, ap, ◌∙◌, arith, eqb-true, fun_ext, list_any, cases_Bool, or_cases, Pool, Ledger, State, Item, outstanding, Agree, HasNoPools}
-use Rattle.gpu_descriptor.proofs.Common.{Key, key_eq, Entry, Bucket, HasDistinctKeys, books_of, entry_at, no_pools, common_steps, LosesEmpty, IsForeign, IsNamed, KeepsForeign, table_of, state_of}
-use Rattle.std.proofs.lemmas.Option.{none-some}
-use Rattle.std.proofs.lemmas.Bool.{true≢false}
+use Rattle.gpu_descriptor.proofs.Common.{Key, key_eq, Entry, Bucket, HasDistinctKeys, books_of, entry_at, no_pools, common_steps, LosesEmpty, IsForeign, IsNamed, KeepsForeign, table_of, state_of, none-some, true≢false}
 use Rattle.gpu_descriptor.proofs.cleanup.Cleaning.{no_pool_left}
 use Rattle.gpu_descriptor.proofs.foreign.ForeignPools.{cleaned_foreign, cleaned_loses, foreign_through}
 use Rattle.gpu_descriptor.proofs.lists.Numbers.{entry_at-found}

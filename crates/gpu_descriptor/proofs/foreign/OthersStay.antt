@@ -1,9 +1,7 @@
 -- The pools that are none of the allocator's are a function of books and ledger, and each call leaves it.
 -- For the field `others` of Keeps, and `emptied` of Sweeps. a and l are the allocator and its ledger before a call, b and m after it.
 use Rattle.gpu_descriptor.proofs.Common.{common_steps, ◌≡◌, ℕ, Bool, true, false, List, [], ◌∷◌, Option, Some, None, inl, inr, refl, sym, ap, ◌∙◌, arith, fun_ext, list_any, cases_Bool, nil_from_length, ∥∥₁_elim, props, Pool, Ledger, State, Item, Agree, HasNoPools, count_of, outstanding, Key}
-use Rattle.gpu_descriptor.proofs.Common.{Bucket, HasDistinctKeys, books_of, Allocations, LosesEmpty, IsForeign, IsNamed, KeepsForeign, is_named, outstanding_of, state_of, table_of, side, GivesBack, Meaning, DescriptorSet}
-use Rattle.std.proofs.lemmas.Option.{none-some}
-use Rattle.std.proofs.lemmas.Bool.{true≢false}
+use Rattle.gpu_descriptor.proofs.Common.{Bucket, HasDistinctKeys, books_of, Allocations, LosesEmpty, IsForeign, IsNamed, KeepsForeign, is_named, outstanding_of, state_of, table_of, side, GivesBack, Meaning, DescriptorSet, none-some, true≢false}
 use Rattle.gpu_descriptor.specs.Caller.Others.{others_of}
 use Rattle.gpu_descriptor.proofs.cleanup.Cleaning.{no_pool_left}
 use Rattle.gpu_descriptor.proofs.table.Exact.{key_exact}

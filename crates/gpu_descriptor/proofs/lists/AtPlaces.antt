@@ -1,8 +1,7 @@
 -- What stands at the places of a list.
-use Rattle.gpu_descriptor.proofs.Common.{common_steps, ◌≡◌, ◌≢◌, ℕ, zero, suc, ◌-◌, ◌<◌, slice_index, inl, inr, List, [], ◌∷◌, ◌++◌, length, take, slice_set, Bool, true, false, Some, None, refl, sym, ap, ◌∙◌, arith, drop, ◌+◌, or_cases, or_left, or_right, slice_get, list_any, ◌⊎◌}
+use Rattle.gpu_descriptor.proofs.Common.{common_steps, ◌≡◌, ◌≢◌, ℕ, zero, suc, ◌-◌, ◌<◌, slice_index, inl, inr, List, [], ◌∷◌, ◌++◌, length, take, slice_set, Bool, true, false, Some, None, refl, sym, ap, ◌∙◌, arith, drop, ◌+◌, or_cases, or_left, or_right, slice_get, list_any, ◌⊎◌, true≢false}
 use Rattle.gpu_descriptor.proofs.Common.{get_or_from_slice_get, slice_get_within, length-take-le, set-get_or, ◌≤◌, count_by, count_by_no, count_by_yes, Option, cases_Bool, or_from, if◌then◌else◌}
 use Rattle.std.proofs.Math.Seq.{get_or-append_seam, take-suc}
-use Rattle.std.proofs.lemmas.Bool.{true≢false}
 
 pub cases_option : {A : Type 0} (o : Option A) → (o ≡ None) ⊎ ((x : A) × (o ≡ Some x))
 cases_option None = inl refl

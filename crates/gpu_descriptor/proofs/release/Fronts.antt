@@ -1,8 +1,7 @@
 -- The front of a bucket: what giving back does to it, and which places keep their pools when it goes.
 -- For release.Parts, which takes the law of one key from it, and release.FrontPool. es are entries, keep is how many are to stay.
 use Rattle.gpu_descriptor.proofs.Common.{◌≡◌, ℕ, zero, suc, ◌+◌, ◌-◌, ◌<◌, ◌≤◌, true, false, min, List, [], ◌∷◌, length, map, drop, slice_get, Some, inl, inr, refl, sym, ap, ◌∙◌, arith, drop-drop, prefix_len, cases_Bool, cases_lt, drop-map, Entry, Bucket, entry_at, rises, numbers_of, common_steps}
-use Rattle.gpu_descriptor.proofs.Common.{bucket_but_front, entry_less, bucket_less, is_empty, empty_front, spent_front, without_front}
-use Rattle.std.proofs.lemmas.Bool.{true≢false}
+use Rattle.gpu_descriptor.proofs.Common.{bucket_but_front, entry_less, bucket_less, is_empty, empty_front, spent_front, without_front, true≢false}
 use Rattle.gpu_descriptor.proofs.lists.AtPlaces.{get_drop}
 use Rattle.gpu_descriptor.proofs.lists.Numbers.{entry_at-found, entry_at-named, numbers_drop, rises_drop}
 

@@ -1,7 +1,6 @@
 -- Giving sets back leaves the keys of which none of them is.
 use Rattle.gpu_descriptor.proofs.Common.{◌≡◌, ℕ, ◌&&◌, Bool, true, false, List, [], ◌∷◌, count_by, Some, None, option_map, slice_get, slice_get-map, entry_less, refl, sym, ap, ◌∙◌, arith, fun_ext, and_parts, false_from_ne_true, list_any, if◌then◌else◌, LiveSet, set_eq, State, Item, Agree, set_of}
-use Rattle.gpu_descriptor.proofs.Common.{Key, key_eq, Bucket, Entry, IsUntouched, given_back, released, spent_front, in_front, lies_in, pool_less}
-use Rattle.std.proofs.lemmas.Bool.{true≢false}
+use Rattle.gpu_descriptor.proofs.Common.{Key, key_eq, Bucket, Entry, IsUntouched, given_back, released, spent_front, in_front, lies_in, pool_less, true≢false}
 use Rattle.gpu_descriptor.proofs.table.Exact.{key_exact}
 use Rattle.gpu_descriptor.proofs.lists.Numbers.{entry_at-found}
 use Rattle.gpu_descriptor.proofs.release.ReleaseAgrees.{front_found, none_back}

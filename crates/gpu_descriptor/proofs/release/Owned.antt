@@ -2,10 +2,8 @@
 -- For `release_run`, which finds the row of a run by its id and compares no keys. es are the entries of the map, and s is the state.
 use Rattle.gpu_descriptor.proofs.Common.{◌≡◌, ◌<◌, ℕ, suc, true, false, List, [], ◌∷◌, ◌++◌, slice_get, Option, Some, None, IfSome, inl, inr, refl, sym, ap, subst, ◌∙◌, arith, eq-eqb, eqb-true, map, nat_eq, lookup, option_map_or, HoldsAlong, cases_Bool, and_from, and_parts, false_from_ne_true}
 use Rattle.gpu_descriptor.proofs.Common.{Ledger, count_by_yes, BucketKey, DescriptorSet, DescriptorBucket, AreOutstanding, Item, State, item_eq, outstanding, Bucket, Key, entry_at, no_pools, key_of, Allocations, item_of, items_of, state_of, is_of, rises, stored_ids, EndsRun, AllPass}
-use Rattle.gpu_descriptor.proofs.Common.{bucket_of, row_of}
+use Rattle.gpu_descriptor.proofs.Common.{bucket_of, row_of, none-some, same_Some, true≢false}
 use Rattle.std.proofs.iter.Next.{Yields-more}
-use Rattle.std.proofs.lemmas.Bool.{true≢false}
-use Rattle.std.proofs.lemmas.Option.{none-some, same_Some}
 use Rattle.gpu_descriptor.specs.Inner.RunSteps.{at_place, lies_at}
 use Rattle.gpu_descriptor.proofs.table.Exact.{item_exact, key_exact}
 use Rattle.gpu_descriptor.proofs.callers.HeldSets.{out_back}

@@ -4,8 +4,7 @@
 use Rattle.gpu_descriptor.proofs.Common.{◌≡◌, ℕ, ◌+◌, ◌-◌, ◌<◌, ◌≤◌, Bool, true, false, cond, ◌&&◌, ◌==◌, List, [], ◌∷◌, length, map, filter, count_by, Option, Some, None, option_map, inl, inr, refl, sym, ap, ◌∙◌, arith, eqb-true, eq-eqb, ne_eqb, option_map_or, list_any, cases_Bool}
 use Rattle.gpu_descriptor.proofs.Common.{false_from_ne_true, and_parts, and_from, length-map, length-filter, count_by-le-length, slice_get, slice_get-map, rises, numbers_of, set_of, State, Item, item_eq, count_of, live_in, outstanding, AreOutstanding, HasSize, Agree, live_at, Key, key_eq, Entry}
 use Rattle.gpu_descriptor.proofs.Common.{Bucket, entry_at, no_pools, Pool, LiveSet, set_eq, bool_iff, count_by_alike, count_by_none, set_exact, all_taken_out, ∥∥₁_elim, ∥∥₁_map, props, common_steps, lies_in, entry_less, bucket_less, is_empty, empty_front, spent_front, without_front, released}
-use Rattle.std.proofs.lemmas.Option.{none-some}
-use Rattle.std.proofs.lemmas.Bool.{true≢false}
+use Rattle.gpu_descriptor.proofs.Common.{none-some, true≢false}
 use Rattle.gpu_descriptor.proofs.lists.Numbers.{find_map, numbers_map}
 use Rattle.gpu_descriptor.proofs.lists.AtPlaces.{get_drop}
 use Rattle.gpu_descriptor.proofs.release.Fronts.{entry_at-without, entry_at-kept}

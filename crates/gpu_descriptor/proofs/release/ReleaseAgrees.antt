@@ -2,8 +2,7 @@
 -- The laws of `released`, for `laws::release_parts` and for whatever frees. The items m, and then n, go back to the state s.
 use Rattle.gpu_descriptor.proofs.Common.{◌≡◌, ℕ, ◌+◌, ◌-◌, ◌<◌, ◌≤◌, Bool, true, false, ltb, ◌&&◌, ◌==◌, List, [], ◌∷◌, ◌++◌, flat_map, map, take, count_by, slice_get, slice_get-map, Option, Some, None, option_map, inl, inr, refl, sym, ap, ◌∙◌, subst, arith, eqb-true, if◌then◌else◌, fun_ext}
 use Rattle.gpu_descriptor.proofs.Common.{list_any, cases_lt, and_parts, false_from_ne_true, set_of, State, Item, count_of, outstanding, AreOutstanding, IsAsBooked, Agree, Key, Entry, Bucket, entry_at, rises, numbers_of, Pool, set_eq, counts_alike, count_by-append, list_any-count_by, common_steps}
-use Rattle.gpu_descriptor.proofs.Common.{lies_in, entry_less, bucket_less, pool_less, given_back, spent_front, released, singly, released_each}
-use Rattle.std.proofs.lemmas.Option.{none-some}
+use Rattle.gpu_descriptor.proofs.Common.{lies_in, entry_less, bucket_less, pool_less, given_back, spent_front, released, singly, released_each, none-some}
 use Rattle.gpu_descriptor.proofs.lists.Numbers.{entry_at-found, entry_at-from, numbers_drop, rises_drop}
 use Rattle.gpu_descriptor.proofs.request.StateAgrees.{booked_at}
 use Rattle.gpu_descriptor.proofs.lists.AtPlaces.{cases_option, found_before, if_none}

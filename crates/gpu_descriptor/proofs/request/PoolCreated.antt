@@ -94,3 +94,6 @@ had_room other fits = (λ is. absurd (other is), λ none. absurd (omega arith))
 -- how often pools were asked
 pub create_asked : (error : CreatePoolError) (n : Counters) → (create_refused error n).asked ≡ n.asked
 create_asked error n = grind arith
+
+pub alloc_asked : (error : DeviceAllocationError) (n : Counters) → (alloc_refused error n).asked ≡ n.asked + 1
+alloc_asked error n = grind arith

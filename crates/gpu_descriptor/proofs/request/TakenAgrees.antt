@@ -1,12 +1,11 @@
 -- What a request takes keeps books and ledger in agreement, and exactly its sets are outstanding besides.
 -- For request.Outcomes, and so for `fill`: a request of n sets of a key took the grant g, and left the state t of s (`granted_`).
 -- `placed`: a portion's pool has its number. `apart`: of another name, or of another key.
-use Rattle.gpu_descriptor.proofs.Common.{◌≡◌, ◌≢◌, ℕ, suc, take, drop, ◌+◌, ◌-◌, ◌<◌, ◌⊎◌, inl, inr, List, [], ◌∷◌, ◌++◌, length, map, Bool, true, false, ◌==◌, Option, Some, None, refl, sym, ap, ◌∙◌, subst, arith, cases_Bool, cases_lt, ne_eqb, eqb-true, nil_from_length}
+use Rattle.gpu_descriptor.proofs.Common.{◌≡◌, ◌≢◌, ℕ, suc, take, drop, ◌+◌, ◌-◌, ◌<◌, ◌⊎◌, inl, inr, List, [], ◌∷◌, ◌++◌, length, map, Bool, true, false, ◌==◌, Option, Some, None, refl, sym, ap, ◌∙◌, subst, arith, cases_Bool, cases_lt, ne_eqb, eqb-true, nil_from_length, none-some, same_Some}
 use Rattle.gpu_descriptor.proofs.Common.{length-append, sum_by-append, slice_get, slice_get_within, slice_get_past, list_any, option_map, option_map_or, if◌then◌else◌, flags_of, Key, key_eq, Entry, Bucket, Pool, State, Item, LiveSet, live_sets, times, Agree, IsAsBooked, entry_at, live_at, live_in}
 use Rattle.gpu_descriptor.proofs.Common.{set_of, count_of, outstanding, pool_counts, map-append, times-append, eqb-false, slice_get-get_or, get_or_from_slice_get, get_or, IsBookedIn, Fresh, fresh_entries, fresh_entry, fresh_portions, next_number, numbers_of, rises, Grant, Part, IsGrantOf}
 use Rattle.gpu_descriptor.proofs.Common.{items_in, portion_of, came, bucket_with, ledger_with, fresh_or, pool_with, items_at, granted, Portion, all_shared, portions_of, KeepsForeign, KeepsOtherKeys}
 use Rattle.std.proofs.lemmas.List.{get_or-append-add}
-use Rattle.std.proofs.lemmas.Option.{none-some, same_Some}
 use Rattle.gpu_descriptor.proofs.lists.AtPlaces.{cases_option, get_drop, if_none, none_from}
 use Rattle.gpu_descriptor_types.specs.Ledger as ledgers
 use Rattle.gpu_descriptor.proofs.table.Exact.{key_exact}

@@ -1,5 +1,5 @@
 -- The descriptors of a key's pools, as the code has them.
-use Rattle.gpu_descriptor.proofs.Common.{◌++◌, sum_by-append, ◌≡◌, ◌+◌, ◌<◌, List, [], ◌∷◌, length, drop, get_or, ap, arith, sum_by-cons, DescriptorPool, Key, pool_descriptors, stored_load}
+use Rattle.gpu_descriptor.proofs.Common.{◌++◌, sum_by-append, ◌≡◌, ◌+◌, ◌<◌, List, [], ◌∷◌, length, drop, get_or, ap, arith, sum_by-cons, DescriptorPool, Key, pool_descriptors, stored_load, ℕ, zero, suc, set, common_steps}
 
 module _ {P : Type 0} (k : Key) where
   cons : (p : DescriptorPool P) (ps : List (DescriptorPool P)) → stored_load k (p ∷ ps) ≡ pool_descriptors k p.capacity + stored_load k ps
@@ -14,3 +14,10 @@ module _ {P : Type 0} (k : Key) where
 
   pub stored_one : (p : DescriptorPool P) → stored_load k (p ∷ []) ≡ pool_descriptors k p.capacity
   stored_one p = (let sum = cons p [] in omega arith)
+
+  -- counts move
+  pub stored_put : (items : List (DescriptorPool P)) (i : ℕ) (q : DescriptorPool P) (raw : P) (allocated available : ℕ) → i < length items → q ≡ get_or items i q
+      → stored_load k (set items i (record { raw = raw; number = q.number; capacity = q.capacity; allocated = allocated; available = available })) ≡ stored_load k items
+  stored_put [] i q raw allocated available within is = absurd (omega arith)
+  stored_put (x ∷ items) zero q raw allocated available within is = grind arith
+  stored_put (x ∷ items) (suc i) q raw allocated available within is = grind (arith, common_steps)

@@ -9,6 +9,7 @@ use Rattle.gpu_descriptor.proofs.foreign.LedgerPools.{taken_from, release_pools}
 use Rattle.gpu_descriptor.proofs.release.OneRun.{run_counts, run_live, run_ends, run_goes, done}
 use Rattle.gpu_descriptor.proofs.table.Exact.{bucket}
 use Rattle.gpu_descriptor.proofs.bucket.DescriptorBucket.release_sets.Goals.{Start, After-index_mut-pool, After-finish-count}
+use Rattle.gpu_descriptor.proofs.sums.PoolLoads.{stored_put}
 use Rattle.gpu_descriptor.proofs.bucket.DescriptorBucket.release_sets.Goals as goal
 
 -- one set alone is in the place
@@ -238,3 +239,10 @@ returns-clause-compares g c =
     let found = c.place_of_pool-place.ensures.compares in
     let entered = c.enter_new.ensures.compares in
     record { rises = omega arith; few = omega arith }
+
+pub returns-clause-load : goal.returns-clause-load
+returns-clause-load g c = λ k.
+    let r = (goal.at.returns-clause-load g c).After-index_mut-pool in
+    stored_put k c.args.self.now.pools.items c.place_of_pool-place.result c.index_mut-pool.result.now
+    c.dealloc_descriptor_sets.new.pool (c.index_mut-pool.result.now.allocated - c.finish-count.result)
+    (c.index_mut-pool.result.now.available + c.finish-count.result) (is_at g r).within c.index_mut-pool.ensures.value
