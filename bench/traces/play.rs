@@ -5,6 +5,7 @@
 //! library doesn't serve, are left out.
 
 use crate::gpu::Gpu;
+use std::mem::take;
 use std::time::{Duration, Instant};
 
 /// How many kinds of descriptors there are.
@@ -58,6 +59,7 @@ enum Call {
     Request(usize, usize, u32),
     /// The places of sets within what their pool has.
     Free(usize, Vec<usize>),
+    /// A pool is reset, or destroyed if this is true.
     Empty(usize, bool),
 }
 
@@ -196,7 +198,9 @@ impl Trace {
             player.add_layout(layout, handles[layout], of);
         }
         let goes = |call: &Call| matches!(call, Call::Layout(..) | Call::Unlayout(_));
-        self.calls.retain(|call| !goes(call));
+        let calls = take(&mut self.calls).into_iter();
+        let stay = calls.zip(take(&mut self.frames)).filter(|it| !goes(&it.0));
+        (self.calls, self.frames) = stay.unzip();
     }
 
     /// Plays all calls once: how many sets were allocated, freed, and left.

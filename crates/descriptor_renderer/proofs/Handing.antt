@@ -1,6 +1,8 @@
--- A set that gets a handle, a kept one or one that came: for `Store::draw` and `create` (by `Taking`), `hold_next` and `hold_last`.
+-- A set that gets a handle, a kept one or one that came: for `Store::draw` and `create` (by `Taking`), for `hold_next`, `hold_last` and
+-- `Joining`, and in `Adding` for a layout. `cleared_of` and `refused_arrives` say what a refusal leaves, also for `Bringing` and `create_each`.
 -- `p` is its place, `u` what it is in use for, and `handle` the next one of the slot. `Fills` says what becomes of the slot, and `Handles`
--- the same after kept sets may have gone. The slots are `old` before, `mid` or `put` once the set was picked or put, and `new` after.
+-- the same after kept sets may have gone. The slots are `old` before, `new` after, and between them `put` once the set was put, or `mid`: in
+-- `kept_fills` and `kept_fewer` once it was picked, and elsewhere once kept sets went, before it comes.
 use Rattle.std.proofs.lemmas.Grind.{common_steps}
 use Rattle.std.proofs.Common.{◌≡◌, ◌≢◌, ℕ, ◌+◌, ◌<◌, ◌≤◌, ◌⊎◌, ◌||◌, Bool, true, false, List, length, set, Option, Some, None, is_some, Result, Ok, inl, inr, refl, sym, ap, subst, ◌∙◌, arith}
 use Rattle.std.proofs.lemmas.Bool.{cases_eq}
@@ -50,7 +52,7 @@ IsCurrent generations slots = (p : ℕ) → p < length slots → is_kept (slot_a
 kept_under : {T : Type 0} (generations : ℕ → ℕ) (layout : ℕ) (s : Slot T) → s.layout ≡ layout → s.layout_generation ≡ generations s.layout → came_under s ≡ current generations layout
 kept_under generations layout s at now = λ i. (at i, (now ∙ ap generations at) i)
 
--- kept sets may have gone before that
+-- so it is after kept sets may have gone, which left `mid`
 pub record Handles {T : Type 0} (comes : ℕ → T → Type 0) (number : ℕ) (generations : ℕ → ℕ) (layout p : ℕ) (u : Use) (handle : SetHandle) (old new : List (Slot T)) : Type 0 where
   pub mid : List (Slot T)
   pub clears : (q : ℕ) → Clears (slot_at old q) (slot_at mid q)

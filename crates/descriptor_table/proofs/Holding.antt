@@ -73,7 +73,7 @@ module _ {T : Type 0} where
   all_same (x ∷ l) [] long same = absurd (omega arith)
   all_same (x ∷ l) (y ∷ m) long same = ap (λ z. z ∷ l) (same 0) ∙ ap (λ k. y ∷ k) (all_same l m (omega arith) (λ p. same (suc p)))
 
-  -- the sets of the first handles were taken, and these have other places
+  -- the sets of the first n handles were taken, no two of which have one place
   pub record TookSome (number : ℕ) (handles : List SetHandle) (n : ℕ) (old now : List (Slot T)) : Type 0 where
     pub took : TookEach handles n old now
     pub held : (i : ℕ) (d : SetHandle) → i < n → i < length handles → is_held number old (get_or handles i d) ≡ true

@@ -286,7 +286,7 @@ module _ {T : Type 0} where
           | inr goes ↦ gone p e goes
         ]
 
-    -- the other lists of kept sets stay
+    -- the other lists have as many kept sets as before
     pub trim_others : (j : ℕ) → 2 ≤ j → j ≢ k → count (is_in j) new ≡ count (is_in j) now
     trim_others j two' ne = count_same (is_in j) now new turns.long (λ p. by_test p (is_in k (slot_at now p)) refl)
       where

@@ -19,6 +19,8 @@ pub enum Fault {
     BadMark,
     BadKind,
     KindTwice,
+
+    /// No number, one above the greatest of its place, or a range with two `-`.
     BadNumber,
     BadAnswerWord,
     TooManyTickets,

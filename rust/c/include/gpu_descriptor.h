@@ -85,7 +85,7 @@ typedef uint32_t gd_status;
 enum {
     GD_OK = 0,
 
-    /* Why gd_allocate failed, and why one of your functions fails. */
+    /* Reasons: why gd_allocate failed, and why one of your functions fails. */
     GD_OUT_OF_DEVICE_MEMORY = 10,
     GD_OUT_OF_HOST_MEMORY = 11, /* of the driver or of the library */
     GD_FRAGMENTATION = 12,      /* of gd_allocate: the limit is reached, or a new pool failed as
@@ -163,7 +163,7 @@ typedef struct gd_pool_info {
  *
  * gd_free_sets frees sets, at least 1, all of this pool.
  *
- * gd_create_pool and gd_allocate_sets return GD_OK or one of the five reasons. If gd_allocate_sets
+ * gd_create_pool and gd_allocate_sets return GD_OK or one of the reasons 10 to 14. If gd_allocate_sets
  * returns GD_FRAGMENTATION or GD_OUT_OF_POOL_MEMORY for an existing pool, the next pool is asked. If it
  * does so for a new pool, the pool is destroyed, and gd_allocate returns GD_FRAGMENTATION; so it does if
  * gd_create_pool returns one of them. Each other reason is what gd_allocate returns. For a status that

@@ -1,15 +1,15 @@
 // A target of libFuzzer: the bytes choose calls on two allocators and what the driver returns. The driver
 // checks each of its calls, and after each call of the library counts and statuses are as they have to be.
 //
-// Sets are freed that are held, that were freed before, and that are made of parts of others. None is
-// kept, or some, or all.
+// Sets are freed that are held, that were freed before, and that are made of parts of others. The library
+// keeps none of those that come back, or some, or all.
 #include "gpu_descriptor.h"
 #include "host.h"
 #include <string.h>
 
 enum { ALLOCATORS = 2, LAYOUTS = 4, MOST_SETS = 256, MOST_POOLS = 4096, MOST_HANDLES = 1 << 16 };
 
-// What the bytes are not read for any more is 0.
+// Once all bytes were read, each further one is 0.
 static const uint8_t *bytes;
 static size_t left;
 

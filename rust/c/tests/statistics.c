@@ -149,7 +149,7 @@ static void count_and_write(void) {
     wanted.update_after_bind_capacity = 2 * 4294967;
     expect_numbers(allocator, wanted);
     expect_three(allocator);
-    // Kept sets, pools, and their sets in use and free. Nine were allocated of 64: kept ones are in use.
+    // Kept sets, pools, and their sets that are used and free. Nine were allocated of 64: kept ones are used too.
     expect_numbers_of(allocator, first, (gd_layout_statistics){3, 1, 9, 55});
     expect_numbers_of(allocator, second, (gd_layout_statistics){1, 1, 2, 0});
     expect_numbers_of(allocator, third, (gd_layout_statistics){0, 0, 0, 0});
@@ -163,7 +163,8 @@ static void count_and_write(void) {
     CHECK(gd_destroy(allocator) == GD_OK);
 }
 
-// Two layouts of 1,000 samplers share pools of 64 sets; a third one's are of 128 sets with a sampler each.
+// Two layouts of 1,000 samplers share pools of 64 sets; a third one, of one sampler, has
+// a pool of 128 sets, and later one of 64.
 static void share_pools(void) {
     gd_allocator allocator;
     gd_set sets[101];

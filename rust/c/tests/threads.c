@@ -1,6 +1,7 @@
-// Threads that call one allocator without a lock. Each call waits for its turn, and nothing is lost. Mostly all
-// sets are kept. Then allocators are created and destroyed while threads use those that there were. All that is
-// done again with allocators that don't wait: each call succeeds or returns GD_BUSY.
+// Two calls wait while a slow one runs, and take hardly any processor time. Then threads call one allocator
+// without a lock: each call waits for its turn, and nothing is lost. Mostly all sets are kept. Then allocators
+// are created and destroyed while threads use those that there were. All that is done again with allocators
+// that don't wait: each call succeeds or returns GD_BUSY.
 //
 // usage: threads [busy] ; with `busy` the library is one in which no call waits
 #define _POSIX_C_SOURCE 200809L
@@ -13,7 +14,7 @@
 #include <time.h>
 
 // Threads at once, turns of each, sets of a request, and allocators that come and go.
-enum { THREADS = 4, SETS = 3000, LOT = 5, ALLOCATORS = 500 };
+enum { THREADS = 4, TURNS = 3000, LOT = 5, ALLOCATORS = 500 };
 
 // Not atomic: the allocator lets one call in at a time, and orders them.
 static uint64_t pools, sets_alive, next_handle;
@@ -80,9 +81,9 @@ static gd_status counted_call(gd_status status) {
     return status;
 }
 
-// Allocates and frees, at once or by frames.
+// Allocates and frees: at once if `way` is NULL, and else by frames.
 static void *use(void *way) {
-    for (uint32_t done = 0; done < SETS; done++) {
+    for (uint32_t done = 0; done < TURNS; done++) {
         gd_set sets[LOT];
         while (counted_call(gd_allocate(allocator, layout, LOT, sets)) != GD_OK) {
             CHECK(sets[0].handle == 0);
@@ -108,16 +109,16 @@ static void *use(void *way) {
 static void *use_late(void *unused) {
     (void)unused;
     while (atomic_load(&current_id) != UINT64_MAX) {
-        gd_allocator late;
-        late.id = atomic_load(&current_id);
-        late.slot = (const void *)(uintptr_t)atomic_load(&current_slot);
-        gd_layout known = {0, late.id};
+        gd_allocator last;
+        last.id = atomic_load(&current_id);
+        last.slot = (const void *)(uintptr_t)atomic_load(&current_slot);
+        gd_layout known = {0, last.id};
         gd_set set;
-        gd_status status = gd_allocate(late, known, 1, &set);
+        gd_status status = gd_allocate(last, known, 1, &set);
         CHECK(status == GD_OK || (status == GD_BUSY && !waits) || status == GD_BAD_ALLOCATOR ||
               status == GD_BAD_LAYOUT);
         atomic_fetch_add(status == GD_OK ? &succeeded : status == GD_BUSY ? &busy : &gone, 1);
-        while (status == GD_OK && (status = gd_free(late, &set, 1)) != GD_OK) {
+        while (status == GD_OK && (status = gd_free(last, &set, 1)) != GD_OK) {
             CHECK(status == GD_BUSY && !waits);
             status = GD_OK;
         }
@@ -150,6 +151,7 @@ static void make_and_destroy(void) {
     atomic_store(&current_id, UINT64_MAX);
 }
 
+// If `is_different`, every second thread gets a `way` that isn't NULL.
 static void start(pthread_t *threads, void *(*what)(void *), bool is_different) {
     for (uint64_t at = 0; at < THREADS; at++)
         CHECK(pthread_create(&threads[at], NULL, what,

@@ -77,7 +77,8 @@ impl DescriptorDevice<Layout, Pool, Set> for Device {
     }
 }
 
-/// A device of any layout, with a bound at the layouts and no lifetime at the release. It refuses.
+/// A device of any layout, with a bound at the layouts and no lifetime at the release. It refuses: the
+/// second function gives the reason at an allocation, and if it gives none, the first one at a creation.
 struct Refuses(
     fn() -> CreatePoolError,
     fn() -> Option<DeviceAllocationError>,

@@ -1,4 +1,5 @@
-//! The limit on update-after-bind descriptors: as many sets as it has descriptors, and not one more.
+//! The limit on update-after-bind descriptors: as many sets as it has descriptors, and not one more. The
+//! pools together never have more descriptors either: they are cut to it.
 
 use gpu_descriptor::AllocationError::Fragmentation;
 use gpu_descriptor::frames::FrameManager;

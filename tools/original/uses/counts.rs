@@ -14,17 +14,20 @@ const MANY_PROGRAMS: u64 = 1000;
 #[derive(Default)]
 pub struct Counts {
     passed: u64,
+
+    /// Uses and programs that differ, also before a departure; panics of the original; uses in which
+    /// it departs; and refusals that no program met.
     failed: u64,
 
     /// Programs that were left out, by the departure that they meet.
     left_out: BTreeMap<&'static str, u64>,
 
-    /// Refusals in the programs that were compared.
+    /// Refusals in the uses and programs that passed.
     refusals: BTreeMap<(Call, Outcome), u64>,
 }
 
 impl Counts {
-    /// How many were compared to their end.
+    /// How many passed or failed: of programs that depart, those that differ before that.
     pub fn compared(&self) -> u64 {
         self.passed + self.failed
     }
@@ -36,8 +39,9 @@ impl Counts {
         }
     }
 
-    /// Compares both, and returns whether the original got to its end. Where it is about to depart,
-    /// they are compared up to there. A panic has a transcript of its own.
+    /// Compares both, and returns whether the original didn't depart. Where it is about to depart,
+    /// they are compared up to there. A panic of the crate has a transcript of its own, and one of the
+    /// original is a failure.
     pub fn compare(
         &mut self,
         name: &str,

@@ -10,7 +10,7 @@ use descriptor_words::Refusal;
 use std::io::Write;
 use std::string::String;
 
-/// Writes what there is to say of a line, and leaves the text empty.
+/// Writes what there is to say of a line. If it returns `Ok`, the text is empty then.
 pub fn answer_line<W: Write>(
     output: &mut W,
     answer: &mut String,

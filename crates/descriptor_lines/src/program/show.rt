@@ -13,7 +13,7 @@ use std::string::String;
 
 impl<D: LineDevice> Program<D> {
     /// Puts the pools of each key after the text, under the first layout that has it, and then the
-    /// counters.
+    /// counters, the held sets and the marked load.
     pub(super) fn show(&self, answer: &mut String) -> Result<(), AllocError>
         ensures { OnOk result (string_bytes answer.new ≡ string_bytes answer.old
             ++ show_answer (line_state D.ledger D.script self.now)) }

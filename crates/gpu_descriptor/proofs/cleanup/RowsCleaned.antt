@@ -102,6 +102,7 @@ module _ (everywhere : Bool) where
         rows_set es i k v w at ∙ ap (λ (b : Bucket). set (rows_in name es) i (key_of k, b)) new
         ∙ ap (λ (l : Rows). set l i (cleared_row (key_of k, bucket_of name v))) h ∙ cleared_set rows i (key_of k, bucket_of name v) (next i es rows k v h at)
 
+  -- here `now` is the ledger before the step
   pub step_less : (i : ℕ) (rows : Rows) (r : Key × Bucket) (l now after : Ledger) → slice_get rows i ≡ Some r → now ≡ ledger_less (take i rows) l → after ≡ ledger_but (gone_of everywhere r.1.pools) now → after ≡ ledger_less (take (i + 1) rows) l
   step_less i rows r l now after at was done =
       let within = slice_get_within rows i r at in
@@ -201,7 +202,8 @@ module _ (everywhere : Bool) where
       grind (arith, common_steps, key_exact, sum_by-cons, (by_keys rows d.1))
 
   module _ {P : Type 0} (name : P → ℕ) where
-    -- of an allocator with this table: its state, its agreement, the whole sweep, and how many pools that destroys
+    -- of an allocator with this table: its state, its agreement, the whole sweep, after which the ledger is k, and how many pools
+    -- that destroys
     state_is : (a : Allocations P) (l : Ledger) (es : List (BucketKey × DescriptorBucket P)) → a.table ≡ map row_of es → state_of name a l ≡ record { books = books_of (rows_in name es); ledger = l.pools }
     state_is a l es is = (let rows = ap (map (named_row name)) is ∙ rows_are name es in λ i. record { books = books_of (rows i); ledger = l.pools })
 
@@ -239,7 +241,7 @@ module _ (everywhere : Bool) where
         let sum = (λ i. pools_lost everywhere (keys i) (state_is a l es is i)) ∙ by_keys (rows_in name es) distinct in
         ap (λ (m : Ledger). m.counters) all ∙ ap (λ (m : ℕ). more_destroyed m l.counters) (sym sum)
 
--- ---- the running totals stay
+-- ---- the running totals stay right
 
 -- a sum over those that count
 pub sum_filter : {A : Type 0} (f : A → ℕ) (p : A → Bool) → ((x : A) → p x ≡ false → f x ≡ 0) → (xs : List A) → sum_by f (filter p xs) ≡ sum_by f xs

@@ -116,7 +116,7 @@ left_rises [] left gone s h = ap (λ (l : List Entry). rises (numbers_of l)) s.0
 left_rises (x ∷ pools) left gone (inl s) h = grind (arith, common_steps, all_left, and_from, and_parts, rises, (left_rises pools s.0 gone s.2))
 left_rises (x ∷ pools) left gone (inr s) h = left_rises pools left s.0 s.3 (and_parts (list_all (nat_lt x.number) (numbers_of pools)) (rises (numbers_of pools)) h).1
 
--- one place has each
+-- no pool has two places
 pub one_place : (es : List Entry) → rises (numbers_of es) ≡ true → (i j : ℕ) (e : Entry) → slice_get es i ≡ Some e → slice_get es j ≡ Some e → i ≡ j
 one_place es h i j e at at' = grind (arith, common_steps, number_of, rises_at)
 

@@ -1,5 +1,5 @@
 -- Which places of the books keep their pools when sets go back: those that still have a set out.
--- For the laws of `released` in release.ReleaseAgrees and Parts. The items m go back to the state s; back m s counts those of a pool,
+-- For the laws of `released` in release.ReleaseAgrees and Parts. The items m go back to pools of the state s; back m s counts those of a pool,
 -- `back_named` those of a live set in it; `front_of` is how many pools a key then loses.
 use Rattle.gpu_descriptor.proofs.Common.{◌≡◌, ℕ, ◌+◌, ◌-◌, ◌<◌, ◌≤◌, Bool, true, false, cond, ◌&&◌, ◌==◌, List, [], ◌∷◌, length, map, filter, count_by, Option, Some, None, option_map, inl, inr, refl, sym, ap, ◌∙◌, arith, eqb-true, eq-eqb, ne_eqb, option_map_or, list_any, cases_Bool}
 use Rattle.gpu_descriptor.proofs.Common.{false_from_ne_true, and_parts, and_from, length-map, length-filter, count_by-le-length, slice_get, slice_get-map, rises, numbers_of, set_of, State, Item, item_eq, count_of, live_in, outstanding, AreOutstanding, HasSize, Agree, live_at, Key, key_eq, Entry}
@@ -11,7 +11,7 @@ use Rattle.gpu_descriptor.proofs.release.Fronts.{entry_at-without, entry_at-kept
 use Rattle.gpu_descriptor.proofs.request.StateAgrees.{booked_at, distinct_at}
 use Rattle.gpu_descriptor.proofs.table.Exact.{item_exact, item_parts, item_from}
 
--- how many sets go back to a pool, and how many of a name
+-- how many sets go back to a pool, and how many of these are that live set
 abbrev pub back : List Item → State → ℕ → ℕ
 back m s pool = count_by (lies_in s.books pool) m
 
@@ -185,6 +185,6 @@ kept m s agree out t more =
           ∙ entry_at-kept (bucket_less (back m s) (s.books t.key)) (front_of m s t.key) t.number (entry_less (back m s e.pool) e) (ap rises (numbers_less (back m s) (s.books t.key)) ∙ agree.rising t.key) (front_of-le m s t.key) there full,
     )
 
--- an allocator without keys agrees with every ledger
+-- for new allocators: one without keys agrees with every ledger
 pub empty_agrees : (ledger : ℕ → Option Pool) → Agree (record { books = λ _. no_pools; ledger = ledger })
 empty_agrees ledger = grind arith

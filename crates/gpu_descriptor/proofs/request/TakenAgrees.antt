@@ -26,12 +26,12 @@ IsPlaced b m q = (d : Entry) × (entry_at b m ≡ Some d) × (d.pool ≡ q)
 -- and so did each of a list
 abbrev ArePlaced : Bucket → List Portion → Type 0
 ArePlaced b [] = Unit {0}
-ArePlaced b (r ∷ rows) = IsPlaced b r.number r.pool × ArePlaced b rows
+ArePlaced b (p ∷ portions) = IsPlaced b p.number p.pool × ArePlaced b portions
 
 -- so did those of two such lists, the shares of existing pools, and what new pools gave
-placed_append : (b : Bucket) (rows more : List Portion) → ArePlaced b rows → ArePlaced b more → ArePlaced b (rows ++ more)
+placed_append : (b : Bucket) (portions more : List Portion) → ArePlaced b portions → ArePlaced b more → ArePlaced b (portions ++ more)
 placed_append b [] more first last = last
-placed_append b (r ∷ rows) more first last = (first.0, placed_append b rows more first.1 last)
+placed_append b (p ∷ portions) more first last = (first.0, placed_append b portions more first.1 last)
 
 placed_shares : (b : Bucket) (refused : ℕ → Bool) (n : ℕ) (es : List Entry) → ((j : ℕ) (e : Entry) → slice_get es j ≡ Some e → IsPlaced b e.number e.pool) → ArePlaced b (portions_of refused n es)
 placed_shares b refused n [] each = tt

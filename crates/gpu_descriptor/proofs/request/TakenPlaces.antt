@@ -1,6 +1,6 @@
 -- What stands at the places of a key's pools once a request took sets of them: an old pool with what it gave, or a new one.
--- For request.TakenAgrees. es are the entries before, of which the oldest, left of them, weren't asked; fs are the new pools, or their
--- entries; q is the name of a pool. `apart`: of other names.
+-- For request.TakenAgrees, Growing and Outcomes. `es` are the entries before, of which the `left` oldest weren't asked; `fs` are the new
+-- pools, or their entries; `q` is the name of a pool. `apart`: of other names.
 use Rattle.gpu_descriptor.proofs.Common.{common_steps, greatest_pool_size, ◌≡◌, ◌≢◌, ℕ, zero, suc, take, drop, ◌+◌, ◌≤◌, ◌⊎◌, inl, inr, List, [], ◌∷◌, ◌++◌, length, map, Bool, false, ◌==◌, Option, Some, None, refl, sym, ap, ◌∙◌, subst, arith, cases_Bool, eq-eqb, ne_eqb, eqb-false, or_parts}
 use Rattle.gpu_descriptor.proofs.Common.{or_from, sum_by, sum_by-cons, sum_by-append, slice_get, list_any, if◌then◌else◌, flags_of, Key, Entry, Pool, pool_counts, Fresh, AreNew, AreSized, AreFull, IsFreshList, fresh_entries, fresh_entry, fresh_portions, Part, portion_of, came, fresh_or, Portion}
 use Rattle.gpu_descriptor.proofs.Common.{offer, share, shared, all_shared, portions_of}
@@ -18,7 +18,7 @@ abbrev gave : ℕ → Portion → ℕ
 gave q r = if r.pool == q then r.given else 0
 
 abbrev pub given_at : ℕ → List Portion → ℕ
-given_at q rows = sum_by (gave q) rows
+given_at q portions = sum_by (gave q) portions
 
 pub came_long : (q : ℕ) (parts : List Part) → length (came parts q) ≡ given_at q (map portion_of parts)
 came_long q [] = refl
@@ -68,7 +68,7 @@ apart_at q (x ∷ es) (suc i) e apart at = apart_at q es i e apart.1 at
 
 -- what stands at a place: an old pool with what it gave, or one behind them
 abbrev Stands : (ℕ → Bool) → List Portion → List Entry → List Entry → ℕ → Entry → Type 0
-Stands refused rows es fs i f = ((e : Entry) × (slice_get es i ≡ Some e) × Became (given_at e.pool rows) (refused e.pool) e f) ⊎ ((j : ℕ) × (i ≡ length es + j) × (slice_get fs j ≡ Some f))
+Stands refused portions es fs i f = ((e : Entry) × (slice_get es i ≡ Some e) × Became (given_at e.pool portions) (refused e.pool) e f) ⊎ ((j : ℕ) × (i ≡ length es + j) × (slice_get fs j ≡ Some f))
 
 -- if none of the oldest is left alone
 shared_stands : (refused : ℕ → Bool) (n : ℕ) (es fs : List Entry) → AreApart es → (i : ℕ) (f : Entry) → slice_get (all_shared refused n es ++ fs) i ≡ Some f → Stands refused (portions_of refused n es) es fs i f

@@ -1,4 +1,5 @@
 -- The totals that callers see are sums over the table of the books.
+-- P are the device's raw pools, as the allocator's table has them; the books have their names. The sums are the same.
 use Rattle.gpu_descriptor.proofs.Common.{◌≡◌, ℕ, ◌+◌, List, [], ◌∷◌, map, sum_by, inl, inr, refl, ap, ◌∙◌, sym, cases_Bool, sum_by-cons, Key, key_eq, BucketOf, Bucket, AddsUp, HasDistinctKeys, books_of, sum_over, Allocations, set_descriptors, bucket_load, sets_out, descriptors_out, named}
 use Rattle.gpu_descriptor.proofs.Common.{named_bucket, named_row, table_of, outstanding_of, marked_load_of, pool_load_of}
 

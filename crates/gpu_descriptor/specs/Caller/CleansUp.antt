@@ -10,11 +10,11 @@ use Rattle.gpu_descriptor.specs.Caller.Others.{others_of}
 use Rattle.gpu_descriptor.specs.Caller.States.{keys_of, marked_load_of, outstanding_of, state_of}
 use Rattle.gpu_descriptor.specs.Caller.Values.{Allocations}
 
--- each key lost its empty pools: all of them if everywhere is true (a trim), or those at its front (a cleanup)
+-- what a trim leaves if everywhere is true, and else what a cleanup leaves
 pub record Sweeps (everywhere : Bool) {L P S : Type 0} (means : Meaning L P S) (old new : Side (Allocations P)) : Type 0 where
-  -- each key loses its empty pools, or those at its front, the last pool too
+  -- each key lost its empty pools, or for a cleanup those at its front, the last pool too
   pub cleaned : LosesEmpty everywhere (state_of means.pool_name old.value old.ledger) (state_of means.pool_name new.value new.ledger)
-  -- all other counters stay
+  -- as many pools more are destroyed as went, and all other counters stay
   pub destroyed : new.ledger.counters ≡ more_destroyed (pools_lost everywhere (keys_of old.value) (state_of means.pool_name old.value old.ledger)) old.ledger.counters
   -- those that still have pools, in their order
   pub keys : keys_of new.value ≡ keys_with_pools (state_of means.pool_name new.value new.ledger) (keys_of old.value)

@@ -1,4 +1,4 @@
-//! The first device, with an instance of this version and the validation layer.
+//! The first device, of an instance of a given version under the validation layer.
 
 use crate::ffi::*;
 use crate::functions::{DeviceFunctions, InstanceFunctions, LoaderFunctions, NewerFunctions};
@@ -11,7 +11,7 @@ use std::sync::atomic::{AtomicU64, Ordering};
 /// How many messages the layer had.
 static MESSAGES: AtomicU64 = AtomicU64::new(0);
 
-/// A device with its functions and limits, and what has to be destroyed with it.
+/// A device with its functions and its limit, and what `close` destroys with it.
 pub struct Gpu {
     pub device: DeviceHandle,
     pub functions: DeviceFunctions,
@@ -177,7 +177,8 @@ fn name_and_version(functions: &InstanceFunctions, physical: PhysicalDevice) -> 
 }
 
 impl Gpu {
-    /// What a process that ends doesn't destroy where something is missing, the system takes back.
+    /// Opens the first device under the validation layer. On an error nothing is destroyed: the process
+    /// ends.
     pub fn open(api_version: u32) -> Result<Self, Missing> {
         let loader = LoaderFunctions::open().ok_or("loader, libvulkan.so.1")?;
         let instance = create_instance(&loader, api_version)?;

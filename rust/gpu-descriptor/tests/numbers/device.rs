@@ -1,4 +1,4 @@
-// A device that only numbers its pools and sets, for the examples in the documentation.
+// A device that only numbers its pools and sets, for tests and the examples in the documentation.
 
 use gpu_descriptor::{
     CreatePoolError, DescriptorDevice, DescriptorPoolCreateFlags, DescriptorTotalCount,

@@ -16,6 +16,8 @@ pub enum Fault {
     BadMark,
     BadKind,
     KindTwice,
+
+    /// No number, one above the greatest of its place, or a range with two `-`.
     BadNumber,
     BadAnswerWord,
     TooManyTickets,

@@ -44,7 +44,7 @@ impl<T> SetTable<T> {
         }
     }
 
-    /// Puts a set into a new slot.
+    /// Puts a set into a new slot, and returns its place.
     #[inline]
     fn push(&mut self, layout: u32, set: T) -> usize
     {
@@ -62,7 +62,8 @@ impl<T> SetTable<T> {
         place
     }
 
-    /// The next handle of a place.
+    /// The set at a place is in use for this from now on, under the next handle of its slot, whose
+    /// generation rises.
     #[inline]
     fn renew(&mut self, place: usize, used: Use) -> SetHandle
     {

@@ -8,7 +8,7 @@ use crate::descriptor_words::Refusal;
 use crate::kit::io::Write;
 use crate::kit::string::String;
 
-/// Writes what there is to say of a line, and leaves the text empty.
+/// Writes what there is to say of a line. If it returns `Ok`, the text is empty then.
 pub fn answer_line<W: Write>(
     output: &mut W,
     answer: &mut String,

@@ -10,7 +10,7 @@ use crate::kit::string::String;
 
 impl<D: LineDevice> Program<D> {
     /// Puts the pools of each key after the text, under the first layout that has it, and then the
-    /// counters.
+    /// counters, the held sets and the marked load.
     pub(super) fn show(&self, answer: &mut String) -> Result<(), AllocError>
     {
         for (name, entry) in self.layouts.iter() {

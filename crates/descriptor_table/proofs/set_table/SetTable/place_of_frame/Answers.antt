@@ -7,6 +7,7 @@ use Rattle.descriptor_table.specs.declared.slot.FrameChain.{FrameChain}
 use Rattle.descriptor_table.proofs.Counting.{same_or}
 use Rattle.descriptor_table.proofs.set_table.SetTable.place_of_frame.Goals as goal
 
+-- a list that is there is the same whatever stands for one past the end: `falls` reads with the empty one, a partition with any
 same_default : (l : List FrameChain) (i : ℕ) (d e : FrameChain) → i < length l → get_or l i d ≡ get_or l i e
 same_default [] i d e lt = absurd (omega arith)
 same_default (x ∷ l) zero d e lt = refl
