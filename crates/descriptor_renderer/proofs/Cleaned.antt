@@ -17,7 +17,6 @@ use Rattle.descriptor_renderer.proofs.Following.{ArePlaced, follows_aged, follow
 use Rattle.descriptor_renderer.proofs.Settling.{Follows}
 
 module _ {T : Type 0} where
-
   pub aged_sets : (old new : List (Slot T)) → AreAged old new → sets_in new ≡ sets_in old
   aged_sets old new a = same_sets old new a.long (λ p. elim (below_or p (length old)) [
     | inl lt ↦ ap (λ (s : Slot T). s.set) (a.each p lt)

@@ -80,15 +80,18 @@ module _ (g : _) (c : After-finish-count g) where
 pub dealloc_descriptor_sets-requires-clause-ends : goal.dealloc_descriptor_sets-requires-clause-ends
 dealloc_descriptor_sets-requires-clause-ends g c =
     let d = (goal.at.dealloc_descriptor_sets-requires-clause-ends g c).After-index_mut-pool in
-    let fits = places g d in ((
-      c.requires.ends.0,
-      run_counts g.I.Iterator.next_gives g.I.Iterator.can_next g.I.Iterator.remaining
-          g.D.DescriptorDevice.meaning.set_name c.args.sets.now c.args.first
-          (bucket_of g.D.DescriptorDevice.meaning.pool_name c.args.self.now)
-          (g.D.DescriptorDevice.ledger c.args.device.now).pools
-          (entry_of g.D.DescriptorDevice.meaning.pool_name c.index_mut-pool.result.now)
-          ((is_at g d).there c.args.self.now.id) (omega arith) c.requires.taken,
-    ), c.requires.ends.1)
+    let fits = places g d in (
+      (
+        c.requires.ends.0,
+        run_counts g.I.Iterator.next_gives g.I.Iterator.can_next g.I.Iterator.remaining
+            g.D.DescriptorDevice.meaning.set_name c.args.sets.now c.args.first
+            (bucket_of g.D.DescriptorDevice.meaning.pool_name c.args.self.now)
+            (g.D.DescriptorDevice.ledger c.args.device.now).pools
+            (entry_of g.D.DescriptorDevice.meaning.pool_name c.index_mut-pool.result.now)
+            ((is_at g d).there c.args.self.now.id) (omega arith) c.requires.taken,
+      ),
+      c.requires.ends.1,
+    )
 
 pub dealloc_descriptor_sets-requires-clause-live : goal.dealloc_descriptor_sets-requires-clause-live
 dealloc_descriptor_sets-requires-clause-live g c =
