@@ -3,7 +3,7 @@
 
 A function is proved over the contracts of those that it calls, and over lemmas, whose own proofs a mutant
 doesn't touch. So here an axiom of the same statement stands in place of each lemma, and of the proof of
-each function that no mutant changes, and a check takes a quarter of the time. That all of these are proved
+each function that no mutant changes, and a check takes a third of the time or less. That all of these are proved
 is for rt ci to show. What the copy assumes it calls 'not proved', so nothing built comes of it. Definitions
 that a proof unfolds stay as they are, and so do the proofs of a trait's functions and of laws.
 
