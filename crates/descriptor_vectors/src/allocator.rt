@@ -8,7 +8,7 @@ ghost use Rattle.gpu_descriptor.specs.Caller.Flags.{is_marked};
 ghost use Rattle.gpu_descriptor.specs.Caller.Sets.{items_of};
 ghost use Rattle.gpu_descriptor.specs.Caller.States.{Agrees, state_of};
 
-use super::{is_debug, is_hashed_value, is_value};
+use crate::{is_debug, is_hashed_value, is_value};
 use bitflags::Flags;
 // The items of `gpu_descriptor_types` are items of this crate, too.
 use gpu_descriptor::{
@@ -18,15 +18,12 @@ use gpu_descriptor::{
 };
 use std::alloc::Global;
 use std::error::Error;
-use std::test::Fail;
 
-#[test]
-fn flags_of_a_layout(rt: HostRuntime) {
+fn bits_of_a_layout() -> u32 {
     is_hashed_value::<DescriptorSetLayoutCreateFlags>();
     let flags: DescriptorSetLayoutCreateFlags = DescriptorSetLayoutCreateFlags::UPDATE_AFTER_BIND;
     let both: DescriptorSetLayoutCreateFlags = flags | DescriptorSetLayoutCreateFlags::empty();
-    let bits: u32 = both.bits();
-    assert_eq!(rt; bits, 0x2);
+    both.bits()
 }
 
 fn number_of_error(error: AllocationError) -> u8 {
@@ -39,33 +36,10 @@ fn number_of_error(error: AllocationError) -> u8 {
 
 fn is_error<E: Error>() {}
 
-#[test]
-fn errors_of_requests(rt: HostRuntime) -> Result<(), Fail> {
+fn error_of_a_request(error: CreatePoolError) -> AllocationError {
     is_value::<AllocationError>();
     is_error::<AllocationError>();
-    for (from, error, text) in [
-        (
-            CreatePoolError::OutOfDeviceMemory,
-            AllocationError::OutOfDeviceMemory,
-            "Device memory exhausted",
-        ),
-        (
-            CreatePoolError::OutOfHostMemory,
-            AllocationError::OutOfHostMemory,
-            "Host memory exhausted",
-        ),
-        (
-            CreatePoolError::Fragmentation,
-            AllocationError::Fragmentation,
-            "Fragmentation",
-        ),
-    ] {
-        assert_eq!(rt; AllocationError::from(from), error);
-        let said = format!(in rt.alloc(); "{error}")?;
-        assert_eq!(rt; said.as_str(), text);
-    }
-    assert_eq!(rt; number_of_error(AllocationError::Fragmentation), 3);
-    Ok(())
+    AllocationError::from(error)
 }
 
 fn raw<S>(set: &DescriptorSet<S>) -> &S {
@@ -77,40 +51,33 @@ fn write<S: Drop>(set: &mut DescriptorSet<S>, raw: S) {
     *place = raw;
 }
 
-#[test]
-fn books_of_a_pool(rt: HostRuntime) {
+fn counts_of_a_pool(view: PoolView) -> (u64, u32, u32) {
     is_value::<PoolView>();
-    let view = PoolView {
-        number: u64::MAX,
-        allocated: u32::MAX,
-        available: u32::MAX,
-    };
     let PoolView {
         number,
         allocated,
         available,
     } = view;
-    assert_eq!(rt;
-        (number, allocated, available),
-        (u64::MAX, u32::MAX, u32::MAX)
-    );
+    (number, allocated, available)
 }
 
-#[test]
-fn readers_of_an_allocator(rt: HostRuntime) {
+fn totals(allocator: &DescriptorAllocator<u8, u8>) -> (u64, [u32; 3]) {
     is_debug::<DescriptorSet<u8>>();
     is_debug::<DescriptorAllocator<u8, u8>>();
-    let allocator: DescriptorAllocator<u8, u8> = DescriptorAllocator::new(rt.alloc(), u32::MAX);
-    let counts = DescriptorTotalCount::default();
     let sets: u64 = allocator.outstanding();
     let descriptors: u32 = allocator.update_after_bind_descriptors();
     let capacity: u32 = allocator.update_after_bind_capacity();
     let limit: u32 = allocator.update_after_bind_limit();
-    let pools: usize = allocator.pool_count(&counts, true);
-    let view: Option<PoolView> = allocator.pool(&counts, false, usize::MAX);
-    assert_eq!(rt; (sets, descriptors, capacity, limit), (0, 0, 0, u32::MAX));
-    assert_eq!(rt; pools, 0);
-    assert_eq!(rt; view, None);
+    (sets, [descriptors, capacity, limit])
+}
+
+fn pools_of_a_new_allocator(
+    alloc: Global,
+    counts: &DescriptorTotalCount,
+) -> (usize, Option<PoolView>) {
+    let allocator: DescriptorAllocator<u8, u8> = DescriptorAllocator::new(alloc, u32::MAX);
+    let pools: usize = allocator.pool_count(counts, true);
+    (pools, allocator.pool(counts, false, usize::MAX))
 }
 
 fn allocate<L, P: Drop, S: Drop, D: DescriptorDevice<L, P, S>>(
