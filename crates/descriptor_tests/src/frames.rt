@@ -4,15 +4,15 @@ mod trial;
 
 use std::test::Fail;
 use trial::FrameAct::{Cleanup, Device, Finish, FreeAll, Pools, Reserve, Retire, Sets};
-use trial::{Outcome, Trial, play};
+use trial::{Trial, play};
 
 #[test]
 fn sets_go_back_with_their_frames(rt: HostRuntime) -> Result<(), Fail> {
     let acts = [
         Reserve(2),
-        Retire(5, Outcome::Retired),
-        Retire(7, Outcome::Retired),
-        Retire(6, Outcome::FrameBack(2)),
+        Retire(5, None),
+        Retire(7, None),
+        Retire(6, Some(2)),
         Finish(5),
         Sets(3, 1),
         FreeAll,

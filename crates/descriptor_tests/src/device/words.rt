@@ -4,7 +4,7 @@ ghost use Rattle.gpu_descriptor_types.specs.Counts.{kinds};
 ghost use Rattle.descriptor_script.specs.Scripted.Device.{ledger_of};
 
 use crate::device::trip::{TripError, round_trip};
-use descriptor_script::{Answer, ScriptLayout, ScriptedDevice};
+use descriptor_script::{Answer, ScriptLayout, ScriptedDevice, refuse_at};
 use gpu_descriptor_types::DescriptorTotalCount;
 use std::alloc::Global;
 use std::process::Abort;
@@ -48,7 +48,8 @@ fn expect_counts(rt: &impl Abort, device: &ScriptedDevice, wanted: [u64; 4]) {
 
 #[test]
 fn grants_after_the_end(rt: HostRuntime) -> Result<(), Fail> {
-    let mut device = ScriptedDevice::new(rt.alloc(), vec![in rt.alloc(); Answer::Frag]?);
+    let script = refuse_at(rt.alloc(), 0, Answer::Frag)?;
+    let mut device = ScriptedDevice::new(rt.alloc(), script);
     device.load(Vec::new(rt.alloc()));
     trip(rt.alloc(), &mut device, 3, false)?;
     trip(rt.alloc(), &mut device, 0, true)?;

@@ -6,7 +6,7 @@ ghost use Rattle.descriptor_script.specs.Scripted.Device.{ledger_of};
 ghost use Rattle.descriptor_script.specs.Scripted.Raw.{pool_id, set_id};
 ghost use Rattle.descriptor_frames.specs.Frames.{AreInUse, AreRetiredOut, allocator_of};
 
-use crate::seen::expect_pools;
+use crate::seen::{expect_pools, expect_same};
 use bitflags::Flags;
 use descriptor_frames::{FrameManager, RetireError};
 use descriptor_script::{RawPool, RawSet, ScriptLayout, ScriptedDevice};
@@ -36,14 +36,6 @@ pub struct Trial {
         (ledger_of device) },
 }
 
-/// What became of sets that were to be retired, with the name of the first if they came back.
-#[derive(Clone, Copy, Debug, PartialEq, Eq)]
-pub enum Outcome {
-    Retired,
-    FrameBack(u64),
-    Memory(u64),
-}
-
 impl Trial {
     /// So many sets with one sampler each are in use, under the greatest limit.
     pub fn new(alloc: Global, count: u32) -> Result<Self, AllocationError> {
@@ -66,23 +58,23 @@ impl Trial {
         })
     }
 
-    /// Retires the first of the sets in use. One that comes back is the first again.
-    pub fn retire(&mut self, frame: u64) -> Result<Outcome, Fail> {
+    /// Retires the first of the sets in use. One whose frame is before the last is the first again, and
+    /// its name is returned.
+    pub fn retire(&mut self, frame: u64) -> Result<Option<u64>, Fail> {
         let Some(set) = self.in_use.pop_front() else {
             return Err(Fail::from("no set is in use"));
         };
-        match self.manager.retire(frame, set) {
-            Ok(()) => Ok(Outcome::Retired),
-            Err(RetireError::FrameBack(set)) => {
-                let name = set.raw().id();
-                self.in_use.push_front(set)?;
-                Ok(Outcome::FrameBack(name))
-            }
-            Err(RetireError::Memory(set)) => {
-                let name = set.raw().id();
-                self.in_use.push_front(set)?;
-                Ok(Outcome::Memory(name))
-            }
+        let Err(error) = self.manager.retire(frame, set) else {
+            return Ok(None);
+        };
+        let is_back = matches!(error, RetireError::FrameBack(_));
+        let set = error.into_inner();
+        let name = set.raw().id();
+        self.in_use.push_front(set)?;
+        if is_back {
+            Ok(Some(name))
+        } else {
+            Err(Fail::from("no memory for a set"))
         }
     }
 
@@ -104,8 +96,8 @@ impl Trial {
 /// What is done at a trial, or seen there.
 #[derive(Clone, Copy)]
 pub enum FrameAct<'a> {
-    /// The first of the sets in use is retired at this frame, with this outcome.
-    Retire(u64, Outcome),
+    /// The first of the sets in use is retired at this frame, or comes back under this name.
+    Retire(u64, Option<u64>),
     /// All sets in use go back at once.
     FreeAll,
     /// Memory is reserved for so many sets.
@@ -136,11 +128,7 @@ fn expect_device(rt: &impl Abort, trial: &Trial, destroyed: u64, released: u64) 
 /// Does one act, or sees what it says.
 fn make(rt: &impl Abort, trial: &mut Trial, next: FrameAct<'_>) -> Result<(), Fail> {
     match next {
-        FrameAct::Retire(frame, wanted) => assert_eq!(rt;
-            trial.retire(frame)?,
-            wanted,
-            "at {frame}"
-        ),
+        FrameAct::Retire(frame, wanted) => expect_same(rt, trial.retire(frame)?, wanted),
         FrameAct::FreeAll => trial.free_all(),
         FrameAct::Reserve(count) => trial.manager.reserve(count)?,
         FrameAct::Finish(frame) => trial.finish(frame),
