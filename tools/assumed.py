@@ -3,9 +3,10 @@
 
 A function is proved over the contracts of those that it calls, and over lemmas, whose own proofs a mutant
 doesn't touch. So here an axiom of the same statement stands in place of each lemma, and of the proof of
-each function that no mutant changes, and a check takes a third of the time or less. That all of these are proved
-is for rt ci to show. What the copy assumes it calls 'not proved', so nothing built comes of it. Definitions
-that a proof unfolds stay as they are, and so do the proofs of a trait's functions and of laws.
+each function that no mutant changes, and a check takes a third of the time or less. The body of such a
+function, which nothing reads then, is one call that is never made: rattle would make its parts of each body.
+That all of these are proved is for rt ci to show. What the copy assumes it calls 'not proved', so nothing
+built comes of it. Definitions that a proof unfolds stay as they are, and so do a trait's functions and laws.
 
 usage: tools/assumed.py CRATE FOLDER [FUNCTION..] ; it writes the copy to a folder, and keeps the proofs of these
 """
@@ -81,6 +82,12 @@ def with_axioms(text, kept):
     return "\n".join(written)
 
 
+def without_body(text, function):
+    """A file's text with a body that is never run in place of a function's own, if that has lines of its own."""
+    begin = re.compile(r"(?:(?<=\{)|.*\{)\n").match(text, function.inside)
+    return f"{text[:begin.end()]}unreachable!(){text[text.rfind(chr(10), 0, function.end):]}" if begin else text
+
+
 def assumed(crate, room, is_kept):
     """Writes the copy to a folder, and returns its crate. It keeps the proofs of the functions that is_kept names
     by their paths."""
@@ -88,11 +95,14 @@ def assumed(crate, room, is_kept):
         if Path(crate.folder, part).is_dir():
             shutil.copytree(f"{crate.folder}/{part}", f"{room}/{part}")
     proofs, kept = Path(room, "proofs"), set()
-    for function in FUNCTIONS:
+    # From the end of each file on, so that the places of those before stay.
+    for function in reversed(FUNCTIONS):
         path = path_of(function) if function.crate == crate.name and function.inside < function.end else None
         if path and is_kept(path):
             kept.add(proofs / path)
         elif path:
+            source = Path(room, function.path.relative_to(crate.folder))
+            source.write_text(without_body(source.read_text(), function), encoding="utf-8")
             (proofs / path).mkdir(parents=True, exist_ok=True)
             for name in PROOF:
                 (proofs / path / name).unlink(missing_ok=True)
