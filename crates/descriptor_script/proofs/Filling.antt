@@ -1,5 +1,5 @@
 -- Sets that are put, one after another: for the loop of `fill`. `a` is the first name, `n` how many were put, and `j` the next name.
-use Rattle.std.proofs.Common.{◌≡◌, ℕ, zero, suc, ◌+◌, ◌≤◌, true, false, cond, nat_eq, eqb-true, Option, Some, None, inl, inr, List, [], ◌∷◌, ◌++◌, map, length, replicate, append_assoc, sym, ap, ◌∙◌, arith}
+use Rattle.std.proofs.Common.{◌≡◌, ℕ, zero, suc, ◌+◌, ◌≤◌, cond, nat_eq, eqb-true, Option, Some, None, inl, inr, List, [], ◌∷◌, ◌++◌, map, length, replicate, append_assoc, sym, ap, ◌∙◌, arith}
 use Rattle.std.specs.Prelude.{Result, Ok, Err, IsOk, OnOk}
 use Rattle.std.proofs.lemmas.Bool.{cases_Bool, false≢true}
 use Rattle.indexmap.specs.IndexMap.{IndexMap, get, insert_entry, Updates}

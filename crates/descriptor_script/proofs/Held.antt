@@ -1,5 +1,5 @@
 -- What the steps of a session leave outstanding.
-use Rattle.std.proofs.Common.{◌≡◌, OnOk, Result, Ok, Err, is_err, true, false, ℕ, ◌+◌, ◌≤◌, List, [], ◌∷◌, ◌++◌, length, length-append, map, Option, None, Some, refl, sym, ap, ◌∙◌, arith}
+use Rattle.std.proofs.Common.{◌≡◌, OnOk, Result, Ok, Err, is_err, false, ℕ, ◌+◌, ◌≤◌, List, [], ◌∷◌, ◌++◌, length, length-append, map, Option, None, Some, refl, sym, ap, ◌∙◌, arith}
 use Rattle.std.proofs.lemmas.Bool.{true≢false}
 use Rattle.gpu_descriptor_types.proofs.Counting.{count_by-append}
 use Rattle.gpu_descriptor.specs.Model.Agreement.{State, count_of, item_eq}

@@ -1,6 +1,6 @@
 -- Cleaning up and trimming: each key loses empty pools.
 -- For `sweep` and `laws::clean_again`. t is the state that a cleanup or a trim leaves of s, and u what the same leaves of t.
-use Rattle.gpu_descriptor.proofs.Common.{if◌then◌else◌, ◌≡◌, ℕ, suc, ◌==◌, ◌<◌, Bool, true, false, List, [], ◌∷◌, length, count_by, slice_get, Option, Some, None, inl, inr, refl, sym, ap, ◌∙◌, subst, arith, eq-eqb, ne_eqb, ∥∥₁_elim, props, list_any, cases_eq, false_from_ne_true, sum_by-cons}
+use Rattle.gpu_descriptor.proofs.Common.{if◌then◌else◌, ◌≡◌, ℕ, suc, ◌==◌, ◌<◌, Bool, true, false, List, [], ◌∷◌, length, count_by, slice_get, Some, None, inl, inr, refl, sym, ap, ◌∙◌, subst, arith, eq-eqb, ne_eqb, ∥∥₁_elim, props, list_any, cases_eq, false_from_ne_true, sum_by-cons}
 use Rattle.gpu_descriptor.proofs.Common.{set_of, Item, State, live_in, outstanding, HasSize, Agree, HasNoPools, live_at, Key, key_eq, Entry, Bucket, entry_at, no_pools, LiveSet, set_eq, set_exact, count_by_yes, common_steps, LosesEmpty, are_named, gone_of, left_of, pools_lost, with_pools}
 use Rattle.gpu_descriptor.proofs.Common.{is_empty, rises, numbers_of, none-some, true≢false}
 use Rattle.gpu_descriptor.proofs.cleanup.Splitting.{all_go, apart, gone_at, gone_twice, id_with, is_named_at, left_at, left_or_gone, left_rises, left_twice, named_at, one_place, pools_with, split, with_twice}

@@ -1,5 +1,5 @@
 -- In which order keys stay in the table: for the fields `keys` of HandsOut (`serve`) and of Sweeps (`sweep`).
-use Rattle.gpu_descriptor.proofs.Common.{◌≡◌, ℕ, zero, suc, ◌==◌, not, Bool, List, [], ◌∷◌, ◌++◌, length, map, filter, slice_get, Option, Some, None, true, false, refl, sym, ap, ◌∙◌, arith, list_any, lookup, map-append, Ledger, BucketKey, DescriptorBucket, Key, Bucket, HasDistinctKeys, books_of}
+use Rattle.gpu_descriptor.proofs.Common.{◌≡◌, ℕ, zero, suc, ◌==◌, not, Bool, List, [], ◌∷◌, ◌++◌, length, map, filter, slice_get, Some, None, true, false, refl, sym, ap, ◌∙◌, arith, list_any, lookup, map-append, Ledger, BucketKey, DescriptorBucket, Key, Bucket, HasDistinctKeys, books_of}
 use Rattle.gpu_descriptor.proofs.Common.{key_of, Allocations, keys_with_pools, common_steps, has_pools, LosesEmpty, left_of, with_pools, Entry, with_key, key_eq, is_of, named_row, state_of, row_of, stored_keys, none-some}
 use Rattle.gpu_descriptor.specs.Caller.States.{keys_of}
 use Rattle.gpu_descriptor.proofs.cleanup.Splitting.{pools_with}

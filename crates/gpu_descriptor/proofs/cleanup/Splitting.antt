@@ -1,7 +1,7 @@
 -- The pools of a key in two lists, those that are left and the empty ones that go, each in their order.
 -- For cleanup and trim alike (`sweep`): what holds of each such split holds of the two that `left_of` and `gone_of` make, one for
 -- each value of everywhere.
-use Rattle.gpu_descriptor.proofs.Common.{common_steps, ◌≡◌, ◌≢◌, ◌⊎◌, ℕ, zero, suc, ◌==◌, Bool, true, false, nat_lt, List, [], ◌∷◌, take, drop, filter, slice_get, Option, Some, None, inl, inr, refl, sym, ap, ◌∙◌, arith, eq-eqb, eqb-true, ne_eqb, lt-ltb, and_parts, and_from, cases_Bool, list_all}
+use Rattle.gpu_descriptor.proofs.Common.{common_steps, ◌≡◌, ◌≢◌, ◌⊎◌, ℕ, zero, suc, ◌==◌, Bool, true, false, nat_lt, List, [], ◌∷◌, take, drop, filter, slice_get, Some, inl, inr, refl, sym, ap, ◌∙◌, arith, eq-eqb, eqb-true, ne_eqb, lt-ltb, and_parts, and_from, cases_Bool, list_all}
 use Rattle.gpu_descriptor.proofs.Common.{or_right, or_cases, prefix_len, Entry, Bucket, rises, numbers_of, no_pools, is_empty, are_named, gone_of, left_of, with_pools, none-some, same_Some, true≢false}
 use Rattle.gpu_descriptor.proofs.lists.Numbers.{number_of, rises_at}
 

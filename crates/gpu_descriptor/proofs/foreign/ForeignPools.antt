@@ -1,7 +1,7 @@
 -- What frees and cleaning up leave of pools that aren't the allocator's; for requests request.TakenAgrees says it.
 -- For foreign.OthersStay. `_foreign`: a live foreign pool stays, and stays foreign. `_loses`: a live pool that is foreign afterwards
 -- was so before, as none gets lost out of the books.
-use Rattle.gpu_descriptor.proofs.Common.{common_steps, ◌≡◌, ℕ, zero, suc, ◌+◌, ◌-◌, ◌<◌, ◌==◌, ◌&&◌, Bool, true, false, List, [], ◌∷◌, take, count_by, Option, Some, None, option_map, slice_get, inl, inr, refl, sym, ap, ◌∙◌, subst, arith, fun_ext, cases_lt, or_from, or_right, false_from_ne_true}
+use Rattle.gpu_descriptor.proofs.Common.{common_steps, ◌≡◌, ℕ, zero, suc, ◌+◌, ◌-◌, ◌<◌, ◌==◌, ◌&&◌, Bool, true, false, List, [], ◌∷◌, take, count_by, Some, None, option_map, slice_get, inl, inr, refl, sym, ap, ◌∙◌, subst, arith, fun_ext, cases_lt, or_from, or_right, false_from_ne_true}
 use Rattle.gpu_descriptor.proofs.Common.{list_any, slice_get-map, if◌then◌else◌, side, Meaning, Pool, Ledger, LiveSet, set_eq, State, Item, set_of, Key, Entry, Bucket, DescriptorSet, Allocations, IsForeign, KeepsForeign, LosesEmpty, are_named, gone_of, left_of, given_back, released, bucket_less}
 use Rattle.gpu_descriptor.proofs.Common.{entry_less, spent_front, in_front, lies_in, pool_less, GivesBack, items_of, state_of, none-some}
 use Rattle.gpu_descriptor.proofs.lists.Numbers.{entry_at-found}

@@ -1,6 +1,6 @@
 -- The numbers of a key's pools: they rise, so each number stands at one place.
 -- For whatever finds a pool by its number (`place_of_pool`), a key by its id (`place_of_id`), or has to say that numbers rise.
-use Rattle.gpu_descriptor.proofs.Common.{common_steps, ◌≡◌, ℕ, zero, suc, ◌+◌, ◌-◌, ◌<◌, ◌≤◌, ◌==◌, Bool, true, false, nat_lt, List, [], ◌∷◌, ◌++◌, length, map, drop, filter, slice_get, slice_index, slice_index_or, IsNonDecreasing, IsPartitionPoint, Option, Some, None, option_map, inl, inr, refl}
+use Rattle.gpu_descriptor.proofs.Common.{common_steps, ◌≡◌, ℕ, zero, suc, ◌+◌, ◌-◌, ◌<◌, ◌≤◌, ◌==◌, Bool, true, false, nat_lt, List, [], ◌∷◌, ◌++◌, length, map, drop, filter, slice_get, slice_index, slice_index_or, IsNonDecreasing, IsPartitionPoint, Some, option_map, inl, inr, refl}
 use Rattle.gpu_descriptor.proofs.Common.{sym, ap, ◌∙◌, arith, eq-eqb, eqb-true, lt-ltb, ltb-false, and_parts, and_from, cases_Bool, cases_lt, list_all, slice_get_within, EntryOf, Entry, Bucket, entry_at, rises, number_after, numbers_of, none-some, same_Some}
 use Rattle.std.specs.List.{find}
 

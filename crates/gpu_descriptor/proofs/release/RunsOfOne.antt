@@ -1,5 +1,5 @@
 -- One run: sets of one key and one number. What giving it back changes, and how its front goes pool by pool.
-use Rattle.gpu_descriptor.proofs.Common.{◌≡◌, ◌≢◌, ℕ, zero, suc, ◌<◌, Bool, true, ◌&&◌, ◌==◌, List, [], ◌∷◌, length, map, set, count_by, slice_get, Option, Some, None, inl, inr, refl, sym, ap, ◌∙◌, arith, eq-eqb, ne_eqb, if◌then◌else◌, cases_Bool, set_of, State, Item, count_of, Agree, Key, Entry}
+use Rattle.gpu_descriptor.proofs.Common.{◌≡◌, ◌≢◌, ℕ, zero, suc, ◌<◌, Bool, true, ◌&&◌, ◌==◌, List, [], ◌∷◌, length, map, set, count_by, slice_get, Some, inl, inr, refl, sym, ap, ◌∙◌, arith, eq-eqb, ne_eqb, if◌then◌else◌, cases_Bool, set_of, State, Item, count_of, Agree, Key, Entry}
 use Rattle.gpu_descriptor.proofs.Common.{entry_at, LiveSet, set_eq, count_by_yes, count_by_alike, count_by_none, lies_in, entry_less, given_back, none-some}
 use Rattle.gpu_descriptor.proofs.table.Exact.{item_exact}
 use Rattle.gpu_descriptor.proofs.release.Places.{back, back_named}

@@ -1,5 +1,5 @@
 -- The numbers of a key's pools once a request took sets of them: the old pools keep theirs, and the new ones have the next.
-use Rattle.gpu_descriptor.proofs.Common.{common_steps, ◌≡◌, ℕ, zero, suc, ◌+◌, ◌≤◌, Bool, true, List, [], ◌∷◌, ◌++◌, length, take, drop, slice_get, Option, Some, None, refl, sym, ap, ◌∙◌, arith, append-nil, Entry, Bucket, Fresh, fresh_entries, fresh_entry, next_number, number_after, numbers_of}
+use Rattle.gpu_descriptor.proofs.Common.{common_steps, ◌≡◌, ℕ, zero, suc, ◌+◌, ◌≤◌, Bool, true, List, [], ◌∷◌, ◌++◌, length, take, drop, slice_get, Some, refl, sym, ap, ◌∙◌, arith, append-nil, Entry, Bucket, Fresh, fresh_entries, fresh_entry, next_number, number_after, numbers_of}
 use Rattle.gpu_descriptor.proofs.Common.{rises, all_shared, Key, Grant, Item, Ledger, HasTaken, none-some}
 use Rattle.gpu_descriptor.proofs.lists.Numbers.{next_push, rises_push}
 

@@ -1,6 +1,6 @@
 -- The ids of a table's keys: they rise, so one place has each, and one key.
 -- For `place_of_id`, which finds an entry of the map by halving, and for `release_run`.
-use Rattle.gpu_descriptor.proofs.Common.{◌≡◌, ◌<◌, ℕ, zero, suc, Bool, true, false, ◌∷◌, [], List, length, slice_get, Option, Some, None, inl, inr, refl, sym, ap, subst, ◌∙◌, arith, slice_index_or, nat_lt, list_all, IsNonDecreasingBy, IsPartitionPoint, IsPartitionedBy, lookup, values_of, none-some}
+use Rattle.gpu_descriptor.proofs.Common.{◌≡◌, ◌<◌, ℕ, zero, suc, Bool, true, false, ◌∷◌, [], List, length, slice_get, Some, inl, inr, refl, sym, ap, subst, ◌∙◌, arith, slice_index_or, nat_lt, list_all, IsNonDecreasingBy, IsPartitionPoint, IsPartitionedBy, lookup, values_of, none-some}
 use Rattle.gpu_descriptor.proofs.Common.{cases_Bool, cases_lt, and_parts, ltb-true, ltb-false, BucketKey, DescriptorBucket, Key, key_eq, key_of, common_steps, rises, stored_ids}
 use Rattle.gpu_descriptor.proofs.lists.Numbers.{all_above, rises_at}
 use Rattle.std.proofs.lemmas.List.Sorted.{IsPartitionedBy-ltb}

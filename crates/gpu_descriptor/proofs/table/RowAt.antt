@@ -1,6 +1,6 @@
 -- The row at a place of the table is the row of its key.
 -- For `serve`, `release_run` and `sweep`, which read and write the map at a place, while lemmas on books go by the key.
-use Rattle.gpu_descriptor.proofs.Common.{◌≡◌, ℕ, zero, suc, Bool, true, false, sym, List, [], ◌∷◌, slice_get, Option, Some, None, refl, ap, ◌∙◌, IsDistinct, AllByRecursion, lookup, set_value, values_of, BucketKey, DescriptorBucket, Key, key_eq, key_of, arith, is_of, stored_keys}
+use Rattle.gpu_descriptor.proofs.Common.{◌≡◌, ℕ, zero, suc, Bool, true, false, sym, List, [], ◌∷◌, slice_get, Some, refl, ap, ◌∙◌, IsDistinct, AllByRecursion, lookup, set_value, values_of, BucketKey, DescriptorBucket, Key, key_eq, key_of, arith, is_of, stored_keys}
 use Rattle.gpu_descriptor.proofs.Common.{none-some, same_Some}
 use Rattle.indexmap.specs.Layout.{set_value_at}
 use Rattle.gpu_descriptor.proofs.table.Exact.{key_exact}

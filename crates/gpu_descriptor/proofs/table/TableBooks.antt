@@ -1,6 +1,6 @@
 -- The books of a table, and what a write to one of its rows does to them.
 -- For what looks up a key or writes its bucket. es are the entries of the map, and test is its test for the key k (same).
-use Rattle.gpu_descriptor.proofs.Common.{◌≡◌, ℕ, arith, Bool, true, false, List, [], ◌∷◌, map, count_by, Option, Some, None, IsSome, inl, inr, refl, sym, ap, ◌∙◌, if◌then◌else◌, list_any, IsDistinct, AllByRecursion, lookup, set_value, option_map_or, cases_Bool, or_from, or_parts, count_by_yes}
+use Rattle.gpu_descriptor.proofs.Common.{◌≡◌, ℕ, arith, Bool, true, false, List, [], ◌∷◌, map, count_by, Some, IsSome, inl, inr, refl, sym, ap, ◌∙◌, if◌then◌else◌, list_any, IsDistinct, AllByRecursion, lookup, set_value, option_map_or, cases_Bool, or_from, or_parts, count_by_yes}
 use Rattle.gpu_descriptor.proofs.Common.{count_by_no, BucketKey, DescriptorPool, DescriptorBucket, Key, key_eq, Entry, Bucket, no_pools, HasDistinctKeys, key_of, Allocations, named, named_row, books_in, kept_of, row_of, entry_of, bucket_of, stored_keys, none-some, false≢true}
 use Rattle.std.specs.Map.{keys_of as map_keys}
 use Rattle.gpu_descriptor.specs.Caller.States.{keys_of}

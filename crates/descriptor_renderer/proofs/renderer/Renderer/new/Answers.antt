@@ -1,4 +1,4 @@
-use Rattle.std.proofs.Common.{false, ◌≡◌, ℕ, [], None, Some, length, sym, ap, subst, ◌∙◌, arith}
+use Rattle.std.proofs.Common.{false, ◌≡◌, ℕ, [], length, sym, ap, subst, ◌∙◌, arith}
 use Rattle.std.proofs.lemmas.Option.{none-some}
 use Rattle.descriptor_table.specs.Slots.{frame_of, slot_at}
 use Rattle.descriptor_renderer.specs.Own.{IsCounted}

@@ -1,4 +1,4 @@
-use Rattle.gpu_descriptor.proofs.Common.{map, option_map, ◌<◌, ◌≤◌, arith, rules, ap, sym, ◌∙◌, length, refl, inl, inr, true, false, ◌≡◌, cases_lt, length-map, slice_get-map, slice_get_past, slice_get_read, option_copied, Allocations, Key, BucketOf, EntryOf, key_of, kept_of, false≢true}
+use Rattle.gpu_descriptor.proofs.Common.{map, option_map, ◌<◌, ◌≤◌, arith, rules, ap, sym, ◌∙◌, length, refl, inl, inr, cases_lt, length-map, slice_get-map, slice_get_past, slice_get_read, option_copied, Allocations, Key, BucketOf, EntryOf, key_of, kept_of, false≢true}
 use Rattle.gpu_descriptor.specs.Caller.Views.{view_in}
 use Rattle.gpu_descriptor.proofs.table.Readings.{seen_at}
 use Rattle.gpu_descriptor.proofs.allocator.DescriptorAllocator.pool.Goals as goal
