@@ -1,6 +1,6 @@
 -- What is outstanding and in use, when sets are retired and go back: for `FrameManager::allocate`, `retire` and `finish`.
 -- `all` is a list of the sets `xs` and then `ys`, `u` an item; `s` and `t` are the state before and after.
-use Rattle.std.proofs.Common.{◌≡◌, ℕ, ◌+◌, ◌-◌, ◌≤◌, List, [], ◌++◌, IfOk, OnErr, Result, Ok, Err, refl, ap, ◌∙◌, arith}
+use Rattle.std.proofs.Common.{◌≡◌, ℕ, ◌+◌, ◌-◌, ◌≤◌, List, ◌++◌, IfOk, OnErr, Result, Ok, Err, refl, ap, ◌∙◌, arith}
 use Rattle.gpu_descriptor.specs.declared.errors.AllocationError.{AllocationError}
 use Rattle.std.proofs.lemmas.Result.{IfOk-weaker}
 use Rattle.gpu_descriptor.specs.Caller.Call.{layout_key, map_ok}
@@ -62,9 +62,6 @@ retires pool_name set_name old new l xs same is out used =
       retired = record { out = λ t. (let e = as_before t in let m = more.0 t in omega arith) };
       used = λ t. (let e = as_before t in let m = more.1 t in omega arith);
     }
-
-pub none_retired : {P S : Type 0} (pool_name : P → ℕ) (set_name : S → ℕ) (m : FrameManager P S) (l : Ledger) → retired_of m ≡ [] → AreRetiredOut pool_name set_name m l
-none_retired pool_name set_name m l is = record { out = λ t. (let none = ap (λ rs. count_of t (items_of set_name (retired_sets rs))) is in omega arith) }
 
 -- ---- calls of the allocator
 

@@ -1,5 +1,5 @@
 -- Which sets of a list are outstanding after a call: for callers that hold sets.
-use Rattle.gpu_descriptor.proofs.Common.{◌≡◌, ℕ, ◌+◌, List, ◌++◌, sym, ap, ◌∙◌, arith, IsPermutation, map-append, count_by-append, DescriptorSet, State, Item, item_eq, Agree, AreOutstanding, count_of, outstanding, common_steps, AreOutBesides, KeepsOutstanding, released, item_of, items_of}
+use Rattle.gpu_descriptor.proofs.Common.{◌≡◌, ℕ, ◌+◌, List, ◌++◌, sym, ap, ◌∙◌, arith, IsPermutation, map-append, count_by-append, DescriptorSet, State, Item, item_eq, Agree, AreOutstanding, count_of, outstanding, AreOutBesides, KeepsOutstanding, released, item_of, items_of}
 use Rattle.std.proofs.lemmas.List.Sorted.{sum_by-IsPermutation, IsPermutation-map}
 use Rattle.gpu_descriptor.proofs.release.ReleaseAgrees.{takes}
 
@@ -26,10 +26,7 @@ module _ {S : Type 0} (name : S → ℕ) where
   pub count_parts : (xs ys : List (DescriptorSet S)) (u : Item) → count_of u (items_of name (xs ++ ys)) ≡ count_of u (items_of name xs) + count_of u (items_of name ys)
   count_parts xs ys u = ap (count_of u) (map-append (λ (x : DescriptorSet S). item_of name x) xs ys) ∙ count_of-append u (items_of name xs) (items_of name ys)
 
-  -- held sets are outstanding still: with those that came, after a call that leaves them, in parts, in another order
-  pub out_more : (xs ys : List (DescriptorSet S)) (s t : State) → AreOutstanding (items_of name xs) s → AreOutBesides (items_of name ys) s t → AreOutstanding (items_of name (xs ++ ys)) t
-  out_more xs ys s t out added u = (let a = count_parts xs ys u in let b = out u in let c = added u in omega arith)
-
+  -- held sets are outstanding still: after a call that leaves them, in parts, in another order
   pub out_still : (xs : List (DescriptorSet S)) (s t : State) → AreOutstanding (items_of name xs) s → KeepsOutstanding s t → AreOutstanding (items_of name xs) t
   out_still xs s t out same u = (let b = out u in let c = same u in omega arith)
 
@@ -42,13 +39,6 @@ module _ {S : Type 0} (name : S → ℕ) where
   pub out_moved : (xs ys : List (DescriptorSet S)) (s : State) → IsPermutation xs ys → AreOutstanding (items_of name xs) s → AreOutstanding (items_of name ys) s
   out_moved xs ys s moved out u = grind (arith, IsPermutation-map, sum_by-IsPermutation)
 
-  pub out_turned : (xs ys all : List (DescriptorSet S)) (s : State) → all ≡ xs ++ ys → AreOutstanding (items_of name all) s → AreOutstanding (items_of name (ys ++ xs)) s
-  out_turned xs ys all s is out u = (let a = ap (λ (l : List (DescriptorSet S)). count_of u (items_of name l)) is ∙ count_parts xs ys u in let c = count_parts ys xs u in let b = out u in omega arith)
-
   -- sets that came, in another order
   pub out_mixed : (came xs ys : List (DescriptorSet S)) (s t : State) → AreOutBesides (items_of name came) s t → xs ≡ came → IsPermutation xs ys → AreOutBesides (items_of name ys) s t
   out_mixed came xs ys s t out is mixed u = grind (arith, IsPermutation-map, sum_by-IsPermutation)
-
-  -- where the later ones went back
-  pub out_rest : (xs ys all : List (DescriptorSet S)) (s t : State) → all ≡ xs ++ ys → AreOutstanding (items_of name all) s → AreOutBesides (items_of name ys) t s → AreOutstanding (items_of name xs) t
-  out_rest xs ys all s t is out less u = grind (arith, common_steps, count_parts)
