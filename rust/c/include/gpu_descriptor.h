@@ -66,7 +66,7 @@
  */
 #define GD_ABI 2u
 
-/* A function of a header. It is static in C++ too: a shared object exports none, whatever its optimisation. */
+/* A function of the headers for C. It is static in C++ too: a shared object exports none, whatever its optimisation. */
 #define GD_INLINE static inline
 
 #ifdef __cplusplus
@@ -265,7 +265,8 @@ gd_status gd_create_checked(uint64_t header, const gd_device *device, size_t use
  *
  * All pools for update-after-bind layouts together have at most 'limit' descriptors: in Vulkan this is
  * maxUpdateAfterBindDescriptorsInAllPools; with a greater one the pools may exceed what the driver
- * allows. 'flags' is 0 or GD_EXTERNALLY_SYNCHRONIZED. If it fails, 'allocator' is zeroed.
+ * allows. All allocators of a device, and update-after-bind pools of your own, share the driver's limit: give
+ * each a part. 'flags' is 0 or GD_EXTERNALLY_SYNCHRONIZED. If it fails, 'allocator' is zeroed.
  *
  * A few hundred bytes of a destroyed allocator are kept for the next one.
  *
@@ -326,8 +327,8 @@ gd_status gd_remove_layout(gd_allocator allocator, gd_layout layout);
  *
  * If new sets are refused while sets of any layout are kept, all kept sets are freed and empty pools
  * destroyed, as by gd_cleanup, and all 'count' are asked for once more. It fails only if they are refused
- * again, or if none was kept. In that case empty pools stay, and count against the limit: gd_trim destroys
- * them.
+ * again, if no set was kept, or if there is no memory for the names of the sets. After a failure there may be
+ * empty pools, which count against the limit: gd_trim destroys them.
  *
  * GD_OUT_OF_DEVICE_MEMORY, GD_OUT_OF_HOST_MEMORY, GD_FRAGMENTATION, GD_DEVICE_LOST, GD_BAD_RESULT,
  * GD_NULL_POINTER, GD_BAD_LAYOUT, GD_BAD_ALLOCATOR, GD_BUSY, GD_INTERNAL_ERROR.
@@ -430,6 +431,10 @@ gd_status gd_kept(gd_allocator allocator, gd_layout layout, uint64_t *sets);
  * Writes the numbers as JSON, also by layout: at most 'room' bytes, of which the last is a zero, as snprintf does.
  * 'length' is how long the text is without it: if that isn't less than 'room', the text was cut. 'text' may be
  * NULL if 'room' is 0. It allocates nothing.
+ *
+ * An object has "version", and the fields of gd_statistics by their names; but "most_pool_descriptors" is null
+ * without a bound, and "layouts" is a list. Each layout there has the fields of gd_layout_statistics, its
+ * "handle" as a text in hexadecimal, "update_after_bind" as a truth value, and "descriptors" by kind.
  *
  * GD_NULL_POINTER, GD_BAD_ALLOCATOR, GD_BUSY, GD_INTERNAL_ERROR.
  */

@@ -83,10 +83,13 @@ under_destdir() {
     ! grep -rq "$room" "$room/package" && ! DESTDIR=$room/package "$crate/install" usr
 }
 
-# What is built for a target is installed from the target's folder.
+# What is built for a target is linked by its compiler, and installed from the target's folder.
 for_this_target() {
-  CARGO_BUILD_TARGET=$target CARGO_TARGET_DIR=$room/targets "$crate/install" "$room/for-target" &&
-    [ -f "$room/for-target/lib/libgpu_descriptor_c.a" ] && [ ! -e "$room/targets/full/libgpu_descriptor_c.a" ]
+  printf '#!/bin/sh\necho "$@" >>%s/words\nexec cc "$@"\n' "$room" >"$room/cc-of-target"
+  chmod +x "$room/cc-of-target"
+  CARGO_BUILD_TARGET=$target CC=$room/cc-of-target CARGO_TARGET_DIR=$room/targets "$crate/install" "$room/for-target" &&
+    [ -f "$room/for-target/lib/libgpu_descriptor_c.a" ] && [ ! -e "$room/targets/full/libgpu_descriptor_c.a" ] &&
+    grep -q 'libgpu_descriptor_c\.so' "$room/words"
 }
 
 # Nothing is installed for a target of which rustc has no library, though the host's is there.
@@ -192,13 +195,18 @@ inside_another() {
   [ "$(cat "$room/shown")" = plugin ] && "$room/loaded" "$room/plugin.so" plugin
 }
 
-# One in C++, without optimisation, exports no function of a header under its name in C.
+# One in C++, without optimisation, exports no function of a header for C, and with hidden inline functions none of
+# the header for C++ either.
 inside_in_cpp() {
-  g++ "${of_cpp[@]}" -O0 -fPIC -shared -I"$include" rust/c/tests/linking/plugin.cpp "$1/lib/libgpu_descriptor_c.a" \
-    -o "$room/plugin_cpp.so" || return
-  nm -D --defined-only "$room/plugin_cpp.so" | sed 's/.* //' >"$room/shown"
-  cat "$room/shown"
-  ! grep -q '^gd' "$room/shown" && "$room/loaded" "$room/plugin_cpp.so" plugin
+  local inlines
+  for inlines in -fno-visibility-inlines-hidden -fvisibility-inlines-hidden; do
+    g++ "${of_cpp[@]}" -O0 $inlines -fPIC -shared -I"$include" rust/c/tests/linking/plugin.cpp \
+      "$1/lib/libgpu_descriptor_c.a" -o "$room/plugin_cpp.so" || return
+    nm -D --defined-only "$room/plugin_cpp.so" | sed 's/.* //' >"$room/shown"
+    cat "$room/shown"
+    ! grep -q '^gd' "$room/shown" && "$room/loaded" "$room/plugin_cpp.so" plugin || return
+  done
+  [ "$(cat "$room/shown")" = plugin ]
 }
 
 try_linking() {
