@@ -40,6 +40,7 @@ fn draw_frame<L: Drop, P: Drop, S: Drop, D: DescriptorDevice<L, P, S>>(
         // .. `renderer.device()` writes both and binds them ..
     }
     renderer.end_frame();
+    // .. it submits the work, and waits until the device is done with it ..
     renderer.gpu_done(frame);
     let _destroyed = renderer.destroy_set(material, frame);
     Ok(())

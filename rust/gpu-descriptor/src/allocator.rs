@@ -30,7 +30,9 @@ impl<P, S> DescriptorAllocator<P, S> {
     /// An allocator without pools. It allocates nothing.
     ///
     /// The argument is the driver's limit `maxUpdateAfterBindDescriptorsInAllPools`; with a greater one
-    /// the pools may exceed what the driver allows. A program without update-after-bind layouts may pass 0.
+    /// the pools may exceed what the driver allows. All allocators of a device, and update-after-bind pools
+    /// of your own, share that limit: give each a part. A program without update-after-bind layouts may
+    /// pass 0.
     ///
     /// As in Vulkan, it limits the descriptors of the pools for update-after-bind layouts, whether their
     /// sets are out or not. A new pool is created for at least 64 sets, or for as many as the limit still
@@ -62,7 +64,7 @@ impl<P, S> DescriptorAllocator<P, S> {
     /// # Safety
     ///
     /// * Every call of this allocator gets the same device.
-    /// * `flags` and `layout_descriptor_count` are those of the layout.
+    /// * `layout` is a valid layout of that device, and `flags` and `layout_descriptor_count` are its own.
     ///
     /// # Errors
     ///
@@ -231,7 +233,7 @@ impl<P, S> DescriptorAllocator<P, S> {
         self.inner.call_in_drop(|inner| inner.cleanup(device));
     }
 
-    /// Destroys all pools that have no set, wherever they stand. It goes over every pool, and allocates
+    /// Destroys all pools that have no set, wherever they are. It goes over every pool, and allocates
     /// nothing. Call it when many sets were freed that don't come again soon. The original has no such
     /// call.
     ///

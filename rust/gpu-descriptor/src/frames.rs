@@ -75,7 +75,7 @@ impl<P, S> FrameManager<P, S> {
     /// # Safety
     ///
     /// * Every call of this manager gets the same device.
-    /// * `flags` and `layout_descriptor_count` are those of the layout.
+    /// * `layout` is a valid layout of that device, and `flags` and `layout_descriptor_count` are its own.
     ///
     /// # Errors
     ///
@@ -310,7 +310,7 @@ impl<P, S> FrameManager<P, S> {
         self.inner.call_in_drop(|inner| inner.cleanup(device));
     }
 
-    /// Destroys all pools that have no set, retired or not, wherever they stand. It goes over every pool,
+    /// Destroys all pools that have no set, retired or not, wherever they are. It goes over every pool,
     /// and allocates nothing.
     ///
     /// # Safety

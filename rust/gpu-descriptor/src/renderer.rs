@@ -247,7 +247,8 @@ impl<L, P, S, D: DescriptorDevice<L, P, S>> Renderer<L, P, S, D> {
     /// # Errors
     ///
     /// No frame is open, the handle names no layout, or the request was refused. The renderer has the
-    /// sets in use that it had.
+    /// sets in use that it had. If it was refused, free sets or memory, call `cleanup` and ask again, but
+    /// not for ever: [`DescriptorAllocator::allocate`](crate::DescriptorAllocator::allocate) has the causes.
     #[inline]
     pub fn draw(&mut self, layout: LayoutHandle) -> Result<SetHandle, RenderError> {
         self.inner.call(|inner| inner.draw(layout))
@@ -285,7 +286,7 @@ impl<L, P, S, D: DescriptorDevice<L, P, S>> Renderer<L, P, S, D> {
         self.inner.call_in_drop(|inner| inner.gpu_done(frame));
     }
 
-    /// Frees all kept sets, and destroys all pools that then have no set, wherever they stand. Call it
+    /// Frees all kept sets, and destroys all pools that then have no set, wherever they are. Call it
     /// between levels, or when memory is short. The sets that are out aren't kept when they come back, so
     /// that their pools become empty. Sets that come later are kept again.
     ///
@@ -297,7 +298,7 @@ impl<L, P, S, D: DescriptorDevice<L, P, S>> Renderer<L, P, S, D> {
         self.inner.call_in_drop(|inner| inner.cleanup());
     }
 
-    /// Destroys all pools that have no set, wherever they stand. Kept sets stay, and so do their pools;
+    /// Destroys all pools that have no set, wherever they are. Kept sets stay, and so do their pools;
     /// [`cleanup`](Self::cleanup) frees those first. It goes over every pool, and allocates nothing.
     ///
     /// # Panics
@@ -316,8 +317,7 @@ impl<L, P, S, D: DescriptorDevice<L, P, S>> Renderer<L, P, S, D> {
 
     /// Bounds the descriptors of each new pool from now on, as
     /// [`DescriptorAllocator::set_most_pool_descriptors`](crate::DescriptorAllocator::set_most_pool_descriptors)
-    /// does. At first it is `Some(65_536)`; with `None` the sizes of pools are those of gpu-descriptor 0.3.2.
-    /// Pools that exist stay.
+    /// does. At first it is `Some(65_536)`. Pools that exist stay.
     pub fn set_most_pool_descriptors(&mut self, most: Option<u64>) {
         self.inner
             .call(|inner| inner.set_most_pool_descriptors(most));
@@ -334,8 +334,8 @@ impl<L, P, S, D: DescriptorDevice<L, P, S>> Renderer<L, P, S, D> {
     ///
     /// # Errors
     ///
-    /// The handle names no layout, or the request was refused. The renderer has the sets in use that it
-    /// had. It is never `NoFrame`.
+    /// The handle names no layout, or the request was refused, as of [`draw`](Self::draw). The renderer
+    /// has the sets in use that it had. It is never `NoFrame`.
     #[inline]
     pub fn create_set(&mut self, layout: LayoutHandle) -> Result<SetHandle, RenderError> {
         self.inner.call(|inner| inner.create_set(layout))
