@@ -2,7 +2,7 @@
 """A copy of a crate whose proofs are assumed, but for those of some functions: what a mutant's check needs.
 
 A function is proved over the contracts of those that it calls, and over lemmas, whose own proofs a mutant
-doesn't touch. So here an axiom of the same statement stands in place of each lemma, and of the proof of
+doesn't touch. So here an axiom of the same statement is in place of each lemma, and of the proof of
 each function that no mutant changes, and a check takes a third of the time or less. The body of such a
 function, which nothing reads then, is one call that is never made: rattle would make its parts of each body.
 That all of these are proved is for rt ci to show. What the copy assumes it calls 'not proved', so nothing

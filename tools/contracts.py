@@ -82,7 +82,7 @@ class Function:
         found = end.search(head, head.index("\n"))
         head = head[:0 if head.partition("\n")[0].endswith("{") else found and found.start()]
         self.start, self.inside = place.start(), place.start() + len(head or text[place.start():].partition("\n")[0])
-        last = re.compile(rf"^{place[1]}\}}$", re.M).search(text, self.start)
+        last = re.compile(rf"^{place[1]}(?:\{{ *)?\}}$", re.M).search(text, self.start)
         self.end = last.end() if last else self.inside
         before = [*AROUND.finditer(text[:place.start()])]
         last = before[-1] if before and place[1] else None

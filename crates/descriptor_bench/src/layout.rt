@@ -1,5 +1,5 @@
 //! The layouts of the counting device.
-ghost use Rattle.std.specs.Prelude.{◌≡◌, true, false};
+ghost use Rattle.std.specs.Prelude.{◌≡◌, false};
 ghost use Rattle.gpu_descriptor.specs.Caller.Flags.{is_marked};
 
 use bitflags::Flags;

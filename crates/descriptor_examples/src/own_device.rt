@@ -1,5 +1,5 @@
 //! A device of one's own, as small as can be.
-ghost use Rattle.std.specs.Prelude.{◌≡◌, ◌≤◌, false, None, IsSome, OnErr, OnOk, IfErr, IfOk};
+ghost use Rattle.std.specs.Prelude.{◌≡◌, false, None, IsSome, OnErr, OnOk, IfErr, IfOk};
 ghost use Rattle.gpu_descriptor_types.specs.Counts.{kinds};
 ghost use Rattle.gpu_descriptor_types.specs.Flags.{bits};
 ghost use Rattle.gpu_descriptor_types.specs.Layouts.{layout, left};

@@ -51,13 +51,6 @@ module _ {P S : Type 0} where
     abbrev pub state_in : FrameManager P S → Ledger → State
     state_in m l = state_of pool_name (allocator_of m) l
 
-    -- nothing changed: books and ledger, the list, and the greatest frame
-    pub record ManagerStays (old new : FrameManager P S) (before after : Ledger) : Type 0 where
-      pub state : state_in new after ≡ state_in old before
-      pub ledger : after ≡ before
-      pub list : retired_of new ≡ retired_of old
-      pub greatest : greatest_of new ≡ greatest_of old
-
     module _ (set_name : S → ℕ) where
       -- the retired sets together are outstanding
       pub record AreRetiredOut (m : FrameManager P S) (l : Ledger) : Type 0 where

@@ -34,19 +34,19 @@ impl<P, S> FrameManager<P, S> {
 
     /// A manager without sets, whose allocator has this limit on update-after-bind descriptors. It
     /// allocates nothing.
-    pub fn new(alloc: Global, max: u32) -> Self
-        ensures { IsNewManager max result }
+    pub fn new(alloc: Global, limit: u32) -> Self
+        ensures { IsNewManager limit result }
     {
-        FrameManager::with_ids(alloc, max, 0..u64::MAX)
+        FrameManager::with_ids(alloc, limit, 0..u64::MAX)
     }
 
     /// The same as `new`, but the ids of its allocator's keys are taken from this range, as by
     /// `DescriptorAllocator::with_ids`.
-    pub fn with_ids(alloc: Global, max: u32, ids: Range<u64>) -> Self
-        ensures { IsNewManager max result }
+    pub fn with_ids(alloc: Global, limit: u32, ids: Range<u64>) -> Self
+        ensures { IsNewManager limit result }
     {
         FrameManager {
-            allocator: DescriptorAllocator::with_ids(alloc, max, ids),
+            allocator: DescriptorAllocator::with_ids(alloc, limit, ids),
             retired: VecDeque::new(alloc),
             greatest: 0,
         }

@@ -13,7 +13,7 @@ use Rattle.descriptor_words.specs.declared.fault.Refusal.TheVariants as refusal
 use Rattle.descriptor_lines.specs.Answers.{fault_line}
 use Rattle.descriptor_lines.specs.LineBuffers.{buffered, bytes_at, unread}
 use Rattle.descriptor_lines.specs.LineStates.{LineState}
-use Rattle.descriptor_lines.specs.Lines.{BeginsTooLong, LosesLine, after_end, before_end, lines_of}
+use Rattle.descriptor_lines.specs.Lines.{BeginsTooLong, LosesLine, after_end, before_end, lines_of, longest_line}
 use Rattle.descriptor_lines.specs.Outcomes.{AppendsPrefix, IsNoFault, said_of}
 use Rattle.descriptor_lines.specs.Programs.{CanRun, DoesLine, IsFresh, IsNotRun}
 use Rattle.descriptor_lines.specs.Transcripts.{ComesTo, IsAnswered, IsRefused, Writes, WritesFromStart, words_in}
@@ -45,7 +45,7 @@ Takes number (Some bytes) rest outcome text old new =
 module _ (number : ℕ) (line bytes : List ℕ) (rest : Option (List ℕ)) where
   module _ (text : List ℕ) (old new : LineState) where
     -- what comes of a line that was run
-    came_of : (outcome : Result Unit Refusal) → LosesLine (Some bytes) rest → length line ≤ 4096 → OnOk outcome (DoesLine (words_in line) text old new) → IfErr outcome (λ reason. IsNotRun reason (words_in line) old new) → CanRun new → Came number line bytes rest outcome text old new
+    came_of : (outcome : Result Unit Refusal) → LosesLine (Some bytes) rest → length line ≤ longest_line → OnOk outcome (DoesLine (words_in line) text old new) → IfErr outcome (λ reason. IsNotRun reason (words_in line) old new) → CanRun new → Came number line bytes rest outcome text old new
     came_of (Ok done) loses short does other ready = (loses, record { short = short; answer = inl does; ready = ready })
     came_of (Err refusal.NoMemory) loses short does other ready = (loses, record { short = short; answer = inr (other, refl); ready = ready })
     came_of (Err (refusal.Fault fault)) loses short does other ready = record {
@@ -75,14 +75,14 @@ module _ (number : ℕ) (line bytes : List ℕ) (rest : Option (List ℕ)) where
 pub takes_span :
     (number : ℕ) (buffer : LineBuffer) (span : Span) (left rest : Option (List ℕ)) (line : List ℕ)
     (outcome : Result Unit Refusal) (text : List ℕ) (old new : LineState)
-    → IsFirstOf (bytes_at buffer span) left → LosesLine left rest → span.end - span.start ≤ 4096
+    → IsFirstOf (bytes_at buffer span) left → LosesLine left rest → span.end - span.start ≤ longest_line
     → line ≡ strip_last 13 (bytes_at buffer span) → OnOk outcome (DoesLine (words line) text old new)
     → IfErr outcome (λ reason. IsNotRun reason (words line) old new) → CanRun new
     → Takes number left rest outcome text old new
 takes_span number buffer span None rest line outcome text old new first loses short is does other ready = tt
 takes_span number buffer span (Some bytes) None line outcome text old new first loses short is does other ready = absurd loses
 takes_span number buffer span (Some bytes) (Some others) line outcome text old new first loses short is does other ready =
-    let few : length (bytes_at buffer span) ≤ 4096 = omega (arith, length-take (span.end - span.start) (drop span.start buffer.bytes.items)) in (
+    let few : length (bytes_at buffer span) ≤ longest_line = omega (arith, length-take (span.end - span.start) (drop span.start buffer.bytes.items)) in (
       bytes_at buffer span,
       record { some = loses.0; first = first; came = came_of number (bytes_at buffer span) bytes (Some others) text old new outcome loses few (rw is at does) (rw is at other) ready },
     )

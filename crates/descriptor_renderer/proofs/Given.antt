@@ -8,7 +8,7 @@ use Rattle.gpu_descriptor.specs.declared.set.DescriptorSet.{DescriptorSet}
 use Rattle.gpu_descriptor.proofs.callers.HeldSets.{count_parts}
 use Rattle.descriptor_table.specs.Sets.{joined, sets_in}
 use Rattle.descriptor_table.specs.Slots.{slot_at}
-use Rattle.descriptor_table.specs.Tables.{Picks, PicksFirst, Puts, Renews, renewed, used_for}
+use Rattle.descriptor_table.specs.Tables.{Picks, PicksAny, Puts, Renews, renewed, used_for}
 use Rattle.descriptor_table.specs.declared.handle.SetHandle.{SetHandle}
 use Rattle.descriptor_table.specs.declared.slot.Slot.{Slot}
 use Rattle.descriptor_table.specs.declared.slot.Use.{Use}
@@ -66,6 +66,6 @@ module _ {T : Type 0} where
   pub picked_sets : (test : Slot T → Bool) (p : ℕ) (old new : List (Slot T)) → Picks test p old new → sets_in new ≡ sets_in old
   picked_sets test p old new picks = ap sets_in picks.slots ∙ set_sets old p (used_for Taken (slot_at old p)) refl
 
-  pub first_sets : (test : Slot T → Bool) (r : Option ℕ) (old new : List (Slot T)) → PicksFirst test r old new → sets_in new ≡ sets_in old
+  pub first_sets : (test : Slot T → Bool) (r : Option ℕ) (old new : List (Slot T)) → PicksAny test r old new → sets_in new ≡ sets_in old
   first_sets test None old new picks = ap sets_in picks.slots
   first_sets test (Some p) old new picks = picked_sets test p old new picks

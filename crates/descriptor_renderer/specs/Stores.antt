@@ -1,4 +1,4 @@
--- What the store of a renderer has: the table of its sets, and the allocator over a device.
+-- What the store of a renderer has, the table of its sets and the allocator over a device, and what its calls do.
 use Rattle.std.specs.Prelude.{◌≡◌, ◌≢◌, ℕ, zero, suc, ◌+◌, ◌<◌, ◌≤◌, ◌⊎◌, ◌||◌, true, not, Bool, List, [], ◌∷◌, length, slice_index_or, if◌then◌else◌, is_some, Option, Result, Some, Ok, Err, None, IfOk, IfErr}
 use Rattle.gpu_descriptor_types.specs.Ledger.{Ledger, Pool}
 use Rattle.gpu_descriptor.specs.Caller.Others.{others_of}
@@ -46,9 +46,9 @@ pub record AreCleaned {T : Type 0} (old new : List (Slot T)) : Type 0 where
   pub each : (p : ℕ) → p < length old → slot_at new p ≡ (if is_kept (slot_at old p) then vacated (aged (slot_at old p)) else aged (slot_at old p))
 
 -- a set has the handle, which was never given, and is in use for this; each other handle names what it named, in whatever frame
-pub record IsNamed {T : Type 0} (number : ℕ) (layout : ℕ × ℕ) (u : Use) (handle : SetHandle) (old new : List (Slot T)) : Type 0 where
+pub record IsNamed {T : Type 0} (number : ℕ) (under : ℕ × ℕ) (u : Use) (handle : SetHandle) (old new : List (Slot T)) : Type 0 where
   pub set : T
-  pub of_layout : came_under (slot_at new handle.place) ≡ layout
+  pub of_layout : came_under (slot_at new handle.place) ≡ under
   pub here : (slot_at new handle.place).set ≡ Some set
   pub names : (frame : ℕ) (opened : Bool) → is_live frame opened u ≡ true → Names handle set (sets_of number frame opened old) (sets_of number frame opened new)
 
@@ -57,7 +57,7 @@ abbrev pub is_free : {T : Type 0} → Slot T → Bool
 is_free s = is_kept s || not (is_some s.set)
 
 -- sets that were kept, or came, are held by the next handles of their slots, and all else is as it was
-pub record HoldEach {T : Type 0} (number : ℕ) (layout : ℕ × ℕ) (handles : List SetHandle) (old new : List (Slot T)) : Type 0 where
+pub record HoldEach {T : Type 0} (number : ℕ) (under : ℕ × ℕ) (handles : List SetHandle) (old new : List (Slot T)) : Type 0 where
   -- no two have one place
   pub apart : (i j : ℕ) → i < j → j < length handles → place_at handles i ≢ place_at handles j
   -- each slot had no set, or a kept one
@@ -65,15 +65,15 @@ pub record HoldEach {T : Type 0} (number : ℕ) (layout : ℕ × ℕ) (handles :
   -- each is the next handle of its slot
   pub is : (i : ℕ) (e : SetHandle) → i < length handles → slice_index_or handles i e ≡ record { renderer = number; place = place_at handles i; generation = (slot_at old (place_at handles i)).generation + 1 }
   pub generation : (i : ℕ) → i < length handles → (slot_at new (place_at handles i)).generation ≡ (slot_at old (place_at handles i)).generation + 1
-  pub of_layout : (i : ℕ) → i < length handles → came_under (slot_at new (place_at handles i)) ≡ layout
+  pub of_layout : (i : ℕ) → i < length handles → came_under (slot_at new (place_at handles i)) ≡ under
   pub held : (i : ℕ) → i < length handles → holds (slot_at new (place_at handles i)) ≡ true
   pub rest : (p : ℕ) → ((i : ℕ) → i < length handles → place_at handles i ≢ p) → slot_at new p ≡ slot_at old p
 
 -- the sets of the handles were kept, or came, perhaps after all kept sets left their slots; all else is as it was
-pub record HoldAtLast {T : Type 0} (number : ℕ) (layout : ℕ × ℕ) (handles : List SetHandle) (old new : List (Slot T)) : Type 0 where
+pub record HoldAtLast {T : Type 0} (number : ℕ) (under : ℕ × ℕ) (handles : List SetHandle) (old new : List (Slot T)) : Type 0 where
   pub mid : List (Slot T)
   pub cleared : (mid ≡ old) ⊎ AreCleaned old mid
-  pub holds : HoldEach number layout handles mid new
+  pub holds : HoldEach number under handles mid new
 
 -- no set comes
 abbrev pub NoneComes : {S : Type 0} → ℕ → DescriptorSet S → Type 0
@@ -81,9 +81,9 @@ NoneComes layout x = ⊥
 
 -- only sets of this layout come
 abbrev pub ComesOf : {L P S : Type 0} → Meaning L P S → L → ℕ → ℕ → DescriptorSet S → Type 0
-ComesOf means layout number other x = (other ≡ number) × IsOfLayout means layout x.raw
+ComesOf means known layout other x = (other ≡ layout) × IsOfLayout means known x.raw
 
--- sets were given back in one call, if there were any
+-- sets were given back by one free_from, if there were any
 pub record GaveBack {L P S : Type 0} (means : Meaning L P S) (old new : Side (Allocations P)) : Type 0 where
   pub sets : List (DescriptorSet S)
   pub returns : Returns means sets old new
@@ -206,7 +206,7 @@ module _ {L P S D : Type 0} {d : Ghosts D L P S} where
     pub layout : HasLayout number s
     pub rest : IsAtRest s
 
-  -- the sets that pass the test left their slots, and were given back in one call, if there were any
+  -- the sets that pass the test left their slots, and were given back by one free_from, if there were any
   pub record GivesBack (test : Slot (DescriptorSet S) → Bool) (old new : StoreOver d) : Type 0 where
     pub back : GaveBack d.meaning (side_of old) (side_of new)
     pub turns : Turns test (Becomes vacated) (slots_in old) (slots_in new)
@@ -221,71 +221,71 @@ module _ {L P S D : Type 0} {d : Ghosts D L P S} where
     pub cleans : TrimsPools d.meaning mid (side_of new)
 
   -- the allocator refused so many sets, or an allocation of the table's own failed before it was asked. All slots are as they were
-  pub record IsRefused (layout : L) (many : ℕ) (error : AllocationError) (old new : StoreOver d) : Type 0 where
+  pub record IsRefused (known : L) (many : ℕ) (error : AllocationError) (old new : StoreOver d) : Type 0 where
     pub slots : slots_in new ≡ slots_in old
-    pub why : HandsOut d.meaning (layout_key d.meaning layout) many (Err error) (side_of old) (side_of new) ⊎ ((error ≡ OutOfHostMemory) × (side_of new ≡ side_of old))
+    pub why : HandsOut d.meaning (layout_key d.meaning known) many (Err error) (side_of old) (side_of new) ⊎ ((error ≡ OutOfHostMemory) × (side_of new ≡ side_of old))
 
   -- so many sets were refused, and then all kept sets were given back, and all empty pools went
-  pub record IsCleared (layout : L) (many : ℕ) (old new : StoreOver d) : Type 0 where
+  pub record IsCleared (known : L) (many : ℕ) (old new : StoreOver d) : Type 0 where
     pub refused : StoreOver d
     pub error : AllocationError
-    pub first : IsRefused layout many error old refused
+    pub first : IsRefused known many error old refused
     pub cleaned : AreCleaned (slots_in refused) (slots_in new)
     pub cleans : Cleans refused new
 
   -- no set is kept: so many were refused, or, after a cleanup, this many
-  pub record IsRefusedAtLast (layout : L) (first last : ℕ) (error : AllocationError) (old new : StoreOver d) : Type 0 where
+  pub record IsRefusedAtLast (known : L) (first last : ℕ) (error : AllocationError) (old new : StoreOver d) : Type 0 where
     pub none : count is_kept (slots_in new) ≡ 0
-    pub why : IsRefused layout first error old new ⊎ ((mid : StoreOver d) × IsCleared layout first old mid × IsRefused layout last error mid new)
+    pub why : IsRefused known first error old new ⊎ ((mid : StoreOver d) × IsCleared known first old mid × IsRefused known last error mid new)
 
   -- a set of the layout came from the allocator, and is at the place
-  pub record Gets (layout : L) (number place : ℕ) (old new : StoreOver d) : Type 0 where
+  pub record Gets (known : L) (layout place : ℕ) (old new : StoreOver d) : Type 0 where
     pub set : DescriptorSet S
-    pub puts : Puts (generations_in new) number set place (slots_in old) (slots_in new)
-    pub own : IsOfLayout d.meaning layout set.raw
-    pub hands_out : HandsOut d.meaning (layout_key d.meaning layout) 1 (Ok (set ∷ [])) (side_of old) (side_of new)
+    pub puts : Puts (generations_in new) layout set place (slots_in old) (slots_in new)
+    pub own : IsOfLayout d.meaning known set.raw
+    pub hands_out : HandsOut d.meaning (layout_key d.meaning known) 1 (Ok (set ∷ [])) (side_of old) (side_of new)
 
   -- a set came from the allocator, at once, or after all kept sets were given back
   abbrev pub GetsAtLast : L → ℕ → ℕ → StoreOver d → StoreOver d → Type 0
-  GetsAtLast layout number place old new = Gets layout number place old new ⊎ ((mid : StoreOver d) × IsCleared layout 1 old mid × Gets layout number place mid new)
+  GetsAtLast known layout place old new = Gets known layout place old new ⊎ ((mid : StoreOver d) × IsCleared known 1 old mid × Gets known layout place mid new)
 
   -- a new set has the handle, and is in use for this
   abbrev pub HandlesNew : L → ℕ → Use → SetHandle → StoreOver d → StoreOver d → Type 0
-  HandlesNew layout number u handle old new = (mid : StoreOver d) × GetsAtLast layout number handle.place old mid × Renews (number_of old) handle.place u handle (slots_in mid) (slots_in new) × (side_of new ≡ side_of mid)
+  HandlesNew known layout u handle old new = (mid : StoreOver d) × GetsAtLast known layout handle.place old mid × Renews (number_of old) handle.place u handle (slots_in mid) (slots_in new) × (side_of new ≡ side_of mid)
 
   -- a kept set of the layout has the handle, and is in use for this. The device isn't called
-  pub record HandlesKept (number : ℕ) (u : Use) (handle : SetHandle) (old new : StoreOver d) : Type 0 where
-    pub was : is_kept_of number (slot_at (slots_in old) handle.place) ≡ true
+  pub record HandlesKept (layout : ℕ) (u : Use) (handle : SetHandle) (old new : StoreOver d) : Type 0 where
+    pub was : is_kept_of layout (slot_at (slots_in old) handle.place) ≡ true
     pub renews : Renews (number_of old) handle.place u handle (slots_in old) (slots_in new)
     pub side : side_of new ≡ side_of old
 
   -- a kept set of the layout was taken, without a call of the device
-  pub record TakesKept (number : ℕ) (result : Result ℕ AllocationError) (old new : StoreOver d) : Type 0 where
+  pub record TakesKept (layout : ℕ) (result : Result ℕ AllocationError) (old new : StoreOver d) : Type 0 where
     pub place : ℕ
     pub is : result ≡ Ok place
-    pub picks : Picks (is_kept_of number) place (slots_in old) (slots_in new)
+    pub picks : Picks (is_kept_of layout) place (slots_in old) (slots_in new)
     pub side : side_of new ≡ side_of old
 
   -- so many sets of the layout came from the allocator, and are on their way to their slots
-  pub record Asks (layout : L) (many : ℕ) (old new : StoreOver d) : Type 0 where
+  pub record Asks (known : L) (many : ℕ) (old new : StoreOver d) : Type 0 where
     pub slots : slots_in new ≡ slots_in old
-    pub own : AreOfLayout d.meaning layout (coming_in new)
-    pub hands_out : HandsOut d.meaning (layout_key d.meaning layout) many (Ok (coming_in new)) (side_of old) (side_of new)
+    pub own : AreOfLayout d.meaning known (coming_in new)
+    pub hands_out : HandsOut d.meaning (layout_key d.meaning known) many (Ok (coming_in new)) (side_of old) (side_of new)
 
   -- so many sets came from the allocator, at once, or, after all kept sets were given back, as many as all
   abbrev pub AsksAtLast : L → ℕ → ℕ → StoreOver d → StoreOver d → Type 0
-  AsksAtLast layout first last old new = Asks layout first old new ⊎ ((mid : StoreOver d) × IsCleared layout first old mid × Asks layout last mid new)
+  AsksAtLast known first last old new = Asks known first old new ⊎ ((mid : StoreOver d) × IsCleared known first old mid × Asks known last mid new)
 
   -- so many sets came, and the device was not called after that
   abbrev pub BringsAtLast : L → ℕ → ℕ → StoreOver d → StoreOver d → Type 0
-  BringsAtLast layout first last old new = (mid : StoreOver d) × AsksAtLast layout first last old mid × (side_of new ≡ side_of mid)
+  BringsAtLast known first last old new = (mid : StoreOver d) × AsksAtLast known first last old mid × (side_of new ≡ side_of mid)
 
-  -- the sets that pass the test came back, and those that are not kept were given back in one call, if there were any
+  -- the sets that pass the test came back, and those that are not kept were given back by one free_from, if there were any
   pub record ComeBack (test : Slot (DescriptorSet S) → Bool) (old new : StoreOver d) : Type 0 where
     pub turns : Turns test (IsBack vacated (generations_in old) (most_of old)) (slots_in old) (slots_in new)
     pub back : GaveBack d.meaning (side_of old) (side_of new)
 
-  -- the kept sets of the layout were given back in one call, if there were any, and all other slots are as they were
+  -- the kept sets of the layout were given back by one free_from, if there were any, and all other slots are as they were
   pub record Removes (layout : ℕ) (old new : StoreOver d) : Type 0 where
     pub turns : Turns (is_kept_of layout) (Becomes vacated) (slots_in old) (slots_in new)
     -- one layout more of the number was removed. Each set that is left under the number came under one of these, so it isn't kept when it comes back
@@ -295,17 +295,17 @@ module _ {L P S D : Type 0} {d : Ghosts D L P S} where
     -- these, and those that are left, are those that there were
     pub gave : (t : Item) → count_of t (items_of d.meaning.set_name (sets_in (slots_in old))) ≡ count_of t (items_of d.meaning.set_name back.sets) + count_of t (items_of d.meaning.set_name (sets_in (slots_in new)))
 
-  -- the sets of the handles came back, and those that are not kept were given back in one call, if there were any
+  -- the sets of the handles came back, and those that are not kept were given back by one free_from, if there were any
   pub record FreesEach (handles : List SetHandle) (old new : StoreOver d) : Type 0 where
     pub turns : TurnEach handles (IsBack vacated (generations_in old) (most_of old)) (slots_in old) (slots_in new)
     pub back : GaveBack d.meaning (side_of old) (side_of new)
 
-  -- kept sets were given back in one call, if there were any, and all else is as it was
+  -- kept sets were given back by one free_from, if there were any, and all else is as it was
   pub record Trims (old new : StoreOver d) : Type 0 where
     pub turns : Turns is_kept (MayBecome vacated) (slots_in old) (slots_in new)
     pub back : GaveBack d.meaning (side_of old) (side_of new)
 
-  -- all sets were given back in one call, if there were any, and no handle is given again
+  -- all sets were given back by one free_from, if there were any, and no handle is given again
   pub record FreesAll (old new : StoreOver d) : Type 0 where
     pub long : length (slots_in new) ≡ length (slots_in old)
     pub none : (p : ℕ) → (slot_at (slots_in new) p).set ≡ None
@@ -313,12 +313,12 @@ module _ {L P S D : Type 0} {d : Ghosts D L P S} where
     pub back : GaveBack d.meaning (side_of old) (side_of new)
 
   -- a set of the layout has a handle, and is in use for this: one that was kept, or, if there was none, one that came. It is refused only if no set of the layout is kept
-  pub record TakesOne (layout : L) (number : ℕ) (u : Use) (result : Result SetHandle AllocationError) (old new : StoreOver d) : Type 0 where
-    pub named : IfOk result (λ handle. IsNamed (number_of old) (current_in number old) u handle (slots_in old) (slots_in new))
-    pub kept : 0 < kept_of number old → (handle : SetHandle) × (result ≡ Ok handle) × HandlesKept number u handle old new
-    pub comes : kept_of number old ≡ 0 → IfOk result (λ handle. HandlesNew layout number u handle old new)
-    pub refused : IfErr result (λ error. IsRefusedAtLast layout 1 1 error old new)
-    pub settles : Settles (ComesOf d.meaning layout number) (frame_in u) old new
+  pub record TakesOne (known : L) (layout : ℕ) (u : Use) (result : Result SetHandle AllocationError) (old new : StoreOver d) : Type 0 where
+    pub named : IfOk result (λ handle. IsNamed (number_of old) (current_in layout old) u handle (slots_in old) (slots_in new))
+    pub kept : 0 < kept_of layout old → (handle : SetHandle) × (result ≡ Ok handle) × HandlesKept layout u handle old new
+    pub comes : kept_of layout old ≡ 0 → IfOk result (λ handle. HandlesNew known layout u handle old new)
+    pub refused : IfErr result (λ error. IsRefusedAtLast known 1 1 error old new)
+    pub settles : Settles (ComesOf d.meaning known layout) (frame_in u) old new
     pub grows : Grows (slots_in old) (slots_in new)
 
   -- the sets that are on their way can be held, under the layout of this number
@@ -327,9 +327,9 @@ module _ {L P S D : Type 0} {d : Ghosts D L P S} where
     pub table : HasRoom (length (coming_in s)) s.table
 
   -- sets that were on their way are held: the device isn't called, and if all were of a layout, no others come
-  pub record HoldsComing (number : ℕ) (old new : StoreOver d) : Type 0 where
+  pub record HoldsComing (layout : ℕ) (old new : StoreOver d) : Type 0 where
     pub side : side_of new ≡ side_of old
-    pub sets : (layout : L) → AreOfLayout d.meaning layout (coming_in old) → SetsCome (ComesOf d.meaning layout number) (slots_in old) (slots_in new)
+    pub sets : (known : L) → AreOfLayout d.meaning known (coming_in old) → SetsCome (ComesOf d.meaning known layout) (slots_in old) (slots_in new)
     pub grows : Grows (slots_in old) (slots_in new)
     pub stays : KeepsStore old new
 

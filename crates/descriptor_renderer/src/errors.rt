@@ -6,7 +6,7 @@ use gpu_descriptor::AllocationError;
 use std::error::Error;
 use std::fmt;
 
-/// Why no frame was opened.
+/// Why no frame was opened or skipped.
 #[derive(Clone, Copy, Debug, PartialEq, Eq)]
 pub enum BeginError {
     /// A frame is open.
@@ -31,7 +31,7 @@ impl fmt::Display for BeginError {
 
 impl Error for BeginError {}
 
-/// Why there is no set.
+/// Why there is no set, or no layout was removed.
 #[derive(Clone, Copy, Debug, PartialEq, Eq)]
 pub enum RenderError {
     /// No frame is open.

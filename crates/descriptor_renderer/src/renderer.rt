@@ -113,10 +113,8 @@ impl<L: Drop, P: Drop, S: Drop, D: DescriptorDevice<L, P, S>> Renderer<L, P, S, 
         ensures others { IfOk result (λ handle. (other : LayoutHandle) → other ≢ handle
             → (layout_of self.new other ≡ layout_of self.old other)
             × (layout_given self.new other ≡ layout_given self.old other)) }
-        ensures kept { (handle : LayoutHandle) (known : SetLayout L) → layout_of self.old handle
-            ≡ Some known → layout_of self.new handle ≡ Some known }
         ensures grows { Grows (layouts_in self.old) (layouts_in self.new) }
-        ensures stay { OnErr result (layouts_in self.new ≡ layouts_in self.old) }
+        ensures stay { OnErr result (seen self.new ≡ seen self.old) }
         ensures back { IfErr result (λ failed. failed.value ≡ layout) }
         ensures rest { seen self.new ≡ record (seen self.old)
             { layouts = layout_of self.new; given = layout_given self.new } }
@@ -146,8 +144,6 @@ impl<L: Drop, P: Drop, S: Drop, D: DescriptorDevice<L, P, S>> Renderer<L, P, S, 
         ensures gone { OnOk result (layout_of self.new layout ≡ None) }
         ensures others { (other : LayoutHandle) → other ≢ layout → layout_of self.new other
             ≡ layout_of self.old other }
-        ensures given { (other : LayoutHandle) → layout_given self.new other
-            ≡ layout_given self.old other }
         ensures removes { OnOk result (Removes layout.slot.place (store_of self.old)
             (store_of self.new)) }
         ensures none_kept { OnOk result (kept_of layout self.new ≡ 0) }
@@ -186,7 +182,7 @@ impl<L: Drop, P: Drop, S: Drop, D: DescriptorDevice<L, P, S>> Renderer<L, P, S, 
         self.store.cleanup();
     }
 
-    /// Destroys all pools that have no set, wherever they stand. Sets that are kept stay, and so do
+    /// Destroys all pools that have no set. Sets that are kept stay, and so do
     /// their pools; `cleanup` gives them back first. It goes over every pool, and allocates nothing.
     pub fn trim(&mut self)
         ensures trims { TrimsPools D.meaning (side_of self.old) (side_of self.new) }
@@ -197,7 +193,6 @@ impl<L: Drop, P: Drop, S: Drop, D: DescriptorDevice<L, P, S>> Renderer<L, P, S, 
 
     /// Keeps at most so many sets of a layout from now on. Those above are given back.
     pub fn set_keep(&mut self, most: u32)
-        ensures most { most_of self.new ≡ most }
         ensures few { (layout : LayoutHandle) → kept_of layout self.new ≤ most }
         ensures names { sets_by self.new ≡ sets_by self.old }
         ensures trims { Trims (store_of self.old) (store_of self.new) }
@@ -208,10 +203,9 @@ impl<L: Drop, P: Drop, S: Drop, D: DescriptorDevice<L, P, S>> Renderer<L, P, S, 
     }
 
     /// From now on a new pool has at most `most` descriptors, unless what is wanting needs more: it
-    /// holds no more sets than have so many descriptors, or than are wanting. With `None` its size is
-    /// as in the original. Pools that exist stay.
+    /// holds no more sets than have so many descriptors, or than are wanting if these are more. With
+    /// `None` there is no such bound. Pools that exist stay.
     pub fn set_most_pool_descriptors(&mut self, most: Option<u64>)
-        ensures bound { bound_of self.new ≡ most }
         ensures ledger { ledger_in self.new ≡ ledger_in self.old }
         ensures rest { seen self.new ≡ record (seen self.old)
             { bound = most; side = side_of self.new } }

@@ -1,11 +1,11 @@
 //! The table of a renderer's sets over an allocator and a device.
-ghost use Rattle.std.specs.Prelude.{◌≡◌, ℕ, ◌+◌, ◌<◌, ◌≤◌, [], length, OnOk, Some, vec_capacity, option_map};
+ghost use Rattle.std.specs.Prelude.{◌≡◌, ◌+◌, ◌<◌, [], length, OnOk, Some, option_map};
 ghost use Rattle.std.specs.Option.{option_copied};
 ghost use Rattle.gpu_descriptor.specs.Caller.Sets.{raw_of};
 ghost use Rattle.gpu_descriptor.specs.Caller.States.{Agrees, outstanding_of, state_of};
 ghost use Rattle.gpu_descriptor.proofs.callers.OneAgreement.{Agrees-prop};
 ghost use Rattle.descriptor_table.specs.Sets.{find, sets_in};
-ghost use Rattle.descriptor_table.specs.Slots.{generation_at, slot_at};
+ghost use Rattle.descriptor_table.specs.Slots.{generation_at};
 ghost use Rattle.descriptor_table.specs.Tables.{HasListRoom, HasSettings, count, holds, is_kept, lists_with, settings_of, slots_of, waits};
 ghost use Rattle.descriptor_renderer.specs.Exact.{AreExactly};
 

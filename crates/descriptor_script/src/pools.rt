@@ -19,9 +19,9 @@ use gpu_descriptor_types::{
 use indexmap::IndexMap;
 use std::alloc::Global;
 
-/// Names or memory are wanting.
+/// No name or no memory is left.
 #[derive(Clone, Copy, Debug)]
-pub struct Wanting;
+pub struct Exhausted;
 
 /// The live pools, and the names that come next.
 #[derive(Debug, Drop)]
@@ -59,7 +59,7 @@ impl Pools {
         counts: &DescriptorTotalCount,
         max_sets: u32,
         flags: DescriptorPoolCreateFlags,
-    ) -> Result<u64, Wanting>
+    ) -> Result<u64, Exhausted>
         ensures name { IfOk result (λ name. name ≡ (next_names self.old).pools) }
         ensures in_range { IfOk result (λ name. name < 2 ^ 64 - 1) }
         ensures new_name { IfOk result (λ name. pools_of self.old name ≡ None) }
@@ -72,7 +72,7 @@ impl Pools {
     {
         let name = self.next_pool;
         if name == u64::MAX {
-            return Err(Wanting);
+            return Err(Exhausted);
         }
         let pool = LivePool {
             counts: *counts,
@@ -86,7 +86,7 @@ impl Pools {
                 self.next_pool += 1;
                 Ok(name)
             }
-            Err(_) => Err(Wanting),
+            Err(_) => Err(Exhausted),
         }
     }
 
@@ -139,7 +139,7 @@ impl Pools {
         pool: u64,
         layouts: Layouts<'_, ScriptLayout>,
         sink: &mut K,
-    ) -> Result<(), Wanting>
+    ) -> Result<(), Exhausted>
         requires live { IsSome (pools_of self.old pool) }
         requires room { left layouts ≤ K.sink.room sink.old }
         ensures pools { OnOk result (pools_of self.new ≡ on_pool pool (λ p.
@@ -168,13 +168,13 @@ impl Pools {
         let first = self.next_set;
         let count = layouts.len();
         if u64::MAX - first < u64::from(count) {
-            return Err(Wanting);
+            return Err(Exhausted);
         }
         let Some(live) = self.live.get_mut(&pool) else {
             unreachable!()
         };
         if live.sets.reserve(count as usize).is_err() {
-            return Err(Wanting);
+            return Err(Exhausted);
         }
         fill(&mut live.sets, pool, first, layouts, sink);
         self.next_set += u64::from(count);

@@ -112,7 +112,7 @@ impl<S> Slots<S> {
         set
     }
 
-    /// Whether each ticket of the list has a set, and none stands twice.
+    /// Whether each ticket of the list has a set, and none is there twice.
     pub(crate) fn are_held_once(&mut self, tickets: &[usize]) -> bool
         ensures answer { IsTrue result ↔ AreHeldOnce (slots_of self.old) tickets.now }
         ensures sets { slots_of self.new ≡ slots_of self.old }

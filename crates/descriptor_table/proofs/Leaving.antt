@@ -9,7 +9,7 @@ use Rattle.std.specs.declared.iter.Iterator.{can_next-default}
 use Rattle.descriptor_table.specs.Giving.{GivesDue, GivesFrom, GivesNext, sets_left}
 use Rattle.descriptor_table.specs.Sets.{joined, sets_in}
 use Rattle.descriptor_table.specs.Slots.{goes, is_due, slot_at}
-use Rattle.descriptor_table.specs.Tables.{Gives, GivesFirst, Stays, Turns, Becomes, slots_of, vacated}
+use Rattle.descriptor_table.specs.Tables.{Gives, GivesAny, Stays, Turns, Becomes, slots_of, vacated}
 use Rattle.descriptor_table.specs.declared.giving.Due.{Due}
 use Rattle.descriptor_table.specs.declared.giving.Giving.{Giving}
 use Rattle.descriptor_table.specs.declared.set_table.SetTable.{SetTable}
@@ -73,7 +73,7 @@ module _ {T : Type 0} where
       omega arith
 
   -- a call gave a set, or there was none
-  pub progress : {S : Type 0} (table : S → MutBor (SetTable T)) (test : Slot T → Bool) (s t : S) (r : Option T) → GivesFirst test r (slots_of (table s).now) (slots_of (table t).now) → MakesProgress (can_next-default S T) (λ u. at_most (sets_left (table u))) s r t
+  pub progress : {S : Type 0} (table : S → MutBor (SetTable T)) (test : Slot T → Bool) (s t : S) (r : Option T) → GivesAny test r (slots_of (table s).now) (slots_of (table t).now) → MakesProgress (can_next-default S T) (λ u. at_most (sets_left (table u))) s r t
   progress table test s t None gives = record { on = λ finite. tt; keeps = tt; rests = λ finite. tt }
   progress table test s t (Some x) gives = record { on = λ finite. (tt, tt, one_set_fewer test x (slots_of (table s).now) (slots_of (table t).now) gives); keeps = tt; rests = λ finite. tt }
 

@@ -5,7 +5,7 @@ use Rattle.std.proofs.Common.{◌≡◌, ◌≢◌, ℕ, ◌+◌, ◌<◌, ◌�
 use Rattle.std.proofs.lemmas.List.{length-set, set-set}
 use Rattle.std.proofs.lemmas.Bool.{false≢true}
 use Rattle.descriptor_table.specs.Slots.{goes, in_list, is_in, slot_at}
-use Rattle.descriptor_table.specs.Tables.{GivesFirst, HasRoom, Picks, Puts, Renews, Stays, count, is_usable, renewed, slots_of, usable_of, used_for, vacated}
+use Rattle.descriptor_table.specs.Tables.{GivesAny, HasRoom, Picks, Puts, Renews, Stays, count, is_usable, renewed, slots_of, usable_of, used_for, vacated}
 use Rattle.descriptor_table.specs.declared.handle.SetHandle.{SetHandle}
 use Rattle.descriptor_table.specs.declared.set_table.SetTable.{SetTable}
 use Rattle.descriptor_table.specs.declared.slot.Use.{Use}
@@ -100,7 +100,7 @@ module _ {T : Type 0} where
       is ∙ ap (λ (s : Slot T). set mid p (used_for Vacant s)) slot ∙ ap (λ l. set l p (vacated (slot_at old p))) taken ∙ set-set old p empty (vacated (slot_at old p))
 
   -- a set that passes the test left its list, then its slot
-  pub gives : (test : Slot T → Bool) (p : ℕ) (r : Option T) (old mid new : List (Slot T)) → Picks test p old mid → is_some (slot_at old p).set ≡ true → r ≡ (slot_at mid p).set → (is_some r ≡ true → new ≡ set mid p (vacated (slot_at mid p))) → GivesFirst test r old new
+  pub gives : (test : Slot T → Bool) (p : ℕ) (r : Option T) (old mid new : List (Slot T)) → Picks test p old mid → is_some (slot_at old p).set ≡ true → r ≡ (slot_at mid p).set → (is_some r ≡ true → new ≡ set mid p (vacated (slot_at mid p))) → GivesAny test r old new
   gives test p None old mid new picks full taken is =
       let slot = ap (λ l. slot_at l p) picks.slots ∙ slot_set old p (used_for Taken (slot_at old p)) picks.within in
       let none : None ≡ (slot_at old p).set = taken ∙ ap (λ (s : Slot T). s.set) slot in

@@ -6,7 +6,7 @@ use Rattle.std.proofs.Common.{◌≡◌, ◌≢◌, ℕ, zero, suc, ◌+◌, ◌
 use Rattle.std.proofs.lemmas.List.{length-set, set-set}
 use Rattle.std.proofs.lemmas.Bool.{ltb-false, true≢false}
 use Rattle.descriptor_table.specs.Slots.{in_list, is_due, is_in, slot_at, waits_for}
-use Rattle.descriptor_table.specs.Tables.{AtIf, IsBack, KeepsSettings, MayBecome, PicksAbove, PicksFirst, Stays, Turns, count, generations_of, holds, is_held_use, is_kept, is_taken, is_taken_use, may_stay, most_of, next_use, stays, used_for, Becomes}
+use Rattle.descriptor_table.specs.Tables.{AtIf, IsBack, KeepsSettings, MayBecome, PicksAbove, PicksAny, Stays, Turns, count, generations_of, holds, is_held_use, is_kept, is_taken, is_taken_use, may_stay, most_of, next_use, stays, used_for, Becomes}
 use Rattle.descriptor_table.specs.declared.set_table.SetTable.{SetTable}
 use Rattle.descriptor_table.specs.declared.slot.Use.{Use}
 use Rattle.descriptor_table.specs.declared.slot.Use.TheVariants.{Held, Kept, Going, Taken}
@@ -234,7 +234,7 @@ module _ {T : Type 0} where
           turn_step test (λ l o n. n ≡ used_for u o) old now new p (used_for u (slot_at now p)) turning within e all (λ o n w. w) (λ o n w. ap test w ∙ out o) refl
 
   -- a set was picked from a list, or there was none in it, and then no more than so many are
-  pub above_of : (k most : ℕ) (r : Option ℕ) (old new : List (Slot T)) → PicksFirst (is_in k) r old new → PicksAbove k most r old new
+  pub above_of : (k most : ℕ) (r : Option ℕ) (old new : List (Slot T)) → PicksAny (is_in k) r old new → PicksAbove k most r old new
   above_of k most None old new picks = (let h = none_count (is_in k) old picks.none in omega arith, picks.slots)
   above_of k most (Some p) old new picks = picks
 

@@ -3,23 +3,23 @@ use Rattle.std.specs.Prelude.{◌≡◌, ℕ, length, Bool, Option}
 use Rattle.std.specs.Borrow.{MutBor}
 use Rattle.descriptor_table.specs.Sets.{sets_in}
 use Rattle.descriptor_table.specs.Slots.{goes, is_due}
-use Rattle.descriptor_table.specs.Tables.{Changes, GivesFirst, slots_of}
+use Rattle.descriptor_table.specs.Tables.{Changes, GivesAny, slots_of}
 use Rattle.descriptor_table.specs.declared.giving.Due.{Due}
 use Rattle.descriptor_table.specs.declared.giving.Giving.{Giving}
 use Rattle.descriptor_table.specs.declared.set_table.SetTable.{SetTable}
 use Rattle.descriptor_table.specs.declared.slot.Slot.{Slot}
 
 module _ {T : Type 0} where
-  -- the first of the sets that pass the test was taken out of its slot
+  -- one of the sets that pass the test was taken out of its slot
   pub record GivesFrom (test : Slot T → Bool) (s : MutBor (SetTable T)) (r : Option T) (t : MutBor (SetTable T)) : Type 0 where
     pub same : t.ghost_name ≡ s.ghost_name
-    pub gives : Changes (GivesFirst test r) s.now t.now
+    pub gives : Changes (GivesAny test r) s.now t.now
 
-  -- the first of those that were let go
+  -- one of those that were let go
   pub record GivesNext (s : Giving T) (r : Option T) (t : Giving T) : Type 0 where
     pub first : GivesFrom goes s.table r t.table
 
-  -- the first of those that wait for a frame up to this one
+  -- one of those that wait for a frame up to this one
   pub record GivesDue (s : Due T) (r : Option T) (t : Due T) : Type 0 where
     pub frame : t.frame ≡ s.frame
     pub first : GivesFrom (is_due s.frame) s.table r t.table

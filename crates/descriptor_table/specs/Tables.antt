@@ -176,8 +176,8 @@ module _ {T : Type 0} where
     pub slots : new ≡ old
 
   -- a slot that passes the test left, or there is none
-  abbrev pub PicksFirst : (Slot T → Bool) → Option ℕ → Slots T → Slots T → Type 0
-  PicksFirst test result old new = MatchOption result (PicksNone test old new) (λ p. Picks test p old new)
+  abbrev pub PicksAny : (Slot T → Bool) → Option ℕ → Slots T → Slots T → Type 0
+  PicksAny test result old new = MatchOption result (PicksNone test old new) (λ p. Picks test p old new)
 
   -- whether a call has a set
   abbrev pub is_taken : Slot T → Bool
@@ -237,7 +237,7 @@ module _ {T : Type 0} where
   abbrev pub PicksAbove : ℕ → ℕ → Option ℕ → Slots T → Slots T → Type 0
   PicksAbove k most result old new = MatchOption result ((count (is_in k) old ≤ most) × (new ≡ old)) (λ p. Picks (is_in k) p old new)
 
-  -- the slots, of which no set is kept when it comes back
+  -- the slot, whose set isn't kept when it comes back
   abbrev pub aged : Slot T → Slot T
   aged s = record s { leaves = true }
 
@@ -287,8 +287,8 @@ module _ {T : Type 0} where
     pub slots : At place vacated old new
 
   -- a set that passes the test was taken out of its slot, or there is none
-  abbrev pub GivesFirst : (Slot T → Bool) → Option T → Slots T → Slots T → Type 0
-  GivesFirst test result old new = MatchOption result (PicksNone test old new) (λ x. Gives test x old new)
+  abbrev pub GivesAny : (Slot T → Bool) → Option T → Slots T → Slots T → Type 0
+  GivesAny test result old new = MatchOption result (PicksNone test old new) (λ x. Gives test x old new)
 
   -- the held sets of the first handles were taken, and all else is as it was
   pub record TookEach (handles : List SetHandle) (n : ℕ) (old new : Slots T) : Type 0 where

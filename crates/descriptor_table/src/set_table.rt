@@ -1,5 +1,5 @@
 //! The table of a renderer's sets: each is in a slot, where it stays while it is used again and again.
-ghost use Rattle.std.specs.Prelude.{◌≡◌, ℕ, ◌+◌, ◌<◌, ◌≤◌, List, [], length, IsOk, OnOk, vec_capacity};
+ghost use Rattle.std.specs.Prelude.{◌≡◌, ◌+◌, ◌<◌, [], length, IsOk, OnOk, vec_capacity};
 ghost use Rattle.std.specs.Option.{option_copied};
 ghost use Rattle.descriptor_table.specs.Slots.{AreFew, AreFramed, AreLinked, AreSized};
 ghost use Rattle.descriptor_table.specs.Slots.{HasFrames, HasLists, generation_at};

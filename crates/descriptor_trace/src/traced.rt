@@ -1,5 +1,5 @@
 //! A device that writes down what passes through it.
-ghost use Rattle.std.specs.Prelude.{◌≡◌, ◌+◌, ◌≤◌, [], map, None, IsFalse, IsOk, IfErr, IfOk};
+ghost use Rattle.std.specs.Prelude.{◌≡◌, ◌+◌, [], map, None, IsFalse, IsOk, IfErr, IfOk};
 ghost use Rattle.std.specs.Prelude.{OnErr, OnOk, string_bytes};
 ghost use Rattle.std.specs.Iterator.{HoldsAlong};
 ghost use Rattle.gpu_descriptor_types.specs.Counts.{kinds};

@@ -1,5 +1,5 @@
 //! Counts, flags, errors, layouts, sinks, pool sizes, and the calls of a device.
-ghost use Rattle.std.specs.Prelude.{◌≡◌, ◌<◌, ◌≤◌};
+ghost use Rattle.std.specs.Prelude.{◌≡◌, ◌<◌};
 ghost use Rattle.std.specs.Iterator.{HoldsAlong};
 ghost use Rattle.std.specs.Prelude.{map};
 ghost use Rattle.gpu_descriptor_types.specs.Counts.{kinds};

@@ -1,6 +1,6 @@
 //! The parts of a line: words, numbers, names and kinds.
-ghost use Rattle.std.specs.Prelude.{◌≡◌, ℕ, ◌≤◌, ◌<◌, ◌↔◌, ◌++◌, ◌∷◌, length, option_map};
-ghost use Rattle.std.specs.Prelude.{IsTrue, IsSome, IfSome, position, slice_get};
+ghost use Rattle.std.specs.Prelude.{◌≡◌, ◌≤◌, ◌<◌, ◌↔◌, length, option_map};
+ghost use Rattle.std.specs.Prelude.{IsSome, IfSome, position, slice_get};
 ghost use Rattle.std.specs.Prelude.{slice_index, Contains, Some, false};
 ghost use Rattle.std.specs.Bool.{then_some};
 ghost use Rattle.std.specs.Iterator.{YieldsFirstBy, item_count};
@@ -126,7 +126,7 @@ pub fn number_within(word: &[u8], greatest: u64) -> Option<u64>
     (value <= greatest).then_some(value)
 }
 
-/// Whether a byte may stand in a name.
+/// Whether a byte may be in a name.
 fn is_name_byte(byte: u8) -> bool
     ensures { result ≡ is_name_byte_of byte }
 {
@@ -177,7 +177,7 @@ pub fn first_of(word: &[u8], value: u8) -> Option<usize>
     word.iter().position(|byte| *byte == value)
 }
 
-/// What stands before and after the first byte of this value, where the word has one.
+/// What comes before and after the first byte of this value, if the word has one.
 pub fn around(word: &[u8], value: u8) -> Option<(&[u8], &[u8])>
     ensures { option_map (λ parts. (parts.0.now, parts.1.now)) result
         ≡ around_of value word.now }

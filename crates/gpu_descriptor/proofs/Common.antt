@@ -48,7 +48,7 @@ pub use Rattle.gpu_descriptor.specs.Caller.Keys.{keys_with_pools, with_key}
 pub use Rattle.gpu_descriptor.specs.Caller.Others.{is_named}
 pub use Rattle.gpu_descriptor.specs.Caller.Sets.{AreOfLayout, item_of, items_of}
 pub use Rattle.gpu_descriptor.specs.Caller.States.{Agrees, marked_load_of, named, named_bucket, named_row, outstanding_of, pool_load_of, state_of, table_of}
-pub use Rattle.gpu_descriptor.specs.Inner.Buckets.{AreBookedIn, IsBookedIn, front_but, has_pools, ledger_but, bucket_but_front, ledger_but_front}
+pub use Rattle.gpu_descriptor.specs.Inner.Buckets.{AreBookedIn, IsBookedIn, has_pools, ledger_but, bucket_but_front, ledger_but_front}
 pub use Rattle.gpu_descriptor.specs.Inner.Grow.{IsGrown, IsTaken}
 pub use Rattle.gpu_descriptor.specs.Inner.Ids.{is_of, stored_ids}
 pub use Rattle.gpu_descriptor.specs.Inner.OpenOrdinals.{IsEntered, first_ordinal, free_in, open_ordinals, stored_numbers}
@@ -66,7 +66,7 @@ pub use Rattle.gpu_descriptor.specs.Model.Grants.{Grant, IsGrantOf, Part, bucket
 pub use Rattle.gpu_descriptor.specs.Model.Load.{allocated_in, bucket_load, descriptors_created, descriptors_out, set_descriptors, pool_descriptors, sets_out}
 pub use Rattle.gpu_descriptor.specs.Model.Outcomes.{Allocates, Call, IsBack, IsDone, IsStopped, IsWithinLimit, StopsAtNew, Proceeds, Stays, StopsAt, error_of_alloc, grant_rise, out_then, risen, rollback_rise, stop_error, stop_rise, taken_by, wanting}
 pub use Rattle.gpu_descriptor.specs.Model.Promises.{AreBelowTwice, AreOfKey, AreOutBesides, CreatesOnlyWhereShort, IsShort, IsUntouched, KeepsOtherKeys, KeepsOutstanding}
-pub use Rattle.gpu_descriptor.specs.Model.Release.{bucket_less, empty_front, entry_less, fronts_gone, given_back, in_front, is_empty, lies_in, more_destroyed, more_released, pool_less, pools_gone, released, released_each, singly, spent_front, without_front}
+pub use Rattle.gpu_descriptor.specs.Model.Release.{bucket_less, empty_front, entry_less, front_but, fronts_gone, given_back, in_front, is_empty, lies_in, more_destroyed, more_released, pool_less, pools_gone, released, released_each, singly, spent_front, without_front}
 pub use Rattle.gpu_descriptor.specs.Model.Runs.{runs}
 pub use Rattle.gpu_descriptor.specs.Model.Shares.{OnlyAskedRefuse, Portion, all_shared, asked_count, asks, is_asked, offer, portions_of, refused_count, rest, share, shared}
 pub use Rattle.gpu_descriptor.specs.declared.bucket.run.Run.{Run}

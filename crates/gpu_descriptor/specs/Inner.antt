@@ -1,4 +1,4 @@
--- What only the code's own contracts say. No public clause needs it.
+-- What the code's own contracts say, and by which rows an allocator's value is read off its table.
 pub mod Buckets
 pub mod Grow
 pub mod Ids

@@ -1,20 +1,17 @@
-//! The keys of an allocator, each with its pools, and where a key stands. A place is tried before it
+//! The keys of an allocator, each with its pools, and the place of a key. A place is tried before it
 //! is used, so nothing rests on the hint.
-ghost use Rattle.std.specs.Prelude.{◌≡◌, ◌+◌, ◌<◌, ◌^◌, ◌++◌, ℕ, length, IsTrue, MatchOption, None, Some, map};
-ghost use Rattle.std.specs.Prelude.{[], ◌∷◌, IfErr, IfOk, OnErr, OnOk, slice_get, true};
+ghost use Rattle.std.specs.Prelude.{◌≡◌, ◌+◌, ◌<◌, ◌^◌, ◌++◌, ℕ, IsTrue, MatchOption, None, Some, map};
+ghost use Rattle.std.specs.Prelude.{[], ◌∷◌, slice_get, true};
 ghost use Rattle.std.specs.List.{IsDistinct, IsDistinct-prop};
 ghost use Rattle.std.specs.Map.{lookup};
-ghost use Rattle.gpu_descriptor.specs.Caller.Keys.{with_key};
 ghost use Rattle.gpu_descriptor.specs.Caller.SetLists.{appended};
-ghost use Rattle.gpu_descriptor.specs.Caller.Sets.{PutsOfLayout};
 ghost use Rattle.gpu_descriptor.specs.Inner.Buckets.{AreBookedIn};
 ghost use Rattle.gpu_descriptor.specs.Inner.Ids.{is_of, stored_ids};
 ghost use Rattle.gpu_descriptor.specs.Inner.KeyOf.{key_of};
-ghost use Rattle.gpu_descriptor.specs.Inner.OpenPools.{CountsLooks};
 ghost use Rattle.gpu_descriptor.specs.Inner.Serves.{ServesRequest};
 ghost use Rattle.gpu_descriptor.specs.Inner.Stored.{books_in, row_of, stored_keys};
 ghost use Rattle.gpu_descriptor.specs.Model.Books.{key_eq, rises, sum_over};
-ghost use Rattle.gpu_descriptor.specs.Model.Load.{bucket_load, sets_out};
+ghost use Rattle.gpu_descriptor.specs.Model.Load.{sets_out};
 
 use crate::bucket::DescriptorBucket;
 use crate::bucket::request::SetRequest;
@@ -98,7 +95,7 @@ impl<P> KeyTable<P> {
             < id)
     }
 
-    /// Whether a key stands at this place.
+    /// Whether a key is at this place.
     #[inline]
     fn has_key(&self, place: usize, key: &BucketKey) -> bool
         ensures { IsTrue result → slice_get (stored_keys self.now.buckets.entries) place

@@ -63,7 +63,7 @@ pub fn release_parts()
 {}
 
 /// Cleaning up what was cleaned up, and trimming what was trimmed, changes nothing and destroys no
-/// pool. With nothing outstanding no pool is left, in the books and in the ledger.
+/// pool. With nothing outstanding no pool of the books is left, there or in the ledger.
 pub fn clean_again()
     ensures again { (everywhere : Bool) (s t u : State) → LosesEmpty everywhere s t → LosesEmpty
         everywhere t u → u ≡ t }
@@ -154,8 +154,8 @@ pub fn pools_have_their_load()
         marked → AddsUp bucket_load s.books pools → marked ≤ pools }
 {}
 
-/// Where books and ledger agree, as many sets are out as are outstanding: a list has each set as
-/// often as it is outstanding, and each such list has as many sets as are out. The marked load is
+/// Where books and ledger agree, as many sets are allocated by the books as are outstanding: a list
+/// has each set as often as it is outstanding, and each such list has so many. The marked load is
 /// the sum of the descriptors of its marked sets.
 pub fn out_is_outstanding()
     ensures size { (s : State) (n : ℕ) → Agree s → AddsUp sets_out s.books n → ∥

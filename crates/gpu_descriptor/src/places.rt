@@ -1,6 +1,6 @@
 //! What a request puts its sets into.
 ghost use Rattle.std.specs.Prelude.{◌≡◌, ◌+◌, ◌-◌, ◌<◌, ◌≤◌, ◌∷◌, ◌++◌, [], List, ℕ};
-ghost use Rattle.std.specs.Prelude.{length, take, drop, IsOk, OnOk, if◌then◌else◌, ◌==◌, None};
+ghost use Rattle.std.specs.Prelude.{length, take, drop, IsOk, OnOk, ◌==◌, None};
 ghost use Rattle.std.specs.Prelude.{vec_len, vec_capacity};
 ghost use Rattle.std.specs.Option.{option_to_list};
 ghost use Rattle.gpu_descriptor_types.specs.Side.{side};
@@ -149,7 +149,7 @@ impl<S: Drop> SetPlaces<S> for Option<DescriptorSet<S>> {
     }
 }
 
-/// Takes the set out, unless it is the first one of those that stay.
+/// Takes the set out if none is to stay.
 fn split_off<S>(set: &mut Option<DescriptorSet<S>>, first: usize) -> Option<DescriptorSet<S>>
     ensures out { option_to_list result ≡ drop first (option_to_list set.old) }
     ensures stays { option_to_list set.new ≡ take first (option_to_list set.old) }

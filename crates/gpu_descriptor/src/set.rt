@@ -9,7 +9,7 @@ use crate::set_key::SetKey;
 use std::ops::Range;
 
 /// A descriptor set from the allocator. It stays outstanding until it is given to `free`, also
-/// where it is dropped.
+/// if it is dropped.
 #[must_use = "it stays allocated until it is freed"]
 #[derive(Debug, Drop)]
 pub struct DescriptorSet<S> {

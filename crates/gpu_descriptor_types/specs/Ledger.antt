@@ -158,7 +158,7 @@ pub record Sink (K S X : Type 0) : Type 0 where
 module _ {K S X : Type 0} (sink : Sink K S X) where
   -- the pool can give n sets of a layout, and the sink has room for them
   pub record CanPut (name n : ℕ) (counts : List ℕ) (mark : Bool) (sets : K) (l : Ledger) : Type 0 where
-    pub fits : CanGive name n counts mark l
+    pub gives : CanGive name n counts mark l
     pub room : n ≤ sink.room sets
 
   -- exactly n sets of the layout were put, and are live in the pool

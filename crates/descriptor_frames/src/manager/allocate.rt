@@ -51,7 +51,7 @@ impl<P: Drop, S: Drop> FrameManager<P, S> {
         ensures { HandsOutForUse D.meaning layout.now.layout count (map_ok (λ sets. sets.items) result)
             (side self.old (D.ledger device.old)) (side self.new (D.ledger device.new)) }
     {
-        self.allocate(device, &layout.layout, layout.flags, &layout.counts, count)
+        self.allocator.allocate_for(device, layout, count)
     }
 
     /// Appends sets to a vector, as `DescriptorAllocator::allocate_into` does. The retired sets stay.

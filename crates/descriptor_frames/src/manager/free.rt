@@ -17,7 +17,7 @@ use std::vec::Vec;
 
 impl<P, S> FrameManager<P, S> {
     ghost use Rattle.descriptor_frames.specs.Frames.{AreInUse, KeepsRetired, LeavesUse};
-    ghost use Rattle.descriptor_frames.specs.Frames.{allocator_of, AreRetiredOut, ManagerStays};
+    ghost use Rattle.descriptor_frames.specs.Frames.{allocator_of, AreRetiredOut};
     ghost use Rattle.descriptor_frames.specs.Frames.{KeepsInUse, due_sets, greatest_of, retired_of};
     ghost use Rattle.descriptor_frames.specs.Frames.{reserve_of};
 
@@ -72,8 +72,6 @@ impl<P, S> FrameManager<P, S> {
             (D.ledger device.new) }
         ensures in_use { KeepsInUse D.meaning.pool_name D.meaning.set_name self.old self.new
             (D.ledger device.old) (D.ledger device.new) }
-        ensures none { due_sets frame self.old ≡ [] → ManagerStays D.meaning.pool_name self.old
-            self.new (D.ledger device.old) (D.ledger device.new) }
     {
         let mut due = Due {
             retired: &mut self.retired,

@@ -1,10 +1,10 @@
 //! Retiring sets, over memory that may be reserved before.
 ghost use Rattle.std.specs.Prelude.{◌≡◌, ℕ, ◌+◌, ◌<◌, ◌≤◌, ◌↔◌, [], ◌∷◌, ◌++◌, IfErr, IsErrOf};
-ghost use Rattle.std.specs.Prelude.{IsOk, OnErr, OnOk, length, max};
+ghost use Rattle.std.specs.Prelude.{IsOk, OnErr, OnOk};
 ghost use Rattle.gpu_descriptor_types.specs.Ledger.{Ledger};
 ghost use Rattle.gpu_descriptor.specs.Caller.Sets.{item_of};
 ghost use Rattle.descriptor_frames.specs.Errors.{handed_back};
-ghost use Rattle.descriptor_frames.specs.Retired.{at_frame, retired_sets};
+ghost use Rattle.descriptor_frames.specs.Retired.{at_frame};
 
 use super::FrameManager;
 use crate::errors::RetireError;

@@ -27,7 +27,6 @@ impl<L: Drop, P: Drop, S: Drop, D: DescriptorDevice<L, P, S>> Renderer<L, P, S, 
     pub fn begin_frame(&mut self) -> Result<u64, BeginError>
         ensures next { IfOk result (λ frame. (frame ≡ frame_of self.old + 1)
             × (frame_of self.new ≡ frame) × (is_open self.new ≡ true)) }
-        ensures opens { is_open self.old ≡ false → frame_of self.old + 1 < 2 ^ 64 → IsOk result }
         ensures frame_open { (IsErrOf result BeginError.FrameOpen) ↔ (is_open self.old ≡ true) }
         ensures no_more_frames { (IsErrOf result BeginError.NoMoreFrames) ↔ ((is_open self.old
             ≡ false) × (frame_of self.old ≡ u64.MAX)) }
@@ -131,7 +130,7 @@ impl<L: Drop, P: Drop, S: Drop, D: DescriptorDevice<L, P, S>> Renderer<L, P, S, 
         ensures { result ≡ done_of frame self.now }
     {
         if self.is_open {
-            frame.min(self.frame.saturating_sub(1))
+            frame.min(self.frame - 1)
         } else {
             frame
         }

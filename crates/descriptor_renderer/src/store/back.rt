@@ -1,5 +1,5 @@
 //! Sets that come back: they are kept, or go back to their pools.
-ghost use Rattle.std.specs.Prelude.{◌≡◌, ℕ, ◌+◌, ◌<◌, ◌≤◌, ◌↔◌, length, false, IsFalse, IsTrue};
+ghost use Rattle.std.specs.Prelude.{◌≡◌, ℕ, ◌<◌, ◌≤◌, ◌↔◌, length, false, IsFalse, IsTrue};
 ghost use Rattle.gpu_descriptor.specs.Caller.CleansUp.{TrimsPools};
 
 use super::Store;

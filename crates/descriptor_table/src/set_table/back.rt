@@ -1,5 +1,5 @@
 //! Sets that come back: they are kept, or go back to their pools.
-ghost use Rattle.std.specs.Prelude.{◌≡◌, ◌+◌, ◌<◌, ◌≤◌, ℕ, IsTrue, true, false, length};
+ghost use Rattle.std.specs.Prelude.{◌≡◌, ◌+◌, ◌<◌, ◌≤◌, ℕ, false, length};
 
 use super::{GOING, KEPT, SetTable};
 use crate::handle::SetHandle;

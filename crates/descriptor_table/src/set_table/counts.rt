@@ -1,10 +1,20 @@
-//! How many sets there are in each use.
-ghost use Rattle.std.specs.Prelude.{◌≡◌};
+//! How many slots there are, how many sets in each use, and how many of a layout are kept at most.
+ghost use Rattle.std.specs.Prelude.{◌≡◌, ◌≤◌, ℕ, length};
 
 use super::{KEPT, SetTable};
 
 impl<T> SetTable<T> {
-    ghost use Rattle.descriptor_table.specs.Tables.{count, is_kept, most_of, slots_of, waits};
+    ghost use Rattle.descriptor_table.specs.Slots.{chain_at};
+    ghost use Rattle.descriptor_table.specs.Tables.{OnlySettings, count, is_kept, most_of};
+    ghost use Rattle.descriptor_table.specs.Tables.{settings_of, slots_of, waits};
+
+    /// How many slots there are.
+    #[inline]
+    pub fn places(&self) -> usize
+        ensures { result ≡ length (slots_of self.now) }
+    {
+        self.slots.len()
+    }
 
     /// How many sets of a layout are kept at most.
     #[inline]
@@ -12,6 +22,14 @@ impl<T> SetTable<T> {
         ensures { result ≡ most_of self.now }
     {
         self.most
+    }
+
+    /// Keeps at most so many sets of a layout from now on. No more than that are kept when it is called.
+    pub fn set_most(&mut self, most: u32)
+        requires { (k : ℕ) → 2 ≤ k → (chain_at self.old.chains.items k).count ≤ most }
+        ensures { OnlySettings (record (settings_of self.old) { most = most }) self.old self.new }
+    {
+        self.most = most;
     }
 
     /// How many sets are kept. It goes over the layouts.

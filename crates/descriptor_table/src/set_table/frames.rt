@@ -7,7 +7,7 @@ use crate::slot::{FrameChain, Use};
 
 impl<T> SetTable<T> {
     ghost use Rattle.descriptor_table.specs.Slots.{frame_at, is_due, is_of, slot_at};
-    ghost use Rattle.descriptor_table.specs.Tables.{At, CanWait, Changes, HasTaken, Picks, PicksFirst};
+    ghost use Rattle.descriptor_table.specs.Tables.{At, CanWait, Changes, HasTaken, Picks, PicksAny};
     ghost use Rattle.descriptor_table.specs.Tables.{slots_of, used_for};
 
     /// How many lists are of later frames.
@@ -98,7 +98,7 @@ impl<T> SetTable<T> {
     /// Takes a set that waits for a frame up to this one, if there is one.
     #[inline]
     pub(super) fn pick_due(&mut self, frame: u64) -> Option<usize>
-        ensures { Changes (PicksFirst (is_due frame) result) self.old self.new }
+        ensures { Changes (PicksAny (is_due frame) result) self.old self.new }
     {
         let count = self.frames.len();
         if count == 0 {

@@ -1,5 +1,5 @@
 //! Sets that are taken by their handles, all or none.
-ghost use Rattle.std.specs.Prelude.{◌≡◌, ◌<◌, ◌≤◌, ◌↔◌, ℕ, List, IsTrue, IsFalse, length};
+ghost use Rattle.std.specs.Prelude.{◌≡◌, ◌<◌, ◌≤◌, ◌↔◌, List, IsTrue, IsFalse, length};
 
 use super::SetTable;
 use crate::handle::SetHandle;

@@ -1,13 +1,13 @@
 //! Layouts that are added and removed, and sets that get old.
-ghost use Rattle.std.specs.Prelude.{◌≡◌, ◌↔◌, ◌+◌, ◌<◌, ◌≤◌, ℕ, false, IsOk, IsTrue, OnOk, length};
-ghost use Rattle.std.specs.Prelude.{slice_set, vec_capacity};
+ghost use Rattle.std.specs.Prelude.{◌≡◌, ◌↔◌, ◌+◌, ◌<◌, ℕ, false, IsOk, IsTrue, OnOk, length};
+ghost use Rattle.std.specs.Prelude.{vec_capacity};
 
 use super::{KEPT, SetTable};
 use crate::slot::Chain;
 use std::alloc::AllocError;
 
 impl<T> SetTable<T> {
-    ghost use Rattle.descriptor_table.specs.Slots.{chain_at, is_kept_of, slot_at};
+    ghost use Rattle.descriptor_table.specs.Slots.{is_kept_of, slot_at};
     ghost use Rattle.descriptor_table.specs.Tables.{AreAged, At, Changes, HasListRoom, OnlySettings};
     ghost use Rattle.descriptor_table.specs.Tables.{aged, generations_of, lists_of};
     ghost use Rattle.descriptor_table.specs.Tables.{lists_with, removed_at, settings_of, slots_of};
@@ -18,14 +18,6 @@ impl<T> SetTable<T> {
         ensures { IsTrue result ↔ (0 < lists_of self.now) }
     {
         self.chains.len() > 0
-    }
-
-    /// How many slots there are.
-    #[inline]
-    pub fn places(&self) -> usize
-        ensures { result ≡ length (slots_of self.now) }
-    {
-        self.slots.len()
     }
 
     /// Reserves memory for one layout more.
@@ -96,13 +88,5 @@ impl<T> SetTable<T> {
             (slots_of self.new) p).layout_generation < generations_of self.new layout }
     {
         self.generations[layout as usize + KEPT] += 1;
-    }
-
-    /// Keeps at most so many sets of a layout from now on. No more are kept now.
-    pub fn set_most(&mut self, most: u32)
-        requires { (k : ℕ) → 2 ≤ k → (chain_at self.old.chains.items k).count ≤ most }
-        ensures { OnlySettings (record (settings_of self.old) { most = most }) self.old self.new }
-    {
-        self.most = most;
     }
 }

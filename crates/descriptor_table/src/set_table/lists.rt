@@ -6,7 +6,7 @@ use crate::slot::{Chain, Use};
 
 impl<T> SetTable<T> {
     ghost use Rattle.descriptor_table.specs.Slots.{chain_at, goes, is_in, is_kept_of, slot_at};
-    ghost use Rattle.descriptor_table.specs.Tables.{At, Changes, IsTaken, PicksFirst, count, count_of};
+    ghost use Rattle.descriptor_table.specs.Tables.{At, Changes, IsTaken, PicksAny, count, count_of};
     ghost use Rattle.descriptor_table.specs.Tables.{generations_of, is_kept, lists_of};
     ghost use Rattle.descriptor_table.specs.Tables.{most_of, slots_of, used_for};
 
@@ -35,7 +35,7 @@ impl<T> SetTable<T> {
     /// Takes the first slot of a list out of it.
     #[inline]
     pub(super) fn pick(&mut self, list: usize) -> Option<usize>
-        ensures { Changes (PicksFirst (is_in list) result) self.old self.new }
+        ensures { Changes (PicksAny (is_in list) result) self.old self.new }
     {
         let chain = self.chains.get_mut(list)?;
         if chain.count == 0 {
@@ -70,7 +70,7 @@ impl<T> SetTable<T> {
     /// Takes a kept set of a layout.
     #[inline]
     pub fn take_kept(&mut self, layout: u32) -> Option<usize>
-        ensures { Changes (PicksFirst (is_kept_of layout) result) self.old self.new }
+        ensures { Changes (PicksAny (is_kept_of layout) result) self.old self.new }
     {
         self.pick(layout as usize + KEPT)
     }

@@ -1,5 +1,5 @@
 //! Sets that come into slots, get handles, and leave.
-ghost use Rattle.std.specs.Prelude.{◌≡◌, ◌+◌, ◌<◌, ◌≤◌, true, false, length, slice_set, IsSome, None, Some};
+ghost use Rattle.std.specs.Prelude.{◌≡◌, ◌+◌, ◌<◌, true, false, IsSome, None, Some};
 
 use super::{GOING, SetTable, VACANT};
 use crate::handle::SetHandle;
@@ -9,7 +9,7 @@ use std::mem;
 impl<T> SetTable<T> {
     ghost use Rattle.descriptor_table.specs.Sets.{find, is_held};
     ghost use Rattle.descriptor_table.specs.Slots.{IsNowhere, goes, is_due, slot_at};
-    ghost use Rattle.descriptor_table.specs.Tables.{AreAllUsed, At, CanRenew, Changes, GivesFirst};
+    ghost use Rattle.descriptor_table.specs.Tables.{AreAllUsed, At, CanRenew, Changes, GivesAny};
     ghost use Rattle.descriptor_table.specs.Tables.{HasRoom, HasTaken, IsTaken, PutsInto, Renews, Stays};
     ghost use Rattle.descriptor_table.specs.Tables.{generations_of, lists_of, number_of};
     ghost use Rattle.descriptor_table.specs.Tables.{slots_of, used_for, vacated};
@@ -168,7 +168,7 @@ impl<T> SetTable<T> {
     /// Takes a set that was let go out of its slot.
     #[inline]
     pub(crate) fn take_going(&mut self) -> Option<T>
-        ensures { Changes (GivesFirst goes result) self.old self.new }
+        ensures { Changes (GivesAny goes result) self.old self.new }
     {
         let place = self.pick(GOING)?;
         self.take_out(place)
@@ -177,7 +177,7 @@ impl<T> SetTable<T> {
     /// Takes a set that waits for a frame up to this one out of its slot.
     #[inline]
     pub(crate) fn take_due(&mut self, frame: u64) -> Option<T>
-        ensures { Changes (GivesFirst (is_due frame) result) self.old self.new }
+        ensures { Changes (GivesAny (is_due frame) result) self.old self.new }
     {
         let place = self.pick_due(frame)?;
         self.take_out(place)

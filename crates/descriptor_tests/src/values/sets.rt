@@ -2,7 +2,7 @@
 use gpu_descriptor::DescriptorSet;
 use std::mem::size_of;
 
-/// Beside a raw set of 8 bytes stand the number of its pool and the id of its key. The key itself,
+/// Beside a raw set of 8 bytes it has the number of its pool and the id of its key. The key itself,
 /// which contracts see, takes none.
 #[test]
 fn bytes_of_a_set(rt: HostRuntime) {

@@ -95,8 +95,8 @@ module _ (k : Key) (n : ℕ) (g : Grant) (s : State) (agree : Agree s) (grant : 
   abbrev shares : List Portion
   shares = portions_of g.refused n (drop g.skipped b.pools)
 
-  abbrev rest : List Portion
-  rest = fresh_portions (next_number b) g.fresh
+  abbrev new_shares : List Portion
+  new_shares = fresh_portions (next_number b) g.fresh
 
   abbrev items : List Item
   items = items_in k g.id g.parts
@@ -105,8 +105,8 @@ module _ (k : Key) (n : ℕ) (g : Grant) (s : State) (agree : Agree s) (grant : 
   no_item u never = elim (cases_lt 0 (count_of u items)) [ inl some ↦ absurd (never some) | inr none ↦ (omega arith) ]
 
   -- as many sets came from a pool as the portions say
-  came_is : (q : ℕ) → length (came g.parts q) ≡ given_at q shares + given_at q rest
-  came_is q = came_long q g.parts ∙ ap (given_at q) grant.parts ∙ sum_by-append _ shares rest
+  came_is : (q : ℕ) → length (came g.parts q) ≡ given_at q shares + given_at q new_shares
+  came_is q = came_long q g.parts ∙ ap (given_at q) grant.parts ∙ sum_by-append _ shares new_shares
 
   -- a live pool is no new one
   was_live : (q : ℕ) (pool : Pool) → s.ledger q ≡ Some pool → fresh_or k g.fresh q (s.ledger q) ≡ Some pool
@@ -265,7 +265,7 @@ module _ (k : Key) (n : ℕ) (g : Grant) (s : State) (agree : Agree s) (grant : 
 
   -- each set came from the pool that has its number
   placed : ArePlaced new (map portion_of g.parts)
-  placed = subst (ArePlaced new) (sym grant.parts) (placed_append new shares rest
+  placed = subst (ArePlaced new) (sym grant.parts) (placed_append new shares new_shares
       (placed_shares new g.refused n (drop g.skipped b.pools) (λ j e at. old_at (g.skipped + j) e (sym (get_drop b.pools g.skipped j) ∙ at)))
       (placed_fresh new (next_number b) g.fresh (λ j m f is at. (fresh_entry (next_number b + j) f, ap (entry_at new) is ∙ fresh_at j f at, refl))))
 

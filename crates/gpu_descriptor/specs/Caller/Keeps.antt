@@ -1,4 +1,4 @@
--- What every call of an allocator keeps, over its states before and after, and the ledgers.
+-- What every call of an allocator that takes the device keeps, over its states before and after, and the ledgers.
 use Rattle.std.specs.Prelude.{◌≡◌, ◌≤◌}
 use Rattle.gpu_descriptor_types.specs.Meaning.{Meaning}
 use Rattle.gpu_descriptor_types.specs.Side.{Side}

@@ -1,4 +1,4 @@
--- What a layout is to a device, and sets of it.
+-- What a layout is to a device.
 use Rattle.std.specs.Prelude.{◌≡◌}
 use Rattle.gpu_descriptor_types.specs.Counts.{kinds}
 use Rattle.gpu_descriptor_types.specs.Meaning.{Meaning}

@@ -25,6 +25,6 @@ module _ {S : Type 0} where
   abbrev pub AreOfLayout : {L P : Type 0} → Meaning L P S → L → List (DescriptorSet S) → Type 0
   AreOfLayout means layout xs = All (λ x. IsOfLayout means layout x.raw) xs
 
-  -- what was appended to a list was made with the layout, as it is if the list was. Any front of the list may be left out
+  -- if a list was made with the layout from a place on, so it was with what was appended
   abbrev pub PutsOfLayout : {L P : Type 0} → Meaning L P S → L → List (DescriptorSet S) → List (DescriptorSet S) → Type 0
   PutsOfLayout means layout old new = (first : ℕ) → AreOfLayout means layout (drop first old) → AreOfLayout means layout (drop first new)

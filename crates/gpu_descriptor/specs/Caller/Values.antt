@@ -8,7 +8,7 @@ pub record Allocations (P : Type 0) : Type 0 where
   -- how many descriptors a new pool has at most, unless what is wanting needs more. None: it isn't bounded
   pub most : Option ℕ
   pub table : List (Key × BucketOf P)
-  -- how often a request looked at a pool, and how often a release compared numbers
+  -- how often a request looked at a pool, and how many steps the searches of releases took
   pub looks : ℕ
   pub comparisons : ℕ
 

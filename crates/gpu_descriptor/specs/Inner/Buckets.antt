@@ -1,11 +1,11 @@
--- One key's pools over a ledger: how they are in it, and what a run and a front that is destroyed do to both.
-use Rattle.std.specs.Prelude.{Bool, not, ◌==◌, ◌≡◌, ℕ, ◌-◌, if◌then◌else◌, min, List, length, slice_get, Option, None, Some}
+-- One key's pools over a ledger: how they are in it, and what pools that are destroyed leave of both.
+use Rattle.std.specs.Prelude.{Bool, not, ◌==◌, ◌≡◌, ℕ, if◌then◌else◌, List, length, slice_get, Option, None, Some}
 use Rattle.gpu_descriptor_types.specs.Ledger.{Pool, Ledger}
 use Rattle.gpu_descriptor.specs.declared.bucket.DescriptorBucket.{DescriptorBucket}
 use Rattle.gpu_descriptor.specs.Model.Agreement.{IsAsBooked}
 use Rattle.gpu_descriptor.specs.Model.Books.{Key, Entry, Bucket}
 use Rattle.gpu_descriptor.specs.Model.Cleanup.{are_named}
-use Rattle.gpu_descriptor.specs.Model.Release.{empty_front, without_front, in_front, more_destroyed}
+use Rattle.gpu_descriptor.specs.Model.Release.{front_but, without_front, in_front, more_destroyed}
 
 -- an entry has its pool in the ledger
 pub record IsBookedIn (k : Key) (pools : ℕ → Option Pool) (e : Entry) : Type 0 where
@@ -20,15 +20,11 @@ pub record AreBookedIn (k : Key) (pools : ℕ → Option Pool) (entries : List E
   pub distinct : (i j : ℕ) (d e : Entry) → slice_get entries i ≡ Some d → slice_get entries j ≡ Some e → d.pool ≡ e.pool → i ≡ j
   pub each : (i : ℕ) (e : Entry) → slice_get entries i ≡ Some e → IsBookedIn k pools e
 
--- how many empty pools of the front may be destroyed, if so many pools are to stay
-abbrev pub front_but : ℕ → Bucket → ℕ
-front_but keep b = min (empty_front b) (length b.pools - keep)
-
--- the bucket without these
+-- the bucket without the empty pools of the front that may be destroyed, if so many pools are to stay
 abbrev pub bucket_but_front : ℕ → Bucket → Bucket
 bucket_but_front keep b = without_front (front_but keep b) b
 
--- the ledger after the pools were destroyed that a trimmed bucket lost
+-- the ledger after these were destroyed
 abbrev pub ledger_but_front : ℕ → Bucket → Ledger → Ledger
 ledger_but_front keep b l = let n = front_but keep b in record { pools = λ p. if in_front n b p then None else l.pools p; counters = more_destroyed n l.counters }
 

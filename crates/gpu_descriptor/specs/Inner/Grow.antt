@@ -14,11 +14,11 @@ use Rattle.gpu_descriptor.specs.Model.Grants.{Grant, pool_with}
 use Rattle.gpu_descriptor.specs.Inner.Walk.{HasTaken, IsRefused}
 
 -- a new pool was created and gave what it has of so many sets. It took of the room what it has
-pub record IsGrown (most : Option ℕ) (k : Key) (room left total wanted : ℕ) (names : List ℕ) (old new : List Entry) (before after : Ledger) : Type 0 where
+pub record IsGrown (most : Option ℕ) (k : Key) (room room_left total wanted : ℕ) (names : List ℕ) (old new : List Entry) (before after : Ledger) : Type 0 where
   pub pool : Fresh
   -- it has the size of the key's next pool at that moment
   pub size : IsNextSize most k room total wanted pool.size
-  pub less : left + pool_descriptors k pool.size ≡ room
+  pub less : room_left + pool_descriptors k pool.size ≡ room
   pub given : pool.given ≡ min pool.size wanted
   pub many : length names ≡ pool.given
   -- its name was that of no live pool

@@ -29,7 +29,7 @@ module _ {P : Type 0} where
   abbrev pub KeepsView : OpenPools P → OpenPools P → Type 0
   KeepsView old new = (new.offset ≡ old.offset) × (new.pools.ghost_name ≡ old.pools.ghost_name) × (new.listed.ghost_name ≡ old.listed.ghost_name) × (new.looks.ghost_name ≡ old.looks.ghost_name) × (new.id ≡ old.id)
 
-  -- the place of the newest pool in the list
+  -- the place, among the pools, of the newest one that is listed
   abbrev pub newest_place : OpenPools P → ℕ
   newest_place v = slice_index v.listed.now.items (length v.listed.now.items - 1) - v.offset
 

@@ -57,7 +57,7 @@ module _ {X : Type 0} where
 
   -- the number of the key's next pool: one more than the newest's
   abbrev pub next_number : BucketOf X → ℕ
-  next_number b = number_after (map (λ e. e.number) b.pools)
+  next_number b = number_after (numbers_of b.pools)
 
 -- ---- the books of all keys, and a table that keeps them in some order
 

@@ -17,7 +17,7 @@ pub record Fresh : Type 0 where
 abbrev pub given_by : List Fresh → ℕ
 given_by pools = sum_by (λ f. f.given) pools
 
--- how many sets a key's next pool holds: as many as a new pool, but if the key is marked no more than there is room for, and no more than the bound on the descriptors of a new pool leaves
+-- how many sets a key's next pool holds: as many as a new pool; if the key is marked, no more than there is room for; and for each key no more than the bound on the descriptors of a new pool leaves, unless more are wanting
 pub record IsNextSize (most : Option ℕ) (k : Key) (room total wanted size : ℕ) : Type 0 where
   -- how many sets it would hold, without room and bound
   pub whole : ℕ

@@ -38,9 +38,13 @@ is_empty e = e.allocated == 0
 abbrev pub empty_front : Bucket → ℕ
 empty_front b = prefix_len is_empty b.pools
 
--- as many of them as may be destroyed: the last pool stays
+-- as many of them as may be destroyed, if so many pools are to stay
+abbrev pub front_but : ℕ → Bucket → ℕ
+front_but keep b = min (empty_front b) (length b.pools - keep)
+
+-- the same if the last pool stays
 abbrev pub spent_front : Bucket → ℕ
-spent_front b = min (empty_front b) (length b.pools - 1)
+spent_front b = front_but 1 b
 
 -- the bucket without its first n pools
 abbrev pub without_front : ℕ → Bucket → Bucket

@@ -1,6 +1,6 @@
 //! How a request takes sets from a new pool of its key.
 ghost use Rattle.std.specs.Prelude.{◌≡◌, ◌+◌, ◌*◌, ◌<◌, ◌≤◌, ◌++◌, ◌∷◌, ◌^◌, List, [], length, map};
-ghost use Rattle.std.specs.Prelude.{true, false, All, IfErr, IfSome, IfNone, None, OnOk};
+ghost use Rattle.std.specs.Prelude.{All, IfErr, IfSome, IfNone, None, OnOk};
 ghost use Rattle.std.specs.VecDeque.{deque_capacity};
 ghost use Rattle.gpu_descriptor_types.specs.Counts.{kinds};
 ghost use Rattle.gpu_descriptor_types.specs.Flags.{bits, pool_flags as pool_flags_of};

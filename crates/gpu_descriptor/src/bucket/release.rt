@@ -77,8 +77,8 @@ impl<P> DescriptorBucket<P> {
         ahead
     }
 
-    /// The place of the pool with a number. Where no number is missing behind the pool, the number
-    /// tells it; else it is searched for.
+    /// The place of the pool with a number. If no number after the pool is missing, the number gives
+    /// it; else it is searched for.
     #[inline]
     fn place_of_pool(&self, number: u64, comparisons: &mut Tally) -> usize
         requires there { (i : ℕ) × (slice_get (stored_numbers self.now.pools.items) i

@@ -37,8 +37,8 @@ pub(crate) fn place_of<N: Numbered>(view: &mut Numbers<'_, '_, N>, number: u64) 
     low
 }
 
-/// The place of the pool with a number. It is out of line, because only where pools behind a pool
-/// were trimmed it is searched for.
+/// The place of the pool with a number. It is out of line, because it is searched for only if pools
+/// after one with sets were trimmed.
 #[inline(never)]
 pub(crate) fn search_pools<P>(
     pools: &VecDeque<DescriptorPool<P>>,
@@ -57,17 +57,17 @@ pub(crate) fn search_pools<P>(
 
 /// Puts an ordinal in at its place. There is capacity for it.
 #[inline(never)]
-fn enter(listed: &mut VecDeque<u64>, number: u64, comparisons: &mut Tally)
+fn enter(listed: &mut VecDeque<u64>, ordinal: u64, comparisons: &mut Tally)
     requires rising { IsNonDecreasing listed.old.items }
     requires fits { length listed.old.items < deque_capacity listed.old }
-    ensures entered { IsEntered number listed.old.items listed.new.items }
+    ensures entered { IsEntered ordinal listed.old.items listed.new.items }
     ensures capacity { deque_capacity listed.old ≤ deque_capacity listed.new }
     ensures compares { Compares (binary_digits (length listed.old.items)) comparisons.old.count
         comparisons.new.count }
 {
     let mut view = Numbers::new(listed, comparisons);
-    let place = place_of(&mut view, number);
-    match listed.insert(place, number) {
+    let place = place_of(&mut view, ordinal);
+    match listed.insert(place, ordinal) {
         Ok(()) => {}
         Err(_) => unreachable!(),
     }
@@ -78,13 +78,13 @@ fn enter(listed: &mut VecDeque<u64>, number: u64, comparisons: &mut Tally)
 pub(crate) fn enter_new(
     listed: &mut VecDeque<u64>,
     is_new: bool,
-    number: u64,
+    ordinal: u64,
     comparisons: &mut Tally,
 )
     // The test is an argument, since with an `if` around the call the prover has two states to carry on.
     requires rising { IsNonDecreasing listed.old.items }
     requires fits { is_new ≡ true → length listed.old.items < deque_capacity listed.old }
-    ensures entered { is_new ≡ true → IsEntered number listed.old.items listed.new.items }
+    ensures entered { is_new ≡ true → IsEntered ordinal listed.old.items listed.new.items }
     ensures stays { is_new ≡ false → listed.new.items ≡ listed.old.items }
     ensures capacity { deque_capacity listed.old ≤ deque_capacity listed.new }
     ensures compares { Compares (binary_digits (length listed.old.items)) comparisons.old.count
@@ -94,8 +94,8 @@ pub(crate) fn enter_new(
         return;
     }
     if listed.is_empty() {
-        listed.push_back_reserved(number);
+        listed.push_back_reserved(ordinal);
         return;
     }
-    enter(listed, number, comparisons);
+    enter(listed, ordinal, comparisons);
 }

@@ -27,10 +27,10 @@ pub struct FrameManager<P, S> {
 impl<P, S> FrameManager<P, S> {
     /// The same as `new`, but the ids of its allocator's keys are taken from this range, as by
     /// `DescriptorAllocator::with_ids`.
-    pub fn with_ids(alloc: Global, max: u32, ids: Range<u64>) -> Self
+    pub fn with_ids(alloc: Global, limit: u32, ids: Range<u64>) -> Self
     {
         FrameManager {
-            allocator: DescriptorAllocator::with_ids(alloc, max, ids),
+            allocator: DescriptorAllocator::with_ids(alloc, limit, ids),
             retired: VecDeque::new(alloc),
             greatest: 0,
         }

@@ -5,7 +5,7 @@ use crate::gpu_descriptor::AllocationError;
 use crate::kit::error::Error;
 use crate::kit::fmt;
 
-/// Why no frame was opened.
+/// Why no frame was opened or skipped.
 #[derive(Clone, Copy, Debug, PartialEq, Eq)]
 pub enum BeginError {
     /// A frame is open.
@@ -26,7 +26,7 @@ impl fmt::Display for BeginError {
 
 impl Error for BeginError {}
 
-/// Why there is no set.
+/// Why there is no set, or no layout was removed.
 #[derive(Clone, Copy, Debug, PartialEq, Eq)]
 pub enum RenderError {
     /// No frame is open.

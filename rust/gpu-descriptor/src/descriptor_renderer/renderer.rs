@@ -116,7 +116,7 @@ impl<L, P, S, D: DescriptorDevice<L, P, S>> Renderer<L, P, S, D> {
         self.store.cleanup();
     }
 
-    /// Destroys all pools that have no set, wherever they stand. Sets that are kept stay, and so do
+    /// Destroys all pools that have no set. Sets that are kept stay, and so do
     /// their pools; `cleanup` gives them back first. It goes over every pool, and allocates nothing.
     pub fn trim(&mut self)
     {
@@ -130,8 +130,8 @@ impl<L, P, S, D: DescriptorDevice<L, P, S>> Renderer<L, P, S, D> {
     }
 
     /// From now on a new pool has at most `most` descriptors, unless what is wanting needs more: it
-    /// holds no more sets than have so many descriptors, or than are wanting. With `None` its size is
-    /// as in the original. Pools that exist stay.
+    /// holds no more sets than have so many descriptors, or than are wanting if these are more. With
+    /// `None` there is no such bound. Pools that exist stay.
     pub fn set_most_pool_descriptors(&mut self, most: Option<u64>)
     {
         self.store.set_most_pool_descriptors(most);

@@ -3,7 +3,7 @@
 
 /// A set of a renderer: one that is held until it is freed or destroyed, or one of a frame. Only the
 /// renderer that gave it has the set, and it names no other set later.
-#[must_use = "a set is reached, and given back, only by its handle"]
+#[must_use = "a set is reached only by its handle"]
 #[derive(Clone, Copy, Debug, PartialEq, Eq, Hash)]
 pub struct SetHandle {
     pub(crate) renderer: u64,

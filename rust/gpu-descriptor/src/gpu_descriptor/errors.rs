@@ -12,13 +12,14 @@ pub enum AllocationError {
     /// the device is given up.
     OutOfDeviceMemory,
 
-    /// The host has no memory left: the device said so, or the allocator found none, or no id for a
-    /// new key. A later request may succeed once some of it is given up.
+    /// The host has no memory left: the device returned it, or an allocation failed. A later request
+    /// may succeed once some of it is given up. Or no id is left for a new key: then no request for a
+    /// new key succeeds later.
     OutOfHostMemory,
 
     /// The sets, or a new pool for them, would pass the limit on update-after-bind descriptors, or
     /// a number would pass 64 bits; or the device's memory is too fragmented for a new pool, or a
-    /// new pool refused.
+    /// new pool refused as fragmented or full.
     Fragmentation,
 }
 

@@ -100,7 +100,7 @@ impl<S> SetPlaces<S> for Option<DescriptorSet<S>> {
     }
 }
 
-/// Takes the set out, unless it is the first one of those that stay.
+/// Takes the set out if none is to stay.
 fn split_off<S>(set: &mut Option<DescriptorSet<S>>, first: usize) -> Option<DescriptorSet<S>>
 {
     if first == 0 { set.take() } else { None }

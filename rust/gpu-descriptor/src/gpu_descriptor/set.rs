@@ -4,7 +4,7 @@
 use crate::kit::ops::Range;
 
 /// A descriptor set from the allocator. It stays outstanding until it is given to `free`, also
-/// where it is dropped.
+/// if it is dropped.
 #[must_use = "it stays allocated until it is freed"]
 #[derive(Debug)]
 pub struct DescriptorSet<S> {

@@ -49,7 +49,8 @@ pub fn cut_pool_size(
 }
 
 /// A pool size of these counts, cut so that its sets have at most `most` descriptors together, unless
-/// the `wanted` sets have more; as it is with `None`. A set without descriptors counts as one.
+/// the `wanted` sets have more; as it is with `None`. A set without descriptors counts as one. If none
+/// are wanted, and `most` leaves none, the pool is for no set.
 #[inline]
 pub fn bounded_pool_size(
     counts: &DescriptorTotalCount,

@@ -28,7 +28,7 @@ pub enum Reply {
     /// So many sets went back.
     Freed(usize),
 
-    /// A ticket was never given, or is freed, or stands twice in the list. Nothing changed.
+    /// A ticket was never given, or is freed, or is in the list twice. Nothing changed.
     BadTicket,
 
     /// There is no layout at this place. Nothing changed.

@@ -9,9 +9,9 @@ use crate::gpu_descriptor_types::{
 use crate::indexmap::IndexMap;
 use crate::kit::alloc::Global;
 
-/// Names or memory are wanting.
+/// No name or no memory is left.
 #[derive(Clone, Copy, Debug)]
-pub struct Wanting;
+pub struct Exhausted;
 
 /// The live pools, and the names that come next.
 #[derive(Debug)]
@@ -40,11 +40,11 @@ impl Pools {
         counts: &DescriptorTotalCount,
         max_sets: u32,
         flags: DescriptorPoolCreateFlags,
-    ) -> Result<u64, Wanting>
+    ) -> Result<u64, Exhausted>
     {
         let name = self.next_pool;
         if name == u64::MAX {
-            return Err(Wanting);
+            return Err(Exhausted);
         }
         let pool = LivePool {
             counts: *counts,
@@ -57,7 +57,7 @@ impl Pools {
                 self.next_pool += 1;
                 Ok(name)
             }
-            Err(_) => Err(Wanting),
+            Err(_) => Err(Exhausted),
         }
     }
 
@@ -99,18 +99,18 @@ impl Pools {
         pool: u64,
         layouts: Layouts<'_, ScriptLayout>,
         sink: &mut K,
-    ) -> Result<(), Wanting>
+    ) -> Result<(), Exhausted>
     {
         let first = self.next_set;
         let count = layouts.len();
         if u64::MAX - first < u64::from(count) {
-            return Err(Wanting);
+            return Err(Exhausted);
         }
         let Some(live) = self.live.get_mut(&pool) else {
             unreachable!()
         };
         if live.sets.reserve(count as usize).is_err() {
-            return Err(Wanting);
+            return Err(Exhausted);
         }
         fill(&mut live.sets, pool, first, layouts, sink);
         self.next_set += u64::from(count);

@@ -85,7 +85,7 @@ impl<S> Slots<S> {
         set
     }
 
-    /// Whether each ticket of the list has a set, and none stands twice.
+    /// Whether each ticket of the list has a set, and none is there twice.
     pub(crate) fn are_held_once(&mut self, tickets: &[usize]) -> bool
     {
         let good = mark_each(&self.sets, &mut self.listed, tickets);

@@ -100,7 +100,7 @@ pub fn number_within(word: &[u8], greatest: u64) -> Option<u64>
     (value <= greatest).then_some(value)
 }
 
-/// Whether a byte may stand in a name.
+/// Whether a byte may be in a name.
 fn is_name_byte(byte: u8) -> bool
 {
     byte.is_ascii_alphanumeric() || byte == b'_' || byte == b'-'
@@ -140,7 +140,7 @@ pub fn first_of(word: &[u8], value: u8) -> Option<usize>
     word.iter().position(|byte| *byte == value)
 }
 
-/// What stands before and after the first byte of this value, where the word has one.
+/// What comes before and after the first byte of this value, if the word has one.
 pub fn around(word: &[u8], value: u8) -> Option<(&[u8], &[u8])>
 {
     let place = first_of(word, value)?;

@@ -39,7 +39,7 @@ fn parse_span(word: &[u8]) -> Result<Span, Fault>
     })
 }
 
-/// What stands before and after the first `-`, or the word twice where it has none.
+/// What comes before and after the first `-`, or the word twice if it has none.
 fn sides(word: &[u8]) -> (&[u8], &[u8])
 {
     match text::around(word, b'-') {

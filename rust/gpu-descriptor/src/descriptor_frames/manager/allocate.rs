@@ -31,7 +31,7 @@ impl<P, S> FrameManager<P, S> {
         count: u32,
     ) -> Result<Vec<DescriptorSet<S>>, AllocationError>
     {
-        self.allocate(device, &layout.layout, layout.flags, &layout.counts, count)
+        self.allocator.allocate_for(device, layout, count)
     }
 
     /// Appends sets to a vector, as `DescriptorAllocator::allocate_into` does. The retired sets stay.

@@ -79,7 +79,7 @@ impl<L, P, S, D: DescriptorDevice<L, P, S>> Renderer<L, P, S, D> {
     fn done(&self, frame: u64) -> u64
     {
         if self.is_open {
-            frame.min(self.frame.saturating_sub(1))
+            frame.min(self.frame - 1)
         } else {
             frame
         }

@@ -13,13 +13,6 @@ impl<T> SetTable<T> {
         self.chains.len() > 0
     }
 
-    /// How many slots there are.
-    #[inline]
-    pub fn places(&self) -> usize
-    {
-        self.slots.len()
-    }
-
     /// Reserves memory for one layout more.
     pub fn reserve_layout(&mut self) -> Result<(), AllocError>
     {
@@ -66,11 +59,5 @@ impl<T> SetTable<T> {
     pub fn remove_layout(&mut self, layout: u32)
     {
         self.generations[layout as usize + KEPT] += 1;
-    }
-
-    /// Keeps at most so many sets of a layout from now on. No more are kept now.
-    pub fn set_most(&mut self, most: u32)
-    {
-        self.most = most;
     }
 }

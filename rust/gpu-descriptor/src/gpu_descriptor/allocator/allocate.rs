@@ -27,8 +27,8 @@ impl<P, S> DescriptorAllocator<P, S> {
     /// that has a set, but never the key's last pool. The errors:
     ///
     /// - `Fragmentation`: the sets of a marked layout would exceed the limit; or the limit leaves no
-    ///   room for a new pool of a marked layout; or `count` more than the number of sets that are out,
-    ///   or than the number of the key's next pool, would exceed 64 bits; or the device refused with
+    ///   room for a new pool of a marked layout; or the number of sets that are out, or that of the
+    ///   key's next pool, would exceed 64 bits with `count` added to it; or the device refused with
     ///   this error to create a pool; or a new pool refused its sets as fragmented or full;
     /// - `OutOfDeviceMemory`: the device returned it, at an existing or a new pool;
     /// - `OutOfHostMemory`: the device returned it; or an allocation failed, for the result or for the

@@ -17,7 +17,7 @@ impl<P, S> DescriptorAllocator<P, S> {
         self.sweep(device, false);
     }
 
-    /// Destroys all pools that have no set, wherever they stand, and forgets the keys that then have
+    /// Destroys all pools that have no set, wherever they are, and forgets the keys that then have
     /// none. It allocates nothing and can't fail.
     ///
     /// It goes over every pool, where `cleanup` stops at the first of a key that has a set. The

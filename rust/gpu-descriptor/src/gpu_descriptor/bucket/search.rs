@@ -23,8 +23,8 @@ pub(crate) fn place_of<N: Numbered>(view: &mut Numbers<'_, N>, number: u64) -> u
     low
 }
 
-/// The place of the pool with a number. It is out of line, because only where pools behind a pool
-/// were trimmed it is searched for.
+/// The place of the pool with a number. It is out of line, because it is searched for only if pools
+/// after one with sets were trimmed.
 #[inline(never)]
 pub(crate) fn search_pools<P>(
     pools: &VecDeque<DescriptorPool<P>>,
@@ -37,11 +37,11 @@ pub(crate) fn search_pools<P>(
 
 /// Puts an ordinal in at its place. There is capacity for it.
 #[inline(never)]
-fn enter(listed: &mut VecDeque<u64>, number: u64)
+fn enter(listed: &mut VecDeque<u64>, ordinal: u64)
 {
     let mut view = Numbers::new(listed);
-    let place = place_of(&mut view, number);
-    match listed.insert(place, number) {
+    let place = place_of(&mut view, ordinal);
+    match listed.insert(place, ordinal) {
         Ok(()) => {}
         Err(_) => unreachable!(),
     }
@@ -52,15 +52,15 @@ fn enter(listed: &mut VecDeque<u64>, number: u64)
 pub(crate) fn enter_new(
     listed: &mut VecDeque<u64>,
     is_new: bool,
-    number: u64,
+    ordinal: u64,
 )
 {
     if !is_new {
         return;
     }
     if listed.is_empty() {
-        listed.push_back_reserved(number);
+        listed.push_back_reserved(ordinal);
         return;
     }
-    enter(listed, number);
+    enter(listed, ordinal);
 }

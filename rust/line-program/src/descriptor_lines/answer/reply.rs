@@ -7,8 +7,8 @@ use crate::descriptor_script::{Command, Reply};
 use crate::gpu_descriptor::AllocationError;
 use crate::kit::string::String;
 
-/// The most bytes of an answer without its stretches: two tickets of up to 20 digits, and what
-/// stands about them.
+/// The most bytes of an answer without its stretches: two tickets of up to 20 digits, and the
+/// words about them.
 const SHORT_LEN: usize = 64;
 
 /// The most bytes of a stretch for each of its sets: the name of a pool of up to 20 digits, the

@@ -1,14 +1,12 @@
-use Rattle.std.proofs.Common.{◌≡◌, ◌+◌, ◌≤◌, [], ◌++◌, All, length, refl, sym, ap, subst, ◌∙◌, arith}
+use Rattle.std.proofs.Common.{◌≡◌, ◌+◌, ◌≤◌, ◌++◌, All, length, sym, ap, subst, ◌∙◌, arith}
 use Rattle.std.specs.VecDeque.{deque_capacity}
 use Rattle.gpu_descriptor.specs.Model.Agreement.{State}
 use Rattle.gpu_descriptor.specs.Caller.States.{state_of}
-use Rattle.gpu_descriptor.specs.Caller.Values.{Allocations}
-use Rattle.gpu_descriptor_types.specs.Ledger.{Ledger}
 use Rattle.descriptor_frames.specs.Frames.{retired_of, state_in}
 use Rattle.descriptor_frames.specs.Retired.{AreInOrder, retired_sets}
 use Rattle.gpu_descriptor.proofs.callers.HeldSets.{out_front}
 use Rattle.descriptor_frames.proofs.InUse.{later_out, same_besides}
-use Rattle.descriptor_frames.proofs.Taken.{both_parts, fewer, none_later, none_taken, same_list_then, same_places_then, still_in_order, stood_before, took_due}
+use Rattle.descriptor_frames.proofs.Taken.{both_parts, fewer, none_later, same_list_then, same_places_then, still_in_order, stood_before, took_due}
 use Rattle.descriptor_frames.proofs.manager.FrameManager.finish.Goals.{After-end}
 use Rattle.descriptor_frames.proofs.manager.FrameManager.finish.Goals as goal
 
@@ -81,10 +79,3 @@ pub returns-clause-in_use : goal.returns-clause-in_use
 returns-clause-in_use g c =
     let a = goal.at.returns-clause-in_use g c in
     same_besides g.D.DescriptorDevice.meaning.set_name c.free_from.ensures.frees.sets _ _ (list_parts g a.After-end) (before g a.After-end) (after g a.After-end) c.free_from.ensures.frees.returns.back.returned
-
-pub returns-clause-none : goal.returns-clause-none
-returns-clause-none g c e =
-    let f = c.free_from.ensures.frees in
-    let empty : f.sets ≡ [] = (took_due f c.args.self.now.greatest c.args.self.now.ordered).0 ∙ e in
-    let same = f.returns.back.none empty in
-    record { state = ap (λ (x : Allocations _ × Ledger). state_of g.D.DescriptorDevice.meaning.pool_name x.0 x.1) (λ i. (same.0 i, same.1 i)); ledger = same.1; list = ap (λ q. q.items) c.end.ensures ∙ none_taken f empty; greatest = refl }

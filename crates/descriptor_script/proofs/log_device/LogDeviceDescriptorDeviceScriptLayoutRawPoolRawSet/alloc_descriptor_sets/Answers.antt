@@ -13,7 +13,7 @@ use Rattle.descriptor_script.proofs.log_device.LogDeviceDescriptorDeviceScriptLa
 pub invariant_of-self : goal.invariant_of-self
 invariant_of-self g c =
     let old = c.args.self.now in
-    let gives = c.requires.fits.fits in
+    let gives = c.requires.fits.gives in
     record {
       owed = ∥∥₁_map old.owed (λ o. refused (ledger_of old.device) _ c.args.pool.now.id 0 gives.pool _ gives.is_live (ap (λ (l : Ledger). l.pools) c.refuse_alloc.ensures.ledger) (moved (ledger_of old.device) (ledger_of old.device) old.log.owed c.reserve.new.self.owed refl c.reserve.ensures.owed o));
     }
@@ -21,7 +21,7 @@ invariant_of-self g c =
 pub invariant_of-self-in-Ok : goal.invariant_of-self-in-Ok
 invariant_of-self-in-Ok g c =
     let old = c.args.self.now in
-    let gives = c.requires.fits.fits in
+    let gives = c.requires.fits.gives in
     let put = c.in-Ok.ensures.ok in
     let counts = kinds (layout c.args.layouts).counts in
     let sets : List LiveSet = live_sets counts (map set_id put.sets) in
@@ -39,7 +39,7 @@ invariant_of-self-in-Ok g c =
 pub invariant_of-self-in-Err-1 : goal.invariant_of-self-in-Err-1
 invariant_of-self-in-Err-1 g c =
     let old = c.args.self.now in
-    let gives = c.requires.fits.fits in
+    let gives = c.requires.fits.gives in
     record {
       owed =
           ∥∥₁_map old.owed

@@ -13,7 +13,7 @@ pub alloc_descriptor_sets-requires : goal.alloc_descriptor_sets-requires
 alloc_descriptor_sets-requires g c =
     record {
       fits = record {
-        fits = rw (c.new-layouts.ensures.left, c.new-layouts.ensures.layout)
+        gives = rw (c.new-layouts.ensures.left, c.new-layouts.ensures.layout)
             (can_give (g.D.DescriptorDevice.ledger c.create_descriptor_pool.new.self) (kinds c.args.counts.now) c.args.count 1
             (g.D.DescriptorDevice.meaning.pool_name c.in-Ok-create_descriptor_pool.pool) c.args.count
             (g.D.DescriptorDevice.meaning.counts c.args.layout.now) (g.D.DescriptorDevice.meaning.mark c.args.layout.now)

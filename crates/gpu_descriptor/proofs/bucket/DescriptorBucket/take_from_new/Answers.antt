@@ -46,7 +46,7 @@ alloc_descriptor_sets-requires g c =
     let d = (goal.at.alloc_descriptor_sets-requires g c).In-Ok in
     let few : c.min-given.result ≤ c.in-Some.size = (let a = c.min-given.ensures in omega arith) in
     let keyed = subst (λ (k : Key). (created g d).pools (name g d) ≡ Some (fresh (pool_counts k.counts (size g d)) (size g d) (flags_of k))) c.args.request.now.same (at g d) in
-    record { fits = record { fits = rw (c.new.ensures.left, c.new.ensures.layout) (fresh_room (g.D.DescriptorDevice.meaning.counts c.args.request.now.layout.now) (g.D.DescriptorDevice.meaning.mark c.args.request.now.layout.now) (size g d) (name g d) c.min-given.result (created g d) keyed few); room = (let a = c.min-given.ensures in let n = c.new.ensures.left in omega arith) } }
+    record { fits = record { gives = rw (c.new.ensures.left, c.new.ensures.layout) (fresh_room (g.D.DescriptorDevice.meaning.counts c.args.request.now.layout.now) (g.D.DescriptorDevice.meaning.mark c.args.request.now.layout.now) (size g d) (name g d) c.min-given.result (created g d) keyed few); room = (let a = c.min-given.ensures in let n = c.new.ensures.left in omega arith) } }
 
 pub destroy_descriptor_pool-requires : goal.destroy_descriptor_pool-requires
 destroy_descriptor_pool-requires g c =

@@ -10,7 +10,7 @@ alloc_descriptor_sets-requires g c =
     let e : Entry = entry_of g.D.DescriptorDevice.meaning.pool_name c.args.pool.now in
     let l : Ledger = g.D.DescriptorDevice.ledger c.args.device.now in
     let booked = subst (λ (k : Key). IsBookedIn k l.pools e) c.args.request.now.same c.requires.booked in
-    record { fits = record { fits = rw (c.new.ensures.left, c.new.ensures.layout) (can_give (g.D.DescriptorDevice.meaning.counts c.args.request.now.layout.now) (g.D.DescriptorDevice.meaning.mark c.args.request.now.layout.now) e c.min-count.result l booked few); room = (let a = c.min-count.ensures in let n = c.new.ensures.left in omega arith) } }
+    record { fits = record { gives = rw (c.new.ensures.left, c.new.ensures.layout) (can_give (g.D.DescriptorDevice.meaning.counts c.args.request.now.layout.now) (g.D.DescriptorDevice.meaning.mark c.args.request.now.layout.now) e c.min-count.result l booked few); room = (let a = c.min-count.ensures in let n = c.new.ensures.left in omega arith) } }
 
 pub returns-in-Ok-clause-asked : goal.returns-in-Ok-clause-asked
 returns-in-Ok-clause-asked g c =
