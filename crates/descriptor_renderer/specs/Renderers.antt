@@ -36,7 +36,7 @@ pub record Rendering (L P S : Type 0) : Type 0 where
   -- how many layouts of each number were removed
   pub generations : ℕ → ℕ
   -- how many sets of a layout are kept at most
-  pub most : ℕ
+  pub keep : ℕ
   -- the allocator, and the ledger of the device
   pub side : Side (Allocations P)
   pub pools_besides : ℕ → Option Pool
@@ -94,8 +94,8 @@ module _ {L P S D : Type 0} {d : Ghosts D L P S} where
   kept_of layout r = stores.kept_of layout.slot.place r.store
 
   -- how many sets of a layout are kept at most
-  abbrev pub most_of : RendererOver d → ℕ
-  most_of r = stores.most_of r.store
+  abbrev pub keep_of : RendererOver d → ℕ
+  keep_of r = stores.keep_of r.store
 
   -- the ledger of the device
   abbrev pub ledger_in : RendererOver d → Ledger
@@ -131,7 +131,7 @@ module _ {L P S D : Type 0} {d : Ghosts D L P S} where
     is_open = is_open r;
     slots = slots_of r;
     generations = generations_of r;
-    most = most_of r;
+    keep = keep_of r;
     side = side_of r;
     pools_besides = pools_besides r;
     limit = limit_of r;

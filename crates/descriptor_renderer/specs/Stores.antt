@@ -128,8 +128,8 @@ module _ {L P S D : Type 0} {d : Ghosts D L P S} where
   number_of s = s.table.number
 
   -- how many sets of a layout are kept at most
-  abbrev pub most_of : StoreOver d → ℕ
-  most_of s = s.table.most
+  abbrev pub keep_of : StoreOver d → ℕ
+  keep_of s = s.table.keep
 
   -- how many lists the table has
   abbrev pub lists_in : StoreOver d → ℕ
@@ -172,11 +172,11 @@ module _ {L P S D : Type 0} {d : Ghosts D L P S} where
     pub limit : limit_of new ≡ limit_of old
     pub bound : bound_of new ≡ bound_of old
     pub besides : pools_besides new ≡ pools_besides old
-    pub keeps : most_of new ≡ most
+    pub keeps : keep_of new ≡ most
 
   -- all of these are as they were
   abbrev pub KeepsStore : StoreOver d → StoreOver d → Type 0
-  KeepsStore old new = StoreStays (generations_in old) (most_of old) old new
+  KeepsStore old new = StoreStays (generations_in old) (keep_of old) old new
 
   -- all of these are as they were, and the same sets are on their way
   pub record KeepsComing (old new : StoreOver d) : Type 0 where
@@ -198,7 +198,7 @@ module _ {L P S D : Type 0} {d : Ghosts D L P S} where
 
   -- the same, with layouts and what may be kept as they were
   abbrev pub Settles : (ℕ → DescriptorSet S → Type 0) → ℕ → StoreOver d → StoreOver d → Type 0
-  Settles comes frame old new = SettlesTo (generations_in old) (most_of old) comes frame old new
+  Settles comes frame old new = SettlesTo (generations_in old) (keep_of old) comes frame old new
 
   -- sets of the layout, which has this number, may be asked for
   pub record CanTake (known : SetLayout L) (number : ℕ) (s : StoreOver d) : Type 0 where
@@ -282,7 +282,7 @@ module _ {L P S D : Type 0} {d : Ghosts D L P S} where
 
   -- the sets that pass the test came back, and those that are not kept were given back by one free_from, if there were any
   pub record ComeBack (test : Slot (DescriptorSet S) → Bool) (old new : StoreOver d) : Type 0 where
-    pub turns : Turns test (IsBack vacated (generations_in old) (most_of old)) (slots_in old) (slots_in new)
+    pub turns : Turns test (IsBack vacated (generations_in old) (keep_of old)) (slots_in old) (slots_in new)
     pub back : GaveBack d.meaning (side_of old) (side_of new)
 
   -- the kept sets of the layout were given back by one free_from, if there were any, and all other slots are as they were
@@ -297,7 +297,7 @@ module _ {L P S D : Type 0} {d : Ghosts D L P S} where
 
   -- the sets of the handles came back, and those that are not kept were given back by one free_from, if there were any
   pub record FreesEach (handles : List SetHandle) (old new : StoreOver d) : Type 0 where
-    pub turns : TurnEach handles (IsBack vacated (generations_in old) (most_of old)) (slots_in old) (slots_in new)
+    pub turns : TurnEach handles (IsBack vacated (generations_in old) (keep_of old)) (slots_in old) (slots_in new)
     pub back : GaveBack d.meaning (side_of old) (side_of new)
 
   -- kept sets were given back by one free_from, if there were any, and all else is as it was

@@ -68,7 +68,7 @@ impl<L: Drop, P: Drop, S: Drop, D: DescriptorDevice<L, P, S>> Renderer<L, P, S, 
     ghost use Rattle.descriptor_renderer.specs.declared.layout_registry.LayoutHandle.{LayoutHandle};
     ghost use Rattle.descriptor_renderer.specs.Renderers.{OnlySetsChange, bound_of, frame_of, generations_of, is_open};
     ghost use Rattle.descriptor_renderer.specs.Renderers.{kept_of, layout_given, layout_of};
-    ghost use Rattle.descriptor_renderer.specs.Renderers.{layouts_in, ledger_in, limit_of, most_of};
+    ghost use Rattle.descriptor_renderer.specs.Renderers.{layouts_in, ledger_in, limit_of, keep_of};
     ghost use Rattle.descriptor_renderer.specs.Renderers.{number_of, pools_besides, seen};
     ghost use Rattle.descriptor_renderer.specs.Renderers.{sets_by, side_of, slots_of, store_of};
 
@@ -83,7 +83,7 @@ impl<L: Drop, P: Drop, S: Drop, D: DescriptorDevice<L, P, S>> Renderer<L, P, S, 
         ensures frame { frame_of result ≡ 0 }
         ensures open { is_open result ≡ false }
         ensures slots { slots_of result ≡ [] }
-        ensures most { most_of result ≡ u32.MAX }
+        ensures keep { keep_of result ≡ u32.MAX }
         ensures pools { pools_besides result ≡ (D.ledger device).pools }
         ensures limit { limit_of result ≡ limit }
         ensures bound { bound_of result ≡ Some 65536 }
@@ -197,7 +197,7 @@ impl<L: Drop, P: Drop, S: Drop, D: DescriptorDevice<L, P, S>> Renderer<L, P, S, 
         ensures names { sets_by self.new ≡ sets_by self.old }
         ensures trims { Trims (store_of self.old) (store_of self.new) }
         ensures rest { seen self.new ≡ record (seen self.old)
-            { slots = slots_of self.new; most = most; side = side_of self.new } }
+            { slots = slots_of self.new; keep = most; side = side_of self.new } }
     {
         self.store.set_keep(most);
     }

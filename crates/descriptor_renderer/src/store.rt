@@ -60,7 +60,7 @@ impl<L: Drop, P: Drop, S: Drop, D: DescriptorDevice<L, P, S>> Store<L, P, S, D> 
           number = number;
           lists = 0;
           generations = generation_at [];
-          most = u32.MAX;
+          keep = u32.MAX;
         }) result.table }
         ensures rest { IsAtRest result }
     {

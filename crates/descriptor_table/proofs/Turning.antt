@@ -6,7 +6,7 @@ use Rattle.std.proofs.Common.{◌≡◌, ◌≢◌, ℕ, zero, suc, ◌+◌, ◌
 use Rattle.std.proofs.lemmas.List.{length-set, set-set}
 use Rattle.std.proofs.lemmas.Bool.{ltb-false, true≢false}
 use Rattle.descriptor_table.specs.Slots.{in_list, is_due, is_in, slot_at, waits_for}
-use Rattle.descriptor_table.specs.Tables.{AtIf, IsBack, KeepsSettings, MayBecome, PicksAbove, PicksAny, Stays, Turns, count, generations_of, holds, is_held_use, is_kept, is_taken, is_taken_use, may_stay, most_of, next_use, stays, used_for, Becomes}
+use Rattle.descriptor_table.specs.Tables.{AtIf, IsBack, KeepsSettings, MayBecome, PicksAbove, PicksAny, Stays, Turns, count, generations_of, holds, is_held_use, is_kept, is_taken, is_taken_use, may_stay, keep_of, next_use, stays, used_for, Becomes}
 use Rattle.descriptor_table.specs.declared.set_table.SetTable.{SetTable}
 use Rattle.descriptor_table.specs.declared.slot.Use.{Use}
 use Rattle.descriptor_table.specs.declared.slot.Use.TheVariants.{Held, Kept, Going, Taken}
@@ -144,7 +144,7 @@ module _ {T : Type 0} where
       number = two.settings.number ∙ one.settings.number;
       lists = two.settings.lists ∙ one.settings.lists;
       generations = two.settings.generations ∙ one.settings.generations;
-      most = two.settings.most ∙ one.settings.most;
+      keep = two.settings.keep ∙ one.settings.keep;
     };
     slots = two.slots ∙ one.slots;
     next = two.next ∙ one.next;
@@ -152,8 +152,8 @@ module _ {T : Type 0} where
   }
 
   -- with settings as they were, a set comes back to the same use
-  pub same_next : (a b : SetTable T) → KeepsSettings a b → (slots : List (Slot T)) (p : ℕ) → next_use (generations_of b) (most_of b) slots p ≡ next_use (generations_of a) (most_of a) slots p
-  same_next a b same slots p = ap (λ m. next_use (generations_of b) m slots p) same.most ∙ ap (λ generations. next_use generations (most_of a) slots p) same.generations
+  pub same_next : (a b : SetTable T) → KeepsSettings a b → (slots : List (Slot T)) (p : ℕ) → next_use (generations_of b) (keep_of b) slots p ≡ next_use (generations_of a) (keep_of a) slots p
+  same_next a b same slots p = ap (λ m. next_use (generations_of b) m slots p) same.keep ∙ ap (λ generations. next_use generations (keep_of a) slots p) same.generations
 
   -- a slot that passed the test doesn't any more
   pub one_fewer : (test : Slot T → Bool) (now new : List (Slot T)) (p : ℕ) (s : Slot T) → p < length now → test (slot_at now p) ≡ true → test s ≡ false → new ≡ set now p s → count test new < count test now
@@ -243,7 +243,7 @@ module _ {T : Type 0} where
   going_out k s two = ap (λ b. b && is_some s.set) (ne_eqb k 1 (λ e. omega arith))
 
   pub stays_same : (a : SetTable T) → Stays a a
-  stays_same a = record { settings = record { number = refl; lists = refl; generations = refl; most = refl }; slots = refl; next = refl; frames = refl }
+  stays_same a = record { settings = record { number = refl; lists = refl; generations = refl; keep = refl }; slots = refl; next = refl; frames = refl }
 
   -- as many slots pass the test, if at each place the slot does as before
   pub count_same : (test : Slot T → Bool) (l m : List (Slot T)) → length m ≡ length l → ((p : ℕ) → test (slot_at m p) ≡ test (slot_at l p)) → count test m ≡ count test l

@@ -39,7 +39,7 @@ pub record Settings : Type 0 where
   pub number : ℕ
   pub lists : ℕ
   pub generations : ℕ → ℕ
-  pub most : ℕ
+  pub keep : ℕ
 
 module _ {T : Type 0} where
   -- whether another set can come to a slot
@@ -76,8 +76,8 @@ module _ {T : Type 0} where
   number_of t = t.number
 
   -- how many sets of a layout are kept at most
-  abbrev pub most_of : SetTable T → ℕ
-  most_of t = t.most
+  abbrev pub keep_of : SetTable T → ℕ
+  keep_of t = t.keep
 
   -- how many layouts of each number were removed
   abbrev pub generations_of : SetTable T → ℕ → ℕ
@@ -89,14 +89,14 @@ module _ {T : Type 0} where
 
   -- what a table has besides slots and memory
   abbrev pub settings_of : SetTable T → Settings
-  settings_of t = record { number = number_of t; lists = lists_of t; generations = generations_of t; most = most_of t }
+  settings_of t = record { number = number_of t; lists = lists_of t; generations = generations_of t; keep = keep_of t }
 
   -- the settings of the table are these
   pub record HasSettings (settings : Settings) (t : SetTable T) : Type 0 where
     pub number : number_of t ≡ settings.number
     pub lists : lists_of t ≡ settings.lists
     pub generations : generations_of t ≡ settings.generations
-    pub most : most_of t ≡ settings.most
+    pub keep : keep_of t ≡ settings.keep
 
   -- the settings are as they were
   abbrev pub KeepsSettings : SetTable T → SetTable T → Type 0

@@ -50,14 +50,14 @@ pub struct SetTable<T> {
     pub(crate) frames: Vec<FrameChain>,
 
     /// How many sets of a layout are kept at most.
-    pub(crate) most: u32,
+    pub(crate) keep: u32,
     ghost sized: { AreSized (length slots.items) (length next.items) (vec_capacity frames) },
     ghost linked: { AreLinked slots.items next.items chains.items },
     ghost framed: { AreFramed slots.items next.items frames.items },
     ghost rising: { HasFrames frames.items },
     ghost counted: { length generations.items ≡ length chains.items },
     ghost known: { HasLists slots.items (length chains.items) (generation_at generations.items) },
-    ghost few: { AreFew most chains.items },
+    ghost few: { AreFew keep chains.items },
 }
 
 impl<T> SetTable<T> {
@@ -72,7 +72,7 @@ impl<T> SetTable<T> {
           number = number;
           lists = 0;
           generations = generation_at [];
-          most = u32.MAX;
+          keep = u32.MAX;
         }) result }
     {
         SetTable {
@@ -82,7 +82,7 @@ impl<T> SetTable<T> {
             chains: Vec::new(alloc),
             generations: Vec::new(alloc),
             frames: Vec::new(alloc),
-            most: u32::MAX,
+            keep: u32::MAX,
         }
     }
 

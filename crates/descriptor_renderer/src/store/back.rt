@@ -15,7 +15,7 @@ impl<L: Drop, P: Drop, S: Drop, D: DescriptorDevice<L, P, S>> Store<L, P, S, D> 
     ghost use Rattle.descriptor_renderer.specs.Stores.{GivesBack, HasLayout, IsAtRest, IsUpTo, NoneComes};
     ghost use Rattle.descriptor_renderer.specs.Stores.{Removes, Settles, SettlesTo, Trims, TurnEach};
     ghost use Rattle.descriptor_renderer.specs.Stores.{coming_in, generations_in, kept_of, ledger_of};
-    ghost use Rattle.descriptor_renderer.specs.Stores.{most_of, number_of, pools_besides, side_of, slots_in};
+    ghost use Rattle.descriptor_renderer.specs.Stores.{keep_of, number_of, pools_besides, side_of, slots_in};
 
     /// Frees the sets that were let go. In most frames there are none.
     #[inline]
@@ -88,7 +88,7 @@ impl<L: Drop, P: Drop, S: Drop, D: DescriptorDevice<L, P, S>> Store<L, P, S, D> 
         ensures none_due { (p : ℕ) → is_due frame (slot_at (slots_in self.new) p) ≡ false }
         ensures settles { Settles NoneComes 0 self.old self.new }
     {
-        if self.table.most() == 0 {
+        if self.table.keep() == 0 {
             self.give_due(frame);
             return;
         }
@@ -142,7 +142,7 @@ impl<L: Drop, P: Drop, S: Drop, D: DescriptorDevice<L, P, S>> Store<L, P, S, D> 
         ensures settles { SettlesTo (generations_in self.old) most NoneComes 0 self.old self.new }
     {
         self.table.trim(most);
-        self.table.set_most(most);
+        self.table.set_keep(most);
         self.give();
     }
 
@@ -153,7 +153,7 @@ impl<L: Drop, P: Drop, S: Drop, D: DescriptorDevice<L, P, S>> Store<L, P, S, D> 
         requires layout { HasLayout layout self.old }
         requires next { generations_in self.old layout < 4294967295 }
         ensures removes { Removes layout self.old self.new }
-        ensures settles { SettlesTo (removed_at layout (generations_in self.old)) (most_of self.old)
+        ensures settles { SettlesTo (removed_at layout (generations_in self.old)) (keep_of self.old)
             NoneComes 0 self.old self.new }
     {
         self.table.let_kept_go(layout);

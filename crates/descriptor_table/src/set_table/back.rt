@@ -10,21 +10,21 @@ impl<T> SetTable<T> {
     ghost use Rattle.descriptor_table.specs.Tables.{AreAllTaken, At, AtIf, Becomes, Changes, HasTaken};
     ghost use Rattle.descriptor_table.specs.Tables.{IsBack, MayBecome, PicksAbove, Turns};
     ghost use Rattle.descriptor_table.specs.Tables.{count, generations_of, holds, is_kept};
-    ghost use Rattle.descriptor_table.specs.Tables.{is_taken, lists_of, may_stay, most_of, next_use};
+    ghost use Rattle.descriptor_table.specs.Tables.{is_taken, lists_of, may_stay, keep_of, next_use};
     ghost use Rattle.descriptor_table.specs.Tables.{slots_of, used_for};
 
     /// Whether a set that comes back may be kept.
     #[inline]
     fn may_stay(&self, place: usize) -> bool
         requires { place < length (slots_of self.now) }
-        ensures { result ≡ may_stay (generations_of self.now) (most_of self.now)
+        ensures { result ≡ may_stay (generations_of self.now) (keep_of self.now)
             (slots_of self.now) (slot_at (slots_of self.now) place) }
     {
         let slot = &self.slots[place];
         !slot.leaves
             && slot.generation < u32::MAX
             && slot.layout_generation == self.generation(slot.layout)
-            && self.kept_count(slot.layout) < self.most
+            && self.kept_count(slot.layout) < self.keep
     }
 
     /// Keeps a set that a call has, or lets it go.
@@ -32,7 +32,7 @@ impl<T> SetTable<T> {
     fn settle(&mut self, place: usize)
         requires { HasTaken place (slots_of self.old) }
         ensures { Changes (At place (used_for (next_use (generations_of self.old)
-            (most_of self.old) (slots_of self.old) place))) self.old self.new }
+            (keep_of self.old) (slots_of self.old) place))) self.old self.new }
     {
         if self.may_stay(place) {
             let list = self.slots[place].layout as usize + KEPT;
@@ -45,7 +45,7 @@ impl<T> SetTable<T> {
     /// The sets that wait for a frame up to this one are kept or go.
     pub fn settle_due(&mut self, frame: u64)
         ensures { Changes (Turns (is_due frame) (IsBack (used_for Use.Going)
-            (generations_of self.old) (most_of self.old))) self.old self.new }
+            (generations_of self.old) (keep_of self.old))) self.old self.new }
     {
         while let Some(place) = self.pick_due(frame) {
             self.settle(place);
@@ -57,7 +57,7 @@ impl<T> SetTable<T> {
     fn settle_taken(&mut self, place: usize)
         requires { place < length (slots_of self.old) }
         ensures { Changes (AtIf is_taken place (used_for (next_use (generations_of self.old)
-            (most_of self.old) (slots_of self.old) place))) self.old self.new }
+            (keep_of self.old) (slots_of self.old) place))) self.old self.new }
     {
         if !self.has_taken(place) {
             return;
@@ -83,7 +83,7 @@ impl<T> SetTable<T> {
     pub fn settle_each(&mut self, handles: &[SetHandle])
         requires taken { AreAllTaken handles.now (slots_of self.old) }
         ensures { Changes (Turns is_taken (IsBack (used_for Use.Going)
-            (generations_of self.old) (most_of self.old))) self.old self.new }
+            (generations_of self.old) (keep_of self.old))) self.old self.new }
     {
         for index in 0..handles.len() {
             self.settle_taken(handles[index].place as usize);

@@ -5,7 +5,7 @@ use super::{KEPT, SetTable};
 
 impl<T> SetTable<T> {
     ghost use Rattle.descriptor_table.specs.Slots.{chain_at};
-    ghost use Rattle.descriptor_table.specs.Tables.{OnlySettings, count, is_kept, most_of};
+    ghost use Rattle.descriptor_table.specs.Tables.{OnlySettings, count, is_kept, keep_of};
     ghost use Rattle.descriptor_table.specs.Tables.{settings_of, slots_of, waits};
 
     /// How many slots there are.
@@ -18,18 +18,18 @@ impl<T> SetTable<T> {
 
     /// How many sets of a layout are kept at most.
     #[inline]
-    pub fn most(&self) -> u32
-        ensures { result ≡ most_of self.now }
+    pub fn keep(&self) -> u32
+        ensures { result ≡ keep_of self.now }
     {
-        self.most
+        self.keep
     }
 
     /// Keeps at most so many sets of a layout from now on. No more than that are kept when it is called.
-    pub fn set_most(&mut self, most: u32)
+    pub fn set_keep(&mut self, most: u32)
         requires { (k : ℕ) → 2 ≤ k → (chain_at self.old.chains.items k).count ≤ most }
-        ensures { OnlySettings (record (settings_of self.old) { most = most }) self.old self.new }
+        ensures { OnlySettings (record (settings_of self.old) { keep = most }) self.old self.new }
     {
-        self.most = most;
+        self.keep = most;
     }
 
     /// How many sets are kept. It goes over the layouts.

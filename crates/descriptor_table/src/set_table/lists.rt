@@ -8,7 +8,7 @@ impl<T> SetTable<T> {
     ghost use Rattle.descriptor_table.specs.Slots.{chain_at, goes, is_in, is_kept_of, slot_at};
     ghost use Rattle.descriptor_table.specs.Tables.{At, Changes, IsTaken, PicksAny, count, count_of};
     ghost use Rattle.descriptor_table.specs.Tables.{generations_of, is_kept, lists_of};
-    ghost use Rattle.descriptor_table.specs.Tables.{most_of, slots_of, used_for};
+    ghost use Rattle.descriptor_table.specs.Tables.{keep_of, slots_of, used_for};
 
     /// A list by its number. One that there isn't has no slots.
     #[inline]
@@ -57,7 +57,7 @@ impl<T> SetTable<T> {
         requires current { is_kept (used_for used (slot_at (slots_of self.old) place)) ≡ true
             → (slot_at (slots_of self.old) place).layout_generation ≡ generations_of self.old
             (slot_at (slots_of self.old) place).layout }
-        requires few { 2 ≤ list → count_of list self.old < most_of self.old }
+        requires few { 2 ≤ list → count_of list self.old < keep_of self.old }
         ensures { Changes (At place (used_for used)) self.old self.new }
     {
         let chain = &mut self.chains[list];
@@ -79,7 +79,7 @@ impl<T> SetTable<T> {
     #[inline]
     pub fn kept_count(&self, layout: u32) -> u32
         ensures count { result ≡ count (is_kept_of layout) (slots_of self.now) }
-        ensures few { result ≤ most_of self.now }
+        ensures few { result ≤ keep_of self.now }
     {
         self.chain(layout as usize + KEPT).count
     }

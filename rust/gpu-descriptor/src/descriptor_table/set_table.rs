@@ -46,7 +46,7 @@ pub struct SetTable<T> {
     pub(crate) frames: Vec<FrameChain>,
 
     /// How many sets of a layout are kept at most.
-    pub(crate) most: u32,
+    pub(crate) keep: u32,
 }
 
 impl<T> SetTable<T> {
@@ -60,7 +60,7 @@ impl<T> SetTable<T> {
             chains: Vec::new(alloc),
             generations: Vec::new(alloc),
             frames: Vec::new(alloc),
-            most: u32::MAX,
+            keep: u32::MAX,
         }
     }
 

@@ -56,7 +56,7 @@ impl<L, P, S, D: DescriptorDevice<L, P, S>> Store<L, P, S, D> {
     /// The sets that wait for a frame up to this one are kept, or go back to their pools.
     pub(crate) fn finish(&mut self, frame: u64)
     {
-        if self.table.most() == 0 {
+        if self.table.keep() == 0 {
             self.give_due(frame);
             return;
         }
@@ -91,7 +91,7 @@ impl<L, P, S, D: DescriptorDevice<L, P, S>> Store<L, P, S, D> {
     pub(crate) fn set_keep(&mut self, most: u32)
     {
         self.table.trim(most);
-        self.table.set_most(most);
+        self.table.set_keep(most);
         self.give();
     }
 

@@ -14,7 +14,7 @@ impl<T> SetTable<T> {
         !slot.leaves
             && slot.generation < u32::MAX
             && slot.layout_generation == self.generation(slot.layout)
-            && self.kept_count(slot.layout) < self.most
+            && self.kept_count(slot.layout) < self.keep
     }
 
     /// Keeps a set that a call has, or lets it go.

@@ -13,15 +13,15 @@ impl<T> SetTable<T> {
 
     /// How many sets of a layout are kept at most.
     #[inline]
-    pub fn most(&self) -> u32
+    pub fn keep(&self) -> u32
     {
-        self.most
+        self.keep
     }
 
     /// Keeps at most so many sets of a layout from now on. No more than that are kept when it is called.
-    pub fn set_most(&mut self, most: u32)
+    pub fn set_keep(&mut self, most: u32)
     {
-        self.most = most;
+        self.keep = most;
     }
 
     /// How many sets are kept. It goes over the layouts.

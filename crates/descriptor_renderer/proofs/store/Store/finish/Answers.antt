@@ -14,7 +14,7 @@ use Rattle.descriptor_renderer.proofs.store.Store.finish.Goals as goal
 -- the sets are as they were
 same_sets : (g : _) (c : After-settle_due g) → sets_in (slots_of c.settle_due.new.self) ≡ sets_in (slots_of c.args.self.now.table)
 same_sets g c =
-    settled_sets (is_due c.args.frame) (generations_of c.args.self.now.table) c.args.self.now.table.most (slots_of c.args.self.now.table) (slots_of c.settle_due.new.self) c.settle_due.ensures.slots
+    settled_sets (is_due c.args.frame) (generations_of c.args.self.now.table) c.args.self.now.table.keep (slots_of c.args.self.now.table) (slots_of c.settle_due.new.self) c.settle_due.ensures.slots
 
 pub invariant_of-self-clause-exact : goal.invariant_of-self-clause-exact
 invariant_of-self-clause-exact g c = exact_as c.args.self.now (same_sets g (goal.at.invariant_of-self-clause-exact g c).After-settle_due)
@@ -23,22 +23,22 @@ pub invariant_of-self-clause-accounted : goal.invariant_of-self-clause-accounted
 invariant_of-self-clause-accounted g c = accounted_as c.args.self.now (same_sets g (goal.at.invariant_of-self-clause-accounted g c).After-settle_due)
 
 -- those that were due came back
-turns : (g : Over) (c : After-give g) → Turns (is_due c.args.frame) (IsBack vacated (generations_of c.args.self.now.table) c.args.self.now.table.most) (slots_of c.args.self.now.table) (slots_of c.give.new.self.table)
+turns : (g : Over) (c : After-give g) → Turns (is_due c.args.frame) (IsBack vacated (generations_of c.args.self.now.table) c.args.self.now.table.keep) (slots_of c.args.self.now.table) (slots_of c.give.new.self.table)
 turns g c =
     let old = slots_of c.args.self.now.table in
-    came_back (is_due c.args.frame) (generations_of c.args.self.now.table) c.args.self.now.table.most old (slots_of c.settle_due.new.self) (slots_of c.give.new.self.table) (due_full c.args.frame) (none_goes old c.requires.rest.placed) c.settle_due.ensures.slots c.give.ensures.turns
+    came_back (is_due c.args.frame) (generations_of c.args.self.now.table) c.args.self.now.table.keep old (slots_of c.settle_due.new.self) (slots_of c.give.new.self.table) (due_full c.args.frame) (none_goes old c.requires.rest.placed) c.settle_due.ensures.slots c.give.ensures.turns
 
 pub returns-clause-back : goal.returns-clause-back
 returns-clause-back g c = record { turns = turns g c; back = c.give.ensures.back }
 
 pub returns-clause-none_due : goal.returns-clause-none_due
-returns-clause-none_due g c = back_not_due (generations_of c.args.self.now.table) c.args.frame c.args.self.now.table.most (slots_of c.args.self.now.table) (slots_of c.give.new.self.table) (turns g c)
+returns-clause-none_due g c = back_not_due (generations_of c.args.self.now.table) c.args.frame c.args.self.now.table.keep (slots_of c.args.self.now.table) (slots_of c.give.new.self.table) (turns g c)
 
 pub returns-clause-settles : goal.returns-clause-settles
 returns-clause-settles g c =
     let old = slots_of c.args.self.now.table in
     let new = slots_of c.give.new.self.table in
-    let most = c.args.self.now.table.most in
+    let most = c.args.self.now.table.keep in
     settled 0 c.args.self.now c.give.new.self
     (follow_turns 0 (is_due c.args.frame) (IsBack vacated (generations_of c.args.self.now.table) most) old new (turns g c) (follows_back 0 (generations_of c.args.self.now.table) most new))
     (c.give.ensures.stays.coming ∙ c.requires.rest.none_coming) c.requires.rest (search rules)

@@ -36,9 +36,9 @@ returns-clause-frees g c = λ t.
     let took = c.if-not-take_each.ensures.took refl in
     let once = c.if-not-take_each.ensures.once.0 refl in
     let gives = c.give.ensures in
-    let each = back_each handles old (slots_of c.take_each.new.self) took c.args.self.now.table.number (generations_of c.take_each.new.self) c.take_each.new.self.most (slots_of c.settle_each.new.self) new once c.requires.rest.placed c.settle_each.ensures.slots gives.turns in
-    let few = subst (λ most. TurnEach handles (IsBack vacated (generations_of c.take_each.new.self) most) old new) c.take_each.ensures.stays.settings.most each in
-    let back = subst (λ generations. TurnEach handles (IsBack vacated generations c.args.self.now.table.most) old new) c.take_each.ensures.stays.settings.generations few in
+    let each = back_each handles old (slots_of c.take_each.new.self) took c.args.self.now.table.number (generations_of c.take_each.new.self) c.take_each.new.self.keep (slots_of c.settle_each.new.self) new once c.requires.rest.placed c.settle_each.ensures.slots gives.turns in
+    let few = subst (λ most. TurnEach handles (IsBack vacated (generations_of c.take_each.new.self) most) old new) c.take_each.ensures.stays.settings.keep each in
+    let back = subst (λ generations. TurnEach handles (IsBack vacated generations c.args.self.now.table.keep) old new) c.take_each.ensures.stays.settings.generations few in
     record { turns = back; back = gives.back }
 
 pub returns-clause-settles : goal.returns-clause-settles
@@ -46,7 +46,7 @@ returns-clause-settles g c =
     let handles = c.args.handles.now in
     let old = slots_of c.args.self.now.table in
     let new = slots_of c.give.new.self.table in
-    let most = c.take_each.new.self.most in
+    let most = c.take_each.new.self.keep in
     let took = c.if-not-take_each.ensures.took refl in
     let once = c.if-not-take_each.ensures.once.0 refl in
     let back = back_each handles old (slots_of c.take_each.new.self) took c.args.self.now.table.number (generations_of c.take_each.new.self) most (slots_of c.settle_each.new.self) new once c.requires.rest.placed c.settle_each.ensures.slots c.give.ensures.turns in

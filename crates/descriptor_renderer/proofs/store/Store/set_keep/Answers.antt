@@ -9,11 +9,11 @@ use Rattle.descriptor_renderer.proofs.Cleaned.{gone_sets}
 use Rattle.descriptor_renderer.proofs.Following.{follow_turns, follows_left, none_goes}
 use Rattle.descriptor_renderer.proofs.Settling.{settled}
 use Rattle.descriptor_renderer.proofs.store.Store.set_keep.Given.{Over}
-use Rattle.descriptor_renderer.proofs.store.Store.set_keep.Goals.{After-give, After-set_most}
+use Rattle.descriptor_renderer.proofs.store.Store.set_keep.Goals.{After-give, After-set_keep}
 use Rattle.descriptor_renderer.proofs.store.Store.set_keep.Goals as goal
 
-pub set_most-requires : goal.set_most-requires
-set_most-requires g c = λ k two.
+pub set_keep-requires : goal.set_keep-requires
+set_keep-requires g c = λ k two.
     let s = c.trim.new.self in
     let few = c.trim.ensures.few (k - 2) in
     let back : k - 2 + 2 ≡ k = omega arith in
@@ -22,19 +22,19 @@ set_most-requires g c = λ k two.
     omega arith
 
 -- the sets are as they were
-same_sets : (g : _) (c : After-set_most g) → sets_in (slots_of c.set_most.new.self) ≡ sets_in (slots_of c.args.self.now.table)
+same_sets : (g : _) (c : After-set_keep g) → sets_in (slots_of c.set_keep.new.self) ≡ sets_in (slots_of c.args.self.now.table)
 same_sets g c =
-    ap (λ v. sets_in v.items) c.set_most.ensures.slots ∙ gone_sets is_kept (slots_of c.args.self.now.table) (slots_of c.trim.new.self) c.trim.ensures.turns.slots
+    ap (λ v. sets_in v.items) c.set_keep.ensures.slots ∙ gone_sets is_kept (slots_of c.args.self.now.table) (slots_of c.trim.new.self) c.trim.ensures.turns.slots
 
 pub invariant_of-self-clause-exact : goal.invariant_of-self-clause-exact
-invariant_of-self-clause-exact g c = exact_as c.args.self.now (same_sets g (goal.at.invariant_of-self-clause-exact g c).After-set_most)
+invariant_of-self-clause-exact g c = exact_as c.args.self.now (same_sets g (goal.at.invariant_of-self-clause-exact g c).After-set_keep)
 
 pub invariant_of-self-clause-accounted : goal.invariant_of-self-clause-accounted
-invariant_of-self-clause-accounted g c = accounted_as c.args.self.now (same_sets g (goal.at.invariant_of-self-clause-accounted g c).After-set_most)
+invariant_of-self-clause-accounted g c = accounted_as c.args.self.now (same_sets g (goal.at.invariant_of-self-clause-accounted g c).After-set_keep)
 
 -- those that were let go were given back
 gives : (g : Over) (c : After-give g) → Turns goes (Becomes vacated) (slots_of c.trim.new.self) (slots_of c.give.new.self.table)
-gives g c = subst (λ v. Turns goes (Becomes vacated) v.items (slots_of c.give.new.self.table)) c.set_most.ensures.slots c.give.ensures.turns
+gives g c = subst (λ v. Turns goes (Becomes vacated) v.items (slots_of c.give.new.self.table)) c.set_keep.ensures.slots c.give.ensures.turns
 
 all : (g : Over) (c : After-give g) → Turns is_kept (MayBecome vacated) (slots_of c.args.self.now.table) (slots_of c.give.new.self.table)
 all g c =

@@ -58,7 +58,7 @@ invariant_of-self-clause-known g c =
 pub invariant_of-self-clause-few : goal.invariant_of-self-clause-few
 invariant_of-self-clause-few g c =
     let s = c.args.self.now in
-    few_set s.most s.chains.items c.args.list
+    few_set s.keep s.chains.items c.args.list
     (record { first = c.args.place; count = c.index_mut-chain.result.now.count + 1 }) s.few c.requires.list
     (λ two.
     let few = c.requires.few two in

@@ -68,7 +68,7 @@ invariant_of-self-2-clause-few g c =
     let s = c.args.self.now in
     let d = (goal.at.invariant_of-self-2-clause-few g c).Else-chain-eq0 in
     let same = ap (λ (d : Chain). d.count) (is_list g d) in
-    few_set s.most s.chains.items c.args.list (record { first = c.index.result.now; count = c.in_ok-chain.chain.now.count - 1 }) s.few (there g d) (λ two. let few = s.few c.args.list two in omega arith)
+    few_set s.keep s.chains.items c.args.list (record { first = c.index.result.now; count = c.in_ok-chain.chain.now.count - 1 }) s.few (there g d) (λ two. let few = s.few c.args.list two in omega arith)
 
 pub returns : goal.returns
 returns g c =

@@ -8,7 +8,7 @@ use Rattle.descriptor_table.specs.declared.slot.Use.TheVariants.{Going}
 use Rattle.descriptor_table.proofs.set_table.SetTable.settle_due.Goals as goal
 
 -- the set that was picked settled
-settled : (g : _) (c : After-settle g) → slots_of c.settle.new.self ≡ with_use c.in-Some.place (next_use (generations_of c.args.self.now) c.args.self.now.most (slots_of c.pick_due.new.self) c.in-Some.place) (slots_of c.pick_due.new.self)
+settled : (g : _) (c : After-settle g) → slots_of c.settle.new.self ≡ with_use c.in-Some.place (next_use (generations_of c.args.self.now) c.args.self.now.keep (slots_of c.pick_due.new.self) c.in-Some.place) (slots_of c.pick_due.new.self)
 settled g c =
     let mid = slots_of c.pick_due.new.self in
     let stays = stays_more c.args.self.now c.loop-place.self c.pick_due.new.self c.loop-place.invariant.stays c.in-Some.ensures.stays in
@@ -19,7 +19,7 @@ loop-place-preserved g c =
     let inv = c.loop-place.invariant in
     let picks = c.in-Some.ensures.slots in
     let generations = generations_of c.args.self.now in
-    let most = c.args.self.now.most in
+    let most = c.args.self.now.keep in
     let now = slots_of c.loop-place.self in
     let mid = slots_of c.pick_due.new.self in
     let new = slots_of c.settle.new.self in
@@ -41,7 +41,7 @@ pub loop-place-smaller : goal.loop-place-smaller
 loop-place-smaller g c =
     let picks = c.in-Some.ensures.slots in
     let generations = generations_of c.args.self.now in
-    let most = c.args.self.now.most in
+    let most = c.args.self.now.keep in
     let now = slots_of c.loop-place.self in
     let mid = slots_of c.pick_due.new.self in
     let new = slots_of c.settle.new.self in

@@ -16,7 +16,7 @@ loop-index-preserved g c =
     let lt = c.requires.taken.within c.loop-index.index c.loop-index-test.true in
     let long = inv.turning.long in
     let made = c.settle_taken.ensures.slots ∙ ap (λ u. if is_taken (slot_at now p) then with_use p u now else now) (same_next c.args.self.now c.loop-index.self inv.stays.settings now p) in
-    let one = settle_one (generations_of c.args.self.now) c.args.self.now.most old now new p inv.turning (omega arith) made in
+    let one = settle_one (generations_of c.args.self.now) c.args.self.now.keep old now new p inv.turning (omega arith) made in
     record {
       turning = one.turning;
       done = λ i less. elim (same_or i c.loop-index.index) [

@@ -8,7 +8,7 @@ use Rattle.descriptor_table.proofs.set_table.SetTable.settle_each.Given as goal
 -- the sets of the first handles have turned
 abbrev pub invariant-loop-index : goal.invariant-loop-index
 invariant-loop-index g l = record {
-  turning : Turning is_taken (IsBack (used_for Going) (generations_of l.fn.self) l.fn.self.most) (slots_of l.fn.self) (slots_of l.self);
+  turning : Turning is_taken (IsBack (used_for Going) (generations_of l.fn.self) l.fn.self.keep) (slots_of l.fn.self) (slots_of l.self);
   done : (i : ℕ) → i < l.index → is_taken (slot_at (slots_of l.self) (place_at l.handles i)) ≡ false;
   stays : Stays l.fn.self l.self;
 }

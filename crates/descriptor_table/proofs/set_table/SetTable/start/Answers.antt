@@ -58,5 +58,5 @@ returns g c =
     let block = c.in-Ok.ensures.in_place (omega arith) in
     record {
       slots = ap (λ w. set c.args.self.now.slots.items c.args.place (used_for c.args.used w)) (read_slot c.args.self.now.slots.items c.args.place c.index_mut.result.now c.requires.taken.taken.within c.index_mut.ensures.value);
-      stays = record { settings = record { number = refl; lists = refl; generations = refl; most = refl }; slots = refl; next = refl; frames = block.1.0 };
+      stays = record { settings = record { number = refl; lists = refl; generations = refl; keep = refl }; slots = refl; next = refl; frames = block.1.0 };
     }
