@@ -121,7 +121,7 @@ module _ {L P S D : Type 0} {d : Ghosts D L P S} where
   abbrev pub done_of : ℕ → RendererOver d → ℕ
   done_of frame r = if r.is_open then min frame (r.frame - 1) else frame
 
-  -- what callers see of it all, so that a clause says at once what stays, but for the fields that the call may change
+  -- all that callers see of a renderer: a clause says at once that it stays, but for the fields that the call may change
   abbrev pub seen : RendererOver d → Rendering L P S
   seen r = record {
     number = number_of r;

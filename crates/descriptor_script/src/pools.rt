@@ -19,7 +19,7 @@ use gpu_descriptor_types::{
 use indexmap::IndexMap;
 use std::alloc::Global;
 
-/// No name or no memory is left.
+/// There are no names left, or no memory.
 #[derive(Clone, Copy, Debug)]
 pub struct Exhausted;
 

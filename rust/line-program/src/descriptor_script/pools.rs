@@ -9,7 +9,7 @@ use crate::gpu_descriptor_types::{
 use crate::indexmap::IndexMap;
 use crate::kit::alloc::Global;
 
-/// No name or no memory is left.
+/// There are no names left, or no memory.
 #[derive(Clone, Copy, Debug)]
 pub struct Exhausted;
 
