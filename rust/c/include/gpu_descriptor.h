@@ -66,7 +66,7 @@
  */
 #define GD_ABI 2u
 
-/* A function of the headers for C. It is static in C++ too: a shared object exports none, whatever its optimisation. */
+/* A function of the headers for C. In C++ it is static too: a shared object exports none, optimised or not. */
 #define GD_INLINE static inline
 
 #ifdef __cplusplus
@@ -434,7 +434,8 @@ gd_status gd_kept(gd_allocator allocator, gd_layout layout, uint64_t *sets);
  *
  * An object has "version", and the fields of gd_statistics by their names; but "most_pool_descriptors" is null
  * without a bound, and "layouts" is a list. Each layout there has the fields of gd_layout_statistics, its
- * "handle" as a text in hexadecimal, "update_after_bind" as a truth value, and "descriptors" by kind.
+ * "handle" as a text in hexadecimal, "update_after_bind" as a truth value, and "descriptors" with the kinds that a
+ * set has.
  *
  * GD_NULL_POINTER, GD_BAD_ALLOCATOR, GD_BUSY, GD_INTERNAL_ERROR.
  */

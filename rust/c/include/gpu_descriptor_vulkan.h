@@ -289,8 +289,8 @@ GD_INLINE void gdv_destroy_pool_inside(void *user, uint64_t pool) GD_NOEXCEPT {
 
 /*
  * Creates an allocator for a VkDevice. 'limit' is the device's maxUpdateAfterBindDescriptorsInAllPools, or its
- * part of that (gd_create_with_copy); without update-after-bind layouts it doesn't matter. 'flags' are those of gd_create_with_flags. 'vulkan' and
- * its callbacks are copied.
+ * part of that (gd_create_with_copy); without update-after-bind layouts it doesn't matter. 'flags' are those of
+ * gd_create_with_flags. 'vulkan' and its callbacks are copied.
  *
  * GD_NULL_POINTER, also if a function of 'vulkan' is NULL; GD_BAD_FLAGS, GD_OUT_OF_HOST_MEMORY,
  * GD_BAD_VERSION.
