@@ -10,14 +10,12 @@ built comes of it. Definitions that a proof unfolds stay as they are, and so do 
 
 usage: tools/assumed.py CRATE FOLDER [FUNCTION..] ; it writes the copy to a folder, and keeps the proofs of these
 """
-import copy
 import re
-import shutil
 import sys
 from pathlib import Path
 
 from contracts import FUNCTIONS, sources
-from kit import RT, crates_of
+from kit import copy_parts, crates_of
 
 SIGNATURE = re.compile(r"( *)(?:pub )?([^\s◌:(){}.]+)(?: \{[^}]*\})? :(?: |$)")
 UNFOLDED = re.compile(r"^ *unfolding (.*)$|\bunfold (.*?) in\b", re.M)
@@ -91,9 +89,7 @@ def without_body(text, function):
 def assumed(crate, room, is_kept):
     """Writes the copy to a folder, and returns its crate. It keeps the proofs of the functions that is_kept names
     by their paths."""
-    for part in RT.rtlib.PARTS:
-        if Path(crate.folder, part).is_dir():
-            shutil.copytree(f"{crate.folder}/{part}", f"{room}/{part}")
+    copy_parts(crate, room)
     proofs, kept = Path(room, "proofs"), set()
     # From the end of each file on, so that the places of those before stay.
     for function in reversed(FUNCTIONS):
@@ -113,9 +109,7 @@ def assumed(crate, room, is_kept):
     for path, text in texts.items():
         if path.name not in PROOF and not kept & {*path.parents}:
             path.write_text(with_axioms(text, unfolded), encoding="utf-8")
-    light = copy.copy(crate)
-    light.folder = str(room)
-    return light
+    return crate._replace(folder=str(room))
 
 
 if __name__ == "__main__":
