@@ -2,13 +2,13 @@
 -- `c` once the held ones go, `d` once the kept ones go, and `new` once all that go were given back. `one`, `two` and `three` are what
 -- the slot at a place is in `b`, `c` and `d`.
 use Rattle.std.proofs.lemmas.Grind.{common_steps}
-use Rattle.std.proofs.Common.{◌≡◌, ℕ, ◌+◌, ◌<◌, ◌≤◌, ◌⊎◌, ◌&&◌, ◌||◌, not, Bool, true, false, List, length, Option, None, is_some, inl, inr, refl, sym, ap, ◌∙◌, arith, nat_le}
+use Rattle.std.proofs.Common.{◌≡◌, ℕ, ◌+◌, ◌<◌, ◌≤◌, ◌⊎◌, ◌&&◌, ◌||◌, not, Bool, true, false, if◌then◌else◌, List, length, Option, None, is_some, inl, inr, refl, sym, ap, ◌∙◌, arith, nat_le}
 use Rattle.std.proofs.lemmas.Bool.{true≢false}
 use Rattle.descriptor_table.specs.Slots.{frame_in, frame_of, goes, in_list, is_due, is_in, slot_at, waits_for}
 use Rattle.descriptor_table.specs.Tables.{AreAged, IsBack, Becomes, MayBecome, Turns, count, holds, is_held_use, is_kept, stays, used_for, vacated, waits}
 use Rattle.descriptor_table.specs.declared.slot.Slot.{Slot}
 use Rattle.descriptor_table.specs.declared.slot.Use.{Use}
-use Rattle.descriptor_table.specs.declared.slot.Use.TheVariants.{Going}
+use Rattle.descriptor_table.specs.declared.slot.Use.TheVariants.{Going, Vacant}
 use Rattle.descriptor_table.proofs.Counting.{below_or}
 use Rattle.descriptor_table.proofs.Counts.{count_none}
 use Rattle.descriptor_table.proofs.Renewing.{kept_full}
@@ -43,9 +43,9 @@ empty_kept s e = by_kept (is_kept s) refl
     by_kept : (b : Bool) → is_kept s ≡ b → b ≡ false
     by_kept x0 k = grind (arith, common_steps)
 
--- a slot has no set, and is as it was, or its set left
+-- a slot has no set, and is as it was, or it had one, which left
 abbrev HasLeft : {T : Type 0} → Slot T → Slot T → Type 0
-HasLeft o n = ((n ≡ o) × (o.set ≡ None)) ⊎ (n ≡ vacated o)
+HasLeft o n = ((n ≡ o) × (o.set ≡ None)) ⊎ ((n ≡ vacated o) × (is_some o.set ≡ true))
 
 module _ {T : Type 0} (generations : ℕ → ℕ) (frame most : ℕ) (a b c d new : List (Slot T))
     (settles : Turns (is_due frame) (IsBack (used_for Going) generations most) a b) (leave : Turns holds (Becomes (used_for Going)) b c)
@@ -110,18 +110,19 @@ module _ {T : Type 0} (generations : ℕ → ℕ) (frame most : ℕ) (a b c d ne
       by_full true full = elim (placed_or (is_some s.set) (holds s) (waits s) (is_kept s) placed) [
         | inl empty ↦ absurd (true≢false (sym full ∙ empty))
         | inr one ↦ elim one [
-          | inl held ↦ inr (held_leaves p held full)
+          | inl held ↦ inr (held_leaves p held full, full)
           | inr two ↦ elim two [
-            | inl waiting ↦ inr (waiting_leaves p waiting full up old)
-            | inr kept ↦ inr (kept_leaves p kept)
+            | inl waiting ↦ inr (waiting_leaves p waiting full up old, full)
+            | inr kept ↦ inr (kept_leaves p kept, full)
           ]
         ]
       ]
 
--- no set is left, and no handle is given again
+-- no set is left, no handle is given again, and a slot that had a set is vacant
 pub record IsEmptied {T : Type 0} (o n : Slot T) : Type 0 where
   pub none : n.set ≡ None
   pub given : n.generation ≡ o.generation
+  pub vacant : n.used ≡ (if is_some o.set then Vacant else o.used)
   pub follows : Follows 0 o n
 
 module _ {T : Type 0} (generations : ℕ → ℕ) (frame most : ℕ) (old a b c d new : List (Slot T)) (placed : ArePlaced old) (up : IsUpTo frame old) where
@@ -134,17 +135,20 @@ module _ {T : Type 0} (generations : ℕ → ℕ) (frame most : ℕ) (old a b c 
       | inl same ↦ record {
         none = ap (λ (s : Slot T). s.set) same.0 ∙ same.1;
         given = ap (λ (s : Slot T). s.generation) same.0 ∙ ap (λ (s : Slot T). s.generation) (ages.each p lt);
+        vacant = ap (λ (s : Slot T). s.used) same.0 ∙ ap (λ (s : Slot T). s.used) (ages.each p lt) ∙ sym (ap (λ x. if is_some x then Vacant else o.used) (sym (ap (λ (s : Slot T). s.set) (ages.each p lt)) ∙ same.1));
         follows = follows_then 0 o (slot_at a p) n (follows_aged 0 o (slot_at a p) (ages.each p lt)) (follows_same 0 (slot_at a p) n same.0);
       }
       | inr gone ↦ record {
-        none = ap (λ (s : Slot T). s.set) gone;
-        given = ap (λ (s : Slot T). s.generation) gone ∙ ap (λ (s : Slot T). s.generation) (ages.each p lt);
-        follows = follows_then 0 o (slot_at a p) n (follows_aged 0 o (slot_at a p) (ages.each p lt)) (follows_vacated 0 (slot_at a p) n gone);
+        none = ap (λ (s : Slot T). s.set) gone.0;
+        given = ap (λ (s : Slot T). s.generation) gone.0 ∙ ap (λ (s : Slot T). s.generation) (ages.each p lt);
+        vacant = ap (λ (s : Slot T). s.used) gone.0 ∙ sym (ap (λ b. if b then Vacant else o.used) (sym (ap (λ (s : Slot T). is_some s.set) (ages.each p lt)) ∙ gone.1));
+        follows = follows_then 0 o (slot_at a p) n (follows_aged 0 o (slot_at a p) (ages.each p lt)) (follows_vacated 0 (slot_at a p) n gone.0);
       }
     ]
     | inr le ↦ (let end : slot_at new p ≡ slot_at old p = past_end new p (long le) ∙ sym (past_end old p le) in record {
       none = ap (λ (s : Slot T). s.set) (past_end new p (long le));
       given = ap (λ (s : Slot T). s.generation) end;
+      vacant = ap (λ (s : Slot T). s.used) end ∙ sym (ap (λ (s : Slot T). if is_some s.set then Vacant else o.used) (past_end old p le));
       follows = follows_same 0 o n end;
     })
   ]

@@ -7,7 +7,7 @@ use Rattle.std.proofs.lemmas.Bool.{cases_lt, false≢true}
 use Rattle.std.proofs.lemmas.List.{get_or-append-add, append-nil, get_or_append_left, length-append}
 use Rattle.gpu_descriptor_types.specs.declared.device.DescriptorDevice.{Ghosts}
 use Rattle.gpu_descriptor.specs.declared.set.DescriptorSet.{DescriptorSet}
-use Rattle.descriptor_table.specs.Slots.{frame_in, is_live, slot_at, waits_for}
+use Rattle.descriptor_table.specs.Slots.{frame_in, is_kept_of, is_live, slot_at, waits_for}
 use Rattle.descriptor_table.specs.Sets.{NameEach, find, is_given, sets_of}
 use Rattle.descriptor_table.specs.Tables.{came_under, current, holds, is_held_use, place_at}
 use Rattle.descriptor_table.specs.declared.handle.SetHandle.{SetHandle}
@@ -21,7 +21,7 @@ use Rattle.descriptor_renderer.specs.declared.store.Store.{Store}
 use Rattle.descriptor_renderer.proofs.Arriving.{Arrives, arrives_then, clears_arrives, same_arrives, used_placed}
 use Rattle.descriptor_renderer.proofs.Cleared.{Clears}
 use Rattle.descriptor_renderer.proofs.Handing.{Fills, some_of}
-use Rattle.descriptor_renderer.proofs.Naming.{free_is, given_apart, given_clear, given_never, given_next, next_of, seen_apart, seen_clear, seen_free, seen_next}
+use Rattle.descriptor_renderer.proofs.Naming.{free_is, free_kept, given_apart, given_clear, given_never, given_next, kept_as, next_of, seen_apart, seen_clear, seen_free, seen_next}
 
 held_use : (u : Use) → is_held_use u ≡ true → u ≡ Held
 held_use u e = grind (arith, common_steps)
@@ -37,6 +37,13 @@ spot a b i lt =
           let is : i ≡ length a + (i - length a) = omega arith in
           inr (i - length a, omega arith, is, ap (place_at (a ++ b)) is ∙ ap (λ (h : SetHandle). h.place) (get_or-append-add a b (i - length a) none))
     ]
+
+-- handles that come to a list leave the others where they were, and are behind them
+pub place_before : (now then given : List SetHandle) → then ≡ now ++ given → (i : ℕ) → i < length now → place_at then i ≡ place_at now i
+place_before now then given more i lt = ap (λ l. place_at l i) more ∙ ap (λ (h : SetHandle). h.place) (get_or_append_left now given (record { renderer = 0; place = 0; generation = 0 }) i lt)
+
+pub place_after : (now then given : List SetHandle) → then ≡ now ++ given → (i : ℕ) → place_at then (length now + i) ≡ place_at given i
+place_after now then given more i = ap (λ l. place_at l (length now + i)) more ∙ ap (λ (h : SetHandle). h.place) (get_or-append-add now given i (record { renderer = 0; place = 0; generation = 0 }))
 
 module _ {T : Type 0} where
   held_is : (s : Slot T) → holds s ≡ true → (s.used ≡ Held) × (is_some s.set ≡ true)
@@ -131,6 +138,27 @@ module _ {T : Type 0} where
           y.rest p (λ k less e. none (length a + k) (let long = length-append a b in omega arith) (ap (λ (h : SetHandle). h.place) (get_or-append-add a b k (record { renderer = 0; place = 0; generation = 0 })) ∙ e))
           ∙ x.rest p (λ i lt e. none i (let long = length-append a b in omega arith) (ap (λ (h : SetHandle). h.place) (get_or_append_left a b (record { renderer = 0; place = 0; generation = 0 }) i lt) ∙ e));
     }
+
+  -- the sets of the handles that came to a list were kept: those that came first, and one that was kept then
+  pub were_kept :
+      (number : ℕ) (under : ℕ × ℕ) (layout n : ℕ) (start now then given : List SetHandle) (handle : SetHandle) (old mid : List (Slot T))
+      → now ≡ start ++ given → length given ≡ n → HoldEach number under given old mid → then ≡ now ++ handle ∷ []
+      → ((i : ℕ) → i < n → is_kept_of layout (slot_at old (place_at now (length start + i))) ≡ true)
+      → is_kept_of layout (slot_at mid (place_at then (length now))) ≡ true
+      → (i : ℕ) → i < n + 1 → is_kept_of layout (slot_at old (place_at then (length start + i))) ≡ true
+  were_kept number under layout n start now then given handle old mid more many x next each last i lt = elim (cases_lt i n) [
+    | inl less ↦ subst (λ p. is_kept_of layout (slot_at old p) ≡ true) (sym (place_before now then (handle ∷ []) next (length start + i) (let l = long in omega arith))) (each i less)
+    | inr le ↦ subst (λ j. is_kept_of layout (slot_at old (place_at then j)) ≡ true) (let l = long in omega arith) (before (place_at then (length now)) last)
+  ]
+    where
+      long : length now ≡ length start + n
+      long = ap length more ∙ length-append start given ∙ ap (λ m. length start + m) many
+
+      before : (p : ℕ) → is_kept_of layout (slot_at mid p) ≡ true → is_kept_of layout (slot_at old p) ≡ true
+      before p kept = elim (named_or (length given) (place_at given) p) [
+        | inl found ↦ absurd (held_not_free (slot_at mid p) (subst (λ q. holds (slot_at mid q) ≡ true) found.2 (x.held found.0 found.1)) (free_kept (slot_at mid p) (kept_as layout (slot_at mid p) kept).2))
+        | inr none ↦ ap (is_kept_of layout) (sym (x.rest p none)) ∙ kept
+      ]
 
   -- kept sets may have left their slots before the first set was held
   module _ (number : ℕ) (layout : ℕ × ℕ) (handles : List SetHandle) (old mid new : List (Slot T)) (clear : (q : ℕ) → Clears (slot_at old q) (slot_at mid q)) (x : HoldEach number layout handles mid new) where

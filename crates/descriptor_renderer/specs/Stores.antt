@@ -20,10 +20,11 @@ use Rattle.gpu_descriptor.specs.declared.layout.SetLayout.{SetLayout}
 use Rattle.gpu_descriptor.specs.declared.set.DescriptorSet.{DescriptorSet}
 use Rattle.descriptor_table.specs.Sets.{Names, sets_in, sets_of}
 use Rattle.descriptor_table.specs.Slots.{frame_of, is_kept_of, is_live, slot_at, frame_in}
-use Rattle.descriptor_table.specs.Tables.{Grows, HasRoom, Picks, Puts, Renews, Turns, Becomes, aged, came_under, count, current, generations_of, holds, is_kept, place_at, lists_of, removed_at, slots_of, vacated, waits, MayBecome, IsBack}
+use Rattle.descriptor_table.specs.Tables.{Grows, HasRoom, Picks, Puts, Renews, Turns, Becomes, aged, came_under, count, current, generations_of, holds, is_kept, is_usable, place_at, lists_of, removed_at, slots_of, vacated, waits, MayBecome, IsBack}
 use Rattle.descriptor_table.specs.declared.handle.SetHandle.{SetHandle}
 use Rattle.descriptor_table.specs.declared.slot.Slot.{Slot}
 use Rattle.descriptor_table.specs.declared.slot.Use.{Use}
+use Rattle.descriptor_table.specs.declared.slot.Use.TheVariants.{Vacant}
 use Rattle.descriptor_renderer.specs.declared.store.Store.{Store}
 
 -- whether a slot has no set, or a set that is held, that waits for a frame, or that is kept
@@ -69,10 +70,12 @@ pub record HoldEach {T : Type 0} (number : ℕ) (under : ℕ × ℕ) (handles : 
   pub held : (i : ℕ) → i < length handles → holds (slot_at new (place_at handles i)) ≡ true
   pub rest : (p : ℕ) → ((i : ℕ) → i < length handles → place_at handles i ≢ p) → slot_at new p ≡ slot_at old p
 
--- the sets of the handles were kept, or came, perhaps after all kept sets left their slots; all else is as it was
+-- the sets of the handles were kept, or came, perhaps after all kept sets left their slots, if there were some; all else is as it was
 pub record HoldAtLast {T : Type 0} (number : ℕ) (under : ℕ × ℕ) (handles : List SetHandle) (old new : List (Slot T)) : Type 0 where
   pub mid : List (Slot T)
-  pub cleared : (mid ≡ old) ⊎ AreCleaned old mid
+  pub cleared : (mid ≡ old) ⊎ ((0 < count is_kept old) × AreCleaned old mid)
+  -- the first handles have the kept sets of the layout, as many as were kept then
+  pub kept_first : (i : ℕ) → i < length handles → i < count (is_kept_of under.0) mid → is_kept_of under.0 (slot_at mid (place_at handles i)) ≡ true
   pub holds : HoldEach number under handles mid new
 
 -- no set comes
@@ -220,13 +223,14 @@ module _ {L P S D : Type 0} {d : Ghosts D L P S} where
     pub returns : Returns d.meaning sets (side_of old) mid
     pub cleans : TrimsPools d.meaning mid (side_of new)
 
-  -- the allocator refused so many sets, or an allocation of the table's own failed before it was asked. All slots are as they were
+  -- the allocator refused so many sets, or an allocation of the table's own failed before it was asked, as fewer slots than that could have another set. All slots are as they were
   pub record IsRefused (known : L) (many : ℕ) (error : AllocationError) (old new : StoreOver d) : Type 0 where
     pub slots : slots_in new ≡ slots_in old
-    pub why : HandsOut d.meaning (layout_key d.meaning known) many (Err error) (side_of old) (side_of new) ⊎ ((error ≡ OutOfHostMemory) × (side_of new ≡ side_of old))
+    pub why : HandsOut d.meaning (layout_key d.meaning known) many (Err error) (side_of old) (side_of new) ⊎ ((error ≡ OutOfHostMemory) × (side_of new ≡ side_of old) × (count is_usable (slots_in old) < many))
 
-  -- so many sets were refused, and then all kept sets were given back, and all empty pools went
+  -- so many sets were refused while some were kept, and then all kept sets were given back, and all empty pools went
   pub record IsCleared (known : L) (many : ℕ) (old new : StoreOver d) : Type 0 where
+    pub some : 0 < count is_kept (slots_in old)
     pub refused : StoreOver d
     pub error : AllocationError
     pub first : IsRefused known many error old refused
@@ -310,6 +314,8 @@ module _ {L P S D : Type 0} {d : Ghosts D L P S} where
     pub long : length (slots_in new) ≡ length (slots_in old)
     pub none : (p : ℕ) → (slot_at (slots_in new) p).set ≡ None
     pub given : (p : ℕ) → (slot_at (slots_in new) p).generation ≡ (slot_at (slots_in old) p).generation
+    -- each slot that had a set is vacant, and each other is in use as it was
+    pub vacant : (p : ℕ) → (slot_at (slots_in new) p).used ≡ (if is_some (slot_at (slots_in old) p).set then Vacant else (slot_at (slots_in old) p).used)
     pub back : GaveBack d.meaning (side_of old) (side_of new)
 
   -- a set of the layout has a handle, and is in use for this: one that was kept, or, if there was none, one that came. It is refused only if no set of the layout is kept

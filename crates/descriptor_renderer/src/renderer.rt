@@ -4,7 +4,8 @@ ghost use Rattle.std.specs.Prelude.{IfErr, IfOk, IsErrOf, IsSome, None, OnErr, O
 ghost use Rattle.std.specs.Option.{option_copied};
 ghost use Rattle.gpu_descriptor.specs.Caller.CleansUp.{TrimsPools};
 ghost use Rattle.gpu_descriptor.specs.Caller.SetLayouts.{IsMeant};
-ghost use Rattle.descriptor_table.specs.Tables.{Grows, count, holds, is_kept, waits};
+ghost use Rattle.descriptor_table.specs.Slots.{is_kept_of};
+ghost use Rattle.descriptor_table.specs.Tables.{Grows, KeepsUpTo, count, holds, is_kept, waits};
 ghost use Rattle.descriptor_renderer.specs.LayoutRegistries.{layout_slots, registry_of};
 ghost use Rattle.descriptor_renderer.specs.Own.{HasSetsOf};
 ghost use Rattle.descriptor_renderer.specs.Stores.{AreCleaned, Cleans, Removes, Trims};
@@ -194,6 +195,8 @@ impl<L: Drop, P: Drop, S: Drop, D: DescriptorDevice<L, P, S>> Renderer<L, P, S, 
     /// Keeps at most so many sets of a layout from now on. Those above are given back.
     pub fn set_keep(&mut self, most: u32)
         ensures few { (layout : LayoutHandle) → kept_of layout self.new ≤ most }
+        ensures as_many { (layout : LayoutHandle) → KeepsUpTo most (is_kept_of layout.slot.place)
+            (slots_of self.old) (slots_of self.new) }
         ensures names { sets_by self.new ≡ sets_by self.old }
         ensures trims { Trims (store_of self.old) (store_of self.new) }
         ensures rest { seen self.new ≡ record (seen self.old)
@@ -268,6 +271,7 @@ impl<L: Drop, P: Drop, S: Drop, D: DescriptorDevice<L, P, S>> Renderer<L, P, S, 
     pub fn kept_count(&self, layout: LayoutHandle) -> u32
         ensures kept { IsSome (layout_of self.now layout) → result ≡ kept_of layout self.now }
         ensures none { layout_of self.now layout ≡ None → result ≡ 0 }
+        ensures few { result ≤ keep_of self.now }
     {
         match self.layouts.get(layout) {
             Some(_) => self.store.kept_count(layout.place()),

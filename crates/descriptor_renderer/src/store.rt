@@ -1,5 +1,5 @@
 //! The table of a renderer's sets over an allocator and a device.
-ghost use Rattle.std.specs.Prelude.{◌≡◌, ◌+◌, ◌<◌, [], length, OnOk, Some, option_map};
+ghost use Rattle.std.specs.Prelude.{◌≡◌, ◌≤◌, ◌+◌, ◌<◌, [], length, OnOk, Some, option_map};
 ghost use Rattle.std.specs.Option.{option_copied};
 ghost use Rattle.gpu_descriptor.specs.Caller.Sets.{raw_of};
 ghost use Rattle.gpu_descriptor.specs.Caller.States.{Agrees, outstanding_of, state_of};
@@ -45,7 +45,7 @@ pub(crate) struct Store<L, P, S, D: DescriptorDevice<L, P, S>> {
 
 impl<L: Drop, P: Drop, S: Drop, D: DescriptorDevice<L, P, S>> Store<L, P, S, D> {
     ghost use Rattle.descriptor_renderer.specs.Stores.{IsAtRest, KeepsContents, KeepsStore, coming_in, kept_of, ledger_of};
-    ghost use Rattle.descriptor_renderer.specs.Stores.{bound_of, limit_of, lists_in, number_of};
+    ghost use Rattle.descriptor_renderer.specs.Stores.{bound_of, keep_of, limit_of, lists_in, number_of};
     ghost use Rattle.descriptor_renderer.specs.Stores.{pools_besides, side_of, slots_in};
 
     /// No sets and no layouts, for the renderer of this number, over a new allocator with this limit on
@@ -127,7 +127,8 @@ impl<L: Drop, P: Drop, S: Drop, D: DescriptorDevice<L, P, S>> Store<L, P, S, D> 
 
     /// How many sets of a layout are kept.
     pub(crate) fn kept_count(&self, layout: u32) -> u32
-        ensures { result ≡ kept_of layout self.now }
+        ensures count { result ≡ kept_of layout self.now }
+        ensures few { result ≤ keep_of self.now }
     {
         self.table.kept_count(layout)
     }

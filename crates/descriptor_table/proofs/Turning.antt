@@ -156,6 +156,14 @@ module _ {T : Type 0} where
   same_next a b same slots p = ap (λ m. next_use (generations_of b) m slots p) same.keep ∙ ap (λ generations. next_use generations (keep_of a) slots p) same.generations
 
   -- a slot that passed the test doesn't any more
+  pub one_less : (test : Slot T → Bool) (now new : List (Slot T)) (p : ℕ) (s : Slot T) → p < length now → test (slot_at now p) ≡ true → test s ≡ false → new ≡ set now p s → count test new + 1 ≡ count test now
+  one_less test now new p s within was gone is =
+      let h = count_set test now p s within in
+      let a = ap bit was in
+      let b = ap bit gone in
+      let c = ap (count test) is in
+      omega arith
+
   pub one_fewer : (test : Slot T → Bool) (now new : List (Slot T)) (p : ℕ) (s : Slot T) → p < length now → test (slot_at now p) ≡ true → test s ≡ false → new ≡ set now p s → count test new < count test now
   one_fewer test now new p s within was gone is =
       let h = count_set test now p s within in
@@ -234,9 +242,10 @@ module _ {T : Type 0} where
           turn_step test (λ l o n. n ≡ used_for u o) old now new p (used_for u (slot_at now p)) turning within e all (λ o n w. w) (λ o n w. ap test w ∙ out o) refl
 
   -- a set was picked from a list, or there was none in it, and then no more than so many are
-  pub above_of : (k most : ℕ) (r : Option ℕ) (old new : List (Slot T)) → PicksAny (is_in k) r old new → PicksAbove k most r old new
-  above_of k most None old new picks = (let h = none_count (is_in k) old picks.none in omega arith, picks.slots)
-  above_of k most (Some p) old new picks = picks
+  -- with more than so many in the list one leaves
+  pub above_of : (k most : ℕ) (r : Option ℕ) (old new : List (Slot T)) → most < count (is_in k) old → PicksAny (is_in k) r old new → PicksAbove k most r old new
+  above_of k most None old new more picks = (let h = none_count (is_in k) old picks.none in omega arith, picks.slots)
+  above_of k most (Some p) old new more picks = (more, picks)
 
   -- a set that goes is in no list of kept sets
   pub going_out : (k : ℕ) (s : Slot T) → 2 ≤ k → is_in k (used_for Going s) ≡ false

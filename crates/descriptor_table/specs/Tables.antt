@@ -233,9 +233,13 @@ module _ {T : Type 0} where
   abbrev pub is_kept : Slot T → Bool
   is_kept s = is_kept_of s.layout s
 
-  -- a kept set left the list, or none did, since no more than so many are in it
+  -- a kept set left the list, in which more than so many were, or none did, since no more are in it
   abbrev pub PicksAbove : ℕ → ℕ → Option ℕ → Slots T → Slots T → Type 0
-  PicksAbove k most result old new = MatchOption result ((count (is_in k) old ≤ most) × (new ≡ old)) (λ p. Picks (is_in k) p old new)
+  PicksAbove k most result old new = MatchOption result ((count (is_in k) old ≤ most) × (new ≡ old)) (λ p. (most < count (is_in k) old) × Picks (is_in k) p old new)
+
+  -- so many of the slots that pass the test pass it still, or all
+  abbrev pub KeepsUpTo : ℕ → (Slot T → Bool) → Slots T → Slots T → Type 0
+  KeepsUpTo most test old new = (n : ℕ) → n ≤ most → n ≤ count test old → n ≤ count test new
 
   -- the slot, whose set isn't kept when it comes back
   abbrev pub aged : Slot T → Slot T

@@ -1,5 +1,5 @@
 //! The table of a renderer's sets: each is in a slot, where it stays while it is used again and again.
-ghost use Rattle.std.specs.Prelude.{◌≡◌, ◌+◌, ◌<◌, [], length, IsOk, OnOk, vec_capacity};
+ghost use Rattle.std.specs.Prelude.{◌≡◌, ◌+◌, ◌<◌, [], length, IsOk, OnErr, OnOk, vec_capacity};
 ghost use Rattle.std.specs.Option.{option_copied};
 ghost use Rattle.descriptor_table.specs.Slots.{AreFew, AreFramed, AreLinked, AreSized};
 ghost use Rattle.descriptor_table.specs.Slots.{HasFrames, HasLists, generation_at};
@@ -63,7 +63,7 @@ pub struct SetTable<T> {
 impl<T> SetTable<T> {
     ghost use Rattle.descriptor_table.specs.Sets.{find, is_held};
     ghost use Rattle.descriptor_table.specs.Tables.{HasPlaces, HasRoom, HasSettings, OnlyMemory};
-    ghost use Rattle.descriptor_table.specs.Tables.{number_of, slots_of};
+    ghost use Rattle.descriptor_table.specs.Tables.{number_of, slots_of, usable_of};
 
     /// No sets, and no layouts. It allocates nothing.
     pub fn new(alloc: Global, number: u64) -> Self
@@ -129,6 +129,7 @@ impl<T> SetTable<T> {
     pub fn reserve(&mut self, additional: u32) -> Result<(), AllocError>
         ensures room { OnOk result (HasRoom additional self.new) }
         ensures fits { HasRoom additional self.old → IsOk result }
+        ensures full { OnErr result (usable_of self.old < additional) }
         ensures only { OnlyMemory self.old self.new }
     {
         let vacant = self.chain(VACANT).count;

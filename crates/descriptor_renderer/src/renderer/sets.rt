@@ -1,7 +1,7 @@
 //! Sets that are held until they are freed or destroyed.
-ghost use Rattle.std.specs.Prelude.{◌≡◌, ◌-◌, ◌<◌, ◌≤◌, ◌++◌, ◌⊎◌, [], ◌∷◌, List, length};
+ghost use Rattle.std.specs.Prelude.{◌≡◌, ◌+◌, ◌-◌, ◌<◌, ◌≤◌, ◌++◌, ◌⊎◌, [], ◌∷◌, List, length};
 ghost use Rattle.std.specs.Prelude.{IfErr, IfOk, IfSome, IsErrOf, IsSome, None, OnErr, OnOk, Ok, false};
-ghost use Rattle.std.specs.Prelude.{option_map};
+ghost use Rattle.std.specs.Prelude.{IsOk, option_map, vec_capacity, vec_len};
 ghost use Rattle.std.specs.Option.{option_copied};
 ghost use Rattle.gpu_descriptor.specs.Caller.Sets.{raw_of};
 ghost use Rattle.descriptor_table.specs.Sets.{AreHeldOnce, LoseNames};
@@ -68,6 +68,8 @@ impl<L: Drop, P: Drop, S: Drop, D: DescriptorDevice<L, P, S>> Renderer<L, P, S, 
             × HoldAtLast (number_of self.old) (current_in layout.slot.place (store_of self.old)) given
             (slots_of self.old) (slots_of self.new))) }
         ensures kept { many ≤ kept_of layout self.old → side_of self.new ≡ side_of self.old }
+        ensures fits { IsSome (layout_of self.old layout) → many ≤ kept_of layout self.old
+            → vec_len handles.old + many ≤ vec_capacity handles.old → IsOk result }
         ensures comes { kept_of layout self.old < many → OnOk result (IfSome
             (layout_of self.old layout) (λ known. BringsAtLast known.layout
             (many - kept_of layout self.old) many (store_of self.old) (store_of self.new))) }

@@ -8,8 +8,8 @@ use gpu_descriptor::DescriptorDevice;
 
 impl<L: Drop, P: Drop, S: Drop, D: DescriptorDevice<L, P, S>> Store<L, P, S, D> {
     ghost use Rattle.descriptor_table.specs.Sets.{AreHeldOnce, sets_in};
-    ghost use Rattle.descriptor_table.specs.Slots.{goes, is_due, slot_at};
-    ghost use Rattle.descriptor_table.specs.Tables.{Becomes, removed_at, used_for};
+    ghost use Rattle.descriptor_table.specs.Slots.{goes, is_due, is_kept_of, slot_at};
+    ghost use Rattle.descriptor_table.specs.Tables.{Becomes, KeepsUpTo, removed_at, used_for};
     ghost use Rattle.descriptor_table.specs.declared.slot.Use.{Use};
     ghost use Rattle.descriptor_renderer.specs.Stores.{AreCleaned, Cleans, ComeBack, FreesAll, FreesEach};
     ghost use Rattle.descriptor_renderer.specs.Stores.{GivesBack, HasLayout, IsAtRest, IsUpTo, NoneComes};
@@ -139,6 +139,8 @@ impl<L: Drop, P: Drop, S: Drop, D: DescriptorDevice<L, P, S>> Store<L, P, S, D> 
         requires rest { IsAtRest self.old }
         ensures trims { Trims self.old self.new }
         ensures few { (layout : ℕ) → kept_of layout self.new ≤ most }
+        ensures as_many { (layout : ℕ) → KeepsUpTo most (is_kept_of layout) (slots_in self.old)
+            (slots_in self.new) }
         ensures settles { SettlesTo (generations_in self.old) most NoneComes 0 self.old self.new }
     {
         self.table.trim(most);

@@ -1,6 +1,6 @@
 //! Sets that are taken for handles, many at once: kept ones first.
 ghost use Rattle.std.specs.Prelude.{◌≡◌, ℕ, ◌+◌, ◌-◌, ◌<◌, ◌≤◌, ◌++◌, [], ◌∷◌, List, length, IfErr, OnErr, OnOk, Ok};
-ghost use Rattle.std.specs.Prelude.{vec_capacity, vec_len, Bool};
+ghost use Rattle.std.specs.Prelude.{vec_capacity, vec_len, true, Bool};
 ghost use Rattle.gpu_descriptor.specs.Caller.SetLayouts.{IsMeant};
 ghost use Rattle.gpu_descriptor.specs.Caller.Sets.{AreOfLayout};
 
@@ -11,7 +11,8 @@ use std::vec::Vec;
 
 impl<L: Drop, P: Drop, S: Drop, D: DescriptorDevice<L, P, S>> Store<L, P, S, D> {
     ghost use Rattle.descriptor_table.specs.Sets.{NameEach, sets_of};
-    ghost use Rattle.descriptor_table.specs.Tables.{Grows, HasRoom};
+    ghost use Rattle.descriptor_table.specs.Slots.{is_kept_of, slot_at};
+    ghost use Rattle.descriptor_table.specs.Tables.{Grows, HasRoom, place_at};
     ghost use Rattle.descriptor_table.specs.declared.handle.SetHandle.{SetHandle};
     ghost use Rattle.descriptor_renderer.specs.Stores.{Asks, AsksAtLast, BringsAtLast, CanTake};
     ghost use Rattle.descriptor_renderer.specs.Stores.{CanHold, ComesOf, HoldAtLast, HoldEach, HoldsComing, HoldsKept};
@@ -74,6 +75,8 @@ impl<L: Drop, P: Drop, S: Drop, D: DescriptorDevice<L, P, S>> Store<L, P, S, D> 
         ensures holds { (handle : SetHandle) × (handles.new.items ≡ handles.old.items ++ handle ∷ [])
             × HoldEach (number_of self.old) (current_in layout self.old) (handle ∷ [])
             (slots_in self.old) (slots_in self.new) }
+        ensures was_kept { is_kept_of layout (slot_at (slots_in self.old)
+            (place_at handles.new.items (length handles.old.items))) ≡ true }
         ensures fewer { kept_of layout self.new + 1 ≡ kept_of layout self.old }
         ensures room { vec_capacity handles.new ≡ vec_capacity handles.old }
         ensures keeps { HoldsKept self.old self.new }
@@ -91,6 +94,8 @@ impl<L: Drop, P: Drop, S: Drop, D: DescriptorDevice<L, P, S>> Store<L, P, S, D> 
         ensures holds { (given : List SetHandle) × (handles.new.items ≡ handles.old.items ++ given)
             × (length given ≡ many) × HoldEach (number_of self.old) (current_in layout self.old)
             given (slots_in self.old) (slots_in self.new) }
+        ensures were_kept { (i : ℕ) → i < many → is_kept_of layout (slot_at (slots_in self.old)
+            (place_at handles.new.items (length handles.old.items + i))) ≡ true }
         ensures room { vec_capacity handles.new ≡ vec_capacity handles.old }
         ensures keeps { HoldsKept self.old self.new }
     {

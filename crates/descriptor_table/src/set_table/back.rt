@@ -8,7 +8,7 @@ use crate::slot::Use;
 impl<T> SetTable<T> {
     ghost use Rattle.descriptor_table.specs.Slots.{is_due, is_in, is_kept_of, slot_at};
     ghost use Rattle.descriptor_table.specs.Tables.{AreAllTaken, At, AtIf, Becomes, Changes, HasTaken};
-    ghost use Rattle.descriptor_table.specs.Tables.{IsBack, MayBecome, PicksAbove, Turns};
+    ghost use Rattle.descriptor_table.specs.Tables.{IsBack, KeepsUpTo, MayBecome, PicksAbove, Turns};
     ghost use Rattle.descriptor_table.specs.Tables.{count, generations_of, holds, is_kept};
     ghost use Rattle.descriptor_table.specs.Tables.{is_taken, lists_of, may_stay, keep_of, next_use};
     ghost use Rattle.descriptor_table.specs.Tables.{slots_of, used_for};
@@ -159,6 +159,7 @@ impl<T> SetTable<T> {
         requires within { list < lists_of self.old }
         ensures turns { Changes (Turns (is_in list) (MayBecome (used_for Use.Going))) self.old self.new }
         ensures few { count (is_in list) (slots_of self.new) ≤ most }
+        ensures as_many { KeepsUpTo most (is_in list) (slots_of self.old) (slots_of self.new) }
     {
         while let Some(place) = self.pick_above(list, most) {
             self.link(GOING, place, Use::Going);
@@ -179,6 +180,8 @@ impl<T> SetTable<T> {
     pub fn trim(&mut self, most: u32)
         ensures turns { Changes (Turns is_kept (MayBecome (used_for Use.Going))) self.old self.new }
         ensures few { (layout : ℕ) → count (is_kept_of layout) (slots_of self.new) ≤ most }
+        ensures as_many { (layout : ℕ) → KeepsUpTo most (is_kept_of layout) (slots_of self.old)
+            (slots_of self.new) }
     {
         for list in KEPT..self.chains.len() {
             self.trim_list(list, most);

@@ -1,4 +1,4 @@
-use Rattle.std.proofs.Common.{◌-◌, ◌∙◌, inr, ap, subst}
+use Rattle.std.proofs.Common.{◌-◌, ◌∙◌, inr, ap, subst, arith}
 use Rattle.descriptor_table.specs.Tables.{count, is_kept}
 use Rattle.descriptor_renderer.specs.Stores.{Asks, AsksAtLast, IsCleared, IsRefused, IsRefusedAtLast, kept_of, slots_in}
 use Rattle.descriptor_renderer.proofs.Cleared.{none_left}
@@ -9,6 +9,7 @@ use Rattle.descriptor_renderer.proofs.store.Store.bring.Goals.{After-cleanup}
 
 cleared : (g : Over) (c : After-cleanup g) → IsCleared c.args.known.now.layout (c.args.many - kept_of c.args.layout c.args.self.now) c.args.self.now c.cleanup.new.self
 cleared g c = record {
+  some = (let n = c.kept_total.ensures in let same = ap (count is_kept) c.in-Err.ensures.refused.slots in let ne = c.if-kept_total-eq0.false in omega arith);
   refused = c.ask_for.new.self;
   error = c.in-Err.error;
   first = subst (λ n. IsRefused c.args.known.now.layout (c.args.many - n) c.in-Err.error c.args.self.now c.ask_for.new.self) c.kept_count-kept.ensures.count c.in-Err.ensures.refused;

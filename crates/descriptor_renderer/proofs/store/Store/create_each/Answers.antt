@@ -1,18 +1,20 @@
-use Rattle.std.proofs.Common.{◌≡◌, ◌-◌, ◌++◌, ◌∙◌, List, length, sym, ap, subst, arith, rules}
+use Rattle.std.proofs.Common.{◌≡◌, ℕ, ◌+◌, ◌-◌, ◌<◌, ◌++◌, ◌∙◌, true, List, length, sym, ap, subst, arith, rules}
+use Rattle.std.proofs.lemmas.List.{length-append}
 use Rattle.gpu_descriptor.specs.Caller.Sets.{AreOfLayout}
-use Rattle.descriptor_table.specs.Tables.{HasRoom}
+use Rattle.descriptor_table.specs.Slots.{is_kept_of, slot_at}
+use Rattle.descriptor_table.specs.Tables.{HasRoom, place_at}
 use Rattle.descriptor_table.specs.declared.handle.SetHandle.{SetHandle}
-use Rattle.descriptor_renderer.specs.Stores.{ComesOf, HoldEach, SetsCome, coming_in, current_in, number_of, slots_in}
+use Rattle.descriptor_renderer.specs.Stores.{ComesOf, HoldEach, SetsCome, coming_in, current_in, kept_of, number_of, slots_in}
 use Rattle.descriptor_renderer.proofs.Arriving.{arrived}
 use Rattle.descriptor_renderer.proofs.Bringing.{Brings, brought}
 use Rattle.descriptor_renderer.proofs.Growing.{grow_from, grow_more, grow_refused}
 use Rattle.descriptor_renderer.proofs.Handing.{refused_arrives}
-use Rattle.descriptor_renderer.proofs.Joining.{are_named, held_stays, held_then, holds_arrives, kept_then}
+use Rattle.descriptor_renderer.proofs.Joining.{are_named, held_stays, held_then, holds_arrives, kept_then, place_after, place_before}
 use Rattle.descriptor_renderer.proofs.store.Store.create_each.Given.{Over}
 use Rattle.descriptor_renderer.proofs.store.Store.create_each.Goals as goal
 use Rattle.descriptor_renderer.proofs.store.Store.create_each.Goals.{After-hold_coming}
 
-brings : (g : Over) (c : After-hold_coming g) → Brings c.args.known.now.layout c.args.many c.args.self.now c.bring.new.self
+brings : (g : Over) (c : After-hold_coming g) → Brings c.args.known.now.layout c.args.layout c.args.many c.args.self.now c.bring.new.self
 brings g c = brought c.args.known.now.layout c.args.layout c.args.many c.args.self.now c.bring.new.self c.requires.can.rest.none_coming (λ enough. (c.in_ok-bring.ensures.kept enough).1) c.in_ok-bring.ensures.asks
 
 -- all handles, of kept sets and of those that came
@@ -35,6 +37,24 @@ all_held g c =
     let sum = h.2 in
     (h.0, h.1, omega arith, held_stays c.args.layout h.0 (slots_in c.bring.new.self) (slots_in c.hold_coming.new.self) c.args.self.now c.bring.new.self c.bring.ensures.stays h.3)
 
+-- the kept ones have the first handles
+first : (g : Over) (c : After-hold_coming g) (i : ℕ) → i < length (all_held g c).0 → i < kept_of c.args.layout c.bring.new.self → is_kept_of c.args.layout (slot_at (slots_in c.bring.new.self) (place_at (all_held g c).0 i)) ≡ true
+first g c i lt some =
+    let start = c.args.handles.now.items in
+    let now = c.hold_kept.new.handles.items in
+    let then = c.hold_coming.new.handles.items in
+    let kept = c.hold_kept.ensures.holds in
+    let all = (all_held g c).2 in
+    let long = c.bring.new.self.coming.ok.0 in
+    let count = c.len.ensures in
+    let less = (brings g c).besides i (omega arith) some in
+    let held = kept.2 in
+    let sum = ap length kept.1 ∙ length-append start kept.0 in
+    let same : place_at (all_held g c).0 i ≡ place_at now (length start + i) =
+    sym (place_after start then (all_held g c).0 (all_held g c).1 i)
+    ∙ place_before now then c.hold_coming.ensures.holds.0 c.hold_coming.ensures.holds.1 (length start + i) (omega arith) in
+    subst (λ p. is_kept_of c.args.layout (slot_at (slots_in c.bring.new.self) p) ≡ true) (sym same) (c.hold_kept.ensures.were_kept i (omega arith))
+
 come : (g : Over) (c : After-hold_coming g) → SetsCome (ComesOf g.D.DescriptorDevice.meaning c.args.known.now.layout c.args.layout) (slots_in c.bring.new.self) (slots_in c.hold_coming.new.self)
 come g c =
     let own = subst (AreOfLayout g.D.DescriptorDevice.meaning c.args.known.now.layout) (sym c.hold_kept.ensures.keeps.stays.coming) (brings g c).own in
@@ -54,7 +74,7 @@ pub returns-clause-creates : goal.returns-clause-creates
 returns-clause-creates g c =
     let h = all_held g c in
     let named = are_named (number_of c.args.self.now) (current_in c.args.layout c.args.self.now) h.0 (slots_in c.args.self.now) (slots_in c.bring.new.self) (slots_in c.hold_coming.new.self) (brings g c).clear h.3 in
-    (h.0, h.1, h.2, named, record { mid = slots_in c.bring.new.self; cleared = (brings g c).cleared; holds = h.3 })
+    (h.0, h.1, h.2, named, record { mid = slots_in c.bring.new.self; cleared = (brings g c).cleared; kept_first = first g c; holds = h.3 })
 
 pub returns-clause-comes : goal.returns-clause-comes
 returns-clause-comes g c = λ few. (c.bring.new.self, c.in_ok-bring.ensures.asks few, c.hold_coming.ensures.keeps.side ∙ c.hold_kept.ensures.keeps.side)

@@ -40,6 +40,7 @@ returns-clause-frees g c =
       long = gives.turns.long ∙ c.trim.ensures.turns.slots.long ∙ c.let_held_go.ensures.slots.long ∙ c.settle_due.ensures.slots.long ∙ c.age.ensures.slots.long;
       none = λ p. (all p).none;
       given = λ p. (all p).given;
+      vacant = λ p. (all p).vacant;
       back = gives.back;
     }
 

@@ -1,8 +1,9 @@
-use Rattle.std.proofs.Common.{◌≡◌, ◌+◌, ◌∙◌, length, refl, ap, subst, arith, rules, ℕ}
+use Rattle.std.proofs.Common.{◌≡◌, ◌+◌, ◌∙◌, true, [], ◌∷◌, length, refl, sym, ap, subst, arith, rules, ℕ}
 use Rattle.std.proofs.lemmas.List.{length-set}
 use Rattle.descriptor_table.specs.Sets.{sets_in}
 use Rattle.descriptor_table.specs.Slots.{is_kept_of, slot_at}
-use Rattle.descriptor_table.specs.Tables.{Renews, renewed, slots_of, used_for, HasRoom}
+use Rattle.descriptor_table.specs.Tables.{Renews, place_at, renewed, slots_of, used_for, HasRoom}
+use Rattle.descriptor_table.specs.declared.handle.SetHandle.{SetHandle}
 use Rattle.descriptor_table.specs.declared.slot.Use.TheVariants.{Held, Taken}
 use Rattle.descriptor_table.proofs.Counts.{none_count}
 use Rattle.descriptor_table.proofs.Listed.{slot_set}
@@ -11,7 +12,7 @@ use Rattle.descriptor_renderer.specs.Stores.{NoneComes, generations_in, number_o
 use Rattle.descriptor_renderer.proofs.Given.{accounted_as, exact_as, picked_sets, renewed_sets}
 use Rattle.descriptor_renderer.proofs.Growing.{grow_kept}
 use Rattle.descriptor_renderer.proofs.Handing.{kept_fewer, kept_fills}
-use Rattle.descriptor_renderer.proofs.Joining.{hold_one}
+use Rattle.descriptor_renderer.proofs.Joining.{hold_one, place_after}
 use Rattle.descriptor_renderer.proofs.store.Store.hold_next.Given.{Over}
 use Rattle.descriptor_renderer.proofs.store.Store.hold_next.Goals as goal
 use Rattle.descriptor_renderer.proofs.store.Store.hold_next.Goals.{After-hold}
@@ -46,6 +47,14 @@ returns-clause-holds g c =
     Held c.hold.result (slots_in c.args.self.now) (slots_of c.take_kept.new.self) (slots_of c.hold.new.self)
     (λ q within. (c.args.self.now.table.known q within).kept) c.in-Some.ensures.slots (renews g h) in
     (c.hold.result, c.push_reserved.ensures.items, hold_one NoneComes (number_of c.args.self.now) (generations_in c.args.self.now) c.args.layout c.in-Some.place c.hold.result (slots_in c.args.self.now) (slots_of c.hold.new.self) fills)
+
+pub returns-clause-was_kept : goal.returns-clause-was_kept
+returns-clause-was_kept g c =
+    let h = (goal.at.returns-clause-was_kept g c).After-hold in
+    let at : place_at c.push_reserved.new.self.items (length c.args.handles.now.items) ≡ c.in-Some.place =
+    subst (λ n. place_at c.push_reserved.new.self.items n ≡ c.hold.result.place) (omega arith) (place_after c.args.handles.now.items c.push_reserved.new.self.items (c.hold.result ∷ []) c.push_reserved.ensures.items 0)
+    ∙ ap (λ (h : SetHandle). h.place) (renews g h).is in
+    subst (λ p. is_kept_of c.args.layout (slot_at (slots_in c.args.self.now) p) ≡ true) (sym at) c.in-Some.ensures.slots.was
 
 pub returns-clause-fewer : goal.returns-clause-fewer
 returns-clause-fewer g c = kept_fewer c.args.layout c.in-Some.place (number_of c.args.self.now) Held c.hold.result (slots_in c.args.self.now) (slots_of c.take_kept.new.self) (slots_of c.hold.new.self) c.in-Some.ensures.slots (renews g (goal.at.returns-clause-fewer g c).After-hold) (λ s. refl)

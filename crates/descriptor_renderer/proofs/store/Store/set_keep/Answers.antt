@@ -50,6 +50,12 @@ returns-clause-few g c = λ layout.
     let few = c.trim.ensures.few layout in
     omega arith
 
+pub returns-clause-as_many : goal.returns-clause-as_many
+returns-clause-as_many g c = λ layout n le has.
+    let same = given_kept (slots_of c.trim.new.self) (slots_of c.give.new.self.table) (gives g c) (layout + 2) (omega arith) in
+    let more = c.trim.ensures.as_many layout n le has in
+    omega arith
+
 pub returns-clause-settles : goal.returns-clause-settles
 returns-clause-settles g c =
     let old = slots_of c.args.self.now.table in

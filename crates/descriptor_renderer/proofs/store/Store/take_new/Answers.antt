@@ -1,4 +1,4 @@
-use Rattle.std.proofs.Common.{◌∙◌, inr, ap}
+use Rattle.std.proofs.Common.{◌∙◌, inr, ap, arith}
 use Rattle.descriptor_table.specs.Tables.{count, is_kept}
 use Rattle.descriptor_renderer.specs.Stores.{Gets, GetsAtLast, IsCleared, IsRefused, IsRefusedAtLast, slots_in}
 use Rattle.descriptor_renderer.proofs.Cleared.{none_left}
@@ -8,7 +8,7 @@ use Rattle.descriptor_renderer.proofs.store.Store.take_new.Goals as goal
 use Rattle.descriptor_renderer.proofs.store.Store.take_new.Goals.{After-ask-in-Err}
 
 cleared : (g : Over) (c : After-ask-in-Err g) → IsCleared c.args.known.now.layout 1 c.args.self.now c.cleanup.new.self
-cleared g c = record { refused = c.ask.new.self; error = c.in-Err.error; first = c.in-Err.ensures.refused; cleaned = c.cleanup.ensures.cleaned; cleans = c.cleanup.ensures.cleans }
+cleared g c = record { some = (let n = c.kept_total.ensures in let same = ap (count is_kept) c.in-Err.ensures.refused.slots in let ne = c.if-kept_total-eq0.false in omega arith); refused = c.ask.new.self; error = c.in-Err.error; first = c.in-Err.ensures.refused; cleaned = c.cleanup.ensures.cleaned; cleans = c.cleanup.ensures.cleans }
 
 pub returns-else-kept_total-eq0-clause-gets : goal.returns-else-kept_total-eq0-clause-gets
 returns-else-kept_total-eq0-clause-gets g c =

@@ -14,4 +14,9 @@ returns-then-chain-most g c =
     record { slots = (omega arith, refl); stays = stays_same s }
 
 pub returns : goal.returns
-returns g c = record { slots = above_of c.args.list c.args.most c.pick.result (slots_of c.args.self.now) (slots_of c.pick.new.self) c.pick.ensures.slots; stays = c.pick.ensures.stays }
+returns g c =
+    let s = c.args.self.now in
+    let a = ap (λ (d : Chain). d.count) c.chain.ensures in
+    let b = chain_count s.slots.items s.next.items s.chains.items s.linked c.args.list in
+    let gt = c.if-chain-most.false in
+    record { slots = above_of c.args.list c.args.most c.pick.result (slots_of s) (slots_of c.pick.new.self) (omega arith) c.pick.ensures.slots; stays = c.pick.ensures.stays }

@@ -1,5 +1,5 @@
 use Rattle.std.proofs.Common.{◌≡◌, ℕ, ◌∙◌, ap, subst, arith}
-use Rattle.std.specs.Prelude.{OnOk}
+use Rattle.std.specs.Prelude.{Err, Ok, OnErr, OnOk, Result}
 use Rattle.descriptor_table.specs.Tables.{HasPlaces, count, is_usable, usable_of}
 use Rattle.descriptor_table.specs.declared.slot.Chain.{Chain}
 use Rattle.descriptor_table.proofs.Counts.{chain_count}
@@ -28,6 +28,16 @@ returns-clause-room g c =
     let same = vacant g (goal.at.returns-clause-room g c).After-chain-vacant in
     let usable = ap (count is_usable) c.reserve_slots.ensures.only.slots in
     subst (λ (n : ℕ). OnOk c.reserve_slots.result (HasPlaces n c.reserve_slots.new.self)) (omega arith) c.reserve_slots.ensures.room
+
+on_err : {X E P : Type 0} (r : Result X E) → P → OnErr r P
+on_err (Ok x) p = tt
+on_err (Err e) p = p
+
+pub returns-clause-full : goal.returns-clause-full
+returns-clause-full g c =
+    let same = vacant g (goal.at.returns-clause-full g c).After-chain-vacant in
+    let gt = c.if-additional-vacant.false in
+    on_err c.reserve_slots.result (omega arith)
 
 pub returns-clause-fits : goal.returns-clause-fits
 returns-clause-fits g c = λ room.

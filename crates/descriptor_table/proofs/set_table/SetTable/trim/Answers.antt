@@ -23,8 +23,15 @@ loop-list-preserved g c =
         | inl same ↦ subst (λ j. count (is_in j) new ≤ c.args.most) (sym same) e.few
         | inr ne ↦ (let a = trim_others k two now new e.turns.slots j two' ne in let b = inv.few j two' (omega arith) in omega arith)
       ];
+      enough = λ j two' n le has. elim (same_or j k) [
+        | inl same ↦ subst (λ j. n ≤ count (is_in j) new) (sym same) (e.as_many n le (inv.enough k two n le (subst (λ j. n ≤ count (is_in j) old) same has)))
+        | inr ne ↦ (let a = trim_others k two now new e.turns.slots j two' ne in let b = inv.enough j two' n le has in omega arith)
+      ];
       stays = stays_more c.args.self.now c.loop-list.self c.trim_list.new.self inv.stays e.turns.stays;
     }
+
+pub returns-clause-as_many : goal.returns-clause-as_many
+returns-clause-as_many g c = λ layout n le has. c.loop-list.invariant.enough (layout + 2) (omega arith) n le has
 
 pub returns-clause-few : goal.returns-clause-few
 returns-clause-few g c = λ layout.

@@ -1,5 +1,5 @@
 use Rattle.descriptor_table.specs.Slots.{is_in}
-use Rattle.descriptor_table.specs.Tables.{Stays, count, slots_of, used_for, Becomes}
+use Rattle.descriptor_table.specs.Tables.{KeepsUpTo, Stays, count, slots_of, used_for, Becomes}
 use Rattle.descriptor_table.proofs.Turning.{Turning}
 use Rattle.descriptor_table.specs.declared.slot.Use.TheVariants.{Going}
 use Rattle.descriptor_table.proofs.set_table.SetTable.trim_list.Given as goal
@@ -8,6 +8,7 @@ use Rattle.descriptor_table.proofs.set_table.SetTable.trim_list.Given as goal
 abbrev pub invariant-loop-place : goal.invariant-loop-place
 invariant-loop-place g l = record {
   turning : Turning (is_in l.list) (Becomes (used_for Going)) (slots_of l.fn.self) (slots_of l.self);
+  enough : KeepsUpTo l.most (is_in l.list) (slots_of l.fn.self) (slots_of l.self);
   stays : Stays l.fn.self l.self;
 }
 
