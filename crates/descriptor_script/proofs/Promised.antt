@@ -25,8 +25,8 @@ use Rattle.gpu_descriptor.proofs.release.Places.{back_named, back_named-is, outs
 use Rattle.gpu_descriptor.proofs.release.ReleaseAgrees.{one_by_one}
 use Rattle.descriptor_script.specs.Sessions.Headline.{GoBack, HoldsWhatIsOut, IsMet, IsRefused, KeepsAll, held_items}
 use Rattle.descriptor_script.specs.Sessions.Session.{IsReady, allocator_of, allocator_on, sets_of, state_on}
-use Rattle.descriptor_script.specs.Sessions.SessionRun.{Runs, RunsTo}
-use Rattle.descriptor_script.specs.Sessions.Steps.{GivesUp, HoldsAnswer, Refuses, StepsTo}
+use Rattle.descriptor_script.specs.Sessions.SessionRun.{Runs, RunsKeeping, RunsTo}
+use Rattle.descriptor_script.specs.Sessions.Steps.{GivesUp, HoldsAnswer, OfStep, Refuses, StepsTo}
 use Rattle.descriptor_script.specs.declared.command.Command.{Command}
 use Rattle.descriptor_script.specs.declared.command.Command.TheVariants.{Allocate, Free, Cleanup}
 use Rattle.descriptor_script.specs.declared.command.Reply.{Reply}
@@ -136,7 +136,7 @@ module _ {L P S : Type 0} (means : Meaning L P S) where
     replied _ _ h = absurd h
 
   -- a run keeps all parts at each of its steps
-  pub all_kept : (commands : List Command) (replies : List Reply) (old new : Side (Session L P S)) → IsReady means old → RunsTo means commands replies old new → Runs (KeepsAll means) commands replies old new
+  pub all_kept : (commands : List Command) (replies : List Reply) (old new : Side (Session L P S)) → IsReady means old → RunsTo means commands replies old new → RunsKeeping means (KeepsAll means) commands replies old new
   all_kept [] [] old new ready run = run
   all_kept (c ∷ cs) (r ∷ rs) old new ready run =
       let keeps = run.1.1 in
@@ -150,5 +150,11 @@ module _ {L P S : Type 0} (means : Meaning L P S) where
         layouts = keeps.layouts;
         others = keeps.allocator.others;
       } in
-      (run.0, all, all_kept cs rs run.0 new keeps.ready run.2)
+      (run.0, (all, run.1.0, run.1.1), all_kept cs rs run.0 new keeps.ready run.2)
   all_kept _ _ old new ready run = absurd run
+
+  -- the promise alone
+  pub promise_of : (promise : OfStep L P S) (commands : List Command) (replies : List Reply) (old new : Side (Session L P S)) → RunsKeeping means promise commands replies old new → Runs promise commands replies old new
+  promise_of promise [] [] old new run = run
+  promise_of promise (c ∷ cs) (r ∷ rs) old new run = (run.0, run.1.0, promise_of promise cs rs run.0 new run.2)
+  promise_of promise _ _ old new run = absurd run

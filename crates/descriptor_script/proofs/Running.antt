@@ -27,4 +27,5 @@ module _ {L P S : Type 0} (means : Meaning L P S) where
     allocator = keeps_through p.allocator q.allocator;
     layouts = q.layouts ∙ p.layouts;
     count = q.count;
+    no_gaps = λ h. q.no_gaps (p.no_gaps h);
   }

@@ -6,7 +6,7 @@ ghost use Rattle.std.specs.Prelude.{◌≡◌, IfOk, OnErr};
 ghost use Rattle.gpu_descriptor_types.specs.Side.{side};
 ghost use Rattle.descriptor_script.specs.Sessions.Headline.{KeepsAll};
 ghost use Rattle.descriptor_script.specs.Sessions.Session.{IsReady, KeepsSession};
-ghost use Rattle.descriptor_script.specs.Sessions.SessionRun.{Runs, RunsTo};
+ghost use Rattle.descriptor_script.specs.Sessions.SessionRun.{Runs, RunsKeeping};
 
 use crate::{Command, Reply, Session};
 use gpu_descriptor::DescriptorDevice;
@@ -37,12 +37,15 @@ pub fn headline<L, P: Drop, S: Drop, D: DescriptorDevice<L, P, S>>(
     // The next call may be made.
     ensures ready { IsReady D.meaning (side session.new (D.ledger device.new)) }
 
-    // In the words of the model: over the whole run the pools of others stay and no pool is lost, and
-    // each step is one that the model allows, which also says what pools are asked, created and destroyed.
+    // Over the whole run the pools of others stay, and no pool is lost.
     ensures keeps { KeepsSession D.meaning (side session.old (D.ledger device.old))
         (side session.new (D.ledger device.new)) }
-    ensures runs { IfOk result (λ replies. RunsTo D.meaning commands.now replies.items
-        (side session.old (D.ledger device.old)) (side session.new (D.ledger device.new))) }
+
+    // `together`, and at the same states the words of the model: each step is one that it allows, which
+    // also says what pools are asked, created and destroyed.
+    ensures runs { IfOk result (λ replies. RunsKeeping D.meaning (KeepsAll D.meaning) commands.now
+        replies.items (side session.old (D.ledger device.old))
+        (side session.new (D.ledger device.new))) }
 {
     session.run(device, commands)
 }

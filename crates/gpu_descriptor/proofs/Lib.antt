@@ -7,4 +7,5 @@ pub mod release
 pub mod request
 pub mod sums
 pub mod table
+pub mod NoGaps
 pub mod Example

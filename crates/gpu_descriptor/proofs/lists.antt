@@ -2,6 +2,7 @@ pub mod AtPlaces
 pub mod Appended
 pub mod OpenList
 pub mod OpenOrdinals
+pub mod Gaps
 pub mod Numbers
 pub mod Searching
 pub mod Ordinals

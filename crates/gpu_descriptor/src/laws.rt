@@ -1,8 +1,10 @@
 //! Laws of giving sets back and of cleaning up, over the books of an allocator and the ledger of a
 //! device, and of the types, which their derives keep. The functions do nothing: their contracts
 //! are the laws.
-ghost use Rattle.std.specs.Prelude.{◌≡◌, ◌↔◌, ℕ, Bool, [], IsTrue, List, None, Some, false, slice_get};
+ghost use Rattle.std.specs.Prelude.{◌≡◌, ◌↔◌, ℕ, Bool, [], IsTrue, List, None, Some, false};
+ghost use Rattle.std.specs.Prelude.{slice_get, slice_index};
 ghost use Rattle.std.specs.Prelude.{flat_map, length, sum, true, ◌++◌, ◌+◌, ◌<◌, ◌≤◌, ◌⊎◌};
+ghost use Rattle.gpu_descriptor.specs.Caller.Comparisons.{gap_digits};
 ghost use Rattle.gpu_descriptor.specs.Caller.Flags.{layout_bits};
 ghost use Rattle.gpu_descriptor.specs.Caller.Frees.{marked_descriptors};
 ghost use Rattle.gpu_descriptor.specs.Caller.Others.{others_of};
@@ -11,14 +13,15 @@ ghost use Rattle.gpu_descriptor.specs.Caller.States.{outstanding_of, pool_load_o
 ghost use Rattle.gpu_descriptor.specs.Caller.States.{table_of};
 ghost use Rattle.gpu_descriptor.specs.Caller.Values.{Allocations};
 ghost use Rattle.gpu_descriptor.specs.Model.Agreement.{Item, item_eq, Agree, AreOutstanding};
-ghost use Rattle.gpu_descriptor.specs.Model.Agreement.{HasNoKeys, HasNoPools, IsAsBooked};
+ghost use Rattle.gpu_descriptor.specs.Model.Agreement.{HasNoGaps, HasNoKeys, HasNoPools, IsAsBooked};
 ghost use Rattle.gpu_descriptor.specs.Model.Agreement.{State, count_of, outstanding};
 ghost use Rattle.gpu_descriptor.specs.Model.Books.{HasDistinctKeys, Key, key_eq, AddsUp, Bucket};
-ghost use Rattle.gpu_descriptor.specs.Model.Books.{Entry, books_of, no_pools, sum_over};
+ghost use Rattle.gpu_descriptor.specs.Model.Books.{Entry, books_of, no_pools, numbers_of, sum_over};
 ghost use Rattle.gpu_descriptor.specs.Model.Cleanup.{LosesEmpty, pools_lost};
 ghost use Rattle.gpu_descriptor.specs.Model.Foreign.{IsForeign, IsNamed, KeepsForeign};
 ghost use Rattle.gpu_descriptor.specs.Model.Load.{pool_descriptors, sets_out, descriptors_out, bucket_load};
 ghost use Rattle.gpu_descriptor.specs.Model.Load.{descriptors_created};
+ghost use Rattle.gpu_descriptor.specs.Model.Outcomes.{Allocates, Call};
 ghost use Rattle.gpu_descriptor.specs.Model.Promises.{IsUntouched};
 ghost use Rattle.gpu_descriptor.specs.Model.Release.{pools_gone, released, released_each};
 ghost use Rattle.gpu_descriptor.specs.Model.Release.{singly};
@@ -107,6 +110,19 @@ pub fn no_pool_is_lost<P>()
         name a l ≡ l.pools }
     ensures no_pools { (name : P → ℕ) (a : Allocations P) (l : Ledger) → HasNoPools
         (state_of name a l) → others_of name a l ≡ l.pools }
+{}
+
+/// Only a trim leaves gaps between the numbers of a key's pools. Without gaps a pool's place tells its
+/// number, and a release takes no comparison to find its pool by number.
+pub fn only_a_trim_leaves_gaps()
+    ensures begins { (s : State) → HasNoPools s → HasNoGaps s }
+    ensures requests { (c : Call) → Agree c.old → Allocates c → HasNoGaps c.old → HasNoGaps c.new }
+    ensures frees { (m : List Item) (s : State) → Agree s → HasNoGaps s → HasNoGaps (released m s) }
+    ensures cleanups { (s t : State) → Agree s → LosesEmpty false s t → HasNoGaps s → HasNoGaps t }
+    ensures by_place { (s : State) (k : Key) (i : ℕ) (e : Entry) → Agree s → HasNoGaps s → slice_get
+        (s.books k).pools i ≡ Some e → e.number ≡ slice_index (numbers_of (s.books k).pools) 0 + i }
+    ensures digits { (s : State) (k : Key) → HasNoGaps s → gap_digits (numbers_of (s.books k).pools)
+        ≡ 0 }
 {}
 
 /// Sums over all keys depend on the books alone.

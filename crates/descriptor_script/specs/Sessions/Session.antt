@@ -1,6 +1,6 @@
 -- What a session keeps.
 use Rattle.std.specs.Prelude.{◌≡◌, ℕ, All, List, length, Option}
-use Rattle.gpu_descriptor.specs.Model.Agreement.{Item, State, count_of, outstanding}
+use Rattle.gpu_descriptor.specs.Model.Agreement.{HasNoGaps, Item, State, count_of, outstanding}
 use Rattle.gpu_descriptor_types.specs.Meaning.{Meaning}
 use Rattle.gpu_descriptor_types.specs.Side.{Side, side}
 use Rattle.gpu_descriptor.specs.Caller.Keeps.{Keeps}
@@ -59,3 +59,5 @@ module _ {L P S : Type 0} (means : Meaning L P S) where
     pub layouts : layouts_of new.value ≡ layouts_of old.value
     -- the allocator counts as many sets as are held
     pub count : length (held_sets (sets_of new.value)) ≡ outstanding_of (allocator_of new.value)
+    -- the numbers of a key's pools get no gaps, as a session never trims
+    pub no_gaps : HasNoGaps (state_on old) → HasNoGaps (state_on new)

@@ -1,11 +1,11 @@
 -- Books and ledger side by side: how the two agree, and which sets are outstanding.
-use Rattle.std.specs.Prelude.{◌<◌, ◌≡◌, ℕ, ◌+◌, ◌≤◌, Bool, true, ◌==◌, ◌&&◌, if◌then◌else◌, List, [], count_by, slice_get, Option, Some}
+use Rattle.std.specs.Prelude.{◌<◌, ◌≡◌, ℕ, ◌+◌, ◌≤◌, Bool, true, ◌==◌, ◌&&◌, if◌then◌else◌, List, [], count_by, length, slice_get, slice_index, Option, Some}
 use Rattle.std.specs.Option.{option_map_or}
 use Rattle.gpu_descriptor_types.specs.Ledger.{Pool}
 use Rattle.gpu_descriptor_types.specs.Multiset.{HasSize, LiveSet}
 use Rattle.gpu_descriptor_types.specs.Flags.{pool_flags}
 use Rattle.gpu_descriptor_types.specs.PoolSize.{greatest_pool_size, pool_counts}
-use Rattle.gpu_descriptor.specs.Model.Books.{Key, key_eq, Entry, Bucket, entry_at, no_pools, numbers_of, rises}
+use Rattle.gpu_descriptor.specs.Model.Books.{Key, key_eq, Entry, Bucket, entry_at, no_pools, number_after, numbers_of, rises}
 
 -- the books by key, and the ledger's pools by name: of the ledger no counters
 pub record State : Type 0 where
@@ -19,6 +19,10 @@ HasNoPools s = (k : Key) → (s.books k).pools ≡ []
 -- the books are as if no key ever came
 abbrev pub HasNoKeys : State → Type 0
 HasNoKeys s = (k : Key) → s.books k ≡ no_pools
+
+-- the numbers of each key's pools have no gap: the next number is that of the first pool and as many more as there are pools
+abbrev pub HasNoGaps : State → Type 0
+HasNoGaps s = (k : Key) → let numbers = numbers_of (s.books k).pools in number_after numbers ≤ slice_index numbers 0 + length numbers
 
 -- ---- sets that were handed out
 

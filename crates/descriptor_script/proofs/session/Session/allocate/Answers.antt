@@ -1,6 +1,7 @@
 use Rattle.std.proofs.Common.{◌≡◌, ◌++◌, map, Some, length, slice_get, refl, rules, sym, ap, ◌∙◌, arith}
 use Rattle.std.proofs.lemmas.Option.{slice_get_read}
 use Rattle.gpu_descriptor.specs.Caller.States.{state_of}
+use Rattle.gpu_descriptor.proofs.NoGaps.{none_requested}
 use Rattle.descriptor_script.specs.Inner.Slots.{HasSpareSlots}
 use Rattle.descriptor_script.specs.Sessions.Tickets.{held_sets}
 use Rattle.descriptor_script.proofs.Held.{all_held_more, held_sum, is_ok_then}
@@ -50,6 +51,7 @@ returns-in-Ok-clause-keeps g c = record {
   allocator = c.in-Ok.ensures.keeps;
   layouts = search rules;
   count = search rules;
+  no_gaps = none_requested _ c.requires.ready.agree.books c.in-Ok.ensures.hands_out.outcome;
 }
 
 pub returns-in-Err-clause-step : goal.returns-in-Err-clause-step
@@ -59,6 +61,15 @@ returns-in-Err-clause-step g c = record {
   outcome = c.in-Err.ensures.hands_out.outcome;
   cause = c.in-Err.ensures.hands_out.cause;
   sets = c.reserve.ensures.sets;
+}
+
+pub returns-in-Err-clause-keeps : goal.returns-in-Err-clause-keeps
+returns-in-Err-clause-keeps g c = record {
+  ready = record { agree = c.in-Err.ensures.keeps.agree; held = rw c.reserve.ensures.sets (λ t. c.in-Err.ensures.hands_out.back t ∙ c.requires.ready.held t); meant = c.requires.ready.meant };
+  allocator = c.in-Err.ensures.keeps;
+  layouts = search rules;
+  count = search rules;
+  no_gaps = none_requested _ c.requires.ready.agree.books c.in-Err.ensures.hands_out.outcome;
 }
 
 pub invariant_of-self-in-Ok : goal.invariant_of-self-in-Ok

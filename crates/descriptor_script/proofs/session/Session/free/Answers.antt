@@ -1,5 +1,7 @@
-use Rattle.std.proofs.Common.{◌≡◌, length, map, ap, ◌∙◌, arith, rules}
-use Rattle.gpu_descriptor.specs.Model.Agreement.{State}
+use Rattle.std.proofs.Common.{◌≡◌, length, map, ap, subst, sym, ◌∙◌, arith, rules}
+use Rattle.gpu_descriptor.proofs.NoGaps.{none_freed}
+use Rattle.gpu_descriptor.specs.Caller.Sets.{items_of}
+use Rattle.gpu_descriptor.specs.Model.Agreement.{HasNoGaps, State}
 use Rattle.gpu_descriptor.specs.Caller.States.{state_of}
 use Rattle.descriptor_script.specs.Sessions.Session.{AreAllHeld}
 use Rattle.descriptor_script.specs.Inner.Slots.{slots_of}
@@ -56,6 +58,7 @@ returns-clause-keeps g c =
       allocator = c.free_from.ensures.keeps;
       layouts = search rules;
       count = search rules;
+      no_gaps = λ h. subst HasNoGaps (sym frees.returns.back.state) (none_freed (items_of g.D.DescriptorDevice.meaning.set_name frees.sets) old c.requires.ready.agree.books h);
     }
 
 pub invariant_of-self-2 : goal.invariant_of-self-2

@@ -1,0 +1,18 @@
+use Rattle.gpu_descriptor.proofs.Common.{◌≡◌, ℕ, ◌+◌, Bool, false, nat_lt, length, slice_get, slice_index, Some, ap, if◌then◌else◌, le-ltb, Agree, Entry, Key, State, number_after, numbers_of}
+use Rattle.gpu_descriptor.specs.Caller.Comparisons.{binary_digits, gap_digits}
+use Rattle.gpu_descriptor.specs.Model.Agreement.{HasNoGaps}
+use Rattle.gpu_descriptor.proofs.NoGaps.{none_begins, none_cleaned, none_freed, none_requested}
+use Rattle.gpu_descriptor.proofs.lists.Gaps.{dense_at}
+use Rattle.gpu_descriptor.proofs.lists.Numbers.{number_of}
+use Rattle.gpu_descriptor.proofs.laws.only_a_trim_leaves_gaps.Goals as goal
+
+by_place : (s : State) (k : Key) (i : ℕ) (e : Entry) → Agree s → HasNoGaps s → slice_get (s.books k).pools i ≡ Some e → e.number ≡ slice_index (numbers_of (s.books k).pools) 0 + i
+by_place s k i e agree dense at = dense_at (numbers_of (s.books k).pools) (agree.rising k) (dense k) i e.number (number_of (s.books k).pools i e at)
+
+digits : (s : State) (k : Key) → HasNoGaps s → gap_digits (numbers_of (s.books k).pools) ≡ 0
+digits s k dense =
+    let xs = numbers_of (s.books k).pools in
+    ap (λ (b : Bool). if b then binary_digits (length xs) else 0) (le-ltb (slice_index xs 0 + length xs) (number_after xs) (dense k))
+
+pub returns : goal.returns
+returns c = record { begins = none_begins; requests = none_requested; frees = none_freed; cleanups = none_cleaned; by_place = by_place; digits = digits }
