@@ -221,7 +221,7 @@ def read_edit(path):
     """Reads an edit. An old text of several lines has a line 'old:' for each."""
     with open(path, encoding="utf-8") as it:
         lines = [line.partition(":") for line in it.read().splitlines() if line.strip()]
-    file, old, pairs, others = None, [], [], {"error": [], "function": [], "clause": [], "test": []}
+    file, old, pairs, others = None, [], [], {"error": [], "function": [], "clause": [], "rust": [], "test": []}
     for key, _, value in lines:
         value = value[1:] if value.startswith(" ") else value
         if key == "file":
