@@ -67,7 +67,7 @@ impl<'a> Scene<'a> {
     }
 }
 
-fn add_layout(
+pub fn add_layout(
     renderer: &mut Renderer<(), u64, u64, &CountingDevice>,
     samplers: u32,
 ) -> LayoutHandle {

@@ -1,10 +1,12 @@
-//! Times the workloads of `bench/original` by the crate `rust/gpu-descriptor`.
+//! Times the workloads of `bench/original` by the crate `rust/gpu-descriptor`, or does operations whose
+//! instructions are counted: by three words, NAME SIZE OPERATIONS.
 
 mod allocator {
     pub use gpu_descriptor::*;
 }
 #[path = "../original/device.rs"]
 mod device;
+mod costs;
 mod drawn;
 #[path = "../original/subject.rs"]
 mod subject;
@@ -17,5 +19,9 @@ mod types {
 mod workloads;
 
 fn main() {
+    let words: Vec<_> = std::env::args().skip(1).collect();
+    if let [name, size, operations] = &words[..] {
+        return costs::run(name, size.parse().unwrap(), operations.parse().unwrap());
+    }
     workloads::run::<subject::Subject>(|bench, n, keeps| drawn::renderer(&bench.device, n, keeps));
 }

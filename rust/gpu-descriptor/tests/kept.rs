@@ -238,6 +238,39 @@ fn counts(held: u64, waiting: u64, kept: u64) -> Counts {
     }
 }
 
+/// The first handles of a request for many have the kept sets, and the others new ones.
+#[test]
+fn kept_sets_come_first() {
+    let gpu = Gpu::default();
+    let (mut it, layouts) = renderer(&gpu, u32::MAX);
+    let sets = it.create_sets(layouts[0], 3).unwrap();
+    let kept: HashSet<_> = sets.iter().map(|set| raw(&it, *set)).collect();
+    free(&mut it, &sets);
+    let sets = it.create_sets(layouts[0], 7).unwrap();
+    for (at, set) in sets.iter().enumerate() {
+        assert_eq!(kept.contains(&raw(&it, *set)), at < 3);
+    }
+    free(&mut it, &sets);
+    shutdown(it);
+}
+
+/// Hundreds of layouts at once, each of its own counts.
+#[test]
+fn memory_is_found_for_hundreds_of_layouts() {
+    let gpu = Gpu::default();
+    let mut it = Renderer::new(&gpu, LIMIT);
+    for samplers in 1..=600 {
+        let mut next = layout(0);
+        next.counts.sampler = samplers;
+        // SAFETY: it is the device's, and stays.
+        let next = unsafe { it.add_layout(next) }.unwrap();
+        it.create_set(next).unwrap();
+    }
+    // SAFETY: the device isn't in use.
+    unsafe { it.free_all() };
+    shutdown(it);
+}
+
 /// Of ten sets as many are kept as are to be, and the others are new the next time.
 #[test]
 fn as_many_are_kept_as_are_to_be() {

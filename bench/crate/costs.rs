@@ -1,0 +1,131 @@
+//! What single calls cost, by name: over so many layouts and sets that stay, so many operations.
+//!
+//! A cost that grows with what stays is a walk over all of it.
+
+use crate::device::CountingDevice;
+use crate::drawn::add_layout;
+use gpu_descriptor::renderer::{LayoutHandle, Renderer, SetHandle};
+use gpu_descriptor::{
+    DescriptorAllocator, DescriptorSetLayoutCreateFlags, DescriptorTotalCount, SetLayout,
+};
+
+struct Scene<'a> {
+    renderer: Renderer<(), u64, u64, &'a CountingDevice>,
+    layouts: Vec<LayoutHandle>,
+    live: Vec<SetHandle>,
+}
+
+impl<'a> Scene<'a> {
+    /// So many layouts, each with a live set.
+    fn new(device: &'a CountingDevice, size: u32) -> Self {
+        let mut renderer = Renderer::new(device, u32::MAX);
+        let layouts: Vec<_> = (0..size).map(|at| add_layout(&mut renderer, at)).collect();
+        let live = layouts.iter().map(|it| renderer.create_set(*it).unwrap());
+        let live = live.collect();
+        Scene {
+            renderer,
+            layouts,
+            live,
+        }
+    }
+
+    fn free(&mut self, sets: &[SetHandle]) {
+        // SAFETY: the device only counts.
+        unsafe { self.renderer.free_sets(sets) }.unwrap();
+    }
+
+    /// A set of the last layout is allocated, and freed.
+    fn kept(&mut self) {
+        let set = self.renderer.create_set(self.layouts[self.layouts.len() - 1]);
+        self.free(&[set.unwrap()]);
+    }
+
+    /// A frame of one set.
+    fn frame(&mut self) {
+        let frame = self.renderer.begin_frame().unwrap();
+        let _set = self.renderer.draw(self.layouts[0]).unwrap();
+        self.renderer.end_frame();
+        // SAFETY: the device only counts.
+        unsafe { self.renderer.gpu_done(frame) };
+    }
+
+    /// A layout is added and removed, with a set that is freed in between.
+    fn removed(&mut self) {
+        let layout = add_layout(&mut self.renderer, 0);
+        let set = self.renderer.create_set(layout).unwrap();
+        self.free(&[set]);
+        self.renderer.remove_layout(layout).unwrap();
+    }
+
+    /// A set that stays.
+    fn grown(&mut self) {
+        let set = self.renderer.create_set(self.layouts[0]).unwrap();
+        self.live.push(set);
+    }
+
+    /// A layout that stays.
+    fn layout(&mut self) {
+        self.layouts.push(add_layout(&mut self.renderer, 1));
+    }
+}
+
+/// A set of the first key and one of the last are allocated, and freed, by an allocator with so many keys.
+fn keys(device: &CountingDevice, size: u32, operations: u32) {
+    let mut allocator: DescriptorAllocator<u64, u64> = DescriptorAllocator::new(u32::MAX);
+    let layouts: Vec<_> = (0..size)
+        .map(|samplers| SetLayout {
+            layout: (),
+            counts: DescriptorTotalCount {
+                sampler: samplers,
+                ..Default::default()
+            },
+            flags: DescriptorSetLayoutCreateFlags::empty(),
+        })
+        .collect();
+    // SAFETY: the device only counts.
+    let mut sets: Vec<_> = (layouts.iter())
+        .map(|it| unsafe { allocator.allocate_one(device, it) }.unwrap())
+        .collect();
+    for _ in 0..operations {
+        for layout in [&layouts[0], &layouts[layouts.len() - 1]] {
+            // SAFETY: the device only counts.
+            unsafe {
+                let set = allocator.allocate_one(device, layout).unwrap();
+                allocator.free(device, [set]);
+            }
+        }
+    }
+    // SAFETY: the device only counts.
+    unsafe {
+        allocator.free(device, sets.drain(..));
+        allocator.cleanup(device);
+    }
+}
+
+/// Does so many operations of a name.
+pub fn run(name: &str, size: u32, operations: u32) {
+    let device = CountingDevice::new(u64::MAX);
+    if name == "keys" {
+        return keys(&device, size, operations);
+    }
+    let mut scene = Scene::new(&device, size);
+    let operation = match name {
+        "kept" => Scene::kept,
+        "frame" => Scene::frame,
+        "removed" => Scene::removed,
+        "grown" => Scene::grown,
+        "layout" => Scene::layout,
+        "unkept" => {
+            scene.renderer.set_keep(0);
+            Scene::frame
+        }
+        _ => panic!("no cost has this name"),
+    };
+    for _ in 0..operations {
+        operation(&mut scene);
+    }
+    // SAFETY: the device only counts.
+    unsafe { scene.renderer.free_all() };
+    // SAFETY: the device only counts.
+    unsafe { scene.renderer.shutdown() };
+}
