@@ -127,6 +127,8 @@ mod gpu_descriptor_types;
 mod ids;
 #[forbid(unsafe_code)]
 mod kit;
+#[cfg(all(test, feature = "std"))]
+mod kit_refusals;
 #[forbid(unsafe_code)]
 mod poison;
 pub mod renderer;

@@ -181,6 +181,17 @@ mod tests {
         }
     }
 
+    #[test]
+    fn a_partition_point_is_the_first_place_that_is_refused() {
+        let mut map = IndexMap::new(Global);
+        for key in 0..9_usize {
+            map.insert(key, ()).unwrap();
+        }
+        for place in 0..=9 {
+            assert_eq!(map.partition_point(|key, ()| *key < place), place);
+        }
+    }
+
     /// Beside a list of pairs.
     #[test]
     fn acts_as_a_list_of_pairs() {
