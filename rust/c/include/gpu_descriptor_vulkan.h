@@ -144,6 +144,19 @@ GD_INLINE uint32_t gdv_kind(VkDescriptorType type) {
     return GD_KINDS;
 }
 
+/*
+ * What a driver is asked for. Bytes of an inline uniform block are a multiple of 4, and a driver may round those of
+ * a block, or of a set, up to a multiple of 16 without having allowed for it: SwiftShader's pool then holds fewer
+ * sets than it was made for. So it is asked for 12 bytes more for each block.
+ */
+GD_INLINE uint32_t gdv_pool_size(const gd_pool_info *pool_info, uint32_t kind) {
+    const uint32_t padding = 12, count = pool_info->counts[kind];
+    const uint32_t blocks = pool_info->counts[GD_INLINE_UNIFORM_BLOCK_BINDINGS];
+    if (kind != GD_INLINE_UNIFORM_BLOCK_BYTES || count == 0)
+        return count;
+    return blocks > (UINT32_MAX - count) / padding ? UINT32_MAX : count + blocks * padding;
+}
+
 GD_INLINE gd_status gdv_create_pool(void *user, const gd_pool_info *pool_info,
                                         uint64_t *pool) GD_NOEXCEPT {
     const gdv_device *it = GDV_CAST(const gdv_device *, user);
@@ -153,7 +166,7 @@ GD_INLINE gd_status gdv_create_pool(void *user, const gd_pool_info *pool_info,
         if (pool_info->counts[kind] == 0)
             continue;
         sizes[size_count].type = gdv_type(kind);
-        sizes[size_count].descriptorCount = pool_info->counts[kind];
+        sizes[size_count].descriptorCount = gdv_pool_size(pool_info, kind);
         size_count++;
     }
     VkDescriptorPoolInlineUniformBlockCreateInfo blocks;
@@ -289,7 +302,8 @@ GD_INLINE void gdv_destroy_pool_inside(void *user, uint64_t pool) GD_NOEXCEPT {
 
 /*
  * Creates an allocator for a VkDevice. 'limit' is the device's maxUpdateAfterBindDescriptorsInAllPools, or its
- * part of that (gd_create_with_copy); without update-after-bind layouts it doesn't matter. 'flags' are those of
+ * part of that (gd_create_with_copy); without update-after-bind layouts it doesn't matter. The bytes that a driver
+ * is asked for beyond those of inline uniform blocks don't count against it. 'flags' are those of
  * gd_create_with_flags. 'vulkan' and its callbacks are copied.
  *
  * GD_NULL_POINTER, also if a function of 'vulkan' is NULL; GD_BAD_FLAGS, GD_OUT_OF_HOST_MEMORY,

@@ -111,8 +111,8 @@ static VkResult refusal(void) {
     return ERRORS[random_below(7)];
 }
 
-// A pool has what its sets take, by kind, and no more; one of sets without descriptors has a
-// sampler.
+// A pool has what its sets take, by kind, and no more, but for 12 bytes for each inline uniform block; one of sets
+// without descriptors has a sampler.
 static void check_pool(const VkDescriptorPoolCreateInfo *info) {
     uint32_t counts[GD_KINDS] = {0}, sum = 0;
     for (uint32_t place = 0; place < info->poolSizeCount; place++) {
@@ -123,8 +123,10 @@ static void check_pool(const VkDescriptorPoolCreateInfo *info) {
     }
     const VkDescriptorPoolInlineUniformBlockCreateInfo *blocks = info->pNext;
     CHECK((blocks != NULL) == (counts[GD_INLINE_UNIFORM_BLOCK_BYTES] > 0));
-    if (blocks != NULL)
+    if (blocks != NULL) {
         counts[GD_INLINE_UNIFORM_BLOCK_BINDINGS] = blocks->maxInlineUniformBlockBindings;
+        counts[GD_INLINE_UNIFORM_BLOCK_BYTES] -= 12 * blocks->maxInlineUniformBlockBindings;
+    }
     for (int kind = 0; kind < GD_KINDS; kind++)
         sum += asked_layout->counts[kind];
     for (int kind = 0; kind < GD_KINDS; kind++)

@@ -1,5 +1,5 @@
 // gpu_descriptor_vulkan.h over functions of its own, so that no driver is needed: what the header makes of
-// results and statuses, a device that is lost, and functions that are missing.
+// results and statuses, a device that is lost, and what a pool with inline uniform blocks is created from.
 #include "gpu_descriptor_vulkan.h"
 #include "host.h"
 
@@ -7,9 +7,20 @@
 static VkResult results[64];
 static uint32_t result_count, used;
 static uint64_t pools, sets_alive, next_handle;
+// The inline uniform blocks of the last pool: bytes, and bindings.
+static uint32_t block_bytes, block_bindings;
 
 static VkResult next_result(void) {
     return used == result_count ? VK_SUCCESS : results[used++];
+}
+
+static void note_blocks(const VkDescriptorPoolCreateInfo *info) {
+    const VkDescriptorPoolInlineUniformBlockCreateInfo *blocks = info->pNext;
+    block_bytes = 0;
+    block_bindings = blocks == NULL ? 0 : blocks->maxInlineUniformBlockBindings;
+    for (uint32_t at = 0; at < info->poolSizeCount; at++)
+        if (info->pPoolSizes[at].type == VK_DESCRIPTOR_TYPE_INLINE_UNIFORM_BLOCK)
+            block_bytes = info->pPoolSizes[at].descriptorCount;
 }
 
 static VKAPI_ATTR VkResult VKAPI_CALL create_pool(VkDevice device, const VkDescriptorPoolCreateInfo *info,
@@ -17,6 +28,7 @@ static VKAPI_ATTR VkResult VKAPI_CALL create_pool(VkDevice device, const VkDescr
                                                   VkDescriptorPool *pool) {
     (void)device, (void)callbacks;
     CHECK(info->maxSets > 0);
+    note_blocks(info);
     VkResult result = next_result();
     if (result == VK_SUCCESS) {
         pools++;
@@ -136,10 +148,32 @@ static void lose_the_device_late(void) {
     CHECK(gd_destroy(allocator) == GD_OK && pools == 0);
 }
 
+// The bytes that a driver is asked for, for so many bytes and bindings of a pool.
+static uint32_t bytes_asked(uint32_t bytes, uint32_t bindings) {
+    gdv_device vulkan = functions();
+    gd_pool_info info = {.max_sets = 1, .flags = GD_FREE_DESCRIPTOR_SET, .counts = {[GD_SAMPLER] = 1}};
+    uint64_t pool;
+    info.counts[GD_INLINE_UNIFORM_BLOCK_BYTES] = bytes;
+    info.counts[GD_INLINE_UNIFORM_BLOCK_BINDINGS] = bindings;
+    result_count = used = 0;
+    CHECK(gdv_create_pool(&vulkan, &info, &pool) == GD_OK && block_bindings == bindings);
+    gdv_destroy_pool(&vulkan, pool);
+    return block_bytes;
+}
+
+// A driver may round the bytes of each block up to a multiple of 16: the pool holds its sets all the same.
+static void round_blocks(void) {
+    CHECK(bytes_asked(64 * (4 + 4 + 16), 64 * 3) == 64 * (16 + 16 + 28));
+    CHECK(bytes_asked(0, 0) == 0 && bytes_asked(0, 5) == 0);
+    CHECK(bytes_asked(8, UINT32_MAX) == UINT32_MAX && bytes_asked(UINT32_MAX - 23, 2) == UINT32_MAX);
+    CHECK(bytes_asked(UINT32_MAX - 25, 2) == UINT32_MAX - 1 && bytes_asked(UINT32_MAX - 24, 2) == UINT32_MAX);
+}
+
 int main(void) {
     check_mappings();
+    round_blocks();
     lose_the_device();
     lose_the_device_late();
-    printf("each error keeps its cause\n");
+    printf("each error keeps its cause, and pools have room for what drivers round\n");
     return 0;
 }

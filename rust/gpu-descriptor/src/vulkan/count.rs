@@ -43,10 +43,27 @@ fn count_of(counts: &mut DescriptorTotalCount, of: DescriptorType) -> Option<&mu
     })
 }
 
+/// Bytes that a pool gets for each inline uniform block, in addition to the block's own.
+const BLOCK_PADDING: u32 = 12;
+
+/// The bytes of inline uniform blocks that a driver is asked for. Those of a block are a multiple of 4, and a
+/// driver may round those of a block, or of a set, up to a multiple of 16 without having allowed for it:
+/// SwiftShader's pool then holds fewer sets than it was made for.
+fn padded_bytes(counts: &DescriptorTotalCount) -> u32 {
+    let padding = counts
+        .inline_uniform_block_bindings
+        .saturating_mul(BLOCK_PADDING);
+    match counts.inline_uniform_block_bytes {
+        0 => 0,
+        bytes => bytes.saturating_add(padding),
+    }
+}
+
 /// The sizes of a pool: one for each type that has descriptors.
 pub(super) fn pool_sizes(
     mut counts: DescriptorTotalCount,
 ) -> impl Iterator<Item = DescriptorPoolSize> {
+    counts.inline_uniform_block_bytes = padded_bytes(&counts);
     TYPES.into_iter().filter_map(move |descriptor_type| {
         let descriptor_count = *count_of(&mut counts, descriptor_type)?;
         (descriptor_count > 0).then_some(DescriptorPoolSize {

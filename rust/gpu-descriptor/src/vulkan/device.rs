@@ -22,7 +22,8 @@ const RELEASED_AT_ONCE: usize = 128;
 /// fails. Releases allocate nothing: one call of `vkFreeDescriptorSets` frees at most 128 sets.
 ///
 /// Inline uniform blocks need Vulkan 1.3 or `VK_EXT_inline_uniform_block`, and update-after-bind layouts
-/// need Vulkan 1.2 or `VK_EXT_descriptor_indexing`.
+/// need Vulkan 1.2 or `VK_EXT_descriptor_indexing`. A pool is created with 12 bytes more for each block, since
+/// some drivers round the bytes of a set up; these don't count against the limit of the allocator.
 ///
 /// It is `Send` and `Sync`. Vulkan asks for synchronization of a pool alone, and only the allocator that
 /// created a pool has it.

@@ -44,7 +44,7 @@ fn each_type_has_its_number() {
     pool.sizes.sort_unstable();
     // The numbers of VkDescriptorType: kinds 0 to 10, inline uniform blocks and acceleration structures.
     let types = (0..11).chain([1_000_138_000, 1_000_150_000]);
-    let counts = (11..22).chain([24, 22]);
+    let counts = (11..22).chain([24 + 5 * 12, 22]);
     assert_eq!(pool.sizes, types.zip(counts).collect::<Vec<_>>());
     assert_eq!((pool.max_sets, pool.blocks), (70, Some(5)));
 }
@@ -65,6 +65,29 @@ fn types_without_descriptors_and_blocks_are_left_out() {
     let flags = DescriptorPoolCreateFlags::FREE_DESCRIPTOR_SET;
     assert_eq!(created(&counts, flags), pool);
     assert!(created(&Default::default(), flags).sizes.is_empty());
+}
+
+/// A driver may round the bytes of each block up to a multiple of 16: the pool holds its sets all the same.
+#[test]
+fn blocks_may_be_rounded_up() {
+    const INLINE_UNIFORM_BLOCK: i32 = 1_000_138_000;
+    for (bytes, blocks, asked) in [
+        (64 * (4 + 4 + 16), 64 * 3, 64 * (16 + 16 + 28)),
+        (0, 5, 0),
+        (8, u32::MAX, u32::MAX),
+        (u32::MAX - 24, 2, u32::MAX),
+        (u32::MAX - 23, 2, u32::MAX),
+    ] {
+        let counts = DescriptorTotalCount {
+            inline_uniform_block_bytes: bytes,
+            inline_uniform_block_bindings: blocks,
+            ..Default::default()
+        };
+        let pool = created(&counts, DescriptorPoolCreateFlags::FREE_DESCRIPTOR_SET);
+        let sizes = [(INLINE_UNIFORM_BLOCK, asked)].into_iter();
+        let sizes: Vec<_> = sizes.filter(|(_, bytes)| *bytes > 0).collect();
+        assert_eq!((pool.sizes, pool.blocks), (sizes, Some(blocks)));
+    }
 }
 
 #[test]
