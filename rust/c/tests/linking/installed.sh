@@ -4,11 +4,15 @@
 
 # ---- examples, from an installed prefix ----
 
-# Writes the layer's messages too; it must have none.
+# Writes the layer's messages too; it must have none. On SwiftShader the program runs again, if that is there.
 run_example() {
-  "$@" >"$room/example" 2>&1 || { local status=$?; cat "$room/example"; return "$status"; }
+  on_drivers "$@" >"$room/example" 2>&1 || { local status=$?; cat "$room/example"; return "$status"; }
   cat "$room/example"
   ! grep -qiE 'vuid|validation' "$room/example"
+}
+
+on_drivers() {
+  "$@" && { [ ! -f "$swiftshader" ] || on_swiftshader "$@"; }
 }
 
 # by_pkg_config PREFIX NAME PACKAGE: an example over the shared library, or over the static one.

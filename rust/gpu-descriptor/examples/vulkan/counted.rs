@@ -66,17 +66,16 @@ fn driver() -> &'static Functions {
     DRIVER.get().unwrap()
 }
 
-/// Makes a call, or refuses it. What is granted is counted.
+/// Makes a call, or refuses it. The driver itself must grant it: it has memory, and a pool that is asked has room.
 fn make(call: impl FnOnce() -> i32, counters: [&AtomicI64; 2], count: i64) -> i32 {
     let one_in = ONE_IN.load(Ordering::Relaxed);
     if one_in > 0 && (CALLS.fetch_add(1, Ordering::Relaxed) + 1).is_multiple_of(one_in) {
         return ERRORS[REFUSED.fetch_add(1, Ordering::Relaxed) % ERRORS.len()];
     }
     let result = call();
-    if result == 0 {
-        for counter in counters {
-            counter.fetch_add(count, Ordering::Relaxed);
-        }
+    assert_eq!(result, 0, "the driver refuses");
+    for counter in counters {
+        counter.fetch_add(count, Ordering::Relaxed);
     }
     result
 }
