@@ -52,6 +52,7 @@
 
 #include <stddef.h>
 #include <stdint.h>
+#include <string.h>
 
 /* The version of this header. gd_version returns the library's. */
 #define GD_VERSION_MAJOR 0u
@@ -274,9 +275,8 @@ gd_status gd_create_checked(uint64_t header, const gd_device *device, size_t use
  */
 GD_INLINE gd_status gd_create_with_copy(const gd_device *device, size_t user_size, uint32_t limit,
                                         uint32_t flags, gd_allocator *allocator) {
-    const gd_allocator none = {0, 0};
     if (allocator)
-        *allocator = none;
+        memset(allocator, 0, sizeof *allocator);
     return gd_create_checked(GD_HEADER, device, user_size, limit, flags, allocator);
 }
 

@@ -9,7 +9,7 @@
  *
  *     gd::frame frame(allocator, number);
  *     gd_set drawn;
- *     frame.allocate(layout, drawn);               // gd::vk(drawn); the end of `frame` frees it after `number`
+ *     frame.allocate(layout, drawn);               // gd::vk_handle(drawn); the end of `frame` frees it after `number`
  *
  * Owners are moved and not copied. The end of a gd::set or gd::sets, and new ones in its place, frees them: after
  * the frame of used_in, and without one at once, when the device must no longer use them. The end of a
@@ -40,14 +40,15 @@ namespace gd {
 inline namespace abi_2 {
 static_assert(GD_ABI == 2u, "the namespace has the number of the ABI");
 
+/* The VkDescriptorSet of a set. Its name isn't vk, which is the namespace of vulkan.hpp. */
 #if defined(VK_USE_64_BIT_PTR_DEFINES) ? (VK_USE_64_BIT_PTR_DEFINES == 1) : (UINTPTR_MAX == UINT64_MAX)
 using vk_descriptor_set = VkDescriptorSet_T *;
-inline vk_descriptor_set vk(const gd_set &raw) noexcept {
+inline vk_descriptor_set vk_handle(const gd_set &raw) noexcept {
     return reinterpret_cast<vk_descriptor_set>(raw.handle);
 }
 #else
 using vk_descriptor_set = uint64_t;
-inline vk_descriptor_set vk(const gd_set &raw) noexcept {
+inline vk_descriptor_set vk_handle(const gd_set &raw) noexcept {
     return raw.handle;
 }
 #endif
@@ -92,19 +93,19 @@ class set : public last_use {
 
     /* The driver's handle. */
     uint64_t handle() const noexcept { return raw_.handle; }
-    vk_descriptor_set vk() const noexcept { return gd::vk(raw_); }
+    vk_descriptor_set vk() const noexcept { return gd::vk_handle(raw_); }
     const gd_set &raw() const noexcept { return raw_; }
     explicit operator bool() const noexcept { return raw_.owner != 0; }
 
     /* Frees it after the frame of used_in, or at once. It keeps the set if that fails. */
-    gd_status reset() noexcept {
+    [[nodiscard]] gd_status reset() noexcept {
         if (!*this)
             return GD_OK;
         return end(free_when_done(allocator_, &raw_, 1));
     }
 
     /* gd_free. It does nothing if there is no set, and keeps the set if it fails. */
-    gd_status free() noexcept {
+    [[nodiscard]] gd_status free() noexcept {
         if (!*this)
             return GD_OK;
         return end(gd_free(allocator_, &raw_, 1));
@@ -148,20 +149,20 @@ class sets : public last_use {
 
     uint32_t size() const noexcept { return count_; }
     const gd_set &operator[](uint32_t index) const noexcept { return raw_[index]; }
-    vk_descriptor_set vk(uint32_t index) const noexcept { return gd::vk(raw_[index]); }
+    vk_descriptor_set vk(uint32_t index) const noexcept { return gd::vk_handle(raw_[index]); }
     const gd_set *begin() const noexcept { return raw_.get(); }
     const gd_set *end() const noexcept { return raw_.get() + count_; }
 
     /* As those of gd::set. They keep all sets if they fail. */
-    gd_status reset() noexcept { return done(free_when_done(allocator_, raw_.get(), count_)); }
-    gd_status free() noexcept { return done(gd_free(allocator_, raw_.get(), count_)); }
+    [[nodiscard]] gd_status reset() noexcept { return done(free_when_done(allocator_, raw_.get(), count_)); }
+    [[nodiscard]] gd_status free() noexcept { return done(gd_free(allocator_, raw_.get(), count_)); }
     [[nodiscard]] gd_status free_after(uint64_t frame) noexcept {
         used_in(frame);
         return reset();
     }
 
     /* gd_allocate. If it fails, nothing changed. */
-    gd_status allocate(gd_allocator allocator, gd_layout layout, uint32_t count) noexcept {
+    [[nodiscard]] gd_status allocate(gd_allocator allocator, gd_layout layout, uint32_t count) noexcept {
         sets made;
         made.raw_.reset(new (std::nothrow) gd_set[count]);
         if (!made.raw_)
@@ -225,12 +226,12 @@ class allocator {
         return &raw_;
     }
 
-    gd_status create(const gd_device &device, uint32_t limit, uint32_t flags = 0) noexcept {
+    [[nodiscard]] gd_status create(const gd_device &device, uint32_t limit, uint32_t flags = 0) noexcept {
         return gd_create_with_flags(&device, limit, flags, put());
     }
 
     /* Allocates a set, which replaces the old one of `to`. If it fails, `to` is as before. */
-    gd_status allocate(gd_layout layout, set &to) noexcept {
+    [[nodiscard]] gd_status allocate(gd_layout layout, set &to) noexcept {
         gd_set raw{};
         const gd_status status = gd_allocate(raw_, layout, 1, &raw);
         if (status == GD_OK)
@@ -239,15 +240,15 @@ class allocator {
     }
 
     /* Removes a layout. Sets of it stay valid until they are freed. */
-    gd_status remove_layout(gd_layout layout) noexcept { return gd_remove_layout(raw_, layout); }
+    [[nodiscard]] gd_status remove_layout(gd_layout layout) noexcept { return gd_remove_layout(raw_, layout); }
 
     /* Allocates sets, which replace the old ones of `to`. If it fails, `to` is as before. */
-    gd_status allocate(gd_layout layout, uint32_t count, sets &to) noexcept {
+    [[nodiscard]] gd_status allocate(gd_layout layout, uint32_t count, sets &to) noexcept {
         return to.allocate(raw_, layout, count);
     }
 
     /* Frees all of its sets and destroys it. It does nothing if there is none. */
-    gd_status destroy() noexcept {
+    [[nodiscard]] gd_status destroy() noexcept {
         if (!*this)
             return GD_OK;
         gd_status status = gd_free_all(raw_);
@@ -289,9 +290,9 @@ class frame {
     uint32_t size() const noexcept { return count_; }
 
     /* gd_allocate. The sets are the frame's: if one is freed elsewhere, the frame can't end. */
-    gd_status allocate(gd_layout layout, uint32_t count, gd_set *to) noexcept {
+    [[nodiscard]] gd_status allocate(gd_layout layout, uint32_t count, gd_set *to) noexcept {
         if (!reserve(count)) {
-            for (uint32_t index = 0; index < count; index++)
+            for (uint32_t index = 0; to != nullptr && index < count; index++)
                 to[index] = gd_set{};
             return GD_OUT_OF_HOST_MEMORY;
         }
@@ -301,10 +302,10 @@ class frame {
                 raw_[count_++] = to[index];
         return status;
     }
-    gd_status allocate(gd_layout layout, gd_set &to) noexcept { return allocate(layout, 1, &to); }
+    [[nodiscard]] gd_status allocate(gd_layout layout, gd_set &to) noexcept { return allocate(layout, 1, &to); }
 
     /* Frees its sets after this frame. It keeps them if that fails. */
-    gd_status end() noexcept {
+    [[nodiscard]] gd_status end() noexcept {
         if (count_ == 0)
             return GD_OK;
         const gd_status status = gd_free_after(allocator_, raw_.get(), count_, number_);
@@ -317,7 +318,7 @@ class frame {
     void release() noexcept { count_ = 0; }
 
     /* Ends this frame, and begins another one in its memory. If that fails, it is still this one. */
-    gd_status begin(uint64_t number) noexcept {
+    [[nodiscard]] gd_status begin(uint64_t number) noexcept {
         const gd_status status = end();
         if (status == GD_OK)
             number_ = number;

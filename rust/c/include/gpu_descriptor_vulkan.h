@@ -14,7 +14,8 @@
  * All else is gpu_descriptor.h. Vulkan's own rules on threads hold as well: nobody else may use the
  * pools, which are known to the library alone.
  *
- * With VK_NO_PROTOTYPES gdv_init takes the functions by their names from where it is called, as volk has them.
+ * With VK_NO_PROTOTYPES gdv_init takes the functions by their names from where it is called, as volk has them,
+ * and is GD_NULL_POINTER if one of them is NULL.
  * gdv_load asks vkGetDeviceProcAddr for them.
  *
  * The header allocates nothing: the arrays of a call are the library's.
@@ -176,7 +177,8 @@ GD_INLINE gd_status gdv_create_pool(void *user, const gd_pool_info *pool_info,
     VkDescriptorPoolCreateInfo info;
     memset(&info, 0, sizeof info);
     info.sType = VK_STRUCTURE_TYPE_DESCRIPTOR_POOL_CREATE_INFO;
-    info.pNext = blocks.maxInlineUniformBlockBindings == 0 ? NULL : &blocks;
+    if (blocks.maxInlineUniformBlockBindings > 0)
+        info.pNext = &blocks;
     info.flags = pool_info->flags;
     info.maxSets = pool_info->max_sets;
     info.poolSizeCount = size_count;
@@ -216,30 +218,40 @@ GD_INLINE void gdv_free_sets(void *user, uint64_t pool, uint32_t count,
 
 /* ---- your calls ---- */
 
-/* Writes a gdv_device. */
-GD_INLINE void gdv_set(gdv_device *vulkan, VkDevice device, const VkAllocationCallbacks *callbacks,
-                           PFN_vkCreateDescriptorPool create_pool,
-                           PFN_vkDestroyDescriptorPool destroy_pool,
-                           PFN_vkAllocateDescriptorSets allocate_sets,
-                           PFN_vkFreeDescriptorSets free_sets) {
+/* Whether it is there with all functions. */
+GD_INLINE gd_status gdv_check(const gdv_device *vulkan) {
+    return vulkan && vulkan->create_pool && vulkan->destroy_pool && vulkan->allocate_sets && vulkan->free_sets
+               ? GD_OK
+               : GD_NULL_POINTER;
+}
+
+/* Writes a gdv_device. GD_NULL_POINTER if a function is NULL. */
+GD_INLINE gd_status gdv_set(gdv_device *vulkan, VkDevice device, const VkAllocationCallbacks *callbacks,
+                                PFN_vkCreateDescriptorPool create_pool,
+                                PFN_vkDestroyDescriptorPool destroy_pool,
+                                PFN_vkAllocateDescriptorSets allocate_sets,
+                                PFN_vkFreeDescriptorSets free_sets) {
+    if (!vulkan)
+        return GD_NULL_POINTER;
     vulkan->device = device;
     vulkan->callbacks = callbacks;
     vulkan->create_pool = create_pool;
     vulkan->destroy_pool = destroy_pool;
     vulkan->allocate_sets = allocate_sets;
     vulkan->free_sets = free_sets;
+    return gdv_check(vulkan);
 }
 
-/* The same with the functions that have Vulkan's names where it is called. */
+/* The same with the functions that have Vulkan's names where it is called: volk's are NULL until it loaded them. */
 #ifdef VK_NO_PROTOTYPES
 #define gdv_init(vulkan, device, callbacks)                                                              \
     gdv_set(vulkan, device, callbacks, vkCreateDescriptorPool, vkDestroyDescriptorPool,                  \
             vkAllocateDescriptorSets, vkFreeDescriptorSets)
 #else
-GD_INLINE void gdv_init(gdv_device *vulkan, VkDevice device,
-                            const VkAllocationCallbacks *callbacks) {
-    gdv_set(vulkan, device, callbacks, vkCreateDescriptorPool, vkDestroyDescriptorPool,
-            vkAllocateDescriptorSets, vkFreeDescriptorSets);
+GD_INLINE gd_status gdv_init(gdv_device *vulkan, VkDevice device,
+                                 const VkAllocationCallbacks *callbacks) {
+    return gdv_set(vulkan, device, callbacks, vkCreateDescriptorPool, vkDestroyDescriptorPool,
+                   vkAllocateDescriptorSets, vkFreeDescriptorSets);
 }
 #endif
 
@@ -249,19 +261,15 @@ GD_INLINE void gdv_init(gdv_device *vulkan, VkDevice device,
 #define GDV_FUNCTION(name, load, device) ((PFN_##name)load(device, #name))
 #endif
 
-/* The same with the functions that vkGetDeviceProcAddr gives. GD_NULL_POINTER if one is missing. */
+/* The same with the functions that vkGetDeviceProcAddr gives, which is 'load'. */
 GD_INLINE gd_status gdv_load(gdv_device *vulkan, VkDevice device,
                                  const VkAllocationCallbacks *callbacks, PFN_vkGetDeviceProcAddr load) {
-    if (vulkan == NULL || load == NULL)
+    if (!load)
         return GD_NULL_POINTER;
-    gdv_set(vulkan, device, callbacks, GDV_FUNCTION(vkCreateDescriptorPool, load, device),
-            GDV_FUNCTION(vkDestroyDescriptorPool, load, device),
-            GDV_FUNCTION(vkAllocateDescriptorSets, load, device),
-            GDV_FUNCTION(vkFreeDescriptorSets, load, device));
-    return vulkan->create_pool == NULL || vulkan->destroy_pool == NULL || vulkan->allocate_sets == NULL ||
-                   vulkan->free_sets == NULL
-               ? GD_NULL_POINTER
-               : GD_OK;
+    return gdv_set(vulkan, device, callbacks, GDV_FUNCTION(vkCreateDescriptorPool, load, device),
+                   GDV_FUNCTION(vkDestroyDescriptorPool, load, device),
+                   GDV_FUNCTION(vkAllocateDescriptorSets, load, device),
+                   GDV_FUNCTION(vkFreeDescriptorSets, load, device));
 }
 
 /* The gd_device of a VkDevice, for gd_create: 'vulkan' must stay where it is until gd_destroy. */
@@ -284,7 +292,7 @@ typedef struct gdv_copy {
 GD_INLINE gdv_device gdv_inside(void *user) {
     const gdv_copy *copy = GDV_CAST(const gdv_copy *, user);
     gdv_device vulkan = copy->vulkan;
-    if (vulkan.callbacks != NULL)
+    if (vulkan.callbacks)
         vulkan.callbacks = &copy->callbacks;
     return vulkan;
 }
@@ -313,13 +321,12 @@ GD_INLINE gd_status gdv_create_with_flags(const gdv_device *vulkan, uint32_t lim
                                               gd_allocator *allocator) {
     gdv_copy copy;
     memset(&copy, 0, sizeof copy);
-    if (allocator != NULL)
+    if (allocator)
         memset(allocator, 0, sizeof *allocator);
-    if (vulkan == NULL || vulkan->create_pool == NULL || vulkan->destroy_pool == NULL ||
-        vulkan->allocate_sets == NULL || vulkan->free_sets == NULL)
+    if (gdv_check(vulkan) != GD_OK)
         return GD_NULL_POINTER;
     copy.vulkan = *vulkan;
-    if (vulkan->callbacks != NULL)
+    if (vulkan->callbacks)
         copy.callbacks = *vulkan->callbacks;
     gd_device device;
     device.user = &copy;
@@ -338,7 +345,7 @@ GD_INLINE gd_status gdv_create(const gdv_device *vulkan, uint32_t limit, gd_allo
 /* Whether a binding has a variable count. */
 GD_INLINE int gdv_is_variable(const VkDescriptorSetLayoutCreateInfo *info) {
     const VkBaseInStructure *next = GDV_CAST(const VkBaseInStructure *, info->pNext);
-    for (; next != NULL; next = next->pNext) {
+    for (; next; next = next->pNext) {
         if (next->sType != VK_STRUCTURE_TYPE_DESCRIPTOR_SET_LAYOUT_BINDING_FLAGS_CREATE_INFO)
             continue;
         const VkDescriptorSetLayoutBindingFlagsCreateInfo *flags = GDV_CAST(
@@ -385,7 +392,7 @@ GD_INLINE gd_status gdv_add_layout(gd_allocator allocator, VkDescriptorSetLayout
                                        gd_layout *known) {
     uint32_t counts[GD_KINDS];
     uint32_t flags = 0;
-    if (info == NULL)
+    if (!info)
         return GD_NULL_POINTER;
     gd_status status = gdv_count(info, counts, &flags);
     if (status != GD_OK)

@@ -174,7 +174,7 @@ void own_batches() {
     CHECK(it.allocator.allocate(it.layout, 10, many) == GD_OK && many.size() == 10 && it.device.sets == 10);
     uint32_t place = 0;
     for (const gd_set &each : many)
-        CHECK(each.name == many[place].name && many.vk(place++) == gd::vk(each) && each.handle != 0);
+        CHECK(each.name == many[place].name && many.vk(place++) == gd::vk_handle(each) && each.handle != 0);
     CHECK(place == 10);
     CHECK(it.allocator.allocate(it.layout, 3, other) == GD_OK && it.device.sets == 13);
     it.device.calls_of_free = 0;
@@ -193,6 +193,20 @@ void own_batches() {
     CHECK(it.allocator.allocate(it.layout, 4, many) == GD_OK);
     CHECK(gd_free_all(it.allocator.raw()) == GD_OK && many.free() == GD_BAD_SET && many.size() == 4);
     CHECK(many.free_after(8) == GD_BAD_SET && many.size() == 4);
+}
+
+// A batch that is used in a frame is freed at once all the same, or after that frame, although an earlier one is
+// given later.
+void free_batches_that_were_used() {
+    room it;
+    gd::sets many;
+    CHECK(it.allocator.allocate(it.layout, 5, many) == GD_OK);
+    many.used_in(9);
+    CHECK(many.free() == GD_OK && it.device.sets == 0);
+    CHECK(it.allocator.allocate(it.layout, 5, many) == GD_OK);
+    many.used_in(9);
+    CHECK(many.free_after(4) == GD_OK && gd_frame_done(it.allocator.raw(), 8) == GD_OK && it.device.sets == 5);
+    CHECK(gd_frame_done(it.allocator.raw(), 9) == GD_OK && it.device.sets == 0);
 }
 
 // The sets of a frame wait for it once it ends, begins anew, or is assigned over.
@@ -222,6 +236,23 @@ void draw_frames() {
     CHECK(frame.begin(7) == GD_BAD_SET && frame.number() == 6 && frame.size() == 1);
     frame.release();
     CHECK(frame.begin(7) == GD_OK && frame.number() == 7 && frame.size() == 0);
+}
+
+// A frame grows by single sets, and one that was moved from has no room until it grows again.
+void grow_frames() {
+    room it;
+    gd_set drawn;
+    {
+        gd::frame frame(it.allocator, 3);
+        for (int count = 0; count < 100; count++)
+            CHECK(frame.allocate(it.layout, drawn) == GD_OK);
+        CHECK(frame.size() == 100);
+        gd::frame moved = std::move(frame);
+        CHECK(frame.allocate(it.layout, drawn) == GD_OK && frame.size() == 1); // NOLINT
+        // A frame has no memory for so many, and nothing is written to no array.
+        CHECK(frame.allocate(it.layout, UINT32_MAX, nullptr) == GD_OUT_OF_HOST_MEMORY && frame.size() == 1);
+    }
+    CHECK(it.waiting() == 101 && gd_frame_done(it.allocator.raw(), 3) == GD_OK && it.device.sets == 0);
 }
 
 void own_allocators() {
@@ -281,7 +312,9 @@ int main(int words, char **) {
     fail_sets();
     own_a_handle_of_zero();
     own_batches();
+    free_batches_that_were_used();
     draw_frames();
+    grow_frames();
     own_allocators();
     if (words < 2) // with a word: the library is one in which no call waits
         end_in_threads();

@@ -422,7 +422,7 @@ static void open_allocator(bool is_old) {
         .pfnFree = free_block,
     };
     gd_status status;
-    gdv_init(&vulkan, layer.device, &callbacks);
+    CHECK(gdv_init(&vulkan, layer.device, &callbacks) == GD_OK);
     vulkan.create_pool = create_pool;
     vulkan.destroy_pool = destroy_pool;
     vulkan.allocate_sets = allocate_sets;

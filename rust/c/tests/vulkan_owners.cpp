@@ -22,6 +22,19 @@ extern PFN_vkFreeDescriptorSets vkFreeDescriptorSets;
 
 static_assert(std::is_same<decltype(gd::set().vk()), VkDescriptorSet>::value, "it is Vulkan's");
 
+// As vulkan.hpp has it. No name of gd is in its way.
+namespace vk {
+using DescriptorSet = VkDescriptorSet;
+} // namespace vk
+
+using namespace gd;
+
+vk::DescriptorSet handle_beside_vulkan_hpp(const gd_set &raw);
+
+vk::DescriptorSet handle_beside_vulkan_hpp(const gd_set &raw) {
+    return vk_handle(raw);
+}
+
 namespace {
 
 [[noreturn]] void fail(int line, const char *what) {
@@ -104,6 +117,7 @@ void move_a_renderer() {
     gd::set made;
     CHECK(second->allocator.allocate(second->layout, made) == GD_OK && pools == 1 && blocks == 1);
     CHECK(made.vk() == gdv_handle(made.raw()) && made.vk() != VK_NULL_HANDLE);
+    CHECK(handle_beside_vulkan_hpp(made.raw()) == made.vk());
     second.reset();
     CHECK(pools == 0 && blocks == 0 && sets_alive == 0);
 }
@@ -124,7 +138,11 @@ void take_functions() {
     CHECK(gdv_load(&vulkan, nullptr, nullptr, nullptr) == GD_NULL_POINTER);
     CHECK(gdv_load(nullptr, nullptr, nullptr, load) == GD_NULL_POINTER);
     CHECK(gdv_create(nullptr, 0, &allocator) == GD_NULL_POINTER);
-    gdv_init(&vulkan, nullptr, nullptr);
+    CHECK(gdv_init(nullptr, nullptr, nullptr) == GD_NULL_POINTER);
+    vkFreeDescriptorSets = nullptr; // as volk's are before they are loaded
+    CHECK(gdv_init(&vulkan, nullptr, nullptr) == GD_NULL_POINTER);
+    vkFreeDescriptorSets = free_sets;
+    CHECK(gdv_init(&vulkan, nullptr, nullptr) == GD_OK);
     CHECK(vulkan.create_pool == create_pool && vulkan.destroy_pool == destroy_pool);
     CHECK(vulkan.allocate_sets == allocate_sets && vulkan.free_sets == free_sets);
     CHECK(gdv_create(&vulkan, 0, nullptr) == GD_NULL_POINTER);
