@@ -1,7 +1,7 @@
 // Allocation-failure injection: a run of calls in which the n-th allocation of the library fails, for each
 // n. The call returns GD_OUT_OF_HOST_MEMORY and changes nothing: counts and the driver's sets are as
 // before, and the same call succeeds when it is made again. The same with kept sets: while there are
-// some, the call may succeed all the same.
+// some, the call may succeed all the same. A layout that isn't there is that mistake also without memory.
 #include "gpu_descriptor.h"
 #include "host.h"
 #include "memory.h"
@@ -9,7 +9,7 @@
 
 enum { LAYOUTS = 12, MOST = 700 };
 
-static uint64_t pools, sets_alive, next_handle;
+static uint64_t pools, sets_alive, next_handle = UINT64_C(1) << 40;
 
 static gd_status create_pool(void *user, const gd_pool_info *info, uint64_t *pool) {
     (void)user, (void)info;
@@ -122,6 +122,22 @@ static uint64_t refuse_each(void) {
     return turns - 1;
 }
 
+// There is no memory for so many sets, and the layout is removed.
+static void allocate_without_a_layout(void) {
+    static gd_set sets[MOST];
+    const uint32_t counts[GD_KINDS] = {1};
+    const gd_device device = {NULL, create_pool, destroy_pool, allocate_sets, free_sets};
+    gd_layout layout;
+    memory_refuses_at = 0;
+    CHECK(LIBRARY(gd_create(&device, 0, &allocator)) == GD_OK);
+    CHECK(LIBRARY(gd_add_layout(allocator, 1, counts, 0, &layout)) == GD_OK);
+    CHECK(LIBRARY(gd_remove_layout(allocator, layout)) == GD_OK);
+    uint64_t refusals = memory_refusals;
+    memory_refuses_at = memory_requests + 1;
+    CHECK(LIBRARY(gd_allocate(allocator, layout, MOST, sets)) == GD_BAD_LAYOUT && memory_refusals == refusals + 1);
+    CHECK(LIBRARY(gd_destroy(allocator)) == GD_OK && pools == 0);
+}
+
 int main(void) {
     static const uint32_t KEEPS[] = {0, 1, 7, UINT32_MAX};
     uint64_t turns = 0;
@@ -130,6 +146,7 @@ int main(void) {
         turns += refuse_each();
         CHECK(keep == 0 ? refused_calls == turns : refused_calls < turns);
     }
+    allocate_without_a_layout();
     printf("each of %" PRIu64 " allocations failed in turn: %" PRIu64 " calls failed, nothing lost\n",
            turns, refused_calls);
     return 0;

@@ -47,8 +47,9 @@ static struct pool *pools;
 static struct set *sets;
 static size_t pool_count, set_count, pool_room, set_room;
 
-// Handles are no numbers that count from 0, so that a number in the place of a handle shows.
-static const uint64_t FIRST_LAYOUT = 0x1a0000, FIRST_POOL = 0x9000000, FIRST_SET = 1;
+// Handles are no numbers that count from 0, so that a number in the place of a handle shows. They have more than 32
+// bits.
+static const uint64_t FIRST_LAYOUT = 0x1a000000000, FIRST_POOL = 0x90000000000, FIRST_SET = 0x10000000001;
 
 uint64_t driver_layout_handle(uint32_t layout) {
     return FIRST_LAYOUT + 16 * (uint64_t)layout;

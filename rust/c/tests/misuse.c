@@ -167,8 +167,11 @@ static void pass_null(void) {
     create(&device, 100, &allocator);
     CHECK(gd_add_layout(allocator, 1, NULL, 0, &layout) == GD_NULL_POINTER);
     CHECK(gd_add_layout(allocator, 1, counts, 0, NULL) == GD_NULL_POINTER);
-    CHECK(gd_add_layout(allocator, 1, counts, 1, &layout) == GD_BAD_FLAGS);
-    CHECK(gd_add_layout(allocator, 1, counts, 6, &layout) == GD_BAD_FLAGS);
+    for (uint32_t flag = 1; flag != 0; flag <<= 1) { // 4 is that of layouts for the host alone
+        const uint32_t both = flag | GD_UPDATE_AFTER_BIND;
+        CHECK(flag == GD_UPDATE_AFTER_BIND || gd_add_layout(allocator, 1, counts, flag, &layout) == GD_BAD_FLAGS);
+        CHECK(flag == GD_UPDATE_AFTER_BIND || gd_add_layout(allocator, 1, counts, both, &layout) == GD_BAD_FLAGS);
+    }
     CHECK(layout.index == UNTOUCHED && layout.owner == UNTOUCHED);
     CHECK(gd_add_layout(allocator, 1, counts, 0, &layout) == GD_OK);
     CHECK(gd_allocate(allocator, layout, 1, NULL) == GD_NULL_POINTER);

@@ -17,7 +17,7 @@ namespace {
 
 // The device: what it has, and what its next calls do.
 struct world {
-    uint64_t handles = 0, pools = 0, sets = 0, calls_of_free = 0;
+    uint64_t handles = uint64_t{1} << 40, pools = 0, sets = 0, calls_of_free = 0;
     bool is_full = false, gives_zero = false;
     gd::set *back = nullptr; // ended in the next call
 };

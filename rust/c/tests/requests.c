@@ -1,32 +1,42 @@
-// What the header says of layouts that are added again, of a limit of 0, and of how many calls of the driver a
-// request and a free take.
+// What the header says of layouts that are added again, of a limit of 0, of how many calls of the driver a
+// request and a free take, of what 'user' points to, and of handles and counts that take all of their bits.
 #include "gpu_descriptor.h"
 #include "host.h"
+#include <string.h>
 
-enum { MOST = 5000 };
+enum { MOST = 5000, MOST_USER = 24 };
 
-static uint64_t pools, sets_alive, next_handle, calls, calls_of_free;
+// Handles of the driver, which have more than 32 bits.
+static const uint64_t FIRST_HANDLE = UINT64_C(1) << 40;
+
+static uint64_t pools, sets_alive, next_handle = UINT64_C(1) << 40, calls, calls_of_free;
+static uint64_t last_layout; // of the last sets
+static gd_pool_info last_pool;
 static gd_set sets[MOST];
 
 static gd_status create_pool(void *user, const gd_pool_info *info, uint64_t *pool) {
-    (void)user, (void)info;
+    (void)user;
     calls++;
     pools++;
+    last_pool = *info;
     *pool = ++next_handle;
     return GD_OK;
 }
 
 static void destroy_pool(void *user, uint64_t pool) {
-    (void)user, (void)pool;
+    (void)user;
+    CHECK(pool > FIRST_HANDLE);
     calls++;
     pools--;
 }
 
 static gd_status allocate_sets(void *user, uint64_t pool, uint32_t count, const uint64_t *layouts,
                                uint64_t *handles) {
-    (void)user, (void)pool;
+    (void)user;
+    CHECK(pool > FIRST_HANDLE);
     calls++;
     sets_alive += count;
+    last_layout = layouts[0];
     for (uint32_t at = 0; at < count; at++) {
         CHECK(layouts[at] == layouts[0] && handles[at] == 0);
         handles[at] = ++next_handle;
@@ -35,7 +45,10 @@ static gd_status allocate_sets(void *user, uint64_t pool, uint32_t count, const 
 }
 
 static void free_sets(void *user, uint64_t pool, uint32_t count, const uint64_t *handles) {
-    (void)user, (void)pool, (void)handles;
+    (void)user;
+    CHECK(pool > FIRST_HANDLE);
+    for (uint32_t at = 0; at < count; at++)
+        CHECK(handles[at] > FIRST_HANDLE);
     calls++;
     calls_of_free++;
     sets_alive -= count;
@@ -113,11 +126,87 @@ static void allocate_many_at_once(void) {
     gd_layout layout = added(allocator, 1, 1, 0);
     calls = 0;
     CHECK(gd_allocate(allocator, layout, MOST, sets) == GD_OK && calls == 2 && sets_alive == MOST);
-    for (uint32_t at = 1; at < MOST; at++)
-        CHECK(sets[at].handle != 0 && sets[at].handle != sets[at - 1].handle);
+    for (uint32_t at = 0; at < MOST; at++) {
+        CHECK(sets[at].handle > next_handle - MOST && sets[at].handle <= next_handle);
+        CHECK(at == 0 || sets[at].handle != sets[at - 1].handle);
+    }
     calls_of_free = 0;
     CHECK(gd_free(allocator, sets, MOST) == GD_OK && calls_of_free == 1 && sets_alive == 0);
     CHECK(gd_destroy(allocator) == GD_OK && pools == 0);
+}
+
+// Of a handle all bits come back.
+static void pass_whole_handles(void) {
+    gd_allocator allocator = created(0);
+    for (uint32_t bit = 0; bit < 64; bit++) {
+        const uint64_t handle = UINT64_C(1) << bit;
+        CHECK(gd_allocate(allocator, added(allocator, handle, 1, 0), 1, sets) == GD_OK && last_layout == handle);
+        CHECK(sets[0].handle == next_handle && gd_free(allocator, sets, 1) == GD_OK);
+    }
+    CHECK(gd_destroy(allocator) == GD_OK && pools == 0);
+}
+
+// A layout with 2^31 descriptors of a kind, and more: the sets of a request have a pool each.
+static void count_past_31_bits(void) {
+    static const uint32_t COUNTS[] = {INT32_MAX, UINT32_C(1) << 31, UINT32_MAX};
+    gd_allocator allocator = created(0), marked = created(UINT32_MAX);
+    for (uint32_t at = 0; at < 3; at++) {
+        gd_layout layout = added(allocator, 1, COUNTS[at], 0);
+        CHECK(gd_allocate(allocator, layout, 3, sets) == GD_OK && gd_free(allocator, sets, 3) == GD_OK);
+        uint32_t most = last_pool.max_sets;
+        CHECK(last_pool.counts[GD_SAMPLER] == most * COUNTS[at] && most == 1 && last_pool.counts[GD_STORAGE_IMAGE] == 1);
+    }
+    // With the storage image the set has more descriptors than the limit.
+    CHECK(gd_allocate(marked, added(marked, 1, UINT32_MAX, GD_UPDATE_AFTER_BIND), 1, sets) == GD_FRAGMENTATION);
+    CHECK(gd_allocate(marked, added(marked, 1, UINT32_MAX - 1, GD_UPDATE_AFTER_BIND), 1, sets) == GD_OK);
+    CHECK(last_pool.counts[GD_SAMPLER] == UINT32_MAX - 1);
+    CHECK(gd_free_all(marked) == GD_OK && gd_destroy(marked) == GD_OK && gd_destroy(allocator) == GD_OK);
+}
+
+// So many sets that aren't there, of which none is read.
+static void pass_2_to_the_31_sets(void) {
+    static const uint32_t COUNTS[] = {UINT32_C(1) << 31, UINT32_MAX};
+    gd_allocator allocator = created(0);
+    gd_layout layout = added(allocator, 1, 1, 0);
+    gd_set *set = malloc(sizeof *set);
+    CHECK(set != NULL && gd_allocate(allocator, layout, 1, set) == GD_OK);
+    for (uint32_t at = 0; at < 2; at++) {
+        CHECK(gd_free(allocator, NULL, COUNTS[at]) == GD_NULL_POINTER);
+        CHECK(gd_free_after(allocator, NULL, COUNTS[at], 1) == GD_NULL_POINTER);
+        CHECK(gd_allocate(allocator, layout, COUNTS[at], NULL) == GD_NULL_POINTER);
+        CHECK(gd_free(allocator, set, COUNTS[at]) == GD_BAD_SET);
+        CHECK(gd_free_after(allocator, set, COUNTS[at], 1) == GD_BAD_SET);
+    }
+    CHECK(gd_free(allocator, set, 1) == GD_OK && gd_destroy(allocator) == GD_OK && pools == 0);
+    free(set);
+}
+
+static unsigned char seen[MOST_USER]; // what `user` pointed to in the last call
+static size_t user_size;
+
+static gd_status create_pool_of_user(void *user, const gd_pool_info *info, uint64_t *pool) {
+    CHECK((uintptr_t)user % sizeof(uint64_t) == 0);
+    memcpy(seen, user, user_size);
+    return create_pool(user, info, pool);
+}
+
+// Each size is copied whole, also one that is no multiple of 8. The original may go.
+static void copy_users(void) {
+    const gd_device device = {seen, create_pool_of_user, destroy_pool, allocate_sets, free_sets};
+    for (user_size = 1; user_size <= MOST_USER; user_size++) {
+        gd_device it = device;
+        gd_allocator allocator;
+        unsigned char *user = malloc(user_size), wanted[MOST_USER];
+        CHECK(user != NULL);
+        for (size_t at = 0; at < user_size; at++)
+            user[at] = wanted[at] = (unsigned char)(0xff - at);
+        it.user = user;
+        CHECK(gd_create_with_copy(&it, user_size, 0, 0, &allocator) == GD_OK);
+        free(user);
+        CHECK(gd_allocate(allocator, added(allocator, 1, 1, 0), 1, sets) == GD_OK);
+        CHECK(memcmp(seen, wanted, user_size) == 0);
+        CHECK(gd_free(allocator, sets, 1) == GD_OK && gd_destroy(allocator) == GD_OK && pools == 0);
+    }
 }
 
 int main(void) {
@@ -125,6 +214,10 @@ int main(void) {
     allocate_at_a_limit_of_zero();
     free_singles_at_once();
     allocate_many_at_once();
+    pass_whole_handles();
+    count_past_31_bits();
+    pass_2_to_the_31_sets();
+    copy_users();
     printf("requests are as the header says\n");
     return 0;
 }

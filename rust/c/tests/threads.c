@@ -17,7 +17,7 @@
 enum { THREADS = 4, TURNS = 3000, LOT = 5, ALLOCATORS = 500 };
 
 // Not atomic: the allocator lets one call in at a time, and orders them.
-static uint64_t pools, sets_alive, next_handle;
+static uint64_t pools, sets_alive, next_handle = UINT64_C(1) << 40;
 // How many threads are in the device, how calls ended, and the two halves of the last allocator.
 static atomic_uint inside;
 static atomic_ullong busy, succeeded, gone;

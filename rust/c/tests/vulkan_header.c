@@ -1,12 +1,17 @@
 // gpu_descriptor_vulkan.h over functions of its own, so that no driver is needed: what the header makes of
-// results and statuses, a device that is lost, and what a pool with inline uniform blocks is created from.
+// results and statuses, a device that is lost, what a pool with inline uniform blocks is created from, which flags
+// and counts a layout may have, and a request of thousands of sets.
 #include "gpu_descriptor_vulkan.h"
 #include "host.h"
 
 // The results of the calls that may fail. All later ones are VK_SUCCESS.
 static VkResult results[64];
 static uint32_t result_count, used;
-static uint64_t pools, sets_alive, next_handle;
+static uint64_t pools, sets_alive, calls;
+
+// Handles have more than 32 bits, also where they are numbers: those that the driver gives, and of layouts.
+static const uint64_t FIRST_HANDLE = UINT64_C(1) << 40, LAYOUT = UINT64_C(3) << 40;
+static uint64_t next_handle = UINT64_C(1) << 40;
 // The inline uniform blocks of the last pool: bytes, and bindings.
 static uint32_t block_bytes, block_bindings;
 
@@ -28,6 +33,7 @@ static VKAPI_ATTR VkResult VKAPI_CALL create_pool(VkDevice device, const VkDescr
                                                   VkDescriptorPool *pool) {
     (void)device, (void)callbacks;
     CHECK(info->maxSets > 0);
+    calls++;
     note_blocks(info);
     VkResult result = next_result();
     if (result == VK_SUCCESS) {
@@ -40,13 +46,17 @@ static VKAPI_ATTR VkResult VKAPI_CALL create_pool(VkDevice device, const VkDescr
 static VKAPI_ATTR void VKAPI_CALL destroy_pool(VkDevice device, VkDescriptorPool pool,
                                                const VkAllocationCallbacks *callbacks) {
     (void)device, (void)callbacks;
-    CHECK(pool != VK_NULL_HANDLE);
+    CHECK(GDV_NUMBER(pool) > FIRST_HANDLE);
     pools--;
 }
 
 static VKAPI_ATTR VkResult VKAPI_CALL allocate_sets(VkDevice device, const VkDescriptorSetAllocateInfo *info,
                                                     VkDescriptorSet *sets) {
     (void)device;
+    CHECK(GDV_NUMBER(info->descriptorPool) > FIRST_HANDLE);
+    for (uint32_t at = 0; at < info->descriptorSetCount; at++)
+        CHECK(GDV_NUMBER(info->pSetLayouts[at]) >= LAYOUT && info->pSetLayouts[at] == info->pSetLayouts[0]);
+    calls++;
     VkResult result = next_result();
     for (uint32_t at = 0; result == VK_SUCCESS && at < info->descriptorSetCount; at++) {
         sets[at] = GDV_HANDLE(VkDescriptorSet, ++next_handle);
@@ -57,7 +67,10 @@ static VKAPI_ATTR VkResult VKAPI_CALL allocate_sets(VkDevice device, const VkDes
 
 static VKAPI_ATTR VkResult VKAPI_CALL free_sets(VkDevice device, VkDescriptorPool pool, uint32_t count,
                                                 const VkDescriptorSet *sets) {
-    (void)device, (void)pool, (void)sets;
+    (void)device;
+    CHECK(GDV_NUMBER(pool) > FIRST_HANDLE);
+    for (uint32_t at = 0; at < count; at++)
+        CHECK(GDV_NUMBER(sets[at]) > FIRST_HANDLE);
     sets_alive -= count;
     return VK_SUCCESS;
 }
@@ -96,7 +109,7 @@ static void check_mappings(void) {
 static gd_layout large_layout(gd_allocator allocator) {
     uint32_t counts[GD_KINDS] = {[GD_SAMPLER] = 100000000};
     gd_layout layout;
-    CHECK(gd_add_layout(allocator, 1, counts, 0, &layout) == GD_OK);
+    CHECK(gd_add_layout(allocator, LAYOUT, counts, 0, &layout) == GD_OK);
     return layout;
 }
 
@@ -113,7 +126,7 @@ static void lose_the_device(void) {
         result_count = used = 0;
         CHECK(gdv_create(&vulkan, 100, &allocator) == GD_OK);
         gd_layout large = large_layout(allocator);
-        CHECK(gd_add_layout(allocator, 2, counts, 0, &small) == GD_OK);
+        CHECK(gd_add_layout(allocator, LAYOUT + 1, counts, 0, &small) == GD_OK);
         CHECK(gd_allocate(allocator, small, 8, few) == GD_OK && gd_free(allocator, few, 2) == GD_OK);
         for (uint32_t lost = 0; lost < 64; lost++)
             results[lost] = lost < at ? VK_SUCCESS : lost == at ? VK_ERROR_DEVICE_LOST : VK_ERROR_UNKNOWN;
@@ -137,7 +150,7 @@ static void lose_the_device_late(void) {
     result_count = used = 0;
     CHECK(gdv_create(&vulkan, 100, &allocator) == GD_OK);
     gd_layout large = large_layout(allocator);
-    CHECK(gd_add_layout(allocator, 2, counts, 0, &small) == GD_OK);
+    CHECK(gd_add_layout(allocator, LAYOUT + 1, counts, 0, &small) == GD_OK);
     CHECK(gd_allocate(allocator, small, 1, &one) == GD_OK && gd_free(allocator, &one, 1) == GD_OK);
     results[0] = VK_ERROR_UNKNOWN;
     results[1] = VK_ERROR_DEVICE_LOST;
@@ -169,9 +182,60 @@ static void round_blocks(void) {
     CHECK(bytes_asked(UINT32_MAX - 25, 2) == UINT32_MAX - 1 && bytes_asked(UINT32_MAX - 24, 2) == UINT32_MAX);
 }
 
+// Each flag of a layout but update-after-bind is refused, as that of layouts for the host alone, which is 4.
+static void refuse_flags(void) {
+    VkDescriptorSetLayoutCreateInfo info = {0};
+    uint32_t counts[GD_KINDS], flags = 0;
+    for (uint32_t flag = 1; flag != 0; flag <<= 1) {
+        const bool is_served = flag == GD_UPDATE_AFTER_BIND;
+        info.flags = flag;
+        CHECK(gdv_count(&info, counts, &flags) == (is_served ? GD_OK : GD_BAD_COUNTS));
+        CHECK(!is_served || flags == flag);
+        info.flags = flag | GD_UPDATE_AFTER_BIND;
+        CHECK(gdv_count(&info, counts, &flags) == (is_served ? GD_OK : GD_BAD_COUNTS));
+    }
+}
+
+// Counts are refused past 32 bits, and not past 31.
+static void count_past_31_bits(void) {
+    const uint32_t half = UINT32_C(1) << 31;
+    VkDescriptorSetLayoutBinding bindings[2] = {
+        {.descriptorType = VK_DESCRIPTOR_TYPE_SAMPLED_IMAGE, .descriptorCount = half},
+        {.binding = 1, .descriptorType = VK_DESCRIPTOR_TYPE_SAMPLED_IMAGE, .descriptorCount = half - 1}};
+    const VkDescriptorSetLayoutCreateInfo info = {.bindingCount = 2, .pBindings = bindings};
+    uint32_t counts[GD_KINDS], flags = 0;
+    CHECK(gdv_count(&info, counts, &flags) == GD_OK && counts[GD_SAMPLED_IMAGE] == UINT32_MAX);
+    bindings[1].descriptorCount = half;
+    CHECK(gdv_count(&info, counts, &flags) == GD_BAD_COUNTS);
+}
+
+// A pool, and one call for it; each set has its whole handle.
+static void allocate_many(void) {
+    enum { MANY = 5000 };
+    static gd_set sets[MANY];
+    const VkDescriptorSetLayoutBinding binding = {.descriptorType = VK_DESCRIPTOR_TYPE_SAMPLER, .descriptorCount = 1};
+    const VkDescriptorSetLayoutCreateInfo info = {.bindingCount = 1, .pBindings = &binding};
+    gdv_device vulkan = functions();
+    gd_allocator allocator;
+    gd_layout layout;
+    result_count = used = 0;
+    calls = 0;
+    CHECK(gdv_create(&vulkan, 0, &allocator) == GD_OK);
+    CHECK(gdv_add_layout(allocator, GDV_HANDLE(VkDescriptorSetLayout, LAYOUT + 7), &info, &layout) == GD_OK);
+    CHECK(gd_allocate(allocator, layout, MANY, sets) == GD_OK && sets_alive == MANY && calls == 2);
+    for (uint32_t at = 0; at < MANY; at++) {
+        const uint64_t handle = GDV_NUMBER(gdv_handle(sets[at]));
+        CHECK(handle == sets[at].handle && handle > next_handle - MANY && handle <= next_handle);
+    }
+    CHECK(gd_free_all(allocator) == GD_OK && gd_destroy(allocator) == GD_OK && sets_alive == 0 && pools == 0);
+}
+
 int main(void) {
     check_mappings();
     round_blocks();
+    refuse_flags();
+    count_past_31_bits();
+    allocate_many();
     lose_the_device();
     lose_the_device_late();
     printf("each error keeps its cause, and pools have room for what drivers round\n");

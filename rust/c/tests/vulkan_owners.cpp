@@ -1,6 +1,8 @@
 // Owners over gpu_descriptor_vulkan.h, over functions of its own: a renderer that is moved, the types of
-// Vulkan, and the functions of a device by their names and by vkGetDeviceProcAddr. There are no prototypes, but
-// pointers with their names, as volk has them.
+// Vulkan, two threads that share an allocator, and the functions of a device by their names and by
+// vkGetDeviceProcAddr. There are no prototypes, but pointers with their names, as volk has them.
+//
+// usage: vulkan_owners [busy] ; with `busy` the library is one in which no call waits
 #define VK_NO_PROTOTYPES
 #include <vulkan/vulkan.h>
 
@@ -12,10 +14,13 @@ extern PFN_vkFreeDescriptorSets vkFreeDescriptorSets;
 #include "gpu_descriptor.hpp"
 #include "gpu_descriptor_vulkan.h"
 
+#include <atomic>
+#include <chrono>
 #include <cstdio>
 #include <cstdlib>
 #include <cstring>
 #include <memory>
+#include <thread>
 #include <type_traits>
 
 #define CHECK(fact) ((fact) ? void() : fail(__LINE__, #fact))
@@ -42,21 +47,38 @@ namespace {
     std::exit(1);
 }
 
-// What there is, with pools that were created with callbacks as blocks, and the function that `load` lacks.
-uint64_t next_handle, pools, sets_alive, blocks;
+// Handles have more than 32 bits, also where they are numbers.
+constexpr uint64_t FIRST_HANDLE = uint64_t{1} << 40, LAYOUT = uint64_t{3} << 40;
+
+// What there is, with pools that were created with callbacks as blocks, and the function that `load` lacks. Not
+// atomic: the allocator lets one call in at a time.
+uint64_t next_handle = FIRST_HANDLE, pools, sets_alive, blocks;
 const char *missing = "";
+
+// Whether a pool is created slowly, has begun to be, and another thread is about to make a call.
+std::atomic<bool> is_slow, has_begun, is_late;
+
+void create_slowly() {
+    has_begun = true;
+    while (!is_late)
+        std::this_thread::yield();
+    std::this_thread::sleep_for(std::chrono::milliseconds(100));
+}
 
 VKAPI_ATTR VkResult VKAPI_CALL create_pool(VkDevice, const VkDescriptorPoolCreateInfo *,
                                            const VkAllocationCallbacks *callbacks, VkDescriptorPool *pool) {
     if (callbacks != nullptr)
         CHECK(callbacks->pUserData == &blocks);
+    if (is_slow)
+        create_slowly();
     blocks += callbacks != nullptr;
     pools++;
     *pool = GDV_HANDLE(VkDescriptorPool, ++next_handle);
     return VK_SUCCESS;
 }
 
-VKAPI_ATTR void VKAPI_CALL destroy_pool(VkDevice, VkDescriptorPool, const VkAllocationCallbacks *callbacks) {
+VKAPI_ATTR void VKAPI_CALL destroy_pool(VkDevice, VkDescriptorPool pool, const VkAllocationCallbacks *callbacks) {
+    CHECK(GDV_NUMBER(pool) > FIRST_HANDLE);
     if (callbacks != nullptr)
         CHECK(callbacks->pUserData == &blocks);
     blocks -= callbacks != nullptr;
@@ -64,6 +86,7 @@ VKAPI_ATTR void VKAPI_CALL destroy_pool(VkDevice, VkDescriptorPool, const VkAllo
 }
 
 VKAPI_ATTR VkResult VKAPI_CALL allocate_sets(VkDevice, const VkDescriptorSetAllocateInfo *info, VkDescriptorSet *sets) {
+    CHECK(GDV_NUMBER(info->descriptorPool) > FIRST_HANDLE && GDV_NUMBER(info->pSetLayouts[0]) == LAYOUT);
     for (uint32_t at = 0; at < info->descriptorSetCount; at++)
         sets[at] = GDV_HANDLE(VkDescriptorSet, ++next_handle);
     sets_alive += info->descriptorSetCount;
@@ -103,7 +126,7 @@ void fill(renderer &it) {
     it.callbacks.pUserData = &blocks;
     CHECK(gdv_load(&it.vulkan, nullptr, &it.callbacks, load) == GD_OK);
     CHECK(gdv_create(&it.vulkan, 0, it.allocator.put()) == GD_OK);
-    CHECK(gd_add_layout(it.allocator.raw(), 7, kinds, 0, &it.layout) == GD_OK);
+    CHECK(gd_add_layout(it.allocator.raw(), LAYOUT, kinds, 0, &it.layout) == GD_OK);
 }
 
 // The device and the callbacks of its pools are inside of the allocator.
@@ -117,9 +140,57 @@ void move_a_renderer() {
     gd::set made;
     CHECK(second->allocator.allocate(second->layout, made) == GD_OK && pools == 1 && blocks == 1);
     CHECK(made.vk() == gdv_handle(made.raw()) && made.vk() != VK_NULL_HANDLE);
-    CHECK(handle_beside_vulkan_hpp(made.raw()) == made.vk());
+    CHECK(handle_beside_vulkan_hpp(made.raw()) == made.vk() && GDV_NUMBER(made.vk()) == next_handle);
     second.reset();
     CHECK(pools == 0 && blocks == 0 && sets_alive == 0);
+}
+
+// A call waits for that of another thread, unless the library has none that waits.
+void wait_for_another_thread(renderer &it, bool waits) {
+    uint64_t out = 0;
+    is_slow = true;
+    std::thread other([&it] {
+        gd_set set{};
+        CHECK(gd_allocate(it.allocator.raw(), it.layout, 1, &set) == GD_OK);
+    });
+    while (!has_begun)
+        std::this_thread::yield();
+    is_late = true;
+    const gd_status status = gd_outstanding(it.allocator.raw(), &out);
+    other.join();
+    is_slow = false;
+    CHECK(waits ? status == GD_OK && out == 1 : status == GD_BUSY);
+}
+
+// Makes a call until it isn't GD_BUSY.
+template <class Call> void insist(bool waits, Call call) {
+    gd_status status = GD_BUSY;
+    while ((status = call()) == GD_BUSY)
+        CHECK(!waits);
+    CHECK(status == GD_OK);
+}
+
+// Two threads share an allocator of gdv_create, and nothing is lost.
+void share_an_allocator(bool waits) {
+    renderer it;
+    fill(it);
+    wait_for_another_thread(it, waits);
+    const auto use = [&it, waits] {
+        for (int turn = 0; turn < 2000; turn++) {
+            gd_set sets[3];
+            insist(waits, [&] { return gd_allocate(it.allocator.raw(), it.layout, 3, sets); });
+            insist(waits, [&] { return gd_free(it.allocator.raw(), sets, 3); });
+            if (turn % 8 == 0)
+                insist(waits, [&] { return gd_cleanup(it.allocator.raw()); });
+        }
+    };
+    std::thread first(use), second(use);
+    first.join();
+    second.join();
+    uint64_t out = 0;
+    CHECK(gd_outstanding(it.allocator.raw(), &out) == GD_OK && out == 1);
+    CHECK(gd_free_all(it.allocator.raw()) == GD_OK && sets_alive == 0);
+    CHECK(it.allocator.destroy() == GD_OK && pools == 0 && blocks == 0);
 }
 
 // A function that is missing is a status, and there is no allocator.
@@ -160,9 +231,10 @@ PFN_vkDestroyDescriptorPool vkDestroyDescriptorPool = destroy_pool;
 PFN_vkAllocateDescriptorSets vkAllocateDescriptorSets = allocate_sets;
 PFN_vkFreeDescriptorSets vkFreeDescriptorSets = free_sets;
 
-int main() {
+int main(int words, char **) {
     move_a_renderer();
+    share_an_allocator(words < 2);
     take_functions();
-    std::printf("a renderer is moved\n");
+    std::printf("a renderer is moved, and threads share an allocator\n");
     return 0;
 }

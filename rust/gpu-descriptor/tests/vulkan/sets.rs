@@ -6,7 +6,7 @@ use gpu_descriptor::*;
 
 #[test]
 fn sets_of_one_request_come_by_one_call_in_their_order() {
-    for count in [1, 2, 31, 32, 33, 500] {
+    for count in [1, 2, 31, 32, 33, 500, 5_000] {
         let (driver, wanted) = (Driver::new(), layouts(count));
         let mut sets = vec![DescriptorSet(9)];
         let mut pool = DescriptorPool(5);
