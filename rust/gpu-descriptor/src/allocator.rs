@@ -14,10 +14,9 @@ use std_alloc::vec::Vec;
 
 /// Allocates descriptor sets of any layouts, from pools that it creates, sizes and destroys.
 ///
-/// If a device, or an iterator of sets, panics in a call, nobody knows what the device did. The
-/// allocator is poisoned from then on: `allocate` panics, and `free`, `cleanup` and `trim` panic too, or
-/// do nothing while the thread still unwinds. So no set is handed out twice. The sets of the request that
-/// panicked are dropped, and their pools stay with the device.
+/// If a device or an iterator of sets panics in a call, the allocator is poisoned: see
+/// [After a panic](crate#after-a-panic). The sets of a request that panicked are dropped, and their pools
+/// stay with the device.
 ///
 /// A drop destroys no pools: see [At a drop](crate#at-a-drop).
 #[derive(Debug)]
@@ -69,7 +68,8 @@ impl<P, S> DescriptorAllocator<P, S> {
     /// # Errors
     ///
     /// On `OutOfDeviceMemory` or `OutOfHostMemory`, free memory and ask again, but not for ever: a device
-    /// may report other errors as `OutOfHostMemory`, as `vulkan::Device` does if the device is lost.
+    /// may report other errors as `OutOfHostMemory`, as `vulkan::Device` does if the device is lost: its
+    /// `is_lost` tells.
     /// `Fragmentation` has three causes in practice:
     ///
     /// * The limit leaves no room, for update-after-bind layouts alone. Free sets of such layouts, call
@@ -322,7 +322,7 @@ impl<P, S> DescriptorAllocator<P, S> {
         self.ids.0.clone()
     }
 
-    /// Whether a call panicked. Then only readers can be called.
+    /// Whether a call panicked: see [After a panic](crate#after-a-panic).
     #[must_use]
     pub fn is_poisoned(&self) -> bool {
         self.inner.is_poisoned()

@@ -43,9 +43,8 @@ use std_alloc::vec::Vec;
 /// and `retire_all` make no call of the device, and are safe: the sets are freed by `finish`, whose
 /// caller promises that the device is done with them.
 ///
-/// A panic in a device or in an iterator of sets has the same consequences as in
-/// [`DescriptorAllocator`](crate::DescriptorAllocator): from then on calls with a device panic, but
-/// `finish`, `free`, `cleanup` and `trim` do nothing while the thread unwinds.
+/// If a device or an iterator of sets panics in a call, the manager is poisoned: see
+/// [After a panic](crate#after-a-panic).
 ///
 /// A drop destroys no pools: see [At a drop](crate#at-a-drop).
 #[derive(Debug)]
@@ -329,8 +328,13 @@ impl<P, S> FrameManager<P, S> {
     /// Bounds the descriptors of each new pool from now on, as
     /// [`DescriptorAllocator::set_most_pool_descriptors`](crate::DescriptorAllocator::set_most_pool_descriptors)
     /// does. At first it is `None`, as in gpu-descriptor 0.3.2.
+    ///
+    /// # Panics
+    ///
+    /// The manager is poisoned.
     pub fn set_most_pool_descriptors(&mut self, most: Option<u64>) {
-        self.inner.get_mut().set_most_pool_descriptors(most);
+        self.inner
+            .call(|inner| inner.set_most_pool_descriptors(most));
     }
 
     /// How many descriptors a new pool has at most, unless more are needed at once.
@@ -388,7 +392,7 @@ impl<P, S> FrameManager<P, S> {
         self.inner.get().greatest()
     }
 
-    /// Whether a call panicked. Then no call that takes the device can be made.
+    /// Whether a call panicked: see [After a panic](crate#after-a-panic).
     #[must_use]
     pub fn is_poisoned(&self) -> bool {
         self.inner.is_poisoned()
@@ -405,6 +409,7 @@ impl<P, S> Drop for FrameManager<P, S> {
 
 /// Why a set, or a vector of sets, was not retired. It has the set or the vector.
 #[derive(Clone, Copy, PartialEq, Eq)]
+#[non_exhaustive]
 pub enum RetireError<T> {
     /// The frame is less than the greatest at which a set was retired.
     FrameBack(T),

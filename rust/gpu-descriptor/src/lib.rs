@@ -73,6 +73,21 @@
 //!
 //! The crate's README says what is proved.
 //!
+//! # After a panic
+//!
+//! A call in which the device or an iterator of sets panics *poisons* its allocator, manager or renderer, as
+//! nobody knows what the device did. From then on no set is allocated, so none is allocated twice. There is
+//! one rule for all three:
+//!
+//! Call | After that
+//! ---|---
+//! a reader, and [`Renderer::into_device`](renderer::Renderer::into_device) | It answers.
+//! `reserve`, `retire` and `retire_all` of a [`FrameManager`](frames::FrameManager) | They answer: the device sees nothing of them, and the sets are never freed.
+//! a call that frees or destroys, and `Renderer::end_frame` | It panics. While the thread unwinds it does nothing, so a `Drop` of yours may make it; [`Renderer::shutdown`](renderer::Renderer::shutdown) is `into_device` then.
+//! any other that changes something, also the setters `set_keep` and `set_most_pool_descriptors` | It panics.
+//!
+//! Without std nobody sees that a thread unwinds. There a call in such a `Drop` panics, which ends the program.
+//!
 //! # At a drop
 //!
 //! A drop makes no call of the device, so pools stay with it.
@@ -83,7 +98,7 @@
 //! a [`Renderer`](renderer::Renderer) | If it has pools, with sets or without, it prints one line. It drops its device, after all else. `shutdown` destroys the pools and hands the device back; `into_device` leaves the pools and prints nothing.
 //! a [`DescriptorSet`] | It stays allocated, so its pool is never destroyed.
 //!
-//! Nothing is printed while the thread unwinds. Without std a panic takes the place of the line, also while
+//! Nothing is printed while the thread unwinds, and that the line can't be written is no error. Without std a panic takes the place of the line, also while
 //! the thread unwinds, which ends the program.
 #![cfg_attr(not(feature = "std"), no_std)]
 #![deny(unsafe_op_in_unsafe_fn)]

@@ -1,4 +1,5 @@
-//! What holds after a panic. Nothing unwinds in the language of the proofs, so they don't speak of it.
+//! What holds after a panic, as the docs of the crate say under *After a panic*. Nothing unwinds in the
+//! language of the proofs, so they don't speak of it.
 
 /// A value that is poisoned if a call of it panics. Each access says what it does after that.
 #[derive(Debug)]
@@ -49,7 +50,7 @@ impl<T> Guarded<T> {
         &self.value
     }
 
-    /// To change what no device sees, also after a panic.
+    /// To retire sets, also after a panic: no device sees that.
     #[inline]
     pub(crate) fn get_mut(&mut self) -> &mut T {
         &mut self.value
@@ -83,9 +84,16 @@ pub(crate) fn warn(what: &str) {
         return;
     }
     #[cfg(feature = "std")]
-    eprintln!("{what}");
+    write_line(what);
     #[cfg(not(feature = "std"))]
     panic!("{what}");
+}
+
+/// `eprintln!` would panic where standard error is full or closed.
+#[cfg(feature = "std")]
+fn write_line(what: &str) {
+    use std::io::Write;
+    let _ = writeln!(std::io::stderr(), "{what}");
 }
 
 /// The warning about sets.

@@ -149,10 +149,7 @@ static RENDERERS: AtomicU32 = AtomicU32::new(0);
 ///
 /// If the device panics in a call, or does what it may not (see
 /// [`DescriptorAllocator::allocate`](crate::DescriptorAllocator::allocate)), the renderer is poisoned:
-/// each call that would change something panics. So no set is handed out twice. The calls that a `Drop`
-/// of yours may make don't panic while the thread unwinds: `end_frame`, `gpu_done`, `cleanup`, `trim`,
-/// `free_sets`, `free_all`, `destroy_set` and `destroy_sets` do nothing, and `shutdown` is `into_device`.
-/// Without std nobody sees that a thread unwinds, so there they panic, which ends the program.
+/// see [After a panic](crate#after-a-panic).
 ///
 /// A drop without `shutdown` destroys no pools: see [At a drop](crate#at-a-drop). The raw layouts, pools
 /// and sets are dropped before the device.
@@ -470,7 +467,8 @@ impl<L, P, S, D: DescriptorDevice<L, P, S>> Renderer<L, P, S, D> {
         self.inner.get().is_frame_open()
     }
 
-    /// Whether a call panicked. Then `shutdown` panics too, and `into_device` hands the device back.
+    /// Whether a call panicked: see [After a panic](crate#after-a-panic). Then `shutdown` panics too, and
+    /// `into_device` returns the device.
     #[must_use]
     pub fn is_poisoned(&self) -> bool {
         self.inner.is_poisoned()

@@ -48,8 +48,8 @@
 //! any other | `OutOfHostMemory` | `OutOfHostMemory`
 //!
 //! Vulkan lists no other result for these calls, but a driver may return `VK_ERROR_UNKNOWN`, and some
-//! return `VK_ERROR_DEVICE_LOST`. `OutOfHostMemory` ends the request at once, and no further pool is
-//! asked. `vkFreeDescriptorSets` has no error.
+//! return `VK_ERROR_DEVICE_LOST`, which [`Device::is_lost`] remembers. `OutOfHostMemory` ends the request at
+//! once, and no further pool is asked. `vkFreeDescriptorSets` has no error.
 //!
 //! # What the device does not do
 //!

@@ -120,6 +120,20 @@ fn what_a_drop_writes() {
     }
 }
 
+/// A drop that has a line to write is no panic if standard error is full.
+#[cfg(all(feature = "std", target_os = "linux"))]
+#[test]
+fn a_line_that_can_not_be_written() {
+    let full = std::fs::File::options().write(true).open("/dev/full");
+    let ran = std::process::Command::new(std::env::current_exe().unwrap())
+        .args(["what_a_drop_writes", "--exact", "--nocapture"])
+        .env("DROPPED", "0")
+        .stderr(full.unwrap())
+        .output()
+        .unwrap();
+    assert!(ran.status.success());
+}
+
 #[cfg(not(feature = "std"))]
 #[test]
 fn when_a_drop_panics() {

@@ -23,7 +23,7 @@ enum After {
     /// It panics, but does nothing while the thread unwinds.
     PanicsButInADrop,
 
-    /// It reads, or changes what no device sees.
+    /// It reads, or retires sets.
     Answers,
 }
 use After::*;
@@ -246,7 +246,7 @@ fn calls_of_a_manager() -> Vec<Call<Managing>> {
         PanicsButInADrop (on.it).free(&on.device, on.sets.drain(..));
         PanicsButInADrop (on.it).cleanup(&on.device);
         PanicsButInADrop (on.it).trim(&on.device);
-        Answers (on.it).set_most_pool_descriptors(None);
+        Panics (on.it).set_most_pool_descriptors(None);
         Answers (on.it).most_pool_descriptors();
         Answers (on.it).reserve(1);
         Answers (on.it).retire(1, on.sets.remove(0));

@@ -134,6 +134,7 @@ fn add_binding(
 
 /// Why the bindings of a layout can't be counted.
 #[derive(Clone, Copy, Debug, PartialEq, Eq)]
+#[non_exhaustive]
 pub enum CountError {
     /// A binding has a mutable type.
     MutableType,

@@ -12,6 +12,7 @@ use crate::{
     DeviceAllocationError,
 };
 use core::ptr::{self, NonNull};
+use core::sync::atomic::{AtomicBool, Ordering};
 
 /// One call releases at most so many sets, whose handles lie on the stack.
 const RELEASED_AT_ONCE: usize = 128;
@@ -26,7 +27,8 @@ const RELEASED_AT_ONCE: usize = 128;
 /// some drivers round the bytes of a set up; these don't count against the limit of the allocator.
 ///
 /// It is `Send` and `Sync`. Vulkan asks for synchronization of a pool alone, and only the allocator that
-/// created a pool has it.
+/// created a pool has it. Allocators of one `VkDevice` share a `Device` by reference: it is no `Copy`, since
+/// it remembers whether the device is [lost](Self::is_lost).
 ///
 /// ```
 /// use gpu_descriptor::{DescriptorAllocator, DescriptorSetLayoutCreateFlags, vulkan};
@@ -65,11 +67,12 @@ const RELEASED_AT_ONCE: usize = 128;
 /// unsafe { allocator.cleanup(&gpu) };
 /// # Ok::<(), Box<dyn std::error::Error>>(())
 /// ```
-#[derive(Clone, Copy, Debug)]
+#[derive(Debug)]
 pub struct Device {
     handle: DeviceHandle,
     functions: Functions,
     callbacks: Option<NonNull<AllocationCallbacks>>,
+    is_lost: AtomicBool,
 }
 
 // SAFETY: `handle` is `Send`. The driver alone reads the callbacks, and `with_allocation_callbacks` asks
@@ -85,7 +88,7 @@ impl Device {
     ///
     /// # Safety
     ///
-    /// As long as this value or a copy of it is used,
+    /// As long as this value is used,
     ///
     /// * `handle` is a `VkDevice` that isn't destroyed;
     /// * `functions` are the functions of Vulkan by these names, and may be called with `handle`.
@@ -95,6 +98,7 @@ impl Device {
             handle,
             functions,
             callbacks: None,
+            is_lost: AtomicBool::new(false),
         }
     }
 
@@ -105,7 +109,7 @@ impl Device {
     ///
     /// # Safety
     ///
-    /// As long as the returned value or a copy of it is used,
+    /// As long as the returned value is used,
     ///
     /// * `callbacks` points to valid `VkAllocationCallbacks`;
     /// * they may be called from each thread that uses the value, also at the same time.
@@ -127,6 +131,22 @@ impl Device {
     #[must_use]
     pub const fn handle(&self) -> DeviceHandle {
         self.handle
+    }
+
+    /// Whether a call of an allocator was refused with `VK_ERROR_DEVICE_LOST`, which the allocator returns
+    /// as `OutOfHostMemory`. A lost device stays lost: requests may be refused, and all other calls work as
+    /// before. So free all sets, call `cleanup`, and destroy the device.
+    #[must_use]
+    pub fn is_lost(&self) -> bool {
+        self.is_lost.load(Ordering::Relaxed)
+    }
+
+    /// The same result, of which the device remembers that it is lost.
+    fn noted(&self, result: i32) -> i32 {
+        if results::is_lost(result) {
+            self.is_lost.store(true, Ordering::Relaxed);
+        }
+        result
     }
 
     fn callbacks(&self) -> *const AllocationCallbacks {
@@ -154,7 +174,8 @@ impl Device {
         };
         let allocate = self.functions.allocate_descriptor_sets;
         // SAFETY: `new` and the caller say so. `info` and both arrays live through the call.
-        results::of_allocate(unsafe { allocate(self.handle, &info, sets.as_mut_ptr()) })
+        let result = unsafe { allocate(self.handle, &info, sets.as_mut_ptr()) };
+        results::of_allocate(self.noted(result))
     }
 }
 
@@ -204,7 +225,7 @@ impl DescriptorDevice<DescriptorSetLayout, DescriptorPool, DescriptorSet> for De
         let create = self.functions.create_descriptor_pool;
         // SAFETY: `new` says so. `info`, and what it points to, live through the call.
         let result = unsafe { create(self.handle, &info, self.callbacks(), &mut pool) };
-        results::of_create(result).map(|()| pool)
+        results::of_create(self.noted(result)).map(|()| pool)
     }
 
     unsafe fn destroy_descriptor_pool(&self, pool: DescriptorPool) {

@@ -4,9 +4,15 @@ use crate::{CreatePoolError, DeviceAllocationError};
 
 const SUCCESS: i32 = 0;
 const ERROR_OUT_OF_DEVICE_MEMORY: i32 = -2;
+const ERROR_DEVICE_LOST: i32 = -4;
 const ERROR_FRAGMENTED_POOL: i32 = -12;
 const ERROR_OUT_OF_POOL_MEMORY: i32 = -1_000_069_000;
 const ERROR_FRAGMENTATION: i32 = -1_000_161_000;
+
+/// Whether the result says that the device is lost, for which the errors below have no name.
+pub(super) fn is_lost(result: i32) -> bool {
+    result == ERROR_DEVICE_LOST
+}
 
 /// The result of `vkCreateDescriptorPool`. A result without a name here ends the request.
 pub(super) fn of_create(result: i32) -> Result<(), CreatePoolError> {

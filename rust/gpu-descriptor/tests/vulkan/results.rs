@@ -1,7 +1,8 @@
 //! What each `VkResult` becomes.
 
 use crate::driver::{Call, Driver, layouts};
-use gpu_descriptor::vulkan::{DescriptorPool, DescriptorSet};
+use gpu_descriptor::renderer::{RenderError, Renderer};
+use gpu_descriptor::vulkan::{DescriptorPool, DescriptorSet, DescriptorSetLayout};
 use gpu_descriptor::*;
 
 /// Results by their numbers, and what they become: of a new pool, of sets, and of a request whose
@@ -56,18 +57,21 @@ const ROWS: [Row; 15] = [
     host(i32::MAX),
 ];
 
+/// Whether a device has to be lost after a result.
+fn is_lost(result: i32) -> bool {
+    result == -4
+}
+
 #[test]
 fn of_a_new_pool() {
     for (result, error, ..) in ROWS {
         let driver = Driver::new();
         driver.create_result.set(result);
         let flags = DescriptorPoolCreateFlags::empty();
-        let answer = unsafe {
-            driver
-                .device()
-                .create_descriptor_pool(&Default::default(), 1, flags)
-        };
+        let device = driver.device();
+        let answer = unsafe { device.create_descriptor_pool(&Default::default(), 1, flags) };
         assert_eq!(answer, Err(error), "{result}");
+        assert_eq!(device.is_lost(), is_lost(result), "{result}");
     }
 }
 
@@ -78,28 +82,62 @@ fn of_sets() {
             let driver = Driver::new();
             driver.allocate_result.set(result);
             let (wanted, mut sets) = (layouts(count), Vec::<DescriptorSet>::new());
+            let device = driver.device();
             let answer = unsafe {
                 let (pool, layouts) = (&mut DescriptorPool(5), wanted.iter());
-                driver
-                    .device()
-                    .alloc_descriptor_sets(pool, layouts, &mut sets)
+                device.alloc_descriptor_sets(pool, layouts, &mut sets)
             };
             assert_eq!((answer, sets), (Err(error), vec![]), "{result}");
+            assert_eq!(device.is_lost(), is_lost(result), "{result}");
         }
     }
 }
 
-fn request(driver: &Driver) -> AllocationError {
-    let mut allocator = DescriptorAllocator::new(0);
-    let (device, layout) = (driver.device(), layouts(1)[0]);
+fn layout() -> SetLayout<DescriptorSetLayout> {
     let counts = DescriptorTotalCount {
         sampler: 1,
         ..Default::default()
     };
     let flags = DescriptorSetLayoutCreateFlags::empty();
+    let layout = layouts(1)[0];
+    SetLayout {
+        layout,
+        counts,
+        flags,
+    }
+}
+
+fn request(driver: &Driver) -> AllocationError {
+    let (mut allocator, device) = (DescriptorAllocator::new(0), driver.device());
     // SAFETY: it is the device of all calls.
-    let answer = unsafe { allocator.allocate(&device, &layout, flags, &counts, 3) };
+    let answer = unsafe { allocator.allocate_for(&device, &layout(), 3) };
     answer.unwrap_err()
+}
+
+/// Each type over a device that is lost sees it, and gives back what it has; the device stays lost.
+#[test]
+fn a_lost_device() {
+    let driver = Driver::new();
+    let mut renderer = Renderer::new(driver.device(), 0);
+    let layout = unsafe { renderer.add_layout(layout()) }.unwrap();
+    let held = renderer.create_set(layout).unwrap();
+    assert!(!renderer.device().is_lost());
+
+    driver.allocate_result.set(-4);
+    driver.create_result.set(-4);
+    let refused = Err(RenderError::Allocation(AllocationError::OutOfHostMemory));
+    assert_eq!(renderer.create_set(layout), refused);
+    assert!(renderer.device().is_lost());
+
+    driver.allocate_result.set(0);
+    driver.create_result.set(0);
+    unsafe { renderer.free_sets(&[held]) }.unwrap();
+    // SAFETY: no set is in use.
+    let device = unsafe { renderer.shutdown() };
+    assert!(device.is_lost());
+    let calls = driver.take_calls();
+    let is_destroyed = |it: &Call| matches!(it, Call::Destroy(..));
+    assert!(calls.last().is_some_and(is_destroyed));
 }
 
 #[test]
