@@ -66,7 +66,8 @@ struct device {
     std::string name;
     gdv_device driver = {};
     gd_allocator allocator = {}; // zeroed if the program has its own pools
-    std::mutex mutex;            // for all that follows
+    std::string report_so_far;   // the file of the report of the last submit, if there is one
+    std::timed_mutex mutex;      // for all that follows
     std::ofstream trace;
     std::unordered_map<uint64_t, layout> layouts; // by handle
     std::unordered_map<uint64_t, pool> pools;
@@ -74,13 +75,10 @@ struct device {
     uint64_t layout_count = 0, set_count = 0;
     std::map<gd_status, uint64_t> fell_back; // sets of the own pools, by the library's status
     uint64_t faults = 0;                     // statuses that the layer should not get
-
-    /* Writes what was taken as a table to standard error, and as JSON after it or to a file. A device
-     * ends in vkDestroyDevice, or with a program that doesn't call it. */
-    ~device();
 };
 
-/* Instances or devices, by the pointer at which the loader has each of their handles begin, as a queue's. */
+/* Instances or devices, by the pointer at which the loader has each of their handles begin, as a queue's. Tables
+ * are never destroyed: threads may use them while the program ends. */
 template <class Value> struct table {
     std::mutex mutex;
     std::unordered_map<void *, std::unique_ptr<Value>> values;
@@ -90,7 +88,7 @@ template <class Value> struct table {
     }
 };
 
-inline table<device> devices;
+inline table<device> &devices = *new table<device>;
 
 /* The next function of a name, below the layer. */
 #define NEXT(it, name) reinterpret_cast<PFN_##name>((it).get((it).handle, #name))
@@ -107,6 +105,16 @@ std::remove_pointer_t<PFN_vkFreeDescriptorSets> free_sets;
 void create_allocator(device &it, uint32_t limit);
 void read_pools(device &it); // into the library's account
 void destroy_allocator(device &it);
+
+/* Writes what was taken as a table to standard error, and as JSON after it or to a file. A device that is left
+ * has its report when the program ends. */
+void report(device &it);
+
+/* The file of the report of the last submit, for the device of this number in the process. */
+std::string name_report_so_far(int number);
+
+/* What a program leaves that ends by a signal: its trace, and the report in a file of its own. */
+void flush(device &it);
 
 /* A word of the environment, NULL if there is none. */
 const char *setting(const char *name);

@@ -22,7 +22,7 @@ struct instance {
     PFN_vkEnumerateDeviceExtensionProperties extensions = NEXT(*this, vkEnumerateDeviceExtensionProperties);
 };
 
-table<instance> instances;
+table<instance> &instances = *new table<instance>;
 
 /* What the loader says of the next layer. Each layer moves it on. */
 template <class Link> auto *take_link(const void *chain, VkStructureType type) {
@@ -62,10 +62,11 @@ uint32_t describe(device &it, const instance &of, VkPhysicalDevice physical) {
     return indexing.maxUpdateAfterBindDescriptorsInAllPools;
 }
 
-/* A second device has its trace in a file of its own. */
-void open_trace(device &it, uint32_t limit) {
+/* A second device has its trace in a file of its own, and so has its report of the last submit. */
+void open_files(device &it, uint32_t limit) {
     static std::atomic<int> count = 0;
     const int number = count++;
+    it.report_so_far = name_report_so_far(number);
     if (const char *file = setting("GPU_DESCRIPTOR_LAYER_TRACE"))
         it.trace.open(number == 0 ? file : file + ("." + std::to_string(number)));
     it.trace << "# device " << it.name << " limit " << limit << '\n';
@@ -84,7 +85,7 @@ VkResult create_device(VkPhysicalDevice physical, const VkDeviceCreateInfo *info
     it->get = get;
     it->faults += gdv_load(&it->driver, *made, nullptr, get) != GD_OK;
     const uint32_t limit = describe(*it, of, physical);
-    open_trace(*it, limit);
+    open_files(*it, limit);
     if (setting("GPU_DESCRIPTOR_LAYER_OWN_POOLS") == nullptr)
         create_allocator(*it, limit);
     devices.at(*made) = std::move(it);
@@ -96,6 +97,7 @@ void destroy_device(VkDevice handle, const VkAllocationCallbacks *callbacks) {
     if (ended->allocator.slot != nullptr)
         destroy_allocator(*ended);
     NEXT(*ended, vkDestroyDevice)(handle, callbacks);
+    report(*ended);
 }
 
 /* Without push descriptors programs ask for more sets. */
@@ -111,11 +113,12 @@ VkResult enumerate_extensions(VkPhysicalDevice physical, const char *of_layer, u
     return result;
 }
 
-/* The device of a queue, with a word more in its trace. */
+/* The device of a queue, with a word more in its trace, and with what is known in its files. */
 device &traced(const char *word, VkQueue queue) {
     device &it = *devices.at(queue);
     std::lock_guard lock(it.mutex);
     it.trace << word;
+    flush(it);
     return it;
 }
 
@@ -124,7 +127,10 @@ device &traced(const char *word, VkQueue queue) {
 
 /* A call of a queue, which is a word in the trace. */
 #define TRACED(name, word)                                                                                   \
-    ENTRY(name, [](VkQueue queue, auto... rest) { return NEXT(traced(word, queue), name)(queue, rest...); })
+    ENTRY(name, [](VkQueue queue, auto... rest) {                                                            \
+        const device &it = traced(word, queue);                                                              \
+        return NEXT(it, name)(queue, rest...);                                                               \
+    })
 
 PFN_vkVoidFunction device_function(VkDevice handle, const char *name);
 PFN_vkVoidFunction instance_function(VkInstance handle, const char *name);

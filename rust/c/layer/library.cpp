@@ -30,6 +30,8 @@ void read_pools(device &it) {
     it.library.pools = {numbers.pools, numbers.peak_pools, numbers.pools + it.library.destroy_calls};
     it.library.capacity.peak = numbers.peak_pool_sets;
     it.faults += numbers.outstanding != it.library.sets.now;
+    const auto is_served = [](const auto &entry) { return entry.second.known.owner != 0; };
+    it.faults += numbers.layouts != uint64_t(std::count_if(it.layouts.begin(), it.layouts.end(), is_served));
 }
 
 void destroy_allocator(device &it) {

@@ -1,13 +1,17 @@
 // The report: what the library and what the program's own pools took.
 #include "device.hpp"
 
+#include <cstdio>
 #include <filesystem>
 #include <iomanip>
 #include <iostream>
 #include <sstream>
+#include <unistd.h>
 
 namespace layer {
 namespace {
+
+constexpr const char *JSON = "GPU_DESCRIPTOR_LAYER_JSON";
 
 /* A table, and the same as JSON. */
 struct tables {
@@ -49,26 +53,64 @@ void add_accounts(tables &to, const account &library, const account &own) {
     add("ns a set in the driver", [](const auto &of) { return by(of.driver_ns, of.sets.total); });
 }
 
-} // namespace
-
-device::~device() {
-    if (allocator.slot != nullptr)
-        read_pools(*this);
+tables tables_of(device &it) {
+    if (it.allocator.slot != nullptr)
+        read_pools(it);
     tables all;
-    all.text << "gpu_descriptor: " << program() << " on " << name << '\n'
+    all.text << "gpu_descriptor: " << program() << " on " << it.name << '\n'
              << std::setw(48) << "library" << std::setw(12) << "own pools" << '\n';
-    all.json << "{\"program\": " << std::quoted(program()) << ", \"device\": " << std::quoted(name);
-    own.driver_ns = own.allocate_ns + own.free_ns;
-    add_accounts(all, library, own);
-    all.add("layouts", layout_count);
-    all.add("faults", faults);
-    for (const auto &[status, sets] : fell_back)
+    all.json << "{\"program\": " << std::quoted(program()) << ", \"device\": " << std::quoted(it.name);
+    it.own.driver_ns = it.own.allocate_ns + it.own.free_ns;
+    add_accounts(all, it.library, it.own);
+    all.add("layouts", it.layout_count);
+    all.add("faults", it.faults);
+    for (const auto &[status, sets] : it.fell_back)
         all.add(std::string("sets fallen back, ") + gd_status_name(status), sets);
     all.json << "}\n";
+    return all;
+}
+
+/* At the end of the program: the devices that it leaves. A thread that is in a call has a second to leave it; if a
+ * signal's handler ended the program, it never does. */
+struct end {
+    ~end() {
+        std::lock_guard all(devices.mutex);
+        for (const auto &[handle, it] : devices.values) {
+            if (it == nullptr || !it->mutex.try_lock_for(std::chrono::seconds(1)))
+                continue;
+            report(*it);
+            it->mutex.unlock();
+        }
+    }
+} const at_the_end;
+
+} // namespace
+
+void report(device &it) {
+    const tables all = tables_of(it);
     std::cerr << all.text.str();
-    const char *file = setting("GPU_DESCRIPTOR_LAYER_JSON");
+    const char *file = setting(JSON);
     std::ofstream named(file == nullptr ? "" : file, std::ios::app);
     (named.is_open() ? named : std::cerr) << all.json.str();
+    // Threads of a program that ends may still call.
+    std::remove(it.report_so_far.c_str());
+    it.report_so_far.clear();
+    it.trace.close();
+}
+
+std::string name_report_so_far(int number) {
+    const char *file = setting(JSON);
+    return file == nullptr ? "" : file + ("." + std::to_string(getpid()) + "." + std::to_string(number));
+}
+
+void flush(device &it) {
+    it.trace.flush();
+    if (it.report_so_far.empty())
+        return;
+    // Under another name first: a signal may come at any time.
+    const std::string unfinished = it.report_so_far + ".new";
+    std::ofstream(unfinished) << tables_of(it).json.str();
+    std::rename(unfinished.c_str(), it.report_so_far.c_str());
 }
 
 } // namespace layer
