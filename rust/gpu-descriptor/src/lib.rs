@@ -98,8 +98,8 @@
 //! a [`Renderer`](renderer::Renderer) | If it has pools, with sets or without, it prints one line. It drops its device, after all else. `shutdown` destroys the pools and hands the device back; `into_device` leaves the pools and prints nothing.
 //! a [`DescriptorSet`] | It stays allocated, so its pool is never destroyed.
 //!
-//! Nothing is printed while the thread unwinds, and that the line can't be written is no error. Without std a panic takes the place of the line, also while
-//! the thread unwinds, which ends the program.
+//! Nothing is printed while the thread unwinds, and it is no error if the line can't be written. Without std
+//! a panic takes the place of the line, also while the thread unwinds, which ends the program.
 #![cfg_attr(not(feature = "std"), no_std)]
 #![deny(unsafe_op_in_unsafe_fn)]
 #![warn(missing_docs, clippy::missing_panics_doc, clippy::must_use_candidate)]
