@@ -52,11 +52,11 @@ def played(columns):
 
 def print_traces(pools_by_trace, checks):
     print("pools of a trace, at most and at its end\n"
-          f"{'trace':10}{'sets':>6} {'of':10}{'pools':>10}{'their sets':>16}{'descriptors':>18}")
+          f"{'trace':16}{'sets':>6} {'of':10}{'pools':>10}{'their sets':>16}{'descriptors':>18}")
     for name, trace, pools in pools_by_trace:
         for player, rows in pools.items():
             cells = [f"{max(values)} {values[-1]}" for values in list(zip(*rows))[1:]]
-            print(f"{name:10}{account_of(trace)['peak']:6} {player:10}{cells[0]:>10}{cells[1]:>16}{cells[2]:>18}")
+            print(f"{name:16}{account_of(trace)['peak']:6} {player:10}{cells[0]:>10}{cells[1]:>16}{cells[2]:>18}")
         checks.equal(f"{name}: the program's own pools at the end", pools["pools"][-1][1], 0)
         checks.equal(f"{name}: the pools of C are the renderer's", pools["C"] == pools["renderer"], True)
 

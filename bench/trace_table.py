@@ -158,13 +158,13 @@ def row_over_driver(columns, runs, *where):
 
 def print_rows(columns, row, unit, width):
     """Of each trace the row as it is, and the one with layouts that stay."""
-    print(f"{unit} a set\n{'trace':10}{'sets':>8}" + "".join(f"{name:>{width}}" for name in columns))
+    print(f"{unit} a set\n{'trace':16}{'sets':>8}" + "".join(f"{name:>{width}}" for name in columns))
     for name, trace in traces():
         for how in ((), ("stay",)):
             with written(trace) as file:
                 cells = "".join(row(name, trace, file, how))
             stay = ", layouts stay" if how else ""
-            print(f"{name:10}{account_of(trace)['allocated']:8}{cells}{stay}", flush=True)
+            print(f"{name:16}{account_of(trace)['allocated']:8}{cells}{stay}", flush=True)
 
 
 def check_all(columns, over_driver):
