@@ -11,6 +11,8 @@
  *     gd_set drawn;
  *     frame.allocate(layout, drawn);               // gd::vk_handle(drawn); the end of `frame` frees it after `number`
  *
+ * What can fail is [[nodiscard]]; its statuses are left out above.
+ *
  * Owners are moved and not copied. The end of a gd::set or gd::sets, and new ones in its place, frees them: after
  * the frame of used_in, and without one at once, when the device must no longer use them. The end of a
  * gd::allocator frees all of its sets, which the device must no longer use, and destroys it; an owner of sets
