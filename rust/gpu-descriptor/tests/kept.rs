@@ -264,7 +264,7 @@ fn memory_is_found_for_hundreds_of_layouts() {
         next.counts.sampler = samplers;
         // SAFETY: it is the device's, and stays.
         let next = unsafe { it.add_layout(next) }.unwrap();
-        it.create_set(next).unwrap();
+        let _live = it.create_set(next).unwrap();
     }
     // SAFETY: the device isn't in use.
     unsafe { it.free_all() };
