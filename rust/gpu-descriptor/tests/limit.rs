@@ -76,6 +76,39 @@ fn of_a_renderer() {
     }
 }
 
+/// An update-after-bind layout with so many images, as bindless programs have them.
+fn bindless(images: u32) -> SetLayout<u64> {
+    let counts = DescriptorTotalCount {
+        sampled_image: images,
+        ..Default::default()
+    };
+    SetLayout { counts, ..layout() }
+}
+
+/// Two bindless layouts under the least limit that Vulkan allows. The original serves both, as its limit is on
+/// live sets alone, and drivers grant its pools of 640,000 and 512,000 images. Here the first pool uses the limit up,
+/// unless pools are bounded.
+#[test]
+fn of_two_bindless_layouts() {
+    let (first, second) = (bindless(10_000), bindless(8_000));
+    for (most, is_granted, capacity) in [
+        (None, false, 500_000),
+        (Some(65_536), true, 6 * 10_000 + 8 * 8_000),
+    ] {
+        let (mut it, device) = (DescriptorAllocator::new(500_000), Device::default());
+        it.set_most_pool_descriptors(most);
+        let mut sets = vec![unsafe { it.allocate_one(&device, &first) }.unwrap()];
+        match unsafe { it.allocate_one(&device, &second) } {
+            Ok(set) => sets.push(set),
+            Err(error) => assert_eq!(error, Fragmentation),
+        }
+        assert_eq!(sets.len() == 2, is_granted, "{most:?}");
+        assert_eq!(it.update_after_bind_capacity(), capacity, "{most:?}");
+        unsafe { it.free(&device, sets) };
+        unsafe { it.cleanup(&device) };
+    }
+}
+
 /// What a manager says of its pools: as an allocator, 64 sets for the first.
 #[test]
 fn pools_of_a_manager() {

@@ -72,6 +72,24 @@ END
   done
 }
 
+# The block of docs/C.md, over a repository that has the sources as they are now.
+by_git() {
+  local sources=$room/repository project=$room/by-git
+  mkdir "$sources" "$project"
+  (cd "$top" && git ls-files -z rust Cargo.toml Cargo.lock | xargs -0 cp --parents -t "$sources") &&
+    git -C "$sources" init -q -b main && git -C "$sources" add -A &&
+    git -C "$sources" -c user.name=test -c user.email=test commit -q -m sources || return
+  cp "$crate/examples/counting.c" "$project/main.c"
+  cat >"$project/CMakeLists.txt" <<'END'
+cmake_minimum_required(VERSION 3.18)
+project(program C)
+set(CMAKE_C_STANDARD 11)
+add_executable(main main.c)
+END
+  sed -n '/^    include(FetchContent)/,/^$/p' "$top/docs/C.md" | sed "s|\.\.\.|file://$sources|" >>"$project/CMakeLists.txt"
+  cmake -S "$project" -B "$project/made" && cmake --build "$project/made" && "$project/made/main"
+}
+
 # The library as a CMake project of its own, which installs what rust/c/install does.
 as_a_project() {
   local made=$room/as-project
@@ -112,6 +130,9 @@ try_builds() {
   step "install for a target" for_this_target
   ! has cmake "FetchContent" || step "FetchContent" by_fetch_content
   ! has cmake "FetchContent" || step "FetchContent without std" by_fetch_content -DGPU_DESCRIPTOR_SMALL=ON
+  if has cmake "FetchContent of a repository" && git -C "$top" rev-parse -q HEAD >/dev/null; then
+    step "FetchContent of a repository" by_git
+  fi
   ! has cmake "cmake --install" || step "cmake --install" as_a_project
   step "install for a target that isn't there" for_no_target
 }
