@@ -45,6 +45,10 @@ impl<G: Gpu> Player<G> for Keeping<G> {
     }
 
     fn take(&mut self, _: usize, layout: usize, count: u32, sets: &mut Vec<SetHandle>) -> bool {
+        if count == 1 {
+            let taken = self.renderer.create_set(self.layouts[layout]);
+            return taken.map(|set| sets.push(set)).is_ok();
+        }
         let Ok(mut taken) = self.renderer.create_sets(self.layouts[layout], count) else {
             return false;
         };
