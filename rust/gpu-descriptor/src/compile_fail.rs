@@ -105,6 +105,28 @@
 //! is_sent::<FrameManager<u64, Arc<u8>>>();
 //! ```
 //!
+//! A match without a last arm, of an error to which causes may be added (E0004):
+//!
+//! ```compile_fail
+//! # use gpu_descriptor::frames::RetireError;
+//! fn is_early(error: RetireError<u64>) -> bool {
+//!     match error {
+//!         RetireError::FrameBack(_) => true,
+//!         RetireError::Memory(_) | RetireError::Foreign(_) => false,
+//!     }
+//! }
+//! ```
+//!
+//! ```
+//! # use gpu_descriptor::frames::RetireError;
+//! fn is_early(error: RetireError<u64>) -> bool {
+//!     match error {
+//!         RetireError::FrameBack(_) => true,
+//!         _ => false,
+//!     }
+//! }
+//! ```
+//!
 //! A device of its own beside a borrowed one, which is a device already (E0119):
 //!
 //! ```compile_fail
