@@ -77,10 +77,10 @@ struct device {
     uint64_t faults = 0;                     // statuses that the layer should not get
 };
 
-/* Instances or devices, by the pointer at which the loader has each of their handles begin, as a queue's. Tables
- * are never destroyed: threads may use them while the program ends. */
+/* Instances or devices, by the pointer at which the loader has each of their handles begin, as a queue's.
+ * Tables are never destroyed: threads may use them while the program ends. */
 template <class Value> struct table {
-    std::mutex mutex;
+    std::timed_mutex mutex;
     std::unordered_map<void *, std::unique_ptr<Value>> values;
     std::unique_ptr<Value> &at(void *handle) {
         std::lock_guard lock(mutex);
@@ -106,8 +106,8 @@ void create_allocator(device &it, uint32_t limit);
 void read_pools(device &it); // into the library's account
 void destroy_allocator(device &it);
 
-/* Writes what was taken as a table to standard error, and as JSON after it or to a file. A device that is left
- * has its report when the program ends. */
+/* Writes what was taken as a table to standard error, and as JSON after it or to a file. A device that is
+ * left has its report when the program ends. */
 void report(device &it);
 
 /* The file of the report of the last submit, for the device of this number in the process. */

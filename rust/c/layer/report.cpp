@@ -70,17 +70,18 @@ tables tables_of(device &it) {
     return all;
 }
 
-/* At the end of the program: the devices that it leaves. A thread that is in a call has a second to leave it; if a
- * signal's handler ended the program, it never does. */
+/* At the end of the program: the devices that it leaves. A call of another thread has a second to end; if a
+ * signal's handler ended the program within a call, it never does. */
 struct end {
     ~end() {
-        std::lock_guard all(devices.mutex);
-        for (const auto &[handle, it] : devices.values) {
-            if (it == nullptr || !it->mutex.try_lock_for(std::chrono::seconds(1)))
-                continue;
-            report(*it);
-            it->mutex.unlock();
-        }
+        const std::chrono::seconds patience{1};
+        const std::unique_lock all(devices.mutex, patience);
+        if (!all)
+            return;
+        for (const auto &[handle, it] : devices.values)
+            if (it != nullptr)
+                if (const std::unique_lock lock(it->mutex, patience); lock)
+                    report(*it);
     }
 } const at_the_end;
 

@@ -86,7 +86,8 @@ project(program C)
 set(CMAKE_C_STANDARD 11)
 add_executable(main main.c)
 END
-  sed -n '/^    include(FetchContent)/,/^$/p' "$top/docs/C.md" | sed "s|\.\.\.|file://$sources|" >>"$project/CMakeLists.txt"
+  sed -n '/^    include(FetchContent)/,/^$/p' "$top/docs/C.md" |
+    sed "s|\.\.\.|file://$sources|" >>"$project/CMakeLists.txt"
   cmake -S "$project" -B "$project/made" && cmake --build "$project/made" && "$project/made/main"
 }
 
