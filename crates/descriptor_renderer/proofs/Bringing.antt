@@ -50,8 +50,8 @@ module _ {L P S D : Type 0} {d : Ghosts D L P S} where
     | inl few ↦ elim (asks few) [
       | inl at_once ↦ asked layout number (many - kept_of number old) many old old new (λ q. same_clears (slot_at (slots_in old) q) (slot_at (slots_in old) q) refl) refl (inl refl) (omega arith) (λ i lt some. omega arith) at_once
       | inr later ↦
-          let cleaned = cleared_of layout (many - kept_of number old) old later.0 later.1 in
-          let long = cleared_long layout (many - kept_of number old) old later.0 later.1 in
+          let cleaned = cleared_of layout (many - kept_of number old) many old later.0 later.1 in
+          let long = cleared_long layout (many - kept_of number old) many old later.0 later.1 in
           let none = none_left_of (slots_in old) (slots_in later.0) cleaned number in
           asked layout number many many old later.0 new (clears (slots_in old) (slots_in later.0) cleaned) long (inr (later.1.some, cleaned)) (omega arith) (λ i lt some. absurd (omega arith)) later.2
     ]

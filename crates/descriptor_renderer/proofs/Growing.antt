@@ -16,6 +16,7 @@ use Rattle.descriptor_table.proofs.Holding.{named_or}
 use Rattle.descriptor_table.proofs.Listed.{other_slots, slot_set}
 use Rattle.descriptor_renderer.specs.Stores.{GetsAtLast, HoldEach, IsCleared, IsRefusedAtLast, TakesKept, generations_in, kept_of, slots_in}
 use Rattle.descriptor_renderer.specs.declared.store.Store.{Store}
+use Rattle.descriptor_renderer.proofs.Handing.{unmet_slots}
 
 held_used : (u : Use) (layout generation : ℕ) (full : Bool) → (is_held_use u && full) ≡ true → in_list 0 u layout generation full ≡ false
 held_used u layout generation full e = grind (arith, common_steps)
@@ -63,8 +64,8 @@ module _ {T : Type 0} where
   ]
 
 module _ {L P S D : Type 0} {d : Ghosts D L P S} where
-  pub cleared_long : (layout : L) (many : ℕ) (old new : Store L P S D d) → IsCleared layout many old new → length (slots_in new) ≡ length (slots_in old)
-  cleared_long layout many old new clear = clear.cleaned.long ∙ ap length clear.first.slots
+  pub cleared_long : (layout : L) (first last : ℕ) (old new : Store L P S D d) → IsCleared layout first last old new → length (slots_in new) ≡ length (slots_in old)
+  cleared_long layout first last old new clear = clear.cleaned.long ∙ ap length clear.first_refused.slots
 
   -- a set was taken, and gets a handle
   pub grow_taken :
@@ -77,13 +78,13 @@ module _ {L P S D : Type 0} {d : Ghosts D L P S} where
     | inl some ↦ grow_kept (is_kept_of n) (kept some).place number p u handle (slots_in old) (slots_in mid) new (kept some).picks r
     | inr none ↦ elim (comes (omega arith)) [
       | inl gets ↦ grow_new number (generations_in mid) n p gets.set u handle (slots_in old) (slots_in mid) new used gets.puts r
-      | inr twice ↦ grow_from (slots_in old) (slots_in twice.0) new (cleared_long layout 1 old twice.0 twice.1) (grow_new number (generations_in mid) n p twice.2.set u handle (slots_in twice.0) (slots_in mid) new used twice.2.puts r)
+      | inr twice ↦ grow_from (slots_in old) (slots_in twice.0) new (cleared_long layout 1 1 old twice.0 twice.1) (grow_new number (generations_in mid) n p twice.2.set u handle (slots_in twice.0) (slots_in mid) new used twice.2.puts r)
     ]
   ]
 
   -- a refusal leaves as many slots
   pub grow_refused : (layout : L) (first last : ℕ) (error : AllocationError) (old new : Store L P S D d) → IsRefusedAtLast layout first last error old new → Grows (slots_in old) (slots_in new)
   grow_refused layout first last error old new refused = elim refused.why [
-    | inl once ↦ inl (ap length once.slots)
-    | inr twice ↦ inl (ap length twice.2.slots ∙ cleared_long layout first old twice.0 twice.1)
+    | inl once ↦ inl (ap length (unmet_slots layout first error old new once))
+    | inr twice ↦ inl (ap length (unmet_slots layout last error twice.0 new twice.2) ∙ cleared_long layout first last old twice.0 twice.1)
   ]

@@ -1,5 +1,5 @@
 -- A set that gets a handle, a kept one or one that came: for `Store::draw` and `create` (by `Taking`), for `hold_next`, `hold_last` and
--- `Joining`, and in `Adding` for a layout. `cleared_of` and `refused_arrives` say what a refusal leaves, also for `Bringing` and `create_each`.
+-- `Joining`, and in `Adding` for a layout. `cleared_of`, `unmet_slots` and `refused_arrives` say what a refusal leaves, also for `Bringing` and `create_each`.
 -- `p` is its place, `u` what it is in use for, and `handle` the next one of the slot. `Fills` says what becomes of the slot, and `Handles`
 -- the same after kept sets may have gone. The slots are `old` before, `new` after, and between them `put` once the set was put, or `mid`: in
 -- `kept_fills` and `kept_fewer` once it was picked, and elsewhere once kept sets went, before it comes.
@@ -20,7 +20,7 @@ use Rattle.descriptor_table.proofs.Counting.{below_or}
 use Rattle.descriptor_table.proofs.Counts.{bit, count_set, same_count}
 use Rattle.descriptor_table.proofs.Listed.{other_slots, slot_set}
 use Rattle.descriptor_table.proofs.Renewing.{kept_is}
-use Rattle.descriptor_renderer.specs.Stores.{AreCleaned, ComesOf, GetsAtLast, HandlesKept, IsCleared, IsNamed, IsRefusedAtLast, TakesKept, generations_in, is_free, kept_of, number_of, side_of, slots_in}
+use Rattle.descriptor_renderer.specs.Stores.{AreCleaned, ComesOf, GetsAtLast, HandlesKept, IsCleared, IsNamed, IsRefusedAtLast, IsUnmet, TakesKept, generations_in, is_free, kept_of, number_of, side_of, slots_in}
 use Rattle.descriptor_renderer.specs.declared.store.Store.{Store}
 use Rattle.descriptor_renderer.proofs.Arriving.{Arrives, arrives_then, clears_arrives, same_arrives, used_placed}
 use Rattle.descriptor_renderer.proofs.Cleared.{Clears, clears, same_clears}
@@ -183,8 +183,15 @@ module _ {T : Type 0} where
 
 module _ {L P S D : Type 0} {d : Ghosts D L P S} where
   -- after a refusal and a cleanup the kept sets left their slots
-  pub cleared_of : (layout : L) (many : ℕ) (old new : Store L P S D d) → IsCleared layout many old new → AreCleaned (slots_in old) (slots_in new)
-  cleared_of layout many old new c = subst (λ l. AreCleaned l (slots_in new)) c.first.slots c.cleaned
+  pub cleared_of : (layout : L) (first last : ℕ) (old new : Store L P S D d) → IsCleared layout first last old new → AreCleaned (slots_in old) (slots_in new)
+  cleared_of layout first last old new c = subst (λ l. AreCleaned l (slots_in new)) c.first_refused.slots c.cleaned
+
+  -- the slots are as they were if sets were not had
+  pub unmet_slots : (layout : L) (many : ℕ) (error : AllocationError) (old new : Store L P S D d) → IsUnmet layout many error old new → slots_in new ≡ slots_in old
+  unmet_slots layout many error old new unmet = elim unmet [
+    | inl refused ↦ refused.slots
+    | inr lacks ↦ lacks.contents.slots
+  ]
 
   -- a set was taken, and has a handle
   pub taken_handles :
@@ -204,7 +211,7 @@ module _ {L P S D : Type 0} {d : Ghosts D L P S} where
       | inl gets ↦ at_once (new_fills (ComesOf d.meaning layout number) number' (generations_in old) number p u handle gets.set (slots_in old) (slots_in taken) new (again (slots_in old) gets.set gets.puts) (refl, gets.own) renews)
       | inr cleared ↦ (let mid = cleared.0 in let gets = cleared.2 in record {
         mid = slots_in mid;
-        clears = clears (slots_in old) (slots_in mid) (cleared_of layout 1 old mid cleared.1);
+        clears = clears (slots_in old) (slots_in mid) (cleared_of layout 1 1 old mid cleared.1);
         fills = new_fills (ComesOf d.meaning layout number) number' (generations_in old) number p u handle gets.set (slots_in mid) (slots_in taken) new (again (slots_in mid) gets.set gets.puts) (refl, gets.own) renews;
       })
     ]
@@ -247,12 +254,12 @@ module _ {L P S D : Type 0} {d : Ghosts D L P S} where
   -- a set was refused
   pub refused_arrives : (comes : ℕ → DescriptorSet S → Type 0) (f : ℕ) (layout : L) (first last : ℕ) (error : AllocationError) (old new : Store L P S D d) → IsRefusedAtLast layout first last error old new → (q : ℕ) → Arrives comes f (slot_at (slots_in old) q) (slot_at (slots_in new) q)
   refused_arrives comes f layout first last error old new refused q = elim refused.why [
-    | inl at_once ↦ same_arrives comes f (slot_at (slots_in old) q) (slot_at (slots_in new) q) (ap (λ l. slot_at l q) at_once.slots)
+    | inl at_once ↦ same_arrives comes f (slot_at (slots_in old) q) (slot_at (slots_in new) q) (ap (λ l. slot_at l q) (unmet_slots layout first error old new at_once))
     | inr later ↦
         (let mid = later.0 in
         arrives_then comes f (slot_at (slots_in old) q) (slot_at (slots_in mid) q) (slot_at (slots_in new) q)
         (clears_arrives comes f (slot_at (slots_in old) q) (slot_at (slots_in mid) q)
-        (clears (slots_in old) (slots_in mid) (cleared_of layout first old mid later.1) q))
+        (clears (slots_in old) (slots_in mid) (cleared_of layout first last old mid later.1) q))
         (same_arrives comes f (slot_at (slots_in mid) q) (slot_at (slots_in new) q)
-        (ap (λ l. slot_at l q) later.2.slots)))
+        (ap (λ l. slot_at l q) (unmet_slots layout last error mid new later.2))))
   ]

@@ -16,6 +16,7 @@ mod Naming
 mod Owned
 mod Remaining
 mod Removing
+mod Reserved
 mod Resting
 mod Results
 mod Returned

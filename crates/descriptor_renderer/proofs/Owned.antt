@@ -21,7 +21,7 @@ use Rattle.descriptor_renderer.specs.Stores.{ComesOf, IsRefusedAtLast, IsUpTo, S
 use Rattle.descriptor_renderer.specs.declared.layout_registry.LayoutHandle.{LayoutHandle}
 use Rattle.descriptor_renderer.specs.declared.layout_registry.LayoutRegistry.{LayoutRegistry}
 use Rattle.descriptor_renderer.specs.declared.store.Store.{Store}
-use Rattle.descriptor_renderer.proofs.Handing.{some_of}
+use Rattle.descriptor_renderer.proofs.Handing.{some_of, unmet_slots}
 use Rattle.descriptor_renderer.proofs.Showing.{cleaned_names}
 
 pub same_some : {T : Type 0} (x y : T) → Some x ≡ Some y → x ≡ y
@@ -86,10 +86,10 @@ module _ {L P S D : Type 0} {d : Ghosts D L P S} where
   refused_names layout first last error old new refused number frame opened =
       let named : List (Slot (DescriptorSet S)) → Sets (DescriptorSet S) = sets_of number frame opened in
       elim refused.why [
-        | inl once ↦ ap named once.slots
+        | inl once ↦ ap named (unmet_slots layout first error old new once)
         | inr twice ↦
             let clear = twice.1 in
-            ap named twice.2.slots ∙ cleaned_names frame opened number (slots_in clear.refused) (slots_in twice.0) clear.cleaned ∙ ap named clear.first.slots
+            ap named (unmet_slots layout last error twice.0 new twice.2) ∙ cleaned_names frame opened number (slots_in clear.refused) (slots_in twice.0) clear.cleaned ∙ ap named clear.first_refused.slots
       ]
 
 module _ {T : Type 0} where

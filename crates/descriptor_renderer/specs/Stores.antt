@@ -14,6 +14,7 @@ use Rattle.gpu_descriptor.specs.Caller.SetLayouts.{IsMeant}
 use Rattle.gpu_descriptor.specs.Caller.Sets.{AreOfLayout, items_of}
 use Rattle.gpu_descriptor.specs.Caller.Values.{Allocations}
 use Rattle.gpu_descriptor.specs.Model.Agreement.{Item, count_of}
+use Rattle.gpu_descriptor.specs.Model.Load.{set_descriptors}
 use Rattle.gpu_descriptor.specs.declared.errors.AllocationError.{AllocationError}
 use Rattle.gpu_descriptor.specs.declared.errors.AllocationError.TheVariants.{OutOfHostMemory}
 use Rattle.gpu_descriptor.specs.declared.layout.SetLayout.{SetLayout}
@@ -223,24 +224,43 @@ module _ {L P S D : Type 0} {d : Ghosts D L P S} where
     pub returns : Returns d.meaning sets (side_of old) mid
     pub cleans : TrimsPools d.meaning mid (side_of new)
 
-  -- the allocator refused so many sets, or an allocation of the table's own failed before it was asked, as fewer slots than that could have another set. All slots are as they were
+  -- so many sets of the layout alone have more descriptors than the limit allows
+  abbrev pub ExceedsLimitAlone : L → ℕ → StoreOver d → Type 0
+  ExceedsLimitAlone known many s = limit_of s < set_descriptors (layout_key d.meaning known) many
+
+  -- the allocator refused so many sets, for which the table had room. All slots are as they were
   pub record IsRefused (known : L) (many : ℕ) (error : AllocationError) (old new : StoreOver d) : Type 0 where
     pub slots : slots_in new ≡ slots_in old
-    pub why : HandsOut d.meaning (layout_key d.meaning known) many (Err error) (side_of old) (side_of new) ⊎ ((error ≡ OutOfHostMemory) × (side_of new ≡ side_of old) × (count is_usable (slots_in old) < many))
+    pub room : HasRoom many new.table
+    pub hands_out : HandsOut d.meaning (layout_key d.meaning known) many (Err error) (side_of old) (side_of new)
 
-  -- so many sets were refused while some were kept, and then all kept sets were given back, and all empty pools went
-  pub record IsCleared (known : L) (many : ℕ) (old new : StoreOver d) : Type 0 where
+  -- the table had no room for so many sets, and an allocation for more slots failed. The allocator was not asked
+  pub record LacksRoom (many : ℕ) (error : AllocationError) (old new : StoreOver d) : Type 0 where
+    pub out_of_memory : error ≡ OutOfHostMemory
+    pub room : ¬ (HasRoom many old.table)
+    pub full : count is_usable (slots_in old) < many
+    pub contents : KeepsContents old new
+
+  -- so many sets were not had: the allocator refused them, or the table had no room
+  abbrev pub IsUnmet : L → ℕ → AllocationError → StoreOver d → StoreOver d → Type 0
+  IsUnmet known many error old new = IsRefused known many error old new ⊎ LacksRoom many error old new
+
+  -- the allocator refused the first of two requests while some sets were kept, and then all kept sets were given back, and all empty pools went
+  pub record IsCleared (known : L) (first last : ℕ) (old new : StoreOver d) : Type 0 where
     pub some : 0 < count is_kept (slots_in old)
+    -- the limit allows as many sets as the second request has
+    pub fits : ¬ (ExceedsLimitAlone known last old)
     pub refused : StoreOver d
     pub error : AllocationError
-    pub first : IsRefused known many error old refused
+    pub first_refused : IsRefused known first error old refused
     pub cleaned : AreCleaned (slots_in refused) (slots_in new)
     pub cleans : Cleans refused new
 
-  -- no set is kept: so many were refused, or, after a cleanup, this many
+  -- so many sets were not had, or, after a cleanup, this many
   pub record IsRefusedAtLast (known : L) (first last : ℕ) (error : AllocationError) (old new : StoreOver d) : Type 0 where
-    pub none : count is_kept (slots_in new) ≡ 0
-    pub why : IsRefused known first error old new ⊎ ((mid : StoreOver d) × IsCleared known first old mid × IsRefused known last error mid new)
+    -- no set is kept, unless the second request alone exceeds the limit, or the table had no room for the first
+    pub none : (count is_kept (slots_in new) ≡ 0) ⊎ ExceedsLimitAlone known last old ⊎ LacksRoom first error old new
+    pub why : IsUnmet known first error old new ⊎ ((mid : StoreOver d) × IsCleared known first last old mid × IsUnmet known last error mid new)
 
   -- a set of the layout came from the allocator, and is at the place
   pub record Gets (known : L) (layout place : ℕ) (old new : StoreOver d) : Type 0 where
@@ -251,7 +271,7 @@ module _ {L P S D : Type 0} {d : Ghosts D L P S} where
 
   -- a set came from the allocator, at once, or after all kept sets were given back
   abbrev pub GetsAtLast : L → ℕ → ℕ → StoreOver d → StoreOver d → Type 0
-  GetsAtLast known layout place old new = Gets known layout place old new ⊎ ((mid : StoreOver d) × IsCleared known 1 old mid × Gets known layout place mid new)
+  GetsAtLast known layout place old new = Gets known layout place old new ⊎ ((mid : StoreOver d) × IsCleared known 1 1 old mid × Gets known layout place mid new)
 
   -- a new set has the handle, and is in use for this
   abbrev pub HandlesNew : L → ℕ → Use → SetHandle → StoreOver d → StoreOver d → Type 0
@@ -278,7 +298,7 @@ module _ {L P S D : Type 0} {d : Ghosts D L P S} where
 
   -- so many sets came from the allocator, at once, or, after all kept sets were given back, as many as all
   abbrev pub AsksAtLast : L → ℕ → ℕ → StoreOver d → StoreOver d → Type 0
-  AsksAtLast known first last old new = Asks known first old new ⊎ ((mid : StoreOver d) × IsCleared known first old mid × Asks known last mid new)
+  AsksAtLast known first last old new = Asks known first old new ⊎ ((mid : StoreOver d) × IsCleared known first last old mid × Asks known last mid new)
 
   -- so many sets came, and the device was not called after that
   abbrev pub BringsAtLast : L → ℕ → ℕ → StoreOver d → StoreOver d → Type 0

@@ -1,20 +1,26 @@
 //! The table of a renderer's sets over an allocator and a device.
-ghost use Rattle.std.specs.Prelude.{◌≡◌, ◌≤◌, ◌+◌, ◌<◌, [], length, OnOk, Some, option_map};
+ghost use Rattle.std.specs.Prelude.{◌≡◌, ◌≤◌, ◌+◌, ◌<◌, ◌↔◌, [], length, IfErr, IsTrue, OnOk, Some, option_map};
 ghost use Rattle.std.specs.Option.{option_copied};
+ghost use Rattle.gpu_descriptor.specs.Caller.Flags as flags;
+ghost use Rattle.gpu_descriptor.specs.Caller.SetLayouts.{IsMeant};
 ghost use Rattle.gpu_descriptor.specs.Caller.Sets.{raw_of};
 ghost use Rattle.gpu_descriptor.specs.Caller.States.{Agrees, outstanding_of, state_of};
 ghost use Rattle.gpu_descriptor.proofs.callers.OneAgreement.{Agrees-prop};
 ghost use Rattle.descriptor_table.specs.Sets.{find, sets_in};
 ghost use Rattle.descriptor_table.specs.Slots.{generation_at};
-ghost use Rattle.descriptor_table.specs.Tables.{HasListRoom, HasSettings, count, holds, is_kept, lists_with, settings_of, slots_of, waits};
+ghost use Rattle.descriptor_table.specs.Tables.{HasListRoom, HasRoom, HasSettings, count, holds, is_kept, lists_with, settings_of, slots_of, waits};
 ghost use Rattle.descriptor_renderer.specs.Exact.{AreExactly};
 
 mod back;
 mod batch;
 mod take;
 
+use bitflags::Flags;
 use descriptor_table::{SetHandle, SetTable};
-use gpu_descriptor::{DescriptorAllocator, DescriptorDevice, DescriptorSet};
+use gpu_descriptor::{
+    AllocationError, DescriptorAllocator, DescriptorDevice, DescriptorSet,
+    DescriptorSetLayoutCreateFlags, SetLayout,
+};
 use std::alloc::{AllocError, Global};
 use std::marker::PhantomData;
 use std::vec::Vec;
@@ -45,6 +51,7 @@ pub(crate) struct Store<L, P, S, D: DescriptorDevice<L, P, S>> {
 
 impl<L: Drop, P: Drop, S: Drop, D: DescriptorDevice<L, P, S>> Store<L, P, S, D> {
     ghost use Rattle.descriptor_renderer.specs.Stores.{IsAtRest, KeepsContents, KeepsStore, coming_in, kept_of, ledger_of};
+    ghost use Rattle.descriptor_renderer.specs.Stores.{ExceedsLimitAlone, LacksRoom};
     ghost use Rattle.descriptor_renderer.specs.Stores.{bound_of, keep_of, limit_of, lists_in, number_of};
     ghost use Rattle.descriptor_renderer.specs.Stores.{pools_besides, side_of, slots_in};
 
@@ -92,6 +99,30 @@ impl<L: Drop, P: Drop, S: Drop, D: DescriptorDevice<L, P, S>> Store<L, P, S, D> 
         ensures contents { KeepsContents self.old self.new }
     {
         self.table.add_layout();
+    }
+
+    /// Reserves memory in the table for so many sets more.
+    #[inline]
+    fn reserve(&mut self, many: u32) -> Result<(), AllocationError>
+        ensures room { OnOk result (HasRoom many self.new.table) }
+        ensures lacks { IfErr result (λ error. LacksRoom many error self.old self.new) }
+        ensures contents { KeepsContents self.old self.new }
+        ensures stays { KeepsStore self.old self.new }
+    {
+        if self.table.reserve(many).is_err() {
+            return Err(AllocationError::OutOfHostMemory);
+        }
+        Ok(())
+    }
+
+    /// Whether so many sets of a layout alone have more descriptors than the limit allows. A request for
+    /// them fails even if no other set is live.
+    fn exceeds_limit(&self, known: &SetLayout<L>, many: u32) -> bool
+        requires { IsMeant D.meaning known.now }
+        ensures { IsTrue result ↔ ExceedsLimitAlone known.now.layout many self.now }
+    {
+        let limit = self.allocator.update_after_bind_limit();
+        is_marked(known) && u128::from(many) * u128::from(known.counts.total()) > u128::from(limit)
     }
 
     /// From now on a new pool has at most `most` descriptors, unless what is wanting needs more. `None`
@@ -182,4 +213,12 @@ impl<L: Drop, P: Drop, S: Drop, D: DescriptorDevice<L, P, S>> Store<L, P, S, D> 
     {
         &self.allocator
     }
+}
+
+/// Whether a layout is an update-after-bind one.
+pub(crate) fn is_marked<L>(layout: &SetLayout<L>) -> bool
+    ensures { result ≡ flags.is_marked layout.now.flags }
+{
+    let mark = DescriptorSetLayoutCreateFlags::UPDATE_AFTER_BIND;
+    layout.flags.contains(mark)
 }

@@ -1,13 +1,12 @@
 //! What a renderer shows of its pools. Nothing here allocates.
 ghost use Rattle.std.specs.Prelude.{◌≡◌, ◌≤◌, length, IfSome, None};
-ghost use Rattle.gpu_descriptor.specs.Caller.Flags as flags;
 ghost use Rattle.gpu_descriptor.specs.Caller.States.{pool_load_of};
 ghost use Rattle.gpu_descriptor.specs.Caller.Views.{view_in};
 
 use super::Renderer;
 use crate::layout_registry::LayoutHandle;
-use bitflags::Flags;
-use gpu_descriptor::{DescriptorDevice, DescriptorSetLayoutCreateFlags, PoolView, SetLayout};
+use crate::store::is_marked;
+use gpu_descriptor::{DescriptorDevice, PoolView};
 
 impl<L: Drop, P: Drop, S: Drop, D: DescriptorDevice<L, P, S>> Renderer<L, P, S, D> {
     ghost use Rattle.descriptor_renderer.specs.Renderers.{layout_of, limit_of, pools_for, side_of};
@@ -55,12 +54,4 @@ impl<L: Drop, P: Drop, S: Drop, D: DescriptorDevice<L, P, S>> Renderer<L, P, S, 
         let allocator = self.store.allocator();
         allocator.pool(&known.counts, is_marked(known), index)
     }
-}
-
-/// Whether a layout is an update-after-bind one.
-fn is_marked<L>(layout: &SetLayout<L>) -> bool
-    ensures { result ≡ flags.is_marked layout.now.flags }
-{
-    let mark = DescriptorSetLayoutCreateFlags::UPDATE_AFTER_BIND;
-    layout.flags.contains(mark)
 }

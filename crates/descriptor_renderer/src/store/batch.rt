@@ -20,10 +20,11 @@ impl<L: Drop, P: Drop, S: Drop, D: DescriptorDevice<L, P, S>> Store<L, P, S, D> 
     ghost use Rattle.descriptor_renderer.specs.Stores.{Settles, coming_in, current_in, kept_of, number_of};
     ghost use Rattle.descriptor_renderer.specs.Stores.{side_of, slots_in};
 
-    /// Asks the allocator for so many sets of a layout, and for memory to put them into the table.
+    /// Asks the allocator for so many sets of a layout, for which the table has room.
     fn ask_for(&mut self, known: &SetLayout<L>, many: u32) -> Result<(), AllocationError>
         requires meant { IsMeant D.meaning known.now }
         requires none { coming_in self.old ≡ [] }
+        requires room { HasRoom many self.old.table }
         ensures asks { OnOk result (Asks known.now.layout many self.old self.new) }
         ensures refused { IfErr result (λ error. IsRefused known.now.layout many error self.old
             self.new) }
@@ -31,15 +32,13 @@ impl<L: Drop, P: Drop, S: Drop, D: DescriptorDevice<L, P, S>> Store<L, P, S, D> 
         ensures table { OnOk result (HasRoom many self.new.table) }
         ensures stays { KeepsStore self.old self.new }
     {
-        if self.table.reserve(many).is_err() {
-            return Err(AllocationError::OutOfHostMemory);
-        }
         self.allocator
             .allocate_into(&mut self.device, known, many, &mut self.coming)
     }
 
-    /// Asks for the sets that a request for so many needs besides the kept ones. If they are refused
-    /// while sets are kept, these are given back, empty pools are destroyed, and all are asked for.
+    /// Asks for the sets that a request for so many needs in addition to the kept ones. If the allocator
+    /// refuses them while sets are kept, these are freed, empty pools are destroyed, and it retries once,
+    /// for all. It does not if all of them alone exceed the limit.
     fn bring(&mut self, known: &SetLayout<L>, layout: u32, many: u32) -> Result<(), AllocationError>
         requires { CanTake known.now layout self.old }
         ensures kept { many ≤ kept_of layout self.old → (result ≡ Ok tt) × (self.new ≡ self.old) }
@@ -55,13 +54,15 @@ impl<L: Drop, P: Drop, S: Drop, D: DescriptorDevice<L, P, S>> Store<L, P, S, D> 
         if many <= kept {
             return Ok(());
         }
+        self.reserve(many - kept)?;
         match self.ask_for(known, many - kept) {
             Ok(()) => Ok(()),
             Err(error) => {
-                if self.table.kept_total() == 0 {
+                if self.exceeds_limit(known, many) || self.table.kept_total() == 0 {
                     return Err(error);
                 }
                 self.cleanup();
+                self.reserve(many)?;
                 self.ask_for(known, many)
             }
         }

@@ -7,32 +7,33 @@ use descriptor_table::SetHandle;
 use gpu_descriptor::{AllocationError, DescriptorDevice, SetLayout};
 
 impl<L: Drop, P: Drop, S: Drop, D: DescriptorDevice<L, P, S>> Store<L, P, S, D> {
+    ghost use Rattle.descriptor_table.specs.Tables.{HasRoom};
     ghost use Rattle.descriptor_table.specs.declared.slot.Use.{Use};
     ghost use Rattle.descriptor_renderer.specs.Stores.{CanTake, Gets, GetsAtLast, HasLayout};
     ghost use Rattle.descriptor_renderer.specs.Stores.{IsRefused, IsRefusedAtLast, KeepsComing};
     ghost use Rattle.descriptor_renderer.specs.Stores.{TakesKept, TakesOne, kept_of};
 
-    /// Asks the allocator for a set of a layout, and puts it into the table. Returns its place.
+    /// Asks the allocator for a set of a layout, and puts it into the table, over memory that was
+    /// reserved. Returns its place.
     #[inline]
     fn ask(&mut self, known: &SetLayout<L>, layout: u32) -> Result<usize, AllocationError>
         requires meant { IsMeant D.meaning known.now }
         requires layout { HasLayout layout self.old }
+        requires room { HasRoom 1 self.old.table }
         ensures gets { IfOk result (λ place. Gets known.now.layout layout place self.old self.new) }
         ensures refused { IfErr result (λ error. IsRefused known.now.layout 1 error self.old
             self.new) }
         ensures stays { KeepsComing self.old self.new }
     {
-        if self.table.reserve(1).is_err() {
-            return Err(AllocationError::OutOfHostMemory);
-        }
         match self.allocator.allocate_one(&mut self.device, known) {
             Ok(set) => Ok(self.table.put(layout, set)),
             Err(error) => Err(error),
         }
     }
 
-    /// Takes a new set of a layout. If it is refused while sets are kept, they are given back, empty
-    /// pools are destroyed, and it is asked for once more. Returns its place.
+    /// Takes a new set of a layout, and returns its place. If the allocator refuses it while sets are
+    /// kept, they are freed, empty pools are destroyed, and it retries once. It does not if the set alone
+    /// exceeds the limit.
     fn take_new(&mut self, known: &SetLayout<L>, layout: u32) -> Result<usize, AllocationError>
         requires { CanTake known.now layout self.old }
         ensures gets { IfOk result (λ place. GetsAtLast known.now.layout layout place self.old
@@ -41,21 +42,24 @@ impl<L: Drop, P: Drop, S: Drop, D: DescriptorDevice<L, P, S>> Store<L, P, S, D> 
             self.new) }
         ensures stays { KeepsComing self.old self.new }
     {
+        self.reserve(1)?;
         match self.ask(known, layout) {
             Ok(place) => Ok(place),
             Err(error) => {
-                if self.table.kept_total() == 0 {
+                if self.exceeds_limit(known, 1) || self.table.kept_total() == 0 {
                     return Err(error);
                 }
                 self.cleanup();
+                self.reserve(1)?;
                 self.ask(known, layout)
             }
         }
     }
 
     /// Takes a set of a layout: the last one that was kept, or else a new one. Returns its place. An
-    /// error is one of `DescriptorAllocator::allocate_one`, or want of memory for a slot; after it no set
-    /// of any layout is kept.
+    /// error is one of `DescriptorAllocator::allocate_one`, or `OutOfHostMemory` if an allocation for more
+    /// slots fails. After it no set of any layout is kept, unless the set alone exceeds the limit, or that
+    /// allocation failed.
     #[inline]
     fn take(&mut self, known: &SetLayout<L>, layout: u32) -> Result<usize, AllocationError>
         requires { CanTake known.now layout self.old }

@@ -6,7 +6,10 @@ mod batch;
 mod take;
 
 use crate::descriptor_table::{SetHandle, SetTable};
-use crate::gpu_descriptor::{DescriptorAllocator, DescriptorDevice, DescriptorSet};
+use crate::gpu_descriptor::{
+    AllocationError, DescriptorAllocator, DescriptorDevice, DescriptorSet, DescriptorSetLayoutCreateFlags,
+    SetLayout,
+};
 use crate::kit::alloc::{AllocError, Global};
 use crate::kit::marker::PhantomData;
 use crate::kit::vec::Vec;
@@ -54,6 +57,24 @@ impl<L, P, S, D: DescriptorDevice<L, P, S>> Store<L, P, S, D> {
     pub(crate) fn add_layout(&mut self)
     {
         self.table.add_layout();
+    }
+
+    /// Reserves memory in the table for so many sets more.
+    #[inline]
+    fn reserve(&mut self, many: u32) -> Result<(), AllocationError>
+    {
+        if self.table.reserve(many).is_err() {
+            return Err(AllocationError::OutOfHostMemory);
+        }
+        Ok(())
+    }
+
+    /// Whether so many sets of a layout alone have more descriptors than the limit allows. Then no
+    /// cleanup helps a request for them.
+    fn exceeds_limit(&self, known: &SetLayout<L>, many: u32) -> bool
+    {
+        let limit = self.allocator.update_after_bind_limit();
+        is_marked(known) && u128::from(many) * u128::from(known.counts.total_u64()) > u128::from(limit)
     }
 
     /// From now on a new pool has at most `most` descriptors, unless what is wanting needs more. `None`
@@ -126,4 +147,11 @@ impl<L, P, S, D: DescriptorDevice<L, P, S>> Store<L, P, S, D> {
     {
         &self.allocator
     }
+}
+
+/// Whether a layout is an update-after-bind one.
+pub(crate) fn is_marked<L>(layout: &SetLayout<L>) -> bool
+{
+    let mark = DescriptorSetLayoutCreateFlags::UPDATE_AFTER_BIND;
+    layout.flags.contains(mark)
 }

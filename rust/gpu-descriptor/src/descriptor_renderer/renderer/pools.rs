@@ -3,7 +3,8 @@
 
 use super::Renderer;
 use crate::descriptor_renderer::layout_registry::LayoutHandle;
-use crate::gpu_descriptor::{DescriptorDevice, DescriptorSetLayoutCreateFlags, PoolView, SetLayout};
+use crate::descriptor_renderer::store::is_marked;
+use crate::gpu_descriptor::{DescriptorDevice, PoolView};
 
 impl<L, P, S, D: DescriptorDevice<L, P, S>> Renderer<L, P, S, D> {
     /// How many descriptors the pools of update-after-bind layouts have, as they were created; a
@@ -40,11 +41,4 @@ impl<L, P, S, D: DescriptorDevice<L, P, S>> Renderer<L, P, S, D> {
         let allocator = self.store.allocator();
         allocator.pool(&known.counts, is_marked(known), index)
     }
-}
-
-/// Whether a layout is an update-after-bind one.
-fn is_marked<L>(layout: &SetLayout<L>) -> bool
-{
-    let mark = DescriptorSetLayoutCreateFlags::UPDATE_AFTER_BIND;
-    layout.flags.contains(mark)
 }

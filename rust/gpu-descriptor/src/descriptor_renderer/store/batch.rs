@@ -7,31 +7,31 @@ use crate::gpu_descriptor::{AllocationError, DescriptorDevice, SetLayout};
 use crate::kit::vec::Vec;
 
 impl<L, P, S, D: DescriptorDevice<L, P, S>> Store<L, P, S, D> {
-    /// Asks the allocator for so many sets of a layout, and for memory to put them into the table.
+    /// Asks the allocator for so many sets of a layout, for which the table has room.
     fn ask_for(&mut self, known: &SetLayout<L>, many: u32) -> Result<(), AllocationError>
     {
-        if self.table.reserve(many).is_err() {
-            return Err(AllocationError::OutOfHostMemory);
-        }
         self.allocator
             .allocate_into(&mut self.device, known, many, &mut self.coming)
     }
 
-    /// Asks for the sets that a request for so many needs besides the kept ones. If they are refused
-    /// while sets are kept, these are given back, empty pools are destroyed, and all are asked for.
+    /// Asks for the sets that a request for so many needs besides the kept ones. If the allocator refuses
+    /// them while sets are kept, these are given back, empty pools are destroyed, and all are asked for,
+    /// unless the request alone exceeds the limit.
     fn bring(&mut self, known: &SetLayout<L>, layout: u32, many: u32) -> Result<(), AllocationError>
     {
         let kept = self.table.kept_count(layout);
         if many <= kept {
             return Ok(());
         }
+        self.reserve(many - kept)?;
         match self.ask_for(known, many - kept) {
             Ok(()) => Ok(()),
             Err(error) => {
-                if self.table.kept_total() == 0 {
+                if self.exceeds_limit(known, many) || self.table.kept_total() == 0 {
                     return Err(error);
                 }
                 self.cleanup();
+                self.reserve(many)?;
                 self.ask_for(known, many)
             }
         }

@@ -6,30 +6,31 @@ use crate::descriptor_table::SetHandle;
 use crate::gpu_descriptor::{AllocationError, DescriptorDevice, SetLayout};
 
 impl<L, P, S, D: DescriptorDevice<L, P, S>> Store<L, P, S, D> {
-    /// Asks the allocator for a set of a layout, and puts it into the table. Returns its place.
+    /// Asks the allocator for a set of a layout, and puts it into the table, over memory that was
+    /// reserved. Returns its place.
     #[inline]
     fn ask(&mut self, known: &SetLayout<L>, layout: u32) -> Result<usize, AllocationError>
     {
-        if self.table.reserve(1).is_err() {
-            return Err(AllocationError::OutOfHostMemory);
-        }
         match self.allocator.allocate_one(&mut self.device, known) {
             Ok(set) => Ok(self.table.put(layout, set)),
             Err(error) => Err(error),
         }
     }
 
-    /// Takes a new set of a layout. If it is refused while sets are kept, they are given back, empty
-    /// pools are destroyed, and it is asked for once more. Returns its place.
+    /// Takes a new set of a layout. If the allocator refuses it while sets are kept, they are given
+    /// back, empty pools are destroyed, and it is asked for once more, unless the set alone exceeds the
+    /// limit. Returns its place.
     fn take_new(&mut self, known: &SetLayout<L>, layout: u32) -> Result<usize, AllocationError>
     {
+        self.reserve(1)?;
         match self.ask(known, layout) {
             Ok(place) => Ok(place),
             Err(error) => {
-                if self.table.kept_total() == 0 {
+                if self.exceeds_limit(known, 1) || self.table.kept_total() == 0 {
                     return Err(error);
                 }
                 self.cleanup();
+                self.reserve(1)?;
                 self.ask(known, layout)
             }
         }

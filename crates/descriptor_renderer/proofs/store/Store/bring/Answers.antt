@@ -1,40 +1,59 @@
-use Rattle.std.proofs.Common.{◌-◌, ◌∙◌, inr, ap, subst, arith}
+use Rattle.std.proofs.Common.{◌-◌, ◌∙◌, inl, inr, ap, subst}
+use Rattle.std.proofs.lemmas.Bool.{false≢true}
 use Rattle.descriptor_table.specs.Tables.{count, is_kept}
 use Rattle.descriptor_renderer.specs.Stores.{Asks, AsksAtLast, IsCleared, IsRefused, IsRefusedAtLast, kept_of, slots_in}
+use Rattle.gpu_descriptor.proofs.request.Passed.{passed}
 use Rattle.descriptor_renderer.proofs.Cleared.{none_left}
+use Rattle.descriptor_renderer.proofs.Reserved.{asks_from, cleared, refused_from}
 use Rattle.descriptor_renderer.proofs.Results.{if_err, on_ok}
 use Rattle.descriptor_renderer.proofs.store.Store.bring.Given.{Over}
 use Rattle.descriptor_renderer.proofs.store.Store.bring.Goals as goal
 use Rattle.descriptor_renderer.proofs.store.Store.bring.Goals.{After-cleanup}
 
-cleared : (g : Over) (c : After-cleanup g) → IsCleared c.args.known.now.layout (c.args.many - kept_of c.args.layout c.args.self.now) c.args.self.now c.cleanup.new.self
-cleared g c = record {
-  some = (let n = c.kept_total.ensures in let same = ap (count is_kept) c.in-Err.ensures.refused.slots in let ne = c.if-kept_total-eq0.false in omega arith);
-  refused = c.ask_for.new.self;
-  error = c.in-Err.error;
-  first = subst (λ n. IsRefused c.args.known.now.layout (c.args.many - n) c.in-Err.error c.args.self.now c.ask_for.new.self) c.kept_count-kept.ensures.count c.in-Err.ensures.refused;
-  cleaned = c.cleanup.ensures.cleaned;
-  cleans = c.cleanup.ensures.cleans;
-}
+cleaned_up : (g : Over) (c : After-cleanup g) → IsCleared c.args.known.now.layout (c.args.many - kept_of c.args.layout c.args.self.now) c.args.many c.args.self.now c.cleanup.new.self
+cleaned_up g c =
+    let layout = c.args.known.now.layout in
+    let many = c.args.many in
+    let old = c.args.self.now in
+    let reserved = c.in_ok-reserve.ensures in
+    let first = refused_from layout old c.reserve.new.self c.ask_for.new.self reserved.contents (many - c.kept_count-kept.result) c.in-Err.error c.in-Err.ensures.refused in
+    cleared layout (many - kept_of c.args.layout old) many c.in-Err.error old c.ask_for.new.self c.cleanup.new.self
+    (subst (λ n. IsRefused layout (many - n) c.in-Err.error old c.ask_for.new.self) c.kept_count-kept.ensures.count first)
+    (c.in-Err.ensures.stays.limit ∙ reserved.stays.limit)
+    (λ above. false≢true (c.if-exceeds_limit.ensures.1 above)) (λ e. c.if-kept_total-eq0.false (c.kept_total.ensures ∙ e)) c.cleanup.ensures.cleaned c.cleanup.ensures.cleans
 
-pub returns-else-kept_total-eq0-clause-asks : goal.returns-else-kept_total-eq0-clause-asks
-returns-else-kept_total-eq0-clause-asks g c =
-    λ few.
-    on_ok (Asks c.args.known.now.layout c.args.many c.cleanup.new.self c.ask_for-in-Err.new.self)
+pub returns-in_err-reserve-in-Err-clause-refused : goal.returns-in_err-reserve-in-Err-clause-refused
+returns-in_err-reserve-in-Err-clause-refused g c =
+    let lacks = c.in_err-reserve-in-Err.ensures.lacks in
+    rw (passed c.from_residual-in_err-reserve-in-Err.result c.in_err-reserve-in-Err.field-0.0 c.from_residual-in_err-reserve-in-Err.ensures.1) (record {
+      none = inl (ap (count is_kept) lacks.contents.slots ∙ none_left (slots_in c.ask_for.new.self) (slots_in c.cleanup.new.self) c.cleanup.ensures.cleaned);
+      why = inr (c.cleanup.new.self, cleaned_up g (goal.at.returns-in_err-reserve-in-Err-clause-refused g c).After-cleanup, inr lacks);
+    })
+
+pub returns-in_ok-reserve-in-Err-clause-asks : goal.returns-in_ok-reserve-in-Err-clause-asks
+returns-in_ok-reserve-in-Err-clause-asks g c = λ few.
+    let reserved = c.in_ok-reserve-in-Err.ensures in
+    on_ok (Asks c.args.known.now.layout c.args.many c.reserve-in-Err.new.self c.ask_for-in-Err.new.self)
     (AsksAtLast c.args.known.now.layout (c.args.many - kept_of c.args.layout c.args.self.now) c.args.many
     c.args.self.now c.ask_for-in-Err.new.self)
-    c.ask_for-in-Err.result c.ask_for-in-Err.ensures.asks
-    (λ asks.
-    inr
-    (c.cleanup.new.self, cleared g (goal.at.returns-else-kept_total-eq0-clause-asks g c).After-cleanup, asks))
+    c.ask_for-in-Err.result c.ask_for-in-Err.ensures.asks (λ asks. inr (
+      c.cleanup.new.self,
+      cleaned_up g (goal.at.returns-in_ok-reserve-in-Err-clause-asks g c).After-cleanup,
+      asks_from c.args.known.now.layout c.cleanup.new.self c.reserve-in-Err.new.self c.ask_for-in-Err.new.self reserved.contents c.args.many asks,
+    ))
 
-pub returns-else-kept_total-eq0-clause-refused : goal.returns-else-kept_total-eq0-clause-refused
-returns-else-kept_total-eq0-clause-refused g c =
-    if_err (λ error. IsRefused c.args.known.now.layout c.args.many error c.cleanup.new.self c.ask_for-in-Err.new.self)
+pub returns-in_ok-reserve-in-Err-clause-refused : goal.returns-in_ok-reserve-in-Err-clause-refused
+returns-in_ok-reserve-in-Err-clause-refused g c =
+    let reserved = c.in_ok-reserve-in-Err.ensures in
+    if_err (λ error. IsRefused c.args.known.now.layout c.args.many error c.reserve-in-Err.new.self c.ask_for-in-Err.new.self)
     (λ error.
     IsRefusedAtLast c.args.known.now.layout (c.args.many - kept_of c.args.layout c.args.self.now) c.args.many error
     c.args.self.now c.ask_for-in-Err.new.self)
     c.ask_for-in-Err.result c.ask_for-in-Err.ensures.refused (λ error refused. record {
-      none = ap (count is_kept) refused.slots ∙ none_left (slots_in c.ask_for.new.self) (slots_in c.cleanup.new.self) c.cleanup.ensures.cleaned;
-      why = inr (c.cleanup.new.self, cleared g (goal.at.returns-else-kept_total-eq0-clause-refused g c).After-cleanup, refused);
+      none = inl (ap (count is_kept) (refused.slots ∙ reserved.contents.slots) ∙ none_left (slots_in c.ask_for.new.self) (slots_in c.cleanup.new.self) c.cleanup.ensures.cleaned);
+      why = inr (
+        c.cleanup.new.self,
+        cleaned_up g (goal.at.returns-in_ok-reserve-in-Err-clause-refused g c).After-cleanup,
+        inl (refused_from c.args.known.now.layout c.cleanup.new.self c.reserve-in-Err.new.self c.ask_for-in-Err.new.self reserved.contents c.args.many error refused),
+      );
     })
