@@ -325,10 +325,12 @@ gd_status gd_remove_layout(gd_allocator allocator, gd_layout layout);
  * Allocates 'count' sets, all or none: kept ones of this layout first, the others new, in one request. If
  * it fails, 'sets' is zeroed, and freeing such a set is GD_BAD_SET.
  *
- * If new sets are refused while sets of any layout are kept, all kept sets are freed and empty pools
- * destroyed, as by gd_cleanup, and all 'count' are asked for once more. It fails only if they are refused
- * again, if no set was kept, or if there is no memory for the names of the sets. After a failure there may be
- * empty pools, which count against the limit: gd_trim destroys them.
+ * If new sets are refused while sets of any layout are kept, all kept sets are freed and empty pools are
+ * destroyed, as by gd_cleanup, and it retries once, for all 'count'. It fails at once, and kept sets stay,
+ * if 'count' sets alone have more update-after-bind descriptors than the limit, or if there is no memory for
+ * the library's table of sets or for their names. Otherwise it fails only if the retry is refused too, or if
+ * no set was kept. After a failure there may be empty pools, which count against the limit: gd_trim destroys
+ * them.
  *
  * GD_OUT_OF_DEVICE_MEMORY, GD_OUT_OF_HOST_MEMORY, GD_FRAGMENTATION, GD_DEVICE_LOST, GD_BAD_RESULT,
  * GD_NULL_POINTER, GD_BAD_LAYOUT, GD_BAD_ALLOCATOR, GD_BUSY, GD_INTERNAL_ERROR.

@@ -130,7 +130,8 @@ static RENDERERS: AtomicU32 = AtomicU32::new(0);
 /// in a debug build: it keeps none, and the layer reports a set that isn't written.
 ///
 /// The device frees the kept sets at a `cleanup`, `free_all` or `shutdown`, those of a layout at its
-/// `remove_layout`, and all if it refuses a new set.
+/// `remove_layout`, and all if a new set is refused. They stay if the request alone exceeds the limit: see
+/// [`draw`](Self::draw).
 ///
 /// # Which calls are unsafe
 ///
@@ -238,8 +239,10 @@ impl<L, P, S, D: DescriptorDevice<L, P, S>> Renderer<L, P, S, D> {
     /// A set of a layout for the open frame: the last one that was kept, or else a new one. The handle is
     /// good until the frame ends, and the set comes back at the `gpu_done` of the frame.
     ///
-    /// If a new set is refused while sets are kept, of whatever layout, the kept sets are freed and empty
-    /// pools destroyed, as by [`cleanup`](Self::cleanup), and it is asked for once more.
+    /// If a new set is refused while sets of any layout are kept, all kept sets are freed and empty pools
+    /// are destroyed, as by [`cleanup`](Self::cleanup), and `draw` retries once. It does not, and kept sets
+    /// stay, if the set alone has more update-after-bind descriptors than the limit allows, or if an
+    /// allocation for the renderer's own table fails.
     ///
     /// # Errors
     ///
@@ -341,8 +344,10 @@ impl<L, P, S, D: DescriptorDevice<L, P, S>> Renderer<L, P, S, D> {
     /// Creates so many sets of a layout, all or none, each of which is held until it is freed or
     /// destroyed: kept ones first, the others new, in one request.
     ///
-    /// If the new sets are refused while sets are kept, of whatever layout, the kept sets are freed and
-    /// empty pools destroyed, as by [`cleanup`](Self::cleanup), and all `count` are asked for.
+    /// If the new sets are refused while sets of any layout are kept, all kept sets are freed and empty
+    /// pools are destroyed, as by [`cleanup`](Self::cleanup), and it retries once, for all `count`. It does
+    /// not, and kept sets stay, if `count` sets alone have more update-after-bind descriptors than the limit
+    /// allows, or if an allocation for the handles or for the renderer's own table fails.
     ///
     /// # Errors
     ///

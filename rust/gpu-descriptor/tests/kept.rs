@@ -8,7 +8,7 @@ mod refuses;
 use gpu_descriptor::AllocationError::*;
 use gpu_descriptor::renderer::*;
 use gpu_descriptor::*;
-use refuses::{bytes, calls, counted};
+use refuses::{bytes, calls, counted, with_refused};
 use std::cell::{Cell, RefCell};
 use std::collections::{BTreeMap, HashMap, HashSet};
 
@@ -496,6 +496,87 @@ fn the_limit_while_sets_are_kept() {
     shutdown(it);
 }
 
+/// A marked layout whose sets have so many descriptors.
+fn add_marked(it: &mut Sets, descriptors: u32) -> LayoutHandle {
+    let mut marked = layout(MARKED);
+    marked.counts.sampler = descriptors;
+    // SAFETY: it is the device's, and stays.
+    unsafe { it.add_layout(marked) }.unwrap()
+}
+
+/// A request that alone exceeds the limit fails whatever is freed, so kept sets stay.
+#[test]
+fn a_request_above_the_limit_leaves_kept_sets() {
+    let gpu = Gpu::default();
+    let (mut it, layouts) = renderer(&gpu, u32::MAX);
+    let large = add_marked(&mut it, LIMIT + 1);
+    let plain = it.create_sets(layouts[0], 5).unwrap();
+    let marked = it.create_sets(layouts[MARKED], 3).unwrap();
+    free(&mut it, &plain);
+    free(&mut it, &marked);
+    it.begin_frame().unwrap();
+    let calls = gpu.calls.get();
+    let refused = RenderError::Allocation(Fragmentation);
+    for _ in 0..3 {
+        assert_eq!(it.create_set(large), Err(refused));
+        assert_eq!(it.draw(large), Err(refused));
+        assert_eq!(it.create_sets(large, 2), Err(refused));
+        // Next to the three kept ones 78 are still needed. They would fit, but all 81 never do.
+        let many = LIMIT / DESCRIPTORS + 1;
+        assert_eq!(it.create_sets(layouts[MARKED], many), Err(refused));
+    }
+    assert_eq!((it.counts(), gpu.calls.get()), (counts(0, 0, 8), calls));
+    assert_eq!(it.kept_count(layouts[MARKED]), 3);
+    it.end_frame();
+    shutdown(it);
+}
+
+/// A request that takes the whole limit doesn't exceed it: kept sets are freed, and it is met.
+#[test]
+fn a_request_of_the_whole_limit_frees_kept_sets() {
+    for many in [1, LIMIT / DESCRIPTORS] {
+        let gpu = Gpu::default();
+        let (mut it, layouts) = renderer(&gpu, u32::MAX);
+        let all = add_marked(&mut it, LIMIT / many);
+        let plain = it.create_sets(layouts[0], 5).unwrap();
+        let other = add_marked(&mut it, DESCRIPTORS + 1);
+        let marked = it.create_set(other).unwrap();
+        free(&mut it, &plain);
+        free(&mut it, &[marked]);
+        let sets = match many {
+            1 => vec![it.create_set(all).unwrap()],
+            _ => it.create_sets(all, many).unwrap(),
+        };
+        assert_eq!(it.counts(), counts(many.into(), 0, 0));
+        free(&mut it, &sets);
+        shutdown(it);
+    }
+}
+
+/// No memory for a slot: the device isn't asked, and kept sets stay.
+#[test]
+fn a_request_without_memory_for_a_slot_leaves_kept_sets() {
+    for number in 0..3 {
+        let gpu = Gpu::default();
+        let (mut it, layouts) = renderer(&gpu, u32::MAX);
+        let four = it.create_sets(layouts[0], 4).unwrap();
+        free(&mut it, &four);
+        let device_calls = gpu.calls.get();
+        // Each of the three lists of the table is full.
+        let (answer, calls) = with_refused(number, || it.create_set(layouts[2]));
+        assert_eq!(answer, Err(RenderError::Allocation(OutOfHostMemory)));
+        assert_eq!(calls, number + 1);
+        assert_eq!(
+            (it.counts(), gpu.calls.get()),
+            (counts(0, 0, 4), device_calls)
+        );
+        let set = it.create_set(layouts[2]).unwrap();
+        assert_eq!(it.counts(), counts(1, 0, 4));
+        free(&mut it, &[set]);
+        shutdown(it);
+    }
+}
+
 /// An open frame isn't done, whatever is said.
 #[test]
 fn the_open_frame_is_not_done() {
@@ -772,13 +853,16 @@ impl Model<'_> {
         if many <= kept {
             assert_eq!(self.gpu.calls.get(), calls, "enough are kept");
         }
-        // A refusal frees the kept sets of all layouts. Nothing else in a request frees one.
+        // A refusal frees the kept sets of all layouts, unless the request alone exceeds the limit. Nothing
+        // else in a request frees one.
+        let is_above = layout == MARKED && many as u32 * DESCRIPTORS > LIMIT;
         let gone = all_kept
             .iter()
             .filter(|raw| !self.gpu.is_live(**raw))
             .count();
         match answer {
             Ok(handles) => {
+                assert!(!is_above);
                 assert_eq!(handles.len(), many);
                 assert!(gone == 0 || gone == all_kept.len());
                 let mut first = kept.min(many);
@@ -798,7 +882,11 @@ impl Model<'_> {
             Err(RenderError::Allocation(error)) => {
                 assert!(was_refused || (layout, error) == (MARKED, Fragmentation));
                 assert!(many > kept);
-                assert_eq!(gone, all_kept.len());
+                if is_above {
+                    assert_eq!((gone, self.gpu.calls.get()), (0, calls));
+                } else {
+                    assert_eq!(gone, all_kept.len());
+                }
                 if gone > 0 {
                     self.clean();
                 }
@@ -943,6 +1031,9 @@ fn step(model: &mut Model, random: &mut Random, changes_keep: bool) {
     match random.below(40) {
         0..9 if is_open => model.draw(layout),
         9..12 => model.create(layout),
+        12..15 if layout == MARKED && random.below(4) == 0 => {
+            model.create_many(layout, (LIMIT / DESCRIPTORS) as usize + 1);
+        }
         12..15 => model.create_many(layout, random.below(9)),
         15..19 => {
             let some = random.some(held, 6);

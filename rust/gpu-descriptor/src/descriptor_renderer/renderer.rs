@@ -34,8 +34,9 @@ pub struct Counts {
 ///
 /// A set that comes back is kept, as long as no more of its layout are kept than `set_keep` says, at
 /// first all. Kept sets are handed out again before the device is asked for a new one. They have the
-/// contents that they had. `cleanup` gives them back, and `remove_layout` those of its layout. Only
-/// `draw`, `create_set`, `create_sets` and `add_layout` allocate.
+/// contents that they had. `cleanup` gives them back, and `remove_layout` those of its layout. A request
+/// that the allocator refuses frees them too, and retries, unless it alone exceeds the limit. Only `draw`,
+/// `create_set`, `create_sets` and `add_layout` allocate.
 ///
 /// The raw set of a handle is borrowed, as the device is, to be written and bound. Do not allocate or
 /// free on the device in the meantime: only the renderer does.

@@ -7,8 +7,8 @@ mod take;
 
 use crate::descriptor_table::{SetHandle, SetTable};
 use crate::gpu_descriptor::{
-    AllocationError, DescriptorAllocator, DescriptorDevice, DescriptorSet, DescriptorSetLayoutCreateFlags,
-    SetLayout,
+    AllocationError, DescriptorAllocator, DescriptorDevice, DescriptorSet,
+    DescriptorSetLayoutCreateFlags, SetLayout,
 };
 use crate::kit::alloc::{AllocError, Global};
 use crate::kit::marker::PhantomData;
@@ -69,8 +69,8 @@ impl<L, P, S, D: DescriptorDevice<L, P, S>> Store<L, P, S, D> {
         Ok(())
     }
 
-    /// Whether so many sets of a layout alone have more descriptors than the limit allows. Then no
-    /// cleanup helps a request for them.
+    /// Whether so many sets of a layout alone have more descriptors than the limit allows. A request for
+    /// them fails even if no other set is live.
     fn exceeds_limit(&self, known: &SetLayout<L>, many: u32) -> bool
     {
         let limit = self.allocator.update_after_bind_limit();

@@ -42,8 +42,10 @@ impl<L, P, S, D: DescriptorDevice<L, P, S>> Renderer<L, P, S, D> {
     /// names it until the frame ends, and the set comes back once the device is done with the frame.
     /// Without an open frame or the layout it returns `NoFrame` or `NoLayout`, and changes nothing.
     ///
-    /// If a new set is refused while sets are kept, of whatever layout, all kept sets are given back and
-    /// empty pools are destroyed, as by `cleanup`, and it is asked for once more.
+    /// If the allocator refuses a new set while sets of any layout are kept, all kept sets are freed and
+    /// empty pools are destroyed, as by `cleanup`, and `draw` retries once. It does not, and kept sets
+    /// stay, in two cases: the set alone has more update-after-bind descriptors than the limit allows, or
+    /// an allocation for the table of sets failed before the allocator was asked.
     #[inline]
     pub fn draw(&mut self, layout: LayoutHandle) -> Result<SetHandle, RenderError>
     {

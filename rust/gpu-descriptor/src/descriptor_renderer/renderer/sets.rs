@@ -26,8 +26,10 @@ impl<L, P, S, D: DescriptorDevice<L, P, S>> Renderer<L, P, S, D> {
     /// first, the others new, in one request. Their handles are appended to `handles`. On an error
     /// `handles` has what it had.
     ///
-    /// If the new sets are refused while sets are kept, of whatever layout, all kept sets are given back
-    /// and empty pools are destroyed, as by `cleanup`, and all are asked for.
+    /// If the allocator refuses the new sets while sets of any layout are kept, all kept sets are freed
+    /// and empty pools are destroyed, as by `cleanup`, and it retries once, for all `many`. It does not,
+    /// and kept sets stay, if `many` sets alone have more update-after-bind descriptors than the limit
+    /// allows, or if an allocation of its own failed before the allocator was asked.
     pub fn create_sets(
         &mut self,
         layout: LayoutHandle,

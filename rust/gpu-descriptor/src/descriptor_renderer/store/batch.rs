@@ -14,9 +14,9 @@ impl<L, P, S, D: DescriptorDevice<L, P, S>> Store<L, P, S, D> {
             .allocate_into(&mut self.device, known, many, &mut self.coming)
     }
 
-    /// Asks for the sets that a request for so many needs besides the kept ones. If the allocator refuses
-    /// them while sets are kept, these are given back, empty pools are destroyed, and all are asked for,
-    /// unless the request alone exceeds the limit.
+    /// Asks for the sets that a request for so many needs in addition to the kept ones. If the allocator
+    /// refuses them while sets are kept, these are freed, empty pools are destroyed, and it retries once,
+    /// for all. It does not if all of them alone exceed the limit.
     fn bring(&mut self, known: &SetLayout<L>, layout: u32, many: u32) -> Result<(), AllocationError>
     {
         let kept = self.table.kept_count(layout);

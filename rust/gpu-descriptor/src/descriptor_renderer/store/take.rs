@@ -17,9 +17,9 @@ impl<L, P, S, D: DescriptorDevice<L, P, S>> Store<L, P, S, D> {
         }
     }
 
-    /// Takes a new set of a layout. If the allocator refuses it while sets are kept, they are given
-    /// back, empty pools are destroyed, and it is asked for once more, unless the set alone exceeds the
-    /// limit. Returns its place.
+    /// Takes a new set of a layout, and returns its place. If the allocator refuses it while sets are
+    /// kept, they are freed, empty pools are destroyed, and it retries once. It does not if the set alone
+    /// exceeds the limit.
     fn take_new(&mut self, known: &SetLayout<L>, layout: u32) -> Result<usize, AllocationError>
     {
         self.reserve(1)?;
@@ -37,8 +37,9 @@ impl<L, P, S, D: DescriptorDevice<L, P, S>> Store<L, P, S, D> {
     }
 
     /// Takes a set of a layout: the last one that was kept, or else a new one. Returns its place. An
-    /// error is one of `DescriptorAllocator::allocate_one`, or want of memory for a slot; after it no set
-    /// of any layout is kept.
+    /// error is one of `DescriptorAllocator::allocate_one`, or `OutOfHostMemory` if an allocation for more
+    /// slots fails. After it no set of any layout is kept, unless the set alone exceeds the limit, or that
+    /// allocation failed.
     #[inline]
     fn take(&mut self, known: &SetLayout<L>, layout: u32) -> Result<usize, AllocationError>
     {
