@@ -218,9 +218,31 @@ class EditText(NamedTuple):
 
 
 def read_edit(path):
-    """Reads an edit. An old text of several lines has a line 'old:' for each."""
+    """Reads the edit of a file."""
     with open(path, encoding="utf-8") as it:
-        lines = [line.partition(":") for line in it.read().splitlines() if line.strip()]
+        return parse_edit(it.read())
+
+
+def mutants_of(path):
+    """The name and the text of each mutant of a file, in which one begins with '== NAME'."""
+    if not os.path.isfile(path):
+        return
+    with open(path, encoding="utf-8") as it:
+        for part in re.split("^== ", it.read(), flags=re.M)[1:]:
+            name, _, text = part.partition("\n")
+            yield name, text
+
+
+def rust_mutants():
+    """The folder, the name and the text of each mutant of rust/mutants."""
+    for path in sorted(glob.glob(f"{TOP}/rust/mutants/*.txt")):
+        for name, text in mutants_of(path):
+            yield os.path.basename(path).removesuffix(".txt"), name, text
+
+
+def parse_edit(text):
+    """Parses an edit. An old text of several lines has a line 'old:' for each."""
+    lines = [line.partition(":") for line in text.splitlines() if line.strip()]
     file, old, pairs, others = None, [], [], {"error": [], "function": [], "clause": [], "rust": [], "test": []}
     for key, _, value in lines:
         value = value[1:] if value.startswith(" ") else value
