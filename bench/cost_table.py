@@ -10,6 +10,7 @@ COSTS = {
     "unkept": ("the same, and no sets are kept", 2000, 100, 600, 730),
     "removed": ("a layout is added and removed, and has a set in between", 2000, 100, 600, 1120),
     "keys": ("a set of the first key and one of the last, by the allocator alone", 2000, 100, 600, 1300),
+    "waits": ("a set is destroyed after a new frame, and no frame is done", 1, 1000, 3000, 825),
     "grown": ("a set that stays", 1, 1000, 2000, 680),
     "layout": ("a layout that stays", 1, 1000, 2000, 330),
 }

@@ -57,6 +57,14 @@ impl<'a> Scene<'a> {
         self.renderer.remove_layout(layout).unwrap();
     }
 
+    /// A set is destroyed after a new frame, which isn't done.
+    fn waits(&mut self) {
+        let frame = self.renderer.begin_frame().unwrap();
+        let set = self.renderer.create_set(self.layouts[0]).unwrap();
+        self.renderer.destroy_set(set, frame).unwrap();
+        self.renderer.end_frame();
+    }
+
     /// A set that stays.
     fn grown(&mut self) {
         let set = self.renderer.create_set(self.layouts[0]).unwrap();
@@ -113,6 +121,7 @@ pub fn run(name: &str, size: u32, operations: u32) {
         "kept" => Scene::kept,
         "frame" => Scene::frame,
         "removed" => Scene::removed,
+        "waits" => Scene::waits,
         "grown" => Scene::grown,
         "layout" => Scene::layout,
         "unkept" => {

@@ -1,8 +1,9 @@
--- The lists of sets that wait, by the code's chains of frames: a list for each frame, later frames first (`HasFrames`).
+-- The lists of sets that wait, by the code's chains of frames: a list for each frame, earlier frames first (`HasFrames`).
 -- What `chain_of` finds there once a list changed, came or went, and that each still has the sets of its frame (`AreFramed`):
--- for `SetTable::join`, `start`, `pick_first` and `pick_last`. `c` and `d` are lists, `i` is the place of one, `p` that of a slot.
-use Rattle.std.proofs.Common.{arith, ◌≡◌, ◌≢◌, ℕ, zero, suc, ◌+◌, ◌-◌, ◌<◌, ◌≤◌, ◌==◌, ◌&&◌, nat_le, Bool, true, false, arith, if◌then◌else◌, List, [], ◌∷◌, ◌++◌, insert, length, get_or, set, is_some, inl, inr, refl, sym, ap, subst, ◌∙◌, arith, eq-eqb, ne_eqb, arith, leb-true}
-use Rattle.std.proofs.lemmas.List.{length-set, get_or-set_other, get_or-set_same, get_or_read}
+-- for `SetTable::join`, `start`, `pick_one_of_more` and `pick_only`. `c` and `d` are lists, `i` is the place of one, `p` that of a slot.
+use Rattle.std.proofs.Common.{arith, ◌≡◌, ◌≢◌, ℕ, zero, suc, ◌+◌, ◌-◌, ◌<◌, ◌≤◌, ◌==◌, ◌&&◌, nat_le, Bool, true, false, arith, if◌then◌else◌, List, [], ◌∷◌, ◌++◌, insert, length, take, drop, get_or, set, is_some, inl, inr, refl, sym, ap, subst, ◌∙◌, arith, eq-eqb, ne_eqb, arith, leb-true}
+use Rattle.std.proofs.lemmas.List.{append_assoc, length-drop, length-set, get_or-set_other, get_or-set_same, get_or_read}
+use Rattle.std.proofs.Math.Seq.{drop-append_seam, take-append_seam}
 use Rattle.descriptor_table.specs.Places.{times, walk}
 use Rattle.descriptor_table.specs.Slots.{AreFramed, HasFrames, chain_of, frame_at, is_due, is_of, slot_at, waits_for}
 use Rattle.descriptor_table.specs.declared.slot.Use.{Use}
@@ -19,12 +20,12 @@ use Rattle.descriptor_table.specs.Tables.{used_for}
 abbrev pub links_of : FrameChain → Chain
 links_of c = record { first = c.first; count = c.count }
 
--- later frames come first
-abbrev Falls : List FrameChain → Type 0
-Falls frames = (i j : ℕ) → i < j → j < length frames → (frame_at frames j).frame < (frame_at frames i).frame
+-- earlier frames come first
+abbrev Rises : List FrameChain → Type 0
+Rises frames = (i j : ℕ) → i < j → j < length frames → (frame_at frames i).frame < (frame_at frames j).frame
 
-tail_falls : (c : FrameChain) (frames : List FrameChain) → Falls (c ∷ frames) → Falls frames
-tail_falls c frames h i j lt within = h (suc i) (suc j) (omega arith) (omega arith)
+tail_rises : (c : FrameChain) (frames : List FrameChain) → Rises (c ∷ frames) → Rises frames
+tail_rises c frames h i j lt within = h (suc i) (suc j) (omega arith) (omega arith)
 
 -- a frame that no list is of
 pub none_of : (frames : List FrameChain) (f : ℕ) → ((i : ℕ) → i < length frames → f ≢ (frame_at frames i).frame) → chain_of frames f ≡ record { first = 0; count = 0 }
@@ -32,21 +33,21 @@ none_of [] f apart = refl
 none_of (c ∷ frames) f apart = ap (λ b. if b then links_of c else chain_of frames f) (ne_eqb f c.frame (apart 0 (omega arith))) ∙ none_of frames f (λ i lt. apart (suc i) (omega arith))
 
 -- the list at a place is the one of its frame
-pub chain_here : (frames : List FrameChain) (i : ℕ) → Falls frames → i < length frames → chain_of frames (frame_at frames i).frame ≡ links_of (frame_at frames i)
-chain_here [] i falls lt = absurd (omega arith)
-chain_here (c ∷ frames) zero falls lt = ap (λ b. if b then links_of c else chain_of frames c.frame) (eq-eqb c.frame c.frame refl)
-chain_here (c ∷ frames) (suc i) falls lt =
+pub chain_here : (frames : List FrameChain) (i : ℕ) → Rises frames → i < length frames → chain_of frames (frame_at frames i).frame ≡ links_of (frame_at frames i)
+chain_here [] i rises lt = absurd (omega arith)
+chain_here (c ∷ frames) zero rises lt = ap (λ b. if b then links_of c else chain_of frames c.frame) (eq-eqb c.frame c.frame refl)
+chain_here (c ∷ frames) (suc i) rises lt =
     let f = (frame_at frames i).frame in
-    let below = falls 0 (suc i) (omega arith) lt in
-    ap (λ b. if b then links_of c else chain_of frames f) (ne_eqb f c.frame (λ e. omega arith)) ∙ chain_here frames i (tail_falls c frames falls) (omega arith)
+    let below = rises 0 (suc i) (omega arith) lt in
+    ap (λ b. if b then links_of c else chain_of frames f) (ne_eqb f c.frame (λ e. omega arith)) ∙ chain_here frames i (tail_rises c frames rises) (omega arith)
 
 -- the list at a place changed, but not its frame
-pub set_here : (frames : List FrameChain) (i : ℕ) (c : FrameChain) → Falls frames → i < length frames → c.frame ≡ (frame_at frames i).frame → chain_of (set frames i c) c.frame ≡ links_of c
-set_here [] i c falls lt same = absurd (omega arith)
-set_here (d ∷ frames) zero c falls lt same = ap (λ b. if b then links_of c else chain_of frames c.frame) (eq-eqb c.frame c.frame refl)
-set_here (d ∷ frames) (suc i) c falls lt same =
-    let below = falls 0 (suc i) (omega arith) lt in
-    ap (λ b. if b then links_of d else chain_of (set frames i c) c.frame) (ne_eqb c.frame d.frame (λ e. omega arith)) ∙ set_here frames i c (tail_falls d frames falls) (omega arith) same
+pub set_here : (frames : List FrameChain) (i : ℕ) (c : FrameChain) → Rises frames → i < length frames → c.frame ≡ (frame_at frames i).frame → chain_of (set frames i c) c.frame ≡ links_of c
+set_here [] i c rises lt same = absurd (omega arith)
+set_here (d ∷ frames) zero c rises lt same = ap (λ b. if b then links_of c else chain_of frames c.frame) (eq-eqb c.frame c.frame refl)
+set_here (d ∷ frames) (suc i) c rises lt same =
+    let below = rises 0 (suc i) (omega arith) lt in
+    ap (λ b. if b then links_of d else chain_of (set frames i c) c.frame) (ne_eqb c.frame d.frame (λ e. omega arith)) ∙ set_here frames i c (tail_rises d frames rises) (omega arith) same
 
 -- each other frame has the list that it had
 pub set_others : (frames : List FrameChain) (i : ℕ) (c : FrameChain) (g : ℕ) → c.frame ≡ (frame_at frames i).frame → g ≢ c.frame → chain_of (set frames i c) g ≡ chain_of frames g
@@ -56,7 +57,7 @@ set_others (d ∷ frames) zero c g same ne =
 set_others (d ∷ frames) (suc i) c g same ne = ap (λ x. if g == d.frame then links_of d else x) (set_others frames i c g same ne)
 
 -- a list came for a frame that had none
-pub put_here : (frames : List FrameChain) (i : ℕ) (c : FrameChain) → i ≤ length frames → ((j : ℕ) → j < i → c.frame < (frame_at frames j).frame) → chain_of (insert frames i c) c.frame ≡ links_of c
+pub put_here : (frames : List FrameChain) (i : ℕ) (c : FrameChain) → i ≤ length frames → ((j : ℕ) → j < i → (frame_at frames j).frame < c.frame) → chain_of (insert frames i c) c.frame ≡ links_of c
 put_here frames zero c le before = ap (λ b. if b then links_of c else chain_of frames c.frame) (eq-eqb c.frame c.frame refl)
 put_here [] (suc i) c le before = absurd (omega arith)
 put_here (d ∷ frames) (suc i) c le before =
@@ -68,10 +69,9 @@ put_others frames zero c g le ne = ap (λ b. if b then links_of c else chain_of 
 put_others [] (suc i) c g le ne = absurd (omega arith)
 put_others (d ∷ frames) (suc i) c g le ne = ap (λ x. if g == d.frame then links_of d else x) (put_others frames i c g (omega arith) ne)
 
--- the last list goes
-pub last_gone : (frames : List FrameChain) (c : FrameChain) (g : ℕ) → g ≢ c.frame → chain_of (frames ++ c ∷ []) g ≡ chain_of frames g
-last_gone [] c g ne = ap (λ b. if b then links_of c else record { first = 0; count = 0 }) (ne_eqb g c.frame ne)
-last_gone (d ∷ frames) c g ne = ap (λ x. if g == d.frame then links_of d else x) (last_gone frames c g ne)
+-- the first list goes
+pub first_gone : (frames : List FrameChain) (c : FrameChain) (g : ℕ) → g ≢ c.frame → chain_of (c ∷ frames) g ≡ chain_of frames g
+first_gone frames c g ne = ap (λ b. if b then links_of c else chain_of frames g) (ne_eqb g c.frame ne)
 
 pub frame_set : (frames : List FrameChain) (i : ℕ) (c : FrameChain) → i < length frames → frame_at (set frames i c) i ≡ c
 frame_set frames i c within = get_or-set_same frames i c (record { frame = 0; first = 0; count = 0 }) within
@@ -92,7 +92,7 @@ has_set frames i c has within same some =
         | inl e ↦ subst (λ j. 0 < (frame_at (set frames i c) j).count) (sym e) (subst (λ (d : FrameChain). 0 < d.count) (sym (frame_set frames i c within)) some)
         | inr ne ↦ subst (λ (d : FrameChain). 0 < d.count) (sym (other_frames frames i c j ne)) (has.some j (omega arith))
       ];
-      falls = λ j k lt within. (let a = frame j in let b = frame k in let h = has.falls j k lt (omega arith) in omega arith);
+      rises = λ j k lt within. (let a = frame j in let b = frame k in let h = has.rises j k lt (omega arith) in omega arith);
     }
 
 -- what is at each place once a list came at the place `i`: the list there, and before and after it what was there
@@ -118,8 +118,8 @@ insert_after [] (suc i) c j le le' = absurd (omega arith)
 insert_after (d ∷ frames) (suc i) c zero le le' = absurd (omega arith)
 insert_after (d ∷ frames) (suc i) c (suc j) le le' = insert_after frames i c j (omega arith) (omega arith)
 
--- a list came for a frame between those of later and of earlier ones
-pub has_put : (frames : List FrameChain) (i : ℕ) (c : FrameChain) → HasFrames frames → i ≤ length frames → 0 < c.count → ((j : ℕ) → j < i → c.frame < (frame_at frames j).frame) → ((j : ℕ) → i ≤ j → j < length frames → (frame_at frames j).frame < c.frame) → HasFrames (insert frames i c)
+-- a list came for a frame between those of earlier and of later ones
+pub has_put : (frames : List FrameChain) (i : ℕ) (c : FrameChain) → HasFrames frames → i ≤ length frames → 0 < c.count → ((j : ℕ) → j < i → (frame_at frames j).frame < c.frame) → ((j : ℕ) → i ≤ j → j < length frames → c.frame < (frame_at frames j).frame) → HasFrames (insert frames i c)
 has_put frames i c has le some before after =
     let size = insert_length frames i c le in
     let now = frame_at (insert frames i c) in
@@ -128,9 +128,9 @@ has_put frames i c has le some before after =
         | inl b ↦ subst (λ (d : FrameChain). 0 < d.count) (sym (insert_before frames i c j le b)) (has.some j (omega arith))
         | inr a ↦ some_after j (omega arith) a
       ];
-      falls = λ j k lt within. elim (below_or k i) [
-        | inl b ↦ (let x = ap (λ (d : FrameChain). d.frame) (insert_before frames i c k le b) in let y = ap (λ (d : FrameChain). d.frame) (insert_before frames i c j le (omega arith)) in let h = has.falls j k lt (omega arith) in omega arith)
-        | inr a ↦ falls_after j k lt (omega arith) a
+      rises = λ j k lt within. elim (below_or k i) [
+        | inl b ↦ (let x = ap (λ (d : FrameChain). d.frame) (insert_before frames i c k le b) in let y = ap (λ (d : FrameChain). d.frame) (insert_before frames i c j le (omega arith)) in let h = has.rises j k lt (omega arith) in omega arith)
+        | inr a ↦ rises_after j k lt (omega arith) a
       ];
     }
   where
@@ -144,24 +144,24 @@ has_put frames i c has le some before after =
         past zero lt above = absurd (omega arith)
         past (suc j) lt above = subst (λ (d : FrameChain). 0 < d.count) (sym (insert_after frames i c j le (omega arith))) (has.some j (omega arith))
 
-    -- what is behind the new list is earlier than it
-    behind : (k : ℕ) → k < length frames + 1 → i < k → (frame_at (insert frames i c) k).frame < c.frame
+    -- what is behind the new list is later than it
+    behind : (k : ℕ) → k < length frames + 1 → i < k → c.frame < (frame_at (insert frames i c) k).frame
     behind zero lt above = absurd (omega arith)
-    behind (suc k) lt above = subst (λ (d : FrameChain). d.frame < c.frame) (sym (insert_after frames i c k le (omega arith))) (after k (omega arith) (omega arith))
+    behind (suc k) lt above = subst (λ (d : FrameChain). c.frame < d.frame) (sym (insert_after frames i c k le (omega arith))) (after k (omega arith) (omega arith))
 
-    -- of two lists after the new one the first is of the later frame
-    both_behind : (j k : ℕ) → j < k → k < length frames + 1 → i < j → (frame_at (insert frames i c) k).frame < (frame_at (insert frames i c) j).frame
+    -- of two lists after the new one the first is of the earlier frame
+    both_behind : (j k : ℕ) → j < k → k < length frames + 1 → i < j → (frame_at (insert frames i c) j).frame < (frame_at (insert frames i c) k).frame
     both_behind zero k lt within above = absurd (omega arith)
     both_behind (suc j) zero lt within above = absurd (omega arith)
     both_behind (suc j) (suc k) lt within above =
         let x = ap (λ (d : FrameChain). d.frame) (insert_after frames i c k le (omega arith)) in
         let y = ap (λ (d : FrameChain). d.frame) (insert_after frames i c j le (omega arith)) in
-        let h = has.falls j k (omega arith) (omega arith) in
+        let h = has.rises j k (omega arith) (omega arith) in
         omega arith
 
     -- and so of any two lists, if the second is the new one, or after it
-    falls_after : (j k : ℕ) → j < k → k < length frames + 1 → i ≤ k → (frame_at (insert frames i c) k).frame < (frame_at (insert frames i c) j).frame
-    falls_after j k lt within a = elim (same_or k i) [
+    rises_after : (j k : ℕ) → j < k → k < length frames + 1 → i ≤ k → (frame_at (insert frames i c) j).frame < (frame_at (insert frames i c) k).frame
+    rises_after j k lt within a = elim (same_or k i) [
       | inl e ↦ (let x = subst (λ q. (frame_at (insert frames i c) q).frame ≡ c.frame) (sym e) (ap (λ (d : FrameChain). d.frame) (insert_at frames i c le)) in let y = ap (λ (d : FrameChain). d.frame) (insert_before frames i c j le (omega arith)) in let h = before j (omega arith) in omega arith)
       | inr ne ↦ elim (below_or j i) [
         | inl b ↦ (let x = behind k within (omega arith) in let y = ap (λ (d : FrameChain). d.frame) (insert_before frames i c j le b) in let h = before j b in omega arith)
@@ -172,28 +172,9 @@ has_put frames i c has le some before after =
       ]
     ]
 
--- the lists before the last one, and the last one
-front_at : (frames : List FrameChain) (c : FrameChain) (i : ℕ) → i < length frames → frame_at (frames ++ c ∷ []) i ≡ frame_at frames i
-front_at [] c i lt = absurd (omega arith)
-front_at (d ∷ frames) c zero lt = refl
-front_at (d ∷ frames) c (suc i) lt = front_at frames c i (omega arith)
-
-last_at : (frames : List FrameChain) (c : FrameChain) → frame_at (frames ++ c ∷ []) (length frames) ≡ c
-last_at [] c = refl
-last_at (d ∷ frames) c = last_at frames c
-
-last_length : (frames : List FrameChain) (c : FrameChain) → length (frames ++ c ∷ []) ≡ length frames + 1
-last_length [] c = refl
-last_length (d ∷ frames) c = let h = last_length frames c in omega arith
-
--- without the last list, none is empty still, and later frames come first
-pub has_front : (frames : List FrameChain) (c : FrameChain) → HasFrames (frames ++ c ∷ []) → HasFrames frames
-has_front frames c has =
-    let size = last_length frames c in
-    record {
-      some = λ i lt. subst (λ (d : FrameChain). 0 < d.count) (front_at frames c i lt) (has.some i (omega arith));
-      falls = λ i j lt within. (let a = ap (λ (d : FrameChain). d.frame) (front_at frames c i (omega arith)) in let b = ap (λ (d : FrameChain). d.frame) (front_at frames c j within) in let h = has.falls i j lt (omega arith) in omega arith);
-    }
+-- without the first list, none is empty still, and earlier frames come first
+pub has_rest : (frames : List FrameChain) (c : FrameChain) → HasFrames (c ∷ frames) → HasFrames frames
+has_rest frames c has = record { some = λ i lt. has.some (suc i) (omega arith); rises = tail_rises c frames has.rises }
 
 -- the firsts of the lists
 firsts : List FrameChain → List ℕ
@@ -220,22 +201,22 @@ module _ {T : Type 0} (slots : List (Slot T)) where
   ]
 
   -- no slot is the first of two lists
-  firsts_once : (l : List FrameChain) (q : ℕ) → FirstsWait l → Falls l → times q (firsts l) ≤ 1
+  firsts_once : (l : List FrameChain) (q : ℕ) → FirstsWait l → Rises l → times q (firsts l) ≤ 1
   unfolding firsts
-  firsts_once [] q wait falls = omega arith
-  firsts_once (c ∷ l) q wait falls = elim (same_or q c.first) [
+  firsts_once [] q wait rises = omega arith
+  firsts_once (c ∷ l) q wait rises = elim (same_or q c.first) [
     | inl e ↦
         let here = subst (λ q. is_of c.frame (slot_at slots q) ≡ true) (sym e) (wait 0 (omega arith)) in
-        let none = no_first l q (λ i lt. wait (suc i) (omega arith)) (λ i lt. frames_apart (frame_at l i).frame c.frame (slot_at slots q) here (λ f. let below = falls 0 (suc i) (omega arith) (omega arith) in omega arith)) in
+        let none = no_first l q (λ i lt. wait (suc i) (omega arith)) (λ i lt. frames_apart (frame_at l i).frame c.frame (slot_at slots q) here (λ f. let below = rises 0 (suc i) (omega arith) (omega arith) in omega arith)) in
         let one = subst (λ q. times q (c.first ∷ firsts l) ≡ times q (firsts l) + 1) (sym e) (times_here c.first (firsts l)) in
         omega arith
-    | inr ne ↦ (let a = times_there q c.first (firsts l) ne in let h = firsts_once l q (λ i lt. wait (suc i) (omega arith)) (tail_falls c l falls) in omega arith)
+    | inr ne ↦ (let a = times_there q c.first (firsts l) ne in let h = firsts_once l q (λ i lt. wait (suc i) (omega arith)) (tail_rises c l rises) in omega arith)
   ]
 
   module _ (next : List ℕ) (frames : List FrameChain) (framed : AreFramed slots next frames) (has : HasFrames frames) where
     -- a list that is there has a first slot, and so many after it as it counts less one
     head_of : (i : ℕ) → i < length frames → chain_of frames (frame_at frames i).frame ≡ record { first = (frame_at frames i).first; count = (frame_at frames i).count - 1 + 1 }
-    head_of i lt = chain_here frames i has.falls lt ∙ (λ j. record { first = (frame_at frames i).first; count = before (frame_at frames i).count (has.some i lt) j })
+    head_of i lt = chain_here frames i has.rises lt ∙ (λ j. record { first = (frame_at frames i).first; count = before (frame_at frames i).count (has.some i lt) j })
       where
         before : (n : ℕ) → 0 < n → n ≡ n - 1 + 1
         before n some = omega arith
@@ -254,7 +235,7 @@ module _ {T : Type 0} (slots : List (Slot T)) where
         let none = no_first frames p first_waits (λ i lt. taken_no_frame (slot_at slots p) taken (frame_at frames i).frame) in
         let once : (q : ℕ) → times q l ≤ 1 = λ q. elim (same_or q p) [
           | inl e ↦ subst (λ q. times q l ≤ 1) (sym e) (let a = times_here p (firsts frames) in omega arith)
-          | inr ne ↦ (let a = times_there q p (firsts frames) ne in let b = firsts_once frames q first_waits has.falls in omega arith)
+          | inr ne ↦ (let a = times_there q p (firsts frames) ne in let b = firsts_once frames q first_waits has.rises in omega arith)
         ] in
         let past : (q : ℕ) → length slots ≤ q → times q l ≡ 0 =
         λ q le.
@@ -276,21 +257,21 @@ module _ {T : Type 0} (slots : List (Slot T)) where
     join_framed i p c s lt is inside long taken goes =
         let d : FrameChain = record { frame = c.frame; first = p; count = c.count + 1 } in
         let same : d.frame ≡ (frame_at frames i).frame = ap (λ (e : FrameChain). e.frame) is in
-        let here : chain_of frames c.frame ≡ links_of c = subst (λ (e : FrameChain). chain_of frames e.frame ≡ links_of e) (sym is) (chain_here frames i has.falls lt) in
-        linked is_of slots next (chain_of frames) framed frames_apart (chain_of (set frames i d)) c.frame p (links_of c) s here inside long (set_here frames i d has.falls lt same) (λ g ne. set_others frames i d g same ne) (taken_no_frame (slot_at slots p) taken) goes
+        let here : chain_of frames c.frame ≡ links_of c = subst (λ (e : FrameChain). chain_of frames e.frame ≡ links_of e) (sym is) (chain_here frames i has.rises lt) in
+        linked is_of slots next (chain_of frames) framed frames_apart (chain_of (set frames i d)) c.frame p (links_of c) s here inside long (set_here frames i d has.rises lt same) (λ g ne. set_others frames i d g same ne) (taken_no_frame (slot_at slots p) taken) goes
 
     -- the list has no more places then than there are slots
     pub join_more : (i p : ℕ) (c : FrameChain) (s : Slot T) → i < length frames → c ≡ frame_at frames i → p < length slots → (slot_at slots p).used ≡ Taken → is_of c.frame s ≡ true → c.count + 1 ≤ length slots
     join_more i p c s lt is inside taken goes =
-        let here : chain_of frames c.frame ≡ links_of c = subst (λ (e : FrameChain). chain_of frames e.frame ≡ links_of e) (sym is) (chain_here frames i has.falls lt) in
+        let here : chain_of frames c.frame ≡ links_of c = subst (λ (e : FrameChain). chain_of frames e.frame ≡ links_of e) (sym is) (chain_here frames i has.rises lt) in
         let more = one_more is_of slots next (chain_of frames) framed (frames_none T) c.frame p s inside (taken_no_frame (slot_at slots p) taken) goes in
         let same = ap (λ (e : Chain). e.count) here in
         omega arith
 
     -- a set began the list of a frame
     pub start_framed :
-        (i p f : ℕ) (s : Slot T) → i ≤ length frames → ((j : ℕ) → j < i → f < (frame_at frames j).frame)
-        → ((j : ℕ) → i ≤ j → j < length frames → (frame_at frames j).frame < f) → p < length slots
+        (i p f : ℕ) (s : Slot T) → i ≤ length frames → ((j : ℕ) → j < i → (frame_at frames j).frame < f)
+        → ((j : ℕ) → i ≤ j → j < length frames → f < (frame_at frames j).frame) → p < length slots
         → (slot_at slots p).used ≡ Taken → is_of f s ≡ true
         → AreFramed (set slots p s) next (insert frames i (record { frame = f; first = p; count = 1 }))
     start_framed i p f s le before after inside taken goes =
@@ -306,7 +287,7 @@ module _ {T : Type 0} (slots : List (Slot T)) where
         let here = subst (λ (e : FrameChain). chain_of frames e.frame ≡ record { first = e.first; count = e.count - 1 + 1 }) (sym is) (head_of i lt) in
         unlinked is_of slots next (chain_of frames) framed (frames_none T) frames_apart (chain_of (set frames i d))
         c.frame (c.count - 1) c.first (used_for Taken was) here
-        (ap (λ (e : Chain). walk e.count next e.first) (set_here frames i d has.falls lt same)
+        (ap (λ (e : Chain). walk e.count next e.first) (set_here frames i d has.rises lt same)
         ∙ ap (walk (c.count - 1) next) told)
         (λ g ne. set_others frames i d g same ne) (λ f. refl)
 
@@ -331,26 +312,51 @@ module _ {T : Type 0} (slots : List (Slot T)) where
             by_use Taken full none = refl
             by_use Vacant full none = refl
 
-  -- the only set of the last list left it
-  pub end_framed : (next : List ℕ) (frames all : List FrameChain) (c : FrameChain) (was : Slot T) → AreFramed slots next all → HasFrames all → all ≡ frames ++ c ∷ [] → c.count ≡ 1 → AreFramed (set slots c.first (used_for Taken was)) next frames
+  -- the only set of the first list left it
+  pub end_framed : (next : List ℕ) (frames all : List FrameChain) (c : FrameChain) (was : Slot T) → AreFramed slots next all → HasFrames all → all ≡ c ∷ frames → c.count ≡ 1 → AreFramed (set slots c.first (used_for Taken was)) next frames
   end_framed next frames all c was framed has is one =
       let has' = subst HasFrames is has in
       let framed' = subst (λ l. AreFramed slots next l) is framed in
-      let size = last_length frames c in
-      let at = last_at frames c in
-      let here : chain_of (frames ++ c ∷ []) c.frame ≡ record { first = c.first; count = 0 + 1 } =
-      subst (λ (e : FrameChain). chain_of (frames ++ c ∷ []) e.frame ≡ links_of e) at
-      (chain_here (frames ++ c ∷ []) (length frames) has'.falls (omega arith))
-      ∙ (λ j. record { first = c.first; count = one j }) in
-      let gone : chain_of frames c.frame ≡ record { first = 0; count = 0 } = none_of frames c.frame (λ i lt e. let h = has'.falls i (length frames) lt (omega arith) in let a = ap (λ (d : FrameChain). d.frame) (front_at frames c i lt) in let b = ap (λ (d : FrameChain). d.frame) at in omega arith) in
-      unlinked is_of slots next (chain_of (frames ++ c ∷ [])) framed' (frames_none T) frames_apart (chain_of frames) c.frame 0 c.first (used_for Taken was) here (ap (λ (e : Chain). walk e.count next e.first) gone) (λ g ne. sym (last_gone frames c g ne)) (λ f. refl)
+      let here : chain_of (c ∷ frames) c.frame ≡ record { first = c.first; count = 0 + 1 } = chain_here (c ∷ frames) 0 has'.rises (omega arith) ∙ (λ j. record { first = c.first; count = one j }) in
+      let gone : chain_of frames c.frame ≡ record { first = 0; count = 0 } = none_of frames c.frame (λ i lt e. let h = has'.rises 0 (suc i) (omega arith) (omega arith) in omega arith) in
+      unlinked is_of slots next (chain_of (c ∷ frames)) framed' (frames_none T) frames_apart (chain_of frames) c.frame 0 c.first (used_for Taken was) here (ap (λ (e : Chain). walk e.count next e.first) gone) (λ g ne. sym (first_gone frames c g ne)) (λ f. refl)
 
 pub read_frame : (frames : List FrameChain) (i : ℕ) (c : FrameChain) → i < length frames → c ≡ get_or frames i c → c ≡ frame_at frames i
 read_frame frames i c within is = get_or_read frames i c within is (record { frame = 0; first = 0; count = 0 })
 
--- what is at the end
-pub last_is : (all frames : List FrameChain) (c : FrameChain) → all ≡ frames ++ c ∷ [] → frame_at all (length all - 1) ≡ c
-last_is all frames c is =
-    let n = last_length frames c in
-    let e : length all - 1 ≡ length frames = (let m = ap length is in omega arith) in
-    ap (frame_at all) e ∙ ap (λ l. frame_at l (length frames)) is ∙ last_at frames c
+-- the list that goes is the first
+pub first_is : (all frames : List FrameChain) (c : FrameChain) → all ≡ c ∷ frames → frame_at all 0 ≡ c
+first_is all frames c is = ap (λ l. frame_at l 0) is
+
+-- `insert` by what is before the place and after it
+put_between : (frames : List FrameChain) (i : ℕ) (c : FrameChain) → i ≤ length frames → take i frames ++ c ∷ drop i frames ≡ insert frames i c
+put_between frames zero c le = refl
+put_between [] (suc i) c le = absurd (omega arith)
+put_between (d ∷ frames) (suc i) c le = ap (λ l. d ∷ l) (put_between frames i c (omega arith))
+
+-- the lists `later` go before the others, one comes last, and they go back behind it
+turned_back : (later earlier : List FrameChain) (c : FrameChain) → drop (length later) ((later ++ earlier) ++ c ∷ []) ++ take (length later) ((later ++ earlier) ++ c ∷ []) ≡ earlier ++ c ∷ later
+turned_back later earlier c =
+    ap (λ l. drop (length later) l ++ take (length later) l) (append_assoc later earlier (c ∷ []))
+    ∙ ap (λ l. l ++ take (length later) (later ++ (earlier ++ c ∷ []))) (drop-append_seam later (earlier ++ c ∷ []))
+    ∙ ap (λ l. (earlier ++ c ∷ []) ++ l) (take-append_seam later (earlier ++ c ∷ []))
+    ∙ append_assoc earlier (c ∷ []) later
+
+-- so a list comes at its place
+pub turned : (frames : List FrameChain) (i n : ℕ) (c : FrameChain) → i ≤ length frames → n ≡ length frames - i → drop n ((drop i frames ++ take i frames) ++ c ∷ []) ++ take n ((drop i frames ++ take i frames) ++ c ∷ []) ≡ insert frames i c
+turned frames i n c le is =
+    ap (λ n. drop n ((drop i frames ++ take i frames) ++ c ∷ []) ++ take n ((drop i frames ++ take i frames) ++ c ∷ [])) (is ∙ sym (length-drop i frames))
+    ∙ turned_back (drop i frames) (take i frames) c
+    ∙ put_between frames i c le
+
+-- a list that comes at the end is last
+pub put_last : (frames : List FrameChain) (i : ℕ) (c : FrameChain) → i ≡ length frames → frames ++ c ∷ [] ≡ insert frames i c
+put_last frames i c is = ap (λ l. l ++ c ∷ []) (sym (take_all frames)) ∙ ap (λ l. take (length frames) frames ++ c ∷ l) (sym (drop_all frames)) ∙ put_between frames (length frames) c (omega arith) ∙ ap (λ i. insert frames i c) (sym is)
+  where
+    take_all : (l : List FrameChain) → take (length l) l ≡ l
+    take_all [] = refl
+    take_all (d ∷ l) = ap (λ l. d ∷ l) (take_all l)
+
+    drop_all : (l : List FrameChain) → drop (length l) l ≡ []
+    drop_all [] = refl
+    drop_all (d ∷ l) = drop_all l

@@ -118,10 +118,10 @@ module _ {T : Type 0} where
     pub first_step : (i n : ℕ) → n ≡ i + 1 → i < length frames → count (first_of frames n) slots ≡ count (first_of frames i) slots + (frame_at frames i).count
     first_step i n is lt =
         let f = (frame_at frames i).frame in
-        let each = λ (s : Slot T). bits_or (first_of frames i s) (is_of f s) (λ e. any_none (λ j. is_of (frame_at frames j).frame s) i (λ j less. frames_apart (frame_at frames j).frame f s e (λ same. let below = has.falls j i less lt in omega arith))) in
+        let each = λ (s : Slot T). bits_or (first_of frames i s) (is_of f s) (λ e. any_none (λ j. is_of (frame_at frames j).frame s) i (λ j less. frames_apart (frame_at frames j).frame f s e (λ same. let below = has.rises j i less lt in omega arith))) in
         let a = count_split (first_of frames (suc i)) (first_of frames i) (is_of f) slots each in
         let b = heads_count is_of slots next (chain_of frames) (frames_none T) framed f in
-        let c = ap (λ (d : Chain). d.count) (chain_here frames i has.falls lt) in
+        let c = ap (λ (d : Chain). d.count) (chain_here frames i has.rises lt) in
         let d : n ≡ suc i = omega arith in
         let e = ap (λ n. count (first_of frames n) slots) d in
         omega arith

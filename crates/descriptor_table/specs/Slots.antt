@@ -66,8 +66,8 @@ pub record AreSized (slots nexts frames : ℕ) : Type 0 where
 pub record HasFrames (frames : List FrameChain) : Type 0 where
   -- no list is empty
   pub some : (i : ℕ) → i < length frames → 0 < (frame_at frames i).count
-  -- frames fall from list to list
-  pub falls : (i j : ℕ) → i < j → j < length frames → (frame_at frames j).frame < (frame_at frames i).frame
+  -- frames rise from list to list
+  pub rises : (i j : ℕ) → i < j → j < length frames → (frame_at frames i).frame < (frame_at frames j).frame
 
 -- at most so many sets of a layout are kept
 abbrev pub AreFew : ℕ → List Chain → Type 0

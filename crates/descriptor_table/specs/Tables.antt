@@ -1,5 +1,6 @@
 -- What becomes of the slots of a table.
 use Rattle.std.specs.Prelude.{◌≡◌, ◌≢◌, ℕ, zero, suc, ◌+◌, ◌-◌, ◌<◌, ◌≤◌, ◌⊎◌, ◌==◌, ◌&&◌, nat_lt, Bool, true, false, not, List, [], ◌∷◌, length, slice_index_or, slice_set, vec_capacity, is_some, if◌then◌else◌, Option, Some, None, MatchOption}
+use Rattle.std.specs.VecDeque.{deque_capacity}
 use Rattle.descriptor_table.specs.Slots.{Slots, chain_at, generation_at, is_in, is_kept_of, is_of, slot_at, waits_for}
 use Rattle.descriptor_table.specs.declared.handle.SetHandle.{SetHandle}
 use Rattle.descriptor_table.specs.declared.set_table.SetTable.{SetTable}
@@ -117,7 +118,7 @@ module _ {T : Type 0} where
     pub settings : KeepsSettings old new
     pub slots : vec_capacity new.slots ≡ vec_capacity old.slots
     pub next : vec_capacity new.next ≡ vec_capacity old.next
-    pub frames : vec_capacity new.frames ≡ vec_capacity old.frames
+    pub frames : deque_capacity new.frames ≡ deque_capacity old.frames
 
   -- the slots became what the relation says, and all else is as it was
   pub record Changes (becomes : Slots T → Slots T → Type 0) (old new : SetTable T) : Type 0 where
@@ -134,7 +135,7 @@ module _ {T : Type 0} where
     pub few : length (slots_of t) + n < 4294967296
     pub slots : length (slots_of t) + n ≤ vec_capacity t.slots
     pub next : length (slots_of t) + n ≤ vec_capacity t.next
-    pub frames : length (slots_of t) + n ≤ vec_capacity t.frames
+    pub frames : length (slots_of t) + n ≤ deque_capacity t.frames
 
   -- how many slots another set can come to
   abbrev pub usable_of : SetTable T → ℕ

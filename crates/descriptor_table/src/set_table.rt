@@ -1,6 +1,7 @@
 //! The table of a renderer's sets: each is in a slot, where it stays while it is used again and again.
-ghost use Rattle.std.specs.Prelude.{◌≡◌, ◌+◌, ◌<◌, [], length, IsOk, OnErr, OnOk, vec_capacity};
+ghost use Rattle.std.specs.Prelude.{◌≡◌, ◌+◌, ◌<◌, [], length, IsOk, OnErr, OnOk};
 ghost use Rattle.std.specs.Option.{option_copied};
+ghost use Rattle.std.specs.VecDeque.{deque_capacity};
 ghost use Rattle.descriptor_table.specs.Slots.{AreFew, AreFramed, AreLinked, AreSized};
 ghost use Rattle.descriptor_table.specs.Slots.{HasFrames, HasLists, generation_at};
 
@@ -15,6 +16,7 @@ mod sets;
 use crate::handle::SetHandle;
 use crate::slot::{Chain, FrameChain, Slot, Use};
 use std::alloc::{AllocError, Global};
+use std::collections::VecDeque;
 use std::vec::Vec;
 
 /// How many slots there may be.
@@ -46,12 +48,12 @@ pub struct SetTable<T> {
     /// isn't kept when it comes back.
     pub(crate) generations: Vec<u32>,
 
-    /// The lists of sets that wait, by falling frames. None is empty.
-    pub(crate) frames: Vec<FrameChain>,
+    /// The lists of sets that wait, by rising frames. None is empty.
+    pub(crate) frames: VecDeque<FrameChain>,
 
     /// How many sets of a layout are kept at most.
     pub(crate) keep: u32,
-    ghost sized: { AreSized (length slots.items) (length next.items) (vec_capacity frames) },
+    ghost sized: { AreSized (length slots.items) (length next.items) (deque_capacity frames) },
     ghost linked: { AreLinked slots.items next.items chains.items },
     ghost framed: { AreFramed slots.items next.items frames.items },
     ghost rising: { HasFrames frames.items },
@@ -81,7 +83,7 @@ impl<T> SetTable<T> {
             next: Vec::new(alloc),
             chains: Vec::new(alloc),
             generations: Vec::new(alloc),
-            frames: Vec::new(alloc),
+            frames: VecDeque::new(alloc),
             keep: u32::MAX,
         }
     }

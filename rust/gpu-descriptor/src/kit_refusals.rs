@@ -4,7 +4,7 @@
 mod refuses;
 
 use crate::kit::alloc::Global;
-use crate::kit::{collections::VecDeque, indexmap::IndexMap, vec::Vec};
+use crate::kit::{collections::VecDeque, indexmap::IndexMap};
 use refuses::with_refused;
 
 /// Inserts numbers from 0 up until one is refused for memory: which one, and the error.
@@ -14,14 +14,6 @@ fn fill<E: std::fmt::Debug>(mut insert: impl FnMut(u32) -> Result<(), E>) -> (u3
     (1..)
         .find_map(|item| refused(item).map(|error| (item, error)))
         .unwrap()
-}
-
-#[test]
-fn a_vector() {
-    let mut items = Vec::new(Global);
-    let (last, error) = fill(|item| items.insert(0, item));
-    assert_eq!(error.value, last);
-    assert!(items.iter().copied().eq((0..last).rev()));
 }
 
 #[test]

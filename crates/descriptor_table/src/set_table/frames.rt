@@ -1,33 +1,54 @@
 //! The lists of sets that wait for a frame.
-ghost use Rattle.std.specs.Prelude.{◌≡◌, ℕ, ◌+◌, ◌<◌, ◌≤◌, ◌-◌, ◌↔◌, IsTrue, true, false, length};
+ghost use Rattle.std.specs.Prelude.{◌≡◌, ℕ, ◌+◌, ◌<◌, ◌≤◌, ◌↔◌, IsTrue, true, false, length, insert};
+ghost use Rattle.std.specs.VecDeque.{deque_capacity};
 ghost use Rattle.std.specs.List.Sorted.{IsPartitionPoint};
 
 use super::SetTable;
 use crate::slot::{FrameChain, Use};
+use std::collections::VecDeque;
+
+/// Puts a list at its place. Only later ones move, or only earlier ones if these are fewer.
+#[inline]
+fn put_list(frames: &mut VecDeque<FrameChain>, at: usize, chain: FrameChain)
+    requires within { at ≤ length frames.old.items }
+    requires room { length frames.old.items < deque_capacity frames.old }
+    ensures items { frames.new.items ≡ insert frames.old.items at chain }
+    ensures capacity { deque_capacity frames.new ≡ deque_capacity frames.old }
+{
+    let later = frames.len() - at;
+    if later == 0 {
+        frames.push_back_reserved(chain);
+        return;
+    }
+    frames.rotate_right(later);
+    frames.push_back_reserved(chain);
+    frames.rotate_left(later);
+}
 
 impl<T> SetTable<T> {
     ghost use Rattle.descriptor_table.specs.Slots.{frame_at, is_due, is_of, slot_at};
     ghost use Rattle.descriptor_table.specs.Tables.{At, CanWait, Changes, HasTaken, Picks, PicksAny};
     ghost use Rattle.descriptor_table.specs.Tables.{slots_of, used_for};
 
-    /// How many lists are of later frames.
+    /// How many lists are of earlier frames.
     fn place_of_frame(&self, frame: u64) -> usize
         ensures within { result ≤ length self.now.frames.items }
-        ensures place { IsPartitionPoint (λ c. frame < c.frame) (λ c. c.frame ≤ frame)
+        ensures place { IsPartitionPoint (λ c. c.frame < frame) (λ c. frame ≤ c.frame)
             self.now.frames.items result }
     {
         self.frames
-            .partition_point(|chain: &FrameChain| chain.frame > frame)
+            .partition_point(|chain: &FrameChain| chain.frame < frame)
     }
 
-    /// Lets a set wait for a frame. If the open frame has a list, it is the first.
+    /// Lets a set wait for a frame. If the newest frame has a list, it is the last.
     #[inline]
     pub(super) fn wait(&mut self, place: usize, frame: u64, used: Use)
         requires { CanWait frame place used (slots_of self.old) }
         ensures { Changes (At place (used_for used)) self.old self.new }
     {
-        if self.is_of_frame(0, frame) {
-            self.join(0, place, used);
+        let last = self.frames.len().saturating_sub(1);
+        if self.is_of_frame(last, frame) {
+            self.join(last, place, used);
             return;
         }
         self.wait_in_list(place, frame, used);
@@ -38,12 +59,29 @@ impl<T> SetTable<T> {
         requires { CanWait frame place used (slots_of self.old) }
         ensures { Changes (At place (used_for used)) self.old self.new }
     {
+        if self.is_newest(frame) {
+            let end = self.frames.len();
+            self.start(end, place, frame, used);
+            return;
+        }
         let at = self.place_of_frame(frame);
         if self.is_of_frame(at, frame) {
             self.join(at, place, used);
             return;
         }
         self.start(at, place, frame, used);
+    }
+
+    /// Whether a frame is after those of all lists.
+    #[inline]
+    fn is_newest(&self, frame: u64) -> bool
+        ensures { IsTrue result → (i : ℕ) → i < length self.now.frames.items
+            → (frame_at self.now.frames.items i).frame < frame }
+    {
+        match self.frames.back() {
+            Some(chain) => chain.frame < frame,
+            None => true,
+        }
     }
 
     /// Whether the list at a place is of a frame.
@@ -75,11 +113,12 @@ impl<T> SetTable<T> {
     }
 
     /// Begins the list of a frame with a slot.
+    #[inline]
     fn start(&mut self, at: usize, place: usize, frame: u64, used: Use)
         requires within { at ≤ length self.old.frames.items }
-        requires later { (i : ℕ) → i < at → frame < (frame_at self.old.frames.items i).frame }
-        requires earlier { (i : ℕ) → at ≤ i → i < length self.old.frames.items
-            → (frame_at self.old.frames.items i).frame < frame }
+        requires earlier { (i : ℕ) → i < at → (frame_at self.old.frames.items i).frame < frame }
+        requires later { (i : ℕ) → at ≤ i → i < length self.old.frames.items
+            → frame < (frame_at self.old.frames.items i).frame }
         requires taken { HasTaken place (slots_of self.old) }
         requires goes { is_of frame (used_for used (slot_at (slots_of self.old) place)) ≡ true }
         ensures { Changes (At place (used_for used)) self.old self.new }
@@ -89,10 +128,8 @@ impl<T> SetTable<T> {
             first: place as u32,
             count: 1,
         };
-        match self.frames.insert(at, chain) {
-            Ok(()) => self.slots[place].used = used,
-            Err(_) => unreachable!(),
-        }
+        put_list(&mut self.frames, at, chain);
+        self.slots[place].used = used;
     }
 
     /// Takes a set that waits for a frame up to this one, if there is one.
@@ -104,25 +141,25 @@ impl<T> SetTable<T> {
         if count == 0 {
             return None;
         }
-        let chain = self.frames[count - 1];
+        let chain = self.frames[0];
         if chain.frame > frame {
             return None;
         }
         if chain.count == 1 {
-            return Some(self.pick_last());
+            return Some(self.pick_only());
         }
-        Some(self.pick_first())
+        Some(self.pick_one_of_more())
     }
 
     /// Takes the only set of the earliest frame, whose list goes.
     #[inline]
-    fn pick_last(&mut self) -> usize
+    fn pick_only(&mut self) -> usize
         requires some { 0 < length self.old.frames.items }
-        requires one { (frame_at self.old.frames.items (length self.old.frames.items - 1)).count ≡ 1 }
-        ensures { Changes (Picks (is_of (frame_at self.old.frames.items
-            (length self.old.frames.items - 1)).frame) result) self.old self.new }
+        requires one { (frame_at self.old.frames.items 0).count ≡ 1 }
+        ensures { Changes (Picks (is_of (frame_at self.old.frames.items 0).frame) result) self.old
+            self.new }
     {
-        match self.frames.pop() {
+        match self.frames.pop_front() {
             Some(chain) => {
                 let place = chain.first as usize;
                 self.slots[place].used = Use::Taken;
@@ -134,14 +171,13 @@ impl<T> SetTable<T> {
 
     /// Takes a set of the earliest frame, which has more.
     #[inline]
-    fn pick_first(&mut self) -> usize
+    fn pick_one_of_more(&mut self) -> usize
         requires some { 0 < length self.old.frames.items }
-        requires more { 1 < (frame_at self.old.frames.items (length self.old.frames.items - 1)).count }
-        ensures { Changes (Picks (is_of (frame_at self.old.frames.items
-            (length self.old.frames.items - 1)).frame) result) self.old self.new }
+        requires more { 1 < (frame_at self.old.frames.items 0).count }
+        ensures { Changes (Picks (is_of (frame_at self.old.frames.items 0).frame) result) self.old
+            self.new }
     {
-        let last = self.frames.len() - 1;
-        let chain = &mut self.frames[last];
+        let chain = &mut self.frames[0];
         let place = chain.first as usize;
         chain.first = self.next[place];
         chain.count -= 1;

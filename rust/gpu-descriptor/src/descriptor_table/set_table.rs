@@ -12,6 +12,7 @@ mod sets;
 use crate::descriptor_table::handle::SetHandle;
 use crate::descriptor_table::slot::{Chain, FrameChain, Slot, Use};
 use crate::kit::alloc::{AllocError, Global};
+use crate::kit::collections::VecDeque;
 use crate::kit::vec::Vec;
 
 /// How many slots there may be.
@@ -42,8 +43,8 @@ pub struct SetTable<T> {
     /// isn't kept when it comes back.
     pub(crate) generations: Vec<u32>,
 
-    /// The lists of sets that wait, by falling frames. None is empty.
-    pub(crate) frames: Vec<FrameChain>,
+    /// The lists of sets that wait, by rising frames. None is empty.
+    pub(crate) frames: VecDeque<FrameChain>,
 
     /// How many sets of a layout are kept at most.
     pub(crate) keep: u32,
@@ -59,7 +60,7 @@ impl<T> SetTable<T> {
             next: Vec::new(alloc),
             chains: Vec::new(alloc),
             generations: Vec::new(alloc),
-            frames: Vec::new(alloc),
+            frames: VecDeque::new(alloc),
             keep: u32::MAX,
         }
     }

@@ -1,7 +1,7 @@
 //! The kit's `std::vec`. Its readers are those of slices.
 
 use super::NOT_RESERVED;
-use super::alloc::{AllocError, AllocFailed, Global};
+use super::alloc::{AllocError, Global};
 use core::ops::{Deref, DerefMut, RangeBounds};
 
 /// A vector that grows only by calls that return a `Result`.
@@ -60,18 +60,6 @@ impl<T> Vec<T> {
     #[inline]
     pub fn pop(&mut self) -> Option<T> {
         self.0.pop()
-    }
-
-    /// `items`, `len`: the value is at its place; or, if an allocation failed, nothing changed and the value
-    /// is returned. `succeeds`, `in_place`: if there is capacity, it is `Ok`, and nothing is allocated.
-    pub fn insert(&mut self, index: usize, value: T) -> Result<(), AllocFailed<T>> {
-        match self.0.try_reserve(1) {
-            Ok(()) => {
-                self.0.insert(index, value);
-                Ok(())
-            }
-            Err(_) => Err(AllocFailed { value }),
-        }
     }
 }
 
@@ -157,20 +145,6 @@ mod tests {
         let mut items = Vec(std_alloc::vec![1, 2]);
         assert_eq!(items.pop(), Some(2));
         assert_eq!(items.into_iter().collect::<std_alloc::vec::Vec<_>>(), [1]);
-    }
-
-    #[test]
-    fn an_inserted_item_is_at_its_place() {
-        let mut items = Vec::new(Global);
-        items.reserve(4).unwrap();
-        let (first, capacity) = (items.as_ptr(), items.capacity());
-        for (index, item) in [(0, 1), (1, 4), (1, 2), (2, 3)] {
-            items.insert(index, item).unwrap();
-        }
-        assert_eq!(*items, [1, 2, 3, 4]);
-        assert_eq!((items.as_ptr(), items.capacity()), (first, capacity));
-        (4..=capacity).for_each(|index| items.insert(index, 5).unwrap());
-        assert_eq!((items.len(), items[capacity]), (capacity + 1, 5));
     }
 
     #[test]

@@ -3,21 +3,37 @@
 
 use super::SetTable;
 use crate::descriptor_table::slot::{FrameChain, Use};
+use crate::kit::collections::VecDeque;
+
+/// Puts a list at its place. Only later ones move, or only earlier ones if these are fewer.
+#[inline]
+fn put_list(frames: &mut VecDeque<FrameChain>, at: usize, chain: FrameChain)
+{
+    let later = frames.len() - at;
+    if later == 0 {
+        frames.push_back_reserved(chain);
+        return;
+    }
+    frames.rotate_right(later);
+    frames.push_back_reserved(chain);
+    frames.rotate_left(later);
+}
 
 impl<T> SetTable<T> {
-    /// How many lists are of later frames.
+    /// How many lists are of earlier frames.
     fn place_of_frame(&self, frame: u64) -> usize
     {
         self.frames
-            .partition_point(|chain: &FrameChain| chain.frame > frame)
+            .partition_point(|chain: &FrameChain| chain.frame < frame)
     }
 
-    /// Lets a set wait for a frame. If the open frame has a list, it is the first.
+    /// Lets a set wait for a frame. If the newest frame has a list, it is the last.
     #[inline]
     pub(super) fn wait(&mut self, place: usize, frame: u64, used: Use)
     {
-        if self.is_of_frame(0, frame) {
-            self.join(0, place, used);
+        let last = self.frames.len().saturating_sub(1);
+        if self.is_of_frame(last, frame) {
+            self.join(last, place, used);
             return;
         }
         self.wait_in_list(place, frame, used);
@@ -26,12 +42,27 @@ impl<T> SetTable<T> {
     /// Lets a set wait for a frame, in the list that is found, or in a new one.
     fn wait_in_list(&mut self, place: usize, frame: u64, used: Use)
     {
+        if self.is_newest(frame) {
+            let end = self.frames.len();
+            self.start(end, place, frame, used);
+            return;
+        }
         let at = self.place_of_frame(frame);
         if self.is_of_frame(at, frame) {
             self.join(at, place, used);
             return;
         }
         self.start(at, place, frame, used);
+    }
+
+    /// Whether a frame is after those of all lists.
+    #[inline]
+    fn is_newest(&self, frame: u64) -> bool
+    {
+        match self.frames.back() {
+            Some(chain) => chain.frame < frame,
+            None => true,
+        }
     }
 
     /// Whether the list at a place is of a frame.
@@ -56,6 +87,7 @@ impl<T> SetTable<T> {
     }
 
     /// Begins the list of a frame with a slot.
+    #[inline]
     fn start(&mut self, at: usize, place: usize, frame: u64, used: Use)
     {
         let chain = FrameChain {
@@ -63,10 +95,8 @@ impl<T> SetTable<T> {
             first: place as u32,
             count: 1,
         };
-        match self.frames.insert(at, chain) {
-            Ok(()) => self.slots[place].used = used,
-            Err(_) => unreachable!(),
-        }
+        put_list(&mut self.frames, at, chain);
+        self.slots[place].used = used;
     }
 
     /// Takes a set that waits for a frame up to this one, if there is one.
@@ -77,21 +107,21 @@ impl<T> SetTable<T> {
         if count == 0 {
             return None;
         }
-        let chain = self.frames[count - 1];
+        let chain = self.frames[0];
         if chain.frame > frame {
             return None;
         }
         if chain.count == 1 {
-            return Some(self.pick_last());
+            return Some(self.pick_only());
         }
-        Some(self.pick_first())
+        Some(self.pick_one_of_more())
     }
 
     /// Takes the only set of the earliest frame, whose list goes.
     #[inline]
-    fn pick_last(&mut self) -> usize
+    fn pick_only(&mut self) -> usize
     {
-        match self.frames.pop() {
+        match self.frames.pop_front() {
             Some(chain) => {
                 let place = chain.first as usize;
                 self.slots[place].used = Use::Taken;
@@ -103,10 +133,9 @@ impl<T> SetTable<T> {
 
     /// Takes a set of the earliest frame, which has more.
     #[inline]
-    fn pick_first(&mut self) -> usize
+    fn pick_one_of_more(&mut self) -> usize
     {
-        let last = self.frames.len() - 1;
-        let chain = &mut self.frames[last];
+        let chain = &mut self.frames[0];
         let place = chain.first as usize;
         chain.first = self.next[place];
         chain.count -= 1;

@@ -1,7 +1,7 @@
-use Rattle.std.proofs.Common.{◌≡◌, ◌-◌, inl, inr, refl, ap, arith}
+use Rattle.std.proofs.Common.{inl, inr, refl, ap, arith}
 use Rattle.descriptor_table.specs.Slots.{frame_at}
 use Rattle.descriptor_table.specs.declared.slot.FrameChain.{FrameChain}
-use Rattle.descriptor_table.proofs.Counting.{below_or}
+use Rattle.descriptor_table.proofs.Counting.{same_or}
 use Rattle.descriptor_table.proofs.Frames.{none_due, read_frame}
 use Rattle.descriptor_table.proofs.Turning.{stays_same}
 use Rattle.descriptor_table.proofs.set_table.SetTable.pick_due.Goals as goal
@@ -20,7 +20,7 @@ returns-then-chain-frame g c =
     let some = c.if-count-eq0.false in
     let n = c.len-count.ensures in
     let ok = s.frames.ok in
-    let is = read_frame s.frames.items (c.len-count.result - 1) c.index-chain.result.now (omega arith) c.index-chain.ensures in
+    let is = read_frame s.frames.items 0 c.index-chain.result.now (omega arith) c.index-chain.ensures in
     let late = c.if-chain-frame.true in
     let f = ap (λ (d : FrameChain). d.frame) is in
     record {
@@ -28,11 +28,9 @@ returns-then-chain-frame g c =
         none =
             none_due s.slots.items s.next.items s.frames.items s.framed s.rising c.args.frame
             (λ i lt.
-            elim (below_or i (c.len-count.result - 1)) [
-              | inl b ↦ (let h = s.rising.falls i (c.len-count.result - 1) b (omega arith) in omega arith)
-              | inr a ↦ (
-                  let e : i ≡ c.len-count.result - 1 = omega arith in
-                  let h = ap (λ i. (frame_at s.frames.items i).frame) e in omega arith)
+            elim (same_or i 0) [
+              | inl e ↦ (let h = ap (λ i. (frame_at s.frames.items i).frame) e in omega arith)
+              | inr ne ↦ (let h = s.rising.rises 0 i (omega arith) lt in omega arith)
             ]);
         slots = refl;
       };

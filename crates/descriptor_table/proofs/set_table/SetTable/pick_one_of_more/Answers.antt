@@ -1,4 +1,4 @@
-use Rattle.std.proofs.Common.{◌≡◌, ◌-◌, ◌<◌, length, refl, true, sym, ap, set, subst, ◌∙◌, arith, rules}
+use Rattle.std.proofs.Common.{◌≡◌, ◌-◌, ◌<◌, length, refl, true, sym, ap, set, subst, arith, rules}
 use Rattle.std.proofs.lemmas.List.{get_or_read}
 use Rattle.descriptor_table.specs.Slots.{frame_at, is_of, slot_at}
 use Rattle.descriptor_table.specs.Tables.{used_for}
@@ -7,29 +7,27 @@ use Rattle.descriptor_table.specs.declared.slot.Use.TheVariants.{Taken}
 use Rattle.descriptor_table.proofs.Chains.{in_no_list, known_set, out_linked, taken_unkept}
 use Rattle.descriptor_table.proofs.Frames.{first_inside, first_waits, has_set, read_frame, shorten_framed}
 use Rattle.descriptor_table.proofs.Listed.{read_slot}
-use Rattle.descriptor_table.proofs.set_table.SetTable.pick_first.Goals.{After-index_mut-chain}
-use Rattle.descriptor_table.proofs.set_table.SetTable.pick_first.Goals as goal
+use Rattle.descriptor_table.proofs.set_table.SetTable.pick_one_of_more.Goals.{After-index_mut-chain}
+use Rattle.descriptor_table.proofs.set_table.SetTable.pick_one_of_more.Goals as goal
 
--- the list at the end
-is_last : (g : _) (c : After-index_mut-chain g) → c.index_mut-chain.result.now ≡ frame_at c.args.self.now.frames.items (length c.args.self.now.frames.items - 1)
-is_last g c =
+-- the list at the front
+is_first : (g : _) (c : After-index_mut-chain g) → c.index_mut-chain.result.now ≡ frame_at c.args.self.now.frames.items 0
+is_first g c =
     let s = c.args.self.now in
     let some = c.requires.some in
-    let n = c.len-last.ensures in
-    let ok = s.frames.ok in
-    read_frame s.frames.items (c.len-last.result - 1) c.index_mut-chain.result.now (omega arith) c.index_mut-chain.ensures.value ∙ ap (λ n. frame_at s.frames.items (n - 1)) (omega arith)
+    read_frame s.frames.items 0 c.index_mut-chain.result.now some c.index_mut-chain.ensures.value
 
 inside : (g : _) (c : After-index_mut-chain g) → c.index_mut-chain.result.now.first < length c.args.self.now.slots.items
 inside g c =
     let s = c.args.self.now in
     let some = c.requires.some in
-    subst (λ (d : FrameChain). d.first < length s.slots.items) (sym (is_last g c)) (first_inside s.slots.items s.next.items s.frames.items s.framed s.rising (length s.frames.items - 1) (omega arith))
+    subst (λ (d : FrameChain). d.first < length s.slots.items) (sym (is_first g c)) (first_inside s.slots.items s.next.items s.frames.items s.framed s.rising 0 (omega arith))
 
-waits : (g : _) (c : After-index_mut-chain g) → is_of (frame_at c.args.self.now.frames.items (length c.args.self.now.frames.items - 1)).frame (slot_at c.args.self.now.slots.items c.index_mut-chain.result.now.first) ≡ true
+waits : (g : _) (c : After-index_mut-chain g) → is_of (frame_at c.args.self.now.frames.items 0).frame (slot_at c.args.self.now.slots.items c.index_mut-chain.result.now.first) ≡ true
 waits g c =
     let s = c.args.self.now in
     let some = c.requires.some in
-    subst (λ (d : FrameChain). is_of (frame_at s.frames.items (length s.frames.items - 1)).frame (slot_at s.slots.items d.first) ≡ true) (sym (is_last g c)) (first_waits s.slots.items s.next.items s.frames.items s.framed s.rising (length s.frames.items - 1) (omega arith))
+    subst (λ (d : FrameChain). is_of (frame_at s.frames.items 0).frame (slot_at s.slots.items d.first) ≡ true) (sym (is_first g c)) (first_waits s.slots.items s.next.items s.frames.items s.framed s.rising 0 (omega arith))
 
 pub index-requires : goal.index-requires
 index-requires g c =
@@ -49,7 +47,7 @@ invariant_of-self-clause-linked g c =
     let d = (goal.at.invariant_of-self-clause-linked g c).After-index_mut-chain in
     out_linked s.slots.items s.next.items s.chains.items s.linked c.index_mut-chain.result.now.first
     (used_for Taken c.index_mut.result.now) (inside g d)
-    (in_no_list (frame_at s.frames.items (length s.frames.items - 1)).frame
+    (in_no_list (frame_at s.frames.items 0).frame
     (slot_at s.slots.items c.index_mut-chain.result.now.first) (waits g d))
     (λ k. refl)
 
@@ -58,12 +56,11 @@ invariant_of-self-clause-framed g c =
     let s = c.args.self.now in
     let d = (goal.at.invariant_of-self-clause-framed g c).After-index_mut-chain in
     let some = c.requires.some in
-    let n = c.len-last.ensures in
     let i = inside g d in
     let links = s.sized.links in
-    shorten_framed s.slots.items s.next.items s.frames.items s.framed s.rising (c.len-last.result - 1)
+    shorten_framed s.slots.items s.next.items s.frames.items s.framed s.rising 0
     c.index.result.now c.index_mut-chain.result.now c.index_mut.result.now (let ok = s.frames.ok in omega arith)
-    (read_frame s.frames.items (c.len-last.result - 1) c.index_mut-chain.result.now
+    (read_frame s.frames.items 0 c.index_mut-chain.result.now
     (let ok = s.frames.ok in omega arith) c.index_mut-chain.ensures.value)
     (get_or_read s.next.items c.index_mut-chain.result.now.first c.index.result.now (omega arith) c.index.ensures 0)
 
@@ -73,10 +70,9 @@ invariant_of-self-clause-rising g c =
     let d = (goal.at.invariant_of-self-clause-rising g c).After-index_mut-chain in
     let some = c.requires.some in
     let more = c.requires.more in
-    let n = c.len-last.ensures in
     let ok = s.frames.ok in
-    let count = ap (λ (d : FrameChain). d.count) (is_last g d) in
-    has_set s.frames.items (c.len-last.result - 1)
+    let count = ap (λ (d : FrameChain). d.count) (is_first g d) in
+    has_set s.frames.items 0
     (record {
       frame = c.index_mut-chain.result.now.frame;
       first = c.index.result.now;
@@ -84,7 +80,7 @@ invariant_of-self-clause-rising g c =
     })
     s.rising (omega arith)
     (ap (λ (d : FrameChain). d.frame)
-    (read_frame s.frames.items (c.len-last.result - 1) c.index_mut-chain.result.now (omega arith)
+    (read_frame s.frames.items 0 c.index_mut-chain.result.now (omega arith)
     c.index_mut-chain.ensures.value))
     (omega arith)
 
