@@ -7,6 +7,7 @@ use crate::kit::fmt;
 
 /// Why no frame was opened or skipped.
 #[derive(Clone, Copy, Debug, PartialEq, Eq)]
+#[non_exhaustive]
 pub enum BeginError {
     /// A frame is open.
     FrameOpen,
@@ -28,6 +29,7 @@ impl Error for BeginError {}
 
 /// Why there is no set, or no layout was removed.
 #[derive(Clone, Copy, Debug, PartialEq, Eq)]
+#[non_exhaustive]
 pub enum RenderError {
     /// No frame is open.
     NoFrame,
@@ -54,6 +56,7 @@ impl Error for RenderError {}
 
 /// Why no set was freed or destroyed.
 #[derive(Clone, Copy, Debug, PartialEq, Eq)]
+#[non_exhaustive]
 pub enum DestroyError {
     /// A handle names no set that the renderer holds, or is given twice.
     NoSet,
