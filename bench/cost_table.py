@@ -6,8 +6,8 @@ from common import Counts, need, refuse
 # above it.
 COSTS = {
     "kept": ("a set is allocated, and freed", 2000, 100, 600, 235),
-    "frame": ("a frame of one set", 2000, 100, 600, 280),
-    "unkept": ("the same, and no sets are kept", 2000, 100, 600, 730),
+    "frame": ("a frame of one set", 2000, 100, 600, 300),
+    "unkept": ("the same, and no sets are kept", 2000, 100, 600, 760),
     "removed": ("a layout is added and removed, and has a set in between", 2000, 100, 600, 1120),
     "keys": ("a set of the first key and one of the last, by the allocator alone", 2000, 100, 600, 1300),
     "waits": ("a set is destroyed after a new frame, and no frame is done", 1, 1000, 3000, 825),

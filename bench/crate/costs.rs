@@ -36,7 +36,9 @@ impl<'a> Scene<'a> {
 
     /// A set of the last layout is allocated, and freed.
     fn kept(&mut self) {
-        let set = self.renderer.create_set(self.layouts[self.layouts.len() - 1]);
+        let set = self
+            .renderer
+            .create_set(self.layouts[self.layouts.len() - 1]);
         self.free(&[set.unwrap()]);
     }
 

@@ -4,9 +4,9 @@
 mod allocator {
     pub use gpu_descriptor::*;
 }
+mod costs;
 #[path = "../original/device.rs"]
 mod device;
-mod costs;
 mod drawn;
 #[path = "../original/subject.rs"]
 mod subject;
