@@ -180,6 +180,12 @@ static bool is_number_of_sets(uint64_t sets) {
     return keep == 0 ? driver.sets == sets : driver.sets >= sets;
 }
 
+// Whether the request alone has more update-after-bind descriptors than the limit. Then no set that is kept
+// could help.
+static bool exceeds_limit_alone(uint32_t layout, uint32_t count) {
+    return driver_layouts[layout].is_marked && count * driver_descriptors(layout) > driver.limit;
+}
+
 // Mostly few sets, sometimes many, and never very many of the layout whose pools hold few.
 static void allocate(void) {
     static gd_set sets[MOST_SETS];
@@ -204,9 +210,11 @@ static void allocate(void) {
     }
     for (uint32_t place = 0; place < count; place++)
         CHECK(sets[place].handle == 0 && sets[place].name == 0 && sets[place].owner == 0);
-    // Kept ones are gone, unless the list of handles got no memory.
+    // Kept ones are gone, unless they couldn't help or the list of handles got no memory.
     if (keep == 0)
         CHECK(driver_calls.released == driver_calls.set_count && driver.sets == before);
+    else if (exceeds_limit_alone(layout, count))
+        CHECK(driver.sets == before);
     else
         CHECK(memory_refused_one_in > 0 || driver.sets == held_count + waiting_count);
     write_refusal(status);
