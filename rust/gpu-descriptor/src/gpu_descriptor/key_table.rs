@@ -43,8 +43,9 @@ impl<P> KeyTable<P> {
         }
     }
 
-    /// The place of a key. It is hashed only if it is neither at the place that was found last nor at the
-    /// one after it, which serves keys that are used in the order in which they first came.
+    /// The place of a key. It is hashed only if it is at none of three places: the one that was found last,
+    /// the one after it, and the first. These serve keys that are used in the order in which they first
+    /// came, again and again.
     #[inline]
     fn place_of_key(&self, key: &BucketKey) -> Option<usize>
     {
@@ -55,10 +56,13 @@ impl<P> KeyTable<P> {
         if self.has_key(likely, key) {
             return Some(likely);
         }
+        if self.has_key(0, key) {
+            return Some(0);
+        }
         self.buckets.get_index_of(key)
     }
 
-    /// The place of the key with an id. If neither hint is right it is found by halves, since
+    /// The place of the key with an id. If none of the three hints is right it is found by halves, since
     /// the ids rise along the table.
     #[inline]
     pub(crate) fn place_of_id(&self, id: u64) -> usize
@@ -69,6 +73,9 @@ impl<P> KeyTable<P> {
         let likely = self.last.wrapping_add(1);
         if self.has_id(likely, id) {
             return likely;
+        }
+        if self.has_id(0, id) {
+            return 0;
         }
         self.buckets.partition_point(|_key: &BucketKey, bucket: &DescriptorBucket<P>| bucket.id
             < id)
