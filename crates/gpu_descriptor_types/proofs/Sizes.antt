@@ -1,7 +1,8 @@
--- What the size of a new pool keeps: for `new_pool_size` and `cut_pool_size`, and for the new pools of a request.
-use Rattle.std.proofs.Common.{◌≡◌, ℕ, ◌*◌, ◌/◌, ◌^◌, ◌<◌, ◌≤◌, max, min, List, length, map, slice_index_or, sym, ap, subst, ◌∙◌, arith}
-use Rattle.std.specs.Prelude.{fold, if◌then◌else◌, nat_le}
-use Rattle.std.proofs.Math.Nat.{mul-div-le, div-mul-le_self, mul-le-mul_left, mul-le-mul_right}
+-- What the size of a new pool keeps: for `new_pool_sets` and `cut_pool_size`, and for the new pools of a request.
+use Rattle.std.proofs.Common.{◌≡◌, ℕ, ◌*◌, ◌/◌, ◌^◌, ◌<◌, ◌≤◌, max, min, List, [], ◌∷◌, length, map, slice_index_or, inl, inr, refl, sym, ap, subst, ◌∙◌, arith}
+use Rattle.std.specs.Prelude.{All, fold, if◌then◌else◌, nat_le}
+use Rattle.std.proofs.Math.Nat.{max-eq_left, max-eq_right, mul-div-le, div-mul-le_self, mul-le-mul_left, mul-le-mul_right}
+use Rattle.std.proofs.lemmas.Bool.{cases_lt}
 use Rattle.std.proofs.lemmas.Nat.{le-div}
 use Rattle.std.proofs.lemmas.List.{get_or-map, length-map}
 use Rattle.gpu_descriptor_types.specs.Counts.{greatest}
@@ -17,12 +18,44 @@ kind_fits count sets few =
     let all : max 1 count * (4294967295 / max 1 count) ≤ 4294967295 = mul-div-le 4294967295 (max 1 count) in
     omega arith
 
+-- a kind with fewer descriptors allows more sets
+kind_allows : (a b : ℕ) → a ≤ b → sets_of_kind b ≤ sets_of_kind a
+kind_allows a b le =
+    let wider : sets_of_kind b * max 1 a ≤ sets_of_kind b * max 1 b = mul-le-mul_left (sets_of_kind b) (omega arith) in
+    let all = div-mul-le_self 4294967295 (max 1 b) in
+    le-div (sets_of_kind b) 4294967295 (max 1 a) (omega arith) (omega arith)
+
+-- the greater of two counts allows what both allow
+both_allow : (start a b : ℕ) → min (min start (sets_of_kind a)) (sets_of_kind b) ≡ min start (sets_of_kind (max a b))
+both_allow start a b = elim (cases_lt a b) [
+  | inl lt ↦ (let le : a ≤ b = omega arith in let fewer = kind_allows a b le in rw (max-eq_right le) (omega arith))
+  | inr le ↦ (let fewer = kind_allows b a le in rw (max-eq_left le) (omega arith))
+]
+
+all_allow : (start most : ℕ) (counts : List ℕ) → fold min (min start (sets_of_kind most)) (map sets_of_kind counts) ≡ min start (sets_of_kind (fold max most counts))
+all_allow start most [] = refl
+all_allow start most (x ∷ counts) = ap (λ n. fold min n (map sets_of_kind counts)) (both_allow start most x) ∙ all_allow start (max most x) counts
+
+-- the least of the start and what each kind allows is that of the start and what the greatest count allows
+pub greatest_allows : (start : ℕ) (counts : List ℕ) → start ≤ greatest_pool_size → min start (sets_of_kind (greatest counts)) ≡ fold min start (map sets_of_kind counts)
+greatest_allows start counts small =
+    let first : start ≡ min start (sets_of_kind 0) = omega arith in
+    sym (ap (λ n. fold min n (map sets_of_kind counts)) first ∙ all_allow start 0 counts)
+
 -- every count of a pool of the size fits
-pub pool_fits : (counts : List ℕ) (start : ℕ) (k d : ℕ) → k < length counts → slice_index_or counts k d * fold min start (map sets_of_kind counts) < 2 ^ 32
-pool_fits counts start k d within =
-    let below = fold_min-le start (map sets_of_kind counts) k 0 (simp length-map within) in
-    let is = get_or-map sets_of_kind counts k d 0 within in
-    kind_fits (slice_index_or counts k d) (fold min start (map sets_of_kind counts)) (omega arith)
+pub pool_size_fits : (counts : List ℕ) (total wanted sets : ℕ) → IsPoolSize counts total wanted sets → All (λ count. count * sets < 2 ^ 32) counts
+pool_size_fits counts total wanted sets s = λ k d within.
+    let below = fold_min-le s.start (map sets_of_kind counts) k 0 (simp length-map within) in
+    let one = get_or-map sets_of_kind counts k d 0 within in
+    let is = s.is_least in
+    kind_fits (slice_index_or counts k d) sets (omega arith)
+
+-- and if there are fewer sets
+pub fewer_fit : (counts : List ℕ) (few many : ℕ) → few ≤ many → All (λ count. count * many < 2 ^ 32) counts → All (λ count. count * few < 2 ^ 32) counts
+fewer_fit counts few many le fits = λ k d within.
+    let all = fits k d within in
+    let less = mul-le-mul_left (slice_index_or counts k d) le in
+    omega arith
 
 -- a new pool has at most so many sets
 pub pool_size_small : (counts : List ℕ) (total wanted sets : ℕ) → IsPoolSize counts total wanted sets → sets ≤ greatest_pool_size
@@ -42,13 +75,6 @@ pool_size_below counts total wanted sets s =
     omega arith
 
 -- ---- what it has at least
-
--- a kind with fewer descriptors allows more sets
-kind_allows : (a b : ℕ) → a ≤ b → sets_of_kind b ≤ sets_of_kind a
-kind_allows a b le =
-    let wider : sets_of_kind b * max 1 a ≤ sets_of_kind b * max 1 b = mul-le-mul_left (sets_of_kind b) (omega arith) in
-    let all = div-mul-le_self 4294967295 (max 1 b) in
-    le-div (sets_of_kind b) 4294967295 (max 1 a) (omega arith) (omega arith)
 
 -- it has what is wanting, or as many as it may have in any case
 pub pool_size_some : (counts : List ℕ) (total wanted sets : ℕ) → IsPoolSize counts total wanted sets → min wanted (pool_size_floor counts) ≤ sets

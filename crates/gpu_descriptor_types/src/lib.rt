@@ -17,6 +17,9 @@ pub use device::DescriptorDevice;
 pub use errors::{CreatePoolError, DeviceAllocationError};
 pub use flags::DescriptorPoolCreateFlags;
 pub use layouts::Layouts;
-pub use pool_size::{bounded_pool_size, cut_pool_size, new_pool_size};
+pub use pool_size::{
+    bounded_pool_sets, bounded_pool_size, counts_of_sets, cut_pool_sets, cut_pool_size,
+    new_pool_sets, new_pool_size,
+};
 pub use sink::SetSink;
 pub use tally::Tally;

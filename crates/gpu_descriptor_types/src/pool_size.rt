@@ -1,7 +1,7 @@
 //! The size of a new pool.
 ghost use Rattle.std.specs.Prelude.{◌≡◌, ℕ, ◌*◌, ◌<◌, ◌≤◌, ◌^◌, All, IfSome, IfNone, min, max, sum};
-ghost use Rattle.std.specs.Prelude.{fold, map};
-ghost use Rattle.gpu_descriptor_types.specs.Counts.{kinds as kinds_of};
+ghost use Rattle.std.specs.Prelude.{map};
+ghost use Rattle.gpu_descriptor_types.specs.Counts.{greatest, kinds as kinds_of};
 ghost use Rattle.gpu_descriptor_types.specs.PoolSize.{IsCutSize, IsPoolSize, IsRounded};
 ghost use Rattle.gpu_descriptor_types.specs.PoolSize.{bounded_sets, greatest_pool_size, pool_counts};
 ghost use Rattle.gpu_descriptor_types.specs.PoolSize.{pool_size_floor};
@@ -16,15 +16,30 @@ const MIN_SETS: u32 = 64;
 /// How many of a key's outstanding sets count at most towards the size of its next pool.
 const MAX_SETS: u32 = 512;
 
-/// The size of a new pool for sets of these counts: the pool's counts, and how many sets it holds.
+/// How many sets a new pool for sets of these counts holds.
 ///
 /// `total` is how many sets of this key are outstanding, `wanted` how many are wanting. The pool
 /// holds as many sets as the least power of two that is not below 64, `wanted` and the smaller of
 /// 512 and `total`, or 2147483647 where that power passes 32 bits; and no more than keep each of
-/// its counts within 32 bits. So it may hold fewer than `wanted`, but at least one. A pool for sets
-/// without descriptors has one sampler.
+/// its counts within 32 bits. So it may hold fewer than `wanted`, but at least one.
 ///
 /// In the original this is a private call of the bucket, over a total of 32 bits.
+#[inline]
+pub fn new_pool_sets(counts: &DescriptorTotalCount, total: u64, wanted: u32) -> u32
+    ensures sets { IsPoolSize (kinds_of counts.now) total wanted result }
+
+    ensures some { 1 ≤ result }
+    ensures at_most { result ≤ greatest_pool_size }
+    ensures at_least { min wanted (pool_size_floor (kinds_of counts.now)) ≤ result }
+    ensures below_twice { result < 2 * start_size_of total wanted }
+    ensures fits { All (λ count. count * result < 2 ^ 32) (kinds_of counts.now) }
+{
+    let kinds = counts.to_array();
+    cut_to(rounded_up(start_size(total, wanted)), greatest_of(&kinds))
+}
+
+/// The size of a new pool for sets of these counts: the pool's counts, and how many sets it holds. See
+/// `new_pool_sets`. A pool for sets without descriptors has one sampler.
 pub fn new_pool_size(
     counts: &DescriptorTotalCount,
     total: u64,
@@ -39,15 +54,32 @@ pub fn new_pool_size(
     ensures below_twice { result.1 < 2 * start_size_of total wanted }
     ensures fits { All (λ count. count * result.1 < 2 ^ 32) (kinds_of counts.now) }
 {
-    let kinds = counts.to_array();
-    let sets = set_count(&kinds, rounded_up(start_size(total, wanted)));
+    let sets = new_pool_sets(counts, total, wanted);
     (counts_of_sets(counts, sets), sets)
 }
 
-/// The size of a new pool, cut so that it has at most `room` descriptors; `None` where not even a
-/// pool of one set fits.
+/// How many of so many sets a pool may hold that has at most `room` descriptors; `None` where not even
+/// one set fits.
 ///
 /// A pool for sets without descriptors has one, whatever it holds.
+#[inline]
+pub fn cut_pool_sets(counts: &DescriptorTotalCount, sets: u32, room: u32) -> Option<u32>
+    requires { 1 ≤ sets }
+    ensures sets { IfSome result (λ cut. cut ≡ sets_in_room_of room (sum (kinds_of counts.now)) sets) }
+    ensures none { IfNone result (room < max 1 (sum (kinds_of counts.now))) }
+
+    ensures some { IfSome result (λ cut. 1 ≤ cut) }
+    ensures at_most { IfSome result (λ cut. cut ≤ sets) }
+{
+    let cut = sets_in_room(room, counts.total(), sets);
+    if cut == 0 {
+        return None;
+    }
+    Some(cut)
+}
+
+/// The size of a new pool, cut so that it has at most `room` descriptors; `None` where not even a
+/// pool of one set fits. See `new_pool_sets` and `cut_pool_sets`.
 pub fn cut_pool_size(
     counts: &DescriptorTotalCount,
     total: u64,
@@ -69,18 +101,33 @@ pub fn cut_pool_size(
     ensures whole { (sets : ℕ) → IsPoolSize (kinds_of counts.now) total wanted sets
         → max 1 (sets * sum (kinds_of counts.now)) ≤ room → IfSome result (λ pool. pool.1 ≡ sets) }
 {
-    let (_, whole) = new_pool_size(counts, total, wanted);
-    let sets = sets_in_room(room, counts.total(), whole);
-    if sets == 0 {
-        return None;
-    }
+    let whole = new_pool_sets(counts, total, wanted);
+    let sets = cut_pool_sets(counts, whole, room)?;
     Some((counts_of_sets(counts, sets), sets))
 }
 
-/// A pool size of these counts, cut so that its sets have at most `most` descriptors together, unless
-/// the `wanted` sets have more; as it is with `None`. A set without descriptors counts as one. If none
-/// are wanted, and `most` leaves none, the pool is for no set.
+/// So many sets, cut so that they have at most `most` descriptors together, unless the `wanted` sets
+/// have more; as many as they are with `None`. A set without descriptors counts as one. If none are
+/// wanted, and `most` leaves none, it is 0.
 #[inline]
+pub fn bounded_pool_sets(
+    counts: &DescriptorTotalCount,
+    sets: u32,
+    wanted: u32,
+    most: Option<u64>,
+) -> u32
+    ensures sets { result ≡ bounded_sets most (sum (kinds_of counts.now)) wanted sets }
+    ensures at_most { result ≤ sets }
+{
+    let Some(most) = most else {
+        return sets;
+    };
+    let fit = most / counts.total().max(1);
+    u64::from(sets).min(fit.max(u64::from(wanted))) as u32
+}
+
+/// A pool size of these counts, cut so that its sets have at most `most` descriptors together, unless
+/// the `wanted` sets have more; as it is with `None`. See `bounded_pool_sets`.
 pub fn bounded_pool_size(
     counts: &DescriptorTotalCount,
     size: (DescriptorTotalCount, u32),
@@ -92,14 +139,7 @@ pub fn bounded_pool_size(
     ensures sets { result.1 ≡ bounded_sets most (sum (kinds_of counts.now)) wanted size.1 }
     ensures counts { kinds_of result.0 ≡ pool_counts (kinds_of counts.now) result.1 }
 {
-    let Some(most) = most else {
-        return size;
-    };
-    let fit = most / counts.total().max(1);
-    let sets = u64::from(size.1).min(fit.max(u64::from(wanted))) as u32;
-    if sets == size.1 {
-        return size;
-    }
+    let sets = bounded_pool_sets(counts, size.1, wanted, most);
     (counts_of_sets(counts, sets), sets)
 }
 
@@ -120,6 +160,7 @@ fn sets_in_room(room: u32, each: u64, sets: u32) -> u32
 }
 
 /// How many sets a pool is for, before this is rounded up and cut.
+#[inline]
 fn start_size(total: u64, wanted: u32) -> u32
     ensures { result ≡ start_size_of total wanted }
 {
@@ -139,17 +180,16 @@ fn rounded_up(start: u32) -> u32
         .unwrap_or(i32::MAX.cast_unsigned())
 }
 
-/// The least of `start` and what each kind allows.
-fn set_count(kinds: &[u32; 14], start: u32) -> u32
-    requires { 1 ≤ start }
-    ensures least { result ≡ fold min start (map sets_of_kind kinds.now) }
-    ensures some { 1 ≤ result }
+/// The greatest of the counts, which allows the fewest sets.
+#[inline]
+fn greatest_of(kinds: &[u32; 14]) -> u32
+    ensures { result ≡ greatest kinds.now }
 {
-    let mut sets = start;
+    let mut most = 0;
     for kind in kinds {
-        sets = cut_to(sets, *kind);
+        most = most.max(*kind);
     }
-    sets
+    most
 }
 
 /// The smaller of `sets` and what a kind allows. It divides only where so many would pass 32 bits.
@@ -164,8 +204,9 @@ fn cut_to(sets: u32, kind: u32) -> u32
     }
 }
 
-/// The counts of a pool of so many sets.
-fn counts_of_sets(counts: &DescriptorTotalCount, sets: u32) -> DescriptorTotalCount
+/// The counts of a pool of so many sets. If these have no descriptors it has one sampler.
+#[inline]
+pub fn counts_of_sets(counts: &DescriptorTotalCount, sets: u32) -> DescriptorTotalCount
     requires { All (λ count. count * sets < 2 ^ 32) (kinds_of counts.now) }
     ensures { kinds_of result ≡ pool_counts (kinds_of counts.now) sets }
 {

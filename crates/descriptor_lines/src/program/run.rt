@@ -17,7 +17,7 @@ use crate::command::Command;
 use crate::device::LineDevice;
 use crate::layouts::Layout;
 use descriptor_script::{Answer, Command as SessionCommand, Reply, ScriptLayout, Session};
-use gpu_descriptor_types::{DescriptorTotalCount, new_pool_size};
+use gpu_descriptor_types::{DescriptorTotalCount, counts_of_sets, new_pool_sets};
 use std::alloc::AllocError;
 use std::string::String;
 use std::vec::Vec;
@@ -134,6 +134,6 @@ fn answer_size(
     requires { string_bytes answer.old ≡ [] }
     ensures { OnOk result (AnswersSize (kinds counts.now) total wanted (string_bytes answer.new)) }
 {
-    let (pool, sets) = new_pool_size(counts, total, wanted);
-    answer::size_answer(answer, &pool, sets)
+    let sets = new_pool_sets(counts, total, wanted);
+    answer::size_answer(answer, &counts_of_sets(counts, sets), sets)
 }

@@ -1,8 +1,8 @@
 -- What a key's next pool takes of the room, and when its size was cut.
-use Rattle.gpu_descriptor.proofs.Common.{common_steps, greatest_pool_size, ◌≡◌, ℕ, ◌+◌, ◌-◌, ◌*◌, ◌<◌, ◌≤◌, sum, List, [], ◌∷◌, ◌++◌, inl, inr, refl, sym, subst, arith, mul-le-mul_right, cases_Bool, if◌then◌else◌, Option, IsPoolSize, sets_in_room, start_size, Key, Fresh, IsNextSize, AreSized}
+use Rattle.gpu_descriptor.proofs.Common.{common_steps, greatest_pool_size, ◌≡◌, ℕ, ◌+◌, ◌-◌, ◌*◌, ◌^◌, ◌<◌, ◌≤◌, All, sum, List, [], ◌∷◌, ◌++◌, inl, inr, refl, sym, subst, arith, mul-le-mul_right, cases_Bool, if◌then◌else◌, Option, IsPoolSize, sets_in_room, start_size, Key, Fresh, IsNextSize, AreSized}
 use Rattle.gpu_descriptor.proofs.Common.{room_after, pool_descriptors}
 use Rattle.gpu_descriptor_types.proofs.Room.{bounded_few, bounded_whole, few_in_room, fits_in_room, whole_in_room}
-use Rattle.gpu_descriptor_types.proofs.Sizes.{pool_size_small, pool_size_below}
+use Rattle.gpu_descriptor_types.proofs.Sizes.{fewer_fit, pool_size_below, pool_size_fits, pool_size_small}
 
 -- ---- a key's next pool
 
@@ -17,9 +17,12 @@ module _ (most : Option ℕ) (k : Key) (room total wanted size : ℕ) (s : IsNex
   few : size ≤ s.whole
   few = grind (arith, common_steps, few_in_room, least)
 
-  -- its size is one that a pool may have, below twice the start size, and within the room
+  -- its size is one that a pool may have, its counts fit, it is below twice the start size, and within the room
   pub next_small : size ≤ greatest_pool_size
   next_small = (let a = few in let b = pool_size_small k.counts total wanted s.whole s.is_whole in omega arith)
+
+  pub next_counts : All (λ count. count * size < 2 ^ 32) k.counts
+  next_counts = fewer_fit k.counts size s.whole few (pool_size_fits k.counts total wanted s.whole s.is_whole)
 
   pub next_below : size < 2 * start_size total wanted
   next_below = (let a = few in let b = pool_size_below k.counts total wanted s.whole s.is_whole in omega arith)

@@ -4,7 +4,7 @@ ghost use Rattle.std.specs.Prelude.{All, IfErr, IfSome, IfNone, None, OnOk};
 ghost use Rattle.std.specs.VecDeque.{deque_capacity};
 ghost use Rattle.gpu_descriptor_types.specs.Counts.{kinds};
 ghost use Rattle.gpu_descriptor_types.specs.Flags.{bits, pool_flags as pool_flags_of};
-ghost use Rattle.gpu_descriptor_types.specs.PoolSize.{greatest_pool_size, pool_counts as pool_counts_of};
+ghost use Rattle.gpu_descriptor_types.specs.PoolSize.{greatest_pool_size};
 ghost use Rattle.gpu_descriptor.specs.Caller.Sets.{PutsOfLayout};
 ghost use Rattle.gpu_descriptor.specs.Inner.Grow.{IsGrown};
 ghost use Rattle.gpu_descriptor.specs.Inner.KeyOf.{key_of};
@@ -27,8 +27,8 @@ use crate::key::BucketKey;
 use crate::places::SetPlaces;
 use bitflags::Flags;
 use gpu_descriptor_types::{
-    DescriptorDevice, DescriptorPoolCreateFlags, DescriptorTotalCount, Layouts, Tally,
-    bounded_pool_size, cut_pool_size, new_pool_size,
+    DescriptorDevice, DescriptorPoolCreateFlags, Layouts, Tally, bounded_pool_sets, counts_of_sets,
+    cut_pool_sets, new_pool_sets,
 };
 use std::alloc::AllocError;
 
@@ -41,51 +41,36 @@ fn pool_flags(marked: bool) -> DescriptorPoolCreateFlags
     flags
 }
 
-/// The counts of a key's next pool within the limit, and how many sets it holds; `None` if the limit
-/// leaves no room for one.
+/// How many sets a key's next pool holds within the limit; `None` if the limit leaves no room for one.
 #[inline]
-fn size_in_room(
-    key: &BucketKey,
-    total: u64,
-    wanted: u32,
-    room: u32,
-) -> Option<(DescriptorTotalCount, u32)>
-    ensures sets { IfSome result (λ pool. IsNextSize None (key_of key.now) room total wanted
-        pool.1) }
-    ensures counts { IfSome result (λ pool. kinds pool.0 ≡ pool_counts_of (kinds key.now.counts)
-        pool.1) }
-    ensures fits { IfSome result (λ pool. All (λ count. count * pool.1 < 2 ^ 32)
-        (kinds key.now.counts)) }
+fn size_in_room(key: &BucketKey, total: u64, wanted: u32, room: u32) -> Option<u32>
+    ensures sets { IfSome result (λ sets. IsNextSize None (key_of key.now) room total wanted
+        sets) }
     ensures none { IfNone result (room < pool_descriptors (key_of key.now) 1) }
 {
+    let sets = new_pool_sets(&key.counts, total, wanted);
     if key.marked {
-        cut_pool_size(&key.counts, total, wanted, room)
+        cut_pool_sets(&key.counts, sets, room)
     } else {
-        Some(new_pool_size(&key.counts, total, wanted))
+        Some(sets)
     }
 }
 
-/// The counts and the sets of a key's next pool, within the limit and the bound.
+/// How many sets a key's next pool holds, within the limit and the bound.
 #[inline]
-fn next_size(
-    key: &BucketKey,
-    total: u64,
-    wanted: u32,
-    room: u32,
-    most: Option<u64>,
-) -> Option<(DescriptorTotalCount, u32)>
+fn next_size(key: &BucketKey, total: u64, wanted: u32, room: u32, most: Option<u64>) -> Option<u32>
     requires some { 1 ≤ wanted }
-    ensures sets { IfSome result (λ pool. IsNextSize most (key_of key.now) room total wanted
-        pool.1) }
-    ensures counts { IfSome result (λ pool. kinds pool.0 ≡ pool_counts_of (kinds key.now.counts)
-        pool.1) }
-    ensures at_most { IfSome result (λ pool. pool.1 ≤ greatest_pool_size) }
-    ensures room { IfSome result (λ pool. (pool_descriptors (key_of key.now) pool.1 ≤ room)
-        × (pool_descriptors (key_of key.now) pool.1 < 2 ^ 32)) }
+    ensures sets { IfSome result (λ sets. IsNextSize most (key_of key.now) room total wanted
+        sets) }
+    ensures fits { IfSome result (λ sets. All (λ count. count * sets < 2 ^ 32)
+        (kinds key.now.counts)) }
+    ensures at_most { IfSome result (λ sets. sets ≤ greatest_pool_size) }
+    ensures room { IfSome result (λ sets. (pool_descriptors (key_of key.now) sets ≤ room)
+        × (pool_descriptors (key_of key.now) sets < 2 ^ 32)) }
     ensures none { IfNone result (room < pool_descriptors (key_of key.now) 1) }
 {
-    let size = size_in_room(key, total, wanted, room)?;
-    Some(bounded_pool_size(&key.counts, size, wanted, most))
+    let sets = size_in_room(key, total, wanted, room)?;
+    Some(bounded_pool_sets(&key.counts, sets, wanted, most))
 }
 
 impl<P> DescriptorBucket<P> {
@@ -129,14 +114,14 @@ impl<P> DescriptorBucket<P> {
             (D.ledger device.old) (D.ledger device.new) }
     {
         let key = &request.key;
-        let Some((counts, size)) = next_size(key, self.total, sink.left, budget.room, budget.most)
-        else {
+        let Some(size) = next_size(key, self.total, sink.left, budget.room, budget.most) else {
             return Err(Stop::NoRoomUnderLimit);
         };
         if self.reserve_pool().is_err() {
             return Err(Stop::NoMemoryForPool);
         }
         let flags = pool_flags(key.marked);
+        let counts = counts_of_sets(&key.counts, size);
         let mut raw = match device.create_descriptor_pool(&counts, size, flags) {
             Ok(raw) => raw,
             Err(error) => return Err(Stop::PoolNotCreated(error)),

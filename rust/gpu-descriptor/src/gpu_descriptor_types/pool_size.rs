@@ -9,65 +9,51 @@ const MIN_SETS: u32 = 64;
 /// How many of a key's outstanding sets count at most towards the size of its next pool.
 const MAX_SETS: u32 = 512;
 
-/// The size of a new pool for sets of these counts: the pool's counts, and how many sets it holds.
+/// How many sets a new pool for sets of these counts holds.
 ///
 /// `total` is how many sets of this key are outstanding, `wanted` how many are wanting. The pool
 /// holds as many sets as the least power of two that is not below 64, `wanted` and the smaller of
 /// 512 and `total`, or 2147483647 where that power passes 32 bits; and no more than keep each of
-/// its counts within 32 bits. So it may hold fewer than `wanted`, but at least one. A pool for sets
-/// without descriptors has one sampler.
+/// its counts within 32 bits. So it may hold fewer than `wanted`, but at least one.
 ///
 /// In the original this is a private call of the bucket, over a total of 32 bits.
-pub fn new_pool_size(
-    counts: &DescriptorTotalCount,
-    total: u64,
-    wanted: u32,
-) -> (DescriptorTotalCount, u32)
+#[inline]
+pub fn new_pool_sets(counts: &DescriptorTotalCount, total: u64, wanted: u32) -> u32
 {
     let kinds = counts.to_array();
-    let sets = set_count(&kinds, rounded_up(start_size(total, wanted)));
-    (counts_of_sets(counts, sets), sets)
+    cut_to(rounded_up(start_size(total, wanted)), greatest_of(&kinds))
 }
 
-/// The size of a new pool, cut so that it has at most `room` descriptors; `None` where not even a
-/// pool of one set fits.
+/// How many of so many sets a pool may hold that has at most `room` descriptors; `None` where not even
+/// one set fits.
 ///
 /// A pool for sets without descriptors has one, whatever it holds.
-pub fn cut_pool_size(
-    counts: &DescriptorTotalCount,
-    total: u64,
-    wanted: u32,
-    room: u32,
-) -> Option<(DescriptorTotalCount, u32)>
+#[inline]
+pub fn cut_pool_sets(counts: &DescriptorTotalCount, sets: u32, room: u32) -> Option<u32>
 {
-    let (_, whole) = new_pool_size(counts, total, wanted);
-    let sets = sets_in_room(room, counts.total_u64(), whole);
-    if sets == 0 {
+    let cut = sets_in_room(room, counts.total_u64(), sets);
+    if cut == 0 {
         return None;
     }
-    Some((counts_of_sets(counts, sets), sets))
+    Some(cut)
 }
 
-/// A pool size of these counts, cut so that its sets have at most `most` descriptors together, unless
-/// the `wanted` sets have more; as it is with `None`. A set without descriptors counts as one. If none
-/// are wanted, and `most` leaves none, the pool is for no set.
+/// So many sets, cut so that they have at most `most` descriptors together, unless the `wanted` sets
+/// have more; as many as they are with `None`. A set without descriptors counts as one. If none are
+/// wanted, and `most` leaves none, it is 0.
 #[inline]
-pub fn bounded_pool_size(
+pub fn bounded_pool_sets(
     counts: &DescriptorTotalCount,
-    size: (DescriptorTotalCount, u32),
+    sets: u32,
     wanted: u32,
     most: Option<u64>,
-) -> (DescriptorTotalCount, u32)
+) -> u32
 {
     let Some(most) = most else {
-        return size;
+        return sets;
     };
     let fit = most / counts.total_u64().max(1);
-    let sets = u64::from(size.1).min(fit.max(u64::from(wanted))) as u32;
-    if sets == size.1 {
-        return size;
-    }
-    (counts_of_sets(counts, sets), sets)
+    u64::from(sets).min(fit.max(u64::from(wanted))) as u32
 }
 
 /// How many of so many sets fit into room for descriptors, where each set has `each`.
@@ -83,6 +69,7 @@ fn sets_in_room(room: u32, each: u64, sets: u32) -> u32
 }
 
 /// How many sets a pool is for, before this is rounded up and cut.
+#[inline]
 fn start_size(total: u64, wanted: u32) -> u32
 {
     let outstanding = total.min(u64::from(MAX_SETS)) as u32;
@@ -97,14 +84,15 @@ fn rounded_up(start: u32) -> u32
         .unwrap_or(i32::MAX.cast_unsigned())
 }
 
-/// The least of `start` and what each kind allows.
-fn set_count(kinds: &[u32; 14], start: u32) -> u32
+/// The greatest of the counts, which allows the fewest sets.
+#[inline]
+fn greatest_of(kinds: &[u32; 14]) -> u32
 {
-    let mut sets = start;
+    let mut most = 0;
     for kind in kinds {
-        sets = cut_to(sets, *kind);
+        most = most.max(*kind);
     }
-    sets
+    most
 }
 
 /// The smaller of `sets` and what a kind allows. It divides only where so many would pass 32 bits.
@@ -118,8 +106,9 @@ fn cut_to(sets: u32, kind: u32) -> u32
     }
 }
 
-/// The counts of a pool of so many sets.
-fn counts_of_sets(counts: &DescriptorTotalCount, sets: u32) -> DescriptorTotalCount
+/// The counts of a pool of so many sets. If these have no descriptors it has one sampler.
+#[inline]
+pub fn counts_of_sets(counts: &DescriptorTotalCount, sets: u32) -> DescriptorTotalCount
 {
     let mut all = products(counts, sets);
     if all == DescriptorTotalCount::default() {

@@ -16,9 +16,9 @@ impl<P, S> DescriptorAllocator<P, S> {
     /// The existing pools of the layout's key are asked first, from the newest to the oldest, each at
     /// most once, and each for at most as many sets as it is known to have places for. A pool that
     /// refuses as fragmented or full is passed over. For the sets that are still wanting new pools are
-    /// created. `new_pool_size` says how many sets a new pool has; for a marked (update-after-bind)
-    /// layout `cut_pool_size` cuts this number to the room that the limit leaves. Then, for any layout,
-    /// `bounded_pool_size` cuts it to the bound of `set_most_pool_descriptors`. A request for 0 sets
+    /// created. `new_pool_sets` says how many sets a new pool has; for a marked (update-after-bind)
+    /// layout `cut_pool_sets` cuts this number to the room that the limit leaves. Then, for any layout,
+    /// `bounded_pool_sets` cuts it to the bound of `set_most_pool_descriptors`. A request for 0 sets
     /// changes nothing and allocates nothing.
     ///
     /// If the request can't be met, a new pool that refused its sets is destroyed, and all sets that

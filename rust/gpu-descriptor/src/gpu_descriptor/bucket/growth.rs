@@ -9,8 +9,8 @@ use crate::gpu_descriptor::budget::Budget;
 use crate::gpu_descriptor::key::BucketKey;
 use crate::gpu_descriptor::places::SetPlaces;
 use crate::gpu_descriptor_types::{
-    DescriptorDevice, DescriptorPoolCreateFlags, DescriptorTotalCount, Layouts,
-    bounded_pool_size, cut_pool_size, new_pool_size,
+    DescriptorDevice, DescriptorPoolCreateFlags, Layouts, bounded_pool_sets, counts_of_sets,
+    cut_pool_sets, new_pool_sets,
 };
 use crate::kit::alloc::AllocError;
 
@@ -22,35 +22,24 @@ fn pool_flags(marked: bool) -> DescriptorPoolCreateFlags
     flags
 }
 
-/// The counts of a key's next pool within the limit, and how many sets it holds; `None` if the limit
-/// leaves no room for one.
+/// How many sets a key's next pool holds within the limit; `None` if the limit leaves no room for one.
 #[inline]
-fn size_in_room(
-    key: &BucketKey,
-    total: u64,
-    wanted: u32,
-    room: u32,
-) -> Option<(DescriptorTotalCount, u32)>
+fn size_in_room(key: &BucketKey, total: u64, wanted: u32, room: u32) -> Option<u32>
 {
+    let sets = new_pool_sets(&key.counts, total, wanted);
     if key.marked {
-        cut_pool_size(&key.counts, total, wanted, room)
+        cut_pool_sets(&key.counts, sets, room)
     } else {
-        Some(new_pool_size(&key.counts, total, wanted))
+        Some(sets)
     }
 }
 
-/// The counts and the sets of a key's next pool, within the limit and the bound.
+/// How many sets a key's next pool holds, within the limit and the bound.
 #[inline]
-fn next_size(
-    key: &BucketKey,
-    total: u64,
-    wanted: u32,
-    room: u32,
-    most: Option<u64>,
-) -> Option<(DescriptorTotalCount, u32)>
+fn next_size(key: &BucketKey, total: u64, wanted: u32, room: u32, most: Option<u64>) -> Option<u32>
 {
-    let size = size_in_room(key, total, wanted, room)?;
-    Some(bounded_pool_size(&key.counts, size, wanted, most))
+    let sets = size_in_room(key, total, wanted, room)?;
+    Some(bounded_pool_sets(&key.counts, sets, wanted, most))
 }
 
 impl<P> DescriptorBucket<P> {
@@ -68,14 +57,14 @@ impl<P> DescriptorBucket<P> {
     ) -> Result<(), Stop>
     {
         let key = &request.key;
-        let Some((counts, size)) = next_size(key, self.total, sink.left, budget.room, budget.most)
-        else {
+        let Some(size) = next_size(key, self.total, sink.left, budget.room, budget.most) else {
             return Err(Stop::NoRoomUnderLimit);
         };
         if self.reserve_pool().is_err() {
             return Err(Stop::NoMemoryForPool);
         }
         let flags = pool_flags(key.marked);
+        let counts = counts_of_sets(&key.counts, size);
         let mut raw = match device.create_descriptor_pool(&counts, size, flags) {
             Ok(raw) => raw,
             Err(error) => return Err(Stop::PoolNotCreated(error)),

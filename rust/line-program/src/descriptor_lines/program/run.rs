@@ -7,7 +7,7 @@ use crate::descriptor_lines::command::Command;
 use crate::descriptor_lines::device::LineDevice;
 use crate::descriptor_lines::layouts::Layout;
 use crate::descriptor_script::{Answer, Command as SessionCommand, Reply, ScriptLayout, Session};
-use crate::gpu_descriptor_types::{DescriptorTotalCount, new_pool_size};
+use crate::gpu_descriptor_types::{DescriptorTotalCount, counts_of_sets, new_pool_sets};
 use crate::kit::alloc::AllocError;
 use crate::kit::string::String;
 use crate::kit::vec::Vec;
@@ -99,6 +99,6 @@ fn answer_size(
     answer: &mut String,
 ) -> Result<(), AllocError>
 {
-    let (pool, sets) = new_pool_size(counts, total, wanted);
-    answer::size_answer(answer, &pool, sets)
+    let sets = new_pool_sets(counts, total, wanted);
+    answer::size_answer(answer, &counts_of_sets(counts, sets), sets)
 }

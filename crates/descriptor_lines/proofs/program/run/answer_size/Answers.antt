@@ -6,9 +6,9 @@ use Rattle.descriptor_lines.proofs.program.run.answer_size.Goals as goal
 
 pub returns : goal.returns
 returns c =
-    let pool = c.new_pool_size-sets in
+    let sets = c.new_pool_sets-sets in
     IfOk-weaker c.size_answer.result _ _ (λ _ written. record {
-      sets = pool.result.1;
-      is_size = pool.ensures.sets;
-      said = written ∙ ap (λ old. old ++ size_answer pool.result.1 (kinds pool.result.0)) c.requires ∙ ap (λ counts. size_answer pool.result.1 counts) pool.ensures.counts;
+      sets = sets.result;
+      is_size = sets.ensures.sets;
+      said = written ∙ ap (λ old. old ++ size_answer sets.result (kinds c.counts_of_sets.result)) c.requires ∙ ap (λ counts. size_answer sets.result counts) c.counts_of_sets.ensures;
     }) c.size_answer.ensures

@@ -27,7 +27,7 @@ module _ (g : _) (c : In-Ok g) where
   created = g.D.DescriptorDevice.ledger c.create_descriptor_pool.new.self
 
   made : created ≡ after_create (pool_counts key.counts size) size (flags_of key) name before
-  made = c.in-Ok.ensures.ok ∙ (λ i. after_create (c.in-Some.ensures.counts i) size (c.pool_flags-flags.ensures i) name before)
+  made = c.in-Ok.ensures.ok ∙ (λ i. after_create (c.counts_of_sets-counts.ensures i) size (c.pool_flags-flags.ensures i) name before)
 
   at : created.pools name ≡ Some (fresh (pool_counts key.counts size) size (flags_of key))
   at = created_at key size name before created made

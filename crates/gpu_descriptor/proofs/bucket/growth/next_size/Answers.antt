@@ -1,15 +1,18 @@
 use Rattle.gpu_descriptor.proofs.Common.{arith, ap, ◌∙◌, sum, key_of, kinds, bounded_sets}
 use Rattle.gpu_descriptor_types.proofs.Room.{bounded_some}
-use Rattle.gpu_descriptor.proofs.request.NextSize.{next_fits, next_small}
+use Rattle.gpu_descriptor.proofs.request.NextSize.{next_counts, next_fits, next_small}
 use Rattle.gpu_descriptor.proofs.bucket.growth.next_size.Goals as goal
 
 pub returns-clause-sets : goal.returns-clause-sets
 returns-clause-sets c =
-    let s = c.in_ok-size.ensures.sets in
+    let s = c.in_ok-sets.ensures.sets in
     let each = sum (kinds c.args.key.now.counts) in
-    let is = c.bounded_pool_size.ensures.sets in
-    let some = bounded_some c.args.most each c.args.wanted c.in_ok-size.size.1 c.requires.some s.some in
+    let is = c.bounded_pool_sets.ensures.sets in
+    let some = bounded_some c.args.most each c.args.wanted c.in_ok-sets.sets c.requires.some s.some in
     record { whole = s.whole; is_whole = s.is_whole; cut = is ∙ ap (bounded_sets c.args.most each c.args.wanted) s.cut; some = omega arith }
+
+pub returns-clause-fits : goal.returns-clause-fits
+returns-clause-fits c = next_counts c.args.most (key_of c.args.key.now) c.args.room c.args.total c.args.wanted _ (returns-clause-sets c)
 
 pub returns-clause-at_most : goal.returns-clause-at_most
 returns-clause-at_most c = next_small c.args.most (key_of c.args.key.now) c.args.room c.args.total c.args.wanted _ (returns-clause-sets c)
