@@ -89,17 +89,21 @@ impl BucketKey {
         self.marked == other.marked && are_same_counts(&self.counts, &other.counts)
     }
 
+    /// How many descriptors a set of the key has, if it is marked; else 0.
+    #[inline]
+    pub(crate) fn marked_descriptors_of_set(&self) -> u64
+        ensures { result ≡ set_descriptors (key_of self.now) 1 }
+    {
+        if self.marked { self.counts.total() } else { 0 }
+    }
+
     /// How many descriptors so many sets of the key have, if it is marked; else 0.
     #[inline]
     pub(crate) fn marked_descriptors_of_sets(&self, sets: u64) -> u64
         requires { set_descriptors (key_of self.now) sets < 2 ^ 64 }
         ensures { result ≡ set_descriptors (key_of self.now) sets }
     {
-        if self.marked {
-            sets * self.counts.total()
-        } else {
-            0
-        }
+        sets * self.marked_descriptors_of_set()
     }
 
     /// How many descriptors a pool of so many sets has, if the key is marked; else 0. A pool for

@@ -1,7 +1,7 @@
 -- The running totals of a table, and what a run takes from them.
 -- For the functions of the allocator that keep its totals (IsConsistent). es and fs are the map's entries before and after a write, v
 -- and w the bucket of the key k that was there and that is; left is the room then.
-use Rattle.gpu_descriptor.proofs.Common.{◌≡◌, ℕ, ◌+◌, ◌-◌, ◌≤◌, Bool, true, List, [], ◌∷◌, ◌++◌, length, map, sum_by, Some, inl, inr, refl, sym, ap, ◌∙◌, arith, zero, suc, slice_get, lookup, set_value, cases_Bool, sum_by-cons, BucketKey, DescriptorSet, DescriptorBucket, Key, key_eq}
+use Rattle.gpu_descriptor.proofs.Common.{◌≡◌, ℕ, ◌+◌, ◌-◌, ◌*◌, ◌≤◌, Bool, true, List, [], ◌∷◌, ◌++◌, length, map, sum_by, Some, inl, inr, refl, sym, ap, ◌∙◌, arith, zero, suc, slice_get, lookup, set_value, cases_Bool, sum_by-cons, BucketKey, DescriptorSet, DescriptorBucket, Key, key_eq}
 use Rattle.gpu_descriptor.proofs.Common.{sum_over, key_of, Allocations, common_steps, bucket_load, descriptors_out, set_descriptors, sets_out, marked_descriptors, items_of, outstanding_of, marked_load_of, AllPass, kept_in, kept_of, row_of, stored_load, IsConsistent, none-some, same_Some}
 use Rattle.indexmap.specs.Layout.{set_value_at}
 use Rattle.gpu_descriptor.specs.Inner.RunSteps.{lies_at}
@@ -18,6 +18,10 @@ set_descriptors-add k m n = elim (cases_Bool k.marked) [ inl on ↦ rw on (grind
 
 pub set_descriptors-le : (k : Key) (m n : ℕ) → m ≤ n → set_descriptors k m ≤ set_descriptors k n
 set_descriptors-le k m n le = grind arith
+
+-- a set has each
+pub set_descriptors-each : (k : Key) (n each : ℕ) → each ≡ set_descriptors k 1 → n * each ≡ set_descriptors k n
+set_descriptors-each k n each is = ap (λ m. n * m) is ∙ elim (cases_Bool k.marked) [ inl on ↦ rw on (grind arith) | inr off ↦ rw off (omega arith) ]
 
 -- the allocator's invariant, opened and closed
 module _ {P : Type 0} {limit marked room out : ℕ} {es : List (BucketKey × DescriptorBucket P)} where

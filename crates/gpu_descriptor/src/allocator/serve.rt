@@ -12,6 +12,7 @@ ghost use Rattle.gpu_descriptor.specs.Caller.States.{Agrees, keys_of, marked_loa
 ghost use Rattle.gpu_descriptor.specs.Inner.KeyOf.{key_of};
 ghost use Rattle.gpu_descriptor.specs.Inner.OpenPools.{CountsLooks};
 ghost use Rattle.gpu_descriptor.specs.Inner.Serves.{Appends, IsDeclined, IsSound, Takes};
+ghost use Rattle.gpu_descriptor.specs.Model.Load.{set_descriptors};
 
 use super::DescriptorAllocator;
 use crate::bucket::request::SetRequest;
@@ -127,7 +128,8 @@ impl<P: Drop, S> DescriptorAllocator<P, S> {
         ensures limit { self.new.limit ≡ self.old.limit }
         ensures most { self.new.most ≡ self.old.most }
     {
-        if self.would_exceed_limit(&request.key, request.count) {
+        let each = request.key.marked_descriptors_of_set();
+        if self.would_exceed_limit(&request.key, each, request.count) {
             return Err(AllocationError::Fragmentation);
         }
         if would_exceed_64_bits(self.outstanding, request.count) {
@@ -136,20 +138,22 @@ impl<P: Drop, S> DescriptorAllocator<P, S> {
         let ended = self.table.serve(device, request, &mut self.budget, sink)?;
         let taken = u64::from(request.count - sink.left);
         self.outstanding += taken;
-        let descriptors = request.key.marked_descriptors_of_sets(taken) as u32;
+        let descriptors = (taken * each) as u32;
         self.update_after_bind_descriptors += descriptors;
         Ok(ended)
     }
 }
 
 impl<P, S> DescriptorAllocator<P, S> {
-    /// Whether `count` sets more would exceed the limit on marked descriptors.
-    fn would_exceed_limit(&self, key: &BucketKey, count: u32) -> bool
+    /// Whether `count` sets more would exceed the limit on marked descriptors, of which a set of the key
+    /// has `each`.
+    fn would_exceed_limit(&self, key: &BucketKey, each: u64, count: u32) -> bool
+        requires each { each ≡ set_descriptors (key_of key.now) 1 }
         ensures { result ≡ (key.now.marked && nat_lt (self.now.limit)
             (count * sum (kinds key.now.counts) + marked_load_of self.now)) }
     {
         let unused = self.max_update_after_bind_descriptors_in_all_pools
             - self.update_after_bind_descriptors;
-        key.marked && u128::from(count) * u128::from(key.counts.total()) > u128::from(unused)
+        key.marked && u128::from(count) * u128::from(each) > u128::from(unused)
     }
 }

@@ -74,7 +74,8 @@ impl<P, S> DescriptorAllocator<P, S> {
         sink: &mut RequestSink<'k, S, K>,
     ) -> Result<Result<(), Stop>, AllocationError>
     {
-        if self.would_exceed_limit(&request.key, request.count) {
+        let each = request.key.marked_descriptors_of_set();
+        if self.would_exceed_limit(&request.key, each, request.count) {
             return Err(AllocationError::Fragmentation);
         }
         if would_exceed_64_bits(self.outstanding, request.count) {
@@ -83,18 +84,19 @@ impl<P, S> DescriptorAllocator<P, S> {
         let ended = self.table.serve(device, request, &mut self.budget, sink)?;
         let taken = u64::from(request.count - sink.left);
         self.outstanding += taken;
-        let descriptors = request.key.marked_descriptors_of_sets(taken) as u32;
+        let descriptors = (taken * each) as u32;
         self.update_after_bind_descriptors += descriptors;
         Ok(ended)
     }
 }
 
 impl<P, S> DescriptorAllocator<P, S> {
-    /// Whether `count` sets more would exceed the limit on marked descriptors.
-    fn would_exceed_limit(&self, key: &BucketKey, count: u32) -> bool
+    /// Whether `count` sets more would exceed the limit on marked descriptors, of which a set of the key
+    /// has `each`.
+    fn would_exceed_limit(&self, key: &BucketKey, each: u64, count: u32) -> bool
     {
         let unused = self.max_update_after_bind_descriptors_in_all_pools
             - self.update_after_bind_descriptors;
-        key.marked && u128::from(count) * u128::from(key.counts.total_u64()) > u128::from(unused)
+        key.marked && u128::from(count) * u128::from(each) > u128::from(unused)
     }
 }

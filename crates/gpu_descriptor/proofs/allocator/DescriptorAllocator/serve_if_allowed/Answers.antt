@@ -1,10 +1,10 @@
-use Rattle.gpu_descriptor.proofs.Common.{common_steps, ◌≡◌, ◌+◌, ◌≤◌, length, arith, refl, None, ap, ltb-false, key_of, set_descriptors, IsConsistent, subst, Ledger, Bucket, state_of, AreBookedIn}
-use Rattle.gpu_descriptor.proofs.sums.Loads.{opened, closed}
+use Rattle.gpu_descriptor.proofs.Common.{common_steps, ◌≡◌, ◌+◌, ◌*◌, ◌≤◌, length, arith, refl, None, ap, ltb-false, key_of, set_descriptors, IsConsistent, subst, Ledger, Bucket, state_of, AreBookedIn}
+use Rattle.gpu_descriptor.proofs.sums.Loads.{opened, closed, set_descriptors-each}
 use Rattle.gpu_descriptor.proofs.cleanup.KeyOrder.{keys_seen}
 use Rattle.gpu_descriptor.proofs.request.Requested.{keeps_limit, seen, seen_again, table_is, declined_by_limit, declined_by_bound, declined_unserved, given_fits, counted_now, takes_of, books_at}
 use Rattle.gpu_descriptor.specs.Caller.SetLists.{appended}
 use Rattle.gpu_descriptor.proofs.request.Passed.{passed}
-use Rattle.gpu_descriptor.proofs.allocator.DescriptorAllocator.serve_if_allowed.Goals.{After-from-taken, After-marked_descriptors_of_sets-descriptors}
+use Rattle.gpu_descriptor.proofs.allocator.DescriptorAllocator.serve_if_allowed.Goals.{After-from-taken}
 use Rattle.gpu_descriptor.proofs.request.StateAgrees.{booked_of}
 use Rattle.gpu_descriptor.proofs.allocator.DescriptorAllocator.serve_if_allowed.Goals as goal
 
@@ -34,30 +34,43 @@ many g c = (let left = c.in_ok-ended.ensures.serves.appends.rest in let came = c
 fits : (g : _) (c : After-from-taken g) → set_descriptors (key_of c.args.request.now.key) c.from-taken.result + c.self.inside.update_after_bind_descriptors ≤ c.self.inside.max_update_after_bind_descriptors_in_all_pools
 fits g c = given_fits c.serve.new.self.buckets.entries c.in_ok-ended.ensures.serves.served c.self.view_is (opened c.self.invariant) c.would_exceed_limit.ensures c.if-would_exceed_limit.false (many g c)
 
+descriptors : (g : _) (c : After-from-taken g) → c.from-taken.result * c.marked_descriptors_of_set-each.result ≡ set_descriptors (key_of c.args.request.now.key) c.from-taken.result
+descriptors g c = set_descriptors-each (key_of c.args.request.now.key) c.from-taken.result c.marked_descriptors_of_set-each.result c.marked_descriptors_of_set-each.ensures
+
+pub overflow_mul-descriptors : goal.overflow_mul-descriptors
+overflow_mul-descriptors g c =
+    let all = fits g (goal.at.overflow_mul-descriptors g c).After-from-taken in
+    let is = descriptors g (goal.at.overflow_mul-descriptors g c).After-from-taken in
+    let ranges = c.self.ranges in
+    omega arith
+
 pub overflow_cast-descriptors : goal.overflow_cast-descriptors
-overflow_cast-descriptors g c = grind (arith, common_steps)
+overflow_cast-descriptors g c =
+    let all = fits g (goal.at.overflow_cast-descriptors g c).After-from-taken in
+    let is = descriptors g (goal.at.overflow_cast-descriptors g c).After-from-taken in
+    let ranges = c.self.ranges in
+    omega arith
 
 pub overflow_add-self-2 : goal.overflow_add-self-2
 overflow_add-self-2 g c =
     let all = fits g (goal.at.overflow_add-self-2 g c).After-from-taken in
-    let is = c.marked_descriptors_of_sets-descriptors.ensures in
+    let is = descriptors g (goal.at.overflow_add-self-2 g c).After-from-taken in
     let ranges = c.self.ranges in
     omega arith
 
 -- the totals count what came
 counted :
-    (g : _) (c : After-marked_descriptors_of_sets-descriptors g)
+    (g : _) (c : After-from-taken g)
     → IsConsistent c.self.inside.max_update_after_bind_descriptors_in_all_pools
-    (c.self.inside.update_after_bind_descriptors + c.marked_descriptors_of_sets-descriptors.result)
+    (c.self.inside.update_after_bind_descriptors + c.from-taken.result * c.marked_descriptors_of_set-each.result)
     c.serve.new.budget.room (c.self.inside.outstanding + c.from-taken.result) c.serve.new.self.buckets.entries
 counted g c =
     counted_now c.serve.new.self.buckets.entries c.in_ok-ended.ensures.serves.served c.self.view_is (opened c.self.invariant)
     c.would_exceed_limit.ensures c.if-would_exceed_limit.false
-    (many g (goal.at-After-marked_descriptors_of_sets-descriptors g c).After-from-taken)
-    c.marked_descriptors_of_sets-descriptors.ensures c.serve.ensures.serves.room
+    (many g c) (descriptors g c) c.serve.ensures.serves.room
 
 pub invariant_of-self-2 : goal.invariant_of-self-2
-invariant_of-self-2 g c = closed (counted g (goal.at.invariant_of-self-2 g c).After-marked_descriptors_of_sets-descriptors)
+invariant_of-self-2 g c = closed (counted g (goal.at.invariant_of-self-2 g c).After-from-taken)
 
 pub returns-clause-taken : goal.returns-clause-taken
 returns-clause-taken g c =
@@ -67,7 +80,7 @@ pub returns-clause-keys : goal.returns-clause-keys
 returns-clause-keys g c = keys_seen (key_of c.args.request.now.key) c.args.self.now (seen 0 None 0 0 c.serve.new.self.buckets.entries) c.self.inside.table.buckets.entries c.serve.new.self.buckets.entries (table_is _ c.self.view_is) refl c.in_ok-ended.ensures.serves.keys
 
 pub returns-clause-within : goal.returns-clause-within
-returns-clause-within g c = keeps_limit refl (counted g (goal.at.returns-clause-within g c).After-marked_descriptors_of_sets-descriptors) c.serve.new.self.distinct g.D.DescriptorDevice.meaning.pool_name
+returns-clause-within g c = keeps_limit refl (counted g (goal.at.returns-clause-within g c).After-from-taken) c.serve.new.self.distinct g.D.DescriptorDevice.meaning.pool_name
 
 pub returns-then-would_exceed_limit-clause-within : goal.returns-then-would_exceed_limit-clause-within
 returns-then-would_exceed_limit-clause-within g c = keeps_limit c.self.view_is (opened c.self.invariant) c.self.inside.table.distinct g.D.DescriptorDevice.meaning.pool_name
