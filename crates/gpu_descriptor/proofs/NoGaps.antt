@@ -1,6 +1,6 @@
 -- Numbers without gaps: no pools have any, and a request, a free and a cleanup leave none. For the law `only_a_trim_leaves_gaps`.
-use Rattle.gpu_descriptor.proofs.Common.{◌≡◌, ℕ, ◌+◌, ◌++◌, [], ◌∷◌, inl, inr, Bool, true, false, List, drop, refl, sym, ap, subst, ◌∙◌, arith, if◌then◌else◌, cases_Bool, prefix_len}
-use Rattle.gpu_descriptor.proofs.Common.{Agree, Allocates, Bucket, Call, Entry, Grant, Item, Key, State, fresh_entries, granted, key_eq, next_number, number_after, numbers_of, released, rises}
+use Rattle.gpu_descriptor.proofs.Common.{◌≡◌, ℕ, ◌++◌, inl, inr, Bool, true, false, List, drop, refl, sym, ap, subst, ◌∙◌, arith, if◌then◌else◌, cases_Bool, prefix_len}
+use Rattle.gpu_descriptor.proofs.Common.{Agree, Allocates, Bucket, Call, Entry, Grant, Item, Key, State, fresh_entries, granted, key_eq, next_number, numbers_of, released, rises}
 use Rattle.gpu_descriptor.specs.Model.Agreement.{HasNoGaps, HasNoPools}
 use Rattle.gpu_descriptor.specs.Model.Cleanup.{LosesEmpty, left_of}
 use Rattle.gpu_descriptor.specs.Model.Grants.{bucket_with}

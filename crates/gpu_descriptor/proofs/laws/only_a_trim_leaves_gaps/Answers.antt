@@ -1,4 +1,4 @@
-use Rattle.gpu_descriptor.proofs.Common.{◌≡◌, ℕ, ◌+◌, Bool, false, nat_lt, length, slice_get, slice_index, Some, ap, if◌then◌else◌, le-ltb, Agree, Entry, Key, State, number_after, numbers_of}
+use Rattle.gpu_descriptor.proofs.Common.{◌≡◌, ℕ, ◌+◌, Bool, length, slice_get, slice_index, Some, ap, if◌then◌else◌, le-ltb, Agree, Entry, Key, State, number_after, numbers_of}
 use Rattle.gpu_descriptor.specs.Caller.Comparisons.{binary_digits, gap_digits}
 use Rattle.gpu_descriptor.specs.Model.Agreement.{HasNoGaps}
 use Rattle.gpu_descriptor.proofs.NoGaps.{none_begins, none_cleaned, none_freed, none_requested}
