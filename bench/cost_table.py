@@ -9,7 +9,7 @@ COSTS = {
     "frame": ("a frame of one set", 2000, 100, 600, 300),
     "unkept": ("the same, and no sets are kept", 2000, 100, 600, 760),
     "removed": ("a layout is added and removed, and has a set in between", 2000, 100, 600, 1120),
-    "keys": ("a set of the first key and one of the last, by the allocator alone", 2000, 100, 600, 1300),
+    "keys": ("a set of the first key and one of the last, by the allocator alone", 2000, 100, 600, 895),
     "waits": ("a set is destroyed after a new frame, and no frame is done", 1, 1000, 3000, 825),
     "grown": ("a set that stays", 1, 1000, 2000, 680),
     "layout": ("a layout that stays", 1, 1000, 2000, 330),

@@ -197,7 +197,7 @@ const TWO_A_POOL: u32 = u32::MAX / 2;
 
 #[test]
 fn first_request() {
-    // The table, its order, the vector of sets, the pools and the list of open ones.
+    // The table, its slots, the vector of sets, the pools and the list of open ones.
     refuse_each(&[], plain(1, 3), 3, 2);
 }
 
@@ -243,7 +243,7 @@ fn marked() {
 fn many_keys() {
     let mut before = Vec::new();
     for samplers in 0..40_u32 {
-        // The table and its order have 4, 8, 16, 32 and 64 places.
+        // The table has 4, 8, 16, 32 and 64 places, and twice as many slots.
         let grows = samplers == 0 || (samplers >= 4 && samplers.is_power_of_two());
         refuse_each(&before, plain(samplers, 2), if grows { 3 } else { 1 }, 2);
         before.push(plain(samplers, 2));

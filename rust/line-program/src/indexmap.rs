@@ -1,8 +1,7 @@
 //! The kit's `indexmap`, for the scripted device and the layouts of the line program.
 //!
-//! The allocator itself takes the crate's table. That one is sorted by hash, because a program has
-//! few keys. A pool of the scripted device has up to a million sets, and there each new set would
-//! move the others. So this table finds its places by Rust's `HashMap`.
+//! The allocator itself takes the crate's table. That one has only the calls that the allocator makes.
+//! This one has those of the line program too, and finds its places by Rust's `HashMap`.
 
 use crate::kit::alloc::{AllocError, AllocFailed, Global};
 use std::borrow::Borrow;

@@ -1,18 +1,46 @@
 //! The kit's crate `indexmap`.
 
 use super::alloc::{AllocError, AllocFailed, Global};
+use core::fmt::{self, Debug, Formatter};
 use core::hash::{Hash, Hasher};
 use core::ops::{Index, IndexMut};
 use std_alloc::vec::Vec;
 
 /// Pairs in the order in which their keys came, each key once.
 ///
-/// `order` has each place of `entries` once, with the hash of its key, sorted by hash. So a key is found
-/// by binary search.
-#[derive(Debug)]
+/// `slots` has each place of `entries` once, with the hash of its key: in the slot that the hash names, or
+/// if that is taken in the first vacant one after it. There is a power of two of them, or none. At least
+/// half of them are vacant, so a key is found in few steps.
 pub struct IndexMap<K, V> {
     entries: Vec<(K, V)>,
-    order: Vec<(u64, usize)>,
+    slots: Vec<Slot>,
+}
+
+/// A hash and a place, or `VACANT`. A key may have the hash 0, but none has that place.
+type Slot = (u64, usize);
+
+const VACANT: Slot = (0, usize::MAX);
+
+/// The first of so many slots to look at for a hash. Its upper bits depend on all bits of the key.
+#[inline]
+fn first_slot(hash: u64, last: usize) -> usize {
+    (hash >> 32) as usize & last
+}
+
+/// Out of line: in the search the compiler would take the key apart for it, from the words of the hash.
+#[inline(never)]
+fn are_same<K: Eq>(a: &K, b: &K) -> bool {
+    a == b
+}
+
+/// Writes a place into the first vacant slot.
+fn take_slot(slots: &mut [Slot], hash: u64, place: usize) {
+    let last = slots.len() - 1;
+    let mut at = first_slot(hash, last);
+    while slots[at] != VACANT {
+        at = (at + 1) & last;
+    }
+    slots[at] = (hash, place);
 }
 
 /// Hashes eight bytes at a time. `Eq` distinguishes keys with the same hash, so nothing but time
@@ -55,12 +83,19 @@ fn hash_of<K: Hash>(key: &K) -> u64 {
     mix.finish()
 }
 
+/// The pairs alone: how many slots there are is a capacity.
+impl<K: Debug, V: Debug> Debug for IndexMap<K, V> {
+    fn fmt(&self, f: &mut Formatter<'_>) -> fmt::Result {
+        self.entries.fmt(f)
+    }
+}
+
 impl<K, V> IndexMap<K, V> {
     /// `empty`, `len`: it has no pair. It allocates nothing.
     pub fn new(_: Global) -> Self {
         IndexMap {
             entries: Vec::new(),
-            order: Vec::new(),
+            slots: Vec::new(),
         }
     }
 
@@ -92,11 +127,21 @@ impl<K, V> IndexMap<K, V> {
     /// `entries`: nothing changes. `ok`: so many inserts need no allocation. `succeeds`: if they needed
     /// none before, it allocates nothing.
     pub fn reserve(&mut self, additional: usize) -> Result<(), AllocError> {
-        let entries = self.entries.try_reserve(additional);
-        match entries.and_then(|()| self.order.try_reserve(additional)) {
-            Ok(()) => Ok(()),
-            Err(_) => Err(AllocError),
+        self.entries
+            .try_reserve(additional)
+            .map_err(|_| AllocError)?;
+        let wanted = (self.entries.capacity() * 2).next_power_of_two();
+        if wanted <= self.slots.len() {
+            return Ok(());
         }
+        let mut slots = Vec::new();
+        slots.try_reserve_exact(wanted).map_err(|_| AllocError)?;
+        slots.resize(wanted, VACANT);
+        for (hash, place) in self.slots.iter().filter(|slot| **slot != VACANT) {
+            take_slot(&mut slots, *hash, *place);
+        }
+        self.slots = slots;
+        Ok(())
     }
 }
 
@@ -104,11 +149,18 @@ impl<K: Eq + Hash, V> IndexMap<K, V> {
     /// `index`: the place of the key, if it is there.
     pub fn get_index_of(&self, key: &K) -> Option<usize> {
         let hash = hash_of(key);
-        let first = self.order.partition_point(|it| it.0 < hash);
-        let alike = self.order[first..].iter().take_while(|it| it.0 == hash);
-        alike
-            .map(|it| it.1)
-            .find(|place| self.entries[*place].0 == *key)
+        let last = self.slots.len().checked_sub(1)?;
+        let mut at = first_slot(hash, last);
+        loop {
+            let (other, place) = self.slots[at];
+            if other == hash && are_same(&self.entries.get(place)?.0, key) {
+                return Some(place);
+            }
+            if place == usize::MAX {
+                return None;
+            }
+            at = (at + 1) & last;
+        }
     }
 
     /// `value`: the value of the key, if it is there.
@@ -128,27 +180,23 @@ impl<K: Eq + Hash, V> IndexMap<K, V> {
                 value: (key, value),
             });
         }
-        let hash = hash_of(&key);
-        let first = self.order.partition_point(|it| it.0 < hash);
-        self.order.insert(first, (hash, self.entries.len()));
+        take_slot(&mut self.slots, hash_of(&key), self.entries.len());
         self.entries.push((key, value));
         Ok(None)
     }
 
     /// `filtered`: the pairs for which `keep` is true stay, in their order. `room`: it allocates and
-    /// frees nothing, since the sort is in place.
+    /// frees nothing.
     pub fn retain(&mut self, mut keep: impl FnMut(&K, &mut V) -> bool) {
         let before = self.entries.len();
         self.entries.retain_mut(|(key, value)| keep(key, value));
         if self.entries.len() == before {
             return;
         }
-        self.order.truncate(self.entries.len());
-        let stay = self.entries.iter().enumerate();
-        for (entry, (place, (key, _))) in self.order.iter_mut().zip(stay) {
-            *entry = (hash_of(key), place);
+        self.slots.fill(VACANT);
+        for (place, (key, _)) in self.entries.iter().enumerate() {
+            take_slot(&mut self.slots, hash_of(key), place);
         }
-        self.order.sort_unstable();
     }
 }
 
@@ -224,7 +272,8 @@ mod tests {
                 }
             }
             assert_eq!(map.entries, list);
-            assert_eq!(map.order.len(), list.len());
+            let taken = map.slots.iter().filter(|slot| **slot != super::VACANT);
+            assert_eq!(taken.count(), list.len());
         }
     }
 }
