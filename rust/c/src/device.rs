@@ -6,6 +6,7 @@ use crate::gpu_descriptor_types::{
     DeviceAllocationError, Layouts, SetSink,
 };
 use crate::kit::alloc::AllocError;
+use crate::lock::Lock;
 use core::cell::Cell;
 use core::ffi::c_void;
 use std_alloc::vec::Vec;
@@ -48,11 +49,8 @@ impl Pools {
     }
 }
 
-/// A `gd_device` of which no function is `NULL`, and memory for the handles of a call.
-///
-/// A call has at most as many sets as the largest pool. So the memory is reserved before a pool is
-/// created, and no later call of the pool allocates.
-pub struct HostDevice {
+/// A `gd_device` of which no function is `NULL`.
+pub struct Host {
     user: *mut c_void,
 
     /// What `user` leads to, if it is copied.
@@ -62,44 +60,21 @@ pub struct HostDevice {
     destroy_pool: DestroyPool,
     allocate_sets: AllocateSets,
     free_sets: FreeSets,
-
-    /// The sets of a call.
-    handles: Vec<u64>,
-
-    /// The first `filled` of them are `layout`.
-    layouts: Vec<u64>,
-    layout: u64,
-    filled: usize,
-
-    /// The pools that exist, and the most that there were at once.
-    pub pools: Pools,
-    pub peak: Pools,
-
-    /// Why a request was refused, if that is no reason of the allocator's: `DEVICE_LOST`, or `BAD_RESULT` for
-    /// an unknown status; else `OK`. It is refused as if an allocation of the host had failed.
-    pub cause: Cell<GdStatus>,
 }
 
 // SAFETY: `user` is the host's, and the header says that any thread may pass it to the functions.
-unsafe impl Send for HostDevice {}
+unsafe impl Send for Host {}
 
-impl HostDevice {
+impl Host {
     /// `None` if a function is `NULL`. It allocates nothing.
     pub fn new(device: &GdDevice) -> Option<Self> {
-        Some(HostDevice {
+        Some(Host {
             user: device.user,
             copied: Vec::new(),
             create_pool: device.create_pool?,
             destroy_pool: device.destroy_pool?,
             allocate_sets: device.allocate_sets?,
             free_sets: device.free_sets?,
-            handles: Vec::new(),
-            layouts: Vec::new(),
-            layout: 0,
-            filled: 0,
-            pools: Pools::default(),
-            peak: Pools::default(),
-            cause: Cell::new(GdStatus::OK),
         })
     }
 
@@ -123,6 +98,56 @@ impl HostDevice {
         unsafe { core::ptr::copy_nonoverlapping(self.user.cast::<u8>(), copy, size) };
         self.user = copy.cast();
         Ok(())
+    }
+}
+
+/// A host, and memory for the handles of a call.
+///
+/// A call has at most as many sets as the largest pool. So the memory is reserved before a pool is
+/// created, and no later call of the pool allocates.
+pub struct HostDevice {
+    host: Host,
+
+    /// The allocator's, which is held while the host is called.
+    lock: &'static Lock,
+
+    /// The sets of a call.
+    handles: Vec<u64>,
+
+    /// The first `filled` of them are `layout`.
+    layouts: Vec<u64>,
+    layout: u64,
+    filled: usize,
+
+    /// The pools that exist, and the most that there were at once.
+    pub pools: Pools,
+    pub peak: Pools,
+
+    /// Why a request was refused, if that is no reason of the allocator's: `DEVICE_LOST`, or `BAD_RESULT` for
+    /// an unknown status; else `OK`. It is refused as if an allocation of the host had failed.
+    pub cause: Cell<GdStatus>,
+}
+
+impl HostDevice {
+    /// It allocates nothing.
+    pub fn new(host: Host, lock: &'static Lock) -> Self {
+        HostDevice {
+            host,
+            lock,
+            handles: Vec::new(),
+            layouts: Vec::new(),
+            layout: 0,
+            filled: 0,
+            pools: Pools::default(),
+            peak: Pools::default(),
+            cause: Cell::new(GdStatus::OK),
+        }
+    }
+
+    /// Calls a function of the host's.
+    #[inline]
+    fn call<R>(&self, function: impl FnOnce(&Host) -> R) -> R {
+        self.lock.as_owner(|| function(&self.host))
     }
 
     /// Reserves memory for the handles of so many sets.
@@ -178,8 +203,9 @@ impl HostDevice {
     /// Frees the sets of the first `count` handles.
     fn free_first(&mut self, pool: u64, count: usize) {
         if count > 0 {
+            let (count, handles) = (count as u32, self.handles.as_ptr());
             // SAFETY: the pointer leads to so many handles, which are sets of this pool.
-            unsafe { (self.free_sets)(self.user, pool, count as u32, self.handles.as_ptr()) }
+            self.call(|it| unsafe { (it.free_sets)(it.user, pool, count, handles) });
         }
     }
 }
@@ -205,7 +231,7 @@ impl DescriptorDevice<u64, HostPool, u64> for HostDevice {
             descriptors: counts.total_u64(),
         };
         // SAFETY: both pointers are valid during the call.
-        let status = unsafe { (self.create_pool)(self.user, &info, &mut pool.handle) };
+        let status = self.call(|it| unsafe { (it.create_pool)(it.user, &info, &mut pool.handle) });
         match status {
             GdStatus::OK => {
                 self.pools.add(&pool);
@@ -227,7 +253,7 @@ impl DescriptorDevice<u64, HostPool, u64> for HostDevice {
     fn destroy_descriptor_pool(&mut self, pool: HostPool) {
         self.pools.remove(&pool);
         // SAFETY: the host created the pool, and it has no sets.
-        unsafe { (self.destroy_pool)(self.user, pool.handle) }
+        self.call(|it| unsafe { (it.destroy_pool)(it.user, pool.handle) });
     }
 
     fn alloc_descriptor_sets<K: SetSink<u64>>(
@@ -243,8 +269,9 @@ impl DescriptorDevice<u64, HostPool, u64> for HostDevice {
         self.prepare(layout, count as usize);
         let (layouts, handles) = (self.layouts.as_ptr(), self.handles.as_mut_ptr());
         // SAFETY: both arrays have at least `count` elements.
-        let status =
-            unsafe { (self.allocate_sets)(self.user, pool.handle, count, layouts, handles) };
+        let status = self.call(|it| unsafe {
+            (it.allocate_sets)(it.user, pool.handle, count, layouts, handles)
+        });
         match status {
             GdStatus::OK => {
                 for handle in &self.handles[..count as usize] {

@@ -9,7 +9,7 @@ use crate::abi::{
     HEADER,
 };
 use crate::allocator::Allocator;
-use crate::device::HostDevice;
+use crate::device::{Host, HostDevice};
 use crate::slot::{self, GdAllocator};
 use core::ffi::c_char;
 
@@ -114,23 +114,25 @@ pub unsafe extern "C" fn gd_create_checked(
         return GdStatus::NULL_POINTER;
     }
     // SAFETY: the header's.
-    let Some(mut device) = HostDevice::new(unsafe { &*device }) else {
+    let Some(mut host) = Host::new(unsafe { &*device }) else {
         return GdStatus::NULL_POINTER;
     };
     if flags & !EXTERNALLY_SYNCHRONIZED != 0 {
         return GdStatus::BAD_FLAGS;
     }
     if user_size > 0 {
-        if device.has_no_user() {
+        if host.has_no_user() {
             return GdStatus::NULL_POINTER;
         }
         // SAFETY: the header's.
-        if unsafe { device.copy_user(user_size) }.is_err() {
+        if unsafe { host.copy_user(user_size) }.is_err() {
             return GdStatus::OUT_OF_HOST_MEMORY;
         }
     }
     let waits = flags & EXTERNALLY_SYNCHRONIZED == 0;
-    match slot::create(waits, |id| Allocator::new(id, device, limit)) {
+    match slot::create(waits, |id, lock| {
+        Allocator::new(id, HostDevice::new(host, lock), limit)
+    }) {
         Ok(created) => {
             // SAFETY: the header's.
             unsafe { allocator.write(created) };

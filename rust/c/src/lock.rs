@@ -1,7 +1,20 @@
 //! The lock of a slot: it is held by one call at a time.
 //!
-//! With std a call may wait for its turn: then it sleeps, and the thread that holds the lock is known. Without
-//! std there is nothing to sleep by.
+//! With std a call may wait for its turn: then it sleeps. Without std there is nothing to sleep by.
+//!
+//! A call must not wait for one of its own thread, which would be for ever. While a call has the lock, its thread
+//! can make another one only from a function of the host's, as the header forbids signal handlers. So the thread is
+//! stored around these functions alone, as the owner. Whoever finds the lock held compares itself with the owner:
+//!
+//! - A thread that is in such a function stored itself. Only who has the lock stores, and it still has it, so it
+//!   loads itself, and is turned away.
+//! - A thread that is in none stored 0 after itself, if it ever stored itself. It never loads what was there before
+//!   its own last store, so it loads that 0, or what another thread stored later, and waits.
+//!
+//! All threads see the stores to one place in one order, with `Relaxed` too, and more isn't needed. A new thread may
+//! have the number of one that ended, but begins after all stores of that one. Each lock has an owner of its own, so
+//! a function may call another allocator, whose functions may call both. A function that is left by longjmp leaves
+//! the lock held, and its thread the owner, as the header says.
 
 use core::hint::spin_loop;
 #[cfg(feature = "std")]
@@ -22,7 +35,7 @@ pub struct Lock {
     waits: bool,
     state: AtomicU32,
 
-    /// The thread whose call holds it; 0 if it isn't known.
+    /// The thread whose call holds it, while that is in a function of the host's, and else 0.
     #[cfg(feature = "std")]
     owner: AtomicUsize,
 
@@ -35,6 +48,10 @@ pub struct Lock {
 
 /// A lock that is held, until the end of this value.
 pub struct Held<'a>(&'a Lock);
+
+/// The thread is the owner, until the end of this value.
+#[cfg(feature = "std")]
+struct Owner<'a>(&'a Lock);
 
 /// A number that no other thread has.
 #[cfg(feature = "std")]
@@ -84,21 +101,31 @@ impl Lock {
         }
     }
 
-    /// Waits until it is free. `None` if a call of this thread holds it; or if it is held, and no call waits.
+    /// Waits until it is free. `None` if this thread is in `as_owner`; or if it is held, and no call waits.
     #[inline]
     pub fn hold(&self) -> Option<Held<'_>> {
+        self.try_hold().or_else(|| self.wait())
+    }
+
+    /// Runs a function of the host's, in a call that holds the lock: if it makes another call, that is turned away.
+    #[inline]
+    pub fn as_owner<R>(&self, function: impl FnOnce() -> R) -> R {
         #[cfg(feature = "std")]
-        if self.waits {
-            let held = self.try_hold().or_else(|| self.wait())?;
-            self.owner.store(this_thread(), Ordering::Relaxed);
-            return Some(held);
-        }
-        self.try_hold()
+        let _owner = Owner::new(self);
+        function()
+    }
+
+    #[cfg(not(feature = "std"))]
+    fn wait(&self) -> Option<Held<'_>> {
+        None
     }
 
     #[cfg(feature = "std")]
     #[cold]
     fn wait(&self) -> Option<Held<'_>> {
+        if !self.waits {
+            return None;
+        }
         if self.owner.load(Ordering::Relaxed) == this_thread() {
             return None;
         }
@@ -120,13 +147,29 @@ impl Lock {
     }
 }
 
+#[cfg(feature = "std")]
+impl<'a> Owner<'a> {
+    #[inline]
+    fn new(lock: &'a Lock) -> Self {
+        lock.owner.store(this_thread(), Ordering::Relaxed);
+        Owner(lock)
+    }
+}
+
+#[cfg(feature = "std")]
+impl Drop for Owner<'_> {
+    /// Else this thread might take the next call of another one for its own.
+    #[inline]
+    fn drop(&mut self) {
+        self.0.owner.store(0, Ordering::Relaxed);
+    }
+}
+
 impl Drop for Held<'_> {
     #[inline]
     fn drop(&mut self) {
         #[cfg(feature = "std")]
         if self.0.waits {
-            // Else this thread might take the next call of another one for its own.
-            self.0.owner.store(0, Ordering::Relaxed);
             if self.0.state.swap(FREE, Ordering::Release) == AWAITED {
                 self.0.wake_one();
             }
@@ -135,3 +178,6 @@ impl Drop for Held<'_> {
         self.0.state.store(FREE, Ordering::Release);
     }
 }
+
+#[cfg(all(test, feature = "std"))]
+mod tests;

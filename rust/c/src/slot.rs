@@ -106,10 +106,10 @@ fn new_slot(waits: bool) -> Result<&'static Slot, AllocError> {
     Ok(&slots.leak()[0])
 }
 
-/// Creates an allocator, which gets its id. If it waits, so do its calls for those of other threads.
+/// Creates an allocator, which gets its id and its lock. If it waits, so do its calls for those of other threads.
 pub fn create(
     waits: bool,
-    allocator: impl FnOnce(u64) -> Allocator,
+    allocator: impl FnOnce(u64, &'static Lock) -> Allocator,
 ) -> Result<GdAllocator, AllocError> {
     let waits = waits && cfg!(feature = "std");
     let slot = match FreeSlots::of(waits).pop() {
@@ -121,7 +121,7 @@ pub fn create(
     let _held = slot.lock.spin();
     // SAFETY: the lock is held.
     unsafe {
-        *slot.allocator.get() = Some(allocator(id));
+        *slot.allocator.get() = Some(allocator(id, &slot.lock));
         *slot.is_poisoned.get() = false;
     }
     slot.id.store(id, Ordering::Relaxed);

@@ -3,10 +3,22 @@
 use super::{GdAllocator, create, destroy, enter};
 use crate::abi::{GdDevice, GdPoolInfo, GdStatus};
 use crate::allocator::Allocator;
-use crate::device::HostDevice;
+use crate::device::{Host, HostDevice};
 use core::ffi::c_void;
 
-unsafe extern "C" fn create_pool(_: *mut c_void, _: *const GdPoolInfo, _: *mut u64) -> GdStatus {
+/// Calls the allocator that `user` leads to, if it isn't null, from inside of its call.
+unsafe extern "C" fn create_pool(user: *mut c_void, _: *const GdPoolInfo, _: *mut u64) -> GdStatus {
+    let user = user.cast::<(GdAllocator, [GdStatus; 2])>();
+    // SAFETY: `create` made it.
+    if let Some((allocator, statuses)) = unsafe { user.as_mut() } {
+        // SAFETY: as above.
+        *statuses = unsafe {
+            [
+                enter(*allocator, |_| unreachable!()),
+                destroy(*allocator, |_| unreachable!()),
+            ]
+        };
+    }
     GdStatus::FRAGMENTATION
 }
 
@@ -26,19 +38,22 @@ unsafe extern "C" fn free_sets(_: *mut c_void, _: u64, _: u32, _: *const u64) {}
 
 #[cfg(feature = "std")]
 fn created() -> GdAllocator {
-    created_with(true)
+    created_with(true, core::ptr::null_mut())
 }
 
-fn created_with(waits: bool) -> GdAllocator {
+fn created_with(waits: bool, user: *mut c_void) -> GdAllocator {
     let device = GdDevice {
-        user: core::ptr::null_mut(),
+        user,
         create_pool: Some(create_pool),
         destroy_pool: Some(destroy_pool),
         allocate_sets: Some(allocate_sets),
         free_sets: Some(free_sets),
     };
-    let device = HostDevice::new(&device).unwrap();
-    create(waits, |id| Allocator::new(id, device, 0)).unwrap()
+    let host = Host::new(&device).unwrap();
+    create(waits, |id, lock| {
+        Allocator::new(id, HostDevice::new(host, lock), 0)
+    })
+    .unwrap()
 }
 
 /// A panic is a status, and so is each later call. Another allocator is not touched. Without std a panic
@@ -62,20 +77,23 @@ fn a_panic_is_a_status() {
     }
 }
 
-/// A call inside of a call is turned away, also if it would wait for another thread's.
+/// A call from a function of the host's is turned away, also if it would wait for another thread's.
 #[test]
 fn a_call_inside_is_busy() {
     for waits in [true, false] {
-        let allocator = created_with(waits);
-        // SAFETY: `create` made it.
+        let user = Box::into_raw(Box::new((GdAllocator::NONE, [GdStatus::OK; 2])));
+        let allocator = created_with(waits, user.cast());
+        // SAFETY: `create` made it, and `user` is a box.
         unsafe {
-            let status = enter(allocator, |_| {
-                assert_eq!(enter(allocator, |_| unreachable!()), GdStatus::BUSY);
-                assert_eq!(destroy(allocator, |_| unreachable!()), GdStatus::BUSY);
-                GdStatus::OUTSTANDING
+            (*user).0 = allocator;
+            let status = enter(allocator, |it| {
+                let layout = it.add_layout(1, &[1; 14], 0).unwrap();
+                it.allocate(layout, 1, |_, _| unreachable!())
             });
-            assert_eq!(status, GdStatus::OUTSTANDING);
+            assert_eq!(status, GdStatus::FRAGMENTATION);
+            assert_eq!((*user).1, [GdStatus::BUSY; 2]);
             assert_eq!(destroy(allocator, |_| GdStatus::OK), GdStatus::OK);
+            drop(Box::from_raw(user));
         }
     }
 }
