@@ -194,8 +194,8 @@ pub unsafe extern "C" fn gd_allocate(
     }
     // SAFETY: the header's.
     let status = unsafe {
-        slot::enter(allocator, |it| {
-            it.allocate(layout, count, |at, set| sets.add(at).write(set))
+        slot::enter(allocator, move |it| {
+            it.allocate(layout, count, move |at, set| sets.add(at).write(set))
         })
     };
     if status != GdStatus::OK {

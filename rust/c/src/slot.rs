@@ -31,12 +31,11 @@ pub struct Slot {
     /// The allocator's; 0 if there is none.
     id: AtomicU64,
 
-    /// Held by the call that is under way, which may use `allocator` and `is_poisoned`.
+    /// Held by the call that is under way, which may use `allocator`.
     lock: Lock,
-    allocator: UnsafeCell<Option<Allocator>>,
 
-    /// Whether a call panicked, so that nobody knows its state.
-    is_poisoned: UnsafeCell<bool>,
+    /// None if there is none, or if a call panicked, so that nobody knows its state.
+    allocator: UnsafeCell<Option<Allocator>>,
 
     /// The next free slot. Whoever locked the free slots may use it.
     next: UnsafeCell<Option<&'static Slot>>,
@@ -100,7 +99,6 @@ fn new_slot(waits: bool) -> Result<&'static Slot, AllocError> {
         id: AtomicU64::new(0),
         lock: Lock::new(waits),
         allocator: UnsafeCell::new(None),
-        is_poisoned: UnsafeCell::new(false),
         next: UnsafeCell::new(None),
     });
     Ok(&slots.leak()[0])
@@ -120,10 +118,7 @@ pub fn create(
     // A call through an older id may just be finding out that it is too late.
     let _held = slot.lock.spin();
     // SAFETY: the lock is held.
-    unsafe {
-        *slot.allocator.get() = Some(allocator(id, &slot.lock));
-        *slot.is_poisoned.get() = false;
-    }
+    unsafe { *slot.allocator.get() = Some(allocator(id, &slot.lock)) };
     slot.id.store(id, Ordering::Relaxed);
     Ok(GdAllocator { slot, id })
 }
@@ -188,12 +183,13 @@ pub unsafe fn enter(
         Err(status) => return status,
     };
     // SAFETY: this call holds the lock.
-    let (cell, is_poisoned) = unsafe { (&mut *slot.allocator.get(), &mut *slot.is_poisoned.get()) };
-    let (Some(allocator), false) = (cell, *is_poisoned) else {
+    let cell = unsafe { &mut *slot.allocator.get() };
+    let Some(allocator) = cell else {
         return GdStatus::INTERNAL_ERROR;
     };
     catch(|| call(allocator)).unwrap_or_else(|| {
-        *is_poisoned = true;
+        // Nothing of it is used again, nor dropped.
+        core::mem::forget(cell.take());
         GdStatus::INTERNAL_ERROR
     })
 }
