@@ -1,10 +1,10 @@
 -- What slots may become when sets come to them.
 use Rattle.std.proofs.lemmas.Grind.{common_steps}
-use Rattle.std.proofs.Common.{◌≡◌, ℕ, ◌+◌, ◌≤◌, ◌⊎◌, ◌&&◌, ◌||◌, not, Bool, true, [], Option, Some, is_some, inl, inr, refl, sym, ap, subst, ◌∙◌, arith}
+use Rattle.std.proofs.Common.{◌≡◌, ℕ, ◌+◌, ◌⊎◌, ◌&&◌, ◌||◌, not, Bool, true, [], Option, Some, is_some, inl, inr, refl, sym, ap, subst, ◌∙◌, arith}
 use Rattle.std.proofs.lemmas.Option.{none-some}
 use Rattle.gpu_descriptor_types.specs.declared.device.DescriptorDevice.{Ghosts}
 use Rattle.gpu_descriptor.specs.declared.set.DescriptorSet.{DescriptorSet}
-use Rattle.descriptor_table.specs.Slots.{frame_in, frame_of, in_list, slot_at, waits_for}
+use Rattle.descriptor_table.specs.Slots.{in_list, slot_at, waits_for}
 use Rattle.descriptor_table.specs.Tables.{came_under, is_held_use}
 use Rattle.descriptor_table.specs.declared.slot.Slot.{Slot}
 use Rattle.descriptor_table.specs.declared.slot.Use.{Use}
@@ -12,11 +12,10 @@ use Rattle.descriptor_renderer.specs.Stores.{IsAtRest, KeepsStore, Settles, comi
 use Rattle.descriptor_renderer.specs.declared.store.Store.{Store}
 use Rattle.descriptor_renderer.proofs.Cleared.{Clears}
 
--- a slot's set was there under the same layout, or passes the test, and waits for no frame later than before, and than this one. If the slot was placed, it is
-pub record Arrives {T : Type 0} (comes : ℕ → T → Type 0) (f : ℕ) (o n : Slot T) : Type 0 where
+-- a slot's set was there under the same layout, or passes the test. If the slot was placed, it is
+pub record Arrives {T : Type 0} (comes : ℕ → T → Type 0) (o n : Slot T) : Type 0 where
   pub set : (x : T) → n.set ≡ Some x → ((o.set ≡ Some x) × (came_under n ≡ came_under o)) ⊎ comes n.layout x
   pub placed : is_placed o ≡ true → is_placed n ≡ true
-  pub frame : (g : ℕ) → f ≤ g → frame_of o ≤ g → frame_of n ≤ g
 
 module _ {T : Type 0} where
   -- whether a set in such a use is placed
@@ -30,23 +29,21 @@ module _ {T : Type 0} where
       by_use : (a b c : Bool) → (a || b) ≡ true → ((a && true) || ((b && true) || c)) ≡ true
       by_use x0 b c f = grind (arith, common_steps)
 
-  module _ (comes : ℕ → T → Type 0) (f : ℕ) where
+  module _ (comes : ℕ → T → Type 0) where
     -- changes of a slot that `Arrives` allows: by a cleanup, one after another, and none
-    pub clears_arrives : (o n : Slot T) → Clears o n → Arrives comes f o n
+    pub clears_arrives : (o n : Slot T) → Clears o n → Arrives comes o n
     clears_arrives o n c = elim c.is [
       | inl same ↦ record {
         set = λ x e. inl (sym same.1 ∙ e, c.layout);
         placed = λ was. ap (λ u. placed_in u n.set n.layout n.generation) same.0 ∙ ap (λ x. placed_in o.used x n.layout n.generation) same.1 ∙ ap (λ l. placed_in o.used o.set l.0 n.generation) c.layout ∙ ap (placed_in o.used o.set o.layout) c.generation ∙ was;
-        frame = λ g le up. subst (λ u. frame_in u ≤ g) (sym same.0) up;
       }
       | inr gone ↦ record {
         set = λ x e. absurd (none-some x (sym (sym e ∙ gone.2)));
         placed = λ was. ap (λ x. placed_in n.used x n.layout n.generation) gone.2;
-        frame = λ g le up. subst (λ u. frame_in u ≤ g) (sym gone.1) (omega arith);
       }
     ]
 
-    pub arrives_then : (o m n : Slot T) → Arrives comes f o m → Arrives comes f m n → Arrives comes f o n
+    pub arrives_then : (o m n : Slot T) → Arrives comes o m → Arrives comes m n → Arrives comes o n
     arrives_then o m n a b = record {
       set = λ x e. elim (b.set x e) [
         | inl stays ↦ elim (a.set x stays.0) [
@@ -56,18 +53,16 @@ module _ {T : Type 0} where
         | inr came ↦ inr came
       ];
       placed = λ was. b.placed (a.placed was);
-      frame = λ g le up. b.frame g le (a.frame g le up);
     }
 
-    pub same_arrives : (o n : Slot T) → n ≡ o → Arrives comes f o n
-    same_arrives o n e = subst (Arrives comes f o) (sym e) (record { set = λ x is. inl (is, refl); placed = λ was. was; frame = λ g le up. up })
+    pub same_arrives : (o n : Slot T) → n ≡ o → Arrives comes o n
+    same_arrives o n e = subst (Arrives comes o) (sym e) (record { set = λ x is. inl (is, refl); placed = λ was. was })
 
 module _ {L P S D : Type 0} {d : Ghosts D L P S} where
   -- if each slot became what `Arrives` says, the store settles
-  pub arrived : (comes : ℕ → DescriptorSet S → Type 0) (f : ℕ) (old new : Store L P S D d) → ((p : ℕ) → Arrives comes f (slot_at (slots_in old) p) (slot_at (slots_in new) p)) → coming_in new ≡ [] → IsAtRest old → KeepsStore old new → Settles comes f old new
-  arrived comes f old new arrives none rest stays = record {
+  pub arrived : (comes : ℕ → DescriptorSet S → Type 0) (old new : Store L P S D d) → ((p : ℕ) → Arrives comes (slot_at (slots_in old) p) (slot_at (slots_in new) p)) → coming_in new ≡ [] → IsAtRest old → KeepsStore old new → Settles comes old new
+  arrived comes old new arrives none rest stays = record {
     sets = λ p x e. (arrives p).set x e;
     rest = record { none_coming = none; placed = λ p. (arrives p).placed (rest.placed p) };
-    frames = λ g le up p. (arrives p).frame g le (up p);
     stays = stays;
   }

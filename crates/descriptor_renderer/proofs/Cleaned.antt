@@ -56,17 +56,17 @@ module _ {T : Type 0} where
           gone ∙ ap vacated (leaves ∙ ap (used_for Going) here) ∙ sym (ap (λ c. if c then vacated (aged (slot_at old p)) else aged (slot_at old p)) e)
 
   -- and so each slot follows what it was
-  pub follow_cleaned : (f : ℕ) (old new : List (Slot T)) → AreCleaned old new → (p : ℕ) → Follows f (slot_at old p) (slot_at new p)
-  follow_cleaned f old new c p = elim (below_or p (length old)) [
+  pub follow_cleaned : (old new : List (Slot T)) → AreCleaned old new → (p : ℕ) → Follows (slot_at old p) (slot_at new p)
+  follow_cleaned old new c p = elim (below_or p (length old)) [
     | inl lt ↦ by_test (is_kept (slot_at old p)) refl (c.each p lt)
-    | inr le ↦ (let long = c.long in follows_same f (slot_at old p) (slot_at new p) (past_end new p (omega arith) ∙ sym (past_end old p le)))
+    | inr le ↦ (let long = c.long in follows_same (slot_at old p) (slot_at new p) (past_end new p (omega arith) ∙ sym (past_end old p le)))
   ]
     where
-      by_test : (b : Bool) → is_kept (slot_at old p) ≡ b → slot_at new p ≡ (if is_kept (slot_at old p) then vacated (aged (slot_at old p)) else aged (slot_at old p)) → Follows f (slot_at old p) (slot_at new p)
+      by_test : (b : Bool) → is_kept (slot_at old p) ≡ b → slot_at new p ≡ (if is_kept (slot_at old p) then vacated (aged (slot_at old p)) else aged (slot_at old p)) → Follows (slot_at old p) (slot_at new p)
       by_test true e is =
           let o = slot_at old p in
           let gone : slot_at new p ≡ vacated (aged o) = is ∙ ap (λ c. if c then vacated (aged o) else aged o) e in
-          follows_then f o (aged o) (slot_at new p) (follows_aged f o (aged o) refl) (follows_vacated f (aged o) (slot_at new p) gone)
+          follows_then o (aged o) (slot_at new p) (follows_aged o (aged o) refl) (follows_vacated (aged o) (slot_at new p) gone)
       by_test false e is =
           let o = slot_at old p in
-          follows_aged f o (slot_at new p) (is ∙ ap (λ c. if c then vacated (aged o) else aged o) e)
+          follows_aged o (slot_at new p) (is ∙ ap (λ c. if c then vacated (aged o) else aged o) e)

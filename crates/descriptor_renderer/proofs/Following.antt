@@ -2,7 +2,7 @@
 -- For the calls of `Store` by which sets come back, wait, or go.
 use Rattle.std.proofs.lemmas.Grind.{common_steps}
 use Rattle.std.proofs.Common.{◌≡◌, ◌≢◌, ℕ, ◌+◌, ◌<◌, ◌&&◌, ◌||◌, not, Bool, true, false, List, length, is_some, inl, inr, refl, ap, subst, ◌∙◌, arith}
-use Rattle.descriptor_table.specs.Slots.{frame_of, goes, in_list, slot_at, waits_for}
+use Rattle.descriptor_table.specs.Slots.{goes, in_list, slot_at, waits_for}
 use Rattle.descriptor_table.specs.Tables.{Turns, aged, came_under, is_held_use, is_taken, is_taken_use, place_at, used_for, vacated, MayBecome, IsBack}
 use Rattle.descriptor_table.specs.declared.handle.SetHandle.{SetHandle}
 use Rattle.descriptor_table.specs.declared.slot.Slot.{Slot}
@@ -35,30 +35,27 @@ module _ {T : Type 0} where
     pub none_taken : (p : ℕ) → is_taken (slot_at slots p) ≡ false
     none_taken p = let s = slot_at slots p in taken_use s.used s.layout s.generation (is_some s.set) (placed p)
 
-  module _ (f : ℕ) where
+  module _ where
     -- changes of a slot that `Follows` allows: none, aged, vacated, one after another, back, and left
-    pub follows_same : (o n : Slot T) → n ≡ o → Follows f o n
+    pub follows_same : (o n : Slot T) → n ≡ o → Follows o n
     follows_same o n e = record {
       set = inr (ap (λ (s : Slot T). s.set) e, ap came_under e);
       placed = λ h. ap is_placed e ∙ h;
-      frame = λ g le up. (let same = ap frame_of e in omega arith);
     }
 
-    pub follows_aged : (o n : Slot T) → n ≡ aged o → Follows f o n
+    pub follows_aged : (o n : Slot T) → n ≡ aged o → Follows o n
     follows_aged o n e = record {
       set = inr (ap (λ (s : Slot T). s.set) e, ap came_under e);
       placed = λ h. ap is_placed e ∙ h;
-      frame = λ g le up. (let same = ap frame_of e in omega arith);
     }
 
-    pub follows_vacated : (o n : Slot T) → n ≡ vacated o → Follows f o n
+    pub follows_vacated : (o n : Slot T) → n ≡ vacated o → Follows o n
     follows_vacated o n e = record {
       set = inl (ap (λ (s : Slot T). s.set) e);
       placed = λ h. ap is_placed e;
-      frame = λ g le up. (let same = ap frame_of e in omega arith);
     }
 
-    pub follows_then : (o m n : Slot T) → Follows f o m → Follows f m n → Follows f o n
+    pub follows_then : (o m n : Slot T) → Follows o m → Follows m n → Follows o n
     follows_then o m n one two = record {
       set = elim two.set [
         | inl gone ↦ inl gone
@@ -68,38 +65,36 @@ module _ {T : Type 0} where
         ]
       ];
       placed = λ h. two.placed (one.placed h);
-      frame = λ g le up. two.frame g le (one.frame g le up);
     }
 
-    pub follows_back : (generations : ℕ → ℕ) (most : ℕ) (new : List (Slot T)) (o n : Slot T) → IsBack vacated generations most new o n → Follows f o n
+    pub follows_back : (generations : ℕ → ℕ) (most : ℕ) (new : List (Slot T)) (o n : Slot T) → IsBack vacated generations most new o n → Follows o n
     follows_back generations most new o n x5 = grind (arith, common_steps)
 
-    pub follows_left : (new : List (Slot T)) (o n : Slot T) → (MayBecome vacated) new o n → Follows f o n
+    pub follows_left : (new : List (Slot T)) (o n : Slot T) → (MayBecome vacated) new o n → Follows o n
     follows_left new o n x3 = grind (arith, common_steps)
 
     -- each slot follows, since those that turn do
-    pub follow_turns : (test : Slot T → Bool) (becomes : List (Slot T) → Slot T → Slot T → Type 0) (old new : List (Slot T)) → Turns test becomes old new → ((o n : Slot T) → becomes new o n → Follows f o n) → (p : ℕ) → Follows f (slot_at old p) (slot_at new p)
+    pub follow_turns : (test : Slot T → Bool) (becomes : List (Slot T) → Slot T → Slot T → Type 0) (old new : List (Slot T)) → Turns test becomes old new → ((o n : Slot T) → becomes new o n → Follows o n) → (p : ℕ) → Follows (slot_at old p) (slot_at new p)
     follow_turns test becomes old new turns each p = by_test (test (slot_at old p)) refl
       where
-        by_test : (b : Bool) → test (slot_at old p) ≡ b → Follows f (slot_at old p) (slot_at new p)
+        by_test : (b : Bool) → test (slot_at old p) ≡ b → Follows (slot_at old p) (slot_at new p)
         by_test false e = follows_same (slot_at old p) (slot_at new p) (turns.rest p e)
         by_test true e = each (slot_at old p) (slot_at new p) (turns.here p e)
 
   -- a set waits for the frame
-  pub follows_waits : (f : ℕ) (o n : Slot T) → n ≡ used_for (Waits f) o → Follows f o n
+  pub follows_waits : (f : ℕ) (o n : Slot T) → n ≡ used_for (Waits f) o → Follows o n
   follows_waits f o n e = record {
     set = inr (ap (λ (s : Slot T). s.set) e, ap came_under e);
     placed = λ h. ap is_placed e ∙ by_full (is_some o.set);
-    frame = λ g le up. (let same = ap frame_of e in omega arith);
   }
     where
       by_full : (full : Bool) → placed_use (Waits f) o.layout o.generation full ≡ true
       by_full x0 = grind (arith, common_steps)
 
   -- the slots of handles follow, and so do all others, as they are as they were
-  module _ (f : ℕ) (handles : List SetHandle) (old new : List (Slot T)) (named : (i : ℕ) → i < length handles → Follows f (slot_at old (place_at handles i)) (slot_at new (place_at handles i))) where
-    pub follow_each : ((p : ℕ) → ((i : ℕ) → i < length handles → place_at handles i ≢ p) → slot_at new p ≡ slot_at old p) → (p : ℕ) → Follows f (slot_at old p) (slot_at new p)
+  module _ (handles : List SetHandle) (old new : List (Slot T)) (named : (i : ℕ) → i < length handles → Follows (slot_at old (place_at handles i)) (slot_at new (place_at handles i))) where
+    pub follow_each : ((p : ℕ) → ((i : ℕ) → i < length handles → place_at handles i ≢ p) → slot_at new p ≡ slot_at old p) → (p : ℕ) → Follows (slot_at old p) (slot_at new p)
     follow_each rest p = elim (named_or (length handles) (place_at handles) p) [
-      | inl found ↦ subst (λ p. Follows f (slot_at old p) (slot_at new p)) found.2 (named found.0 found.1)
-      | inr apart ↦ follows_same f (slot_at old p) (slot_at new p) (rest p apart)
+      | inl found ↦ subst (λ p. Follows (slot_at old p) (slot_at new p)) found.2 (named found.0 found.1)
+      | inr apart ↦ follows_same (slot_at old p) (slot_at new p) (rest p apart)
     ]

@@ -4,13 +4,13 @@
 -- the same after kept sets may have gone. The slots are `old` before, `new` after, and between them `put` once the set was put, or `mid`: in
 -- `kept_fills` and `kept_fewer` once it was picked, and elsewhere once kept sets went, before it comes.
 use Rattle.std.proofs.lemmas.Grind.{common_steps}
-use Rattle.std.proofs.Common.{◌≡◌, ◌≢◌, ℕ, ◌+◌, ◌<◌, ◌≤◌, ◌⊎◌, ◌||◌, Bool, true, false, List, length, set, Option, Some, None, is_some, Result, Ok, inl, inr, refl, sym, ap, subst, ◌∙◌, arith}
+use Rattle.std.proofs.Common.{◌≡◌, ◌≢◌, ℕ, ◌+◌, ◌<◌, ◌⊎◌, ◌||◌, Bool, true, false, List, length, set, Option, Some, None, is_some, Result, Ok, inl, inr, refl, sym, ap, subst, ◌∙◌, arith}
 use Rattle.std.proofs.lemmas.Bool.{cases_eq}
 use Rattle.std.proofs.lemmas.List.{length-set, set-set}
 use Rattle.gpu_descriptor_types.specs.declared.device.DescriptorDevice.{Ghosts}
 use Rattle.gpu_descriptor.specs.declared.set.DescriptorSet.{DescriptorSet}
 use Rattle.gpu_descriptor.specs.declared.errors.AllocationError.{AllocationError}
-use Rattle.descriptor_table.specs.Slots.{frame_in, is_kept_of, is_live, slot_at, waits_for}
+use Rattle.descriptor_table.specs.Slots.{is_kept_of, is_live, slot_at, waits_for}
 use Rattle.descriptor_table.specs.Tables.{Picks, Puts, Renews, came_under, count, current, is_held_use, is_kept, renewed, used_for}
 use Rattle.descriptor_table.specs.declared.handle.SetHandle.{SetHandle}
 use Rattle.descriptor_table.specs.declared.slot.Slot.{Slot}
@@ -100,17 +100,16 @@ module _ {T : Type 0} (comes : ℕ → T → Type 0) (number : ℕ) (generations
       }
 
   -- a slot's set was there, or came
-  pub fills_arrives : (f : ℕ) → (is_held_use u || waits_for (λ w. true) u) ≡ true → frame_in u ≤ f → (old new : List (Slot T)) → Fills comes number generations layout p u handle old new → (q : ℕ) → Arrives comes f (slot_at old q) (slot_at new q)
-  fills_arrives f live few old new h q = elim (cases_eq q p) [
-    | inl e ↦ subst (λ q. Arrives comes f (slot_at old q) (slot_at new q)) (sym e) (record {
+  pub fills_arrives : (is_held_use u || waits_for (λ w. true) u) ≡ true → (old new : List (Slot T)) → Fills comes number generations layout p u handle old new → (q : ℕ) → Arrives comes (slot_at old q) (slot_at new q)
+  fills_arrives live old new h q = elim (cases_eq q p) [
+    | inl e ↦ subst (λ q. Arrives comes (slot_at old q) (slot_at new q)) (sym e) (record {
       set = λ x is. (let same : h.set ≡ x = some_same (sym h.here ∙ is) in elim h.own [
         | inl kept ↦ inl (kept.0 ∙ sym h.here ∙ is, h.of_layout ∙ sym kept.1)
         | inr came ↦ inr (subst (λ l. comes l.0 x) (sym h.of_layout) (subst (comes layout) same came))
       ]);
       placed = λ was. used_placed (slot_at new p) h.set h.here (ap (λ u. is_held_use u || waits_for (λ w. true) u) h.used ∙ live);
-      frame = λ g le up. subst (λ u. frame_in u ≤ g) (sym h.used) (omega arith);
     })
-    | inr ne ↦ same_arrives comes f (slot_at old q) (slot_at new q) (h.others q ne)
+    | inr ne ↦ same_arrives comes (slot_at old q) (slot_at new q) (h.others q ne)
   ]
     where
       some_same : {x y : T} → Some x ≡ Some y → x ≡ y
@@ -158,8 +157,8 @@ module _ {T : Type 0} (comes : ℕ → T → Type 0) (number : ℕ) (generations
     named = subst (λ h. IsNamed number (current generations layout) u h old new) (sym h.fills.is) named_as
 
     -- each slot then is what `Arrives` says of it
-    pub handled_arrives : (f : ℕ) → (is_held_use u || waits_for (λ w. true) u) ≡ true → frame_in u ≤ f → (q : ℕ) → Arrives comes f (slot_at old q) (slot_at new q)
-    handled_arrives f live few q = arrives_then comes f (slot_at old q) (slot_at h.mid q) (slot_at new q) (clears_arrives comes f (slot_at old q) (slot_at h.mid q) (h.clears q)) (fills_arrives f live few h.mid new h.fills q)
+    pub handled_arrives : (is_held_use u || waits_for (λ w. true) u) ≡ true → (q : ℕ) → Arrives comes (slot_at old q) (slot_at new q)
+    handled_arrives live q = arrives_then comes (slot_at old q) (slot_at h.mid q) (slot_at new q) (clears_arrives comes (slot_at old q) (slot_at h.mid q) (h.clears q)) (fills_arrives live h.mid new h.fills q)
 
 module _ {T : Type 0} where
   -- one kept set fewer
@@ -252,14 +251,14 @@ module _ {L P S D : Type 0} {d : Ghosts D L P S} where
       (subst (λ p. GetsAtLast layout number p old taken) at gets, subst (λ p. Renews (number_of old) p u handle (slots_in taken) new) at renews)
 
   -- a set was refused
-  pub refused_arrives : (comes : ℕ → DescriptorSet S → Type 0) (f : ℕ) (layout : L) (first last : ℕ) (error : AllocationError) (old new : Store L P S D d) → IsRefusedAtLast layout first last error old new → (q : ℕ) → Arrives comes f (slot_at (slots_in old) q) (slot_at (slots_in new) q)
-  refused_arrives comes f layout first last error old new refused q = elim refused.why [
-    | inl at_once ↦ same_arrives comes f (slot_at (slots_in old) q) (slot_at (slots_in new) q) (ap (λ l. slot_at l q) (unmet_slots layout first error old new at_once))
+  pub refused_arrives : (comes : ℕ → DescriptorSet S → Type 0) (layout : L) (first last : ℕ) (error : AllocationError) (old new : Store L P S D d) → IsRefusedAtLast layout first last error old new → (q : ℕ) → Arrives comes (slot_at (slots_in old) q) (slot_at (slots_in new) q)
+  refused_arrives comes layout first last error old new refused q = elim refused.why [
+    | inl at_once ↦ same_arrives comes (slot_at (slots_in old) q) (slot_at (slots_in new) q) (ap (λ l. slot_at l q) (unmet_slots layout first error old new at_once))
     | inr later ↦
         (let mid = later.0 in
-        arrives_then comes f (slot_at (slots_in old) q) (slot_at (slots_in mid) q) (slot_at (slots_in new) q)
-        (clears_arrives comes f (slot_at (slots_in old) q) (slot_at (slots_in mid) q)
+        arrives_then comes (slot_at (slots_in old) q) (slot_at (slots_in mid) q) (slot_at (slots_in new) q)
+        (clears_arrives comes (slot_at (slots_in old) q) (slot_at (slots_in mid) q)
         (clears (slots_in old) (slots_in mid) (cleared_of layout first last old mid later.1) q))
-        (same_arrives comes f (slot_at (slots_in mid) q) (slot_at (slots_in new) q)
+        (same_arrives comes (slot_at (slots_in mid) q) (slot_at (slots_in new) q)
         (ap (λ l. slot_at l q) (unmet_slots layout last error mid new later.2))))
   ]

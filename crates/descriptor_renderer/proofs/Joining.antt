@@ -2,12 +2,12 @@
 -- The slots are `old` before the handles `a` are given, `mid` between, and `new` after the handles `b`; `x` and `y` say so of `a` and `b`.
 -- `start`, `now` and `then` are the vector of handles before, between and after, and `given` are the handles that came to it.
 use Rattle.std.proofs.lemmas.Grind.{common_steps}
-use Rattle.std.proofs.Common.{◌≡◌, ◌≢◌, ℕ, ◌+◌, ◌-◌, ◌<◌, ◌≤◌, ◌⊎◌, ◌&&◌, ◌||◌, Bool, true, false, List, [], ◌∷◌, ◌++◌, length, get_or, Some, is_some, IsSome, inl, inr, refl, sym, ap, subst, ◌∙◌, append_assoc, arith}
+use Rattle.std.proofs.Common.{◌≡◌, ◌≢◌, ℕ, ◌+◌, ◌-◌, ◌<◌, ◌⊎◌, ◌&&◌, ◌||◌, Bool, true, false, List, [], ◌∷◌, ◌++◌, length, get_or, Some, is_some, IsSome, inl, inr, refl, sym, ap, subst, ◌∙◌, append_assoc, arith}
 use Rattle.std.proofs.lemmas.Bool.{cases_lt, false≢true}
 use Rattle.std.proofs.lemmas.List.{get_or-append-add, append-nil, get_or_append_left, length-append}
 use Rattle.gpu_descriptor_types.specs.declared.device.DescriptorDevice.{Ghosts}
 use Rattle.gpu_descriptor.specs.declared.set.DescriptorSet.{DescriptorSet}
-use Rattle.descriptor_table.specs.Slots.{frame_in, is_kept_of, is_live, slot_at, waits_for}
+use Rattle.descriptor_table.specs.Slots.{is_kept_of, is_live, slot_at, waits_for}
 use Rattle.descriptor_table.specs.Sets.{NameEach, find, is_given, sets_of}
 use Rattle.descriptor_table.specs.Tables.{came_under, current, holds, is_held_use, place_at}
 use Rattle.descriptor_table.specs.declared.handle.SetHandle.{SetHandle}
@@ -162,18 +162,17 @@ module _ {T : Type 0} where
 
   -- kept sets may have left their slots before the first set was held
   module _ (number : ℕ) (layout : ℕ × ℕ) (handles : List SetHandle) (old mid new : List (Slot T)) (clear : (q : ℕ) → Clears (slot_at old q) (slot_at mid q)) (x : HoldEach number layout handles mid new) where
-    -- each set is there, and waits for no frame
-    pub holds_arrives : (comes : ℕ → T → Type 0) (f : ℕ) → ((p : ℕ) (t : T) → (slot_at new p).set ≡ Some t → (((slot_at mid p).set ≡ Some t) × (came_under (slot_at new p) ≡ came_under (slot_at mid p))) ⊎ comes (slot_at new p).layout t) → (q : ℕ) → Arrives comes f (slot_at old q) (slot_at new q)
-    holds_arrives comes f sets q = arrives_then comes f (slot_at old q) (slot_at mid q) (slot_at new q) (clears_arrives comes f (slot_at old q) (slot_at mid q) (clear q)) (elim (named_or (length handles) (place_at handles) q) [
+    -- each set was there, or came
+    pub holds_arrives : (comes : ℕ → T → Type 0) → ((p : ℕ) (t : T) → (slot_at new p).set ≡ Some t → (((slot_at mid p).set ≡ Some t) × (came_under (slot_at new p) ≡ came_under (slot_at mid p))) ⊎ comes (slot_at new p).layout t) → (q : ℕ) → Arrives comes (slot_at old q) (slot_at new q)
+    holds_arrives comes sets q = arrives_then comes (slot_at old q) (slot_at mid q) (slot_at new q) (clears_arrives comes (slot_at old q) (slot_at mid q) (clear q)) (elim (named_or (length handles) (place_at handles) q) [
       | inl found ↦
           let held = held_is (slot_at new q) (subst (λ q. holds (slot_at new q) ≡ true) found.2 (x.held found.0 found.1)) in
           let full = some_of (slot_at new q).set held.1 in
           record {
             set = sets q;
             placed = λ was. used_placed (slot_at new q) full.0 full.1 (ap (λ u. is_held_use u || waits_for (λ w. true) u) held.0);
-            frame = λ g le up. subst (λ u. frame_in u ≤ g) (sym held.0) (omega arith);
           }
-      | inr none ↦ same_arrives comes f (slot_at mid q) (slot_at new q) (x.rest q none)
+      | inr none ↦ same_arrives comes (slot_at mid q) (slot_at new q) (x.rest q none)
     ])
 
     -- a handle that is none of these names what it named

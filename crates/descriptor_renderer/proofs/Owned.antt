@@ -1,7 +1,7 @@
 -- The sets of a renderer stay of their layouts, and what refusals leave: each call of `Renderer` leaves `HasSetsOf`, its invariant.
 -- `slots` are those of sets, `layouts` those of layouts, `known` is a layout, and `n` or `number` the number of one.
 use Rattle.std.proofs.lemmas.Grind.{common_steps}
-use Rattle.std.proofs.Common.{◌≡◌, ℕ, suc, ◌+◌, ◌<◌, ◌≤◌, ◌&&◌, Bool, true, false, List, length, if◌then◌else◌, Option, Some, None, is_some, inl, inr, sym, ap, subst, ◌∙◌, arith, IfSome}
+use Rattle.std.proofs.Common.{◌≡◌, ℕ, suc, ◌+◌, ◌<◌, ◌&&◌, Bool, true, false, List, length, if◌then◌else◌, Option, Some, None, is_some, inl, inr, sym, ap, subst, ◌∙◌, arith, IfSome}
 use Rattle.gpu_descriptor_types.specs.Meaning.{Meaning, IsOfLayout}
 use Rattle.gpu_descriptor_types.specs.declared.device.DescriptorDevice.{Ghosts}
 use Rattle.gpu_descriptor.specs.declared.errors.AllocationError.{AllocationError}
@@ -17,7 +17,7 @@ use Rattle.descriptor_table.specs.declared.slot.Slot.{Slot}
 use Rattle.descriptor_table.proofs.Counting.{below_or}
 use Rattle.descriptor_renderer.specs.LayoutRegistries.{layout_at, layout_slots, registry_of}
 use Rattle.descriptor_renderer.specs.Own.{AreCounted, AreOwn, HasSetsOf, IsOwn}
-use Rattle.descriptor_renderer.specs.Stores.{ComesOf, IsRefusedAtLast, IsUpTo, SettlesTo, coming_in, generations_in, is_placed, lists_for, lists_in, number_of, slots_in}
+use Rattle.descriptor_renderer.specs.Stores.{ComesOf, IsRefusedAtLast, SettlesTo, coming_in, generations_in, is_placed, lists_for, lists_in, number_of, slots_in}
 use Rattle.descriptor_renderer.specs.declared.layout_registry.LayoutHandle.{LayoutHandle}
 use Rattle.descriptor_renderer.specs.declared.layout_registry.LayoutRegistry.{LayoutRegistry}
 use Rattle.descriptor_renderer.specs.declared.store.Store.{Store}
@@ -52,31 +52,29 @@ module _ {L P S : Type 0} (means : Meaning L P S) where
 
 module _ {L P S D : Type 0} {d : Ghosts D L P S} where
   -- sets stay, leave or come
-  module _ {most : ℕ} (comes : ℕ → DescriptorSet S → Type 0) (f : ℕ) (layouts : List (Slot (SetLayout L))) (frame number : ℕ) (old new : Store L P S D d) where
-    pub sets_settle : SettlesTo (generations_in old) most comes f old new → f ≤ frame → ((n : ℕ) (x : DescriptorSet S) → comes n x → IsOwn d.meaning layouts n x) → HasSetsOf layouts frame number old → HasSetsOf layouts frame number new
-    sets_settle settles le own was = record {
+  module _ {most : ℕ} (comes : ℕ → DescriptorSet S → Type 0) (layouts : List (Slot (SetLayout L))) (number : ℕ) (old new : Store L P S D d) where
+    pub sets_settle : SettlesTo (generations_in old) most comes old new → ((n : ℕ) (x : DescriptorSet S) → comes n x → IsOwn d.meaning layouts n x) → HasSetsOf layouts number old → HasSetsOf layouts number new
+    sets_settle settles own was = record {
       rest = settles.rest;
       own = λ p n x full at. elim (settles.sets p x full) [
         | inl stays ↦ was.own p n x stays.0 (sym stays.1 ∙ at ∙ ap (λ generations. current generations n) settles.stays.generations)
         | inr come ↦ own n x (subst (λ n. comes n x) (ap (λ (u : ℕ × ℕ). u.0) at) come)
       ];
       counted = subst (λ generations. AreCounted generations layouts) (sym settles.stays.generations) was.counted;
-      rising = settles.frames frame le was.rising;
       lists = settles.stays.lists ∙ was.lists;
       number = settles.stays.number ∙ was.number;
     }
 
   -- the sets are as they were, and their layouts are there
-  module _ (layouts more : List (Slot (SetLayout L))) (frame number : ℕ) (old new : Store L P S D d) where
+  module _ (layouts more : List (Slot (SetLayout L))) (number : ℕ) (old new : Store L P S D d) where
     pub sets_as :
         slots_in new ≡ slots_in old → generations_in new ≡ generations_in old → coming_in new ≡ coming_in old
         → number_of new ≡ number_of old → lists_in new ≡ lists_for (length more) → ((n : ℕ) (known : SetLayout L) → (slot_at layouts n).set ≡ Some known → (slot_at more n).set ≡ Some known)
-        → (AreCounted (generations_in new) layouts → AreCounted (generations_in new) more) → HasSetsOf layouts frame number old → HasSetsOf more frame number new
+        → (AreCounted (generations_in new) layouts → AreCounted (generations_in new) more) → HasSetsOf layouts number old → HasSetsOf more number new
     sets_as slots generations coming numbers lists stay counted was = record {
       rest = record { none_coming = coming ∙ was.rest.none_coming; placed = λ p. ap (λ l. is_placed (slot_at l p)) slots ∙ was.rest.placed p };
       own = own_added d.meaning (generations_in new) layouts more (slots_in new) stay (subst (AreOwn d.meaning (generations_in new) layouts) (sym slots) (subst (λ generations. AreOwn d.meaning generations layouts (slots_in old)) (sym generations) was.own));
       counted = counted (subst (λ generations. AreCounted generations layouts) (sym generations) was.counted);
-      rising = subst (IsUpTo frame) (sym slots) was.rising;
       lists = lists;
       number = numbers ∙ was.number;
     }

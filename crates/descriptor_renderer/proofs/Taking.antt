@@ -1,9 +1,9 @@
 -- A set that a call has (`Taken`) gets its next handle: for `Store::draw` and `create`.
-use Rattle.std.proofs.Common.{◌≡◌, ◌∙◌, ℕ, ◌<◌, ◌||◌, true, false, Ok, Err, subst, refl, arith}
+use Rattle.std.proofs.Common.{◌≡◌, ◌∙◌, ℕ, ◌<◌, ◌||◌, true, false, Ok, Err, subst, refl}
 use Rattle.gpu_descriptor_types.specs.declared.device.DescriptorDevice.{Ghosts}
 use Rattle.gpu_descriptor.specs.declared.errors.AllocationError.{AllocationError}
 use Rattle.gpu_descriptor.specs.declared.set.DescriptorSet.{DescriptorSet}
-use Rattle.descriptor_table.specs.Slots.{frame_in, waits_for}
+use Rattle.descriptor_table.specs.Slots.{waits_for}
 use Rattle.descriptor_table.specs.Tables.{Renews, is_held_use, is_usable, renewed}
 use Rattle.descriptor_table.specs.declared.handle.SetHandle.{SetHandle}
 use Rattle.descriptor_table.specs.declared.slot.Slot.{Slot}
@@ -22,7 +22,7 @@ module _ {L P S D : Type 0} {d : Ghosts D L P S} (layout : L) (number : ℕ) (u 
     kept = λ some. absurd (let no : Err error ≡ Ok (kept some).place = (kept some).is in cc);
     comes = λ none. tt;
     refused = refused;
-    settles = arrived (ComesOf d.meaning layout number) (frame_in u) old mid (refused_arrives (ComesOf d.meaning layout number) (frame_in u) layout 1 1 error old mid refused) (keeps.coming ∙ rest.none_coming) rest keeps.store;
+    settles = arrived (ComesOf d.meaning layout number) old mid (refused_arrives (ComesOf d.meaning layout number) layout 1 1 error old mid refused) (keeps.coming ∙ rest.none_coming) rest keeps.store;
     grows = grow_refused layout 1 1 error old mid refused;
   }
 
@@ -41,7 +41,7 @@ module _ {L P S D : Type 0} {d : Ghosts D L P S} (layout : L) (number : ℕ) (u 
         kept = λ some. (handle, refl, kept_handle number p u handle old mid new (kept some) renews side);
         comes = λ none. (let both = new_handle layout number p u handle old mid (slots_in new) (comes none) renews in (mid, both.0, both.1, side));
         refused = tt;
-        settles = arrived (ComesOf d.meaning layout number) (frame_in u) old new
-            (handled_arrives (ComesOf d.meaning layout number) (number_of old) (generations_in old) number p u handle (slots_in old) (slots_in new) handles (frame_in u) live (omega arith)) (coming ∙ keeps.coming ∙ rest.none_coming) rest stays;
+        settles = arrived (ComesOf d.meaning layout number) old new
+            (handled_arrives (ComesOf d.meaning layout number) (number_of old) (generations_in old) number p u handle (slots_in old) (slots_in new) handles live) (coming ∙ keeps.coming ∙ rest.none_coming) rest stays;
         grows = grow_taken layout (number_of old) number p u handle old mid (slots_in new) used kept comes renews;
       }

@@ -8,7 +8,7 @@ use Rattle.gpu_descriptor.specs.declared.set.DescriptorSet.{DescriptorSet}
 use Rattle.descriptor_table.specs.Slots.{slot_at}
 use Rattle.descriptor_table.specs.Tables.{came_under, current}
 use Rattle.descriptor_table.specs.declared.slot.Slot.{Slot}
-use Rattle.descriptor_renderer.specs.Stores.{IsAtRest, IsUpTo, generations_in, lists_for, lists_in, number_of, slots_in}
+use Rattle.descriptor_renderer.specs.Stores.{IsAtRest, generations_in, lists_for, lists_in, number_of, slots_in}
 use Rattle.descriptor_renderer.specs.declared.store.Store.{Store}
 
 module _ {L P S : Type 0} (means : Meaning L P S) where
@@ -33,15 +33,13 @@ IsCounted removed s = (s.generation ≡ removed + (if is_some s.set then 1 else 
 abbrev pub AreCounted : {T : Type 0} → (ℕ → ℕ) → List (Slot T) → Type 0
 AreCounted generations layouts = (n : ℕ) → IsCounted (generations n) (slot_at layouts n)
 
--- the sets of a store are at rest, of these layouts, and wait for no frame later than this one. Their handles have this number
-pub record HasSetsOf {L P S D : Type 0} {d : Ghosts D L P S} (layouts : List (Slot (SetLayout L))) (frame renderer : ℕ) (s : Store L P S D d) : Type 0 where
+-- the sets of a store are at rest, and of these layouts. Their handles have this number
+pub record HasSetsOf {L P S D : Type 0} {d : Ghosts D L P S} (layouts : List (Slot (SetLayout L))) (renderer : ℕ) (s : Store L P S D d) : Type 0 where
   pub rest : IsAtRest s
   -- each set is of the layout that it came under, if that was not removed
   pub own : AreOwn d.meaning (generations_in s) layouts (slots_in s)
   -- each layout's slot counts the handles that were given for it
   pub counted : AreCounted (generations_in s) layouts
-  -- no set waits for a later frame
-  pub rising : IsUpTo frame (slots_in s)
   -- the table has a list for each layout
   pub lists : lists_in s ≡ lists_for (length layouts)
   pub number : number_of s ≡ renderer

@@ -1,5 +1,5 @@
 -- What the store of a renderer has, the table of its sets and the allocator over a device, and what its calls do.
-use Rattle.std.specs.Prelude.{◌≡◌, ◌≢◌, ℕ, zero, suc, ◌+◌, ◌<◌, ◌≤◌, ◌⊎◌, ◌||◌, true, not, Bool, List, [], ◌∷◌, length, slice_index_or, if◌then◌else◌, is_some, Option, Result, Some, Ok, Err, None, IfOk, IfErr}
+use Rattle.std.specs.Prelude.{◌≡◌, ◌≢◌, ℕ, zero, suc, ◌+◌, ◌<◌, ◌⊎◌, ◌||◌, true, not, Bool, List, [], ◌∷◌, length, slice_index_or, if◌then◌else◌, is_some, Option, Result, Some, Ok, Err, None, IfOk, IfErr}
 use Rattle.gpu_descriptor_types.specs.Ledger.{Ledger, Pool}
 use Rattle.gpu_descriptor.specs.Caller.Others.{others_of}
 use Rattle.gpu_descriptor_types.specs.Meaning.{IsOfLayout, Meaning}
@@ -20,7 +20,7 @@ use Rattle.gpu_descriptor.specs.declared.errors.AllocationError.TheVariants.{Out
 use Rattle.gpu_descriptor.specs.declared.layout.SetLayout.{SetLayout}
 use Rattle.gpu_descriptor.specs.declared.set.DescriptorSet.{DescriptorSet}
 use Rattle.descriptor_table.specs.Sets.{Names, sets_in, sets_of}
-use Rattle.descriptor_table.specs.Slots.{frame_of, is_kept_of, is_live, slot_at, frame_in}
+use Rattle.descriptor_table.specs.Slots.{is_kept_of, is_live, slot_at}
 use Rattle.descriptor_table.specs.Tables.{Grows, HasRoom, Picks, Puts, Renews, Turns, Becomes, aged, came_under, count, current, generations_of, holds, is_kept, is_usable, place_at, lists_of, removed_at, slots_of, vacated, waits, MayBecome, IsBack}
 use Rattle.descriptor_table.specs.declared.handle.SetHandle.{SetHandle}
 use Rattle.descriptor_table.specs.declared.slot.Slot.{Slot}
@@ -31,10 +31,6 @@ use Rattle.descriptor_renderer.specs.declared.store.Store.{Store}
 -- whether a slot has no set, or a set that is held, that waits for a frame, or that is kept
 abbrev pub is_placed : {T : Type 0} → Slot T → Bool
 is_placed s = not (is_some s.set) || (holds s || (waits s || is_kept s))
-
--- no set waits for a later frame
-abbrev pub IsUpTo : {T : Type 0} → ℕ → List (Slot T) → Type 0
-IsUpTo frame slots = (p : ℕ) → frame_of (slot_at slots p) ≤ frame
 
 -- the slots of the handles became what the relation says, in the new slots. All others are as they were
 pub record TurnEach {T : Type 0} (handles : List SetHandle) (becomes : List (Slot T) → Slot T → Slot T → Type 0) (old new : List (Slot T)) : Type 0 where
@@ -193,16 +189,15 @@ module _ {L P S D : Type 0} {d : Ghosts D L P S} where
     pub side : side_of new ≡ side_of old
     pub coming : coming_in new ≡ coming_in old
 
-  -- each set was in its slot before, under its layout, or passes the test; none is on its way, and none waits for a frame later than before, and than this one
-  pub record SettlesTo (removed : ℕ → ℕ) (most : ℕ) (comes : ℕ → DescriptorSet S → Type 0) (frame : ℕ) (old new : StoreOver d) : Type 0 where
+  -- each set was in its slot before, under its layout, or passes the test, and none is on its way
+  pub record SettlesTo (removed : ℕ → ℕ) (most : ℕ) (comes : ℕ → DescriptorSet S → Type 0) (old new : StoreOver d) : Type 0 where
     pub sets : SetsCome comes (slots_in old) (slots_in new)
     pub rest : IsAtRest new
-    pub frames : (f : ℕ) → frame ≤ f → IsUpTo f (slots_in old) → IsUpTo f (slots_in new)
     pub stays : StoreStays removed most old new
 
   -- the same, with layouts and what may be kept as they were
-  abbrev pub Settles : (ℕ → DescriptorSet S → Type 0) → ℕ → StoreOver d → StoreOver d → Type 0
-  Settles comes frame old new = SettlesTo (generations_in old) (keep_of old) comes frame old new
+  abbrev pub Settles : (ℕ → DescriptorSet S → Type 0) → StoreOver d → StoreOver d → Type 0
+  Settles comes old new = SettlesTo (generations_in old) (keep_of old) comes old new
 
   -- sets of the layout, which has this number, may be asked for
   pub record CanTake (known : SetLayout L) (number : ℕ) (s : StoreOver d) : Type 0 where
@@ -344,7 +339,7 @@ module _ {L P S D : Type 0} {d : Ghosts D L P S} where
     pub kept : 0 < kept_of layout old → (handle : SetHandle) × (result ≡ Ok handle) × HandlesKept layout u handle old new
     pub comes : kept_of layout old ≡ 0 → IfOk result (λ handle. HandlesNew known layout u handle old new)
     pub refused : IfErr result (λ error. IsRefusedAtLast known 1 1 error old new)
-    pub settles : Settles (ComesOf d.meaning known layout) (frame_in u) old new
+    pub settles : Settles (ComesOf d.meaning known layout) old new
     pub grows : Grows (slots_in old) (slots_in new)
 
   -- the sets that are on their way can be held, under the layout of this number

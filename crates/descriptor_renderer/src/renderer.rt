@@ -60,7 +60,7 @@ pub struct Renderer<L, P, S, D: DescriptorDevice<L, P, S>> {
 
     /// The last field, as the device in it is dropped last.
     store: Store<L, P, S, D>,
-    ghost sets: { HasSetsOf (layout_slots layouts) frame renderer store },
+    ghost sets: { HasSetsOf (layout_slots layouts) renderer store },
     ghost begun: { is_open ≡ true → 1 ≤ frame },
     ghost numbers_layouts: { registry_of layouts ≡ renderer },
 }

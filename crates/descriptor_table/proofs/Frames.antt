@@ -1,11 +1,12 @@
 -- The lists of sets that wait, by the code's chains of frames: a list for each frame, earlier frames first (`HasFrames`).
 -- What `chain_of` finds there once a list changed, came or went, and that each still has the sets of its frame (`AreFramed`):
 -- for `SetTable::join`, `start`, `pick_one_of_more` and `pick_only`. `c` and `d` are lists, `i` is the place of one, `p` that of a slot.
-use Rattle.std.proofs.Common.{arith, ◌≡◌, ◌≢◌, ℕ, zero, suc, ◌+◌, ◌-◌, ◌<◌, ◌≤◌, ◌==◌, ◌&&◌, nat_le, Bool, true, false, arith, if◌then◌else◌, List, [], ◌∷◌, ◌++◌, insert, length, take, drop, get_or, set, is_some, inl, inr, refl, sym, ap, subst, ◌∙◌, arith, eq-eqb, ne_eqb, arith, leb-true}
+use Rattle.std.proofs.Common.{arith, ◌≡◌, ◌≢◌, ℕ, zero, suc, ◌+◌, ◌-◌, ◌<◌, ◌≤◌, ◌==◌, ◌&&◌, Bool, true, false, arith, if◌then◌else◌, List, [], ◌∷◌, ◌++◌, insert, length, take, drop, get_or, set, is_some, inl, inr, refl, sym, ap, subst, ◌∙◌, arith, eq-eqb, ne_eqb, arith}
 use Rattle.std.proofs.lemmas.List.{append_assoc, length-drop, length-set, get_or-set_other, get_or-set_same, get_or_read}
+use Rattle.std.proofs.lemmas.Bool.{true≢false}
 use Rattle.std.proofs.Math.Seq.{drop-append_seam, take-append_seam}
 use Rattle.descriptor_table.specs.Places.{times, walk}
-use Rattle.descriptor_table.specs.Slots.{AreFramed, HasFrames, chain_of, frame_at, is_due, is_of, slot_at, waits_for}
+use Rattle.descriptor_table.specs.Slots.{AreFramed, HasFrames, chain_of, frame_at, is_of, slot_at, waits_for}
 use Rattle.descriptor_table.specs.declared.slot.Use.{Use}
 use Rattle.descriptor_table.specs.declared.slot.Use.TheVariants.{Held, Drawn, Waits, Kept, Going, Taken, Vacant}
 use Rattle.descriptor_table.specs.declared.slot.Slot.{Slot}
@@ -291,26 +292,22 @@ module _ {T : Type 0} (slots : List (Slot T)) where
         ∙ ap (walk (c.count - 1) next) told)
         (λ g ne. set_others frames i d g same ne) (λ f. refl)
 
-    -- no set is due if the earliest frame is later
-    pub none_due : (frame : ℕ) → ((i : ℕ) → i < length frames → frame < (frame_at frames i).frame) → (q : ℕ) → is_due frame (slot_at slots q) ≡ false
-    none_due frame later q = not_due (slot_at slots q) (λ g le. none_in is_of slots next (chain_of frames) framed g (ap (λ (e : Chain). e.count) (none_of frames g (λ i lt e. let h = later i lt in omega arith))) q)
+    -- no set waits for a frame that passes the test, if no list is of one
+    pub none_waits : (test : ℕ → Bool) → ((i : ℕ) → i < length frames → test (frame_at frames i).frame ≡ false) → (q : ℕ) → (waits_for test (slot_at slots q).used && is_some (slot_at slots q).set) ≡ false
+    none_waits test out q = by_use (slot_at slots q).used (is_some (slot_at slots q).set) (λ g is. none_in is_of slots next (chain_of frames) framed g (ap (λ (e : Chain). e.count) (none_of frames g (λ i lt e. true≢false (sym is ∙ ap test e ∙ out i lt)))) q)
       where
-        -- a set that waits for no frame up to this one isn't due
-        not_due : (s : Slot T) → ((g : ℕ) → g ≤ frame → is_of g s ≡ false) → is_due frame s ≡ false
-        not_due s none = by_use s.used (is_some s.set) none
-          where
-            by_le : (g : ℕ) (b full : Bool) → (b ≡ true → g ≤ frame) → ((h : ℕ) → h ≤ frame → ((h == g) && full) ≡ false) → (b && full) ≡ false
-            by_le g false full le none = refl
-            by_le g true full le none = sym (ap (λ b. b && full) (eq-eqb g g refl)) ∙ none g (le refl)
+        by_test : (g : ℕ) (b full : Bool) → (b ≡ true → ((g == g) && full) ≡ false) → (b && full) ≡ false
+        by_test g false full none = refl
+        by_test g true full none = sym (ap (λ b. b && full) (eq-eqb g g refl)) ∙ none refl
 
-            by_use : (u : Use) (full : Bool) → ((g : ℕ) → g ≤ frame → (waits_for (λ w. g == w) u && full) ≡ false) → (waits_for (λ w. nat_le w frame) u && full) ≡ false
-            by_use Held full none = refl
-            by_use (Drawn g) full none = by_le g (nat_le g frame) full (leb-true g frame) none
-            by_use (Waits g) full none = by_le g (nat_le g frame) full (leb-true g frame) none
-            by_use Kept full none = refl
-            by_use Going full none = refl
-            by_use Taken full none = refl
-            by_use Vacant full none = refl
+        by_use : (u : Use) (full : Bool) → ((g : ℕ) → test g ≡ true → (waits_for (λ w. g == w) u && full) ≡ false) → (waits_for test u && full) ≡ false
+        by_use Held full none = refl
+        by_use (Drawn g) full none = by_test g (test g) full (none g)
+        by_use (Waits g) full none = by_test g (test g) full (none g)
+        by_use Kept full none = refl
+        by_use Going full none = refl
+        by_use Taken full none = refl
+        by_use Vacant full none = refl
 
   -- the only set of the first list left it
   pub end_framed : (next : List ℕ) (frames all : List FrameChain) (c : FrameChain) (was : Slot T) → AreFramed slots next all → HasFrames all → all ≡ c ∷ frames → c.count ≡ 1 → AreFramed (set slots c.first (used_for Taken was)) next frames

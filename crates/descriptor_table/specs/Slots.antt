@@ -32,12 +32,6 @@ IsNowhere Held = ⊤
 IsNowhere Taken = ⊤
 IsNowhere _ = ⊥
 
--- the frame that a set waits for, or 0
-abbrev pub frame_in : Use → ℕ
-frame_in (Drawn frame) = frame
-frame_in (Waits frame) = frame
-frame_in _ = 0
-
 -- the list of a number, empty if there is none
 abbrev pub chain_at : List Chain → ℕ → Chain
 chain_at chains k = slice_index_or chains k (record { first = 0; count = 0 })
@@ -105,10 +99,6 @@ module _ {T : Type 0} where
   -- whether a slot has a set that waits for a frame up to this one
   abbrev pub is_due : ℕ → Slot T → Bool
   is_due f s = waits_for (λ frame. nat_le frame f) s.used && is_some s.set
-
-  -- the frame that a slot's set waits for, or 0
-  abbrev pub frame_of : Slot T → ℕ
-  frame_of s = frame_in s.used
 
   -- the list has the place of each slot that passes the test once, and no other
   abbrev pub Lists : (Slot T → Bool) → Slots T → List ℕ → Type 0

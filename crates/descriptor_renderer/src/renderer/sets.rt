@@ -154,7 +154,7 @@ impl<L: Drop, P: Drop, S: Drop, D: DescriptorDevice<L, P, S>> Renderer<L, P, S, 
             { is_open = false; slots = slots_of self.new; side = side_of self.new } }
     {
         self.is_open = false;
-        self.store.free_all(self.frame);
+        self.store.free_all();
     }
 
     /// The raw set of a handle, to write and to bind: one that is held, or one of the open frame. None

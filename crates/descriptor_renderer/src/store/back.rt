@@ -12,7 +12,7 @@ impl<L: Drop, P: Drop, S: Drop, D: DescriptorDevice<L, P, S>> Store<L, P, S, D> 
     ghost use Rattle.descriptor_table.specs.Tables.{Becomes, KeepsUpTo, removed_at, used_for};
     ghost use Rattle.descriptor_table.specs.declared.slot.Use.{Use};
     ghost use Rattle.descriptor_renderer.specs.Stores.{AreCleaned, Cleans, ComeBack, FreesAll, FreesEach};
-    ghost use Rattle.descriptor_renderer.specs.Stores.{GivesBack, HasLayout, IsAtRest, IsUpTo, NoneComes};
+    ghost use Rattle.descriptor_renderer.specs.Stores.{GivesBack, HasLayout, IsAtRest, NoneComes};
     ghost use Rattle.descriptor_renderer.specs.Stores.{Removes, Settles, SettlesTo, Trims, TurnEach};
     ghost use Rattle.descriptor_renderer.specs.Stores.{coming_in, generations_in, kept_of, ledger_of};
     ghost use Rattle.descriptor_renderer.specs.Stores.{keep_of, number_of, pools_besides, side_of, slots_in};
@@ -62,7 +62,7 @@ impl<L: Drop, P: Drop, S: Drop, D: DescriptorDevice<L, P, S>> Store<L, P, S, D> 
         ensures emptied { length (sets_in (slots_in self.new)) ≡ 0
             → (ledger_of self.new).pools ≡ pools_besides self.old }
         ensures cleans { Cleans self.old self.new }
-        ensures settles { Settles NoneComes 0 self.old self.new }
+        ensures settles { Settles NoneComes self.old self.new }
         ensures coming { coming_in self.new ≡ coming_in self.old }
     {
         self.table.age();
@@ -76,7 +76,7 @@ impl<L: Drop, P: Drop, S: Drop, D: DescriptorDevice<L, P, S>> Store<L, P, S, D> 
         requires rest { IsAtRest self.old }
         ensures trims { TrimsPools D.meaning (side_of self.old) (side_of self.new) }
         ensures slots { slots_in self.new ≡ slots_in self.old }
-        ensures settles { Settles NoneComes 0 self.old self.new }
+        ensures settles { Settles NoneComes self.old self.new }
     {
         self.allocator.trim(&mut self.device);
     }
@@ -86,7 +86,7 @@ impl<L: Drop, P: Drop, S: Drop, D: DescriptorDevice<L, P, S>> Store<L, P, S, D> 
         requires rest { IsAtRest self.old }
         ensures back { ComeBack (is_due frame) self.old self.new }
         ensures none_due { (p : ℕ) → is_due frame (slot_at (slots_in self.new) p) ≡ false }
-        ensures settles { Settles NoneComes 0 self.old self.new }
+        ensures settles { Settles NoneComes self.old self.new }
     {
         if self.table.keep() == 0 {
             self.give_due(frame);
@@ -105,7 +105,7 @@ impl<L: Drop, P: Drop, S: Drop, D: DescriptorDevice<L, P, S>> Store<L, P, S, D> 
         ensures frees { IsTrue result → FreesEach handles.now self.old self.new }
         ensures none { IsFalse result → (slots_in self.new ≡ slots_in self.old)
             × (side_of self.new ≡ side_of self.old) }
-        ensures settles { Settles NoneComes 0 self.old self.new }
+        ensures settles { Settles NoneComes self.old self.new }
     {
         if !self.table.take_each(handles) {
             return false;
@@ -125,7 +125,7 @@ impl<L: Drop, P: Drop, S: Drop, D: DescriptorDevice<L, P, S>> Store<L, P, S, D> 
             (slots_in self.old) (slots_in self.new) }
         ensures none { IsFalse result → slots_in self.new ≡ slots_in self.old }
         ensures side { side_of self.new ≡ side_of self.old }
-        ensures settles { Settles NoneComes frame self.old self.new }
+        ensures settles { Settles NoneComes self.old self.new }
     {
         if !self.table.take_each(handles) {
             return false;
@@ -141,7 +141,7 @@ impl<L: Drop, P: Drop, S: Drop, D: DescriptorDevice<L, P, S>> Store<L, P, S, D> 
         ensures few { (layout : ℕ) → kept_of layout self.new ≤ most }
         ensures as_many { (layout : ℕ) → KeepsUpTo most (is_kept_of layout) (slots_in self.old)
             (slots_in self.new) }
-        ensures settles { SettlesTo (generations_in self.old) most NoneComes 0 self.old self.new }
+        ensures settles { SettlesTo (generations_in self.old) most NoneComes self.old self.new }
     {
         self.table.trim(most);
         self.table.set_keep(most);
@@ -156,23 +156,20 @@ impl<L: Drop, P: Drop, S: Drop, D: DescriptorDevice<L, P, S>> Store<L, P, S, D> 
         requires next { generations_in self.old layout < 4294967295 }
         ensures removes { Removes layout self.old self.new }
         ensures settles { SettlesTo (removed_at layout (generations_in self.old)) (keep_of self.old)
-            NoneComes 0 self.old self.new }
+            NoneComes self.old self.new }
     {
         self.table.let_kept_go(layout);
         self.table.remove_layout(layout);
         self.give();
     }
 
-    /// Gives all sets back: those that are held, those that wait for a frame, which is up to this one,
-    /// and those that are kept.
-    pub(crate) fn free_all(&mut self, frame: u64)
+    /// Gives all sets back: those that are held, those that wait for a frame, and those that are kept.
+    pub(crate) fn free_all(&mut self)
         requires rest { IsAtRest self.old }
-        requires frames { IsUpTo frame (slots_in self.old) }
         ensures frees { FreesAll self.old self.new }
-        ensures settles { Settles NoneComes 0 self.old self.new }
+        ensures settles { Settles NoneComes self.old self.new }
     {
-        self.table.age();
-        self.table.settle_due(frame);
+        self.table.let_waiting_go();
         self.table.let_held_go();
         self.table.trim(0);
         self.give();

@@ -172,7 +172,7 @@ impl<L: Drop, P: Drop, S: Drop, D: DescriptorDevice<L, P, S>> Store<L, P, S, D> 
         ensures refused { IfErr result (λ error. IsRefusedAtLast known.now.layout
             (many - kept_of layout self.old) many error self.old self.new) }
         ensures handles { OnErr result (handles.new.items ≡ handles.old.items) }
-        ensures settles { Settles (ComesOf D.meaning known.now.layout layout) 0 self.old self.new }
+        ensures settles { Settles (ComesOf D.meaning known.now.layout layout) self.old self.new }
         ensures grows { Grows (slots_in self.old) (slots_in self.new) }
     {
         self.bring(known, layout, many)?;

@@ -11,7 +11,7 @@ impl<T> SetTable<T> {
     ghost use Rattle.descriptor_table.specs.Tables.{IsBack, KeepsUpTo, MayBecome, PicksAbove, Turns};
     ghost use Rattle.descriptor_table.specs.Tables.{count, generations_of, holds, is_kept};
     ghost use Rattle.descriptor_table.specs.Tables.{is_taken, lists_of, may_stay, keep_of, next_use};
-    ghost use Rattle.descriptor_table.specs.Tables.{slots_of, used_for};
+    ghost use Rattle.descriptor_table.specs.Tables.{slots_of, used_for, waits};
 
     /// Whether a set that comes back may be kept.
     #[inline]
@@ -110,6 +110,16 @@ impl<T> SetTable<T> {
     {
         for index in 0..handles.len() {
             self.wait_taken(handles[index].place as usize, frame);
+        }
+    }
+
+    /// Lets all sets that wait for a frame go.
+    pub fn let_waiting_go(&mut self)
+        ensures { Changes (Turns waits (Becomes (used_for Use.Going))) self.old self.new }
+    {
+        while !self.frames.is_empty() {
+            let place = self.pick_earliest();
+            self.link(GOING, place, Use::Going);
         }
     }
 

@@ -141,14 +141,23 @@ impl<T> SetTable<T> {
         if count == 0 {
             return None;
         }
-        let chain = self.frames[0];
-        if chain.frame > frame {
+        if self.frames[0].frame > frame {
             return None;
         }
-        if chain.count == 1 {
-            return Some(self.pick_only());
+        Some(self.pick_earliest())
+    }
+
+    /// Takes a set of the earliest frame.
+    #[inline]
+    pub(super) fn pick_earliest(&mut self) -> usize
+        requires { 0 < length self.old.frames.items }
+        ensures { Changes (Picks (is_of (frame_at self.old.frames.items 0).frame) result) self.old
+            self.new }
+    {
+        if self.frames[0].count == 1 {
+            return self.pick_only();
         }
-        Some(self.pick_one_of_more())
+        self.pick_one_of_more()
     }
 
     /// Takes the only set of the earliest frame, whose list goes.

@@ -92,7 +92,7 @@ impl<L, P, S, D: DescriptorDevice<L, P, S>> Renderer<L, P, S, D> {
     pub fn free_all(&mut self)
     {
         self.is_open = false;
-        self.store.free_all(self.frame);
+        self.store.free_all();
     }
 
     /// The raw set of a handle, to write and to bind: one that is held, or one of the open frame. None

@@ -104,12 +104,10 @@ impl<L, P, S, D: DescriptorDevice<L, P, S>> Store<L, P, S, D> {
         self.give();
     }
 
-    /// Gives all sets back: those that are held, those that wait for a frame, which is up to this one,
-    /// and those that are kept.
-    pub(crate) fn free_all(&mut self, frame: u64)
+    /// Gives all sets back: those that are held, those that wait for a frame, and those that are kept.
+    pub(crate) fn free_all(&mut self)
     {
-        self.table.age();
-        self.table.settle_due(frame);
+        self.table.let_waiting_go();
         self.table.let_held_go();
         self.table.trim(0);
         self.give();

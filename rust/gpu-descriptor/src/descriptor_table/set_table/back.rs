@@ -85,6 +85,15 @@ impl<T> SetTable<T> {
         }
     }
 
+    /// Lets all sets that wait for a frame go.
+    pub fn let_waiting_go(&mut self)
+    {
+        while !self.frames.is_empty() {
+            let place = self.pick_earliest();
+            self.link(GOING, place, Use::Going);
+        }
+    }
+
     /// Lets the set of a slot go, if it is held.
     #[inline]
     fn let_go_at(&mut self, place: usize)

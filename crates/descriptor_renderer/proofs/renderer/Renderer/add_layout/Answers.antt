@@ -9,11 +9,11 @@ use Rattle.descriptor_renderer.proofs.renderer.Renderer.add_layout.Goals.{After-
 use Rattle.descriptor_renderer.proofs.renderer.Renderer.add_layout.Goals as goal
 
 -- the sets, once memory is reserved
-reserved : (g : _) (c : After-reserve_layout g) → HasSetsOf (layout_slots c.args.self.now.layouts) c.args.self.now.frame c.args.self.now.renderer c.reserve_layout.new.self
+reserved : (g : _) (c : After-reserve_layout g) → HasSetsOf (layout_slots c.args.self.now.layouts) c.args.self.now.renderer c.reserve_layout.new.self
 reserved g c =
     let old = c.args.self.now in
     let now = c.reserve_layout.ensures in
-    sets_as (layout_slots old.layouts) (layout_slots old.layouts) old.frame old.renderer
+    sets_as (layout_slots old.layouts) (layout_slots old.layouts) old.renderer
     old.store c.reserve_layout.new.self now.contents.slots now.stays.generations now.contents.coming now.stays.number (now.stays.lists ∙ old.sets.lists) (λ n known is. is) (λ counted. counted) old.sets
 
 pub invariant_of-self-clause-sets : goal.invariant_of-self-clause-sets
@@ -23,7 +23,7 @@ pub invariant_of-self-in-Err-1 : goal.invariant_of-self-in-Err-1
 invariant_of-self-in-Err-1 g c =
     let old = c.args.self.now in
     record {
-      sets = subst (λ l. HasSetsOf l old.frame old.renderer c.reserve_layout.new.self) (sym c.in-Err.ensures.none) (reserved g (goal.at.invariant_of-self-in-Err-1 g c).After-reserve_layout);
+      sets = subst (λ l. HasSetsOf l old.renderer c.reserve_layout.new.self) (sym c.in-Err.ensures.none) (reserved g (goal.at.invariant_of-self-in-Err-1 g c).After-reserve_layout);
       begun = old.begun;
       numbers_layouts = c.in-Err.ensures.registry ∙ old.numbers_layouts;
     }
@@ -41,7 +41,7 @@ invariant_of-self-then-places-clause-sets g c =
     ] in
     let now = c.add_layout.ensures in
     let sets = reserved g (goal.at.invariant_of-self-then-places-clause-sets g c).After-reserve_layout in
-    sets_as layouts (layout_slots c.add.new.self) old.frame old.renderer
+    sets_as layouts (layout_slots c.add.new.self) old.renderer
     c.reserve_layout.new.self c.add_layout.new.self now.contents.slots now.settings.generations now.contents.coming now.settings.number
     (now.settings.lists ∙ ap lists_with sets.lists ∙ lists_more (length layouts) ∙ ap lists_for long) c.in-Ok.ensures.stay (c.add.ensures.counted (generations_in c.add_layout.new.self)) sets
 
@@ -58,7 +58,7 @@ invariant_of-self-else-places-clause-sets g c =
     ] in
     let store = c.reserve_layout.new.self in
     let sets = reserved g (goal.at.invariant_of-self-else-places-clause-sets g c).After-reserve_layout in
-    sets_as layouts (layout_slots c.add.new.self) old.frame old.renderer
+    sets_as layouts (layout_slots c.add.new.self) old.renderer
     store store refl refl refl refl (sets.lists ∙ ap lists_for long) c.in-Ok.ensures.stay (c.add.ensures.counted (generations_in store)) sets
 
 pub returns-after-places-clause-grows : goal.returns-after-places-clause-grows

@@ -1,4 +1,3 @@
-use Rattle.std.proofs.Common.{arith}
 use Rattle.descriptor_renderer.specs.LayoutRegistries.{layout_slots}
 use Rattle.descriptor_renderer.specs.Stores.{NoneComes, slots_in}
 use Rattle.descriptor_renderer.proofs.Owned.{sets_settle}
@@ -9,7 +8,7 @@ use Rattle.descriptor_renderer.proofs.renderer.Renderer.cleanup.Goals as goal
 
 pub invariant_of-self-clause-sets : goal.invariant_of-self-clause-sets
 invariant_of-self-clause-sets g c =
-    sets_settle NoneComes 0 (layout_slots c.args.self.now.layouts) c.args.self.now.frame c.args.self.now.renderer c.args.self.now.store c.cleanup.new.self c.cleanup.ensures.settles (omega arith)
+    sets_settle NoneComes (layout_slots c.args.self.now.layouts) c.args.self.now.renderer c.args.self.now.store c.cleanup.new.self c.cleanup.ensures.settles
     (λ n x none. absurd none) c.args.self.now.sets
 
 pub returns-clause-emptied : goal.returns-clause-emptied

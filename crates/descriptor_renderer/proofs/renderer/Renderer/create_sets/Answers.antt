@@ -1,5 +1,5 @@
 use Rattle.descriptor_renderer.specs.Own.{HasSetsOf}
-use Rattle.std.proofs.Common.{◌+◌, ◌-◌, ◌<◌, ◌++◌, slice_index_or, inl, refl, sym, ap, subst, ◌∙◌, arith, rules}
+use Rattle.std.proofs.Common.{◌+◌, ◌-◌, ◌<◌, ◌++◌, slice_index_or, inl, refl, sym, ap, subst, ◌∙◌, rules}
 use Rattle.descriptor_table.specs.Sets.{NameEach, sets_of}
 use Rattle.descriptor_table.specs.declared.handle.SetHandle.{SetHandle}
 use Rattle.descriptor_table.proofs.Holding.{same_default}
@@ -18,12 +18,12 @@ create_each-requires-clause-can g c =
     record { meant = c.in-Some.ensures.meant; layout = subst (λ n. c.place.result + 2 < n) (sym old.sets.lists) (layout_listed (layout_slots old.layouts) c.place.result c.in-Some.known.now here); rest = old.sets.rest }
 
 -- the sets are of their layouts
-sets : (g : _) (c : After-create_each g) → HasSetsOf (layout_slots c.args.self.now.layouts) c.args.self.now.frame c.args.self.now.renderer c.create_each.new.self
+sets : (g : _) (c : After-create_each g) → HasSetsOf (layout_slots c.args.self.now.layouts) c.args.self.now.renderer c.create_each.new.self
 sets g c =
     let old = c.args.self.now in
     let known = c.in-Some.known.now in
     sets_settle (ComesOf g.D.DescriptorDevice.meaning known.layout c.place.result)
-    0 (layout_slots old.layouts) old.frame old.renderer old.store c.create_each.new.self c.create_each.ensures.settles (omega arith)
+    (layout_slots old.layouts) old.renderer old.store c.create_each.new.self c.create_each.ensures.settles
     (own_comes g.D.DescriptorDevice.meaning c.place.result (layout_slots old.layouts) known (layout_here old.layouts c.args.layout known c.place.result c.place.ensures (sym c.in-Some.ensures.layout))) old.sets
 
 pub invariant_of-self-2-clause-sets : goal.invariant_of-self-2-clause-sets

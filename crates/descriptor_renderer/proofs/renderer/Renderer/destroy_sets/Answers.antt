@@ -1,4 +1,4 @@
-use Rattle.std.proofs.Common.{refl, subst, arith, rules}
+use Rattle.std.proofs.Common.{refl, subst, rules}
 use Rattle.descriptor_table.specs.Sets.{AreHeldOnce}
 use Rattle.descriptor_renderer.specs.LayoutRegistries.{layout_slots}
 use Rattle.descriptor_renderer.specs.Stores.{NoneComes, slots_in}
@@ -8,7 +8,7 @@ use Rattle.descriptor_renderer.proofs.renderer.Renderer.destroy_sets.Goals as go
 
 pub invariant_of-self-clause-sets : goal.invariant_of-self-clause-sets
 invariant_of-self-clause-sets g c =
-    sets_settle NoneComes c.args.last_use (layout_slots c.args.self.now.layouts) c.args.self.now.frame c.args.self.now.renderer c.args.self.now.store c.wait_each.new.self c.wait_each.ensures.settles (let opened = c.if-last_use-self.false in omega arith)
+    sets_settle NoneComes (layout_slots c.args.self.now.layouts) c.args.self.now.renderer c.args.self.now.store c.wait_each.new.self c.wait_each.ensures.settles
     (λ n x none. absurd none) c.args.self.now.sets
 
 pub returns : goal.returns

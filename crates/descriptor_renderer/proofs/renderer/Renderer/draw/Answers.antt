@@ -1,5 +1,5 @@
 use Rattle.descriptor_renderer.specs.Own.{HasSetsOf}
-use Rattle.std.proofs.Common.{◌&&◌, ◌+◌, ◌<◌, ◌==◌, ◌∙◌, ◌≡◌, ap, arith, eq-eqb, refl, subst, sym, true, rules}
+use Rattle.std.proofs.Common.{◌&&◌, ◌+◌, ◌<◌, ◌==◌, ◌∙◌, ◌≡◌, ap, eq-eqb, refl, subst, sym, true, rules}
 use Rattle.descriptor_table.specs.Sets.{Names, sets_of}
 use Rattle.descriptor_table.specs.Tables.{current}
 use Rattle.descriptor_table.specs.declared.slot.Use.TheVariants.{Drawn}
@@ -16,12 +16,12 @@ draw-requires g c =
     record { meant = c.in-Some.ensures.meant; layout = subst (λ n. c.place.result + 2 < n) (sym old.sets.lists) (layout_listed (layout_slots old.layouts) c.place.result c.in-Some.known.now here); rest = old.sets.rest }
 
 -- the sets are of their layouts
-sets : (g : _) (c : After-draw g) → HasSetsOf (layout_slots c.args.self.now.layouts) c.args.self.now.frame c.args.self.now.renderer c.draw.new.self
+sets : (g : _) (c : After-draw g) → HasSetsOf (layout_slots c.args.self.now.layouts) c.args.self.now.renderer c.draw.new.self
 sets g c =
     let old = c.args.self.now in
     let known = c.in-Some.known.now in
     sets_settle (ComesOf g.D.DescriptorDevice.meaning known.layout c.place.result)
-    old.frame (layout_slots old.layouts) old.frame old.renderer old.store c.draw.new.self c.draw.ensures.settles (omega arith)
+    (layout_slots old.layouts) old.renderer old.store c.draw.new.self c.draw.ensures.settles
     (own_comes g.D.DescriptorDevice.meaning c.place.result (layout_slots old.layouts) known (layout_here old.layouts c.args.layout known c.place.result c.place.ensures (sym c.in-Some.ensures.layout))) old.sets
 
 pub invariant_of-self-2-clause-sets : goal.invariant_of-self-2-clause-sets

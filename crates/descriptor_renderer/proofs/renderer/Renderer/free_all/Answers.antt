@@ -1,4 +1,4 @@
-use Rattle.std.proofs.Common.{◌==◌, ◌&&◌, nat_le, nat_lt, false, ap, arith}
+use Rattle.std.proofs.Common.{◌==◌, ◌&&◌, nat_le, nat_lt, false, ap}
 use Rattle.descriptor_renderer.specs.LayoutRegistries.{layout_slots}
 use Rattle.descriptor_renderer.specs.Stores.{NoneComes, slots_in}
 use Rattle.descriptor_renderer.proofs.Owned.{found_none, sets_settle}
@@ -6,7 +6,7 @@ use Rattle.descriptor_renderer.proofs.renderer.Renderer.free_all.Goals as goal
 
 pub invariant_of-self-clause-sets : goal.invariant_of-self-clause-sets
 invariant_of-self-clause-sets g c =
-    sets_settle NoneComes 0 (layout_slots c.args.self.now.layouts) c.args.self.now.frame c.args.self.now.renderer c.args.self.now.store c.free_all.new.self c.free_all.ensures.settles (omega arith)
+    sets_settle NoneComes (layout_slots c.args.self.now.layouts) c.args.self.now.renderer c.args.self.now.store c.free_all.new.self c.free_all.ensures.settles
     (λ n x none. absurd none) c.args.self.now.sets
 
 pub returns-clause-gone : goal.returns-clause-gone

@@ -1,4 +1,4 @@
-use Rattle.std.proofs.Common.{refl, subst, arith}
+use Rattle.std.proofs.Common.{refl, subst}
 use Rattle.descriptor_table.specs.Sets.{AreHeldOnce}
 use Rattle.descriptor_renderer.specs.LayoutRegistries.{layout_slots}
 use Rattle.descriptor_renderer.specs.Stores.{NoneComes, generations_in, keep_of, slots_in}
@@ -8,7 +8,7 @@ use Rattle.descriptor_renderer.proofs.renderer.Renderer.free_sets.Goals as goal
 
 pub invariant_of-self-clause-sets : goal.invariant_of-self-clause-sets
 invariant_of-self-clause-sets g c =
-    sets_settle NoneComes 0 (layout_slots c.args.self.now.layouts) c.args.self.now.frame c.args.self.now.renderer c.args.self.now.store c.free_each.new.self c.free_each.ensures.settles (omega arith)
+    sets_settle NoneComes (layout_slots c.args.self.now.layouts) c.args.self.now.renderer c.args.self.now.store c.free_each.new.self c.free_each.ensures.settles
     (λ n x none. absurd none) c.args.self.now.sets
 
 pub returns-clause-names : goal.returns-clause-names

@@ -7,7 +7,7 @@ use Rattle.descriptor_renderer.proofs.renderer.Renderer.gpu_done.Goals as goal
 
 pub invariant_of-self-clause-sets : goal.invariant_of-self-clause-sets
 invariant_of-self-clause-sets g c =
-    sets_settle NoneComes 0 (layout_slots c.args.self.now.layouts) c.args.self.now.frame c.args.self.now.renderer c.args.self.now.store c.finish.new.self c.finish.ensures.settles (omega arith)
+    sets_settle NoneComes (layout_slots c.args.self.now.layouts) c.args.self.now.renderer c.args.self.now.store c.finish.new.self c.finish.ensures.settles
     (λ n x none. absurd none) c.args.self.now.sets
 
 pub returns-clause-names : goal.returns-clause-names

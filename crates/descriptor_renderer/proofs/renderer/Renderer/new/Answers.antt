@@ -1,6 +1,6 @@
 use Rattle.std.proofs.Common.{false, ◌≡◌, ℕ, [], length, sym, ap, subst, ◌∙◌, arith}
 use Rattle.std.proofs.lemmas.Option.{none-some}
-use Rattle.descriptor_table.specs.Slots.{frame_of, slot_at}
+use Rattle.descriptor_table.specs.Slots.{slot_at}
 use Rattle.descriptor_renderer.specs.Own.{IsCounted}
 use Rattle.descriptor_renderer.specs.Stores.{generations_in, lists_for}
 use Rattle.descriptor_renderer.specs.LayoutRegistries.{layout_slots, registry_of}
@@ -15,7 +15,6 @@ invariant_of-result-clause-sets g c =
       rest = store.rest;
       own = λ p n x full at. absurd (none-some x (sym (ap (λ l. (slot_at l p).set) store.slots) ∙ full));
       counted = λ n. subst (λ l. IsCounted (generations_in c.new.result n) (slot_at l n)) (sym none) (let e = ap (λ (generations : ℕ → ℕ). generations n) store.settings.generations in (omega arith, omega arith));
-      rising = λ p. (let e = ap (λ l. frame_of (slot_at l p)) store.slots in omega arith);
       lists = store.settings.lists ∙ ap (λ l. lists_for (length l)) (sym none);
       number = store.settings.number;
     }

@@ -63,13 +63,12 @@ invariant_of-self-clause-sets g c =
           own_removed g.D.DescriptorDevice.meaning c.place.result (generations_in old.store) (layout_slots old.layouts) fewer (others g d) (slots_in old.store) new removes.turns past old.sets.own);
       counted = subst (λ generations. AreCounted generations fewer) (sym removes.generations) (
           counted_removed c.place.result (generations_in old.store) layouts fewer old.sets.counted (ap is_some (here g d)) (gone g d) (others g d));
-      rising = settles.frames old.frame (omega arith) old.sets.rising;
       lists = settles.stays.lists ∙ old.sets.lists ∙ ap lists_for (sym long);
       number = settles.stays.number ∙ old.sets.number;
     }
 
 pub invariant_of-self-in-None-clause-sets : goal.invariant_of-self-in-None-clause-sets
-invariant_of-self-in-None-clause-sets g c = subst (λ l. HasSetsOf l c.args.self.now.frame c.args.self.now.renderer c.args.self.now.store) (sym (c.in-None.ensures.none refl)) c.args.self.now.sets
+invariant_of-self-in-None-clause-sets g c = subst (λ l. HasSetsOf l c.args.self.now.renderer c.args.self.now.store) (sym (c.in-None.ensures.none refl)) c.args.self.now.sets
 
 pub returns-in-Some-clause-none_kept : goal.returns-in-Some-clause-none_kept
 returns-in-Some-clause-none_kept g c =

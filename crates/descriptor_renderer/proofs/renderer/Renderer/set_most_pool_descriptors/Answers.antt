@@ -8,5 +8,5 @@ pub invariant_of-self-clause-sets : goal.invariant_of-self-clause-sets
 invariant_of-self-clause-sets g c =
     let old = c.args.self.now in
     let same = c.set_most_pool_descriptors.ensures.table in
-    sets_as (layout_slots old.layouts) (layout_slots old.layouts) old.frame old.renderer
+    sets_as (layout_slots old.layouts) (layout_slots old.layouts) old.renderer
     old.store c.set_most_pool_descriptors.new.self (ap slots_of same) (ap generations_of same) c.set_most_pool_descriptors.ensures.coming (ap number_of same) (ap lists_of same ∙ old.sets.lists) (λ n known is. is) (λ counted. counted) old.sets

@@ -63,7 +63,7 @@ come g c =
 pub returns-in_err-bring-clause-settles : goal.returns-in_err-bring-clause-settles
 returns-in_err-bring-clause-settles g c =
     let comes = ComesOf g.D.DescriptorDevice.meaning c.args.known.now.layout c.args.layout in
-    arrived comes 0 c.args.self.now c.bring.new.self (refused_arrives comes 0 c.args.known.now.layout _ c.args.many c.in_err-bring.field-0.0 c.args.self.now c.bring.new.self c.in_err-bring.ensures.refused) c.in_err-bring.ensures.none c.requires.can.rest (search rules)
+    arrived comes c.args.self.now c.bring.new.self (refused_arrives comes c.args.known.now.layout _ c.args.many c.in_err-bring.field-0.0 c.args.self.now c.bring.new.self c.in_err-bring.ensures.refused) c.in_err-bring.ensures.none c.requires.can.rest (search rules)
 
 pub hold_coming-requires-clause-can : goal.hold_coming-requires-clause-can
 hold_coming-requires-clause-can g c =
@@ -83,10 +83,10 @@ pub returns-clause-settles : goal.returns-clause-settles
 returns-clause-settles g c =
     let comes = ComesOf g.D.DescriptorDevice.meaning c.args.known.now.layout c.args.layout in
     let h = all_held g c in
-    arrived comes 0 c.args.self.now c.hold_coming.new.self
+    arrived comes c.args.self.now c.hold_coming.new.self
     (holds_arrives (number_of c.args.self.now) (current_in c.args.layout c.args.self.now) h.0
     (slots_in c.args.self.now) (slots_in c.bring.new.self) (slots_in c.hold_coming.new.self) (brings g c).clear h.3
-    comes 0 (come g c))
+    comes (come g c))
     c.hold_coming.ensures.none c.requires.can.rest (search rules)
 
 pub returns-in_err-bring-clause-grows : goal.returns-in_err-bring-clause-grows

@@ -39,6 +39,6 @@ returns-clause-settles g c =
     let old = slots_of c.args.self.now.table in
     let new = slots_of c.give.new.self.table in
     let most = c.args.self.now.table.keep in
-    settled 0 c.args.self.now c.give.new.self
-    (follow_turns 0 (is_due c.args.frame) (IsBack vacated (generations_of c.args.self.now.table) most) old new (turns g c) (follows_back 0 (generations_of c.args.self.now.table) most new))
+    settled c.args.self.now c.give.new.self
+    (follow_turns (is_due c.args.frame) (IsBack vacated (generations_of c.args.self.now.table) most) old new (turns g c) (follows_back (generations_of c.args.self.now.table) most new))
     (c.give.ensures.stays.coming ∙ c.requires.rest.none_coming) c.requires.rest (search rules)

@@ -50,11 +50,11 @@ returns-clause-settles g c =
     let took = c.if-not-take_each.ensures.took refl in
     let once = c.if-not-take_each.ensures.once.0 refl in
     let back = back_each handles old (slots_of c.take_each.new.self) took c.args.self.now.table.number (generations_of c.take_each.new.self) most (slots_of c.settle_each.new.self) new once c.requires.rest.placed c.settle_each.ensures.slots c.give.ensures.turns in
-    settled 0 c.args.self.now c.give.new.self
-    (follow_each 0 handles old new
+    settled c.args.self.now c.give.new.self
+    (follow_each handles old new
     (λ i lt.
     let p = place_at handles i in
-    follows_back 0 (generations_of c.take_each.new.self) most new (slot_at old p) (slot_at new p)
+    follows_back (generations_of c.take_each.new.self) most new (slot_at old p) (slot_at new p)
     (back.named i lt))
     back.rest)
     (c.give.ensures.stays.coming ∙ c.requires.rest.none_coming) c.requires.rest (search rules)

@@ -87,7 +87,7 @@ returns-clause-keeps g c =
           let is = subst (λ x. IsOfLayout g.D.DescriptorDevice.meaning known x.raw) last (own left x (omega arith)) in
           let comes = ComesOf g.D.DescriptorDevice.meaning known c.args.layout in
           let fills = new_fills comes (number_of old) (generations_in old) c.args.layout c.put-place.result Held c.hold.result x (slots_in old) put (slots_of c.hold.new.self) puts (refl, is) (renews g h) in
-          λ q. (fills_arrives comes (number_of old) (generations_in old) c.args.layout c.put-place.result Held c.hold.result 0 refl (omega arith) (slots_in old) (slots_of c.hold.new.self) fills q).set;
+          λ q. (fills_arrives comes (number_of old) (generations_in old) c.args.layout c.put-place.result Held c.hold.result refl (slots_in old) (slots_of c.hold.new.self) fills q).set;
       grows = grow_new (number_of old) (generations_in old) c.args.layout c.put-place.result x Held c.hold.result (slots_in old) put (slots_of c.hold.new.self) (λ s. refl) puts (renews g h);
       stays = search rules;
     }

@@ -60,4 +60,4 @@ pub returns-clause-settles : goal.returns-clause-settles
 returns-clause-settles g c =
     let old = slots_in c.args.self.now in
     let new = slots_in c.give.new.self in
-    settled 0 c.args.self.now c.give.new.self (follow_turns 0 (is_kept_of c.args.layout) (Becomes vacated) old new (turns g c) (λ o n e. follows_vacated 0 o n e)) (c.give.ensures.stays.coming ∙ c.requires.rest.none_coming) c.requires.rest (search rules)
+    settled c.args.self.now c.give.new.self (follow_turns (is_kept_of c.args.layout) (Becomes vacated) old new (turns g c) (λ o n e. follows_vacated o n e)) (c.give.ensures.stays.coming ∙ c.requires.rest.none_coming) c.requires.rest (search rules)

@@ -14,4 +14,4 @@ invariant_of-self-clause-accounted g c = c.trim.ensures.trims.totals_stay.0 ∙ 
 pub returns-clause-settles : goal.returns-clause-settles
 returns-clause-settles g c =
     let slots = slots_of c.args.self.now.table in
-    settled 0 _ _ (λ p. follows_same 0 (slot_at slots p) (slot_at slots p) (λ i. slot_at slots p)) c.requires.rest.none_coming c.requires.rest (search rules)
+    settled _ _ (λ p. follows_same (slot_at slots p) (slot_at slots p) (λ i. slot_at slots p)) c.requires.rest.none_coming c.requires.rest (search rules)

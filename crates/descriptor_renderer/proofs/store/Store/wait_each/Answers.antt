@@ -42,4 +42,4 @@ returns-clause-settles g c =
     let took = c.if-not-take_each.ensures.took refl in
     let once = c.if-not-take_each.ensures.once.0 refl in
     let w = waited handles old (slots_of c.take_each.new.self) took c.args.self.now.table.number c.args.frame new once c.requires.rest.placed c.wait_each.ensures.slots in
-    settled c.args.frame _ _ (follow_each c.args.frame handles old new (λ i lt. let p = place_at handles i in follows_waits c.args.frame (slot_at old p) (slot_at new p) (w.named i lt)) w.rest) c.requires.rest.none_coming c.requires.rest (search rules)
+    settled _ _ (follow_each handles old new (λ i lt. let p = place_at handles i in follows_waits c.args.frame (slot_at old p) (slot_at new p) (w.named i lt)) w.rest) c.requires.rest.none_coming c.requires.rest (search rules)

@@ -1,0 +1,14 @@
+use Rattle.descriptor_table.specs.Tables.{Becomes, Stays, count, slots_of, used_for, waits}
+use Rattle.descriptor_table.proofs.Turning.{Turning}
+use Rattle.descriptor_table.specs.declared.slot.Use.TheVariants.{Going}
+use Rattle.descriptor_table.proofs.set_table.SetTable.let_waiting_go.Given as goal
+
+-- some of the sets that wait go
+abbrev pub invariant-loop-self : goal.invariant-loop-self
+invariant-loop-self g l = record {
+  turning : Turning waits (Becomes (used_for Going)) (slots_of l.fn.self) (slots_of l.self);
+  stays : Stays l.fn.self l.self;
+}
+
+abbrev pub decreases-loop-self : goal.decreases-loop-self
+decreases-loop-self g l = count waits (slots_of l.self)
