@@ -6,7 +6,7 @@ use Rattle.std.proofs.Common.{◌≡◌, ◌≢◌, ℕ, zero, suc, ◌+◌, ◌
 use Rattle.std.proofs.lemmas.List.{length-set, set-set}
 use Rattle.std.proofs.lemmas.Bool.{ltb-false, true≢false}
 use Rattle.descriptor_table.specs.Slots.{in_list, is_due, is_in, slot_at, waits_for}
-use Rattle.descriptor_table.specs.Tables.{AtIf, IsBack, KeepsSettings, MayBecome, PicksAbove, PicksAny, Stays, Turns, count, generations_of, holds, is_held_use, is_kept, is_taken, is_taken_use, may_stay, keep_of, next_use, stays, used_for, Becomes}
+use Rattle.descriptor_table.specs.Tables.{AtIf, IsBack, KeepsSettings, MayBecome, Picks, PicksAbove, PicksAny, Stays, Turns, count, generations_of, holds, is_held_use, is_kept, is_taken, is_taken_use, may_stay, keep_of, next_use, stays, used_for, Becomes}
 use Rattle.descriptor_table.specs.declared.set_table.SetTable.{SetTable}
 use Rattle.descriptor_table.specs.declared.slot.Use.{Use}
 use Rattle.descriptor_table.specs.declared.slot.Use.TheVariants.{Held, Kept, Going, Taken}
@@ -171,6 +171,20 @@ module _ {T : Type 0} where
       let b = ap bit gone in
       let c = ap (count test) is in
       omega arith
+
+  -- a step of a loop whose sets go: a slot that passed the test was picked, and goes
+  module _ (test : Slot T → Bool) (now mid new : List (Slot T)) (p : ℕ) (picks : Picks test p now mid) (goes : new ≡ with_use p Going mid) (out : (s : Slot T) → test (used_for Going s) ≡ false) where
+    went : new ≡ set now p (used_for Going (slot_at now p))
+    went = goes ∙ ap (with_use p Going) picks.slots ∙ use_again now p Taken Going picks.within
+
+    pub go_step : (old : List (Slot T)) → Turning test (Becomes (used_for Going)) old now → Turning test (Becomes (used_for Going)) old new
+    go_step old turning = turn_step test (Becomes (used_for Going)) old now new p (used_for Going (slot_at now p)) turning picks.within picks.was went (λ o n b. b) (λ o n b. ap test b ∙ out o) refl
+
+    pub go_less : count test new + 1 ≡ count test now
+    go_less = one_less test now new p (used_for Going (slot_at now p)) picks.within picks.was (out (slot_at now p)) went
+
+    pub go_fewer : count test new < count test now
+    go_fewer = one_fewer test now new p (used_for Going (slot_at now p)) picks.within picks.was (out (slot_at now p)) went
 
   -- a set in use for the other is not taken
   settled_out : (b : Bool) (s : Slot T) → is_taken (used_for (if b then Kept else Going) s) ≡ false
