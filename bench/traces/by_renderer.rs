@@ -49,11 +49,15 @@ impl<G: Gpu> Player<G> for Keeping<G> {
             let taken = self.renderer.create_set(self.layouts[layout]);
             return taken.map(|set| sets.push(set)).is_ok();
         }
-        let Ok(mut taken) = self.renderer.create_sets(self.layouts[layout], count) else {
-            return false;
-        };
-        sets.append(&mut taken);
-        true
+        let first = sets.len();
+        sets.resize(first + count as usize, SetHandle::NONE);
+        let taken = self
+            .renderer
+            .create_sets_into(self.layouts[layout], &mut sets[first..]);
+        if taken.is_err() {
+            sets.truncate(first);
+        }
+        taken.is_ok()
     }
 
     fn free(&mut self, _pool: usize, sets: &mut Vec<SetHandle>) {

@@ -43,17 +43,18 @@ module _ {T : Type 0} where
       by_test p false e = ap (is_in k) (gives.rest p e)
       by_test p true e = ap (is_in k) (gives.here p e) ∙ vacant_out (slot_at mid p) ∙ sym (lists_apart k 1 (slot_at mid p) e (λ f. omega arith))
 
-  module _ (test : Slot T → Bool) (generations : ℕ → ℕ) (most : ℕ) (old mid new : List (Slot T)) (full : (s : Slot T) → test s ≡ true → is_some s.set ≡ true) where
-    kept_apart : (s : Slot T) → goes (used_for Kept s) ≡ false
-    kept_apart s = ap (λ b. b && (nat_lt s.generation 4294967295 && is_some s.set)) (ne_eqb 1 (s.layout + 2) (λ e. omega arith))
+  -- a kept set doesn't go
+  pub kept_stays : (s : Slot T) → goes (used_for Kept s) ≡ false
+  kept_stays s = ap (λ b. b && (nat_lt s.generation 4294967295 && is_some s.set)) (ne_eqb 1 (s.layout + 2) (λ e. omega arith))
 
+  module _ (test : Slot T → Bool) (generations : ℕ → ℕ) (most : ℕ) (old mid new : List (Slot T)) (full : (s : Slot T) → test s ≡ true → is_some s.set ≡ true) where
     -- sets settled, and those that went were given back
     pub came_back : ((p : ℕ) → goes (slot_at old p) ≡ false) → Turns test (IsBack (used_for Going) generations most) old mid → Turns goes (Becomes vacated) mid new → Turns test (IsBack vacated generations most) old new
     came_back none settles gives = record {
       long = gives.long ∙ settles.long;
       rest = λ p out. (let same = settles.rest p out in gives.rest p (ap goes same ∙ none p) ∙ same);
       here = λ p is. elim (settles.here p is) [
-        | inl kept ↦ inl (gives.rest p (ap goes kept.0 ∙ kept_apart (slot_at old p)) ∙ kept.0, kept.1)
+        | inl kept ↦ inl (gives.rest p (ap goes kept.0 ∙ kept_stays (slot_at old p)) ∙ kept.0, kept.1)
         | inr going ↦ inr (
           gives.here p (ap goes going.0 ∙ full (slot_at old p) is) ∙ ap vacated going.0,
           λ may. (let a = going.1 may in let b = given_kept mid new gives ((slot_at old p).layout + 2) (omega arith) in omega arith),

@@ -1,5 +1,5 @@
 -- Sets that come into slots, or are taken out of a list.
-use Rattle.std.proofs.Common.{◌≡◌, ℕ, zero, suc, ◌+◌, Bool, List, [], ◌∷◌, length, set, Option, None, Some, refl, ap, ◌∙◌, arith}
+use Rattle.std.proofs.Common.{◌≡◌, ℕ, zero, suc, ◌+◌, Bool, true, IfSome, List, [], ◌∷◌, length, set, Option, None, Some, refl, ap, ◌∙◌, arith}
 use Rattle.gpu_descriptor_types.specs.declared.device.DescriptorDevice.{Ghosts}
 use Rattle.gpu_descriptor.specs.Caller.Sets.{item_of, items_of}
 use Rattle.gpu_descriptor.specs.Caller.States.{outstanding_of, state_of}
@@ -7,12 +7,12 @@ use Rattle.gpu_descriptor.specs.Model.Agreement.{Item, count_of, outstanding}
 use Rattle.gpu_descriptor.specs.declared.set.DescriptorSet.{DescriptorSet}
 use Rattle.gpu_descriptor.proofs.callers.HeldSets.{count_parts}
 use Rattle.descriptor_table.specs.Sets.{joined, sets_in}
-use Rattle.descriptor_table.specs.Slots.{slot_at}
+use Rattle.descriptor_table.specs.Slots.{is_kept_of, slot_at}
 use Rattle.descriptor_table.specs.Tables.{Picks, PicksAny, Puts, Renews, renewed, used_for}
 use Rattle.descriptor_table.specs.declared.handle.SetHandle.{SetHandle}
 use Rattle.descriptor_table.specs.declared.slot.Slot.{Slot}
 use Rattle.descriptor_table.specs.declared.slot.Use.{Use}
-use Rattle.descriptor_table.specs.declared.slot.Use.TheVariants.{Taken}
+use Rattle.descriptor_table.specs.declared.slot.Use.TheVariants.{Held, Taken}
 use Rattle.descriptor_renderer.specs.Stores.{coming_in, slots_in}
 use Rattle.descriptor_renderer.specs.declared.store.Store.{Store}
 use Rattle.descriptor_table.proofs.Coming.{put_weigh}
@@ -62,6 +62,10 @@ module _ {T : Type 0} where
   -- no set comes or leaves if a handle is given, or a slot is picked
   pub renewed_sets : (number p : ℕ) (u : Use) (handle : SetHandle) (old new : List (Slot T)) → Renews number p u handle old new → sets_in new ≡ sets_in old
   renewed_sets number p u handle old new renews = ap sets_in renews.slots ∙ set_sets old p (renewed u (slot_at old p)) refl
+
+  pub held_sets : (layout number : ℕ) (r : Option SetHandle) (old new : List (Slot T)) {X : Type 0} → IfSome r (λ h. (is_kept_of layout (slot_at old h.place) ≡ true) × Renews number h.place Held h old new) → (r ≡ None → (new ≡ old) × X) → sets_in new ≡ sets_in old
+  held_sets layout number None old new some none = ap sets_in (none refl).0
+  held_sets layout number (Some h) old new some none = renewed_sets number h.place Held h old new some.1
 
   pub picked_sets : (test : Slot T → Bool) (p : ℕ) (old new : List (Slot T)) → Picks test p old new → sets_in new ≡ sets_in old
   picked_sets test p old new picks = ap sets_in picks.slots ∙ set_sets old p (used_for Taken (slot_at old p)) refl

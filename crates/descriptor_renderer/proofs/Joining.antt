@@ -1,10 +1,11 @@
 -- Sets that are held, one after another: for `Store::hold_next`, `hold_last`, `hold_kept`, `hold_coming` and `create_each`.
 -- The slots are `old` before the handles `a` are given, `mid` between, and `new` after the handles `b`; `x` and `y` say so of `a` and `b`.
--- `start`, `now` and `then` are the vector of handles before, between and after, and `given` are the handles that came to it.
+-- Handles are written into a list `now`, of which the first are given: those before the place `n`.
 use Rattle.std.proofs.lemmas.Grind.{common_steps}
-use Rattle.std.proofs.Common.{◌≡◌, ◌≢◌, ℕ, ◌+◌, ◌-◌, ◌<◌, ◌⊎◌, ◌&&◌, ◌||◌, Bool, true, false, List, [], ◌∷◌, ◌++◌, length, get_or, Some, is_some, IsSome, inl, inr, refl, sym, ap, subst, ◌∙◌, append_assoc, arith}
+use Rattle.std.proofs.Common.{◌≡◌, ◌≢◌, ℕ, ◌+◌, ◌-◌, ◌<◌, ◌⊎◌, ◌&&◌, ◌||◌, Bool, true, false, List, [], ◌∷◌, ◌++◌, length, get_or, Some, is_some, IsSome, inl, inr, refl, sym, ap, subst, ◌∙◌, add-one, arith, set, take}
 use Rattle.std.proofs.lemmas.Bool.{cases_lt, false≢true}
-use Rattle.std.proofs.lemmas.List.{get_or-append-add, append-nil, get_or_append_left, length-append}
+use Rattle.std.proofs.Math.Seq.{take-length, take-suc-set}
+use Rattle.std.proofs.lemmas.List.{get_or-append-add, get_or-set_other, get_or-set_same, get_or_append_left, length-append}
 use Rattle.gpu_descriptor_types.specs.declared.device.DescriptorDevice.{Ghosts}
 use Rattle.gpu_descriptor.specs.declared.set.DescriptorSet.{DescriptorSet}
 use Rattle.descriptor_table.specs.Slots.{is_kept_of, is_live, slot_at, waits_for}
@@ -38,12 +39,12 @@ spot a b i lt =
           inr (i - length a, omega arith, is, ap (place_at (a ++ b)) is ∙ ap (λ (h : SetHandle). h.place) (get_or-append-add a b (i - length a) none))
     ]
 
--- handles that come to a list leave the others where they were, and are behind them
-pub place_before : (now then given : List SetHandle) → then ≡ now ++ given → (i : ℕ) → i < length now → place_at then i ≡ place_at now i
-place_before now then given more i lt = ap (λ l. place_at l i) more ∙ ap (λ (h : SetHandle). h.place) (get_or_append_left now given (record { renderer = 0; place = 0; generation = 0 }) i lt)
+-- a handle that is written leaves the others where they were
+place_other : (now : List SetHandle) (n : ℕ) (handle : SetHandle) (i : ℕ) → i ≢ n → place_at (set now n handle) i ≡ place_at now i
+place_other now n handle i ne = ap (λ (h : SetHandle). h.place) (get_or-set_other now n i handle (record { renderer = 0; place = 0; generation = 0 }) ne)
 
-pub place_after : (now then given : List SetHandle) → then ≡ now ++ given → (i : ℕ) → place_at then (length now + i) ≡ place_at given i
-place_after now then given more i = ap (λ l. place_at l (length now + i)) more ∙ ap (λ (h : SetHandle). h.place) (get_or-append-add now given i (record { renderer = 0; place = 0; generation = 0 }))
+place_here : (now : List SetHandle) (n : ℕ) (handle : SetHandle) → n < length now → place_at (set now n handle) n ≡ handle.place
+place_here now n handle lt = ap (λ (h : SetHandle). h.place) (get_or-set_same now n handle (record { renderer = 0; place = 0; generation = 0 }) lt)
 
 module _ {T : Type 0} where
   held_is : (s : Slot T) → holds s ≡ true → (s.used ≡ Held) × (is_some s.set ≡ true)
@@ -139,26 +140,26 @@ module _ {T : Type 0} where
           ∙ x.rest p (λ i lt e. none i (let long = length-append a b in omega arith) (ap (λ (h : SetHandle). h.place) (get_or_append_left a b (record { renderer = 0; place = 0; generation = 0 }) i lt) ∙ e));
     }
 
-  -- the sets of the handles that came to a list were kept: those that came first, and one that was kept then
+  -- the sets of the given handles were kept, and so was that of one more
   pub were_kept :
-      (number : ℕ) (under : ℕ × ℕ) (layout n : ℕ) (start now then given : List SetHandle) (handle : SetHandle) (old mid : List (Slot T))
-      → now ≡ start ++ given → length given ≡ n → HoldEach number under given old mid → then ≡ now ++ handle ∷ []
-      → ((i : ℕ) → i < n → is_kept_of layout (slot_at old (place_at now (length start + i))) ≡ true)
-      → is_kept_of layout (slot_at mid (place_at then (length now))) ≡ true
-      → (i : ℕ) → i < n + 1 → is_kept_of layout (slot_at old (place_at then (length start + i))) ≡ true
-  were_kept number under layout n start now then given handle old mid more many x next each last i lt = elim (cases_lt i n) [
-    | inl less ↦ subst (λ p. is_kept_of layout (slot_at old p) ≡ true) (sym (place_before now then (handle ∷ []) next (length start + i) (let l = long in omega arith))) (each i less)
-    | inr le ↦ subst (λ j. is_kept_of layout (slot_at old (place_at then j)) ≡ true) (let l = long in omega arith) (before (place_at then (length now)) last)
+      (number : ℕ) (under : ℕ × ℕ) (layout n : ℕ) (now : List SetHandle) (handle : SetHandle) (old mid : List (Slot T)) → n < length now
+      → HoldEach number under (take n now) old mid → ((i : ℕ) → i < n → is_kept_of layout (slot_at old (place_at now i)) ≡ true)
+      → is_kept_of layout (slot_at mid handle.place) ≡ true
+      → (i : ℕ) → i < n + 1 → is_kept_of layout (slot_at old (place_at (set now n handle) i)) ≡ true
+  were_kept number under layout n now handle old mid within x each last i lt = elim (cases_lt i n) [
+    | inl less ↦ subst (λ p. is_kept_of layout (slot_at old p) ≡ true) (sym (place_other now n handle i (λ e. omega arith))) (each i less)
+    | inr le ↦ subst (λ j. is_kept_of layout (slot_at old (place_at (set now n handle) j)) ≡ true) (omega arith) (subst (λ p. is_kept_of layout (slot_at old p) ≡ true) (sym (place_here now n handle within)) before)
   ]
     where
-      long : length now ≡ length start + n
-      long = ap length more ∙ length-append start given ∙ ap (λ m. length start + m) many
-
-      before : (p : ℕ) → is_kept_of layout (slot_at mid p) ≡ true → is_kept_of layout (slot_at old p) ≡ true
-      before p kept = elim (named_or (length given) (place_at given) p) [
-        | inl found ↦ absurd (held_not_free (slot_at mid p) (subst (λ q. holds (slot_at mid q) ≡ true) found.2 (x.held found.0 found.1)) (free_kept (slot_at mid p) (kept_as layout (slot_at mid p) kept).2))
-        | inr none ↦ ap (is_kept_of layout) (sym (x.rest p none)) ∙ kept
+      before : is_kept_of layout (slot_at old handle.place) ≡ true
+      before = elim (named_or (length (take n now)) (place_at (take n now)) handle.place) [
+        | inl found ↦ absurd (held_not_free (slot_at mid handle.place) (subst (λ q. holds (slot_at mid q) ≡ true) found.2 (x.held found.0 found.1)) (free_kept (slot_at mid handle.place) (kept_as layout (slot_at mid handle.place) last).2))
+        | inr none ↦ ap (is_kept_of layout) (sym (x.rest handle.place none)) ∙ last
       ]
+
+  -- all handles of the list are given
+  pub held_all : (number : ℕ) (under : ℕ × ℕ) (n : ℕ) (now : List SetHandle) (old new : List (Slot T)) → n ≡ length now → HoldEach number under (take n now) old new → HoldEach number under now old new
+  held_all number under n now old new is x = subst (λ l. HoldEach number under l old new) (ap (λ n. take n now) is ∙ take-length now) x
 
   -- kept sets may have left their slots before the first set was held
   module _ (number : ℕ) (layout : ℕ × ℕ) (handles : List SetHandle) (old mid new : List (Slot T)) (clear : (q : ℕ) → Clears (slot_at old q) (slot_at mid q)) (x : HoldEach number layout handles mid new) where
@@ -247,40 +248,28 @@ module _ {L P S D : Type 0} {d : Ghosts D L P S} where
   pub held_stays : (layout : ℕ) (handles : List SetHandle) (mid new : List (Slot (DescriptorSet S))) (old now : Store L P S D d) → KeepsStore old now → HoldEach (number_of now) (current_in layout now) handles mid new → HoldEach (number_of old) (current_in layout old) handles mid new
   held_stays layout handles mid new old now stays holds = subst (λ generations. HoldEach (number_of old) (current generations layout) handles mid new) stays.generations (subst (λ number. HoldEach number (current_in layout now) handles mid new) stays.number holds)
 
-  -- more handles were given
-  pub held_then :
-      (layout n m : ℕ) (start now then : List SetHandle) (old mid new : Store L P S D d)
-      → KeepsStore old mid
-      → ((given : List SetHandle) × (now ≡ start ++ given) × (length given ≡ n)
-      × HoldEach (number_of old) (current_in layout old) given (slots_in old) (slots_in mid))
-      → ((given : List SetHandle) × (then ≡ now ++ given) × (length given ≡ m)
-      × HoldEach (number_of mid) (current_in layout mid) given (slots_in mid) (slots_in new))
-      → (given : List SetHandle) × (then ≡ start ++ given) × (length given ≡ n + m)
-      × HoldEach (number_of old) (current_in layout old) given (slots_in old) (slots_in new)
-  held_then layout n m start now then old mid new stays a b =
-      let long = length-append a.0 b.0 in
-      let first_many = a.2 in
-      let many = b.2 in
-      let under = current_in layout old in
-      let each = held_stays layout b.0 (slots_in mid) (slots_in new) old mid stays b.3 in (
-        a.0 ++ b.0,
-        b.1 ∙ ap (λ l. l ++ b.0) a.1 ∙ append_assoc start a.0 b.0,
-        omega arith,
-        joined (number_of old) under a.0 b.0 (slots_in old) (slots_in mid) (slots_in new) a.3 each,
-      )
-
-  -- one handle more was given
+  -- one handle more is given
   pub held_next :
-      (layout n : ℕ) (start now then : List SetHandle) (old mid new : Store L P S D d)
-      → KeepsStore old mid
-      → ((given : List SetHandle) × (now ≡ start ++ given) × (length given ≡ n)
-      × HoldEach (number_of old) (current_in layout old) given (slots_in old) (slots_in mid))
-      → ((handle : SetHandle) × (then ≡ now ++ handle ∷ [])
-      × HoldEach (number_of mid) (current_in layout mid) (handle ∷ []) (slots_in mid) (slots_in new))
-      → (given : List SetHandle) × (then ≡ start ++ given) × (length given ≡ n + 1)
-      × HoldEach (number_of old) (current_in layout old) given (slots_in old) (slots_in new)
-  held_next layout n start now then old mid new stays a b = held_then layout n 1 start now then old mid new stays a (b.0 ∷ [], b.1, refl, b.2)
+      (layout n : ℕ) (now : List SetHandle) (handle : SetHandle) (old mid new : Store L P S D d) → KeepsStore old mid → n < length now
+      → HoldEach (number_of old) (current_in layout old) (take n now) (slots_in old) (slots_in mid)
+      → HoldEach (number_of mid) (current_in layout mid) (handle ∷ []) (slots_in mid) (slots_in new)
+      → HoldEach (number_of old) (current_in layout old) (take (n + 1) (set now n handle)) (slots_in old) (slots_in new)
+  held_next layout n now handle old mid new stays within a b =
+      let under = current_in layout old in
+      let each = held_stays layout (handle ∷ []) (slots_in mid) (slots_in new) old mid stays b in
+      subst (λ l. HoldEach (number_of old) under l (slots_in old) (slots_in new)) (sym (take-suc-set now n handle within) ∙ ap (λ m. take m (set now n handle)) (sym (add-one n)))
+      (joined (number_of old) under (take n now) (handle ∷ []) (slots_in old) (slots_in mid) (slots_in new) a each)
 
   -- none is given yet
-  pub held_start : (layout : ℕ) (start : List SetHandle) (old : Store L P S D d) → (given : List SetHandle) × (start ≡ start ++ given) × (length given ≡ 0) × HoldEach (number_of old) (current_in layout old) given (slots_in old) (slots_in old)
-  held_start layout start old = ([], sym (append-nil start), refl, hold_none (number_of old) (current_in layout old) (slots_in old))
+  pub held_start : (layout : ℕ) (old : Store L P S D d) → HoldEach (number_of old) (current_in layout old) [] (slots_in old) (slots_in old)
+  held_start layout old = hold_none (number_of old) (current_in layout old) (slots_in old)
+
+  -- kept sets have the first handles, and others the last ones
+  pub held_both :
+      (layout : ℕ) (first last : List SetHandle) (old mid new : Store L P S D d) → KeepsStore old mid
+      → HoldEach (number_of old) (current_in layout old) first (slots_in old) (slots_in mid)
+      → HoldEach (number_of mid) (current_in layout mid) last (slots_in mid) (slots_in new)
+      → HoldEach (number_of old) (current_in layout old) (first ++ last) (slots_in old) (slots_in new)
+  held_both layout first last old mid new stays a b =
+      joined (number_of old) (current_in layout old) first last (slots_in old) (slots_in mid) (slots_in new) a
+      (held_stays layout last (slots_in mid) (slots_in new) old mid stays b)

@@ -1,7 +1,7 @@
--- Held sets that come back by their handles: for `Store::free_each` and `wait_each`. `took` says that a call has all of them.
-use Rattle.std.proofs.Common.{arith, ◌≡◌, ◌≢◌, ℕ, ◌<◌, ◌&&◌, Bool, true, false, List, length, is_some, inl, inr, sym, ap, subst, ◌∙◌}
+-- Held sets that come back by their handles: for `Store::wait_each`, where `took` says that a call has all of them, and `free_each`.
+use Rattle.std.proofs.Common.{arith, ◌≡◌, ◌≢◌, ℕ, ◌+◌, ◌<◌, ◌&&◌, Bool, true, false, List, get_or, length, is_some, inl, inr, refl, sym, ap, subst, ◌∙◌}
 use Rattle.std.proofs.lemmas.Bool.{true≢false}
-use Rattle.descriptor_table.specs.Sets.{AreHeldOnce, sets_in}
+use Rattle.descriptor_table.specs.Sets.{AreHeldOnce, is_last, sets_in}
 use Rattle.descriptor_table.specs.Slots.{goes, slot_at}
 use Rattle.descriptor_table.specs.Tables.{AreAllTaken, IsBack, TookEach, Turns, Becomes, is_held_use, is_taken, place_at, used_for, vacated}
 use Rattle.descriptor_table.specs.declared.handle.SetHandle.{SetHandle}
@@ -10,9 +10,8 @@ use Rattle.descriptor_table.specs.declared.slot.Use.TheVariants.{Waits, Going}
 use Rattle.descriptor_table.proofs.Chains.{and_true}
 use Rattle.descriptor_table.proofs.Holding.{named_or}
 use Rattle.descriptor_table.proofs.Leaving.{same_sets}
-use Rattle.descriptor_table.proofs.Turning.{taken_is}
-use Rattle.descriptor_renderer.specs.Stores.{TurnEach}
-use Rattle.descriptor_renderer.proofs.Back.{came_back}
+use Rattle.descriptor_table.specs.Tables.{TurnEach}
+use Rattle.descriptor_renderer.proofs.Back.{given_kept, kept_stays}
 use Rattle.descriptor_renderer.proofs.Following.{ArePlaced, none_goes, none_taken}
 
 module _ {T : Type 0} (handles : List SetHandle) (old now : List (Slot T)) (took : TookEach handles (length handles) old now) where
@@ -61,13 +60,34 @@ module _ {T : Type 0} (handles : List SetHandle) (old now : List (Slot T)) (took
     rest = λ p apart. turns.rest p (took_rest placed p apart) ∙ took.rest p apart;
   }
 
-  -- those that settled came back, and those of them that went were given back
-  pub back_each :
-      (number : ℕ) (generations : ℕ → ℕ) (most : ℕ) (mid new : List (Slot T)) → AreHeldOnce number old handles → ArePlaced old → Turns is_taken (IsBack (used_for Going) generations most) now mid → Turns goes (Becomes vacated) mid new → TurnEach handles (IsBack vacated generations most) old new
-  back_each number generations most mid new once placed settles gives =
-      let back = came_back is_taken generations most now mid new (λ s e. (taken_is s e).1) (took_none placed) settles gives in
-      record {
-        long = back.long ∙ took.long;
-        named = λ i lt. (let p = place_at handles i in subst (λ o. IsBack vacated generations most new o (slot_at new p)) (took.named i lt) (back.here p (took_full number once i lt)));
-        rest = λ p apart. back.rest p (took_rest placed p apart) ∙ took.rest p apart;
-      }
+module _ {T : Type 0} (handles : List SetHandle) (number : ℕ) (generations : ℕ → ℕ) (most : ℕ) (old mid : List (Slot T)) where
+  -- held sets that settled, if any did, are in their slots still
+  pub settled_each : (b : Bool) → (b ≡ true → TurnEach handles (IsBack (used_for Going) generations most) old mid) → (b ≡ false → mid ≡ old) → sets_in mid ≡ sets_in old
+  settled_each false settled none = ap sets_in (none refl)
+  settled_each true settled none = same_sets old mid (settled refl).long (λ p. elim (named_or (length handles) (place_at handles) p) [
+    | inl found ↦ subst (λ p. (slot_at mid p).set ≡ (slot_at old p).set) found.2 (elim ((settled refl).named found.0 found.1) [
+      | inl kept ↦ ap (λ (s : Slot T). s.set) kept.0
+      | inr going ↦ ap (λ (s : Slot T). s.set) going.0
+    ])
+    | inr apart ↦ ap (λ (s : Slot T). s.set) ((settled refl).rest p apart)
+  ])
+
+  -- those that went were given back
+  pub back_each : (new : List (Slot T)) → AreHeldOnce number old handles → TurnEach handles (IsBack (used_for Going) generations most) old mid → ArePlaced old → Turns goes (Becomes vacated) mid new → TurnEach handles (IsBack vacated generations most) old new
+  back_each new once settled placed gives = record {
+    long = gives.long ∙ settled.long;
+    named = λ i lt. (let p = place_at handles i in elim (settled.named i lt) [
+      | inl kept ↦ inl (gives.rest p (ap goes kept.0 ∙ kept_stays (slot_at old p)) ∙ kept.0, kept.1)
+      | inr going ↦ inr (
+        gives.here p (ap goes going.0 ∙ full i lt) ∙ ap vacated going.0,
+        λ may. (let a = going.1 may in let b = given_kept mid new gives ((slot_at old p).layout + 2) (omega arith) in omega arith),
+      )
+    ]);
+    rest = λ p apart. (let same = settled.rest p apart in gives.rest p (ap goes same ∙ none_goes old placed p) ∙ same);
+  }
+    where
+      full : (i : ℕ) → i < length handles → is_some (slot_at old (place_at handles i)).set ≡ true
+      full i lt =
+          let z : SetHandle = record { renderer = 0; place = 0; generation = 0 } in
+          let s = slot_at old (place_at handles i) in
+          (and_true (is_held_use s.used) (is_some s.set) (and_true (is_last number old (get_or handles i z)) (is_held_use s.used && is_some s.set) (once.held i z lt)).1).1

@@ -11,7 +11,8 @@ use Rattle.descriptor_table.specs.declared.slot.Use.{Use}
 use Rattle.descriptor_table.specs.declared.slot.Use.TheVariants.{Waits}
 use Rattle.descriptor_table.proofs.Counting.{below_or}
 use Rattle.descriptor_table.proofs.Naming.{ShowsSame, names_kept, names_lost, shown}
-use Rattle.descriptor_renderer.specs.Stores.{AreCleaned, TurnEach}
+use Rattle.descriptor_renderer.specs.Stores.{AreCleaned}
+use Rattle.descriptor_table.specs.Tables.{TurnEach}
 
 -- a kept set has no live handle
 kept_use : (u : Use) (k layout generation frame : ℕ) (full opened : Bool) → in_list (layout + 2) u layout generation full ≡ true → is_live frame opened u ≡ false

@@ -16,7 +16,7 @@ use Rattle.descriptor_renderer.specs.LayoutRegistries.{layout_at, layout_slots, 
 use Rattle.descriptor_renderer.specs.Stores as stores
 use Rattle.descriptor_renderer.specs.declared.layout_registry.LayoutHandle.{LayoutHandle}
 use Rattle.descriptor_renderer.specs.declared.renderer.Renderer.{Renderer}
-use Rattle.descriptor_table.specs.Tables.{used_for, Becomes, Grows}
+use Rattle.descriptor_table.specs.Tables.{used_for, Becomes, Grows, TurnEach}
 use Rattle.descriptor_table.specs.declared.slot.Use.TheVariants.{Waits}
 use Rattle.descriptor_renderer.specs.declared.errors.RenderError.{RenderError}
 use Rattle.descriptor_renderer.specs.declared.errors.RenderError.TheVariants.{NoFrame, NoLayout}
@@ -167,7 +167,7 @@ module _ {L P S D : Type 0} {d : Ghosts D L P S} where
 
   -- the sets wait for the frame, and their handles name nothing. Nothing changes if the frame is later than the last one, or else if a handle has no held set, or is there twice
   pub record Destroys (handles : List SetHandle) (frame : ℕ) (result : Result Unit DestroyError) (old new : RendererOver d) : Type 0 where
-    pub waits : OnOk result (stores.TurnEach handles (Becomes (used_for (Waits frame))) (slots_of old) (slots_of new))
+    pub waits : OnOk result (TurnEach handles (Becomes (used_for (Waits frame))) (slots_of old) (slots_of new))
     pub names : OnOk result (LoseNames handles (sets_by old) (sets_by new))
     pub once : OnOk result (AreHeldOnce (number_of old) (slots_of old) handles)
     pub ahead : (IsErrOf result FrameAhead) ↔ (frame_of old < frame)

@@ -21,7 +21,7 @@ use Rattle.gpu_descriptor.specs.declared.layout.SetLayout.{SetLayout}
 use Rattle.gpu_descriptor.specs.declared.set.DescriptorSet.{DescriptorSet}
 use Rattle.descriptor_table.specs.Sets.{Names, sets_in, sets_of}
 use Rattle.descriptor_table.specs.Slots.{is_kept_of, is_live, slot_at}
-use Rattle.descriptor_table.specs.Tables.{Grows, HasRoom, Picks, Puts, Renews, Turns, Becomes, aged, came_under, count, current, generations_of, holds, is_kept, is_usable, place_at, lists_of, removed_at, slots_of, vacated, waits, MayBecome, IsBack}
+use Rattle.descriptor_table.specs.Tables.{Grows, HasRoom, Picks, Puts, Renews, Turns, Becomes, aged, came_under, count, current, generations_of, holds, is_kept, is_usable, place_at, lists_of, removed_at, slots_of, vacated, waits, MayBecome, IsBack, TurnEach}
 use Rattle.descriptor_table.specs.declared.handle.SetHandle.{SetHandle}
 use Rattle.descriptor_table.specs.declared.slot.Slot.{Slot}
 use Rattle.descriptor_table.specs.declared.slot.Use.{Use}
@@ -31,12 +31,6 @@ use Rattle.descriptor_renderer.specs.declared.store.Store.{Store}
 -- whether a slot has no set, or a set that is held, that waits for a frame, or that is kept
 abbrev pub is_placed : {T : Type 0} → Slot T → Bool
 is_placed s = not (is_some s.set) || (holds s || (waits s || is_kept s))
-
--- the slots of the handles became what the relation says, in the new slots. All others are as they were
-pub record TurnEach {T : Type 0} (handles : List SetHandle) (becomes : List (Slot T) → Slot T → Slot T → Type 0) (old new : List (Slot T)) : Type 0 where
-  pub long : length new ≡ length old
-  pub named : (i : ℕ) → i < length handles → becomes new (slot_at old (place_at handles i)) (slot_at new (place_at handles i))
-  pub rest : (p : ℕ) → ((i : ℕ) → i < length handles → place_at handles i ≢ p) → slot_at new p ≡ slot_at old p
 
 -- all kept sets left their slots, and no set that is left is kept when it comes back
 pub record AreCleaned {T : Type 0} (old new : List (Slot T)) : Type 0 where

@@ -120,14 +120,14 @@ module _ {T : Type 0} (slots : List (Slot T)) (next : List ℕ) (chains : List C
   picked some = (first_within is_in slots next (chain_at chains) linked_all (lists_none T) k (c.count - 1) c.first (split_chain (chain_at chains k) c is some), first_in is_in slots next (chain_at chains) linked_all k (c.count - 1) c.first (split_chain (chain_at chains k) c is some))
 
   -- the first slot left the list
-  pub pick_linked : (was : Slot T) (after : ℕ) → c.count ≢ 0 → k < length chains → after ≡ get_or next c.first 0 → AreLinked (set slots c.first (used_for Taken was)) next (set chains k (record { first = after; count = c.count - 1 }))
-  pick_linked was after some within told =
+  pub pick_linked : (s : Slot T) (after : ℕ) → c.count ≢ 0 → k < length chains → after ≡ get_or next c.first 0 → ((j : ℕ) → is_in j s ≡ false) → AreLinked (set slots c.first s) next (set chains k (record { first = after; count = c.count - 1 }))
+  pick_linked s after some within told out =
       let d : Chain = record { first = after; count = c.count - 1 } in
       unlinked is_in slots next (chain_at chains) linked_all (lists_none T) lists_apart (chain_at (set chains k d)) k
-      (c.count - 1) c.first (used_for Taken was) (split_chain (chain_at chains k) c is some)
+      (c.count - 1) c.first s (split_chain (chain_at chains k) c is some)
       (ap (λ (d : Chain). walk d.count next d.first) (chain_set chains k d within)
       ∙ ap (walk (c.count - 1) next) told)
-      (other_chains chains k d) (λ j. refl)
+      (other_chains chains k d) out
 
   -- a slot that a call had came first in the list, which has no more places then than there are slots
   pub link_linked : (p : ℕ) (s : Slot T) → p < length slots → length next ≡ length slots → k < length chains → (slot_at slots p).used ≡ Taken → is_in k s ≡ true → AreLinked (set slots p s) (set next p c.first) (set chains k (record { first = p; count = c.count + 1 }))

@@ -1,12 +1,13 @@
--- Held sets that are taken by their handles, one after another, and held again if one of the handles has no held set, or is there twice:
--- for `SetTable::take_each` (`TookSome`) and `put_back` (`PutSome`). `n` is how many were taken, `m` how many of them are held again.
+-- Held sets whose slots turn by their handles, one after another, unless one of the handles has no held set, or is there twice: for
+-- `SetTable::take_each` and `settle_held` (`TurnedSome`). Those that were taken are held again then: for `put_back` (`PutSome`).
+-- `n` is how many turned, `m` how many of them are held again.
 use Rattle.std.proofs.lemmas.Grind.{common_steps}
-use Rattle.std.proofs.Common.{◌≡◌, ◌≢◌, ℕ, zero, suc, ◌+◌, ◌<◌, ◌⊎◌, ◌==◌, ◌&&◌, Bool, true, false, List, [], ◌∷◌, length, get_or, is_some, inl, inr, refl, sym, ap, subst, ◌∙◌, arith, eqb-true}
+use Rattle.std.proofs.Common.{◌≡◌, ◌≢◌, ℕ, zero, suc, ◌+◌, ◌<◌, ◌≤◌, ◌⊎◌, ◌==◌, ◌&&◌, Bool, true, false, List, [], ◌∷◌, length, get_or, set, is_some, inl, inr, refl, sym, ap, subst, ◌∙◌, arith, eqb-true}
 use Rattle.std.proofs.lemmas.List.{length-set}
 use Rattle.std.proofs.lemmas.Bool.{true≢false}
 use Rattle.descriptor_table.specs.Sets.{AreHeldOnce, is_held}
 use Rattle.descriptor_table.specs.Slots.{slot_at}
-use Rattle.descriptor_table.specs.Tables.{TookEach, is_held_use, place_at, used_for}
+use Rattle.descriptor_table.specs.Tables.{Becomes, TookEach, is_held_use, place_at, used_for}
 use Rattle.descriptor_table.specs.declared.handle.SetHandle.{SetHandle}
 use Rattle.descriptor_table.specs.declared.slot.Use.{Use}
 use Rattle.descriptor_table.specs.declared.slot.Use.TheVariants.{Held, Taken}
@@ -41,6 +42,13 @@ same_default [] i d e lt = absurd (omega arith)
 same_default (x ∷ l) zero d e lt = refl
 same_default (x ∷ l) (suc i) d e lt = same_default l i d e (omega arith)
 
+-- handles with the same three numbers are the same
+pub handle_is : (a b : SetHandle) → a.renderer ≡ b.renderer → a.place ≡ b.place → a.generation ≡ b.generation → a ≡ b
+handle_is a b r p g =
+    ap (λ n. record { renderer = n; place = a.place; generation = a.generation }) r
+    ∙ ap (λ n. record { renderer = b.renderer; place = n; generation = a.generation }) p
+    ∙ ap (λ n. record { renderer = b.renderer; place = b.place; generation = n }) g
+
 module _ {T : Type 0} where
   -- what is known of a handle with a held set
   pub record IsHeld (number : ℕ) (slots : List (Slot T)) (h : SetHandle) : Type 0 where
@@ -73,70 +81,87 @@ module _ {T : Type 0} where
   all_same (x ∷ l) [] long same = absurd (omega arith)
   all_same (x ∷ l) (y ∷ m) long same = ap (λ z. z ∷ l) (same 0) ∙ ap (λ k. y ∷ k) (all_same l m (omega arith) (λ p. same (suc p)))
 
-  -- the sets of the first n handles were taken, no two of which have one place
-  pub record TookSome (number : ℕ) (handles : List SetHandle) (n : ℕ) (old now : List (Slot T)) : Type 0 where
-    pub took : TookEach handles n old now
+  -- the first n handles had held sets, no two of which have one place, and their slots became what the relation says; all others are as they were
+  pub record TurnedSome (number : ℕ) (handles : List SetHandle) (becomes : List (Slot T) → Slot T → Slot T → Type 0) (n : ℕ) (old now : List (Slot T)) : Type 0 where
+    pub long : length now ≡ length old
     pub held : (i : ℕ) (d : SetHandle) → i < n → i < length handles → is_held number old (get_or handles i d) ≡ true
     pub apart : (i j : ℕ) → i < j → j < n → place_at handles i ≢ place_at handles j
+    pub named : (i : ℕ) → i < n → becomes now (slot_at old (place_at handles i)) (slot_at now (place_at handles i))
+    pub rest : (p : ℕ) → ((i : ℕ) → i < n → place_at handles i ≢ p) → slot_at now p ≡ slot_at old p
 
-  module _ (number : ℕ) (handles : List SetHandle) (n : ℕ) (old now : List (Slot T)) (some : TookSome number handles n old now) (h : SetHandle) (lt : n < length handles) (is : (d : SetHandle) → h ≡ get_or handles n d) where
+  pub turned_none : (number : ℕ) (handles : List SetHandle) (becomes : List (Slot T) → Slot T → Slot T → Type 0) (slots : List (Slot T)) → TurnedSome number handles becomes 0 slots slots
+  turned_none number handles becomes slots = record { long = refl; held = λ i d lt. absurd (omega arith); apart = λ i j less lt. absurd (omega arith); named = λ i lt. absurd (omega arith); rest = λ p none. refl }
+
+  module _ (number : ℕ) (handles : List SetHandle) (becomes : List (Slot T) → Slot T → Slot T → Type 0) (n : ℕ) (old now : List (Slot T)) (some : TurnedSome number handles becomes n old now) (not_held : (l : List (Slot T)) (o x : Slot T) → becomes l o x → x.used ≢ Held) (h : SetHandle) (lt : n < length handles) (is : (d : SetHandle) → h ≡ get_or handles n d) (has : is_held number now h ≡ true) where
     at : place_at handles n ≡ h.place
     at = ap (λ (x : SetHandle). x.place) (sym (is (record { renderer = 0; place = 0; generation = 0 })))
 
     -- the place of a handle that has a held set is none of those before
-    other_place : (slot_at now h.place).used ≡ Held → (i : ℕ) → i < n → place_at handles i ≢ h.place
-    other_place held i less e =
-        let taken = ap (λ (s : Slot T). s.used) (some.took.named i less) in
-        let bad : ◌≡◌ {A = Use} Held Taken = sym held ∙ ap (λ p. (slot_at now p).used) (sym e) ∙ taken in
-        held_taken bad
-      where
-        held_taken : ◌≡◌ {A = Use} Held Taken → ⊥
-        held_taken e = (true≢false (ap is_held_use e))
+    other_place : (i : ℕ) → i < n → place_at handles i ≢ h.place
+    other_place i less e = not_held now (slot_at old (place_at handles i)) (slot_at now (place_at handles i)) (some.named i less) (ap (λ p. (slot_at now p).used) e ∙ (held_is number now h has).used)
 
-    -- one set more was taken
-    pub take_more : is_held number now h ≡ true → (new : List (Slot T)) → new ≡ with_use h.place Taken now → TookSome number handles (n + 1) old new
-    take_more e new made =
-        let held = held_is number now h e in
-        let others = other_place held.used in
-        let same : slot_at now h.place ≡ slot_at old h.place = some.took.rest h.place others in
-        let was : is_held number old h ≡ true = ap (λ (s : Slot T). ((h.renderer == number) && (h.generation == s.generation)) && (is_held_use s.used && is_some s.set)) (sym same) ∙ e in
-        let before = held_is number old h was in
-        let s = used_for Taken (slot_at now h.place) in
+    -- so its slot is as it was
+    pub slot_was : slot_at now h.place ≡ slot_at old h.place
+    slot_was = some.rest h.place other_place
+
+    -- one set more turned
+    pub turn_more : (s : Slot T) (new : List (Slot T)) → new ≡ set now h.place s → ((o x : Slot T) → becomes now o x → becomes new o x) → becomes new (slot_at now h.place) s → TurnedSome number handles becomes (n + 1) old new
+    turn_more s new made grows turned =
+        let held = held_is number now h has in
+        let was : is_held number old h ≡ true = ap (λ (s : Slot T). ((h.renderer == number) && (h.generation == s.generation)) && (is_held_use s.used && is_some s.set)) (sym slot_was) ∙ has in
         let far : (q : ℕ) → q ≢ h.place → slot_at new q ≡ slot_at now q = λ q ne. ap (λ l. slot_at l q) made ∙ other_slots now h.place s q ne in
-        let here : slot_at new h.place ≡ used_for Taken (slot_at old h.place) = ap (λ l. slot_at l h.place) made ∙ slot_set now h.place s held.within ∙ ap (used_for Taken) same in
+        let here : slot_at new h.place ≡ s = ap (λ l. slot_at l h.place) made ∙ slot_set now h.place s held.within in
         record {
-          took = record {
-            long = ap length made ∙ length-set now h.place s ∙ some.took.long;
-            held = λ i less. elim (same_or i n) [
-              | inl e ↦ subst (λ i. (slot_at old (place_at handles i)).used ≡ Held) (sym e) (ap (λ p. (slot_at old p).used) at ∙ before.used)
-              | inr ne ↦ some.took.held i (omega arith)
-            ];
-            within = λ i less. elim (same_or i n) [
-              | inl e ↦ subst (λ i. place_at handles i < length old) (sym e) (subst (λ p. p < length old) (sym at) before.within)
-              | inr ne ↦ some.took.within i (omega arith)
-            ];
-            named = λ i less. elim (same_or i n) [
-              | inl e ↦ subst (λ i. slot_at new (place_at handles i) ≡ used_for Taken (slot_at old (place_at handles i))) (sym e) (subst (λ p. slot_at new p ≡ used_for Taken (slot_at old p)) (sym at) here)
-              | inr ne ↦ far (place_at handles i) (others i (omega arith)) ∙ some.took.named i (omega arith)
-            ];
-            rest = λ p none. far p (λ e. none n (omega arith) (at ∙ sym e)) ∙ some.took.rest p (λ i less. none i (omega arith));
-          };
+          long = ap length made ∙ length-set now h.place s ∙ some.long;
           held = λ i d less inside. elim (same_or i n) [
             | inl e ↦ subst (λ i. is_held number old (get_or handles i d) ≡ true) (sym e) (ap (is_held number old) (sym (is d)) ∙ was)
             | inr ne ↦ some.held i d (omega arith) inside
           ];
           apart = λ i j less within. elim (same_or j n) [
-            | inl e ↦ subst (λ j. place_at handles i ≢ place_at handles j) (sym e) (λ f. others i (omega arith) (f ∙ at))
+            | inl e ↦ subst (λ j. place_at handles i ≢ place_at handles j) (sym e) (λ f. other_place i (omega arith) (f ∙ at))
             | inr ne ↦ some.apart i j less (omega arith)
           ];
+          named = λ i less. elim (same_or i n) [
+            | inl e ↦ subst (λ i. becomes new (slot_at old (place_at handles i)) (slot_at new (place_at handles i))) (sym e) (subst (λ p. becomes new (slot_at old p) (slot_at new p)) (sym at) (subst (λ o. becomes new o (slot_at new h.place)) slot_was (subst (becomes new (slot_at now h.place)) (sym here) turned)))
+            | inr ne ↦ subst (becomes new (slot_at old (place_at handles i))) (sym (far (place_at handles i) (other_place i (omega arith)))) (grows (slot_at old (place_at handles i)) (slot_at now (place_at handles i)) (some.named i (omega arith)))
+          ];
+          rest = λ p none. far p (λ e. none n (omega arith) (at ∙ sym e)) ∙ some.rest p (λ i less. none i (omega arith));
         }
 
-  -- once all are taken, each handle had a held set, and none is in the list twice
-  pub took_all : (number : ℕ) (handles : List SetHandle) (old now : List (Slot T)) → TookSome number handles (length handles) old now → AreHeldOnce number old handles
-  took_all number handles old now some = record {
+  -- once all have turned, each handle had a held set, and none is in the list twice
+  pub turned_all : (number : ℕ) (handles : List SetHandle) (becomes : List (Slot T) → Slot T → Slot T → Type 0) (old now : List (Slot T)) → TurnedSome number handles becomes (length handles) old now → AreHeldOnce number old handles
+  turned_all number handles becomes old now some = record {
     held = λ i d lt. some.held i d lt lt;
     once = λ i j d lt less e. (let z : SetHandle = record { renderer = 0; place = 0; generation = 0 } in some.apart i j lt less (ap (λ (x : SetHandle). x.place) (same_default handles i z d (let a = less in omega arith) ∙ e ∙ same_default handles j d z less)));
   }
+
+  -- a handle without a held set now had none before, or is in the list twice
+  pub turned_no : (number : ℕ) (handles : List SetHandle) (becomes : List (Slot T) → Slot T → Slot T → Type 0) (n : ℕ) (old now : List (Slot T)) → TurnedSome number handles becomes n old now → (h : SetHandle) → n < length handles → ((d : SetHandle) → h ≡ get_or handles n d) → is_held number now h ≡ false → AreHeldOnce number old handles → ⊥
+  turned_no number handles becomes n old now some h lt is not once = elim (named_or n (place_at handles) h.place) [
+    | inl found ↦ (
+        let z : SetHandle = record { renderer = 0; place = 0; generation = 0 } in
+        let i = found.0 in
+        let here = held_is number old h (ap (is_held number old) (is z) ∙ once.held n z lt) in
+        let there = held_is number old (get_or handles i z) (once.held i z (let a = found.1 in omega arith)) in
+        once.once i n z found.1 lt (handle_is (get_or handles i z) (get_or handles n z) (there.renderer ∙ sym here.renderer ∙ ap (λ (x : SetHandle). x.renderer) (is z)) (found.2 ∙ ap (λ (x : SetHandle). x.place) (is z)) (there.generation ∙ ap (λ p. (slot_at old p).generation) found.2 ∙ sym here.generation ∙ ap (λ (x : SetHandle). x.generation) (is z)))
+        )
+    | inr none ↦ (
+        let z : SetHandle = record { renderer = 0; place = 0; generation = 0 } in
+        let same = some.rest h.place none in
+        true≢false (sym (once.held n z lt) ∙ ap (is_held number old) (sym (is z)) ∙ ap (λ (s : Slot T). ((h.renderer == number) && (h.generation == s.generation)) && (is_held_use s.used && is_some s.set)) (sym same) ∙ not)
+        )
+  ]
+
+  -- a taken set isn't held
+  pub taken_not_held : (l : List (Slot T)) (o x : Slot T) → Becomes (used_for Taken) l o x → x.used ≢ Held
+  taken_not_held l o x is held = true≢false (ap is_held_use (sym held ∙ ap (λ (s : Slot T). s.used) is))
+
+  -- taken sets were held
+  pub took_each : (number : ℕ) (handles : List SetHandle) (n : ℕ) (old now : List (Slot T)) → n ≤ length handles → TurnedSome number handles (Becomes (used_for Taken)) n old now → TookEach handles n old now
+  took_each number handles n old now le some =
+      let z : SetHandle = record { renderer = 0; place = 0; generation = 0 } in
+      let was = λ (i : ℕ) (lt : i < n). held_is number old (get_or handles i z) (some.held i z lt (omega arith)) in
+      record { long = some.long; held = λ i lt. (was i lt).used; within = λ i lt. (was i lt).within; named = some.named; rest = some.rest }
 
   -- the sets of the first handles are held again
   pub record PutSome (handles : List SetHandle) (n m : ℕ) (before now : List (Slot T)) : Type 0 where

@@ -3,6 +3,7 @@ pub mod Coming
 pub mod Counting
 pub mod Counts
 pub mod Frames
+pub mod Freeing
 pub mod Growing
 pub mod Holding
 pub mod Leaving

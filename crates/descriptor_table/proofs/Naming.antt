@@ -8,7 +8,7 @@ use Rattle.descriptor_table.specs.Tables.{place_at}
 use Rattle.descriptor_table.specs.declared.handle.SetHandle.{SetHandle}
 use Rattle.descriptor_table.specs.declared.slot.Slot.{Slot}
 use Rattle.descriptor_table.proofs.Chains.{and_true}
-use Rattle.descriptor_table.proofs.Holding.{held_is, named_or, same_default}
+use Rattle.descriptor_table.proofs.Holding.{handle_is, held_is, named_or, same_default}
 
 if_both : {T : Type 0} (a b : Bool) (x : Option T) → (if a && b then x else None) ≡ (if a then (if b then x else None) else None)
 if_both x0 b x = grind (arith, common_steps)
@@ -18,13 +18,6 @@ if_neither x0 b x e = grind (arith, common_steps)
 
 if_not : {T : Type 0} (a b : Bool) (x : Option T) → a ≡ false → (if a && b then x else None) ≡ None
 if_not a b x e = ap (λ c. if c && b then x else None) e
-
--- handles with the same three numbers are the same
-handle_is : (a b : SetHandle) → a.renderer ≡ b.renderer → a.place ≡ b.place → a.generation ≡ b.generation → a ≡ b
-handle_is a b r p g =
-    ap (λ n. record { renderer = n; place = a.place; generation = a.generation }) r
-    ∙ ap (λ n. record { renderer = b.renderer; place = n; generation = a.generation }) p
-    ∙ ap (λ n. record { renderer = b.renderer; place = b.place; generation = n }) g
 
 module _ {T : Type 0} where
   -- what the last handle of a slot names, in this frame if one is open

@@ -1,17 +1,18 @@
 -- A set that comes into a slot, gets a handle, or leaves: for `SetTable::put`, `draw`, `take_out`, `take_going` and `take_due`.
 -- `old` are the slots before, `mid` those once the slot was picked from its list or its set taken out, `new` those after.
 use Rattle.std.proofs.lemmas.Grind.{common_steps}
-use Rattle.std.proofs.Common.{◌≡◌, ◌≢◌, ℕ, ◌+◌, ◌<◌, ◌≤◌, ◌==◌, ◌&&◌, Bool, true, false, nat_lt, List, length, set, Option, Some, None, is_some, inl, refl, sym, ap, ◌∙◌, arith, ltb-true}
+use Rattle.std.proofs.Common.{◌≡◌, ◌≢◌, ℕ, ◌+◌, ◌<◌, ◌≤◌, ◌==◌, ◌&&◌, Bool, true, false, nat_lt, List, length, set, Option, Some, None, is_some, inl, inr, refl, sym, ap, ◌∙◌, arith, ltb-true}
 use Rattle.std.proofs.lemmas.List.{length-set, set-set}
 use Rattle.std.proofs.lemmas.Bool.{false≢true}
 use Rattle.descriptor_table.specs.Slots.{goes, in_list, is_in, slot_at}
-use Rattle.descriptor_table.specs.Tables.{GivesAny, HasRoom, Picks, Puts, Renews, Stays, count, is_usable, renewed, slots_of, usable_of, used_for, vacated}
+use Rattle.descriptor_table.specs.Tables.{GivesAny, HasRoom, Picks, Puts, Renews, Stays, came_under, count, is_usable, renewed, slots_of, usable_of, used_for, vacated}
 use Rattle.descriptor_table.specs.declared.handle.SetHandle.{SetHandle}
 use Rattle.descriptor_table.specs.declared.set_table.SetTable.{SetTable}
 use Rattle.descriptor_table.specs.declared.slot.Use.{Use}
 use Rattle.descriptor_table.specs.declared.slot.Use.TheVariants.{Held, Drawn, Waits, Kept, Taken, Vacant}
 use Rattle.descriptor_table.specs.declared.slot.Slot.{Slot}
 use Rattle.descriptor_table.proofs.Chains.{and_true, lists_apart, taken_no_list}
+use Rattle.descriptor_table.proofs.Counting.{same_or}
 use Rattle.descriptor_table.proofs.Counts.{bit, count_set, same_count}
 use Rattle.descriptor_table.proofs.Listed.{other_slots, slot_set, with_use}
 
@@ -91,6 +92,27 @@ module _ {T : Type 0} where
       let o = slot_at old p in
       let slot = ap (λ l. slot_at l p) r.slots ∙ slot_set old p (renewed Taken o) within in
       record { is = r.is; slots = is ∙ ap (λ s. set mid p (used_for u s)) slot ∙ ap (λ l. set l p (renewed u o)) r.slots ∙ set-set old p (renewed Taken o) (renewed u o) }
+
+  -- a slot in a list that gets a handle left the list, and got the handle then
+  pub renews_picked :
+      (test : Slot T → Bool) (number p : ℕ) (u : Use) (handle : SetHandle) (old new : List (Slot T)) → test (slot_at old p) ≡ true
+      → p < length old → Renews number p u handle old new → Picks test p old (with_use p Taken old) × Renews number p u handle (with_use p Taken old) new
+  renews_picked test number p u handle old new was within r =
+      let o = slot_at old p in
+      let slot = slot_set old p (used_for Taken o) within in (
+        record { was = was; within = within; slots = refl },
+        record {
+          is = r.is ∙ ap (λ (s : Slot T). record { renderer = number; place = p; generation = s.generation + 1 }) (sym slot);
+          slots = r.slots ∙ sym (set-set old p (used_for Taken o) (renewed u o)) ∙ ap (λ s. set (with_use p Taken old) p (renewed u s)) (sym slot);
+        },
+      )
+
+  -- each slot has the set that it had, under the same layout
+  pub renews_stay : (number p : ℕ) (u : Use) (handle : SetHandle) (old new : List (Slot T)) → p < length old → Renews number p u handle old new → (q : ℕ) → ((slot_at new q).set ≡ (slot_at old q).set) × (came_under (slot_at new q) ≡ came_under (slot_at old q))
+  renews_stay number p u handle old new within r q = elim (same_or q p) [
+    | inl e ↦ (let here : slot_at new q ≡ renewed u (slot_at old q) = ap (λ q. slot_at new q) e ∙ ap (λ l. slot_at l p) r.slots ∙ slot_set old p (renewed u (slot_at old p)) within ∙ ap (λ q. renewed u (slot_at old q)) (sym e) in (ap (λ (s : Slot T). s.set) here, ap came_under here))
+    | inr ne ↦ (let same : slot_at new q ≡ slot_at old q = ap (λ l. slot_at l q) r.slots ∙ other_slots old p (renewed u (slot_at old p)) q ne in (ap (λ (s : Slot T). s.set) same, ap came_under same))
+  ]
 
   -- a slot whose set was taken is vacant
   pub leaves_vacant : (p : ℕ) (old mid new : List (Slot T)) → p < length old → mid ≡ set old p (record (slot_at old p) { set = None }) → new ≡ with_use p Vacant mid → new ≡ set old p (vacated (slot_at old p))

@@ -4,7 +4,7 @@
 use Rattle.std.proofs.lemmas.Grind.{common_steps}
 use Rattle.std.proofs.Common.{◌≡◌, ◌≢◌, ℕ, zero, suc, ◌+◌, ◌<◌, ◌≤◌, ◌⊎◌, ◌&&◌, nat_lt, Bool, true, false, if◌then◌else◌, List, [], ◌∷◌, length, set, Option, Some, None, ne_eqb, is_some, inl, inr, refl, sym, ap, subst, ◌∙◌, arith, nat_le}
 use Rattle.std.proofs.lemmas.List.{length-set, set-set}
-use Rattle.std.proofs.lemmas.Bool.{ltb-false, true≢false}
+use Rattle.std.proofs.lemmas.Bool.{false≢true, ltb-false, true≢false}
 use Rattle.descriptor_table.specs.Slots.{in_list, is_due, is_in, slot_at, waits_for}
 use Rattle.descriptor_table.specs.Tables.{AtIf, IsBack, KeepsSettings, MayBecome, Picks, PicksAbove, PicksAny, Stays, Turns, count, generations_of, holds, is_held_use, is_kept, is_taken, is_taken_use, may_stay, keep_of, next_use, stays, used_for, Becomes}
 use Rattle.descriptor_table.specs.declared.set_table.SetTable.{SetTable}
@@ -112,12 +112,13 @@ module _ {T : Type 0} where
               omega arith,
         )
 
-  -- a set that settled waits no longer, and no call has it
+  -- a set that settled waits no longer, and isn't held
   pub settled_not_due : (generations : ℕ → ℕ) (frame most : ℕ) (l : List (Slot T)) (o n : Slot T) → IsBack (used_for Going) generations most l o n → is_due frame n ≡ false
   settled_not_due generations frame most l o n x6 = grind (arith, common_steps)
 
-  pub settled_not_taken : (generations : ℕ → ℕ) (most : ℕ) (l : List (Slot T)) (o n : Slot T) → IsBack (used_for Going) generations most l o n → is_taken n ≡ false
-  settled_not_taken generations most l o n x5 = grind (arith, common_steps)
+  pub settled_not_held : (generations : ℕ → ℕ) (most : ℕ) (l : List (Slot T)) (o n : Slot T) → IsBack (used_for Going) generations most l o n → n.used ≢ Held
+  settled_not_held generations most l o n (inl kept) held = false≢true (ap is_held_use (ap (λ (s : Slot T). s.used) (sym kept.0) ∙ held))
+  settled_not_held generations most l o n (inr goes) held = false≢true (ap is_held_use (ap (λ (s : Slot T). s.used) (sym goes.0) ∙ held))
 
   -- a set that waits, or that a call has, is in no list
   pub due_not_listed : (frame : ℕ) (s : Slot T) → is_due frame s ≡ true → (k : ℕ) → is_in k s ≡ false
@@ -133,10 +134,10 @@ module _ {T : Type 0} where
   taken_is s e = let both = and_true (is_taken_use s.used) (is_some s.set) e in (taken_use s.used both.0, both.1)
 
   -- a slot in use as before
-  pub same_use : (slots : List (Slot T)) (p : ℕ) → (slot_at slots p).used ≡ Taken → p < length slots → with_use p Taken slots ≡ slots
-  same_use [] p e lt = refl
-  same_use (s ∷ slots) zero e lt = ap (λ u. used_for u s ∷ slots) (sym e)
-  same_use (s ∷ slots) (suc p) e lt = ap (λ l. s ∷ l) (same_use slots p e (omega arith))
+  pub same_use : (slots : List (Slot T)) (p : ℕ) (u : Use) → (slot_at slots p).used ≡ u → p < length slots → with_use p u slots ≡ slots
+  same_use [] p u e lt = refl
+  same_use (s ∷ slots) zero u e lt = ap (λ v. used_for v s ∷ slots) (sym e)
+  same_use (s ∷ slots) (suc p) u e lt = ap (λ l. s ∷ l) (same_use slots p u e (omega arith))
 
   pub stays_more : (a b c : SetTable T) → Stays a b → Stays b c → Stays a c
   stays_more a b c one two = record {
@@ -186,10 +187,6 @@ module _ {T : Type 0} where
     pub go_fewer : count test new < count test now
     go_fewer = one_fewer test now new p (used_for Going (slot_at now p)) picks.within picks.was (out (slot_at now p)) went
 
-  -- a set in use for the other is not taken
-  settled_out : (b : Bool) (s : Slot T) → is_taken (used_for (if b then Kept else Going) s) ≡ false
-  settled_out x0 s = grind (arith, common_steps)
-
   -- what becomes of the slots when a slot turns, if it passes the test
   pub record TurnsOne (test : Slot T → Bool) (becomes : List (Slot T) → Slot T → Slot T → Type 0) (old now new : List (Slot T)) (p : ℕ) : Type 0 where
     pub turning : Turning test becomes old new
@@ -220,24 +217,6 @@ module _ {T : Type 0} where
               here = ap (λ l. test (slot_at l p)) all ∙ e;
               others = λ q none. ap (λ l. test (slot_at l q)) all ∙ none;
             }
-
-  -- a step of `settle_each`: a set that a call has settles
-  pub settle_one :
-      (generations : ℕ → ℕ) (most : ℕ) (old now new : List (Slot T)) (p : ℕ) → Turning is_taken (IsBack (used_for Going) generations most) old now → p < length now
-      → AtIf is_taken p (used_for (next_use generations most now p)) now new → TurnsOne is_taken (IsBack (used_for Going) generations most) old now new p
-  settle_one generations most old now new p turning within is = turn_one is_taken (IsBack (used_for Going) generations most) old now new p (next_use generations most now p) turning within is step (settled_out (may_stay generations most now (slot_at now p)) (slot_at now p))
-    where
-      step : is_taken (slot_at now p) ≡ true → Turning is_taken (IsBack (used_for Going) generations most) old new
-      step e =
-          let taken = taken_is (slot_at now p) e in
-          let all : new ≡ with_use p (next_use generations most now p) now = is ∙ ap (λ b. if b then with_use p (next_use generations most now p) now else now) e in
-          let left : now ≡ with_use p Taken now = sym (same_use now p taken.0 within) in
-          let out : (k : ℕ) → is_in k (slot_at now p) ≡ false = (λ k. ap (λ u. in_list k u (slot_at now p).layout (slot_at now p).generation (is_some (slot_at now p).set)) taken.0) in
-          turn_step is_taken (IsBack (used_for Going) generations most) old now new p
-          (used_for (next_use generations most now p) (slot_at now p)) turning within e
-          (settled_set generations most now now new p within out left all)
-          (settled_grows generations most now now new p within out left all) (settled_not_taken generations most now)
-          (settled_here generations most now now new p within out left all)
 
   -- a slot whose set is held goes
   pub held_goes : (old mid new : List (Slot T)) (p : ℕ) (u : Use) (s : Slot T) → p < length old → s ≡ slot_at old p → s.used ≡ Held → is_some s.set ≡ true → mid ≡ set old p (used_for Taken s) → new ≡ with_use p u mid → AtIf holds p (used_for u) old new

@@ -18,6 +18,11 @@ abbrev pub is_held_use : Use → Bool
 is_held_use Held = true
 is_held_use _ = false
 
+-- the list of a set in such a use, of a layout, if it is kept or goes
+abbrev pub list_for : Use → ℕ → ℕ
+list_for Kept layout = layout + 2
+list_for _ layout = 1
+
 -- the place of the handle at a place of a list
 abbrev pub place_at : List SetHandle → ℕ → ℕ
 place_at handles i = (slice_index_or handles i (record { renderer = 0; place = 0; generation = 0 })).place
@@ -303,6 +308,12 @@ module _ {T : Type 0} where
     pub named : (i : ℕ) → i < n → slot_at new (place_at handles i) ≡ used_for Taken (slot_at old (place_at handles i))
     pub rest : (p : ℕ) → ((i : ℕ) → i < n → place_at handles i ≢ p) → slot_at new p ≡ slot_at old p
 
+  -- the slots of the handles became what the relation says, in the new slots. All others are as they were
+  pub record TurnEach (handles : List SetHandle) (becomes : Slots T → Slot T → Slot T → Type 0) (old new : Slots T) : Type 0 where
+    pub long : length new ≡ length old
+    pub named : (i : ℕ) → i < length handles → becomes new (slot_at old (place_at handles i)) (slot_at new (place_at handles i))
+    pub rest : (p : ℕ) → ((i : ℕ) → i < length handles → place_at handles i ≢ p) → slot_at new p ≡ slot_at old p
+
   -- the handles have places, and each set that a call has is at one of these
   pub record AreAllTaken (handles : List SetHandle) (slots : Slots T) : Type 0 where
     pub within : (i : ℕ) → i < length handles → place_at handles i < length slots
@@ -312,3 +323,42 @@ module _ {T : Type 0} where
   pub record AreAged (old new : Slots T) : Type 0 where
     pub long : length new ≡ length old
     pub each : (p : ℕ) → p < length old → slot_at new p ≡ aged (slot_at old p)
+
+  -- the list of a set that is kept or goes
+  abbrev pub list_of : Slot T → ℕ
+  list_of s = list_for s.used s.layout
+
+  -- the lists of sets are as they were
+  pub record KeepsLists (old new : SetTable T) : Type 0 where
+    pub chains : new.chains.items ≡ old.chains.items
+    pub next : new.next.items ≡ old.next.items
+
+  -- a slot came first into a list, and the other lists are as they were
+  pub record Pushes (k p : ℕ) (old new : SetTable T) : Type 0 where
+    pub there : k < length old.chains.items
+    pub chains : new.chains.items ≡ slice_set old.chains.items k (record { first = p; count = (chain_at old.chains.items k).count + 1 })
+    pub next : new.next.items ≡ slice_set old.next.items p (chain_at old.chains.items k).first
+
+  -- the slot that was first left a list, and the other lists are as they were
+  pub record Pops (k p : ℕ) (old new : SetTable T) : Type 0 where
+    pub first : (chain_at old.chains.items k).first ≡ p
+    pub chains : new.chains.items ≡ slice_set old.chains.items k (record { first = slice_index_or old.next.items p 0; count = (chain_at old.chains.items k).count - 1 })
+    pub next : new.next.items ≡ old.next.items
+
+  -- the set of a slot came first into the list of those that are kept, or of those that go
+  pub record JoinsList (p : ℕ) (old new : SetTable T) : Type 0 where
+    pub listed : is_in (list_of (slot_at (slots_of new) p)) (slot_at (slots_of new) p) ≡ true
+    pub pushes : Pushes (list_of (slot_at (slots_of new) p)) p old new
+
+  -- a held set did so
+  pub record SettlesOne (p : ℕ) (old new : SetTable T) : Type 0 where
+    pub within : p < length (slots_of old)
+    pub held : (slot_at (slots_of old) p).used ≡ Held
+    pub new_use : Use
+    pub turns : At p (used_for new_use) (slots_of old) (slots_of new)
+    pub joins : JoinsList p old new
+
+  -- the sets of the first handles did so, one after another
+  abbrev pub SettleEach : List SetHandle → ℕ → SetTable T → SetTable T → Type 0
+  SettleEach handles zero old new = (slots_of new ≡ slots_of old) × KeepsLists old new
+  SettleEach handles (suc n) old new = (mid : SetTable T) × SettleEach handles n old mid × SettlesOne (place_at handles n) mid new

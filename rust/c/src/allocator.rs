@@ -25,7 +25,7 @@ pub struct Allocator {
     /// How many sets are held.
     held: usize,
 
-    /// The handles of a call. There is capacity for all sets that are held.
+    /// The handles of a call: a place for each set that is held, at least.
     handles: Vec<SetHandle>,
 
     /// The layouts, by the host's handles.
@@ -190,11 +190,11 @@ impl Allocator {
             put(0, self.shown(handle));
             return Ok(());
         }
-        self.handles.0.clear();
+        let count = count as usize;
         self.renderer
-            .create_sets(layout, count, &mut self.handles)?;
-        self.held += count as usize;
-        for (at, handle) in self.handles.iter().enumerate() {
+            .create_sets(layout, &mut self.handles.0[..count])?;
+        self.held += count;
+        for (at, handle) in self.handles.0[..count].iter().enumerate() {
             put(at, self.shown(*handle));
         }
         Ok(())
@@ -205,10 +205,17 @@ impl Allocator {
     fn reserve(&mut self, count: u32) -> Result<(), AllocError> {
         let wanted = self.held.checked_add(count as usize);
         let wanted = wanted.ok_or(AllocError)?;
-        if wanted > self.handles.capacity() {
-            self.handles.0.clear();
-            self.handles.reserve(wanted)?;
+        if wanted > self.handles.len() {
+            self.grow(wanted)?;
         }
+        Ok(())
+    }
+
+    #[cold]
+    fn grow(&mut self, wanted: usize) -> Result<(), AllocError> {
+        self.handles.reserve(wanted - self.handles.len())?;
+        let places = self.handles.capacity();
+        self.handles.0.resize(places, SetHandle::NONE);
         Ok(())
     }
 
@@ -246,17 +253,12 @@ impl Allocator {
         if count > self.held {
             return false;
         }
-        assert!(count <= self.handles.capacity(), "no memory was reserved");
         let mut are_held = true;
-        self.handles.0.clear();
-        // A loop of pushes would compare the capacity for each set.
-        self.handles.0.extend((0..count).map(get).map(|it| {
-            let set = handle_of(it.owner, it.name);
-            if self.renderer.set(set) != Some(&it.handle) {
-                are_held = false;
-            }
-            set
-        }));
+        for (at, handle) in self.handles.0[..count].iter_mut().enumerate() {
+            let it = get(at);
+            *handle = handle_of(it.owner, it.name);
+            are_held &= self.renderer.set(*handle) == Some(&it.handle);
+        }
         are_held
     }
 
@@ -268,10 +270,14 @@ impl Allocator {
         get: impl Fn(usize) -> GdSet,
         call: impl FnOnce(&mut HostRenderer, &[SetHandle]) -> Result<(), DestroyError>,
     ) -> GdStatus {
-        if !self.read(count, get) || call(&mut self.renderer, &self.handles).is_err() {
+        if !self.read(count, get) {
             return GdStatus::BAD_SET;
         }
-        self.held -= count as usize;
+        let count = count as usize;
+        if call(&mut self.renderer, &self.handles.0[..count]).is_err() {
+            return GdStatus::BAD_SET;
+        }
+        self.held -= count;
         GdStatus::OK
     }
 

@@ -92,8 +92,8 @@ use crate::device::{Adapter, DescriptorDevice};
 use crate::gpu_descriptor_types::{self as types, Layouts, SetSink};
 use crate::poison::{Guarded, is_panicking, refuse, warn};
 use crate::{
-    CreatePoolError, DescriptorPoolCreateFlags, DescriptorTotalCount, DeviceAllocationError,
-    PoolView, SetLayout, descriptor_renderer as inner, kit,
+    AllocationError, CreatePoolError, DescriptorPoolCreateFlags, DescriptorTotalCount,
+    DeviceAllocationError, PoolView, SetLayout, descriptor_renderer as inner, kit,
 };
 use core::error::Error;
 use core::fmt;
@@ -111,18 +111,19 @@ static RENDERERS: AtomicU32 = AtomicU32::new(0);
 ///
 /// A frame is opened by `begin_frame`, gets any number of sets by `draw`, and is ended by
 /// `end_frame`. Its sets come back at the `gpu_done` of the frame or a later one; frames in
-/// between may be in flight. A set by `create_set` or `create_sets` is held until it is freed at once by
-/// `free_sets`, or destroyed by `destroy_set` or `destroy_sets`: then it comes back at the next
-/// `gpu_done` of the frame of its last use or a later one. Memory for a set to come back is reserved before
-/// the set is asked for, so only `add_layout`, `draw`, `create_set` and `create_sets` allocate. No handle
-/// comes twice, although memory follows the most sets that there were at a time.
+/// between may be in flight. A set by `create_set`, `create_sets` or `create_sets_into` is held until it is
+/// freed at once by `free_sets`, or destroyed by `destroy_set` or `destroy_sets`: then it comes back at the
+/// next `gpu_done` of the frame of its last use or a later one. Memory for a set to come back is reserved
+/// before the set is asked for, so only `add_layout`, `draw`, `create_set`, `create_sets` and
+/// `create_sets_into` allocate. No handle comes twice, although memory follows the most sets that there were
+/// at a time.
 ///
 /// # Kept sets
 ///
 /// A set that comes back is kept, if no more sets of its layout are kept than [`set_keep`](Self::set_keep)
-/// says, at first all; otherwise the device frees it. `draw`, `create_set` and `create_sets` hand kept
-/// sets of the layout out again, under new handles, before they ask the device for new ones. So in a frame
-/// loop the device soon allocates and frees no set.
+/// says, at first all; otherwise the device frees it. `draw`, `create_set`, `create_sets` and
+/// `create_sets_into` hand kept sets of the layout out again, under new handles, before they ask the device
+/// for new ones. So in a frame loop the device soon allocates and frees no set.
 ///
 /// The descriptors of a kept set are those that were written to it last, and what they refer to may be
 /// destroyed by now. So write each set that you get, before you bind it. A new set has no descriptors,
@@ -341,26 +342,61 @@ impl<L, P, S, D: DescriptorDevice<L, P, S>> Renderer<L, P, S, D> {
         self.inner.call(|inner| inner.create_set(layout))
     }
 
-    /// Creates so many sets of a layout, all or none, each of which is held until it is freed or
-    /// destroyed: kept ones first, the others new, in one request.
-    ///
-    /// If the new sets are refused while sets of any layout are kept, all kept sets are freed and empty
-    /// pools are destroyed, as by [`cleanup`](Self::cleanup), and it retries once, for all `count`. It does
-    /// not, and kept sets stay, if `count` sets alone have more update-after-bind descriptors than the limit
-    /// allows, or if an allocation for the handles or for the renderer's own table fails.
+    /// Creates `count` sets of a layout, all or none, as [`create_sets_into`](Self::create_sets_into) does,
+    /// and returns their handles in a new vector.
     ///
     /// # Errors
     ///
-    /// As of [`create_set`](Self::create_set).
+    /// Same as [`create_set`](Self::create_set). `OutOfHostMemory` if the vector can't be allocated; then
+    /// nothing changed.
     pub fn create_sets(
         &mut self,
         layout: LayoutHandle,
         count: u32,
     ) -> Result<Vec<SetHandle>, RenderError> {
-        let mut handles = kit::vec::Vec::new(kit::alloc::Global);
-        self.inner
-            .call(|inner| inner.create_sets(layout, count, &mut handles))?;
-        Ok(handles.0)
+        let mut sets = Vec::new();
+        if sets.try_reserve_exact(count as usize).is_err() {
+            return Err(match self.layout(layout) {
+                Some(_) => RenderError::Allocation(AllocationError::OutOfHostMemory),
+                None => RenderError::NoLayout,
+            });
+        }
+        sets.resize(count as usize, SetHandle::NONE);
+        self.create_sets_into(layout, &mut sets)?;
+        Ok(sets)
+    }
+
+    /// Creates a set of a layout for each place of `sets`, all or none, and writes their handles there. Each
+    /// is held until it is freed or destroyed. Kept sets come first; the others are new, in one request.
+    /// With kept sets alone it allocates nothing.
+    ///
+    /// If the new sets are refused while sets of any layout are kept, all kept sets are freed and empty
+    /// pools are destroyed, as by [`cleanup`](Self::cleanup), and it retries once, for all. It does not, and
+    /// kept sets stay, if all of them alone have more update-after-bind descriptors than the limit allows, or
+    /// if an allocation for the renderer's own table fails.
+    ///
+    /// ```
+    /// # use gpu_descriptor::renderer::{LayoutHandle, RenderError, Renderer, SetHandle};
+    /// # use gpu_descriptor::DescriptorDevice;
+    /// # fn draw<L, P, S, D: DescriptorDevice<L, P, S>>(renderer: &mut Renderer<L, P, S, D>, layout: LayoutHandle)
+    /// # -> Result<(), RenderError> {
+    /// let mut sets = [SetHandle::NONE; 3];
+    /// renderer.create_sets_into(layout, &mut sets)?;
+    /// # Ok(())
+    /// # }
+    /// ```
+    ///
+    /// # Errors
+    ///
+    /// Same as [`create_set`](Self::create_set), and `OutOfHostMemory` for more than `u32::MAX` sets. Then
+    /// `sets` is as it was.
+    #[inline]
+    pub fn create_sets_into(
+        &mut self,
+        layout: LayoutHandle,
+        sets: &mut [SetHandle],
+    ) -> Result<(), RenderError> {
+        self.inner.call(|inner| inner.create_sets(layout, sets))
     }
 
     /// Frees sets at once, all or none: they are kept, or the device frees them, neighbours of one pool in
@@ -381,6 +417,7 @@ impl<L, P, S, D: DescriptorDevice<L, P, S>> Renderer<L, P, S, D> {
     ///
     /// The renderer is poisoned. While the thread unwinds the call then does nothing and returns `Ok`;
     /// without std it panics even then, which ends the program.
+    #[inline]
     pub unsafe fn free_sets(&mut self, sets: &[SetHandle]) -> Result<(), DestroyError> {
         let answer = self.inner.call_in_drop(|inner| inner.free_sets(sets));
         answer.unwrap_or(Ok(()))

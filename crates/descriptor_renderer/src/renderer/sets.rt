@@ -1,7 +1,7 @@
 //! Sets that are held until they are freed or destroyed.
-ghost use Rattle.std.specs.Prelude.{◌≡◌, ◌+◌, ◌-◌, ◌<◌, ◌≤◌, ◌++◌, ◌⊎◌, [], ◌∷◌, List, length};
+ghost use Rattle.std.specs.Prelude.{◌≡◌, ◌-◌, ◌<◌, ◌≤◌, ◌⊎◌, [], ◌∷◌, length};
 ghost use Rattle.std.specs.Prelude.{IfErr, IfOk, IfSome, IsErrOf, IsSome, None, OnErr, OnOk, Ok, false};
-ghost use Rattle.std.specs.Prelude.{IsOk, option_map, vec_capacity, vec_len};
+ghost use Rattle.std.specs.Prelude.{IsOk, option_map};
 ghost use Rattle.std.specs.Option.{option_copied};
 ghost use Rattle.gpu_descriptor.specs.Caller.Sets.{raw_of};
 ghost use Rattle.descriptor_table.specs.Sets.{AreHeldOnce, LoseNames};
@@ -14,7 +14,6 @@ use crate::errors::{DestroyError, RenderError};
 use crate::layout_registry::LayoutHandle;
 use descriptor_table::SetHandle;
 use gpu_descriptor::{AllocationError, DescriptorDevice};
-use std::vec::Vec;
 
 impl<L: Drop, P: Drop, S: Drop, D: DescriptorDevice<L, P, S>> Renderer<L, P, S, D> {
     ghost use Rattle.gpu_descriptor.specs.declared.errors.AllocationError.{AllocationError};
@@ -26,6 +25,7 @@ impl<L: Drop, P: Drop, S: Drop, D: DescriptorDevice<L, P, S>> Renderer<L, P, S, 
 
     /// Creates a set of a layout, which is held until it is freed or destroyed, in a frame or between
     /// two: the last one that was kept, or else a new one, as `draw` does.
+    #[inline]
     pub fn create_set(&mut self, layout: LayoutHandle) -> Result<SetHandle, RenderError>
         ensures creates { IfOk result (λ handle. IfSome (layout_of self.old layout) (λ known.
             Comes known.layout handle self.old self.new)) }
@@ -50,47 +50,50 @@ impl<L: Drop, P: Drop, S: Drop, D: DescriptorDevice<L, P, S>> Renderer<L, P, S, 
         }
     }
 
-    /// Creates `many` sets of a layout, all or none, each held until it is freed or destroyed: kept ones
-    /// first, the others new, in one request. Their handles are appended to `handles`. On an error
-    /// `handles` has what it had.
+    /// Creates a set of a layout for each place of `sets`, all or none, and writes their handles there:
+    /// each is held until it is freed or destroyed. Kept sets come first; the others are new, in one
+    /// request. On an error `sets` stays as it was. It allocates only what the new sets need.
     ///
     /// If the allocator refuses the new sets while sets of any layout are kept, all kept sets are freed
-    /// and empty pools are destroyed, as by `cleanup`, and it retries once, for all `many`. It does not,
-    /// and kept sets stay, if `many` sets alone have more update-after-bind descriptors than the limit
-    /// allows, or if an allocation of its own failed before the allocator was asked.
+    /// and empty pools are destroyed, as by `cleanup`, and it retries once, for all. It does not, and kept
+    /// sets stay, if all of them alone have more update-after-bind descriptors than the limit allows, or if
+    /// an allocation of its own failed before the allocator was asked. More than `u32::MAX` sets are
+    /// `OutOfHostMemory`.
+    #[inline]
     pub fn create_sets(
         &mut self,
         layout: LayoutHandle,
-        many: u32,
-        handles: &mut Vec<SetHandle>,
+        sets: &mut [SetHandle],
     ) -> Result<(), RenderError>
         ensures creates { OnOk result (IfSome (layout_of self.old layout) (λ known.
-            (given : List SetHandle) × (handles.new.items ≡ handles.old.items ++ given)
-            × (length given ≡ many) × ComeEach known.layout given self.old self.new
-            × HoldAtLast (number_of self.old) (current_in layout.slot.place (store_of self.old)) given
-            (slots_of self.old) (slots_of self.new))) }
-        ensures kept { many ≤ kept_of layout self.old → side_of self.new ≡ side_of self.old }
-        ensures fits { IsSome (layout_of self.old layout) → many ≤ kept_of layout self.old
-            → vec_len handles.old + many ≤ vec_capacity handles.old → IsOk result }
-        ensures comes { kept_of layout self.old < many → OnOk result (IfSome
+            ComeEach known.layout sets.new self.old self.new
+            × HoldAtLast (number_of self.old) (current_in layout.slot.place (store_of self.old))
+            sets.new (slots_of self.old) (slots_of self.new))) }
+        ensures kept { length sets.old ≤ kept_of layout self.old → side_of self.new
+            ≡ side_of self.old }
+        ensures fits { IsSome (layout_of self.old layout) → length sets.old
+            ≤ kept_of layout self.old → IsOk result }
+        ensures comes { kept_of layout self.old < length sets.old → OnOk result (IfSome
             (layout_of self.old layout) (λ known. BringsAtLast known.layout
-            (many - kept_of layout self.old) many (store_of self.old) (store_of self.new))) }
+            (length sets.old - kept_of layout self.old) (length sets.old) (store_of self.old)
+            (store_of self.new))) }
         ensures needs { NeedsLayout layout result self.old self.new }
         ensures refused { (error : AllocationError) → IsErrOf result (RenderError.Allocation error)
-            → ((error ≡ AllocationError.OutOfHostMemory) × (seen self.new ≡ seen self.old))
-            ⊎ IfSome (layout_of self.old layout) (λ known.
-            IsRefusedAtLast known.layout (many - kept_of layout self.old) many error
-            (store_of self.old) (store_of self.new)) }
+            → ((error ≡ AllocationError.OutOfHostMemory) × (4294967295 < length sets.old)
+            × (seen self.new ≡ seen self.old)) ⊎ IfSome (layout_of self.old layout) (λ known.
+            IsRefusedAtLast known.layout (length sets.old - kept_of layout self.old)
+            (length sets.old) error (store_of self.old) (store_of self.new)) }
+        ensures long { length sets.new ≡ length sets.old }
+        ensures handles { OnErr result (sets.new ≡ sets.old) }
         ensures sets { OnlySetsCome result self.old self.new }
-        ensures handles { OnErr result (handles.new.items ≡ handles.old.items) }
     {
         let Some(known) = self.layouts.get(layout) else {
             return Err(RenderError::NoLayout);
         };
-        if handles.reserve(many as usize).is_err() {
+        if sets.len() > u32::MAX as usize {
             return Err(RenderError::Allocation(AllocationError::OutOfHostMemory));
         }
-        match self.store.create_each(known, layout.place(), many, handles) {
+        match self.store.create_each(known, layout.place(), sets) {
             Ok(()) => Ok(()),
             Err(error) => Err(RenderError::Allocation(error)),
         }

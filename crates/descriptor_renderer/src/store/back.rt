@@ -9,11 +9,11 @@ use gpu_descriptor::DescriptorDevice;
 impl<L: Drop, P: Drop, S: Drop, D: DescriptorDevice<L, P, S>> Store<L, P, S, D> {
     ghost use Rattle.descriptor_table.specs.Sets.{AreHeldOnce, sets_in};
     ghost use Rattle.descriptor_table.specs.Slots.{goes, is_due, is_kept_of, slot_at};
-    ghost use Rattle.descriptor_table.specs.Tables.{Becomes, KeepsUpTo, removed_at, used_for};
+    ghost use Rattle.descriptor_table.specs.Tables.{Becomes, KeepsUpTo, TurnEach, removed_at, used_for};
     ghost use Rattle.descriptor_table.specs.declared.slot.Use.{Use};
     ghost use Rattle.descriptor_renderer.specs.Stores.{AreCleaned, Cleans, ComeBack, FreesAll, FreesEach};
     ghost use Rattle.descriptor_renderer.specs.Stores.{GivesBack, HasLayout, IsAtRest, NoneComes};
-    ghost use Rattle.descriptor_renderer.specs.Stores.{Removes, Settles, SettlesTo, Trims, TurnEach};
+    ghost use Rattle.descriptor_renderer.specs.Stores.{Removes, Settles, SettlesTo, Trims};
     ghost use Rattle.descriptor_renderer.specs.Stores.{coming_in, generations_in, kept_of, ledger_of};
     ghost use Rattle.descriptor_renderer.specs.Stores.{keep_of, number_of, pools_besides, side_of, slots_in};
 
@@ -107,10 +107,9 @@ impl<L: Drop, P: Drop, S: Drop, D: DescriptorDevice<L, P, S>> Store<L, P, S, D> 
             × (side_of self.new ≡ side_of self.old) }
         ensures settles { Settles NoneComes self.old self.new }
     {
-        if !self.table.take_each(handles) {
+        if !self.table.settle_held(handles) {
             return false;
         }
-        self.table.settle_each(handles);
         self.give();
         true
     }

@@ -1,19 +1,17 @@
 //! Sets that are taken for handles, many at once: kept ones first.
-ghost use Rattle.std.specs.Prelude.{◌≡◌, ℕ, ◌+◌, ◌-◌, ◌<◌, ◌≤◌, ◌++◌, [], ◌∷◌, List, length, IfErr, OnErr, OnOk, Ok};
-ghost use Rattle.std.specs.Prelude.{vec_capacity, vec_len, true, Bool};
+ghost use Rattle.std.specs.Prelude.{◌≡◌, ℕ, ◌+◌, ◌-◌, ◌<◌, ◌≤◌, [], ◌∷◌, length, IfErr, OnErr, OnOk, Ok};
+ghost use Rattle.std.specs.Prelude.{true, Bool};
 ghost use Rattle.gpu_descriptor.specs.Caller.SetLayouts.{IsMeant};
 ghost use Rattle.gpu_descriptor.specs.Caller.Sets.{AreOfLayout};
 
 use super::Store;
 use descriptor_table::SetHandle;
 use gpu_descriptor::{AllocationError, DescriptorDevice, SetLayout};
-use std::vec::Vec;
 
 impl<L: Drop, P: Drop, S: Drop, D: DescriptorDevice<L, P, S>> Store<L, P, S, D> {
     ghost use Rattle.descriptor_table.specs.Sets.{NameEach, sets_of};
     ghost use Rattle.descriptor_table.specs.Slots.{is_kept_of, slot_at};
     ghost use Rattle.descriptor_table.specs.Tables.{Grows, HasRoom, place_at};
-    ghost use Rattle.descriptor_table.specs.declared.handle.SetHandle.{SetHandle};
     ghost use Rattle.descriptor_renderer.specs.Stores.{Asks, AsksAtLast, BringsAtLast, CanTake};
     ghost use Rattle.descriptor_renderer.specs.Stores.{CanHold, ComesOf, HoldAtLast, HoldEach, HoldsComing, HoldsKept};
     ghost use Rattle.descriptor_renderer.specs.Stores.{IsRefused, IsRefusedAtLast, KeepsStore};
@@ -68,55 +66,46 @@ impl<L: Drop, P: Drop, S: Drop, D: DescriptorDevice<L, P, S>> Store<L, P, S, D> 
         }
     }
 
-    /// Holds a kept set of a layout, and appends its handle, over memory that was reserved.
+    /// Holds a kept set of a layout.
     #[inline]
-    fn hold_next(&mut self, layout: u32, handles: &mut Vec<SetHandle>)
+    fn hold_next(&mut self, layout: u32) -> SetHandle
         requires kept { 0 < kept_of layout self.old }
-        requires room { vec_len handles.old < vec_capacity handles.old }
-        ensures holds { (handle : SetHandle) × (handles.new.items ≡ handles.old.items ++ handle ∷ [])
-            × HoldEach (number_of self.old) (current_in layout self.old) (handle ∷ [])
+        ensures holds { HoldEach (number_of self.old) (current_in layout self.old) (result ∷ [])
             (slots_in self.old) (slots_in self.new) }
-        ensures was_kept { is_kept_of layout (slot_at (slots_in self.old)
-            (place_at handles.new.items (length handles.old.items))) ≡ true }
+        ensures was_kept { is_kept_of layout (slot_at (slots_in self.old) result.place) ≡ true }
         ensures fewer { kept_of layout self.new + 1 ≡ kept_of layout self.old }
-        ensures room { vec_capacity handles.new ≡ vec_capacity handles.old }
         ensures keeps { HoldsKept self.old self.new }
     {
-        match self.table.take_kept(layout) {
-            Some(place) => handles.push_reserved(self.table.hold(place)),
+        match self.table.hold_kept(layout) {
+            Some(handle) => handle,
             None => unreachable!(),
         }
     }
 
-    /// Holds so many kept sets of a layout, and appends their handles, over memory that was reserved.
-    fn hold_kept(&mut self, layout: u32, many: u32, handles: &mut Vec<SetHandle>)
-        requires kept { many ≤ kept_of layout self.old }
-        requires room { vec_len handles.old + many ≤ vec_capacity handles.old }
-        ensures holds { (given : List SetHandle) × (handles.new.items ≡ handles.old.items ++ given)
-            × (length given ≡ many) × HoldEach (number_of self.old) (current_in layout self.old)
-            given (slots_in self.old) (slots_in self.new) }
-        ensures were_kept { (i : ℕ) → i < many → is_kept_of layout (slot_at (slots_in self.old)
-            (place_at handles.new.items (length handles.old.items + i))) ≡ true }
-        ensures room { vec_capacity handles.new ≡ vec_capacity handles.old }
+    /// Holds kept sets of a layout, and writes their handles.
+    #[inline]
+    fn hold_kept(&mut self, layout: u32, handles: &mut [SetHandle])
+        requires kept { length handles.old ≤ kept_of layout self.old }
+        ensures holds { HoldEach (number_of self.old) (current_in layout self.old) handles.new
+            (slots_in self.old) (slots_in self.new) }
+        ensures were_kept { (i : ℕ) → i < length handles.old → is_kept_of layout (slot_at
+            (slots_in self.old) (place_at handles.new i)) ≡ true }
+        ensures long { length handles.new ≡ length handles.old }
         ensures keeps { HoldsKept self.old self.new }
     {
-        for _ in 0..many {
-            self.hold_next(layout, handles);
+        for index in 0..handles.len() {
+            handles[index] = self.hold_next(layout);
         }
     }
 
-    /// Holds one of the sets that are on their way, and appends its handle, over memory that was
-    /// reserved.
+    /// Holds one of the sets that are on their way.
     #[inline]
-    fn hold_last(&mut self, layout: u32, handles: &mut Vec<SetHandle>)
+    fn hold_last(&mut self, layout: u32) -> SetHandle
         requires some { 0 < length (coming_in self.old) }
         requires can { CanHold layout self.old }
-        requires room { vec_len handles.old < vec_capacity handles.old }
-        ensures holds { (handle : SetHandle) × (handles.new.items ≡ handles.old.items ++ handle ∷ [])
-            × HoldEach (number_of self.old) (current_in layout self.old) (handle ∷ [])
+        ensures holds { HoldEach (number_of self.old) (current_in layout self.old) (result ∷ [])
             (slots_in self.old) (slots_in self.new) }
         ensures fewer { length (coming_in self.new) + 1 ≡ length (coming_in self.old) }
-        ensures room { vec_capacity handles.new ≡ vec_capacity handles.old }
         ensures own { (known : L) → AreOfLayout D.meaning known (coming_in self.old)
             → AreOfLayout D.meaning known (coming_in self.new) }
         ensures table { HasRoom (length (coming_in self.new)) self.new.table }
@@ -125,60 +114,59 @@ impl<L: Drop, P: Drop, S: Drop, D: DescriptorDevice<L, P, S>> Store<L, P, S, D> 
         match self.coming.pop() {
             Some(set) => {
                 let place = self.table.put(layout, set);
-                handles.push_reserved(self.table.hold(place));
+                self.table.hold(place)
             }
             None => unreachable!(),
         }
     }
 
-    /// Holds the sets that are on their way, and appends their handles, over memory that was reserved.
-    fn hold_coming(&mut self, layout: u32, handles: &mut Vec<SetHandle>)
+    /// Holds the sets that are on their way, and writes their handles.
+    fn hold_coming(&mut self, layout: u32, handles: &mut [SetHandle])
         requires can { CanHold layout self.old }
-        requires room { vec_len handles.old + length (coming_in self.old)
-            ≤ vec_capacity handles.old }
-        ensures holds { (given : List SetHandle) × (handles.new.items ≡ handles.old.items ++ given)
-            × (length given ≡ length (coming_in self.old))
-            × HoldEach (number_of self.old) (current_in layout self.old) given (slots_in self.old)
-            (slots_in self.new) }
+        requires as_many { length handles.old ≡ length (coming_in self.old) }
+        ensures holds { HoldEach (number_of self.old) (current_in layout self.old) handles.new
+            (slots_in self.old) (slots_in self.new) }
         ensures none { coming_in self.new ≡ [] }
+        ensures long { length handles.new ≡ length handles.old }
         ensures keeps { HoldsComing layout self.old self.new }
     {
-        for _ in 0..self.coming.len() {
-            self.hold_last(layout, handles);
+        for index in 0..handles.len() {
+            handles[index] = self.hold_last(layout);
         }
     }
 
-    /// Takes so many sets of a layout, kept ones first, which are held, and appends their handles, over
-    /// memory that was reserved. On an error none is taken.
+    /// Takes a set of a layout for each place of `handles`, kept ones first, and writes their handles. The
+    /// sets are held. On an error none is taken.
     pub(crate) fn create_each(
         &mut self,
         known: &SetLayout<L>,
         layout: u32,
-        many: u32,
-        handles: &mut Vec<SetHandle>,
+        handles: &mut [SetHandle],
     ) -> Result<(), AllocationError>
         requires can { CanTake known.now layout self.old }
-        requires room { vec_len handles.old + many ≤ vec_capacity handles.old }
-        ensures creates { OnOk result ((given : List SetHandle)
-            × (handles.new.items ≡ handles.old.items ++ given) × (length given ≡ many)
-            × ((frame : ℕ) (opened : Bool) → NameEach given (sets_of (number_of self.old) frame opened
-            (slots_in self.old)) (sets_of (number_of self.old) frame opened (slots_in self.new)))
-            × HoldAtLast (number_of self.old) (current_in layout self.old) given
+        requires few { length handles.old ≤ 4294967295 }
+        ensures creates { OnOk result (((frame : ℕ) (opened : Bool) → NameEach handles.new
+            (sets_of (number_of self.old) frame opened (slots_in self.old))
+            (sets_of (number_of self.old) frame opened (slots_in self.new)))
+            × HoldAtLast (number_of self.old) (current_in layout self.old) handles.new
             (slots_in self.old) (slots_in self.new)) }
-        ensures kept { many ≤ kept_of layout self.old → (result ≡ Ok tt)
+        ensures kept { length handles.old ≤ kept_of layout self.old → (result ≡ Ok tt)
             × (side_of self.new ≡ side_of self.old) }
-        ensures comes { kept_of layout self.old < many → OnOk result (BringsAtLast known.now.layout
-            (many - kept_of layout self.old) many self.old self.new) }
+        ensures comes { kept_of layout self.old < length handles.old → OnOk result (BringsAtLast
+            known.now.layout (length handles.old - kept_of layout self.old) (length handles.old)
+            self.old self.new) }
         ensures refused { IfErr result (λ error. IsRefusedAtLast known.now.layout
-            (many - kept_of layout self.old) many error self.old self.new) }
-        ensures handles { OnErr result (handles.new.items ≡ handles.old.items) }
+            (length handles.old - kept_of layout self.old) (length handles.old) error self.old
+            self.new) }
+        ensures long { length handles.new ≡ length handles.old }
+        ensures handles { OnErr result (handles.new ≡ handles.old) }
         ensures settles { Settles (ComesOf D.meaning known.now.layout layout) self.old self.new }
         ensures grows { Grows (slots_in self.old) (slots_in self.new) }
     {
-        self.bring(known, layout, many)?;
-        let kept = many - self.coming.len() as u32;
-        self.hold_kept(layout, kept, handles);
-        self.hold_coming(layout, handles);
+        self.bring(known, layout, handles.len() as u32)?;
+        let (kept, new) = handles.split_at_mut(handles.len() - self.coming.len());
+        self.hold_kept(layout, kept);
+        self.hold_coming(layout, new);
         Ok(())
     }
 }

@@ -1,16 +1,19 @@
 //! Sets that come back: they are kept, or go back to their pools.
-ghost use Rattle.std.specs.Prelude.{◌≡◌, ◌+◌, ◌<◌, ◌≤◌, ℕ, false, length};
+ghost use Rattle.std.specs.Prelude.{◌≡◌, ◌↔◌, ◌+◌, ◌<◌, ◌≤◌, ℕ, true, false, IsFalse, IsTrue, length};
 
 use super::{GOING, KEPT, SetTable};
 use crate::handle::SetHandle;
 use crate::slot::Use;
 
 impl<T> SetTable<T> {
-    ghost use Rattle.descriptor_table.specs.Slots.{is_due, is_in, is_kept_of, slot_at};
+    ghost use Rattle.descriptor_table.specs.declared.set_table.SetTable.{SetTable};
+    ghost use Rattle.descriptor_table.specs.Sets.{AreHeldOnce};
+    ghost use Rattle.descriptor_table.specs.Slots.{chain_at, is_due, is_in, is_kept_of, slot_at};
     ghost use Rattle.descriptor_table.specs.Tables.{AreAllTaken, At, AtIf, Becomes, Changes, HasTaken};
-    ghost use Rattle.descriptor_table.specs.Tables.{IsBack, KeepsUpTo, MayBecome, PicksAbove, Turns};
-    ghost use Rattle.descriptor_table.specs.Tables.{count, generations_of, holds, is_kept};
-    ghost use Rattle.descriptor_table.specs.Tables.{is_taken, lists_of, may_stay, keep_of, next_use};
+    ghost use Rattle.descriptor_table.specs.Tables.{IsBack, JoinsList, KeepsUpTo, MayBecome, PicksAbove, Pops};
+    ghost use Rattle.descriptor_table.specs.Tables.{SettleEach, Stays, TurnEach, Turns, count};
+    ghost use Rattle.descriptor_table.specs.Tables.{generations_of, holds, is_kept, is_taken, keep_of};
+    ghost use Rattle.descriptor_table.specs.Tables.{list_of, lists_of, may_stay, next_use, number_of};
     ghost use Rattle.descriptor_table.specs.Tables.{slots_of, used_for, waits};
 
     /// Whether a set that comes back may be kept.
@@ -28,11 +31,12 @@ impl<T> SetTable<T> {
     }
 
     /// Keeps a set that a call has, or lets it go.
-    #[inline]
+    #[inline(always)]
     fn settle(&mut self, place: usize)
         requires { HasTaken place (slots_of self.old) }
-        ensures { Changes (At place (used_for (next_use (generations_of self.old)
+        ensures changes { Changes (At place (used_for (next_use (generations_of self.old)
             (keep_of self.old) (slots_of self.old) place))) self.old self.new }
+        ensures joins { JoinsList place self.old self.new }
     {
         if self.may_stay(place) {
             let list = self.slots[place].layout as usize + KEPT;
@@ -52,19 +56,6 @@ impl<T> SetTable<T> {
         }
     }
 
-    /// The set of a slot is kept or goes, if a call has it.
-    #[inline]
-    fn settle_taken(&mut self, place: usize)
-        requires { place < length (slots_of self.old) }
-        ensures { Changes (AtIf is_taken place (used_for (next_use (generations_of self.old)
-            (keep_of self.old) (slots_of self.old) place))) self.old self.new }
-    {
-        if !self.has_taken(place) {
-            return;
-        }
-        self.settle(place);
-    }
-
     /// Whether a call has the set of a slot.
     #[inline]
     fn has_taken(&self, place: usize) -> bool
@@ -79,14 +70,67 @@ impl<T> SetTable<T> {
         }
     }
 
-    /// The sets of handles, which were taken, are kept or go. There are no others that were taken.
-    pub fn settle_each(&mut self, handles: &[SetHandle])
-        requires taken { AreAllTaken handles.now (slots_of self.old) }
-        ensures { Changes (Turns is_taken (IsBack (used_for Use.Going)
-            (generations_of self.old) (keep_of self.old))) self.old self.new }
+    /// Frees the held sets of handles, all or none: each is kept, or goes. If a handle has no held set,
+    /// or is in the list twice, no set is freed, and it returns `false`.
+    pub fn settle_held(&mut self, handles: &[SetHandle]) -> bool
+        ensures once { IsTrue result ↔ AreHeldOnce (number_of self.old) (slots_of self.old)
+            handles.now }
+        ensures back { IsTrue result → TurnEach handles.now (IsBack (used_for Use.Going)
+            (generations_of self.old) (keep_of self.old)) (slots_of self.old) (slots_of self.new) }
+        ensures none { IsFalse result → slots_of self.new ≡ slots_of self.old }
+        ensures stays { Stays self.old self.new }
     {
         for index in 0..handles.len() {
-            self.settle_taken(handles[index].place as usize);
+            let handle = handles[index];
+            if !self.holds(handle) {
+                self.unsettle(handles, index);
+                return false;
+            }
+            self.assign(handle.place as usize, Use::Taken);
+            self.settle(handle.place as usize);
+        }
+        true
+    }
+
+    /// The sets of the first handles, each of which came first into its list, are held as before.
+    #[cold]
+    fn unsettle(&mut self, handles: &[SetHandle], count: usize)
+        requires few { count ≤ length handles.now }
+        requires settled { (before : SetTable T) × SettleEach handles.now count before self.old }
+        ensures { Changes (λ settled back. (before : SetTable T) → SettleEach handles.now count before
+            self.old → back ≡ slots_of before) self.old self.new }
+    {
+        for index in 0..count {
+            self.hold_again(handles[count - 1 - index].place as usize);
+        }
+    }
+
+    /// The set of a slot, which is the first of its list, is held again.
+    fn hold_again(&mut self, place: usize)
+        requires listed { is_in (list_of (slot_at (slots_of self.old) place))
+            (slot_at (slots_of self.old) place) ≡ true }
+        requires first { (chain_at self.old.chains.items
+            (list_of (slot_at (slots_of self.old) place))).first ≡ place }
+        ensures held { Changes (At place (used_for Use.Held)) self.old self.new }
+        ensures pops { Pops (list_of (slot_at (slots_of self.old) place)) place self.old self.new }
+    {
+        let list = self.list_of(place);
+        match self.pick(list) {
+            Some(first) => self.assign(first, Use::Held),
+            None => unreachable!(),
+        }
+    }
+
+    /// The list of a slot's set that is kept or goes.
+    fn list_of(&self, place: usize) -> usize
+        requires { place < length (slots_of self.now) }
+        ensures { result ≡ list_of (slot_at (slots_of self.now) place) }
+    {
+        let slot = &self.slots[place];
+        match slot.used {
+            Use::Kept => slot.layout as usize + KEPT,
+            Use::Held | Use::Drawn(_) | Use::Waits(_) | Use::Going | Use::Taken | Use::Vacant =>
+                GOING,
         }
     }
 

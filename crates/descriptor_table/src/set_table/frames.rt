@@ -148,7 +148,7 @@ impl<T> SetTable<T> {
     }
 
     /// Takes a set of the earliest frame.
-    #[inline]
+    #[inline(always)]
     pub(super) fn pick_earliest(&mut self) -> usize
         requires { 0 < length self.old.frames.items }
         ensures { Changes (Picks (is_of (frame_at self.old.frames.items 0).frame) result) self.old

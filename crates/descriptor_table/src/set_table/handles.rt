@@ -9,7 +9,7 @@ impl<T> SetTable<T> {
     ghost use Rattle.descriptor_table.specs.declared.slot.Slot.{Slot};
     ghost use Rattle.descriptor_table.specs.Sets.{AreHeldOnce};
     ghost use Rattle.descriptor_table.specs.Slots.{IsNowhere, slot_at};
-    ghost use Rattle.descriptor_table.specs.Tables.{At, Changes, Stays, TookEach, number_of};
+    ghost use Rattle.descriptor_table.specs.Tables.{At, Changes, KeepsLists, Stays, TookEach, number_of};
     ghost use Rattle.descriptor_table.specs.Tables.{slots_of, used_for};
 
     /// The set of a slot that is in no list is in use for something else, and in none then.
@@ -18,7 +18,8 @@ impl<T> SetTable<T> {
         requires within { place < length (slots_of self.old) }
         requires was { IsNowhere (slot_at (slots_of self.old) place).used }
         requires used { IsNowhere used }
-        ensures { Changes (At place (used_for used)) self.old self.new }
+        ensures changes { Changes (At place (used_for used)) self.old self.new }
+        ensures lists { KeepsLists self.old self.new }
     {
         self.slots[place].used = used;
     }

@@ -1,14 +1,15 @@
 //! The lists of slots without a set, of sets that go back, and of kept sets.
-ghost use Rattle.std.specs.Prelude.{◌≡◌, ◌+◌, ◌<◌, ◌≤◌, IsTrue, true, false, ℕ};
+ghost use Rattle.std.specs.Prelude.{◌≡◌, ◌+◌, ◌<◌, ◌≤◌, IfSome, IsTrue, None, true, false, ℕ};
 
 use super::{GOING, KEPT, SetTable};
+use crate::handle::SetHandle;
 use crate::slot::{Chain, Use};
 
 impl<T> SetTable<T> {
     ghost use Rattle.descriptor_table.specs.Slots.{chain_at, goes, is_in, is_kept_of, slot_at};
-    ghost use Rattle.descriptor_table.specs.Tables.{At, Changes, IsTaken, PicksAny, count, count_of};
+    ghost use Rattle.descriptor_table.specs.Tables.{At, Changes, IsTaken, PicksAny, Pops, Pushes, Renews, Stays, count, count_of};
     ghost use Rattle.descriptor_table.specs.Tables.{generations_of, is_kept, lists_of};
-    ghost use Rattle.descriptor_table.specs.Tables.{keep_of, slots_of, used_for};
+    ghost use Rattle.descriptor_table.specs.Tables.{keep_of, number_of, slots_of, used_for};
 
     /// A list by its number. One that there isn't has no slots.
     #[inline]
@@ -35,7 +36,8 @@ impl<T> SetTable<T> {
     /// Takes the first slot of a list out of it.
     #[inline]
     pub(super) fn pick(&mut self, list: usize) -> Option<usize>
-        ensures { Changes (PicksAny (is_in list) result) self.old self.new }
+        ensures picks { Changes (PicksAny (is_in list) result) self.old self.new }
+        ensures pops { IfSome result (λ place. Pops list place self.old self.new) }
     {
         let chain = self.chains.get_mut(list)?;
         if chain.count == 0 {
@@ -58,7 +60,8 @@ impl<T> SetTable<T> {
             → (slot_at (slots_of self.old) place).layout_generation ≡ generations_of self.old
             (slot_at (slots_of self.old) place).layout }
         requires few { 2 ≤ list → count_of list self.old < keep_of self.old }
-        ensures { Changes (At place (used_for used)) self.old self.new }
+        ensures changes { Changes (At place (used_for used)) self.old self.new }
+        ensures pushes { Pushes list place self.old self.new }
     {
         let chain = &mut self.chains[list];
         self.next[place] = chain.first;
@@ -73,6 +76,33 @@ impl<T> SetTable<T> {
         ensures { Changes (PicksAny (is_kept_of layout) result) self.old self.new }
     {
         self.pick(layout as usize + KEPT)
+    }
+
+    /// Holds a kept set of a layout, under its next handle.
+    #[inline]
+    pub fn hold_kept(&mut self, layout: u32) -> Option<SetHandle>
+        ensures holds { IfSome result (λ handle. (is_kept_of layout (slot_at (slots_of self.old)
+            handle.place) ≡ true) × Renews (number_of self.old) handle.place Use.Held handle
+            (slots_of self.old) (slots_of self.new)) }
+        ensures none { result ≡ None → (slots_of self.new ≡ slots_of self.old)
+            × (count (is_kept_of layout) (slots_of self.old) ≡ 0) }
+        ensures stays { Stays self.old self.new }
+    {
+        let chain = self.chains.get_mut(layout as usize + KEPT)?;
+        if chain.count == 0 {
+            return None;
+        }
+        let place = chain.first;
+        chain.first = self.next[place as usize];
+        chain.count -= 1;
+        let slot = &mut self.slots[place as usize];
+        slot.generation += 1;
+        slot.used = Use::Held;
+        Some(SetHandle {
+            renderer: self.number,
+            place,
+            generation: slot.generation,
+        })
     }
 
     /// How many sets of a layout are kept.

@@ -13,6 +13,15 @@ pub struct SetHandle {
     pub(crate) generation: u32,
 }
 
+impl SetHandle {
+    /// It names no set of any renderer.
+    pub const NONE: Self = SetHandle {
+        renderer: u64::MAX,
+        place: u32::MAX,
+        generation: 0,
+    };
+}
+
 /// The place of the slot of a handle.
 #[inline]
 pub fn place_of(handle: SetHandle) -> u32

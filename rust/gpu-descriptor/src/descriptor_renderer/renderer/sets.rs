@@ -6,11 +6,11 @@ use crate::descriptor_renderer::errors::{DestroyError, RenderError};
 use crate::descriptor_renderer::layout_registry::LayoutHandle;
 use crate::descriptor_table::SetHandle;
 use crate::gpu_descriptor::{AllocationError, DescriptorDevice};
-use crate::kit::vec::Vec;
 
 impl<L, P, S, D: DescriptorDevice<L, P, S>> Renderer<L, P, S, D> {
     /// Creates a set of a layout, which is held until it is freed or destroyed, in a frame or between
     /// two: the last one that was kept, or else a new one, as `draw` does.
+    #[inline]
     pub fn create_set(&mut self, layout: LayoutHandle) -> Result<SetHandle, RenderError>
     {
         let Some(known) = self.layouts.get(layout) else {
@@ -22,28 +22,29 @@ impl<L, P, S, D: DescriptorDevice<L, P, S>> Renderer<L, P, S, D> {
         }
     }
 
-    /// Creates `many` sets of a layout, all or none, each held until it is freed or destroyed: kept ones
-    /// first, the others new, in one request. Their handles are appended to `handles`. On an error
-    /// `handles` has what it had.
+    /// Creates a set of a layout for each place of `sets`, all or none, and writes their handles there:
+    /// each is held until it is freed or destroyed. Kept sets come first; the others are new, in one
+    /// request. On an error `sets` stays as it was. It allocates only what the new sets need.
     ///
     /// If the allocator refuses the new sets while sets of any layout are kept, all kept sets are freed
-    /// and empty pools are destroyed, as by `cleanup`, and it retries once, for all `many`. It does not,
-    /// and kept sets stay, if `many` sets alone have more update-after-bind descriptors than the limit
-    /// allows, or if an allocation of its own failed before the allocator was asked.
+    /// and empty pools are destroyed, as by `cleanup`, and it retries once, for all. It does not, and kept
+    /// sets stay, if all of them alone have more update-after-bind descriptors than the limit allows, or if
+    /// an allocation of its own failed before the allocator was asked. More than `u32::MAX` sets are
+    /// `OutOfHostMemory`.
+    #[inline]
     pub fn create_sets(
         &mut self,
         layout: LayoutHandle,
-        many: u32,
-        handles: &mut Vec<SetHandle>,
+        sets: &mut [SetHandle],
     ) -> Result<(), RenderError>
     {
         let Some(known) = self.layouts.get(layout) else {
             return Err(RenderError::NoLayout);
         };
-        if handles.reserve(many as usize).is_err() {
+        if sets.len() > u32::MAX as usize {
             return Err(RenderError::Allocation(AllocationError::OutOfHostMemory));
         }
-        match self.store.create_each(known, layout.place(), many, handles) {
+        match self.store.create_each(known, layout.place(), sets) {
             Ok(()) => Ok(()),
             Err(error) => Err(RenderError::Allocation(error)),
         }

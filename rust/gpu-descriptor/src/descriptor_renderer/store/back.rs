@@ -68,10 +68,9 @@ impl<L, P, S, D: DescriptorDevice<L, P, S>> Store<L, P, S, D> {
     /// has none, or is in the list twice, nothing changes, and it returns `false`.
     pub(crate) fn free_each(&mut self, handles: &[SetHandle]) -> bool
     {
-        if !self.table.take_each(handles) {
+        if !self.table.settle_held(handles) {
             return false;
         }
-        self.table.settle_each(handles);
         self.give();
         true
     }

@@ -4,7 +4,6 @@
 use super::Store;
 use crate::descriptor_table::SetHandle;
 use crate::gpu_descriptor::{AllocationError, DescriptorDevice, SetLayout};
-use crate::kit::vec::Vec;
 
 impl<L, P, S, D: DescriptorDevice<L, P, S>> Store<L, P, S, D> {
     /// Asks the allocator for so many sets of a layout, for which the table has room.
@@ -37,60 +36,59 @@ impl<L, P, S, D: DescriptorDevice<L, P, S>> Store<L, P, S, D> {
         }
     }
 
-    /// Holds a kept set of a layout, and appends its handle, over memory that was reserved.
+    /// Holds a kept set of a layout.
     #[inline]
-    fn hold_next(&mut self, layout: u32, handles: &mut Vec<SetHandle>)
+    fn hold_next(&mut self, layout: u32) -> SetHandle
     {
-        match self.table.take_kept(layout) {
-            Some(place) => handles.push_reserved(self.table.hold(place)),
+        match self.table.hold_kept(layout) {
+            Some(handle) => handle,
             None => unreachable!(),
         }
     }
 
-    /// Holds so many kept sets of a layout, and appends their handles, over memory that was reserved.
-    fn hold_kept(&mut self, layout: u32, many: u32, handles: &mut Vec<SetHandle>)
+    /// Holds kept sets of a layout, and writes their handles.
+    #[inline]
+    fn hold_kept(&mut self, layout: u32, handles: &mut [SetHandle])
     {
-        for _ in 0..many {
-            self.hold_next(layout, handles);
+        for index in 0..handles.len() {
+            handles[index] = self.hold_next(layout);
         }
     }
 
-    /// Holds one of the sets that are on their way, and appends its handle, over memory that was
-    /// reserved.
+    /// Holds one of the sets that are on their way.
     #[inline]
-    fn hold_last(&mut self, layout: u32, handles: &mut Vec<SetHandle>)
+    fn hold_last(&mut self, layout: u32) -> SetHandle
     {
         match self.coming.pop() {
             Some(set) => {
                 let place = self.table.put(layout, set);
-                handles.push_reserved(self.table.hold(place));
+                self.table.hold(place)
             }
             None => unreachable!(),
         }
     }
 
-    /// Holds the sets that are on their way, and appends their handles, over memory that was reserved.
-    fn hold_coming(&mut self, layout: u32, handles: &mut Vec<SetHandle>)
+    /// Holds the sets that are on their way, and writes their handles.
+    fn hold_coming(&mut self, layout: u32, handles: &mut [SetHandle])
     {
-        for _ in 0..self.coming.len() {
-            self.hold_last(layout, handles);
+        for index in 0..handles.len() {
+            handles[index] = self.hold_last(layout);
         }
     }
 
-    /// Takes so many sets of a layout, kept ones first, which are held, and appends their handles, over
-    /// memory that was reserved. On an error none is taken.
+    /// Takes a set of a layout for each place of `handles`, kept ones first, and writes their handles. The
+    /// sets are held. On an error none is taken.
     pub(crate) fn create_each(
         &mut self,
         known: &SetLayout<L>,
         layout: u32,
-        many: u32,
-        handles: &mut Vec<SetHandle>,
+        handles: &mut [SetHandle],
     ) -> Result<(), AllocationError>
     {
-        self.bring(known, layout, many)?;
-        let kept = many - self.coming.len() as u32;
-        self.hold_kept(layout, kept, handles);
-        self.hold_coming(layout, handles);
+        self.bring(known, layout, handles.len() as u32)?;
+        let (kept, new) = handles.split_at_mut(handles.len() - self.coming.len());
+        self.hold_kept(layout, kept);
+        self.hold_coming(layout, new);
         Ok(())
     }
 }

@@ -18,7 +18,7 @@ impl<T> SetTable<T> {
     }
 
     /// Keeps a set that a call has, or lets it go.
-    #[inline]
+    #[inline(always)]
     fn settle(&mut self, place: usize)
     {
         if self.may_stay(place) {
@@ -37,16 +37,6 @@ impl<T> SetTable<T> {
         }
     }
 
-    /// The set of a slot is kept or goes, if a call has it.
-    #[inline]
-    fn settle_taken(&mut self, place: usize)
-    {
-        if !self.has_taken(place) {
-            return;
-        }
-        self.settle(place);
-    }
-
     /// Whether a call has the set of a slot.
     #[inline]
     fn has_taken(&self, place: usize) -> bool
@@ -59,11 +49,49 @@ impl<T> SetTable<T> {
         }
     }
 
-    /// The sets of handles, which were taken, are kept or go. There are no others that were taken.
-    pub fn settle_each(&mut self, handles: &[SetHandle])
+    /// Frees the held sets of handles, all or none: each is kept, or goes. If a handle has no held set,
+    /// or is in the list twice, no set is freed, and it returns `false`.
+    pub fn settle_held(&mut self, handles: &[SetHandle]) -> bool
     {
         for index in 0..handles.len() {
-            self.settle_taken(handles[index].place as usize);
+            let handle = handles[index];
+            if !self.holds(handle) {
+                self.unsettle(handles, index);
+                return false;
+            }
+            self.assign(handle.place as usize, Use::Taken);
+            self.settle(handle.place as usize);
+        }
+        true
+    }
+
+    /// The sets of the first handles, each of which came first into its list, are held as before.
+    #[cold]
+    fn unsettle(&mut self, handles: &[SetHandle], count: usize)
+    {
+        for index in 0..count {
+            self.hold_again(handles[count - 1 - index].place as usize);
+        }
+    }
+
+    /// The set of a slot, which is the first of its list, is held again.
+    fn hold_again(&mut self, place: usize)
+    {
+        let list = self.list_of(place);
+        match self.pick(list) {
+            Some(first) => self.assign(first, Use::Held),
+            None => unreachable!(),
+        }
+    }
+
+    /// The list of a slot's set that is kept or goes.
+    fn list_of(&self, place: usize) -> usize
+    {
+        let slot = &self.slots[place];
+        match slot.used {
+            Use::Kept => slot.layout as usize + KEPT,
+            Use::Held | Use::Drawn(_) | Use::Waits(_) | Use::Going | Use::Taken | Use::Vacant =>
+                GOING,
         }
     }
 

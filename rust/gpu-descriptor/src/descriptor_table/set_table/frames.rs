@@ -114,7 +114,7 @@ impl<T> SetTable<T> {
     }
 
     /// Takes a set of the earliest frame.
-    #[inline]
+    #[inline(always)]
     pub(super) fn pick_earliest(&mut self) -> usize
     {
         if self.frames[0].count == 1 {

@@ -2,6 +2,7 @@
 //! The lists of slots without a set, of sets that go back, and of kept sets.
 
 use super::{GOING, KEPT, SetTable};
+use crate::descriptor_table::handle::SetHandle;
 use crate::descriptor_table::slot::{Chain, Use};
 
 impl<T> SetTable<T> {
@@ -56,6 +57,27 @@ impl<T> SetTable<T> {
     pub fn take_kept(&mut self, layout: u32) -> Option<usize>
     {
         self.pick(layout as usize + KEPT)
+    }
+
+    /// Holds a kept set of a layout, under its next handle.
+    #[inline]
+    pub fn hold_kept(&mut self, layout: u32) -> Option<SetHandle>
+    {
+        let chain = self.chains.get_mut(layout as usize + KEPT)?;
+        if chain.count == 0 {
+            return None;
+        }
+        let place = chain.first;
+        chain.first = self.next[place as usize];
+        chain.count -= 1;
+        let slot = &mut self.slots[place as usize];
+        slot.generation += 1;
+        slot.used = Use::Held;
+        Some(SetHandle {
+            renderer: self.number,
+            place,
+            generation: slot.generation,
+        })
     }
 
     /// How many sets of a layout are kept.

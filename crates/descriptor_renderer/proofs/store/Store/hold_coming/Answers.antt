@@ -1,33 +1,46 @@
 use Rattle.std.proofs.Common.{◌∙◌, [], ◌∷◌, inl, refl, arith}
+use Rattle.std.proofs.lemmas.List.{length-set}
 use Rattle.descriptor_renderer.specs.Stores.{ComesOf, current_in, number_of, slots_in}
 use Rattle.descriptor_renderer.proofs.Growing.{grow_more}
-use Rattle.descriptor_renderer.proofs.Joining.{held_next, held_start, sets_then, stays_then, store_same}
+use Rattle.descriptor_renderer.proofs.Joining.{held_all, held_next, held_start, sets_then, stays_then, store_same}
 use Rattle.descriptor_renderer.proofs.store.Store.hold_coming.Goals as goal
 
-pub loop-init : goal.loop-init
-loop-init g c = record {
-  holds = held_start c.args.layout c.args.handles.now.items c.args.self.now;
+pub loop-index-init : goal.loop-index-init
+loop-index-init g c = record {
+  long = refl;
+  holds = held_start c.args.layout c.args.self.now;
   fewer = omega arith;
-  room = refl;
   own = λ known own. own;
   table = c.requires.can.table;
   keeps = record { side = refl; sets = λ known own p x e. inl (e, refl); grows = inl refl; stays = store_same c.args.self.now };
 }
 
-pub loop-preserved : goal.loop-preserved
-loop-preserved g c =
-    let was = c.loop.invariant in
+pub loop-index-preserved : goal.loop-index-preserved
+loop-index-preserved g c =
+    let was = c.loop-index.invariant in
     let now = c.hold_last.ensures in
+    let i = c.loop-index.index in
+    let s = c.args.self.now in
+    let handle = c.hold_last.result in
+    let lt = c.loop-index-test.true in
+    let long = was.long in
     record {
-      holds = held_next c.args.layout c.loop.counter c.args.handles.now.items c.loop.handles.items c.hold_last.new.handles.items c.args.self.now c.loop.self c.hold_last.new.self was.keeps.stays was.holds now.holds;
+      long = length-set c.loop-index.handles i handle ∙ was.long;
+      holds = held_next c.args.layout i c.loop-index.handles handle s c.loop-index.self c.hold_last.new.self was.keeps.stays (omega arith) was.holds now.holds;
       fewer = (let a = was.fewer in let b = now.fewer in omega arith);
-      room = now.room ∙ was.room;
       own = λ known own. now.own known (was.own known own);
       table = now.table;
       keeps = record {
         side = now.keeps.side ∙ was.keeps.side;
-        sets = λ known own. sets_then (ComesOf g.D.DescriptorDevice.meaning known c.args.layout) (slots_in c.args.self.now) (slots_in c.loop.self) (slots_in c.hold_last.new.self) (was.keeps.sets known own) (now.keeps.sets known (was.own known own));
-        grows = grow_more (number_of c.loop.self) (current_in c.args.layout c.loop.self) (now.holds.0 ∷ []) (slots_in c.args.self.now) (slots_in c.loop.self) (slots_in c.hold_last.new.self) was.keeps.grows now.keeps.grows now.holds.2;
-        stays = stays_then c.args.self.now c.loop.self c.hold_last.new.self was.keeps.stays now.keeps.stays;
+        sets = λ known own. sets_then (ComesOf g.D.DescriptorDevice.meaning known c.args.layout) (slots_in s) (slots_in c.loop-index.self) (slots_in c.hold_last.new.self) (was.keeps.sets known own) (now.keeps.sets known (was.own known own));
+        grows = grow_more (number_of c.loop-index.self) (current_in c.args.layout c.loop-index.self) (handle ∷ []) (slots_in s) (slots_in c.loop-index.self) (slots_in c.hold_last.new.self) was.keeps.grows now.keeps.grows now.holds;
+        stays = stays_then s c.loop-index.self c.hold_last.new.self was.keeps.stays now.keeps.stays;
       };
     }
+
+pub returns-clause-holds : goal.returns-clause-holds
+returns-clause-holds g c =
+    let was = c.loop-index.invariant in
+    let end = c.loop-index-test.false in
+    let long = was.long in
+    held_all (number_of c.args.self.now) (current_in c.args.layout c.args.self.now) c.loop-index.index c.loop-index.handles (slots_in c.args.self.now) (slots_in c.loop-index.self) (omega arith) was.holds

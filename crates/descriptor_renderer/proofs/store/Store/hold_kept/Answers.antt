@@ -1,32 +1,45 @@
 use Rattle.std.proofs.Common.{◌∙◌, [], ◌∷◌, inl, refl, arith}
+use Rattle.std.proofs.lemmas.List.{length-set}
 use Rattle.descriptor_renderer.specs.Stores.{NoneComes, current_in, number_of, slots_in}
 use Rattle.descriptor_renderer.proofs.Growing.{grow_more}
-use Rattle.descriptor_renderer.proofs.Joining.{held_next, held_start, kept_then, stays_then, store_same, were_kept}
+use Rattle.descriptor_renderer.proofs.Joining.{held_all, held_next, held_start, kept_then, stays_then, store_same, were_kept}
 use Rattle.descriptor_renderer.proofs.store.Store.hold_kept.Goals as goal
 
-pub loop-init : goal.loop-init
-loop-init g c = record {
-  holds = held_start c.args.layout c.args.handles.now.items c.args.self.now;
+pub loop-index-init : goal.loop-index-init
+loop-index-init g c = record {
+  long = refl;
+  holds = held_start c.args.layout c.args.self.now;
   were_kept = λ i lt. absurd (omega arith);
   fewer = omega arith;
-  room = refl;
   keeps = record { side = refl; sets = λ p x e. inl (e, refl); table = λ n room. room; grows = inl refl; stays = record { store = store_same c.args.self.now; coming = refl } };
 }
 
-pub loop-preserved : goal.loop-preserved
-loop-preserved g c =
-    let was = c.loop.invariant in
+pub loop-index-preserved : goal.loop-index-preserved
+loop-index-preserved g c =
+    let was = c.loop-index.invariant in
     let now = c.hold_next.ensures in
+    let i = c.loop-index.index in
+    let s = c.args.self.now in
+    let handle = c.hold_next.result in
+    let lt = c.loop-index-test.true in
+    let long = was.long in
     record {
-      holds = held_next c.args.layout c.loop.counter c.args.handles.now.items c.loop.handles.items c.hold_next.new.handles.items c.args.self.now c.loop.self c.hold_next.new.self was.keeps.stays.store was.holds now.holds;
-      were_kept = were_kept (number_of c.args.self.now) (current_in c.args.layout c.args.self.now) c.args.layout c.loop.counter c.args.handles.now.items c.loop.handles.items c.hold_next.new.handles.items was.holds.0 now.holds.0 (slots_in c.args.self.now) (slots_in c.loop.self) was.holds.1 was.holds.2 was.holds.3 now.holds.1 was.were_kept now.was_kept;
+      long = length-set c.loop-index.handles i handle ∙ was.long;
+      holds = held_next c.args.layout i c.loop-index.handles handle s c.loop-index.self c.hold_next.new.self was.keeps.stays.store (omega arith) was.holds now.holds;
+      were_kept = were_kept (number_of s) (current_in c.args.layout s) c.args.layout i c.loop-index.handles handle (slots_in s) (slots_in c.loop-index.self) (omega arith) was.holds was.were_kept now.was_kept;
       fewer = (let a = was.fewer in let b = now.fewer in omega arith);
-      room = now.room ∙ was.room;
       keeps = record {
         side = now.keeps.side ∙ was.keeps.side;
-        sets = kept_then NoneComes (slots_in c.args.self.now) (slots_in c.loop.self) (slots_in c.hold_next.new.self) was.keeps.sets now.keeps.sets;
+        sets = kept_then NoneComes (slots_in s) (slots_in c.loop-index.self) (slots_in c.hold_next.new.self) was.keeps.sets now.keeps.sets;
         table = λ n room. now.keeps.table n (was.keeps.table n room);
-        grows = grow_more (number_of c.loop.self) (current_in c.args.layout c.loop.self) (now.holds.0 ∷ []) (slots_in c.args.self.now) (slots_in c.loop.self) (slots_in c.hold_next.new.self) was.keeps.grows now.keeps.grows now.holds.2;
-        stays = record { store = stays_then c.args.self.now c.loop.self c.hold_next.new.self was.keeps.stays.store now.keeps.stays.store; coming = now.keeps.stays.coming ∙ was.keeps.stays.coming };
+        grows = grow_more (number_of c.loop-index.self) (current_in c.args.layout c.loop-index.self) (handle ∷ []) (slots_in s) (slots_in c.loop-index.self) (slots_in c.hold_next.new.self) was.keeps.grows now.keeps.grows now.holds;
+        stays = record { store = stays_then s c.loop-index.self c.hold_next.new.self was.keeps.stays.store now.keeps.stays.store; coming = now.keeps.stays.coming ∙ was.keeps.stays.coming };
       };
     }
+
+pub returns-clause-holds : goal.returns-clause-holds
+returns-clause-holds g c =
+    let was = c.loop-index.invariant in
+    let end = c.loop-index-test.false in
+    let long = was.long in
+    held_all (number_of c.args.self.now) (current_in c.args.layout c.args.self.now) c.loop-index.index c.loop-index.handles (slots_in c.args.self.now) (slots_in c.loop-index.self) (omega arith) was.holds

@@ -50,7 +50,7 @@ pub returns-clause-holds : goal.returns-clause-holds
 returns-clause-holds g c =
     let h = (goal.at.returns-clause-holds g c).After-hold in
     let fills = new_fills (λ l x. ⊤) (number_of c.args.self.now) (generations_in c.args.self.now) c.args.layout c.put-place.result Held c.hold.result c.in-Some.set (slots_in c.args.self.now) (slots_of c.put-place.new.self) (slots_of c.hold.new.self) c.put-place.ensures.puts tt (renews g h) in
-    (c.hold.result, c.push_reserved.ensures.items, hold_one (λ l x. ⊤) (number_of c.args.self.now) (generations_in c.args.self.now) c.args.layout c.put-place.result c.hold.result (slots_in c.args.self.now) (slots_of c.hold.new.self) fills)
+    hold_one (λ l x. ⊤) (number_of c.args.self.now) (generations_in c.args.self.now) c.args.layout c.put-place.result c.hold.result (slots_in c.args.self.now) (slots_of c.hold.new.self) fills
 
 pub returns-clause-own : goal.returns-clause-own
 returns-clause-own g c = λ known own k d lt.

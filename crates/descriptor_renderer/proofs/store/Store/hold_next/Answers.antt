@@ -1,35 +1,33 @@
-use Rattle.std.proofs.Common.{◌≡◌, ◌+◌, ◌∙◌, true, [], ◌∷◌, length, refl, sym, ap, subst, arith, rules, ℕ}
+use Rattle.std.proofs.Common.{◌≡◌, ◌+◌, ◌<◌, inl, length, refl, sym, ap, ◌∙◌, arith, rules}
 use Rattle.std.proofs.lemmas.List.{length-set}
 use Rattle.descriptor_table.specs.Sets.{sets_in}
 use Rattle.descriptor_table.specs.Slots.{is_kept_of, slot_at}
-use Rattle.descriptor_table.specs.Tables.{Renews, place_at, renewed, slots_of, used_for, HasRoom}
-use Rattle.descriptor_table.specs.declared.handle.SetHandle.{SetHandle}
+use Rattle.descriptor_table.specs.Tables.{Picks, Renews, count, is_usable, renewed, slots_of, used_for}
 use Rattle.descriptor_table.specs.declared.slot.Use.TheVariants.{Held, Taken}
-use Rattle.descriptor_table.proofs.Counts.{none_count}
-use Rattle.descriptor_table.proofs.Listed.{slot_set}
-use Rattle.descriptor_table.proofs.Renewing.{room_stays, usable_picked, usable_renewed}
+use Rattle.descriptor_table.proofs.Listed.{slot_set, test_within, with_use}
+use Rattle.descriptor_table.proofs.Renewing.{renews_picked, renews_stay, room_stays, usable_picked, usable_renewed}
 use Rattle.descriptor_renderer.specs.Stores.{NoneComes, generations_in, number_of, slots_in}
-use Rattle.descriptor_renderer.proofs.Given.{accounted_as, exact_as, picked_sets, renewed_sets}
+use Rattle.descriptor_renderer.proofs.Given.{accounted_as, exact_as, held_sets}
 use Rattle.descriptor_renderer.proofs.Growing.{grow_kept}
 use Rattle.descriptor_renderer.proofs.Handing.{kept_fewer, kept_fills}
-use Rattle.descriptor_renderer.proofs.Joining.{hold_one, place_after}
+use Rattle.descriptor_renderer.proofs.Joining.{hold_one}
 use Rattle.descriptor_renderer.proofs.store.Store.hold_next.Given.{Over}
 use Rattle.descriptor_renderer.proofs.store.Store.hold_next.Goals as goal
-use Rattle.descriptor_renderer.proofs.store.Store.hold_next.Goals.{After-hold}
+use Rattle.descriptor_renderer.proofs.store.Store.hold_next.Goals.{After-hold_kept, In-Some}
 
-renews : (g : Over) (c : After-hold g) → Renews (number_of c.args.self.now) c.in-Some.place Held c.hold.result (slots_of c.take_kept.new.self) (slots_of c.hold.new.self)
-renews g c = subst (λ n. Renews n c.in-Some.place Held c.hold.result (slots_of c.take_kept.new.self) (slots_of c.hold.new.self)) c.take_kept.ensures.stays.settings.number c.hold.ensures.slots
+within : (g : Over) (c : In-Some g) → c.in-Some.handle.place < length (slots_in c.args.self.now)
+within g c = test_within (is_kept_of c.args.layout) (slots_in c.args.self.now) c.in-Some.handle.place refl c.in-Some.ensures.holds.0
 
-same_sets : (g : Over) (c : After-hold g) → sets_in (slots_of c.hold.new.self) ≡ sets_in (slots_in c.args.self.now)
-same_sets g c =
-    renewed_sets (number_of c.args.self.now) c.in-Some.place Held c.hold.result (slots_of c.take_kept.new.self)
-    (slots_of c.hold.new.self) (renews g c)
-    ∙ picked_sets (is_kept_of c.args.layout) c.in-Some.place (slots_in c.args.self.now) (slots_of c.take_kept.new.self)
-    c.in-Some.ensures.slots
+-- the set left its list, and then got the handle
+steps : (g : Over) (c : In-Some g) → Picks (is_kept_of c.args.layout) c.in-Some.handle.place (slots_in c.args.self.now) (with_use c.in-Some.handle.place Taken (slots_in c.args.self.now)) × Renews (number_of c.args.self.now) c.in-Some.handle.place Held c.in-Some.handle (with_use c.in-Some.handle.place Taken (slots_in c.args.self.now)) (slots_of c.hold_kept.new.self)
+steps g c = renews_picked (is_kept_of c.args.layout) (number_of c.args.self.now) c.in-Some.handle.place Held c.in-Some.handle (slots_in c.args.self.now) (slots_of c.hold_kept.new.self) c.in-Some.ensures.holds.0 (within g c) c.in-Some.ensures.holds.1
+
+same_sets : (g : Over) (c : After-hold_kept g) → sets_in (slots_of c.hold_kept.new.self) ≡ sets_in (slots_in c.args.self.now)
+same_sets g c = held_sets c.args.layout (number_of c.args.self.now) c.hold_kept.result (slots_in c.args.self.now) (slots_of c.hold_kept.new.self) c.hold_kept.ensures.holds c.hold_kept.ensures.none
 
 pub unreachable-requires : goal.unreachable-requires
 unreachable-requires g c =
-    let none = none_count (is_kept_of c.args.layout) (slots_in c.args.self.now) c.in-None.ensures.slots.none in
+    let none = (c.in-None.ensures.none refl).1 in
     let some = c.requires.kept in
     omega arith
 
@@ -41,46 +39,49 @@ invariant_of-self-clause-accounted g c = accounted_as c.args.self.now (same_sets
 
 pub returns-clause-holds : goal.returns-clause-holds
 returns-clause-holds g c =
-    let h = (goal.at.returns-clause-holds g c).After-hold in
-    let fills =
-    kept_fills NoneComes (number_of c.args.self.now) (generations_in c.args.self.now) c.args.layout c.in-Some.place
-    Held c.hold.result (slots_in c.args.self.now) (slots_of c.take_kept.new.self) (slots_of c.hold.new.self)
-    (λ q within. (c.args.self.now.table.known q within).kept) c.in-Some.ensures.slots (renews g h) in
-    (c.hold.result, c.push_reserved.ensures.items, hold_one NoneComes (number_of c.args.self.now) (generations_in c.args.self.now) c.args.layout c.in-Some.place c.hold.result (slots_in c.args.self.now) (slots_of c.hold.new.self) fills)
+    let s = c.args.self.now in
+    let h = c.in-Some.handle in
+    let both = steps g (goal.at.returns-clause-holds g c).In-Some in
+    hold_one NoneComes (number_of s) (generations_in s) c.args.layout h.place h (slots_in s) (slots_of c.hold_kept.new.self)
+    (kept_fills NoneComes (number_of s) (generations_in s) c.args.layout h.place Held h (slots_in s) (with_use h.place Taken (slots_in s)) (slots_of c.hold_kept.new.self)
+    (λ q inside. (s.table.known q inside).kept) both.0 both.1)
 
 pub returns-clause-was_kept : goal.returns-clause-was_kept
-returns-clause-was_kept g c =
-    let h = (goal.at.returns-clause-was_kept g c).After-hold in
-    let at : place_at c.push_reserved.new.self.items (length c.args.handles.now.items) ≡ c.in-Some.place =
-    subst (λ n. place_at c.push_reserved.new.self.items n ≡ c.hold.result.place) (omega arith) (place_after c.args.handles.now.items c.push_reserved.new.self.items (c.hold.result ∷ []) c.push_reserved.ensures.items 0)
-    ∙ ap (λ (h : SetHandle). h.place) (renews g h).is in
-    subst (λ p. is_kept_of c.args.layout (slot_at (slots_in c.args.self.now) p) ≡ true) (sym at) c.in-Some.ensures.slots.was
+returns-clause-was_kept g c = c.in-Some.ensures.holds.0
 
 pub returns-clause-fewer : goal.returns-clause-fewer
-returns-clause-fewer g c = kept_fewer c.args.layout c.in-Some.place (number_of c.args.self.now) Held c.hold.result (slots_in c.args.self.now) (slots_of c.take_kept.new.self) (slots_of c.hold.new.self) c.in-Some.ensures.slots (renews g (goal.at.returns-clause-fewer g c).After-hold) (λ s. refl)
+returns-clause-fewer g c =
+    let s = c.args.self.now in
+    let h = c.in-Some.handle in
+    let both = steps g (goal.at.returns-clause-fewer g c).In-Some in
+    kept_fewer c.args.layout h.place (number_of s) Held h (slots_in s) (with_use h.place Taken (slots_in s)) (slots_of c.hold_kept.new.self) both.0 both.1 (λ s. refl)
 
-table : (g : Over) (c : After-hold g) (n : ℕ) → HasRoom n c.args.self.now.table → HasRoom n c.hold.new.self
-table g c = λ n room.
-    let at = c.in-Some.place in
-    let old = slots_in c.args.self.now in
-    let mid = slots_of c.take_kept.new.self in
-    let picks = c.in-Some.ensures.slots in
-    let r = renews g c in
-    let slot = ap (λ l. (slot_at l at).used) picks.slots ∙ ap (λ s. s.used) (slot_set old at (used_for Taken (slot_at old at)) picks.within) in
-    let less = room_stays n c.args.self.now.table c.take_kept.new.self c.take_kept.ensures.stays (ap length picks.slots ∙ length-set old at (used_for Taken (slot_at old at))) (usable_picked (c.args.layout + 2) at old mid (λ e. omega arith) picks) room in
-    let size = ap length picks.slots ∙ length-set old at (used_for Taken (slot_at old at)) in
-    let within = picks.within in
-    room_stays n c.take_kept.new.self c.hold.new.self c.hold.ensures.stays (ap length r.slots ∙ length-set mid at (renewed Held (slot_at mid at))) (usable_renewed (number_of c.args.self.now) at Held c.hold.result mid (slots_of c.hold.new.self) r (omega arith) slot refl) less
+-- as many slots are usable
+usable : (g : Over) (c : In-Some g) → count is_usable (slots_of c.hold_kept.new.self) ≡ count is_usable (slots_in c.args.self.now)
+usable g c =
+    let s = c.args.self.now in
+    let h = c.in-Some.handle in
+    let old = slots_in s in
+    let mid = with_use h.place Taken old in
+    let both = steps g c in
+    let size = length-set old h.place (used_for Taken (slot_at old h.place)) in
+    let inside = within g c in
+    usable_renewed (number_of s) h.place Held h mid (slots_of c.hold_kept.new.self) both.1 (omega arith) (ap (λ s. s.used) (slot_set old h.place (used_for Taken (slot_at old h.place)) inside)) refl
+    ∙ usable_picked (c.args.layout + 2) h.place old mid (λ e. omega arith) both.0
 
 pub returns-clause-keeps : goal.returns-clause-keeps
 returns-clause-keeps g c =
-    let h = (goal.at.returns-clause-keeps g c).After-hold in
+    let i = (goal.at.returns-clause-keeps g c).In-Some in
+    let s = c.args.self.now in
+    let h = c.in-Some.handle in
+    let old = slots_in s in
+    let new = slots_of c.hold_kept.new.self in
+    let both = steps g i in
+    let r = c.in-Some.ensures.holds.1 in
     record {
       side = refl;
-      sets = search rules;
-      table = table g h;
-      grows = grow_kept (is_kept_of c.args.layout) c.in-Some.place (number_of c.args.self.now) c.in-Some.place Held c.hold.result
-          (slots_in c.args.self.now) (slots_of c.take_kept.new.self) (slots_of c.hold.new.self) c.in-Some.ensures.slots
-          (renews g h);
+      sets = λ p x e. (let stay = renews_stay (number_of s) h.place Held h old new (within g i) r p in inl (sym stay.0 ∙ e, stay.1));
+      table = λ n room. room_stays n s.table c.hold_kept.new.self c.hold_kept.ensures.stays (ap length r.slots ∙ length-set old h.place (renewed Held (slot_at old h.place))) (usable g i) room;
+      grows = grow_kept (is_kept_of c.args.layout) h.place (number_of s) h.place Held h old (with_use h.place Taken old) new both.0 both.1;
       stays = record { store = search rules; coming = refl };
     }

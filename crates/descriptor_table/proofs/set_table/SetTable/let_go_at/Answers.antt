@@ -10,6 +10,6 @@ returns g c =
     let old = slots_of c.args.self.now in
     let slot = c.index_mut-slot.result.now in
     record {
-      slots = held_goes old _ (slots_of c.link.new.self) c.args.place Going slot c.requires (read_slot old c.args.place slot c.requires c.index_mut-slot.ensures.value) c.in-Held.is c.if-is_none.ensures refl c.link.ensures.slots;
+      slots = held_goes old _ (slots_of c.link.new.self) c.args.place Going slot c.requires (read_slot old c.args.place slot c.requires c.index_mut-slot.ensures.value) c.in-Held.is c.if-is_none.ensures refl c.link.ensures.changes.slots;
       stays = search rules;
     }

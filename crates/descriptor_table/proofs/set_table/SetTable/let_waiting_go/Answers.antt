@@ -23,12 +23,12 @@ pub loop-self-preserved : goal.loop-self-preserved
 loop-self-preserved g c = record {
   turning =
       go_step waits (slots_of c.loop-self.self) (slots_of c.pick_earliest-place.new.self) (slots_of c.link.new.self) c.pick_earliest-place.result
-      (picks g (goal.at.loop-self-preserved g c).After-link) c.link.ensures.slots (λ s. refl) (slots_of c.args.self.now) c.loop-self.invariant.turning;
-  stays = stays_more c.args.self.now c.loop-self.self c.link.new.self c.loop-self.invariant.stays (stays_more c.loop-self.self c.pick_earliest-place.new.self c.link.new.self c.pick_earliest-place.ensures.stays c.link.ensures.stays);
+      (picks g (goal.at.loop-self-preserved g c).After-link) c.link.ensures.changes.slots (λ s. refl) (slots_of c.args.self.now) c.loop-self.invariant.turning;
+  stays = stays_more c.args.self.now c.loop-self.self c.link.new.self c.loop-self.invariant.stays (stays_more c.loop-self.self c.pick_earliest-place.new.self c.link.new.self c.pick_earliest-place.ensures.stays c.link.ensures.changes.stays);
 }
 
 pub loop-self-smaller : goal.loop-self-smaller
-loop-self-smaller g c = go_fewer waits (slots_of c.loop-self.self) (slots_of c.pick_earliest-place.new.self) (slots_of c.link.new.self) c.pick_earliest-place.result (picks g (goal.at.loop-self-smaller g c).After-link) c.link.ensures.slots (λ s. refl)
+loop-self-smaller g c = go_fewer waits (slots_of c.loop-self.self) (slots_of c.pick_earliest-place.new.self) (slots_of c.link.new.self) c.pick_earliest-place.result (picks g (goal.at.loop-self-smaller g c).After-link) c.link.ensures.changes.slots (λ s. refl)
 
 pub returns : goal.returns
 returns g c =

@@ -67,3 +67,13 @@ invariant_of-self-clause-few g c =
     (read_chain s.chains.items c.args.list c.index_mut-chain.result.now c.requires.list
     c.index_mut-chain.ensures.value) in
     omega arith)
+
+pub returns-clause-pushes : goal.returns-clause-pushes
+returns-clause-pushes g c =
+    let s = c.args.self.now in
+    let is = read_chain s.chains.items c.args.list c.index_mut-chain.result.now c.requires.list c.index_mut-chain.ensures.value in
+    record {
+      there = c.requires.list;
+      chains = (λ i. set s.chains.items c.args.list (record { first = c.args.place; count = (is i).count + 1 }));
+      next = (λ i. set s.next.items c.args.place (is i).first);
+    }

@@ -40,7 +40,7 @@ invariant_of-self-2-clause-linked g c =
     let d = (goal.at.invariant_of-self-2-clause-linked g c).Else-chain-eq0 in
     let p = first g d in
     let links = s.sized.links in
-    pick_linked s.slots.items s.next.items s.chains.items c.args.list c.in_ok-chain.chain.now s.linked (is_list g d) c.index_mut.result.now c.index.result.now c.if-chain-eq0.false (there g d) (get_or_read s.next.items c.in_ok-chain.chain.now.first c.index.result.now (omega arith) c.index.ensures 0)
+    pick_linked s.slots.items s.next.items s.chains.items c.args.list c.in_ok-chain.chain.now s.linked (is_list g d) (used_for Taken c.index_mut.result.now) c.index.result.now c.if-chain-eq0.false (there g d) (get_or_read s.next.items c.in_ok-chain.chain.now.first c.index.result.now (omega arith) c.index.ensures 0) (λ j. refl)
 
 pub invariant_of-self-2-clause-framed : goal.invariant_of-self-2-clause-framed
 invariant_of-self-2-clause-framed g c =
@@ -70,9 +70,23 @@ invariant_of-self-2-clause-few g c =
     let same = ap (λ (d : Chain). d.count) (is_list g d) in
     few_set s.keep s.chains.items c.args.list (record { first = c.index.result.now; count = c.in_ok-chain.chain.now.count - 1 }) s.few (there g d) (λ two. let few = s.few c.args.list two in omega arith)
 
-pub returns : goal.returns
-returns g c =
+pub returns-clause-picks : goal.returns-clause-picks
+returns-clause-picks g c =
     let s = c.args.self.now in
     let at = c.in_ok-chain.chain.now.first in
-    let p = first g (goal.at.returns g c).Else-chain-eq0 in
+    let p = first g (goal.at.returns-clause-picks g c).Else-chain-eq0 in
     record { slots = record { was = p.1; within = p.0; slots = ap (λ w. set s.slots.items at (used_for Taken w)) (read_slot s.slots.items at c.index_mut.result.now p.0 c.index_mut.ensures.value) }; stays = search rules }
+
+pub returns-clause-pops : goal.returns-clause-pops
+returns-clause-pops g c =
+    let s = c.args.self.now in
+    let d = (goal.at.returns-clause-pops g c).Else-chain-eq0 in
+    let p = first g d in
+    let links = s.sized.links in
+    let is = is_list g d in
+    let after = get_or_read s.next.items c.in_ok-chain.chain.now.first c.index.result.now (omega arith) c.index.ensures 0 in
+    record {
+      first = ap (λ (x : Chain). x.first) is;
+      chains = (λ i. set s.chains.items c.args.list (record { first = after i; count = (sym is i).count - 1 }));
+      next = refl;
+    }

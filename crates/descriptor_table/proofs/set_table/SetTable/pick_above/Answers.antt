@@ -19,4 +19,4 @@ returns g c =
     let a = ap (λ (d : Chain). d.count) c.chain.ensures in
     let b = chain_count s.slots.items s.next.items s.chains.items s.linked c.args.list in
     let gt = c.if-chain-most.false in
-    record { slots = above_of c.args.list c.args.most c.pick.result (slots_of s) (slots_of c.pick.new.self) (omega arith) c.pick.ensures.slots; stays = c.pick.ensures.stays }
+    record { slots = above_of c.args.list c.args.most c.pick.result (slots_of s) (slots_of c.pick.new.self) (omega arith) c.pick.ensures.picks.slots; stays = c.pick.ensures.picks.stays }

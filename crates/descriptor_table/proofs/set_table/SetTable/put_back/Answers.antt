@@ -6,8 +6,8 @@ use Rattle.descriptor_table.proofs.set_table.SetTable.put_back.Goals as goal
 
 pub loop-index-preserved : goal.loop-index-preserved
 loop-index-preserved g c = record {
-  put = λ before took. put_more c.args.handles.now c.args.count c.loop-index.index before (slots_of c.loop-index.self) (slots_of c.args.self.now) took (c.loop-index.invariant.put before took) c.loop-index-test.true (slots_of c.assign.new.self) c.assign.ensures.slots;
-  stays = stays_more c.args.self.now c.loop-index.self c.assign.new.self c.loop-index.invariant.stays c.assign.ensures.stays;
+  put = λ before took. put_more c.args.handles.now c.args.count c.loop-index.index before (slots_of c.loop-index.self) (slots_of c.args.self.now) took (c.loop-index.invariant.put before took) c.loop-index-test.true (slots_of c.assign.new.self) c.assign.ensures.changes.slots;
+  stays = stays_more c.args.self.now c.loop-index.self c.assign.new.self c.loop-index.invariant.stays c.assign.ensures.changes.stays;
 }
 
 pub returns : goal.returns
