@@ -254,6 +254,194 @@ fn kept_sets_come_first() {
     shutdown(it);
 }
 
+/// The raw sets of handles.
+fn all_raw(it: &Sets, handles: &[SetHandle]) -> Vec<u64> {
+    handles.iter().map(|set| raw(it, *set)).collect()
+}
+
+/// Each place of a slice gets a handle, and no other place. Several calls write into one array.
+#[test]
+fn each_place_of_a_slice_has_a_handle() {
+    let gpu = Gpu::default();
+    let (mut it, layouts) = renderer(&gpu, u32::MAX);
+    let two = it.create_sets(layouts[0], 2).unwrap();
+    let kept = all_raw(&it, &two);
+    free(&mut it, &two);
+
+    let mut sets = [SetHandle::NONE; 9];
+    it.create_sets_into(layouts[0], &mut sets[2..6]).unwrap();
+    for (at, set) in sets.iter().enumerate() {
+        assert_eq!(*set != SetHandle::NONE, (2..6).contains(&at));
+    }
+    // The last one that was kept is first, under a new handle.
+    assert_eq!(all_raw(&it, &sets[2..4]), [kept[1], kept[0]]);
+    assert!(two.iter().all(|old| it.set(*old).is_none()));
+    assert_eq!(it.counts(), counts(4, 0, 0));
+
+    it.create_sets_into(layouts[0], &mut sets[6..]).unwrap();
+    it.create_sets_into(layouts[1], &mut sets[..2]).unwrap();
+    it.create_sets_into(layouts[0], &mut sets[..0]).unwrap();
+    let raws = all_raw(&it, &sets);
+    assert_eq!(raws.iter().collect::<HashSet<_>>().len(), 9);
+    for (at, raw) in raws.iter().enumerate() {
+        assert_eq!(gpu.sets.borrow()[raw].1, u32::from(at < 2));
+    }
+    assert_eq!((it.counts(), gpu.live()), (counts(9, 0, 0), 9));
+    free(&mut it, &sets);
+    assert_eq!(layouts.map(|at| it.kept_count(at)), [7, 2, 0, 0]);
+    shutdown(it);
+}
+
+/// Kept sets for a slice want nothing of the device, and no memory.
+#[test]
+fn a_slice_of_kept_sets_asks_for_nothing() {
+    let gpu = Gpu::default();
+    let (mut it, layouts) = renderer(&gpu, u32::MAX);
+    let mut sets = [SetHandle::NONE; 5];
+    it.create_sets_into(layouts[0], &mut sets).unwrap();
+    free(&mut it, &sets);
+    let before = (gpu.calls.get(), calls());
+    counted(|| it.create_sets_into(layouts[0], &mut sets)).unwrap();
+    assert_eq!((gpu.calls.get(), calls()), before);
+    free(&mut it, &sets);
+    shutdown(it);
+}
+
+/// A slice stays as it was if its request is refused, whatever the reason.
+#[test]
+fn a_refused_slice_stays_as_it_was() {
+    let gpu = Gpu::default();
+    let (mut it, layouts) = renderer(&gpu, u32::MAX);
+    let large = add_marked(&mut it, LIMIT + 1);
+    let held = it.create_sets(layouts[2], 100).unwrap();
+    let mut sets = held.clone();
+    // No memory for a hundred slots more.
+    let (answer, _) = with_refused(0, || it.create_sets_into(layouts[0], &mut sets));
+    assert_eq!(answer, Err(RenderError::Allocation(OutOfHostMemory)));
+    assert_eq!(sets, held);
+    // The first pool of the layout, and then the sets of the second try, which follows as some are kept.
+    for (kept, refused) in [(0, 1), (4, 2)] {
+        let some = it.create_sets(layouts[0], kept).unwrap();
+        free(&mut it, &some);
+        gpu.refuse(refused, 0, 0);
+        let answer = it.create_sets_into(layouts[0], &mut sets);
+        assert_eq!(answer, Err(RenderError::Allocation(OutOfDeviceMemory)));
+        assert_eq!((&sets, gpu.refuses.get()), (&held, 0));
+    }
+    let answer = it.create_sets_into(large, &mut sets);
+    assert_eq!(answer, Err(RenderError::Allocation(Fragmentation)));
+    assert_eq!(sets, held);
+    it.remove_layout(layouts[1]).unwrap();
+    let answer = it.create_sets_into(layouts[1], &mut sets);
+    assert_eq!(answer, Err(RenderError::NoLayout));
+    assert_eq!(sets, held);
+    assert_eq!((it.counts(), gpu.live()), (counts(100, 0, 0), 100));
+    free(&mut it, &sets);
+    shutdown(it);
+}
+
+/// A request for no set is met, but not of a layout that was removed.
+#[test]
+fn an_empty_slice() {
+    let gpu = Gpu::default();
+    let (mut it, layouts) = renderer(&gpu, u32::MAX);
+    it.remove_layout(layouts[1]).unwrap();
+    assert_eq!(it.create_sets_into(layouts[0], &mut []), Ok(()));
+    assert_eq!(it.create_sets(layouts[0], 0), Ok(Vec::new()));
+    let answer = it.create_sets_into(layouts[1], &mut []);
+    assert_eq!(answer, Err(RenderError::NoLayout));
+    assert_eq!(it.create_sets(layouts[1], 0), Err(RenderError::NoLayout));
+    assert_eq!((it.counts(), gpu.calls.get()), (counts(0, 0, 0), 0));
+    shutdown(it);
+}
+
+/// No memory for the vector of `create_sets`: no set is created, and a removed layout is still `NoLayout`.
+#[test]
+fn a_vector_without_memory() {
+    let gpu = Gpu::default();
+    let (mut it, layouts) = renderer(&gpu, u32::MAX);
+    let three = it.create_sets(layouts[0], 3).unwrap();
+    free(&mut it, &three);
+    it.remove_layout(layouts[1]).unwrap();
+    let before = gpu.calls.get();
+    let (answer, _) = with_refused(0, || it.create_sets(layouts[0], 3));
+    assert_eq!(answer, Err(RenderError::Allocation(OutOfHostMemory)));
+    let (answer, _) = with_refused(0, || it.create_sets(layouts[1], 3));
+    assert_eq!(answer, Err(RenderError::NoLayout));
+    assert_eq!((it.counts(), gpu.calls.get()), (counts(0, 0, 3), before));
+    shutdown(it);
+}
+
+#[test]
+fn none_names_no_set() {
+    let gpu = Gpu::default();
+    let (mut it, layouts) = renderer(&gpu, 0);
+    let held = it.create_set(layouts[0]).unwrap();
+    it.begin_frame().unwrap();
+    let draw = it.draw(layouts[0]).unwrap();
+    let none = SetHandle::NONE;
+    assert!(none != held && none != draw);
+    assert_eq!(it.set(none), None);
+    assert_eq!(it.destroy_set(none, 0), Err(DestroyError::NoSet));
+    for list in [&[none][..], &[held, none]] {
+        // SAFETY: the device isn't in use.
+        let answer = unsafe { it.free_sets(list) };
+        assert_eq!(answer, Err(DestroyError::NoSet));
+        assert_eq!(it.destroy_sets(list, 0), Err(DestroyError::NoSet));
+    }
+    assert_eq!((it.counts(), gpu.live()), (counts(1, 1, 0), 2));
+    shutdown(it);
+}
+
+/// A list with a handle of no held set, or with one twice, is refused whole, wherever that handle stands. Of
+/// the sets before it some would have been kept, and some freed.
+#[test]
+fn a_refused_list_frees_no_set() {
+    for keep in [0, 1, 4, u32::MAX] {
+        let gpu = Gpu::default();
+        let (mut it, layouts) = renderer(&gpu, keep);
+        // Two layouts in turn. Of the first some are kept already, and one set is there at a cleanup.
+        let mut sets = vec![it.create_set(layouts[0]).unwrap()];
+        it.cleanup();
+        for at in 1..8 {
+            sets.push(it.create_set(layouts[[0, MARKED][at % 2]]).unwrap());
+        }
+        let raws = all_raw(&it, &sets);
+        let freed = it.create_sets(layouts[0], 2).unwrap();
+        let kept: Vec<_> = all_raw(&it, &freed);
+        free(&mut it, &freed);
+        it.begin_frame().unwrap();
+        let draw = it.draw(layouts[1]).unwrap();
+
+        let kept_counts = |it: &Sets| layouts.map(|at| it.kept_count(at));
+        let before = (it.counts(), kept_counts(&it), gpu.calls.get());
+        for wrong in [Some(SetHandle::NONE), Some(freed[0]), Some(draw), None] {
+            for at in 0..=sets.len() {
+                let mut list = sets.clone();
+                // Or a set of the list once more.
+                list.insert(at, wrong.unwrap_or(sets[(at + 3) % sets.len()]));
+                // SAFETY: the device isn't in use.
+                let answer = unsafe { it.free_sets(&list) };
+                assert_eq!(answer, Err(DestroyError::NoSet));
+                assert_eq!((it.counts(), kept_counts(&it), gpu.calls.get()), before);
+                assert_eq!(all_raw(&it, &sets), raws);
+            }
+        }
+
+        // The kept sets are still a stack.
+        let most = keep.min(2) as usize;
+        let again = it.create_sets(layouts[0], most as u32).unwrap();
+        let mut expected = kept[..most].to_vec();
+        expected.reverse();
+        assert_eq!(all_raw(&it, &again), expected);
+        free(&mut it, &again);
+        free(&mut it, &sets);
+        assert!(sets.iter().all(|old| it.set(*old).is_none()));
+        assert_eq!(kept_counts(&it), [keep.min(5), 0, 0, keep.min(4)]);
+        shutdown(it);
+    }
+}
+
 /// Hundreds of layouts at once, each of its own counts.
 #[test]
 fn memory_is_found_for_hundreds_of_layouts() {
@@ -907,9 +1095,17 @@ impl Model<'_> {
         });
     }
 
-    fn create_many(&mut self, layout: usize, many: usize) {
+    fn create_many(&mut self, layout: usize, many: usize, is_into: bool) {
         self.request(layout, many, Use::Held, |it, layout| {
-            it.create_sets(layout, many as u32)
+            if !is_into {
+                return it.create_sets(layout, many as u32);
+            }
+            let mut sets = vec![SetHandle::NONE; many];
+            let answer = it.create_sets_into(layout, &mut sets);
+            if answer.is_err() {
+                assert!(sets.iter().all(|set| *set == SetHandle::NONE));
+            }
+            answer.map(|()| sets)
         });
     }
 
@@ -1031,10 +1227,13 @@ fn step(model: &mut Model, random: &mut Random, changes_keep: bool) {
     match random.below(40) {
         0..9 if is_open => model.draw(layout),
         9..12 => model.create(layout),
-        12..15 if layout == MARKED && random.below(4) == 0 => {
-            model.create_many(layout, (LIMIT / DESCRIPTORS) as usize + 1);
+        12..15 => {
+            let many = match random.below(4) {
+                0 if layout == MARKED => (LIMIT / DESCRIPTORS) as usize + 1,
+                _ => random.below(9),
+            };
+            model.create_many(layout, many, random.below(2) == 0);
         }
-        12..15 => model.create_many(layout, random.below(9)),
         15..19 => {
             let some = random.some(held, 6);
             model.free(&some);

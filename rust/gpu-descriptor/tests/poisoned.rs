@@ -320,6 +320,7 @@ fn calls_of_a_renderer() -> Vec<Call<Rendering>> {
         Panics (on.it.as_mut().unwrap()).draw(on.layout);
         Panics (on.it.as_mut().unwrap()).create_set(on.layout);
         Panics (on.it.as_mut().unwrap()).create_sets(on.layout, 0);
+        Panics (on.it.as_mut().unwrap()).create_sets_into(on.layout, &mut []);
         PanicsButInADrop (on.it.as_mut().unwrap()).end_frame();
         PanicsButInADrop (on.it.as_mut().unwrap()).gpu_done(9);
         PanicsButInADrop (on.it.as_mut().unwrap()).cleanup();
