@@ -119,11 +119,15 @@ def write_package(source, folder, files):
 
 
 def write_original(path):
-    """The original as a package of its name and version, in tools/out."""
+    """The original as a package of its name and version, in tools/out. The repository has its manifest under
+    another name, or cargo finds two packages gpu-descriptor there: the other one is in rust/patch."""
     with open(f"{TOP}/bench/original/types.rs", encoding="utf-8") as it:
         types = it.read()
+    with open(f"{TOOLS}/original/crate/package.toml", encoding="utf-8") as it:
+        manifest = it.read()
     folder = f"{TOOLS}/out/gpu-descriptor"
-    write_package(f"{TOOLS}/original/crate", folder, {"allocator.rs": original_source(path), "types.rs": types})
+    files = {"Cargo.toml": manifest, "allocator.rs": original_source(path), "types.rs": types}
+    write_package(f"{TOOLS}/original/crate", folder, files)
     return folder
 
 

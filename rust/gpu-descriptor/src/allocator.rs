@@ -12,6 +12,13 @@ use core::mem::take;
 use core::ops::Range;
 use std_alloc::vec::Vec;
 
+/// The bound of a new allocator: none, as in gpu-descriptor 0.3.2, or else that of a new renderer.
+const FIRST_BOUND: Option<u64> = if cfg!(feature = "bounded-pools") {
+    Some(65_536)
+} else {
+    None
+};
+
 /// Allocates descriptor sets of any layouts, from pools that it creates, sizes and destroys.
 ///
 /// If a device or an iterator of sets panics in a call, the allocator is poisoned: see
@@ -44,12 +51,14 @@ impl<P, S> DescriptorAllocator<P, S> {
     #[must_use]
     pub fn new(max_update_after_bind_descriptors_in_all_pools: u32) -> Self {
         let ids = Ids::next();
+        let mut inner = inner::DescriptorAllocator::with_ids(
+            kit::alloc::Global,
+            max_update_after_bind_descriptors_in_all_pools,
+            ids.0.clone(),
+        );
+        inner.set_most_pool_descriptors(FIRST_BOUND);
         DescriptorAllocator {
-            inner: Guarded::new(inner::DescriptorAllocator::with_ids(
-                kit::alloc::Global,
-                max_update_after_bind_descriptors_in_all_pools,
-                ids.0.clone(),
-            )),
+            inner: Guarded::new(inner),
             ids,
         }
     }
@@ -254,7 +263,8 @@ impl<P, S> DescriptorAllocator<P, S> {
     /// sets that a request still needs have more. So it holds no more sets than have `most` descriptors, or
     /// than are needed, and at least one. Pools that exist stay.
     ///
-    /// At first it is `None`: pools are as in gpu-descriptor 0.3.2, where a new one is for at least 64 sets
+    /// At first it is `None`, or `Some(65_536)` if the feature `bounded-pools` is on anywhere in the build.
+    /// With `None` pools are as in gpu-descriptor 0.3.2, where a new one is for at least 64 sets
     /// however many descriptors a set has, or for as many as the limit allows. That is 6,400,000 descriptors
     /// for one set of a layout with 100,000; with `Some(65_536)` its pool has the one set.
     ///

@@ -101,6 +101,7 @@
 //! Nothing is printed while the thread unwinds, and it is no error if the line can't be written. Without std
 //! a panic takes the place of the line, also while the thread unwinds, which ends the program.
 #![cfg_attr(not(feature = "std"), no_std)]
+#![cfg_attr(docsrs, feature(doc_cfg))]
 #![deny(unsafe_op_in_unsafe_fn)]
 #![warn(missing_docs, clippy::missing_panics_doc, clippy::must_use_candidate)]
 

@@ -87,10 +87,16 @@ fn pools(most: Option<u64>, limit: u32, images: u32, requests: &[u32]) -> Vec<u3
     device.pools()
 }
 
+/// Without the feature an allocator begins without a bound, and with it as a renderer does.
 #[test]
-fn an_allocator_begins_without() {
+fn an_allocator_begins_as_its_feature_says() {
     let it = DescriptorAllocator::<(), ()>::new(0);
-    assert_eq!(it.most_pool_descriptors(), None);
+    let first = if cfg!(feature = "bounded-pools") {
+        MOST
+    } else {
+        None
+    };
+    assert_eq!(it.most_pool_descriptors(), first);
 }
 
 /// A pool is for as many sets as the bound leaves, but at least for those that are needed.
@@ -136,6 +142,7 @@ fn of_few_images() {
 fn pools_stay() {
     let (mut it, device) = (DescriptorAllocator::new(0), Device::new(100_000));
     let layout = layout(100_000, false);
+    it.set_most_pool_descriptors(None);
     let mut sets = unsafe { it.allocate_for(&device, &layout, 1) }.unwrap();
     assert_eq!(device.pools(), [64]);
     it.set_most_pool_descriptors(MOST);
