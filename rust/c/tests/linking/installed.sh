@@ -26,25 +26,7 @@ by_pkg_config() {
 }
 
 by_cmake() {
-  cat >"$room/programs/CMakeLists.txt" <<'END'
-cmake_minimum_required(VERSION 3.16)
-project(programs C CXX)
-set(CMAKE_C_STANDARD 11)
-set(CMAKE_CXX_STANDARD 17)
-find_package(gpu_descriptor 0.1 REQUIRED)
-foreach(kind static shared)
-  foreach(name ${NAMES})
-    get_filename_component(program ${name} NAME_WE)
-    add_executable(${program}_${kind} ${name})
-    target_link_libraries(${program}_${kind} gpu_descriptor::${kind})
-    if(program STREQUAL vulkan)
-      target_link_libraries(${program}_${kind} vulkan)
-    endif()
-  endforeach()
-endforeach()
-END
-  cmake -S "$room/programs" -B "$room/by-cmake" -DCMAKE_PREFIX_PATH="$1" -DNAMES="${examples// /;}" &&
-    cmake --build "$room/by-cmake"
+  cmake -S "$crate/examples" -B "$room/by-cmake" -DCMAKE_PREFIX_PATH="$1" && cmake --build "$room/by-cmake"
 }
 
 # The examples in a project that has the library as a part: cargo builds it in the project's folder.

@@ -1,0 +1,226 @@
+"""Tries what tools/release made: each archive is unpacked in an empty folder elsewhere and used from there.
+
+The library for C is used by programs that are built by CMake and by pkg-config, static and shared, where no cargo and
+no rustc is found.
+"""
+import os
+import re
+import shutil
+import subprocess
+import tarfile
+import tempfile
+import tomllib
+
+from common import TIMED, TOP
+
+LICENCES = ("LICENSE-APACHE", "LICENSE-MIT")
+INCLUDE = f"{TOP}/rust/c/include"
+LOST = re.compile(r"\]\((?![a-z+]+:|#)[^)\s]*\.(?:md|rs|svg)\b|\]\(\.\.?/")
+
+# The packages of pkg-config, by what they link.
+PACKAGES = {"static": "gpu-descriptor-static", "shared": "gpu-descriptor"}
+
+
+def read(path):
+    with open(path, encoding="utf-8", errors="surrogateescape") as it:
+        return it.read()
+
+
+def same(first, second):
+    return os.path.isfile(first) and os.path.isfile(second) and read(first) == read(second)
+
+
+def files_of(folder):
+    return {os.path.relpath(f"{at}/{name}", folder) for at, _, names in os.walk(folder) for name in names}
+
+
+def run(*words, cwd=None, **environment):
+    """The fault of a command, or None."""
+    ran = subprocess.run([*TIMED, *words], cwd=cwd, env={**os.environ, **environment}, capture_output=True, text=True)
+    return f"it ended with {ran.returncode}: {(ran.stdout + ran.stderr)[-1500:]}" if ran.returncode else None
+
+
+def unpacked(archive, room, name):
+    """The only folder of an archive, which has this name."""
+    os.makedirs(room)
+    with tarfile.open(archive) as it:
+        it.extractall(room, filter="data")
+    return f"{room}/{name}" if os.listdir(room) == [name] else None
+
+
+def licence_fault(folder):
+    for name in LICENCES:
+        if not same(f"{folder}/{name}", f"{TOP}/rust/gpu-descriptor/{name}"):
+            return f"{name} is missing, or another one"
+    return None
+
+
+# ---- the crate ----
+
+
+def manifest_fault(folder, fields):
+    package = tomllib.loads(read(f"{folder}/Cargo.toml"))["package"]
+    wrong = [name for name in ("repository", "documentation", "homepage") if package.get(name) != fields[name]]
+    return f"Cargo.toml has not the address of {wrong}" if wrong else None
+
+
+def link_fault(folder):
+    """A link of a page or of a doc comment to a file: where the crate is read on a registry, that is not there."""
+    for name in sorted(files_of(folder)):
+        text = read(f"{folder}/{name}")
+        if name.endswith(".rs"):
+            text = "\n".join(re.findall(r"^\s*//[/!].*", text, re.M))
+        elif not name.endswith(".md"):
+            continue
+        if found := LOST.search(text):
+            return f"{name} has the link {found[0]}"
+    return None
+
+
+def docs_fault(folder):
+    """The docs are built as docs.rs builds them, and say which items need a feature."""
+    flags = "--cfg docsrs -D warnings"
+    of_docs = tomllib.loads(read(f"{folder}/Cargo.toml"))["package"]["metadata"]["docs"]["rs"]
+    features = ",".join(of_docs.get("features", ()))
+    words = ["cargo", "doc", "--offline", "--no-deps", "--features", features, "--target-dir", f"{folder}/target"]
+    if fault := run(*words, cwd=folder, RUSTDOCFLAGS=flags, RUSTC_BOOTSTRAP="1"):
+        return fault
+    page = f"{folder}/target/doc/gpu_descriptor/vulkan/index.html"
+    is_said = os.path.isfile(page) and "Available on <strong>crate feature <code>vulkan</code></strong>" in read(page)
+    return None if is_said else "the docs don't say that the module vulkan needs its feature"
+
+
+def check_crate(say, out, room, version, fields):
+    name = f"gpu-descriptor-proved-{version}"
+    folder = unpacked(f"{out}/{name}.crate", f"{room}/crate", name)
+    if say("the package is one folder", None if folder else "it is not"):
+        say("licences of the package", licence_fault(folder))
+        say("addresses of the package", manifest_fault(folder, fields))
+        say("links of the package", link_fault(folder))
+        say("docs of the package", docs_fault(folder))
+    publish = ["cargo", "package", "--offline", "--allow-dirty", "--no-verify", "--list"]
+    say("the folder for cargo publish", run(*publish, cwd=f"{out}/crate"))
+
+
+# ---- the sources ----
+
+
+def source_fault(folder):
+    words = ["git", "ls-tree", "-r", "--name-only", "-z", "HEAD"]
+    listed = subprocess.run(words, cwd=TOP, check=True, capture_output=True, text=True).stdout
+    different = {*listed.strip("\0").split("\0")} ^ files_of(folder)
+    return f"files of one side alone: {sorted(different)[:5]}" if different else None
+
+
+def check_source(say, out, room, version, _):
+    name = f"gpu_descriptor-{version}"
+    folder = unpacked(f"{out}/{name}.tar.gz", f"{room}/source", name)
+    if say("the sources are one folder", None if folder else "they are not"):
+        say("files of the sources", source_fault(folder))
+        say("licences of the sources", licence_fault(folder))
+        say("the sources build", run("cargo", "build", "--offline", "--workspace", cwd=folder))
+
+
+# ---- the library for C ----
+
+
+def without_cargo(room):
+    """A folder with the commands of PATH, but for those of Rust."""
+    folder = f"{room}/commands"
+    os.makedirs(folder)
+    for at in os.environ["PATH"].split(":"):
+        for name in os.listdir(at) if os.path.isdir(at) else ():
+            if not name.startswith(("cargo", "rust")) and not os.path.lexists(f"{folder}/{name}"):
+                os.symlink(f"{at}/{name}", f"{folder}/{name}")
+    return folder
+
+
+def header_fault(folder):
+    for name in {*os.listdir(INCLUDE), *os.listdir(f"{folder}/include")}:
+        if not same(f"{folder}/include/{name}", f"{INCLUDE}/{name}"):
+            return f"{name} is missing, or another one"
+    return None
+
+
+def path_fault(folder):
+    """A path of the machine that built the library, in one of its files."""
+    for name in sorted(files_of(folder)):
+        for path in (TOP, os.path.expanduser("~"), tempfile.gettempdir()):
+            if f"{path}/" in read(f"{folder}/{name}"):
+                return f"{name} has the path {path}"
+    return None
+
+
+def program_fault(program):
+    """It ends with 0, and the validation layer reports nothing."""
+    ran = subprocess.run([*TIMED, program], capture_output=True, text=True)
+    said = ran.stdout + ran.stderr
+    is_fine = ran.returncode == 0 and not re.search("vuid|validation", said, re.I)
+    return None if is_fine else f"it ended with {ran.returncode}: {said[-500:]}"
+
+
+def by_pkg_config(folder, name, kind, made):
+    """Builds an example with the flags of pkg-config."""
+    language = "c++ -std=c++17" if name.endswith(".cpp") else "cc -std=c11"
+    more = "-lvulkan" if name == "vulkan.c" else ""
+    line = (f"flags=$(pkg-config --cflags --libs {PACKAGES[kind]}) && "
+            f"{language} examples/{name} $flags {more} -Wl,-rpath,{folder}/lib -o {made}")
+    return run("sh", "-c", line, cwd=folder, PKG_CONFIG_PATH=f"{folder}/lib/pkgconfig")
+
+
+def by_cmake(folder, made):
+    """Builds all examples by their CMakeLists.txt."""
+    return (run("cmake", "-S", f"{folder}/examples", "-B", made, f"-DCMAKE_PREFIX_PATH={folder}") or
+            run("cmake", "--build", made))
+
+
+def check_programs(say, folder, room):
+    examples = [it for it in sorted(os.listdir(f"{folder}/examples")) if it.endswith((".c", ".cpp"))]
+    if run("sh", "-c", "echo '#include <vulkan/vulkan.h>' | cc -E -x c - -o /dev/null"):
+        print("skipped: what needs Vulkan: apt-get install libvulkan-dev")
+        examples.remove("vulkan.c")
+    has_cmake = shutil.which("cmake") and say("the examples by CMake", by_cmake(folder, f"{room}/made"))
+    for missing in (it for it in ("cmake", "pkg-config") if not shutil.which(it)):
+        print(f"skipped: programs by {missing}: apt-get install {missing}")
+    for name in examples:
+        for kind in PACKAGES:
+            if has_cmake:
+                say(f"{name} by CMake, {kind}", program_fault(f"{room}/made/{name.partition('.')[0]}_{kind}"))
+            if shutil.which("pkg-config"):
+                made = f"{room}/{name}-{kind}"
+                say(f"{name} by pkg-config, {kind}", by_pkg_config(folder, name, kind, made) or program_fault(made))
+
+
+def check_library(say, out, room, version, _):
+    archive, = (it for it in os.listdir(out) if it.startswith("gpu_descriptor-c-"))
+    folder = unpacked(f"{out}/{archive}", f"{room}/library", archive.removesuffix(".tar.gz"))
+    if not say("the library is one folder", None if folder else "it is not"):
+        return
+    say("licences of the library", licence_fault(folder))
+    say("headers of the library", header_fault(folder))
+    say("paths in the library", path_fault(folder))
+    readme = read(f"{folder}/README.txt")
+    say("README of the library", None if version in readme and "@" not in readme else readme)
+    kept = os.environ.copy()
+    os.environ.update(PATH=without_cargo(room), HOME=room)
+    try:
+        if say("no cargo and no rustc", shutil.which("cargo") or shutil.which("rustc")):
+            check_programs(say, folder, room)
+    finally:
+        os.environ.update(kept)
+
+
+def check(counts, out, parts, version, fields):
+    """Tries the parts of a release."""
+    def say(name, fault):
+        counts.say(not fault, f"{name}: {fault}" if fault else name)
+        return not fault
+
+    checks = {"crate": check_crate, "source": check_source, "library": check_library}
+    with tempfile.TemporaryDirectory() as room:
+        for part in parts:
+            checks[part](say, out, room, version, fields)
+    say("SHA256SUMS", run("sha256sum", "--check", "--strict", "SHA256SUMS", cwd=out))
+    summed = {*re.findall("  (.*)", read(f"{out}/SHA256SUMS"))}
+    files = {it for it in os.listdir(out) if os.path.isfile(f"{out}/{it}")}
+    say("each file has a sum", ", ".join(files - summed - {"SHA256SUMS"}))
