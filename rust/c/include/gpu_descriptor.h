@@ -65,7 +65,7 @@
  * The number of the binary interface. It changes if a program of the header before would do something else
  * with the library: with a struct, a number, or what a function takes.
  */
-#define GD_ABI 2u
+#define GD_ABI 3u
 
 /* A function of the headers for C. In C++ it is static too: a shared object exports none, optimised or not. */
 #define GD_INLINE static inline
@@ -363,6 +363,16 @@ gd_status gd_free_all(gd_allocator allocator);
  * GD_BAD_SET, GD_NULL_POINTER, GD_BAD_ALLOCATOR, GD_BUSY, GD_INTERNAL_ERROR.
  */
 gd_status gd_free_after(gd_allocator allocator, const gd_set *sets, uint32_t count, uint64_t frame);
+
+/*
+ * Makes 'frame' the current one, which at first is 0. gd_free_after_current is gd_free_after with the current
+ * frame: for sets whose last use is a command buffer of this frame or of an earlier one. So a program that calls
+ * gd_begin_frame before it records a frame frees no set too early, wherever it does so. They allocate nothing.
+ *
+ * GD_BAD_SET, GD_NULL_POINTER, GD_BAD_ALLOCATOR, GD_BUSY, GD_INTERNAL_ERROR.
+ */
+gd_status gd_begin_frame(gd_allocator allocator, uint64_t frame);
+gd_status gd_free_after_current(gd_allocator allocator, const gd_set *sets, uint32_t count);
 
 /*
  * Frees the sets that wait for this frame or an earlier one, as gd_free does. The device must be done

@@ -4,7 +4,7 @@ use crate::slot::GdAllocator;
 use core::ffi::{CStr, c_void};
 
 /// `GD_ABI`, which names the shared library, too.
-pub const ABI: u64 = 2;
+pub const ABI: u64 = 3;
 
 /// `GD_HEADER`.
 pub const HEADER: u64 = (size_of::<GdLayoutStatistics>() as u64) << 56

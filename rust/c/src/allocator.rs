@@ -30,6 +30,9 @@ pub struct Allocator {
 
     /// The layouts, by the host's handles.
     known: Known,
+
+    /// The host's current frame; 0 before the first.
+    frame: u64,
 }
 
 /// The name of a set or a layout in C: 64 bits, which no other set or layout of the allocator gets. It is
@@ -77,6 +80,7 @@ impl Allocator {
             held: 0,
             handles: Vec::new(Global),
             known: Known::new(),
+            frame: 0,
         }
     }
 
@@ -298,6 +302,16 @@ impl Allocator {
         self.release(count, get, |renderer, sets| {
             renderer.destroy_sets(sets, frame)
         })
+    }
+
+    /// The current frame from now on.
+    pub fn begin_frame(&mut self, frame: u64) {
+        self.frame = frame;
+    }
+
+    /// Lets sets wait for the end of the current frame. It allocates nothing.
+    pub fn free_after_current(&mut self, count: u32, get: impl Fn(usize) -> GdSet) -> GdStatus {
+        self.free_after(count, get, self.frame)
     }
 
     /// Keeps or frees the sets that wait for this frame or an earlier one. It allocates nothing.

@@ -243,6 +243,29 @@ pub unsafe extern "C" fn gd_free_after(
 }
 
 #[unsafe(no_mangle)]
+pub unsafe extern "C" fn gd_begin_frame(allocator: GdAllocator, frame: u64) -> GdStatus {
+    // SAFETY: the header's.
+    unsafe { run(allocator, |it| it.begin_frame(frame)) }
+}
+
+#[unsafe(no_mangle)]
+pub unsafe extern "C" fn gd_free_after_current(
+    allocator: GdAllocator,
+    sets: *const GdSet,
+    count: u32,
+) -> GdStatus {
+    if is_missing(sets, count) {
+        return GdStatus::NULL_POINTER;
+    }
+    // SAFETY: the header's.
+    unsafe {
+        slot::enter(allocator, |it| {
+            it.free_after_current(count, |at| sets.add(at).read())
+        })
+    }
+}
+
+#[unsafe(no_mangle)]
 pub unsafe extern "C" fn gd_frame_done(allocator: GdAllocator, frame: u64) -> GdStatus {
     // SAFETY: the header's.
     unsafe { run(allocator, |it| it.frame_done(frame)) }

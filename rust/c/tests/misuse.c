@@ -40,6 +40,7 @@ static void expect_of_each(gd_status wanted, gd_allocator it, gd_layout known, g
     CHECK(set.handle == 0 && set.name == 0 && set.owner == 0);
     CHECK(gd_free(it, &any, 1) == wanted && gd_free(it, &any, 0) == wanted);
     CHECK(gd_free_after(it, &any, 1, 1) == wanted && gd_free_after(it, NULL, 0, 1) == wanted);
+    CHECK(gd_free_after_current(it, &any, 1) == wanted && gd_begin_frame(it, UINT64_MAX) == wanted);
     CHECK(gd_free_all(it) == wanted && gd_frame_done(it, UINT64_MAX) == wanted);
     CHECK(gd_cleanup(it) == wanted && gd_trim(it) == wanted);
     CHECK(gd_destroy(it) == wanted && gd_keep(it, 0) == wanted);
@@ -179,6 +180,8 @@ static void pass_null(void) {
     CHECK(gd_free(allocator, NULL, 1) == GD_NULL_POINTER && gd_free(allocator, NULL, 0) == GD_OK);
     CHECK(gd_free_after(allocator, NULL, 1, 1) == GD_NULL_POINTER);
     CHECK(gd_free_after(allocator, NULL, 0, 1) == GD_OK);
+    CHECK(gd_free_after_current(allocator, NULL, 1) == GD_NULL_POINTER);
+    CHECK(gd_free_after_current(allocator, NULL, 0) == GD_OK);
     CHECK(gd_outstanding(allocator, NULL) == GD_NULL_POINTER && gd_waiting(allocator, NULL) == GD_NULL_POINTER);
     CHECK(gd_pool_count(allocator, NULL) == GD_NULL_POINTER);
     CHECK(world.calls == 0);
@@ -261,9 +264,11 @@ static void pass_wrong_sets(void) {
     CHECK(gd_allocate(other, foreign, 8, strange) == GD_OK);
     CHECK(sets[3].name == strange[3].name);
     uint64_t calls = world.calls;
-    for (int later = 0; later < 2; later++) {
+    for (int way = 0; way < 3; way++) {
 #define BAD(list, count)                                                                           \
-    CHECK((later ? gd_free_after(one, list, count, 1) : gd_free(one, list, count)) == GD_BAD_SET)
+    CHECK((way == 0   ? gd_free(one, list, count)                                                  \
+           : way == 1 ? gd_free_after(one, list, count, 1)                                         \
+                      : gd_free_after_current(one, list, count)) == GD_BAD_SET)
         BAD(strange, 8);     // of the other allocator
         BAD(&strange[3], 1); // a name that is held here
         BAD(&zeroed, 1);
