@@ -102,7 +102,7 @@ enum {
     GD_BAD_SET = 23,        /* zeroed, freed, waiting, of another allocator, changed, or twice in the
                                list */
     GD_BAD_FLAGS = 24,      /* unknown flags */
-    GD_BAD_COUNTS = 25,     /* only of gpu_descriptor_vulkan.h: a layout that can't be counted */
+    GD_BAD_COUNTS = 25,     /* only of other headers: a layout that can't be counted, a cache without places */
     GD_BAD_RESULT = 26,     /* one of your functions returned another status than it may, or the driver an
                                unknown error */
     GD_BUSY = 27,           /* a call from one of your functions, or without waiting: another call on the

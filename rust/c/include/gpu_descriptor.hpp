@@ -35,6 +35,7 @@
 #define GPU_DESCRIPTOR_HPP
 
 #include "gpu_descriptor.h"
+#include "gpu_descriptor_cache.h"
 
 #include <memory>
 #include <new>
@@ -471,6 +472,35 @@ class frame {
     uint64_t number_ = 0;
     std::unique_ptr<gd_set[]> raw_;
     uint32_t count_ = 0, room_ = 0;
+};
+
+/* A gd_cache, of one thread and one layout. Its end flushes it. */
+template <uint32_t Refill = GD_CACHE_REFILL> class cache {
+    static_assert(Refill > 0 && Refill <= UINT32_MAX / 2, "as gd_cache_init has it");
+
+  public:
+    cache(gd_allocator of, gd_layout with) noexcept { (void)gd_cache_init(&raw_, of, with, places_, Refill); }
+    cache(const allocator &of, gd_layout with) noexcept : cache(of.raw(), with) {}
+    cache(const cache &) = delete;
+    cache &operator=(const cache &) = delete;
+    ~cache() { (void)flush(); }
+
+    uint32_t size() const noexcept { return raw_.count; }
+
+    /* The functions of gpu_descriptor_cache.h by these names. */
+    [[nodiscard]] gd_status allocate(gd_set &to) noexcept { return gd_cache_allocate(&raw_, 1, &to); }
+    [[nodiscard]] gd_status allocate(uint32_t count, gd_set *to) noexcept {
+        return gd_cache_allocate(&raw_, count, to);
+    }
+    [[nodiscard]] gd_status free(const gd_set &raw) noexcept { return gd_cache_free(&raw_, &raw, 1); }
+    [[nodiscard]] gd_status free(const gd_set *raw, uint32_t count) noexcept {
+        return gd_cache_free(&raw_, raw, count);
+    }
+    [[nodiscard]] gd_status flush() noexcept { return gd_cache_flush(&raw_); }
+
+  private:
+    gd_cache raw_;
+    gd_set places_[2 * Refill];
 };
 
 } // namespace abi_3

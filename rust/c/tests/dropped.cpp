@@ -2,6 +2,7 @@
 #include "gpu_descriptor.hpp"
 
 void drop(gd::allocator &allocator, gd::set &set, gd::sets &sets, gd::frame &frame, gd::layout &layout, gd_set *raw);
+void drop_of_cache(gd::cache<> &cache, gd_set *raw);
 
 void drop(gd::allocator &allocator, gd::set &set, gd::sets &sets, gd::frame &frame, gd::layout &layout, gd_set *raw) {
     const uint32_t counts[GD_KINDS] = {};
@@ -30,4 +31,12 @@ void drop(gd::allocator &allocator, gd::set &set, gd::sets &sets, gd::frame &fra
     (void)frame.allocate(layout, *raw);
     (void)frame.end();
     (void)frame.begin(2);
+}
+
+void drop_of_cache(gd::cache<> &cache, gd_set *raw) {
+    (void)cache.allocate(*raw);
+    (void)cache.allocate(2, raw);
+    (void)cache.free(*raw);
+    (void)cache.free(raw, 2);
+    (void)cache.flush();
 }

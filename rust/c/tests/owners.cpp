@@ -47,8 +47,8 @@ gd_status allocate_sets(void *user, uint64_t, uint32_t count, const uint64_t *, 
         CHECK(it.back->free_after(1) == GD_BUSY && *it.back);
         CHECK(it.back->reset() == GD_BUSY && *it.back && it.allocator->begin_frame(1) == GD_BUSY);
         it.back = nullptr;
-        const uint32_t count = it.back_frame->size();
-        CHECK(count > 0 && it.back_frame->begin(99) == GD_BUSY && it.back_frame->size() == count);
+        const uint32_t drawn = it.back_frame->size();
+        CHECK(drawn > 0 && it.back_frame->begin(99) == GD_BUSY && it.back_frame->size() == drawn);
         CHECK(it.back_frame->number() != 99);
     }
     if (it.is_full)
@@ -352,6 +352,22 @@ void grow_frames() {
     CHECK(it.waiting() == 101 && gd_frame_done(it.allocator.raw(), 3) == GD_OK && it.device.sets == 0);
 }
 
+// A cache gives its sets back at its end.
+void own_caches() {
+    room it;
+    gd_set drawn[3];
+    {
+        gd::cache<> cache(it.allocator, it.layout);
+        gd::cache<2> small(it.allocator.raw(), it.layout);
+        CHECK(cache.allocate(drawn[0]) == GD_OK && cache.size() == GD_CACHE_REFILL - 1);
+        CHECK(small.allocate(2, drawn + 1) == GD_OK && small.size() == 0 && it.device.sets == GD_CACHE_REFILL + 2);
+        CHECK(small.free(drawn, 3) == GD_OK && small.size() == 3 && small.allocate(2, drawn) == GD_OK);
+        CHECK(cache.free(drawn[0]) == GD_OK && cache.size() == GD_CACHE_REFILL && small.flush() == GD_OK);
+        CHECK(it.device.sets == GD_CACHE_REFILL + 1 && small.free(drawn[1]) == GD_OK && small.size() == 1);
+    }
+    CHECK(it.device.sets == 0);
+}
+
 void own_allocators() {
     world first, second;
     gd::set late;
@@ -415,6 +431,7 @@ int main(int words, char **) {
     draw_frames();
     grow_frames();
     own_layouts();
+    own_caches();
     call_by_short_names();
     own_allocators();
     if (words < 2) // with a word: the library is one in which no call waits

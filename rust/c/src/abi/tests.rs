@@ -55,6 +55,6 @@ fn statuses_are_the_headers() {
     assert_eq!(known.count(), statuses.len() + 1);
     let first = TEXT.find("GD_OK = 0").unwrap();
     let list = &TEXT[first..first + TEXT[first..].find("};").unwrap()];
-    // GD_BAD_COUNTS is of the header for Vulkan alone.
+    // GD_BAD_COUNTS is of other headers alone.
     assert_eq!(list.matches(" = ").count(), statuses.len() + 1);
 }
