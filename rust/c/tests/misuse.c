@@ -29,6 +29,12 @@ static uint32_t keep;
 // By this value one sees that a call wrote nothing.
 static const uint64_t UNTOUCHED = 0x756e746f75636864;
 
+static gd_status allocate_variable_sets(void *user, uint64_t pool, uint32_t count, const uint64_t *layouts,
+                                        const uint32_t *variable_counts, uint64_t *sets) {
+    (void)user, (void)pool, (void)count, (void)layouts, (void)variable_counts, (void)sets;
+    return GD_OUT_OF_DEVICE_MEMORY;
+}
+
 // Each function that takes an allocator returns this status, and writes nothing, but that a failed
 // gd_allocate zeroes its sets.
 static void expect_of_each(gd_status wanted, gd_allocator it, gd_layout known, gd_set any) {
@@ -46,6 +52,8 @@ static void expect_of_each(gd_status wanted, gd_allocator it, gd_layout known, g
     CHECK(gd_destroy(it) == wanted && gd_keep(it, 0) == wanted);
     CHECK(gd_set_most_pool_descriptors(it, 1) == wanted && gd_remove_layout(it, known) == wanted);
     CHECK(gd_add_layout(it, 1, counts, 0, &layout) == wanted);
+    CHECK(gd_add_variable_layout(it, 1, 1, counts, 0, &layout) == wanted);
+    CHECK(gd_set_allocate_variable_sets(it, allocate_variable_sets) == wanted);
     CHECK(layout.index == UNTOUCHED && layout.owner == UNTOUCHED);
     CHECK(gd_outstanding(it, &number) == wanted && gd_waiting(it, &number) == wanted);
     CHECK(gd_pool_count(it, &number) == wanted && number == UNTOUCHED);
@@ -168,6 +176,14 @@ static void pass_null(void) {
     create(&device, 100, &allocator);
     CHECK(gd_add_layout(allocator, 1, NULL, 0, &layout) == GD_NULL_POINTER);
     CHECK(gd_add_layout(allocator, 1, counts, 0, NULL) == GD_NULL_POINTER);
+    // Without its function no layout has a variable count.
+    CHECK(gd_add_variable_layout(allocator, 1, 1, counts, 0, &layout) == GD_BAD_COUNTS);
+    CHECK(gd_set_allocate_variable_sets(allocator, NULL) == GD_NULL_POINTER);
+    CHECK(gd_add_variable_layout(allocator, 1, 1, counts, 0, &layout) == GD_BAD_COUNTS);
+    CHECK(gd_set_allocate_variable_sets(allocator, allocate_variable_sets) == GD_OK);
+    CHECK(gd_add_variable_layout(allocator, 1, 1, NULL, 0, &layout) == GD_NULL_POINTER);
+    CHECK(gd_add_variable_layout(allocator, 1, 1, counts, 0, NULL) == GD_NULL_POINTER);
+    CHECK(gd_add_variable_layout(allocator, 1, 1, counts, 4, &layout) == GD_BAD_FLAGS);
     for (uint32_t flag = 1; flag != 0; flag <<= 1) { // 4 is that of layouts for the host alone
         const uint32_t both = flag | GD_UPDATE_AFTER_BIND;
         CHECK(flag == GD_UPDATE_AFTER_BIND || gd_add_layout(allocator, 1, counts, flag, &layout) == GD_BAD_FLAGS);
