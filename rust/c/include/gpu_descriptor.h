@@ -384,9 +384,10 @@ gd_status gd_free_all(gd_allocator allocator);
 gd_status gd_free_after(gd_allocator allocator, const gd_set *sets, uint32_t count, uint64_t frame);
 
 /*
- * Makes 'frame' the current one, which at first is 0. gd_free_after_current is gd_free_after with the current
- * frame: for sets whose last use is a command buffer of this frame or of an earlier one. So a program that calls
- * gd_begin_frame before it records a frame frees no set too early, wherever it does so. They allocate nothing.
+ * Makes 'frame' the current one. gd_free_after_current is gd_free_after with the current frame: for sets whose last
+ * use is a command buffer of this frame or of an earlier one. So a program that calls gd_begin_frame before it records
+ * a frame frees no set too early, wherever it does so. Before the first gd_begin_frame the current frame is
+ * UINT64_MAX, with which no device is done until it is idle: begin one before you load, too. They allocate nothing.
  *
  * GD_BAD_SET, GD_NULL_POINTER, GD_BAD_ALLOCATOR, GD_BUSY, GD_INTERNAL_ERROR.
  */

@@ -17,11 +17,11 @@
  * What can fail is [[nodiscard]]; its statuses are left out above.
  *
  * Owners are moved and not copied. The end of a gd::set or gd::sets, and new ones in its place, frees them after the
- * frame that is current then (begin_frame), or after that of used_in. Before the first begin_frame that is frame 0:
- * without frame_done they wait until the allocator ends. free() frees at once what the device no longer uses. The
- * end of a gd::layout removes it. The end of a gd::allocator frees all of its sets, which the device must no longer
- * use, and destroys it; an owner that lives longer does nothing at its end. A gd::allocator ends before
- * vkDestroyDevice.
+ * frame that is current then (begin_frame), or after that of used_in. Without a begin_frame they wait for
+ * frame_done(UINT64_MAX), when the device is idle, or until the allocator ends. free() frees at once what the device
+ * no longer uses. The end of a gd::layout removes it. The end of a gd::allocator frees all of its sets, which the
+ * device must no longer use, and destroys it; an owner that lives longer does nothing at its end. A gd::allocator
+ * ends before vkDestroyDevice.
  *
  * If a set of a gd::sets or gd::frame was freed elsewhere, what ends it frees the others, and is GD_BAD_SET; the
  * owner is empty then. After any other failure it has all that weren't freed.

@@ -31,7 +31,7 @@ pub struct Allocator {
     /// The layouts, by the host's handles.
     known: Known,
 
-    /// The host's current frame; 0 before the first.
+    /// The host's current frame. Before the first it is one that no device is done with.
     frame: u64,
 }
 
@@ -80,7 +80,7 @@ impl Allocator {
             held: 0,
             handles: Vec::new(Global),
             known: Known::new(),
-            frame: 0,
+            frame: u64::MAX,
         }
     }
 

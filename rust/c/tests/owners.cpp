@@ -68,7 +68,7 @@ gd_device device_of(world &it) {
     return {&it, create_pool, destroy_pool, allocate_sets, free_sets};
 }
 
-// An allocator that keeps no set, and a layout.
+// An allocator that keeps no set, whose current frame is 0, and a layout.
 struct room {
     world device;
     gd::allocator allocator;
@@ -77,7 +77,7 @@ struct room {
     room() {
         const uint32_t kinds[GD_KINDS] = {1};
         CHECK(allocator.create(device_of(device), 100) == GD_OK);
-        CHECK(gd_keep(allocator.raw(), 0) == GD_OK);
+        CHECK(gd_keep(allocator.raw(), 0) == GD_OK && allocator.begin_frame(0) == GD_OK);
         CHECK(gd_add_layout(allocator.raw(), 7, kinds, 0, &layout) == GD_OK);
     }
 
@@ -120,7 +120,20 @@ void end_sets() {
     CHECK(made.reset() == GD_OK && it.allocator.frame_done(99) == GD_OK && it.waiting() == 1);
 }
 
-// What isn't told another frame waits for the one that is current at its end, which is 0 at first.
+// Before the first frame no frame that is done frees the sets of an owner, unless the device is idle.
+void end_without_a_frame() {
+    world device;
+    gd::allocator allocator;
+    gd::layout layout;
+    gd::set made;
+    const uint32_t kinds[GD_KINDS] = {1};
+    CHECK(allocator.create(device_of(device), 0) == GD_OK && allocator.keep(0) == GD_OK);
+    CHECK(allocator.add_layout(7, kinds, 0, layout) == GD_OK && allocator.allocate(layout, made) == GD_OK);
+    CHECK(made.reset() == GD_OK && allocator.frame_done(UINT64_MAX - 1) == GD_OK && device.sets == 1);
+    CHECK(allocator.frame_done(UINT64_MAX) == GD_OK && device.sets == 0);
+}
+
+// What isn't told another frame waits for the one that is current at its end.
 void end_after_the_current_frame() {
     room it;
     { gd::set made = it.one(); }
@@ -421,6 +434,7 @@ void end_in_threads() {
 
 int main(int words, char **) {
     end_sets();
+    end_without_a_frame();
     end_after_the_current_frame();
     move_sets();
     fail_sets();
