@@ -232,6 +232,7 @@ void own_batches() {
     many.used_in(6);
     { gd::sets moved = std::move(many); }
     CHECK(it.waiting() == 3 && many.reset() == GD_OK); // NOLINT
+    CHECK(it.allocator.frame_done(5) == GD_OK && it.waiting() == 3);
     CHECK(it.allocator.allocate(it.layout, 2, many) == GD_OK && many.free() == GD_OK && many.size() == 0);
     CHECK(it.device.sets == 3 && it.allocator.allocate(it.layout, 2, many) == GD_OK);
     CHECK(many.free_after(6) == GD_OK && it.waiting() == 5);
