@@ -1,5 +1,5 @@
-// Owners of sets over a device that only counts: sets are freed at the end of their scope or after a frame, and
-// kept. It checks the counts and prints them.
+// Owners of sets over a device that only counts: the end of their scope lets sets wait for the current frame, and
+// freed ones are kept. It checks the counts and prints them.
 #include "gpu_descriptor.hpp"
 
 #include <cstdio>
@@ -52,12 +52,11 @@ uint64_t outstanding(const gd::allocator &allocator) {
 }
 
 // One frame: sets of its own, which come back after it, and a material, whose last use it may be.
-void draw(gd::allocator &allocator, gd_layout layout, gd::set &material, uint64_t number) {
+void draw(const gd::allocator &allocator, gd_layout layout, const gd::set &material, uint64_t number) {
     gd::frame frame(allocator, number);
     gd_set scratch[2];
     require(frame.allocate(layout, 2, scratch) == GD_OK, "allocate");
     require(material.handle() != scratch[0].handle, "two handles");
-    material.used_in(number);
 }
 
 } // namespace
@@ -66,25 +65,26 @@ int main() {
     counts device;
     const gd_device functions = {&device, create_pool, destroy_pool, allocate_sets, free_sets};
     const uint32_t kinds[GD_KINDS] = {2};
-    gd_layout layout;
     std::vector<gd::set> kept;
     {
         gd::allocator allocator;
         require(allocator.create(functions, 500000) == GD_OK, "create");
-        require(gd_add_layout(allocator.raw(), 77, kinds, 0, &layout) == GD_OK, "gd_add_layout");
+        gd::layout layout;
+        require(allocator.add_layout(77, kinds, 0, layout) == GD_OK, "add_layout");
         gd::set material;
         for (uint64_t frame = 1; frame <= 10; frame++) {
             if (frame > 2)
-                require(gd_frame_done(allocator.raw(), frame - 2) == GD_OK, "gd_frame_done");
-            if (frame % 4 == 1) // replaced: the old one comes back after the frame of its last use
+                require(allocator.frame_done(frame - 2) == GD_OK, "frame_done");
+            require(allocator.begin_frame(frame) == GD_OK, "begin_frame");
+            if (frame % 4 == 1) // replaced: the old one waits for this frame
                 require(allocator.allocate(layout, material) == GD_OK, "allocate");
             draw(allocator, layout, material, frame);
         }
         std::printf("after ten frames: %u sets are out, of %u\n", unsigned(outstanding(allocator)), device.sets);
-        require(outstanding(allocator) == 5, "two frames are in flight, and the material is held");
+        require(outstanding(allocator) == 6, "two frames are in flight, and two materials");
         require(device.sets == 6, "no more than are in use at once");
-        require(material.free_after(10) == GD_OK, "free_after");
-        require(gd_frame_done(allocator.raw(), 10) == GD_OK, "gd_frame_done");
+        require(material.reset() == GD_OK, "reset");
+        require(allocator.frame_done(10) == GD_OK, "frame_done");
 
         gd::sets batch;
         require(allocator.allocate(layout, 2, batch) == GD_OK && batch.size() == 2, "a batch");
@@ -94,12 +94,15 @@ int main() {
             kept.push_back(std::move(set));
         }
         kept.erase(kept.begin(), kept.begin() + 10); // moves the others
-        require(outstanding(allocator) == 42, "ten of fifty sets are freed");
+        require(outstanding(allocator) == 52, "ten of fifty sets wait");
+        require(kept.back().free() == GD_OK && outstanding(allocator) == 51, "one is freed at once");
+        require(allocator.frame_done(10) == GD_OK && outstanding(allocator) == 41, "no set waits");
 
         gd::set other;
-        require(allocator.remove_layout(layout) == GD_OK, "remove_layout");
-        require(allocator.allocate(layout, other) == GD_BAD_LAYOUT, "a layout that was removed");
-        require(outstanding(allocator) == 42 && device.sets == 42, "its sets stay, and none is kept");
+        const gd_layout removed = layout;
+        require(layout.remove() == GD_OK, "remove");
+        require(allocator.allocate(removed, other) == GD_BAD_LAYOUT, "a layout that was removed");
+        require(outstanding(allocator) == 41 && device.sets == 41, "its sets stay, and none is kept");
 
         gd::allocator moved = std::move(allocator);
         require(!allocator && moved, "a move"); // NOLINT: a moved owner is empty

@@ -65,7 +65,7 @@
  * The number of the binary interface. It changes if a program of the header before would do something else
  * with the library: with a struct, a number, or what a function takes.
  */
-#define GD_ABI 2u
+#define GD_ABI 3u
 
 /* A function of the headers for C. In C++ it is static too: a shared object exports none, optimised or not. */
 #define GD_INLINE static inline
@@ -102,7 +102,7 @@ enum {
     GD_BAD_SET = 23,        /* zeroed, freed, waiting, of another allocator, changed, or twice in the
                                list */
     GD_BAD_FLAGS = 24,      /* unknown flags */
-    GD_BAD_COUNTS = 25,     /* only of gpu_descriptor_vulkan.h: a layout that can't be counted */
+    GD_BAD_COUNTS = 25,     /* a layout that can't be counted or isn't served, a cache without places */
     GD_BAD_RESULT = 26,     /* one of your functions returned another status than it may, or the driver an
                                unknown error */
     GD_BUSY = 27,           /* a call from one of your functions, or without waiting: another call on the
@@ -182,6 +182,13 @@ typedef gd_status (*gd_allocate_sets)(void *user, uint64_t pool, uint32_t count,
                                       const uint64_t *layouts, uint64_t *sets) GD_NOEXCEPT;
 typedef void (*gd_free_sets)(void *user, uint64_t pool, uint32_t count,
                              const uint64_t *sets) GD_NOEXCEPT;
+
+/*
+ * For layouts with a variable count (gd_add_variable_layout): as gd_allocate_sets, with the count of each set, each
+ * time the same.
+ */
+typedef gd_status (*gd_allocate_variable_sets)(void *user, uint64_t pool, uint32_t count, const uint64_t *layouts,
+                                               const uint32_t *variable_counts, uint64_t *sets) GD_NOEXCEPT;
 
 typedef struct gd_device {
     void *user;
@@ -311,6 +318,18 @@ gd_status gd_add_layout(gd_allocator allocator, uint64_t handle, const uint32_t 
                         uint32_t flags, gd_layout *layout);
 
 /*
+ * Adds a layout with a variable count, as Vulkan has them: the same, with the count of that binding for each set, and
+ * 'counts' with it. Layouts of one handle with other counts are others. Its sets are allocated by the function that
+ * gd_set_allocate_variable_sets gave; before that it is GD_BAD_COUNTS. gdv_create gives one.
+ *
+ * GD_NULL_POINTER, GD_BAD_COUNTS, GD_BAD_FLAGS, GD_OUT_OF_HOST_MEMORY, GD_BAD_ALLOCATOR, GD_BUSY,
+ * GD_INTERNAL_ERROR.
+ */
+gd_status gd_add_variable_layout(gd_allocator allocator, uint64_t handle, uint32_t variable_count,
+                                 const uint32_t counts[GD_KINDS], uint32_t flags, gd_layout *layout);
+gd_status gd_set_allocate_variable_sets(gd_allocator allocator, gd_allocate_variable_sets function);
+
+/*
  * Removes a layout: call it before you destroy the layout, as the driver may give its handle to another.
  * From then on it is GD_BAD_LAYOUT, also once other layouts were added. Its kept sets go back to the
  * driver. Its outstanding sets stay valid until they are freed, and then go back to the driver too. The last
@@ -363,6 +382,17 @@ gd_status gd_free_all(gd_allocator allocator);
  * GD_BAD_SET, GD_NULL_POINTER, GD_BAD_ALLOCATOR, GD_BUSY, GD_INTERNAL_ERROR.
  */
 gd_status gd_free_after(gd_allocator allocator, const gd_set *sets, uint32_t count, uint64_t frame);
+
+/*
+ * Makes 'frame' the current one. gd_free_after_current is gd_free_after with the current frame: for sets whose last
+ * use is a command buffer of this frame or of an earlier one. So a program that calls gd_begin_frame before it records
+ * a frame frees no set too early, wherever it does so. Before the first gd_begin_frame the current frame is
+ * UINT64_MAX, with which no device is done until it is idle: begin one before you load, too. They allocate nothing.
+ *
+ * GD_BAD_SET, GD_NULL_POINTER, GD_BAD_ALLOCATOR, GD_BUSY, GD_INTERNAL_ERROR.
+ */
+gd_status gd_begin_frame(gd_allocator allocator, uint64_t frame);
+gd_status gd_free_after_current(gd_allocator allocator, const gd_set *sets, uint32_t count);
 
 /*
  * Frees the sets that wait for this frame or an earlier one, as gd_free does. The device must be done

@@ -3,31 +3,39 @@
  *
  *     gd::allocator allocator;
  *     allocator.create(device, limit);             // or gdv_create(&vulkan, limit, allocator.put())
+ *     gd::layout layout;
+ *     allocator.add_layout(handle, counts, 0, layout); // or gdv_add_layout(allocator.raw(), .., layout.put(allocator))
+ *
+ *     allocator.begin_frame(number);               // before the frame is recorded
  *     gd::set set;
  *     allocator.allocate(layout, set);             // set.vk() is the VkDescriptorSet
- *     set.used_in(frame);                          // its end frees it after this frame
- *
  *     gd::frame frame(allocator, number);
  *     gd_set drawn;
  *     frame.allocate(layout, drawn);               // gd::vk_handle(drawn); the end of `frame` frees it after `number`
+ *     allocator.frame_done(number - 2);            // once the device is done with that frame
  *
  * What can fail is [[nodiscard]]; its statuses are left out above.
  *
- * Owners are moved and not copied. The end of a gd::set or gd::sets, and new ones in its place, frees them: after
- * the frame of used_in, and without one at once, when the device must no longer use them. The end of a
- * gd::allocator frees all of its sets, which the device must no longer use, and destroys it; an owner of sets
- * that lives longer does nothing at its end. A gd::allocator ends before vkDestroyDevice.
+ * Owners are moved and not copied. The end of a gd::set or gd::sets, and new ones in its place, frees them after the
+ * frame that is current then (begin_frame), or after that of used_in. Without a begin_frame they wait for
+ * frame_done(UINT64_MAX), when the device is idle, or until the allocator ends. free() frees at once what the device
+ * no longer uses. The end of a gd::layout removes it. The end of a gd::allocator frees all of its sets, which the
+ * device must no longer use, and destroys it; an owner that lives longer does nothing at its end. A gd::allocator
+ * ends before vkDestroyDevice.
  *
- * A destructor has no status. If one of an owner's sets was freed elsewhere, its end fails, and all of its sets
- * stay outstanding until gd_free_all. It waits for other threads' calls. If no call waits
- * (GD_EXTERNALLY_SYNCHRONIZED, or a library without std) and one of another thread runs, the sets stay
- * outstanding until gd_free_all, and the allocator isn't destroyed: so keep the lock that orders your calls
- * while owners end. The same happens in one of the device's four functions: no owner may end there.
+ * If a set of a gd::sets or gd::frame was freed elsewhere, what ends it frees the others, and is GD_BAD_SET; the
+ * owner is empty then. After any other failure it has all that weren't freed.
+ *
+ * A destructor has no status. It waits for other threads' calls. If no call waits (GD_EXTERNALLY_SYNCHRONIZED, or a
+ * library without std) and one of another thread runs, the sets stay outstanding until gd_free_all, the layout
+ * stays, and the allocator isn't destroyed: so keep the lock that orders your calls while owners end. The same
+ * happens in one of the device's four functions: no owner may end there.
  */
 #ifndef GPU_DESCRIPTOR_HPP
 #define GPU_DESCRIPTOR_HPP
 
 #include "gpu_descriptor.h"
+#include "gpu_descriptor_cache.h"
 
 #include <memory>
 #include <new>
@@ -39,8 +47,8 @@ struct VkDescriptorSet_T;
 namespace gd {
 
 /* The ABI's number, so that two shared objects over headers of two ABIs don't share a function. */
-inline namespace abi_2 {
-static_assert(GD_ABI == 2u, "the namespace has the number of the ABI");
+inline namespace abi_3 {
+static_assert(GD_ABI == 3u, "the namespace has the number of the ABI");
 
 /* The VkDescriptorSet of a set. Its name isn't vk, which is the namespace of vulkan.hpp. */
 #if defined(VK_USE_64_BIT_PTR_DEFINES) ? (VK_USE_64_BIT_PTR_DEFINES == 1) : (UINTPTR_MAX == UINT64_MAX)
@@ -55,10 +63,37 @@ inline vk_descriptor_set vk_handle(const gd_set &raw) noexcept {
 }
 #endif
 
-/* The frame after which an owner frees its sets, if it was given one. */
+/* Sets in an array, for range-for. */
+struct set_range {
+    const gd_set *first;
+    const gd_set *last;
+
+    const gd_set *begin() const noexcept { return first; }
+    const gd_set *end() const noexcept { return last; }
+};
+
+/*
+ * Frees `count` sets by `call`. If one of them was freed elsewhere, they are freed one by one, and it is GD_BAD_SET.
+ * After any other failure `count` is how many are left.
+ */
+template <class Call> gd_status free_all_of(const gd_set *raw, uint32_t &count, Call call) noexcept {
+    if (count == 0)
+        return GD_OK;
+    const gd_status status = call(raw, count);
+    if (status == GD_OK)
+        count = 0;
+    for (; status == GD_BAD_SET && count > 0; count--) {
+        const gd_status one = call(raw + count - 1, 1);
+        if (one != GD_OK && one != GD_BAD_SET)
+            return one;
+    }
+    return status;
+}
+
+/* The frame after which an owner frees its sets: the current one, or another that it was given. */
 class last_use {
   public:
-    /* The sets are used in this frame. The highest one counts. */
+    /* The last use of the sets is in this frame, whichever is current at their end. The highest one counts. */
     void used_in(uint64_t frame) noexcept {
         frame_ = is_used_ && frame_ > frame ? frame_ : frame;
         is_used_ = true;
@@ -66,7 +101,7 @@ class last_use {
 
   protected:
     gd_status free_when_done(gd_allocator allocator, const gd_set *raw, uint32_t count) const noexcept {
-        return is_used_ ? gd_free_after(allocator, raw, count, frame_) : gd_free(allocator, raw, count);
+        return is_used_ ? gd_free_after(allocator, raw, count, frame_) : gd_free_after_current(allocator, raw, count);
     }
 
     uint64_t frame_ = 0;
@@ -99,14 +134,14 @@ class set : public last_use {
     const gd_set &raw() const noexcept { return raw_; }
     explicit operator bool() const noexcept { return raw_.owner != 0; }
 
-    /* Frees it after the frame of used_in, or at once. It keeps the set if that fails. */
+    /* Frees it after the current frame, or that of used_in. It keeps the set if that fails. */
     [[nodiscard]] gd_status reset() noexcept {
         if (!*this)
             return GD_OK;
         return end(free_when_done(allocator_, &raw_, 1));
     }
 
-    /* gd_free. It does nothing if there is no set, and keeps the set if it fails. */
+    /* Frees it at once: the device must no longer use it. It keeps the set if that fails. */
     [[nodiscard]] gd_status free() noexcept {
         if (!*this)
             return GD_OK;
@@ -155,21 +190,29 @@ class sets : public last_use {
     const gd_set *begin() const noexcept { return raw_.get(); }
     const gd_set *end() const noexcept { return raw_.get() + count_; }
 
-    /* As those of gd::set. They keep all sets if they fail. */
-    [[nodiscard]] gd_status reset() noexcept { return done(free_when_done(allocator_, raw_.get(), count_)); }
-    [[nodiscard]] gd_status free() noexcept { return done(gd_free(allocator_, raw_.get(), count_)); }
+    /* As those of gd::set. */
+    [[nodiscard]] gd_status reset() noexcept {
+        return finish([this](const gd_set *raw, uint32_t count) noexcept {
+            return free_when_done(allocator_, raw, count);
+        });
+    }
+    [[nodiscard]] gd_status free() noexcept {
+        return finish([this](const gd_set *raw, uint32_t count) noexcept {
+            return gd_free(allocator_, raw, count);
+        });
+    }
     [[nodiscard]] gd_status free_after(uint64_t frame) noexcept {
         used_in(frame);
         return reset();
     }
 
     /* gd_allocate. If it fails, nothing changed. */
-    [[nodiscard]] gd_status allocate(gd_allocator allocator, gd_layout layout, uint32_t count) noexcept {
+    [[nodiscard]] gd_status allocate(gd_allocator allocator, gd_layout of, uint32_t count) noexcept {
         sets made;
         made.raw_.reset(new (std::nothrow) gd_set[count]);
         if (!made.raw_)
             return GD_OUT_OF_HOST_MEMORY;
-        const gd_status status = gd_allocate(allocator, layout, count, made.raw_.get());
+        const gd_status status = gd_allocate(allocator, of, count, made.raw_.get());
         if (status != GD_OK)
             return status;
         made.allocator_ = allocator;
@@ -186,12 +229,11 @@ class sets : public last_use {
         count_ = std::exchange(other.count_, 0u);
     }
 
-    gd_status done(gd_status status) noexcept {
-        if (count_ == 0)
-            return GD_OK;
-        if (status == GD_OK) {
-            sets none;
-            take(none);
+    template <class Call> gd_status finish(Call call) noexcept {
+        const gd_status status = free_all_of(raw_.get(), count_, call);
+        if (count_ == 0) {
+            raw_.reset();
+            last_use::operator=(last_use());
         }
         return status;
     }
@@ -199,6 +241,52 @@ class sets : public last_use {
     gd_allocator allocator_{};
     std::unique_ptr<gd_set[]> raw_;
     uint32_t count_ = 0;
+};
+
+class allocator;
+
+/* One layout, or none. Its end removes it: before the driver's layout is destroyed, which is yours. */
+class layout {
+  public:
+    layout() = default;
+    /* Takes the ownership of a layout of gd_add_layout. Only one owner may have it, however often it was added. */
+    layout(gd_allocator allocator, gd_layout raw) noexcept : allocator_(allocator), raw_(raw) {}
+    layout(const layout &) = delete;
+    layout &operator=(const layout &) = delete;
+    layout(layout &&other) noexcept : allocator_(other.allocator_), raw_(other.release()) {}
+    layout &operator=(layout &&other) noexcept {
+        if (this != &other) {
+            (void)remove();
+            allocator_ = other.allocator_;
+            raw_ = other.release();
+        }
+        return *this;
+    }
+    ~layout() { (void)remove(); }
+
+    const gd_layout &raw() const noexcept { return raw_; }
+    operator gd_layout() const noexcept { return raw_; }
+    explicit operator bool() const noexcept { return raw_.owner != 0; }
+
+    /* Removes what is here; then a function that adds a layout to this allocator writes it here. */
+    inline gd_layout *put(const allocator &of) noexcept;
+
+    /* gd_remove_layout: sets of it stay valid until they are freed. It keeps the layout if that fails. */
+    [[nodiscard]] gd_status remove() noexcept {
+        if (!*this)
+            return GD_OK;
+        const gd_status status = gd_remove_layout(allocator_, raw_);
+        if (status == GD_OK)
+            (void)release();
+        return status;
+    }
+
+    /* Gives up the ownership. */
+    gd_layout release() noexcept { return std::exchange(raw_, gd_layout{}); }
+
+  private:
+    gd_allocator allocator_{};
+    gd_layout raw_{};
 };
 
 /* One allocator, or none. */
@@ -233,20 +321,40 @@ class allocator {
     }
 
     /* Allocates a set, which replaces the old one of `to`. If it fails, `to` is as before. */
-    [[nodiscard]] gd_status allocate(gd_layout layout, set &to) noexcept {
+    [[nodiscard]] gd_status allocate(gd_layout of, set &to) noexcept {
         gd_set raw{};
-        const gd_status status = gd_allocate(raw_, layout, 1, &raw);
+        const gd_status status = gd_allocate(raw_, of, 1, &raw);
         if (status == GD_OK)
             to = set(raw_, raw);
         return status;
     }
 
-    /* Removes a layout. Sets of it stay valid until they are freed. */
-    [[nodiscard]] gd_status remove_layout(gd_layout layout) noexcept { return gd_remove_layout(raw_, layout); }
+    /* Adds a layout, which replaces the old one of `to`. If it fails, `to` is as before. */
+    [[nodiscard]] gd_status add_layout(uint64_t handle, const uint32_t (&counts)[GD_KINDS], uint32_t flags,
+                                       layout &to) noexcept {
+        gd_layout raw{};
+        const gd_status status = gd_add_layout(raw_, handle, counts, flags, &raw);
+        if (status == GD_OK)
+            to = layout(raw_, raw);
+        return status;
+    }
+
+    /* Removes a layout that has no owner. Sets of it stay valid until they are freed. */
+    [[nodiscard]] gd_status remove_layout(gd_layout raw) noexcept { return gd_remove_layout(raw_, raw); }
+
+    /* From now on the end of an owner frees its sets after this frame, unless it was given another one. */
+    [[nodiscard]] gd_status begin_frame(uint64_t frame) noexcept { return gd_begin_frame(raw_, frame); }
+
+    /* The functions of gpu_descriptor.h by these names. */
+    [[nodiscard]] gd_status frame_done(uint64_t frame) noexcept { return gd_frame_done(raw_, frame); }
+    [[nodiscard]] gd_status keep(uint32_t most) noexcept { return gd_keep(raw_, most); }
+    [[nodiscard]] gd_status cleanup() noexcept { return gd_cleanup(raw_); }
+    [[nodiscard]] gd_status trim() noexcept { return gd_trim(raw_); }
+    [[nodiscard]] gd_status statistics(gd_statistics &to) const noexcept { return gd_get_statistics(raw_, &to); }
 
     /* Allocates sets, which replace the old ones of `to`. If it fails, `to` is as before. */
-    [[nodiscard]] gd_status allocate(gd_layout layout, uint32_t count, sets &to) noexcept {
-        return to.allocate(raw_, layout, count);
+    [[nodiscard]] gd_status allocate(gd_layout of, uint32_t count, sets &to) noexcept {
+        return to.allocate(raw_, of, count);
     }
 
     /* Frees all of its sets and destroys it. It does nothing if there is none. */
@@ -268,6 +376,12 @@ class allocator {
     gd_allocator raw_{};
 };
 
+inline gd_layout *layout::put(const allocator &of) noexcept {
+    (void)remove();
+    allocator_ = of.raw();
+    return &raw_;
+}
+
 /*
  * The sets that are drawn in one frame. Its end, and the begin of another one, frees them all after the frame,
  * by one call.
@@ -275,7 +389,8 @@ class allocator {
 class frame {
   public:
     frame() = default;
-    frame(const allocator &of, uint64_t number) noexcept : allocator_(of.raw()), number_(number) {}
+    frame(gd_allocator of, uint64_t number) noexcept : allocator_(of), number_(number) {}
+    frame(const allocator &of, uint64_t number) noexcept : frame(of.raw(), number) {}
     frame(const frame &) = delete;
     frame &operator=(const frame &) = delete;
     frame(frame &&other) noexcept { take(other); }
@@ -290,39 +405,40 @@ class frame {
 
     uint64_t number() const noexcept { return number_; }
     uint32_t size() const noexcept { return count_; }
+    const gd_set &operator[](uint32_t index) const noexcept { return raw_[index]; }
 
-    /* gd_allocate. The sets are the frame's: if one is freed elsewhere, the frame can't end. */
-    [[nodiscard]] gd_status allocate(gd_layout layout, uint32_t count, gd_set *to) noexcept {
+    /* Its sets in the order of allocation, until the next one is allocated. */
+    set_range all() const noexcept { return {raw_.get(), raw_.get() + count_}; }
+
+    /* gd_allocate. The sets are the frame's. */
+    [[nodiscard]] gd_status allocate(gd_layout of, uint32_t count, gd_set *to) noexcept {
         if (!reserve(count)) {
             for (uint32_t index = 0; to != nullptr && index < count; index++)
                 to[index] = gd_set{};
             return GD_OUT_OF_HOST_MEMORY;
         }
-        const gd_status status = gd_allocate(allocator_, layout, count, to);
+        const gd_status status = gd_allocate(allocator_, of, count, to);
         if (status == GD_OK)
             for (uint32_t index = 0; index < count; index++)
                 raw_[count_++] = to[index];
         return status;
     }
-    [[nodiscard]] gd_status allocate(gd_layout layout, gd_set &to) noexcept { return allocate(layout, 1, &to); }
+    [[nodiscard]] gd_status allocate(gd_layout of, gd_set &to) noexcept { return allocate(of, 1, &to); }
 
-    /* Frees its sets after this frame. It keeps them if that fails. */
+    /* Frees its sets after this frame. */
     [[nodiscard]] gd_status end() noexcept {
-        if (count_ == 0)
-            return GD_OK;
-        const gd_status status = gd_free_after(allocator_, raw_.get(), count_, number_);
-        if (status == GD_OK)
-            count_ = 0;
-        return status;
+        return free_all_of(raw_.get(), count_, [this](const gd_set *raw, uint32_t count) noexcept {
+            return gd_free_after(allocator_, raw, count, number_);
+        });
     }
 
     /* Gives up the ownership of its sets. */
     void release() noexcept { count_ = 0; }
 
-    /* Ends this frame, and begins another one in its memory. If that fails, it is still this one. */
+    /* Ends this frame, and begins another one in its memory, unless sets are left: then it is still this one. */
     [[nodiscard]] gd_status begin(uint64_t number) noexcept {
         const gd_status status = end();
-        if (status == GD_OK)
+        if (count_ == 0)
             number_ = number;
         return status;
     }
@@ -358,7 +474,36 @@ class frame {
     uint32_t count_ = 0, room_ = 0;
 };
 
-} // namespace abi_2
+/* A gd_cache, of one thread and one layout. Its end flushes it. */
+template <uint32_t Refill = GD_CACHE_REFILL> class cache {
+    static_assert(Refill > 0 && Refill <= UINT32_MAX / 2, "as gd_cache_init has it");
+
+  public:
+    cache(gd_allocator of, gd_layout with) noexcept { (void)gd_cache_init(&raw_, of, with, places_, Refill); }
+    cache(const allocator &of, gd_layout with) noexcept : cache(of.raw(), with) {}
+    cache(const cache &) = delete;
+    cache &operator=(const cache &) = delete;
+    ~cache() { (void)flush(); }
+
+    uint32_t size() const noexcept { return raw_.count; }
+
+    /* The functions of gpu_descriptor_cache.h by these names. */
+    [[nodiscard]] gd_status allocate(gd_set &to) noexcept { return gd_cache_allocate(&raw_, 1, &to); }
+    [[nodiscard]] gd_status allocate(uint32_t count, gd_set *to) noexcept {
+        return gd_cache_allocate(&raw_, count, to);
+    }
+    [[nodiscard]] gd_status free(const gd_set &raw) noexcept { return gd_cache_free(&raw_, &raw, 1); }
+    [[nodiscard]] gd_status free(const gd_set *raw, uint32_t count) noexcept {
+        return gd_cache_free(&raw_, raw, count);
+    }
+    [[nodiscard]] gd_status flush() noexcept { return gd_cache_flush(&raw_); }
+
+  private:
+    gd_cache raw_;
+    gd_set places_[2 * Refill];
+};
+
+} // namespace abi_3
 } // namespace gd
 
 #endif

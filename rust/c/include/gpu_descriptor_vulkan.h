@@ -195,17 +195,37 @@ GD_INLINE void gdv_destroy_pool(void *user, uint64_t pool) GD_NOEXCEPT {
 }
 
 /* The arrays are passed on as they are: handles have 64 bits, and no function of C reads them. */
-GD_INLINE gd_status gdv_allocate_sets(void *user, uint64_t pool, uint32_t count,
-                                          const uint64_t *layouts, uint64_t *sets) GD_NOEXCEPT {
-    const gdv_device *it = GDV_CAST(const gdv_device *, user);
+GD_INLINE VkDescriptorSetAllocateInfo gdv_allocate_info(uint64_t pool, uint32_t count, const uint64_t *layouts) {
     VkDescriptorSetAllocateInfo info;
     memset(&info, 0, sizeof info);
     info.sType = VK_STRUCTURE_TYPE_DESCRIPTOR_SET_ALLOCATE_INFO;
     info.descriptorPool = GDV_HANDLE(VkDescriptorPool, pool);
     info.descriptorSetCount = count;
     info.pSetLayouts = GDV_CAST(const VkDescriptorSetLayout *, GDV_CAST(const void *, layouts));
+    return info;
+}
+
+GD_INLINE gd_status gdv_allocate_by(const gdv_device *it, const VkDescriptorSetAllocateInfo *info, uint64_t *sets) {
     VkDescriptorSet *handles = GDV_CAST(VkDescriptorSet *, GDV_CAST(void *, sets));
-    return gdv_reason(it->allocate_sets(it->device, &info, handles));
+    return gdv_reason(it->allocate_sets(it->device, info, handles));
+}
+
+GD_INLINE gd_status gdv_allocate_sets(void *user, uint64_t pool, uint32_t count,
+                                          const uint64_t *layouts, uint64_t *sets) GD_NOEXCEPT {
+    const VkDescriptorSetAllocateInfo info = gdv_allocate_info(pool, count, layouts);
+    return gdv_allocate_by(GDV_CAST(const gdv_device *, user), &info, sets);
+}
+
+GD_INLINE gd_status gdv_allocate_variable_sets(void *user, uint64_t pool, uint32_t count, const uint64_t *layouts,
+                                               const uint32_t *variable_counts, uint64_t *sets) GD_NOEXCEPT {
+    VkDescriptorSetAllocateInfo info = gdv_allocate_info(pool, count, layouts);
+    VkDescriptorSetVariableDescriptorCountAllocateInfo variable;
+    memset(&variable, 0, sizeof variable);
+    variable.sType = VK_STRUCTURE_TYPE_DESCRIPTOR_SET_VARIABLE_DESCRIPTOR_COUNT_ALLOCATE_INFO;
+    variable.descriptorSetCount = count;
+    variable.pDescriptorCounts = variable_counts;
+    info.pNext = &variable;
+    return gdv_allocate_by(GDV_CAST(const gdv_device *, user), &info, sets);
 }
 
 GD_INLINE void gdv_free_sets(void *user, uint64_t pool, uint32_t count,
@@ -272,7 +292,10 @@ GD_INLINE gd_status gdv_load(gdv_device *vulkan, VkDevice device,
                    GDV_FUNCTION(vkFreeDescriptorSets, load, device));
 }
 
-/* The gd_device of a VkDevice, for gd_create: 'vulkan' must stay where it is until gd_destroy. */
+/*
+ * The gd_device of a VkDevice, for gd_create: 'vulkan' must stay where it is until gd_destroy. For layouts with a
+ * variable count call gd_set_allocate_variable_sets(allocator, gdv_allocate_variable_sets).
+ */
 GD_INLINE gd_device gdv_functions(gdv_device *vulkan) {
     gd_device device;
     device.user = vulkan;
@@ -334,7 +357,10 @@ GD_INLINE gd_status gdv_create_with_flags(const gdv_device *vulkan, uint32_t lim
     device.destroy_pool = gdv_destroy_pool_inside;
     device.allocate_sets = gdv_allocate_sets; /* a gdv_copy begins with a gdv_device */
     device.free_sets = gdv_free_sets;
-    return gd_create_with_copy(&device, sizeof copy, limit, flags, allocator);
+    gd_status status = gd_create_with_copy(&device, sizeof copy, limit, flags, allocator);
+    if (status != GD_OK)
+        return status;
+    return gd_set_allocate_variable_sets(*allocator, gdv_allocate_variable_sets); /* nobody else has it yet */
 }
 
 /* The same without flags. */
@@ -342,8 +368,8 @@ GD_INLINE gd_status gdv_create(const gdv_device *vulkan, uint32_t limit, gd_allo
     return gdv_create_with_flags(vulkan, limit, 0, allocator);
 }
 
-/* Whether a binding has a variable count. */
-GD_INLINE int gdv_is_variable(const VkDescriptorSetLayoutCreateInfo *info) {
+/* The place of the binding that has a variable count; UINT32_MAX if none has. */
+GD_INLINE uint32_t gdv_variable_binding(const VkDescriptorSetLayoutCreateInfo *info) {
     const VkBaseInStructure *next = GDV_CAST(const VkBaseInStructure *, info->pNext);
     for (; next; next = next->pNext) {
         if (next->sType != VK_STRUCTURE_TYPE_DESCRIPTOR_SET_LAYOUT_BINDING_FLAGS_CREATE_INFO)
@@ -352,9 +378,31 @@ GD_INLINE int gdv_is_variable(const VkDescriptorSetLayoutCreateInfo *info) {
             const VkDescriptorSetLayoutBindingFlagsCreateInfo *, GDV_CAST(const void *, next));
         for (uint32_t number = 0; number < flags->bindingCount; number++)
             if (flags->pBindingFlags[number] & VK_DESCRIPTOR_BINDING_VARIABLE_DESCRIPTOR_COUNT_BIT)
-                return 1;
+                return number;
     }
-    return 0;
+    return UINT32_MAX;
+}
+
+/* Counts a layout of which a binding, or none with UINT32_MAX, has 'variable_count' descriptors. */
+GD_INLINE gd_status gdv_count_bindings(const VkDescriptorSetLayoutCreateInfo *info, uint32_t variable_binding,
+                                       uint32_t variable_count, uint32_t counts[GD_KINDS], uint32_t *flags) {
+    memset(counts, 0, GD_KINDS * sizeof *counts);
+    *flags = info->flags & VK_DESCRIPTOR_SET_LAYOUT_CREATE_UPDATE_AFTER_BIND_POOL_BIT;
+    if (*flags != info->flags)
+        return GD_BAD_COUNTS;
+    for (uint32_t number = 0; number < info->bindingCount; number++) {
+        const VkDescriptorSetLayoutBinding *binding = &info->pBindings[number];
+        uint32_t kind = gdv_kind(binding->descriptorType);
+        uint32_t count = number == variable_binding ? variable_count : binding->descriptorCount;
+        if (count == 0)
+            continue;
+        if (kind == GD_KINDS || count > UINT32_MAX - counts[kind])
+            return GD_BAD_COUNTS;
+        counts[kind] += count; /* of an inline uniform block: bytes */
+        if (kind == GD_INLINE_UNIFORM_BLOCK_BYTES)
+            counts[GD_INLINE_UNIFORM_BLOCK_BINDINGS] += 1;
+    }
+    return GD_OK;
 }
 
 /*
@@ -364,26 +412,28 @@ GD_INLINE int gdv_is_variable(const VkDescriptorSetLayoutCreateInfo *info) {
  * (VkSamplerYcbcrConversionImageFormatProperties): then add to the counts and call gd_add_layout.
  *
  * GD_BAD_COUNTS for a type that has no kind, a count past 32 bits, a binding with a variable count, and
- * other flags than update-after-bind: push descriptors, descriptor buffers, host-only layouts.
+ * other flags than update-after-bind: push descriptors, descriptor buffers, host-only layouts. A mutable type has no
+ * kind, since its sets come only from pools with descriptors of VK_DESCRIPTOR_TYPE_MUTABLE_EXT, whatever counts of
+ * other types they have.
  */
 GD_INLINE gd_status gdv_count(const VkDescriptorSetLayoutCreateInfo *info,
                                   uint32_t counts[GD_KINDS], uint32_t *flags) {
-    memset(counts, 0, GD_KINDS * sizeof *counts);
-    *flags = info->flags & VK_DESCRIPTOR_SET_LAYOUT_CREATE_UPDATE_AFTER_BIND_POOL_BIT;
-    if (*flags != info->flags || gdv_is_variable(info))
+    gd_status status = gdv_count_bindings(info, UINT32_MAX, 0, counts, flags);
+    return gdv_variable_binding(info) == UINT32_MAX ? status : GDV_CAST(gd_status, GD_BAD_COUNTS);
+}
+
+/*
+ * The same for sets with so many descriptors in the binding with a variable count.
+ *
+ * GD_BAD_COUNTS also if no binding has a variable count, or if that has fewer descriptors.
+ */
+GD_INLINE gd_status gdv_count_variable(const VkDescriptorSetLayoutCreateInfo *info, uint32_t variable_count,
+                                       uint32_t counts[GD_KINDS], uint32_t *flags) {
+    const uint32_t binding = gdv_variable_binding(info);
+    gd_status status = gdv_count_bindings(info, binding, variable_count, counts, flags);
+    if (binding >= info->bindingCount || variable_count > info->pBindings[binding].descriptorCount)
         return GD_BAD_COUNTS;
-    for (uint32_t number = 0; number < info->bindingCount; number++) {
-        const VkDescriptorSetLayoutBinding *binding = &info->pBindings[number];
-        uint32_t kind = gdv_kind(binding->descriptorType);
-        if (binding->descriptorCount == 0)
-            continue;
-        if (kind == GD_KINDS || binding->descriptorCount > UINT32_MAX - counts[kind])
-            return GD_BAD_COUNTS;
-        counts[kind] += binding->descriptorCount; /* of an inline uniform block: bytes */
-        if (kind == GD_INLINE_UNIFORM_BLOCK_BYTES)
-            counts[GD_INLINE_UNIFORM_BLOCK_BINDINGS] += 1;
-    }
-    return GD_OK;
+    return status;
 }
 
 /* gdv_count and gd_add_layout, with the statuses of both. */
@@ -398,6 +448,24 @@ GD_INLINE gd_status gdv_add_layout(gd_allocator allocator, VkDescriptorSetLayout
     if (status != GD_OK)
         return status;
     return gd_add_layout(allocator, GDV_NUMBER(layout), counts, flags, known);
+}
+
+/*
+ * Adds a layout with a variable count: gdv_count_variable and gd_add_variable_layout, with the statuses of both. Each
+ * set of it has 'variable_count' descriptors in that binding, and costs no more. A layout may be added with several
+ * counts, which are layouts of their own: remove each before you destroy it.
+ */
+GD_INLINE gd_status gdv_add_variable_layout(gd_allocator allocator, VkDescriptorSetLayout layout,
+                                            const VkDescriptorSetLayoutCreateInfo *info, uint32_t variable_count,
+                                            gd_layout *known) {
+    uint32_t counts[GD_KINDS];
+    uint32_t flags = 0;
+    if (!info)
+        return GD_NULL_POINTER;
+    gd_status status = gdv_count_variable(info, variable_count, counts, &flags);
+    if (status != GD_OK)
+        return status;
+    return gd_add_variable_layout(allocator, GDV_NUMBER(layout), variable_count, counts, flags, known);
 }
 
 #endif

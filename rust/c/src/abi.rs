@@ -4,7 +4,7 @@ use crate::slot::GdAllocator;
 use core::ffi::{CStr, c_void};
 
 /// `GD_ABI`, which names the shared library, too.
-pub const ABI: u64 = 2;
+pub const ABI: u64 = 3;
 
 /// `GD_HEADER`.
 pub const HEADER: u64 = (size_of::<GdLayoutStatistics>() as u64) << 56
@@ -33,6 +33,7 @@ impl GdStatus {
     pub const BAD_LAYOUT: Self = GdStatus(22);
     pub const BAD_SET: Self = GdStatus(23);
     pub const BAD_FLAGS: Self = GdStatus(24);
+    pub const BAD_COUNTS: Self = GdStatus(25);
     pub const BAD_RESULT: Self = GdStatus(26);
     pub const BUSY: Self = GdStatus(27);
     pub const OUTSTANDING: Self = GdStatus(28);
@@ -79,6 +80,8 @@ pub type CreatePool = unsafe extern "C" fn(*mut c_void, *const GdPoolInfo, *mut 
 pub type DestroyPool = unsafe extern "C" fn(*mut c_void, u64);
 pub type AllocateSets =
     unsafe extern "C" fn(*mut c_void, u64, u32, *const u64, *mut u64) -> GdStatus;
+pub type AllocateVariableSets =
+    unsafe extern "C" fn(*mut c_void, u64, u32, *const u64, *const u32, *mut u64) -> GdStatus;
 pub type FreeSets = unsafe extern "C" fn(*mut c_void, u64, u32, *const u64);
 
 /// `gd_device`.

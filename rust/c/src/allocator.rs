@@ -4,9 +4,9 @@
 //! set, that a set is freed once, and that a name leads to one layout. What this file adds is the form that
 //! they have in C, that a `gd_set` has the handle of its set, and that a layout is known by the host's handle.
 
-use crate::abi::{GdLayout, GdSet, GdStatus};
+use crate::abi::{AllocateVariableSets, GdLayout, GdSet, GdStatus};
 use crate::descriptor_renderer::{DestroyError, LayoutHandle, RenderError, Renderer, SetHandle};
-use crate::device::{HostDevice, HostPool};
+use crate::device::{HostDevice, HostLayout, HostPool};
 use crate::gpu_descriptor::{
     AllocationError, DescriptorSetLayoutCreateFlags, DescriptorTotalCount, SetLayout,
 };
@@ -14,7 +14,7 @@ use crate::kit::alloc::{AllocError, Global};
 use crate::kit::vec::Vec;
 use crate::known::Known;
 
-type HostRenderer = Renderer<u64, HostPool, u64, HostDevice>;
+type HostRenderer = Renderer<HostLayout, HostPool, u64, HostDevice>;
 
 mod statistics;
 
@@ -30,6 +30,9 @@ pub struct Allocator {
 
     /// The layouts, by the host's handles.
     known: Known,
+
+    /// The host's current frame. Before the first it is one that no device is done with.
+    frame: u64,
 }
 
 /// The name of a set or a layout in C: 64 bits, which no other set or layout of the allocator gets. It is
@@ -60,7 +63,7 @@ fn layout_of(owner: u64, name: u64) -> LayoutHandle {
 fn by_name(id: u64, renderer: &HostRenderer) -> impl Fn(u64) -> u64 {
     move |name| {
         let it = renderer.layout(layout_of(id, name));
-        it.expect("a known layout is there").layout
+        it.expect("a known layout is there").layout.handle
     }
 }
 
@@ -77,6 +80,7 @@ impl Allocator {
             held: 0,
             handles: Vec::new(Global),
             known: Known::new(),
+            frame: u64::MAX,
         }
     }
 
@@ -95,13 +99,23 @@ impl Allocator {
         self.renderer.device().pools.count
     }
 
+    /// Layouts of variable counts may be added from now on.
+    pub fn set_allocate_variable_sets(&mut self, function: AllocateVariableSets) {
+        let device = self.renderer.device();
+        device.allocate_variable_sets.set(Some(function));
+    }
+
     /// Adds a layout. A known one with the same counts and flags keeps its index.
     pub fn add_layout(
         &mut self,
-        handle: u64,
+        handle: HostLayout,
         counts: &[u32; 14],
         flags: u32,
     ) -> Result<GdLayout, GdStatus> {
+        let device = self.renderer.device();
+        if handle.variable.is_some() && device.allocate_variable_sets.get().is_none() {
+            return Err(GdStatus::BAD_COUNTS);
+        }
         let flags = DescriptorSetLayoutCreateFlags::from_bits(flags).ok_or(GdStatus::BAD_FLAGS)?;
         let mut total = DescriptorTotalCount::default();
         for (kind, count) in counts.iter().enumerate() {
@@ -123,8 +137,8 @@ impl Allocator {
     }
 
     /// The name of a layout with this handle, these counts and flags.
-    fn known_layout(&self, layout: &SetLayout<u64>) -> Option<u64> {
-        self.known.find(layout.layout, |name| {
+    fn known_layout(&self, layout: &SetLayout<HostLayout>) -> Option<u64> {
+        self.known.find(layout.layout.handle, |name| {
             let it = self.renderer.layout(layout_of(self.id, name));
             it.is_some_and(|it| {
                 (it.layout, it.flags, it.counts) == (layout.layout, layout.flags, layout.counts)
@@ -133,8 +147,8 @@ impl Allocator {
     }
 
     /// Adds a layout, and returns its name.
-    fn new_layout(&mut self, layout: SetLayout<u64>) -> Result<u64, GdStatus> {
-        let (id, renderer, handle) = (self.id, &self.renderer, layout.layout);
+    fn new_layout(&mut self, layout: SetLayout<HostLayout>) -> Result<u64, GdStatus> {
+        let (id, renderer, handle) = (self.id, &self.renderer, layout.layout.handle);
         if self.known.reserve(by_name(id, renderer)).is_err() {
             return Err(GdStatus::OUT_OF_HOST_MEMORY);
         }
@@ -152,7 +166,8 @@ impl Allocator {
             return GdStatus::BAD_LAYOUT;
         };
         let handle_of = by_name(self.id, &self.renderer);
-        self.known.remove(removed.layout, layout.index, handle_of);
+        self.known
+            .remove(removed.layout.handle, layout.index, handle_of);
         GdStatus::OK
     }
 
@@ -298,6 +313,16 @@ impl Allocator {
         self.release(count, get, |renderer, sets| {
             renderer.destroy_sets(sets, frame)
         })
+    }
+
+    /// The current frame from now on.
+    pub fn begin_frame(&mut self, frame: u64) {
+        self.frame = frame;
+    }
+
+    /// Lets sets wait for the end of the current frame. It allocates nothing.
+    pub fn free_after_current(&mut self, count: u32, get: impl Fn(usize) -> GdSet) -> GdStatus {
+        self.free_after(count, get, self.frame)
     }
 
     /// Keeps or frees the sets that wait for this frame or an earlier one. It allocates nothing.

@@ -1,6 +1,9 @@
 //! A device that calls the functions of a host.
 
-use crate::abi::{AllocateSets, CreatePool, DestroyPool, FreeSets, GdDevice, GdPoolInfo, GdStatus};
+use crate::abi::{
+    AllocateSets, AllocateVariableSets, CreatePool, DestroyPool, FreeSets, GdDevice, GdPoolInfo,
+    GdStatus,
+};
 use crate::gpu_descriptor_types::{
     CreatePoolError, DescriptorDevice, DescriptorPoolCreateFlags, DescriptorTotalCount,
     DeviceAllocationError, Layouts, SetSink,
@@ -10,6 +13,13 @@ use crate::lock::Lock;
 use core::cell::Cell;
 use core::ffi::c_void;
 use std_alloc::vec::Vec;
+
+/// A layout of the host, and the count of its binding with a variable count, if it has one.
+#[derive(Clone, Copy, PartialEq, Eq)]
+pub struct HostLayout {
+    pub handle: u64,
+    pub variable: Option<u32>,
+}
 
 /// A pool of the host, and what it may have.
 pub struct HostPool {
@@ -119,6 +129,10 @@ pub struct HostDevice {
     layout: u64,
     filled: usize,
 
+    /// The host's function for sets of variable counts, once it gave one, and the counts of a call.
+    pub allocate_variable_sets: Cell<Option<AllocateVariableSets>>,
+    variables: Vec<u32>,
+
     /// The pools that exist, and the most that there were at once.
     pub pools: Pools,
     pub peak: Pools,
@@ -138,6 +152,8 @@ impl HostDevice {
             layouts: Vec::new(),
             layout: 0,
             filled: 0,
+            allocate_variable_sets: Cell::new(None),
+            variables: Vec::new(),
             pools: Pools::default(),
             peak: Pools::default(),
             cause: Cell::new(GdStatus::OK),
@@ -190,6 +206,29 @@ impl HostDevice {
         }
     }
 
+    /// The host's answer to a request of `count` sets, for which `prepare` was called.
+    fn ask(&mut self, pool: u64, count: u32) -> GdStatus {
+        let (layouts, handles) = (self.layouts.as_ptr(), self.handles.as_mut_ptr());
+        // SAFETY: both arrays have at least `count` elements.
+        self.call(|it| unsafe { (it.allocate_sets)(it.user, pool, count, layouts, handles) })
+    }
+
+    /// The same with a variable count for each set.
+    #[cold]
+    fn ask_variable(&mut self, pool: u64, count: u32, variable: u32) -> GdStatus {
+        let function = self.allocate_variable_sets.get();
+        let function = function.expect("no layout is variable before");
+        self.variables.clear();
+        if self.variables.try_reserve(count as usize).is_err() {
+            return GdStatus::OUT_OF_HOST_MEMORY;
+        }
+        self.variables.resize(count as usize, variable);
+        let (layouts, handles) = (self.layouts.as_ptr(), self.handles.as_mut_ptr());
+        let variables = self.variables.as_ptr();
+        // SAFETY: the arrays have at least `count` elements.
+        self.call(|it| unsafe { function(it.user, pool, count, layouts, variables, handles) })
+    }
+
     /// Sets the cause to a status that is no reason of the allocator's. A lost device stays lost.
     #[cold]
     fn set_cause(&self, status: GdStatus) {
@@ -210,7 +249,7 @@ impl HostDevice {
     }
 }
 
-impl DescriptorDevice<u64, HostPool, u64> for HostDevice {
+impl DescriptorDevice<HostLayout, HostPool, u64> for HostDevice {
     fn create_descriptor_pool(
         &mut self,
         counts: &DescriptorTotalCount,
@@ -259,19 +298,18 @@ impl DescriptorDevice<u64, HostPool, u64> for HostDevice {
     fn alloc_descriptor_sets<K: SetSink<u64>>(
         &mut self,
         pool: &mut HostPool,
-        layouts: Layouts<'_, u64>,
+        layouts: Layouts<'_, HostLayout>,
         sets: &mut K,
     ) -> Result<(), DeviceAllocationError> {
         let (layout, count) = (*layouts.layout(), layouts.len());
         if self.reserve(count as usize).is_err() {
             return Err(DeviceAllocationError::OutOfHostMemory);
         }
-        self.prepare(layout, count as usize);
-        let (layouts, handles) = (self.layouts.as_ptr(), self.handles.as_mut_ptr());
-        // SAFETY: both arrays have at least `count` elements.
-        let status = self.call(|it| unsafe {
-            (it.allocate_sets)(it.user, pool.handle, count, layouts, handles)
-        });
+        self.prepare(layout.handle, count as usize);
+        let status = match layout.variable {
+            None => self.ask(pool.handle, count),
+            Some(variable) => self.ask_variable(pool.handle, count, variable),
+        };
         match status {
             GdStatus::OK => {
                 for handle in &self.handles[..count as usize] {

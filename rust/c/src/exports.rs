@@ -5,11 +5,11 @@
 #![allow(clippy::missing_safety_doc)]
 
 use crate::abi::{
-    EXTERNALLY_SYNCHRONIZED, GdDevice, GdLayout, GdLayoutStatistics, GdSet, GdStatistics, GdStatus,
-    HEADER,
+    AllocateVariableSets, EXTERNALLY_SYNCHRONIZED, GdDevice, GdLayout, GdLayoutStatistics, GdSet,
+    GdStatistics, GdStatus, HEADER,
 };
 use crate::allocator::Allocator;
-use crate::device::{Host, HostDevice};
+use crate::device::{Host, HostDevice, HostLayout};
 use crate::slot::{self, GdAllocator};
 use core::ffi::c_char;
 
@@ -164,6 +164,53 @@ pub unsafe extern "C" fn gd_add_layout(
     flags: u32,
     layout: *mut GdLayout,
 ) -> GdStatus {
+    let variable = None;
+    // SAFETY: the header's.
+    unsafe {
+        add_layout(
+            allocator,
+            HostLayout { handle, variable },
+            counts,
+            flags,
+            layout,
+        )
+    }
+}
+
+#[unsafe(no_mangle)]
+pub unsafe extern "C" fn gd_add_variable_layout(
+    allocator: GdAllocator,
+    handle: u64,
+    variable_count: u32,
+    counts: *const u32,
+    flags: u32,
+    layout: *mut GdLayout,
+) -> GdStatus {
+    let variable = Some(variable_count);
+    // SAFETY: the header's.
+    unsafe {
+        add_layout(
+            allocator,
+            HostLayout { handle, variable },
+            counts,
+            flags,
+            layout,
+        )
+    }
+}
+
+/// Adds a layout of either kind.
+///
+/// # Safety
+///
+/// As the header says.
+unsafe fn add_layout(
+    allocator: GdAllocator,
+    handle: HostLayout,
+    counts: *const u32,
+    flags: u32,
+    layout: *mut GdLayout,
+) -> GdStatus {
     if counts.is_null() {
         return GdStatus::NULL_POINTER;
     }
@@ -174,6 +221,18 @@ pub unsafe extern "C" fn gd_add_layout(
             it.add_layout(handle, &counts, flags)
         })
     }
+}
+
+#[unsafe(no_mangle)]
+pub unsafe extern "C" fn gd_set_allocate_variable_sets(
+    allocator: GdAllocator,
+    function: Option<AllocateVariableSets>,
+) -> GdStatus {
+    let Some(function) = function else {
+        return GdStatus::NULL_POINTER;
+    };
+    // SAFETY: the header's.
+    unsafe { run(allocator, |it| it.set_allocate_variable_sets(function)) }
 }
 
 #[unsafe(no_mangle)]
@@ -238,6 +297,29 @@ pub unsafe extern "C" fn gd_free_after(
     unsafe {
         slot::enter(allocator, |it| {
             it.free_after(count, |at| sets.add(at).read(), frame)
+        })
+    }
+}
+
+#[unsafe(no_mangle)]
+pub unsafe extern "C" fn gd_begin_frame(allocator: GdAllocator, frame: u64) -> GdStatus {
+    // SAFETY: the header's.
+    unsafe { run(allocator, |it| it.begin_frame(frame)) }
+}
+
+#[unsafe(no_mangle)]
+pub unsafe extern "C" fn gd_free_after_current(
+    allocator: GdAllocator,
+    sets: *const GdSet,
+    count: u32,
+) -> GdStatus {
+    if is_missing(sets, count) {
+        return GdStatus::NULL_POINTER;
+    }
+    // SAFETY: the header's.
+    unsafe {
+        slot::enter(allocator, |it| {
+            it.free_after_current(count, |at| sets.add(at).read())
         })
     }
 }

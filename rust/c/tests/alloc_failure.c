@@ -57,6 +57,14 @@ static uint32_t keep;
         CHECK(LIBRARY(call) == GD_OK);                                                             \
     } while (0)
 
+// Counts are 5 each.
+static gd_status allocate_variable_sets(void *user, uint64_t pool, uint32_t count, const uint64_t *layouts,
+                                        const uint32_t *variable_counts, uint64_t *sets) {
+    for (uint32_t at = 0; at < count; at++)
+        CHECK(variable_counts[at] == 5);
+    return allocate_sets(user, pool, count, layouts, sets);
+}
+
 // The calls that allocate nothing.
 #define ALLOCATES_NOTHING(call)                                                                    \
     do {                                                                                           \
@@ -104,6 +112,11 @@ static void run(void) {
     RETRY(gd_add_layout(allocator, 4, other, 0, &layouts[4]));
     RETRY(gd_allocate(allocator, layouts[4], MOST, more));
     ALLOCATES_NOTHING(gd_free_after(allocator, more, 100, 1));
+    ALLOCATES_NOTHING(gd_set_allocate_variable_sets(allocator, allocate_variable_sets));
+    RETRY(gd_add_variable_layout(allocator, 4, 5, other, 0, &layouts[5]));
+    RETRY(gd_allocate(allocator, layouts[5], MOST, more));
+    ALLOCATES_NOTHING(gd_begin_frame(allocator, 5));
+    ALLOCATES_NOTHING(gd_free_after_current(allocator, more, 100));
     ALLOCATES_NOTHING(gd_free_all(allocator));
     CHECK(sets_alive == 0);
     ALLOCATES_NOTHING(gd_destroy(allocator));

@@ -1,9 +1,12 @@
 // What can fail, dropped by a cast. tools/rust-c takes the casts away one by one: each line is an error then.
 #include "gpu_descriptor.hpp"
 
-void drop(gd::allocator &allocator, gd::set &set, gd::sets &sets, gd::frame &frame, gd_layout layout, gd_set *raw);
+void drop(gd::allocator &allocator, gd::set &set, gd::sets &sets, gd::frame &frame, gd::layout &layout, gd_set *raw);
+void drop_of_cache(gd::cache<> &cache, gd_set *raw);
 
-void drop(gd::allocator &allocator, gd::set &set, gd::sets &sets, gd::frame &frame, gd_layout layout, gd_set *raw) {
+void drop(gd::allocator &allocator, gd::set &set, gd::sets &sets, gd::frame &frame, gd::layout &layout, gd_set *raw) {
+    const uint32_t counts[GD_KINDS] = {};
+    gd_statistics numbers;
     (void)set.reset();
     (void)set.free();
     (void)set.free_after(1);
@@ -15,9 +18,25 @@ void drop(gd::allocator &allocator, gd::set &set, gd::sets &sets, gd::frame &fra
     (void)allocator.allocate(layout, set);
     (void)allocator.allocate(layout, 2, sets);
     (void)allocator.remove_layout(layout);
+    (void)allocator.add_layout(1, counts, 0, layout);
+    (void)allocator.begin_frame(1);
+    (void)allocator.frame_done(1);
+    (void)allocator.keep(1);
+    (void)allocator.cleanup();
+    (void)allocator.trim();
+    (void)allocator.statistics(numbers);
     (void)allocator.destroy();
+    (void)layout.remove();
     (void)frame.allocate(layout, 2, raw);
     (void)frame.allocate(layout, *raw);
     (void)frame.end();
     (void)frame.begin(2);
+}
+
+void drop_of_cache(gd::cache<> &cache, gd_set *raw) {
+    (void)cache.allocate(*raw);
+    (void)cache.allocate(2, raw);
+    (void)cache.free(*raw);
+    (void)cache.free(raw, 2);
+    (void)cache.flush();
 }

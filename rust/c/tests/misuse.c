@@ -29,6 +29,12 @@ static uint32_t keep;
 // By this value one sees that a call wrote nothing.
 static const uint64_t UNTOUCHED = 0x756e746f75636864;
 
+static gd_status allocate_variable_sets(void *user, uint64_t pool, uint32_t count, const uint64_t *layouts,
+                                        const uint32_t *variable_counts, uint64_t *sets) {
+    (void)user, (void)pool, (void)count, (void)layouts, (void)variable_counts, (void)sets;
+    return GD_OUT_OF_DEVICE_MEMORY;
+}
+
 // Each function that takes an allocator returns this status, and writes nothing, but that a failed
 // gd_allocate zeroes its sets.
 static void expect_of_each(gd_status wanted, gd_allocator it, gd_layout known, gd_set any) {
@@ -40,11 +46,14 @@ static void expect_of_each(gd_status wanted, gd_allocator it, gd_layout known, g
     CHECK(set.handle == 0 && set.name == 0 && set.owner == 0);
     CHECK(gd_free(it, &any, 1) == wanted && gd_free(it, &any, 0) == wanted);
     CHECK(gd_free_after(it, &any, 1, 1) == wanted && gd_free_after(it, NULL, 0, 1) == wanted);
+    CHECK(gd_free_after_current(it, &any, 1) == wanted && gd_begin_frame(it, UINT64_MAX) == wanted);
     CHECK(gd_free_all(it) == wanted && gd_frame_done(it, UINT64_MAX) == wanted);
     CHECK(gd_cleanup(it) == wanted && gd_trim(it) == wanted);
     CHECK(gd_destroy(it) == wanted && gd_keep(it, 0) == wanted);
     CHECK(gd_set_most_pool_descriptors(it, 1) == wanted && gd_remove_layout(it, known) == wanted);
     CHECK(gd_add_layout(it, 1, counts, 0, &layout) == wanted);
+    CHECK(gd_add_variable_layout(it, 1, 1, counts, 0, &layout) == wanted);
+    CHECK(gd_set_allocate_variable_sets(it, allocate_variable_sets) == wanted);
     CHECK(layout.index == UNTOUCHED && layout.owner == UNTOUCHED);
     CHECK(gd_outstanding(it, &number) == wanted && gd_waiting(it, &number) == wanted);
     CHECK(gd_pool_count(it, &number) == wanted && number == UNTOUCHED);
@@ -167,6 +176,14 @@ static void pass_null(void) {
     create(&device, 100, &allocator);
     CHECK(gd_add_layout(allocator, 1, NULL, 0, &layout) == GD_NULL_POINTER);
     CHECK(gd_add_layout(allocator, 1, counts, 0, NULL) == GD_NULL_POINTER);
+    // Without its function no layout has a variable count.
+    CHECK(gd_add_variable_layout(allocator, 1, 1, counts, 0, &layout) == GD_BAD_COUNTS);
+    CHECK(gd_set_allocate_variable_sets(allocator, NULL) == GD_NULL_POINTER);
+    CHECK(gd_add_variable_layout(allocator, 1, 1, counts, 0, &layout) == GD_BAD_COUNTS);
+    CHECK(gd_set_allocate_variable_sets(allocator, allocate_variable_sets) == GD_OK);
+    CHECK(gd_add_variable_layout(allocator, 1, 1, NULL, 0, &layout) == GD_NULL_POINTER);
+    CHECK(gd_add_variable_layout(allocator, 1, 1, counts, 0, NULL) == GD_NULL_POINTER);
+    CHECK(gd_add_variable_layout(allocator, 1, 1, counts, 4, &layout) == GD_BAD_FLAGS);
     for (uint32_t flag = 1; flag != 0; flag <<= 1) { // 4 is that of layouts for the host alone
         const uint32_t both = flag | GD_UPDATE_AFTER_BIND;
         CHECK(flag == GD_UPDATE_AFTER_BIND || gd_add_layout(allocator, 1, counts, flag, &layout) == GD_BAD_FLAGS);
@@ -179,6 +196,8 @@ static void pass_null(void) {
     CHECK(gd_free(allocator, NULL, 1) == GD_NULL_POINTER && gd_free(allocator, NULL, 0) == GD_OK);
     CHECK(gd_free_after(allocator, NULL, 1, 1) == GD_NULL_POINTER);
     CHECK(gd_free_after(allocator, NULL, 0, 1) == GD_OK);
+    CHECK(gd_free_after_current(allocator, NULL, 1) == GD_NULL_POINTER);
+    CHECK(gd_free_after_current(allocator, NULL, 0) == GD_OK);
     CHECK(gd_outstanding(allocator, NULL) == GD_NULL_POINTER && gd_waiting(allocator, NULL) == GD_NULL_POINTER);
     CHECK(gd_pool_count(allocator, NULL) == GD_NULL_POINTER);
     CHECK(world.calls == 0);
@@ -261,9 +280,11 @@ static void pass_wrong_sets(void) {
     CHECK(gd_allocate(other, foreign, 8, strange) == GD_OK);
     CHECK(sets[3].name == strange[3].name);
     uint64_t calls = world.calls;
-    for (int later = 0; later < 2; later++) {
+    for (int way = 0; way < 3; way++) {
 #define BAD(list, count)                                                                           \
-    CHECK((later ? gd_free_after(one, list, count, 1) : gd_free(one, list, count)) == GD_BAD_SET)
+    CHECK((way == 0   ? gd_free(one, list, count)                                                  \
+           : way == 1 ? gd_free_after(one, list, count, 1)                                         \
+                      : gd_free_after_current(one, list, count)) == GD_BAD_SET)
         BAD(strange, 8);     // of the other allocator
         BAD(&strange[3], 1); // a name that is held here
         BAD(&zeroed, 1);

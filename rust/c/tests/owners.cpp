@@ -19,7 +19,9 @@ namespace {
 struct world {
     uint64_t handles = uint64_t{1} << 40, pools = 0, sets = 0, calls_of_free = 0;
     bool is_full = false, gives_zero = false;
-    gd::set *back = nullptr; // ended in the next call
+    gd::allocator *allocator = nullptr; // in whose next call these are ended
+    gd::set *back = nullptr;
+    gd::frame *back_frame = nullptr;
 };
 
 world &world_of(void *user) {
@@ -43,7 +45,11 @@ gd_status allocate_sets(void *user, uint64_t, uint32_t count, const uint64_t *, 
     if (it.back != nullptr) {
         CHECK(it.back->free() == GD_BUSY && *it.back);
         CHECK(it.back->free_after(1) == GD_BUSY && *it.back);
+        CHECK(it.back->reset() == GD_BUSY && *it.back && it.allocator->begin_frame(1) == GD_BUSY);
         it.back = nullptr;
+        const uint32_t drawn = it.back_frame->size();
+        CHECK(drawn > 0 && it.back_frame->begin(99) == GD_BUSY && it.back_frame->size() == drawn);
+        CHECK(it.back_frame->number() != 99);
     }
     if (it.is_full)
         return GD_OUT_OF_DEVICE_MEMORY;
@@ -62,7 +68,7 @@ gd_device device_of(world &it) {
     return {&it, create_pool, destroy_pool, allocate_sets, free_sets};
 }
 
-// An allocator that keeps no set, and a layout.
+// An allocator that keeps no set, whose current frame is 0, and a layout.
 struct room {
     world device;
     gd::allocator allocator;
@@ -71,7 +77,7 @@ struct room {
     room() {
         const uint32_t kinds[GD_KINDS] = {1};
         CHECK(allocator.create(device_of(device), 100) == GD_OK);
-        CHECK(gd_keep(allocator.raw(), 0) == GD_OK);
+        CHECK(gd_keep(allocator.raw(), 0) == GD_OK && allocator.begin_frame(0) == GD_OK);
         CHECK(gd_add_layout(allocator.raw(), 7, kinds, 0, &layout) == GD_OK);
     }
 
@@ -88,11 +94,10 @@ struct room {
     }
 };
 
-// A set is freed at its end, or waits for the last frame that uses it.
+// A set waits for the last frame that uses it, if it was told one.
 void end_sets() {
     room it;
-    { gd::set made = it.one(); }
-    CHECK(it.device.sets == 0);
+    CHECK(it.allocator.begin_frame(100) == GD_OK);
     {
         gd::set made = it.one();
         made.used_in(5);
@@ -105,12 +110,47 @@ void end_sets() {
     made.used_in(9);
     CHECK(made.free() == GD_OK && !made && it.device.sets == 0 && it.waiting() == 0);
     made = it.one(); // the frame was the old one's
-    CHECK(made.reset() == GD_OK && it.device.sets == 0 && made.reset() == GD_OK);
+    CHECK(made.reset() == GD_OK && made.reset() == GD_OK);
+    CHECK(it.allocator.frame_done(99) == GD_OK && it.waiting() == 1);
+    CHECK(it.allocator.frame_done(100) == GD_OK && it.device.sets == 0);
     made = it.one();
     CHECK(made.free_after(2) == GD_OK && !made && it.waiting() == 1 && made.free_after(3) == GD_OK);
     made.used_in(7); // without a set
     made = it.one();
-    CHECK(made.reset() == GD_OK && it.waiting() == 1);
+    CHECK(made.reset() == GD_OK && it.allocator.frame_done(99) == GD_OK && it.waiting() == 1);
+}
+
+// Before the first frame no frame that is done frees the sets of an owner, unless the device is idle.
+void end_without_a_frame() {
+    world device;
+    gd::allocator allocator;
+    gd::layout layout;
+    gd::set made;
+    const uint32_t kinds[GD_KINDS] = {1};
+    CHECK(allocator.create(device_of(device), 0) == GD_OK && allocator.keep(0) == GD_OK);
+    CHECK(allocator.add_layout(7, kinds, 0, layout) == GD_OK && allocator.allocate(layout, made) == GD_OK);
+    CHECK(made.reset() == GD_OK && allocator.frame_done(UINT64_MAX - 1) == GD_OK && device.sets == 1);
+    CHECK(allocator.frame_done(UINT64_MAX) == GD_OK && device.sets == 0);
+}
+
+// What isn't told another frame waits for the one that is current at its end.
+void end_after_the_current_frame() {
+    room it;
+    { gd::set made = it.one(); }
+    CHECK(it.waiting() == 1 && it.allocator.frame_done(0) == GD_OK && it.device.sets == 0);
+    gd::set lasting = it.one(), replaced = it.one();
+    gd::sets many;
+    CHECK(it.allocator.begin_frame(4) == GD_OK && it.allocator.allocate(it.layout, 3, many) == GD_OK);
+    replaced = it.one();
+    CHECK(it.waiting() == 1 && it.allocator.begin_frame(9) == GD_OK);
+    CHECK(lasting.reset() == GD_OK && many.reset() == GD_OK && many.size() == 0 && it.waiting() == 5);
+    CHECK(it.allocator.frame_done(3) == GD_OK && it.waiting() == 5);
+    CHECK(it.allocator.frame_done(4) == GD_OK && it.waiting() == 4);
+    replaced.used_in(6); // an earlier one than the current frame
+    CHECK(replaced.reset() == GD_OK && it.allocator.frame_done(8) == GD_OK && it.waiting() == 4);
+    CHECK(it.allocator.frame_done(9) == GD_OK && it.device.sets == 0);
+    gd::allocator none;
+    CHECK(none.begin_frame(1) == GD_BAD_ALLOCATOR);
 }
 
 // A moved owner is empty, and the set that is moved over is freed.
@@ -119,15 +159,15 @@ void move_sets() {
     gd::set first = it.one(), second = it.one();
     const uint64_t kept = second.handle();
     first = std::move(second);
-    CHECK(it.device.sets == 1 && first.handle() == kept && !second); // NOLINT: a moved owner is empty
+    CHECK(it.waiting() == 1 && first.handle() == kept && !second); // NOLINT: a moved owner is empty
     gd::set &same = first;
     first = std::move(same);
-    CHECK(it.device.sets == 1 && first.handle() == kept);
+    CHECK(it.waiting() == 1 && first.handle() == kept);
     first.used_in(4);
     gd::set third = std::move(first);
     CHECK(!first && third.handle() == kept); // NOLINT
     third = gd::set();
-    CHECK(it.waiting() == 1 && it.device.sets == 1);
+    CHECK(it.waiting() == 2 && it.device.sets == 2 && it.allocator.frame_done(0) == GD_OK && it.waiting() == 1);
     gd::set fourth = it.one();
     const gd_set raw = fourth.release();
     CHECK(!fourth && gd_free(it.allocator.raw(), &raw, 1) == GD_OK);
@@ -149,9 +189,14 @@ void fail_sets() {
     gd::sets many;
     CHECK(it.allocator.allocate(it.layout, 5, many) == GD_OUT_OF_DEVICE_MEMORY && many.size() == 0);
     it.device.is_full = false;
+    gd::frame frame(it.allocator.raw(), 3);
+    gd_set drawn;
+    CHECK(frame.allocate(it.layout, drawn) == GD_OK);
+    it.device.allocator = &it.allocator;
     it.device.back = &inside;
+    it.device.back_frame = &frame;
     (void)it.one().release();
-    CHECK(it.device.back == nullptr && inside);
+    CHECK(it.device.back == nullptr && inside && frame.size() == 1 && frame.end() == GD_OK && it.waiting() == 1);
     CHECK(gd_free_all(it.allocator.raw()) == GD_OK);
     CHECK(inside.free_after(3) == GD_BAD_SET && inside && inside.free() == GD_BAD_SET && inside);
     CHECK(old.free() == GD_BAD_SET && old);
@@ -165,7 +210,7 @@ void own_a_handle_of_zero() {
         gd::set made = it.one();
         CHECK(made.handle() == 0 && made && made.vk() == gd::vk_descriptor_set());
     }
-    CHECK(it.device.sets == 0);
+    CHECK(it.waiting() == 1);
 }
 
 void own_batches() {
@@ -179,20 +224,83 @@ void own_batches() {
     CHECK(it.allocator.allocate(it.layout, 3, other) == GD_OK && it.device.sets == 13);
     it.device.calls_of_free = 0;
     many = std::move(other);
-    CHECK(many.size() == 3 && other.size() == 0 && it.device.sets == 3); // NOLINT: a moved owner is empty
-    CHECK(it.device.calls_of_free == 1);
+    CHECK(many.size() == 3 && other.size() == 0 && it.waiting() == 10); // NOLINT: a moved owner is empty
+    CHECK(it.allocator.frame_done(0) == GD_OK && it.device.sets == 3 && it.device.calls_of_free == 1);
     gd::sets &same = many;
     many = std::move(same);
     CHECK(many.size() == 3 && it.device.sets == 3);
     many.used_in(6);
     { gd::sets moved = std::move(many); }
     CHECK(it.waiting() == 3 && many.reset() == GD_OK); // NOLINT
+    CHECK(it.allocator.frame_done(5) == GD_OK && it.waiting() == 3);
     CHECK(it.allocator.allocate(it.layout, 2, many) == GD_OK && many.free() == GD_OK && many.size() == 0);
     CHECK(it.device.sets == 3 && it.allocator.allocate(it.layout, 2, many) == GD_OK);
     CHECK(many.free_after(6) == GD_OK && it.waiting() == 5);
     CHECK(it.allocator.allocate(it.layout, 4, many) == GD_OK);
-    CHECK(gd_free_all(it.allocator.raw()) == GD_OK && many.free() == GD_BAD_SET && many.size() == 4);
-    CHECK(many.free_after(8) == GD_BAD_SET && many.size() == 4);
+    CHECK(gd_free_all(it.allocator.raw()) == GD_OK && many.free() == GD_BAD_SET && many.size() == 0);
+}
+
+// If sets of a batch or a frame were freed elsewhere, the others are freed all the same.
+void free_the_others() {
+    room it;
+    gd::sets many;
+    CHECK(it.allocator.allocate(it.layout, 5, many) == GD_OK && gd_free(it.allocator.raw(), &many[2], 1) == GD_OK);
+    CHECK(many.free() == GD_BAD_SET && many.size() == 0 && it.device.sets == 0);
+    gd::frame frame(it.allocator, 3);
+    gd_set drawn[5];
+    CHECK(frame.allocate(it.layout, 5, drawn) == GD_OK && gd_free(it.allocator.raw(), drawn + 1, 2) == GD_OK);
+    CHECK(frame.begin(4) == GD_BAD_SET && frame.size() == 0 && frame.number() == 4 && it.waiting() == 3);
+    CHECK(it.allocator.frame_done(3) == GD_OK && it.device.sets == 0);
+    CHECK(frame.allocate(it.layout, 2, drawn) == GD_OK && frame.end() == GD_OK && it.waiting() == 2);
+    // A call that is refused in the middle leaves the sets that weren't freed.
+    uint32_t count = 5, calls = 0;
+    const gd_status status = gd::free_all_of(drawn, count, [&calls](const gd_set *, uint32_t) noexcept {
+        return ++calls < 4 ? GD_BAD_SET : GD_BUSY;
+    });
+    CHECK(status == GD_BUSY && count == 3 && calls == 4);
+}
+
+// A layout is removed at the end of its owner, and not before.
+void own_layouts() {
+    room it;
+    const uint32_t kinds[GD_KINDS] = {2}, others[GD_KINDS] = {3};
+    gd::set made;
+    gd_layout raw{};
+    {
+        gd::layout first, second;
+        CHECK(!first && first.remove() == GD_OK && it.allocator.add_layout(8, kinds, 0, first) == GD_OK && first);
+        CHECK(it.allocator.allocate(first, made) == GD_OK && it.allocator.add_layout(9, others, 0, second) == GD_OK);
+        CHECK(it.allocator.add_layout(9, kinds, 4, second) == GD_BAD_FLAGS && second);
+        raw = second;
+        second = std::move(first);
+        CHECK(!first && second.raw().index != raw.index); // NOLINT: a moved owner is empty
+        CHECK(it.allocator.allocate(raw, made) == GD_BAD_LAYOUT && it.allocator.allocate(second, made) == GD_OK);
+        raw = second;
+        gd::layout third(std::move(second));
+        CHECK(gd_add_layout(it.allocator.raw(), 9, others, 0, third.put(it.allocator)) == GD_OK);
+        CHECK(it.allocator.allocate(raw, made) == GD_BAD_LAYOUT && it.allocator.allocate(third, made) == GD_OK);
+        raw = third;
+        gd::layout fourth;
+        CHECK(gd_add_layout(it.allocator.raw(), 10, others, 0, fourth.put(it.allocator)) == GD_OK);
+        CHECK(fourth.remove() == GD_OK && !fourth);
+    }
+    CHECK(it.allocator.allocate(raw, made) == GD_BAD_LAYOUT && made);
+    gd::layout late(it.allocator.raw(), it.layout);
+    CHECK(late.release().index == it.layout.index && !late);
+    late = gd::layout(it.allocator.raw(), it.layout);
+    CHECK(it.allocator.destroy() == GD_OK && late.remove() == GD_BAD_ALLOCATOR && late);
+}
+
+// The functions of an allocator under their short names.
+void call_by_short_names() {
+    room it;
+    gd_statistics numbers{};
+    gd::sets many;
+    CHECK(it.allocator.keep(2) == GD_OK && it.allocator.allocate(it.layout, 70, many) == GD_OK);
+    CHECK(many.free() == GD_OK && it.allocator.statistics(numbers) == GD_OK && numbers.kept == 2);
+    CHECK(numbers.pools == 1 && it.allocator.cleanup() == GD_OK && it.device.sets == 0 && it.device.pools == 0);
+    CHECK(it.allocator.keep(0) == GD_OK && it.allocator.allocate(it.layout, 1, many) == GD_OK && many.free() == GD_OK);
+    CHECK(it.device.pools == 1 && it.allocator.trim() == GD_OK && it.device.pools == 0);
 }
 
 // A batch that is used in a frame is freed at once all the same, or after that frame, although an earlier one is
@@ -217,6 +325,10 @@ void draw_frames() {
         gd::frame frame(it.allocator, 3);
         CHECK(frame.allocate(it.layout, drawn[0]) == GD_OK && drawn[0].handle != 0);
         CHECK(frame.allocate(it.layout, 39, drawn + 1) == GD_OK && frame.size() == 40);
+        uint32_t place = 0;
+        for (const gd_set &each : frame.all())
+            CHECK(each.name == drawn[place].name && frame[place++].handle == each.handle);
+        CHECK(place == 40);
         gd::frame moved = std::move(frame);
         CHECK(frame.size() == 0 && moved.size() == 40 && it.waiting() == 0); // NOLINT
     }
@@ -232,10 +344,9 @@ void draw_frames() {
     it.device.is_full = true;
     CHECK(frame.allocate(it.layout, 40, drawn) == GD_OUT_OF_DEVICE_MEMORY && frame.size() == 0);
     it.device.is_full = false;
-    CHECK(frame.allocate(it.layout, 1, drawn) == GD_OK && gd_free_all(it.allocator.raw()) == GD_OK);
-    CHECK(frame.begin(7) == GD_BAD_SET && frame.number() == 6 && frame.size() == 1);
+    CHECK(frame.allocate(it.layout, 1, drawn) == GD_OK);
     frame.release();
-    CHECK(frame.begin(7) == GD_OK && frame.number() == 7 && frame.size() == 0);
+    CHECK(frame.begin(7) == GD_OK && frame.number() == 7 && frame.size() == 0 && it.waiting() == 3);
 }
 
 // A frame grows by single sets, and one that was moved from has no room until it grows again.
@@ -253,6 +364,22 @@ void grow_frames() {
         CHECK(frame.allocate(it.layout, UINT32_MAX, nullptr) == GD_OUT_OF_HOST_MEMORY && frame.size() == 1);
     }
     CHECK(it.waiting() == 101 && gd_frame_done(it.allocator.raw(), 3) == GD_OK && it.device.sets == 0);
+}
+
+// A cache gives its sets back at its end.
+void own_caches() {
+    room it;
+    gd_set drawn[3];
+    {
+        gd::cache<> cache(it.allocator, it.layout);
+        gd::cache<2> small(it.allocator.raw(), it.layout);
+        CHECK(cache.allocate(drawn[0]) == GD_OK && cache.size() == GD_CACHE_REFILL - 1);
+        CHECK(small.allocate(2, drawn + 1) == GD_OK && small.size() == 0 && it.device.sets == GD_CACHE_REFILL + 2);
+        CHECK(small.free(drawn, 3) == GD_OK && small.size() == 3 && small.allocate(2, drawn) == GD_OK);
+        CHECK(cache.free(drawn[0]) == GD_OK && cache.size() == GD_CACHE_REFILL && small.flush() == GD_OK);
+        CHECK(it.device.sets == GD_CACHE_REFILL + 1 && small.free(drawn[1]) == GD_OK && small.size() == 1);
+    }
+    CHECK(it.device.sets == 0);
 }
 
 void own_allocators() {
@@ -301,20 +428,26 @@ void end_in_threads() {
         });
     for (std::thread &each : threads)
         each.join();
-    CHECK(it.device.sets == 0);
+    CHECK(it.waiting() == 8000 && it.allocator.frame_done(0) == GD_OK && it.device.sets == 0);
 }
 
 } // namespace
 
 int main(int words, char **) {
     end_sets();
+    end_without_a_frame();
+    end_after_the_current_frame();
     move_sets();
     fail_sets();
     own_a_handle_of_zero();
     own_batches();
     free_batches_that_were_used();
+    free_the_others();
     draw_frames();
     grow_frames();
+    own_layouts();
+    own_caches();
+    call_by_short_names();
     own_allocators();
     if (words < 2) // with a word: the library is one in which no call waits
         end_in_threads();

@@ -12,6 +12,9 @@ static uint64_t pools, sets_alive, calls;
 // Handles have more than 32 bits, also where they are numbers: those that the driver gives, and of layouts.
 static const uint64_t FIRST_HANDLE = UINT64_C(1) << 40, LAYOUT = UINT64_C(3) << 40;
 static uint64_t next_handle = UINT64_C(1) << 40;
+// The variable count of each set of the last call, and whether it had some; the sampled images of the last pool.
+static uint32_t variable_count, pool_images;
+static bool has_variable_count;
 // The inline uniform blocks of the last pool: bytes, and bindings.
 static uint32_t block_bytes, block_bindings;
 
@@ -21,11 +24,27 @@ static VkResult next_result(void) {
 
 static void note_blocks(const VkDescriptorPoolCreateInfo *info) {
     const VkDescriptorPoolInlineUniformBlockCreateInfo *blocks = info->pNext;
-    block_bytes = 0;
+    block_bytes = pool_images = 0;
     block_bindings = blocks == NULL ? 0 : blocks->maxInlineUniformBlockBindings;
-    for (uint32_t at = 0; at < info->poolSizeCount; at++)
+    for (uint32_t at = 0; at < info->poolSizeCount; at++) {
         if (info->pPoolSizes[at].type == VK_DESCRIPTOR_TYPE_INLINE_UNIFORM_BLOCK)
             block_bytes = info->pPoolSizes[at].descriptorCount;
+        if (info->pPoolSizes[at].type == VK_DESCRIPTOR_TYPE_SAMPLED_IMAGE)
+            pool_images = info->pPoolSizes[at].descriptorCount;
+    }
+}
+
+// A call has no variable counts, or one for each set.
+static void note_variable_counts(const VkDescriptorSetAllocateInfo *info) {
+    const VkDescriptorSetVariableDescriptorCountAllocateInfo *variable = info->pNext;
+    has_variable_count = variable != NULL;
+    if (variable == NULL)
+        return;
+    CHECK(variable->sType == VK_STRUCTURE_TYPE_DESCRIPTOR_SET_VARIABLE_DESCRIPTOR_COUNT_ALLOCATE_INFO);
+    CHECK(variable->pNext == NULL && variable->descriptorSetCount == info->descriptorSetCount);
+    variable_count = variable->pDescriptorCounts[0];
+    for (uint32_t at = 0; at < info->descriptorSetCount; at++)
+        CHECK(variable->pDescriptorCounts[at] == variable_count);
 }
 
 static VKAPI_ATTR VkResult VKAPI_CALL create_pool(VkDevice device, const VkDescriptorPoolCreateInfo *info,
@@ -56,6 +75,7 @@ static VKAPI_ATTR VkResult VKAPI_CALL allocate_sets(VkDevice device, const VkDes
     CHECK(GDV_NUMBER(info->descriptorPool) > FIRST_HANDLE);
     for (uint32_t at = 0; at < info->descriptorSetCount; at++)
         CHECK(GDV_NUMBER(info->pSetLayouts[at]) >= LAYOUT && info->pSetLayouts[at] == info->pSetLayouts[0]);
+    note_variable_counts(info);
     calls++;
     VkResult result = next_result();
     for (uint32_t at = 0; result == VK_SUCCESS && at < info->descriptorSetCount; at++) {
@@ -230,8 +250,81 @@ static void allocate_many(void) {
     CHECK(gd_free_all(allocator) == GD_OK && gd_destroy(allocator) == GD_OK && sets_alive == 0 && pools == 0);
 }
 
+// A layout of a uniform buffer and sampled images, so many or fewer in each set.
+enum { MOST_IMAGES = 100000 };
+
+static VkDescriptorSetLayoutBinding image_bindings[2] = {
+    {.descriptorType = VK_DESCRIPTOR_TYPE_UNIFORM_BUFFER, .descriptorCount = 1},
+    {.binding = 1, .descriptorType = VK_DESCRIPTOR_TYPE_SAMPLED_IMAGE, .descriptorCount = MOST_IMAGES}};
+static VkDescriptorBindingFlags image_flags[2] = {0, VK_DESCRIPTOR_BINDING_VARIABLE_DESCRIPTOR_COUNT_BIT};
+static const VkDescriptorSetLayoutBindingFlagsCreateInfo images_flagged = {
+    .sType = VK_STRUCTURE_TYPE_DESCRIPTOR_SET_LAYOUT_BINDING_FLAGS_CREATE_INFO,
+    .bindingCount = 2,
+    .pBindingFlags = image_flags};
+static const VkDescriptorSetLayoutCreateInfo images = {.pNext = &images_flagged,
+                                                       .flags = GD_UPDATE_AFTER_BIND,
+                                                       .bindingCount = 2,
+                                                       .pBindings = image_bindings};
+
+static void count_variable(void) {
+    uint32_t counts[GD_KINDS], flags = 0;
+    gd_layout layout = {77, 77};
+    VkDescriptorSetLayoutCreateInfo fixed = images;
+    fixed.pNext = NULL;
+    CHECK(gdv_count(&images, counts, &flags) == GD_BAD_COUNTS);
+    CHECK(gdv_count_variable(&images, 1000, counts, &flags) == GD_OK && flags == GD_UPDATE_AFTER_BIND);
+    CHECK(counts[GD_UNIFORM_BUFFER] == 1 && counts[GD_SAMPLED_IMAGE] == 1000);
+    CHECK(gdv_count_variable(&images, 0, counts, &flags) == GD_OK && counts[GD_SAMPLED_IMAGE] == 0);
+    CHECK(gdv_count_variable(&images, MOST_IMAGES, counts, &flags) == GD_OK);
+    CHECK(gdv_count_variable(&images, MOST_IMAGES + 1, counts, &flags) == GD_BAD_COUNTS);
+    CHECK(gdv_count_variable(&fixed, 1000, counts, &flags) == GD_BAD_COUNTS);
+    fixed = images;
+    fixed.flags = 4;
+    CHECK(gdv_count_variable(&fixed, 1000, counts, &flags) == GD_BAD_COUNTS);
+    const gd_allocator none = {NULL, 0};
+    const VkDescriptorSetLayout handle = GDV_HANDLE(VkDescriptorSetLayout, LAYOUT);
+    CHECK(gdv_add_layout(none, handle, &images, &layout) == GD_BAD_COUNTS && layout.index == 77);
+    CHECK(gdv_add_variable_layout(none, handle, NULL, 5, &layout) == GD_NULL_POINTER);
+    CHECK(gdv_add_variable_layout(none, handle, &images, MOST_IMAGES + 1, &layout) == GD_BAD_COUNTS);
+    CHECK(gdv_add_variable_layout(none, handle, &images, 5, &layout) == GD_BAD_ALLOCATOR && layout.index == 77);
+}
+
+// Sets of each count have it, in pools of their own, and are kept for their count alone.
+static void allocate_variable(void) {
+    gdv_device vulkan = functions();
+    gd_allocator allocator;
+    gd_layout small, large, again, fixed;
+    gd_set sets[70], one;
+    const VkDescriptorSetLayout handle = GDV_HANDLE(VkDescriptorSetLayout, LAYOUT + 7);
+    const uint32_t counts[GD_KINDS] = {[GD_UNIFORM_BUFFER] = 1, [GD_SAMPLED_IMAGE] = 100};
+    result_count = used = 0;
+    CHECK(gdv_create(&vulkan, 500000, &allocator) == GD_OK);
+    CHECK(gdv_add_variable_layout(allocator, handle, &images, 100, &small) == GD_OK);
+    CHECK(gdv_add_variable_layout(allocator, handle, &images, 60000, &large) == GD_OK && large.index != small.index);
+    CHECK(gdv_add_variable_layout(allocator, handle, &images, 100, &again) == GD_OK && again.index == small.index);
+    // The same handle and counts without a variable count: another layout.
+    CHECK(gd_add_layout(allocator, GDV_NUMBER(handle), counts, GD_UPDATE_AFTER_BIND, &fixed) == GD_OK);
+    CHECK(fixed.index != small.index);
+    CHECK(gd_allocate(allocator, small, 70, sets) == GD_OK && has_variable_count && variable_count == 100);
+    CHECK(pool_images == 128 * 100 && pools == 1 && sets_alive == 70);
+    CHECK(gd_allocate(allocator, fixed, 1, &one) == GD_OK && !has_variable_count && pools == 1);
+    CHECK(gd_free(allocator, &one, 1) == GD_OK && gd_free(allocator, sets, 70) == GD_OK);
+    CHECK(gd_allocate(allocator, large, 2, sets) == GD_OK && has_variable_count && variable_count == 60000);
+    CHECK(pool_images % 60000 == 0 && pools == 2 && sets_alive == 73);
+    calls = 0;
+    CHECK(gd_allocate(allocator, again, 70, sets + 0) == GD_OK && calls == 0);
+    CHECK(gd_remove_layout(allocator, small) == GD_OK && gd_allocate(allocator, again, 1, &one) == GD_BAD_LAYOUT);
+    CHECK(gd_allocate(allocator, large, 1, &one) == GD_OK && variable_count == 60000);
+    results[0] = VK_ERROR_OUT_OF_DEVICE_MEMORY;
+    result_count = 1;
+    CHECK(gd_free_all(allocator) == GD_OK && gd_allocate(allocator, large, 3, sets) == GD_OUT_OF_DEVICE_MEMORY);
+    CHECK(gd_free_all(allocator) == GD_OK && gd_destroy(allocator) == GD_OK && sets_alive == 0 && pools == 0);
+}
+
 int main(void) {
     check_mappings();
+    count_variable();
+    allocate_variable();
     round_blocks();
     refuse_flags();
     count_past_31_bits();

@@ -108,6 +108,7 @@
 extern crate alloc as std_alloc;
 
 mod allocator;
+mod cache;
 #[cfg(doctest)]
 mod compile_fail;
 #[forbid(unsafe_code)]

@@ -100,6 +100,7 @@ use core::fmt;
 use core::sync::atomic::{AtomicU32, Ordering};
 use std_alloc::vec::Vec;
 
+pub use crate::cache::SetCache;
 pub use crate::descriptor_renderer::{
     BeginError, Counts, DestroyError, LayoutHandle, RenderError, SetHandle,
 };

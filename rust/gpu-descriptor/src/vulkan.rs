@@ -51,11 +51,11 @@
 //! return `VK_ERROR_DEVICE_LOST`, which [`Device::is_lost`] remembers. `OutOfHostMemory` ends the request at
 //! once, and no further pool is asked. `vkFreeDescriptorSets` has no error.
 //!
-//! # What the device does not do
+//! # Variable counts, and mutable types
 //!
-//! It passes no `VkDescriptorSetVariableDescriptorCountAllocateInfo` and no
-//! `VkMutableDescriptorTypeCreateInfoEXT`, so it allocates no sets of layouts with a binding of a
-//! variable count or of a mutable type.
+//! [`Device`] passes no `VkDescriptorSetVariableDescriptorCountAllocateInfo`; [`VariableDevice`] does, for layouts with
+//! a count. Layouts with a mutable type aren't served: their sets come only from pools with descriptors of
+//! `VK_DESCRIPTOR_TYPE_MUTABLE_EXT`, for which [`DescriptorTotalCount`](crate::DescriptorTotalCount) has no count.
 
 mod count;
 mod device;
@@ -64,6 +64,7 @@ mod handles;
 pub mod raw;
 mod results;
 mod scratch;
+mod variable;
 
 pub use count::{CountError, LayoutFlagsError, count_bindings, layout_flags};
 pub use device::Device;
@@ -71,3 +72,4 @@ pub use functions::{Functions, MissingFunction};
 pub use handles::{
     DescriptorPool, DescriptorSet, DescriptorSetLayout, DescriptorType, DeviceHandle,
 };
+pub use variable::{VariableDevice, VariableLayout};

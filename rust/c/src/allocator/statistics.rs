@@ -126,7 +126,7 @@ impl Allocator {
         let is_marked = layout
             .flags
             .contains(DescriptorSetLayoutCreateFlags::UPDATE_AFTER_BIND);
-        write!(text, "{{\"handle\": \"{:#x}\"", layout.layout)?;
+        write!(text, "{{\"handle\": \"{:#x}\"", layout.layout.handle)?;
         write!(text, ", \"update_after_bind\": {is_marked}")?;
         let numbers = self.numbers_of(handle);
         let members = [

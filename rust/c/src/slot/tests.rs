@@ -3,7 +3,7 @@
 use super::{GdAllocator, create, destroy, enter};
 use crate::abi::{GdDevice, GdPoolInfo, GdStatus};
 use crate::allocator::Allocator;
-use crate::device::{Host, HostDevice};
+use crate::device::{Host, HostDevice, HostLayout};
 use core::ffi::c_void;
 
 /// Calls the allocator that `user` leads to, if it isn't null, from inside of its call.
@@ -87,7 +87,11 @@ fn a_call_inside_is_busy() {
         unsafe {
             (*user).0 = allocator;
             let status = enter(allocator, |it| {
-                let layout = it.add_layout(1, &[1; 14], 0).unwrap();
+                let handle = HostLayout {
+                    handle: 1,
+                    variable: None,
+                };
+                let layout = it.add_layout(handle, &[1; 14], 0).unwrap();
                 it.allocate(layout, 1, |_, _| unreachable!())
             });
             assert_eq!(status, GdStatus::FRAGMENTATION);

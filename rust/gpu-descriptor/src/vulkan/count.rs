@@ -82,7 +82,8 @@ pub(super) fn pool_sizes(
 ///   need several descriptors: then pass its count times `combinedImageSamplerDescriptorCount`.
 /// * Dynamic buffers are types of their own. An update-after-bind layout has none.
 /// * A binding without descriptors is reserved, and counts nothing, whatever its type is.
-/// * A binding of a variable count must not be passed: [`Device`](super::Device) allocates no such sets.
+/// * A binding of a variable count has that of a [`VariableLayout`](super::VariableLayout), for a
+///   [`VariableDevice`](super::VariableDevice): a [`Device`](super::Device) allocates no such sets.
 ///
 /// ```
 /// use gpu_descriptor::vulkan::{DescriptorType, count_bindings};
@@ -136,7 +137,7 @@ fn add_binding(
 #[derive(Clone, Copy, Debug, PartialEq, Eq)]
 #[non_exhaustive]
 pub enum CountError {
-    /// A binding has a mutable type.
+    /// A binding has a mutable type, which [no pool of this crate](super#variable-counts-and-mutable-types) has.
     MutableType,
 
     /// A binding has a type that has no count, such as those of vendors' extensions.

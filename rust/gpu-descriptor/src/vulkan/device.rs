@@ -153,27 +153,40 @@ impl Device {
         self.callbacks.map_or(ptr::null(), |it| it.as_ptr())
     }
 
+    /// Allocates sets, each with its count of `variable` if that isn't empty.
+    ///
     /// # Safety
     ///
     /// `pool` is one of this device. It has places and descriptors for these layouts, which are of this
-    /// device too. `sets` is as long as `layouts`.
-    unsafe fn allocate(
+    /// device too. `sets` is as long as `layouts`, and so is `variable` unless it is empty.
+    pub(super) unsafe fn allocate(
         &self,
         pool: DescriptorPool,
         layouts: &[DescriptorSetLayout],
+        variable: &[u32],
         sets: &mut [DescriptorSet],
     ) -> Result<(), DeviceAllocationError> {
         let descriptor_set_count =
             u32::try_from(layouts.len()).map_err(|_| DeviceAllocationError::OutOfHostMemory)?;
+        let counts = raw::DescriptorSetVariableDescriptorCountAllocateInfo {
+            s_type: raw::STRUCTURE_TYPE_DESCRIPTOR_SET_VARIABLE_DESCRIPTOR_COUNT_ALLOCATE_INFO,
+            p_next: ptr::null(),
+            descriptor_set_count,
+            p_descriptor_counts: variable.as_ptr(),
+        };
         let info = raw::DescriptorSetAllocateInfo {
             s_type: raw::STRUCTURE_TYPE_DESCRIPTOR_SET_ALLOCATE_INFO,
-            p_next: ptr::null(),
+            p_next: if variable.is_empty() {
+                ptr::null()
+            } else {
+                (&raw const counts).cast()
+            },
             descriptor_pool: pool,
             descriptor_set_count,
             p_set_layouts: layouts.as_ptr(),
         };
         let allocate = self.functions.allocate_descriptor_sets;
-        // SAFETY: `new` and the caller say so. `info` and both arrays live through the call.
+        // SAFETY: `new` and the caller say so. `info`, `counts` and the arrays live through the call.
         let result = unsafe { allocate(self.handle, &info, sets.as_mut_ptr()) };
         results::of_allocate(self.noted(result))
     }
@@ -249,7 +262,7 @@ impl DescriptorDevice<DescriptorSetLayout, DescriptorPool, DescriptorSet> for De
             return Ok(());
         }
         // SAFETY: the caller says so of the pool and the layouts. Both arrays have one length.
-        unsafe { self.allocate(*pool, wanted, granted) }?;
+        unsafe { self.allocate(*pool, wanted, &[], granted) }?;
         sets.extend(granted.iter().copied());
         Ok(())
     }

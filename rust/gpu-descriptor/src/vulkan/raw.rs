@@ -15,6 +15,10 @@ pub const STRUCTURE_TYPE_DESCRIPTOR_SET_ALLOCATE_INFO: i32 = 34;
 /// `VK_STRUCTURE_TYPE_DESCRIPTOR_POOL_INLINE_UNIFORM_BLOCK_CREATE_INFO`.
 pub const STRUCTURE_TYPE_DESCRIPTOR_POOL_INLINE_UNIFORM_BLOCK_CREATE_INFO: i32 = 1_000_138_003;
 
+/// `VK_STRUCTURE_TYPE_DESCRIPTOR_SET_VARIABLE_DESCRIPTOR_COUNT_ALLOCATE_INFO`.
+pub const STRUCTURE_TYPE_DESCRIPTOR_SET_VARIABLE_DESCRIPTOR_COUNT_ALLOCATE_INFO: i32 =
+    1_000_161_003;
+
 /// `VK_DESCRIPTOR_POOL_CREATE_FREE_DESCRIPTOR_SET_BIT`.
 pub const DESCRIPTOR_POOL_CREATE_FREE_DESCRIPTOR_SET: u32 = 0x1;
 
@@ -75,6 +79,20 @@ pub struct DescriptorSetAllocateInfo {
     pub descriptor_set_count: u32,
     /// `pSetLayouts`.
     pub p_set_layouts: *const DescriptorSetLayout,
+}
+
+/// A `VkDescriptorSetVariableDescriptorCountAllocateInfo`.
+#[repr(C)]
+#[derive(Clone, Copy, Debug)]
+pub struct DescriptorSetVariableDescriptorCountAllocateInfo {
+    /// `sType`.
+    pub s_type: i32,
+    /// `pNext`.
+    pub p_next: *const c_void,
+    /// `descriptorSetCount`.
+    pub descriptor_set_count: u32,
+    /// `pDescriptorCounts`.
+    pub p_descriptor_counts: *const u32,
 }
 
 /// A `VkAllocationCallbacks`, which only the driver reads.

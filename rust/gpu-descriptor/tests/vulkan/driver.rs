@@ -3,7 +3,7 @@
 
 use gpu_descriptor::vulkan::raw::{
     AllocationCallbacks, DescriptorPoolCreateInfo, DescriptorPoolInlineUniformBlockCreateInfo,
-    DescriptorSetAllocateInfo,
+    DescriptorSetAllocateInfo, DescriptorSetVariableDescriptorCountAllocateInfo,
 };
 use gpu_descriptor::vulkan::{
     DescriptorPool, DescriptorSet, DescriptorSetLayout, Device, DeviceHandle, Functions,
@@ -38,6 +38,9 @@ pub struct Pool {
 pub struct Driver {
     pub calls: RefCell<Vec<Call>>,
 
+    /// The variable counts of the last request, if it had some.
+    pub variable_counts: RefCell<Option<Vec<u32>>>,
+
     /// What the next calls return.
     pub create_result: Cell<i32>,
     pub allocate_result: Cell<i32>,
@@ -48,6 +51,7 @@ impl Driver {
     pub fn new() -> Self {
         Driver {
             calls: RefCell::default(),
+            variable_counts: RefCell::default(),
             create_result: Cell::new(0),
             allocate_result: Cell::new(0),
             last_handle: Cell::new(0x5000_0000_0000),
@@ -138,8 +142,14 @@ pub unsafe extern "system" fn allocate_descriptor_sets(
     sets: *mut DescriptorSet,
 ) -> i32 {
     let (driver, info) = unsafe { (state(device), &*info) };
-    assert_eq!((info.s_type, info.p_next), (34, ptr::null()));
+    assert_eq!(info.s_type, 34);
     let count = info.descriptor_set_count as usize;
+    let variable: *const DescriptorSetVariableDescriptorCountAllocateInfo = info.p_next.cast();
+    *driver.variable_counts.borrow_mut() = unsafe { variable.as_ref() }.map(|it| {
+        assert_eq!((it.s_type, it.p_next), (1_000_161_003, ptr::null()));
+        assert_eq!(it.descriptor_set_count as usize, count);
+        unsafe { slice::from_raw_parts(it.p_descriptor_counts, count) }.to_vec()
+    });
     let layouts = unsafe { slice::from_raw_parts(info.p_set_layouts, count) };
     let sets = unsafe { slice::from_raw_parts_mut(sets, count) };
     let layouts = layouts.iter().map(|layout| layout.0).collect();

@@ -44,6 +44,12 @@ fn structures_have_the_offsets_of_c() {
         24
     );
     assert_eq!(offset_of!(DescriptorSetAllocateInfo, p_set_layouts), 32);
+
+    type Counts = raw::DescriptorSetVariableDescriptorCountAllocateInfo;
+    assert_eq!(size_of::<Counts>(), 32);
+    assert_eq!(offset_of!(Counts, p_next), 8);
+    assert_eq!(offset_of!(Counts, descriptor_set_count), 16);
+    assert_eq!(offset_of!(Counts, p_descriptor_counts), 24);
 }
 
 /// A loader of the test's functions.

@@ -11,3 +11,4 @@ mod pools;
 mod refuses;
 mod results;
 mod sets;
+mod variable;

@@ -1,0 +1,177 @@
+//! A cache of sets, for threads that share a renderer behind a lock.
+
+use crate::renderer::{DestroyError, LayoutHandle, RenderError, Renderer, SetHandle};
+use crate::{AllocationError, DescriptorDevice};
+use core::ops::DerefMut;
+use std_alloc::vec::Vec;
+
+/// Sets of one layout for one thread, over a renderer that threads share behind a lock of yours. It takes
+/// `refill` sets from the renderer by one call and gives as many back by one, so that threads seldom wait.
+///
+/// Each set comes with its raw one, which takes no lock to read. To the renderer the sets of a cache are
+/// held: their pools stay, and a cache that is dropped leaves them to it. So [`flush`](Self::flush) each cache
+/// before a `cleanup` or `remove_layout`. Sets that wait for a frame don't go through a cache: pass those of a
+/// thread and frame to one `destroy_sets`.
+///
+/// ```
+/// # use gpu_descriptor::renderer::{LayoutHandle, Renderer, SetCache};
+/// # use gpu_descriptor::DescriptorDevice;
+/// # use std::sync::Mutex;
+/// # fn draw<L, P, S: Copy, D: DescriptorDevice<L, P, S>>(renderer: &Mutex<Renderer<L, P, S, D>>, layout: LayoutHandle)
+/// # -> Result<(), Box<dyn std::error::Error>> {
+/// let mut cache = SetCache::new(layout, 64)?;
+/// let (set, raw) = cache.allocate(|| renderer.lock().unwrap())?;
+/// // .. `raw` is written and bound, and the device is done with it ..
+/// unsafe { cache.free((set, raw), || renderer.lock().unwrap()) }?;
+/// unsafe { cache.flush(&mut renderer.lock().unwrap()) }?;
+/// # Ok(())
+/// # }
+/// ```
+#[derive(Debug)]
+pub struct SetCache<S> {
+    layout: LayoutHandle,
+    refill: usize,
+
+    /// At most twice `refill`, and so many `handles`, for calls of the renderer.
+    sets: Vec<(SetHandle, S)>,
+    handles: Vec<SetHandle>,
+}
+
+impl<S: Copy> SetCache<S> {
+    /// A cache without sets. It allocates the memory for all that it may have, twice `refill`, which is at
+    /// least 1.
+    ///
+    /// # Errors
+    ///
+    /// `OutOfHostMemory`.
+    pub fn new(layout: LayoutHandle, refill: usize) -> Result<Self, RenderError> {
+        const NO_MEMORY: RenderError = RenderError::Allocation(AllocationError::OutOfHostMemory);
+        let refill = refill.max(1);
+        let places = refill.checked_mul(2).ok_or(NO_MEMORY)?;
+        let (mut sets, mut handles) = (Vec::new(), Vec::new());
+        sets.try_reserve_exact(places).map_err(|_| NO_MEMORY)?;
+        handles.try_reserve_exact(places).map_err(|_| NO_MEMORY)?;
+        handles.resize(places, SetHandle::NONE);
+        Ok(SetCache {
+            layout,
+            refill,
+            sets,
+            handles,
+        })
+    }
+
+    /// How many sets are in the cache.
+    #[must_use]
+    pub fn count(&self) -> usize {
+        self.sets.len()
+    }
+
+    /// A set of the cache. An empty one takes the lock and is refilled; if the renderer refuses so many, by
+    /// half as many, and so on.
+    ///
+    /// # Errors
+    ///
+    /// Same as [`Renderer::create_set`]: not even one set was granted.
+    #[inline]
+    pub fn allocate<L, P, D: DescriptorDevice<L, P, S>, G>(
+        &mut self,
+        lock: impl FnOnce() -> G,
+    ) -> Result<(SetHandle, S), RenderError>
+    where
+        G: DerefMut<Target = Renderer<L, P, S, D>>,
+    {
+        match self.sets.pop() {
+            Some(set) => Ok(set),
+            None => self.fill(&mut lock()),
+        }
+    }
+
+    /// Refills an empty cache, and takes a set.
+    #[cold]
+    fn fill<L, P, D: DescriptorDevice<L, P, S>>(
+        &mut self,
+        renderer: &mut Renderer<L, P, S, D>,
+    ) -> Result<(SetHandle, S), RenderError> {
+        let mut count = self.refill;
+        while let Err(error) = renderer.create_sets_into(self.layout, &mut self.handles[..count]) {
+            match error {
+                RenderError::Allocation(_) if count > 1 => count /= 2,
+                _ => return Err(error),
+            }
+        }
+        let read = |handle: SetHandle| (handle, *renderer.set(handle).expect("it is held"));
+        let (first, others) = (self.handles[0], &self.handles[1..count]);
+        self.sets.extend(others.iter().map(|it| read(*it)));
+        Ok(read(first))
+    }
+
+    /// Puts a set of the cache's layout into the cache, from whichever cache it came. A full one takes the lock
+    /// and first gives `refill` sets back. The renderer checks a set only then.
+    ///
+    /// # Errors
+    ///
+    /// `NoSet`: a set of the cache was freed elsewhere, so that none could be given back. The set is still
+    /// yours, and [`flush`](Self::flush) mends the cache.
+    ///
+    /// # Safety
+    ///
+    /// As of [`Renderer::free_sets`]. And the set is one of the layout, with its raw one, and is freed once.
+    #[inline]
+    pub unsafe fn free<L, P, D: DescriptorDevice<L, P, S>, G>(
+        &mut self,
+        set: (SetHandle, S),
+        lock: impl FnOnce() -> G,
+    ) -> Result<(), DestroyError>
+    where
+        G: DerefMut<Target = Renderer<L, P, S, D>>,
+    {
+        if self.sets.len() == self.handles.len() {
+            // SAFETY: the caller's, when the sets came.
+            unsafe { self.give_back(self.refill, &mut lock()) }?;
+        }
+        self.sets.push(set);
+        Ok(())
+    }
+
+    /// Gives all sets back to the renderer.
+    ///
+    /// # Errors
+    ///
+    /// `NoSet`: some were freed elsewhere. The others are freed all the same, and the cache is empty.
+    ///
+    /// # Safety
+    ///
+    /// As of [`Renderer::free_sets`].
+    pub unsafe fn flush<L, P, D: DescriptorDevice<L, P, S>>(
+        &mut self,
+        renderer: &mut Renderer<L, P, S, D>,
+    ) -> Result<(), DestroyError> {
+        // SAFETY: the caller's.
+        let answer = unsafe { self.give_back(self.sets.len(), renderer) };
+        for (handle, _) in self.sets.drain(..) {
+            // SAFETY: the caller's. One that was freed elsewhere is named by no handle.
+            let _ = unsafe { renderer.free_sets(&[handle]) };
+        }
+        answer
+    }
+
+    /// Gives the last sets back by one call, or none.
+    ///
+    /// # Safety
+    ///
+    /// As of [`Renderer::free_sets`].
+    unsafe fn give_back<L, P, D: DescriptorDevice<L, P, S>>(
+        &mut self,
+        count: usize,
+        renderer: &mut Renderer<L, P, S, D>,
+    ) -> Result<(), DestroyError> {
+        let left = self.sets.len() - count;
+        for (place, (handle, _)) in self.handles.iter_mut().zip(&self.sets[left..]) {
+            *place = *handle;
+        }
+        // SAFETY: the caller's.
+        unsafe { renderer.free_sets(&self.handles[..count]) }?;
+        self.sets.truncate(left);
+        Ok(())
+    }
+}

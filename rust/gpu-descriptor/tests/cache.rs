@@ -1,0 +1,192 @@
+//! Caches of sets over a renderer: what they take and give back, what they do if it refuses, and threads.
+
+use gpu_descriptor::renderer::{DestroyError, LayoutHandle, RenderError, Renderer, SetCache};
+use gpu_descriptor::*;
+use std::cell::Cell;
+use std::sync::Mutex;
+
+/// A device that numbers its sets, and has at most so many.
+struct Device {
+    last: Cell<u64>,
+    sets: Cell<usize>,
+    most: Cell<usize>,
+    calls: Cell<usize>,
+}
+
+impl DescriptorDevice<u64, u64, u64> for Device {
+    unsafe fn create_descriptor_pool(
+        &self,
+        _: &DescriptorTotalCount,
+        _: u32,
+        _: DescriptorPoolCreateFlags,
+    ) -> Result<u64, CreatePoolError> {
+        Ok(0)
+    }
+
+    unsafe fn destroy_descriptor_pool(&self, _: u64) {}
+
+    unsafe fn alloc_descriptor_sets<'a>(
+        &self,
+        _: &mut u64,
+        layouts: impl ExactSizeIterator<Item = &'a u64>,
+        sets: &mut impl Extend<u64>,
+    ) -> Result<(), DeviceAllocationError> {
+        if self.sets.get() + layouts.len() > self.most.get() {
+            return Err(DeviceAllocationError::OutOfDeviceMemory);
+        }
+        self.sets.set(self.sets.get() + layouts.len());
+        self.calls.set(self.calls.get() + 1);
+        sets.extend(layouts.map(|_| {
+            self.last.set(self.last.get() + 1);
+            self.last.get()
+        }));
+        Ok(())
+    }
+
+    unsafe fn dealloc_descriptor_sets(&self, _: &mut u64, sets: impl Iterator<Item = u64>) {
+        self.sets.set(self.sets.get() - sets.count());
+    }
+}
+
+type Shared = Mutex<Renderer<u64, u64, u64, Device>>;
+
+/// A renderer that keeps no set, and a layout.
+fn renderer(most: usize) -> (Shared, LayoutHandle) {
+    let mut it = Renderer::new(
+        Device {
+            last: Cell::new(0),
+            sets: Cell::new(0),
+            most: Cell::new(most),
+            calls: Cell::new(0),
+        },
+        0,
+    );
+    it.set_keep(0);
+    let counts = DescriptorTotalCount {
+        sampler: 1,
+        ..Default::default()
+    };
+    let layout = SetLayout {
+        layout: 7,
+        counts,
+        flags: DescriptorSetLayoutCreateFlags::empty(),
+    };
+    // SAFETY: the device knows no layouts.
+    let layout = unsafe { it.add_layout(layout) }.unwrap();
+    (Mutex::new(it), layout)
+}
+
+fn end(shared: Shared) {
+    let it = shared.into_inner().unwrap();
+    assert_eq!(it.outstanding(), 0);
+    // SAFETY: the device isn't in use.
+    assert_eq!(unsafe { it.shutdown() }.sets.get(), 0);
+}
+
+#[test]
+fn refills_and_gives_back() {
+    let (shared, layout) = renderer(usize::MAX);
+    let lock = || shared.lock().unwrap();
+    let mut cache = SetCache::new(layout, 4).unwrap();
+    let mut sets = Vec::new();
+    for made in 0..12 {
+        let (set, raw) = cache.allocate(lock).unwrap();
+        assert_eq!(lock().set(set), Some(&raw));
+        assert!(!sets.contains(&(set, raw)));
+        sets.push((set, raw));
+        assert_eq!(lock().device().sets.get(), (made / 4 + 1) * 4);
+    }
+    assert_eq!((lock().device().calls.get(), cache.count()), (3, 0));
+    for (freed, set) in sets.into_iter().enumerate() {
+        // SAFETY: the device doesn't use it.
+        unsafe { cache.free(set, lock) }.unwrap();
+        assert_eq!(cache.count(), if freed < 8 { freed + 1 } else { freed - 3 });
+    }
+    assert_eq!(lock().device().sets.get(), 8);
+    // SAFETY: as above.
+    unsafe { cache.flush(&mut lock()) }.unwrap();
+    assert_eq!(cache.count(), 0);
+    // No refill is one of 1, and one past all memory is refused.
+    let mut small = SetCache::new(layout, 0).unwrap();
+    let set = small.allocate(lock).unwrap();
+    // SAFETY: as above.
+    unsafe { lock().free_sets(&[set.0]) }.unwrap();
+    let refused = SetCache::<u64>::new(layout, usize::MAX / 2).map(|it| it.count());
+    let no_memory = RenderError::Allocation(AllocationError::OutOfHostMemory);
+    assert_eq!(refused, Err(no_memory));
+    end(shared);
+}
+
+/// If so many are refused fewer are asked for, down to one.
+#[test]
+fn asks_for_fewer() {
+    let (shared, layout) = renderer(11);
+    let lock = || shared.lock().unwrap();
+    let mut cache = SetCache::new(layout, 64).unwrap();
+    let mut sets: Vec<_> = (0..11).map(|_| cache.allocate(lock).unwrap()).collect();
+    let refused = RenderError::Allocation(AllocationError::OutOfDeviceMemory);
+    assert_eq!(cache.allocate(lock), Err(refused));
+    assert_eq!(lock().outstanding(), 11);
+    assert_eq!(lock().device().calls.get(), 3);
+    // SAFETY: the device doesn't use them.
+    unsafe { cache.free(sets.pop().unwrap(), lock) }.unwrap();
+    sets.push(cache.allocate(lock).unwrap());
+    for set in sets {
+        // SAFETY: as above.
+        unsafe { cache.free(set, lock) }.unwrap();
+    }
+    // SAFETY: as above.
+    unsafe { cache.flush(&mut lock()) }.unwrap();
+    lock().remove_layout(layout).unwrap();
+    assert_eq!(cache.allocate(lock), Err(RenderError::NoLayout));
+    end(shared);
+}
+
+/// A set that was freed elsewhere is refused with those beside it, until the cache is flushed.
+#[test]
+fn a_set_that_was_freed_elsewhere() {
+    let (shared, layout) = renderer(usize::MAX);
+    let lock = || shared.lock().unwrap();
+    let mut cache = SetCache::new(layout, 2).unwrap();
+    let sets: Vec<_> = (0..5).map(|_| cache.allocate(lock).unwrap()).collect();
+    // SAFETY: the device doesn't use them.
+    unsafe {
+        cache.flush(&mut lock()).unwrap();
+        sets[..4]
+            .iter()
+            .for_each(|it| cache.free(*it, lock).unwrap());
+        lock().free_sets(&[sets[3].0]).unwrap();
+        assert_eq!(cache.free(sets[4], lock), Err(DestroyError::NoSet));
+        assert_eq!((cache.count(), lock().outstanding()), (4, 4));
+        assert_eq!(cache.flush(&mut lock()), Err(DestroyError::NoSet));
+        assert_eq!((cache.count(), lock().outstanding()), (0, 1));
+        cache.free(sets[4], lock).unwrap();
+        cache.flush(&mut lock()).unwrap();
+    }
+    end(shared);
+}
+
+#[test]
+fn threads_lose_no_set() {
+    let (shared, layout) = renderer(usize::MAX);
+    let lock = || shared.lock().unwrap();
+    std::thread::scope(|scope| {
+        for refill in [1, 5, 64] {
+            scope.spawn(move || {
+                let mut cache = SetCache::new(layout, refill).unwrap();
+                for turn in 0..500 {
+                    let sets: Vec<_> = (0..turn % 9)
+                        .map(|_| cache.allocate(lock).unwrap())
+                        .collect();
+                    for set in sets {
+                        // SAFETY: the device doesn't use it.
+                        unsafe { cache.free(set, lock) }.unwrap();
+                    }
+                }
+                // SAFETY: as above.
+                unsafe { cache.flush(&mut lock()) }.unwrap();
+            });
+        }
+    });
+    end(shared);
+}
