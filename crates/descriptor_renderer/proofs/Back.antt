@@ -4,7 +4,7 @@ use Rattle.descriptor_table.specs.Sets.{sets_in}
 use Rattle.descriptor_table.specs.Slots.{goes, is_due, is_in, slot_at}
 use Rattle.descriptor_table.specs.Tables.{IsBack, Becomes, MayBecome, Turns, count, is_kept, used_for, vacated}
 use Rattle.descriptor_table.specs.declared.slot.Use.TheVariants.{Kept, Going, Waits}
-use Rattle.descriptor_table.specs.declared.slot.Slot.{Slot}
+use Rattle.descriptor_table.specs.Slots.{Slot}
 use Rattle.descriptor_table.proofs.Chains.{lists_apart}
 use Rattle.descriptor_table.proofs.Leaving.{same_sets}
 use Rattle.descriptor_table.proofs.Renewing.{kept_full}

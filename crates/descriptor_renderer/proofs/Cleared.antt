@@ -3,7 +3,7 @@ use Rattle.std.proofs.lemmas.Grind.{common_steps}
 use Rattle.std.proofs.Common.{◌≡◌, ℕ, ◌+◌, ◌⊎◌, ◌&&◌, nat_lt, ne_eqb, Bool, true, false, if◌then◌else◌, List, length, None, inl, inr, refl, sym, ap, ◌∙◌, arith}
 use Rattle.descriptor_table.specs.Slots.{slot_at}
 use Rattle.descriptor_table.specs.Tables.{aged, came_under, count, is_kept, vacated}
-use Rattle.descriptor_table.specs.declared.slot.Slot.{Slot}
+use Rattle.descriptor_table.specs.Slots.{Slot}
 use Rattle.descriptor_table.specs.declared.slot.Use.TheVariants.{Vacant}
 use Rattle.descriptor_table.proofs.Counting.{below_or}
 use Rattle.descriptor_table.proofs.Counts.{none_count}

@@ -6,7 +6,7 @@ use Rattle.std.proofs.Common.{◌≡◌, ℕ, ◌+◌, ◌≤◌, ◌⊎◌, ◌
 use Rattle.std.proofs.lemmas.Bool.{true≢false}
 use Rattle.descriptor_table.specs.Slots.{goes, in_list, is_in, slot_at, waits_for}
 use Rattle.descriptor_table.specs.Tables.{Becomes, MayBecome, Turns, count, holds, is_held_use, is_kept, used_for, vacated, waits}
-use Rattle.descriptor_table.specs.declared.slot.Slot.{Slot}
+use Rattle.descriptor_table.specs.Slots.{Slot}
 use Rattle.descriptor_table.specs.declared.slot.Use.{Use}
 use Rattle.descriptor_table.specs.declared.slot.Use.TheVariants.{Going, Vacant}
 use Rattle.descriptor_table.proofs.Counts.{count_none}

@@ -13,7 +13,7 @@ use Rattle.gpu_descriptor.specs.declared.errors.AllocationError.{AllocationError
 use Rattle.descriptor_table.specs.Slots.{is_kept_of, is_live, slot_at, waits_for}
 use Rattle.descriptor_table.specs.Tables.{Picks, Puts, Renews, came_under, count, current, is_held_use, is_kept, renewed, used_for}
 use Rattle.descriptor_table.specs.declared.handle.SetHandle.{SetHandle}
-use Rattle.descriptor_table.specs.declared.slot.Slot.{Slot}
+use Rattle.descriptor_table.specs.Slots.{Slot}
 use Rattle.descriptor_table.specs.declared.slot.Use.{Use}
 use Rattle.descriptor_table.specs.declared.slot.Use.TheVariants.{Taken}
 use Rattle.descriptor_table.proofs.Counting.{below_or}
@@ -205,7 +205,7 @@ module _ {L P S D : Type 0} {d : Ghosts D L P S} where
         let picks = subst (λ p. Picks (is_kept_of number) p (slots_in old) (slots_in taken)) (ok_same k.is) k.picks in
         at_once
         (kept_fills (ComesOf d.meaning layout number) number' (generations_in old) number p u handle (slots_in old)
-        (slots_in taken) new (λ q within. (old.table.known q within).kept) picks renews))
+        (slots_in taken) new (λ q within. (old.table.sound.known q within).kept) picks renews))
     | inr none ↦ elim (comes (omega arith)) [
       | inl gets ↦ at_once (new_fills (ComesOf d.meaning layout number) number' (generations_in old) number p u handle gets.set (slots_in old) (slots_in taken) new (again (slots_in old) gets.set gets.puts) (refl, gets.own) renews)
       | inr cleared ↦ (let mid = cleared.0 in let gets = cleared.2 in record {

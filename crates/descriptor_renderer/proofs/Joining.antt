@@ -12,7 +12,7 @@ use Rattle.descriptor_table.specs.Slots.{is_kept_of, is_live, slot_at, waits_for
 use Rattle.descriptor_table.specs.Sets.{NameEach, find, is_given, sets_of}
 use Rattle.descriptor_table.specs.Tables.{came_under, current, holds, is_held_use, place_at}
 use Rattle.descriptor_table.specs.declared.handle.SetHandle.{SetHandle}
-use Rattle.descriptor_table.specs.declared.slot.Slot.{Slot}
+use Rattle.descriptor_table.specs.Slots.{Slot}
 use Rattle.descriptor_table.specs.declared.slot.Use.{Use}
 use Rattle.descriptor_table.specs.declared.slot.Use.TheVariants.{Held}
 use Rattle.descriptor_table.proofs.Chains.{and_true}
@@ -84,6 +84,10 @@ module _ {T : Type 0} where
 
       is_next : (i : ℕ) (e : SetHandle) → i < length (handle ∷ []) → get_or (handle ∷ []) i e ≡ next_of number (place_at (handle ∷ []) i) (slot_at old (place_at (handle ∷ []) i))
       is_next x0 e lt = grind (arith, common_steps)
+
+  -- a set that is held by its handle is there
+  pub held_full : (number : ℕ) (layout : ℕ × ℕ) (handle : SetHandle) (old new : List (Slot T)) → HoldEach number layout (handle ∷ []) old new → is_some (slot_at new handle.place).set ≡ true
+  held_full number layout handle old new x = (held_is (slot_at new handle.place) (x.held 0 (omega arith))).1
 
   module _ (number : ℕ) (layout : ℕ × ℕ) (a b : List SetHandle) (old mid new : List (Slot T)) (x : HoldEach number layout a old mid) (y : HoldEach number layout b mid new) where
     -- no handle of `b` has a place of `a`: the set there is held by then, and so it is not free

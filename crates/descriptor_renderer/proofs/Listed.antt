@@ -5,7 +5,7 @@ use Rattle.descriptor_table.specs.Sets.{AreHeldOnce, is_last, sets_in}
 use Rattle.descriptor_table.specs.Slots.{goes, slot_at}
 use Rattle.descriptor_table.specs.Tables.{AreAllTaken, IsBack, TookEach, Turns, Becomes, is_held_use, is_taken, place_at, used_for, vacated}
 use Rattle.descriptor_table.specs.declared.handle.SetHandle.{SetHandle}
-use Rattle.descriptor_table.specs.declared.slot.Slot.{Slot}
+use Rattle.descriptor_table.specs.Slots.{Slot}
 use Rattle.descriptor_table.specs.declared.slot.Use.TheVariants.{Waits, Going}
 use Rattle.descriptor_table.proofs.Chains.{and_true}
 use Rattle.descriptor_table.proofs.Holding.{named_or}

@@ -6,7 +6,7 @@ use Rattle.std.proofs.lemmas.Bool.{and_left, and_right, cases_eq, cases_lt, le-l
 use Rattle.descriptor_table.specs.Slots.{in_list, is_kept_of, is_live}
 use Rattle.descriptor_table.specs.Tables.{is_kept}
 use Rattle.descriptor_table.specs.declared.handle.SetHandle.{SetHandle}
-use Rattle.descriptor_table.specs.declared.slot.Slot.{Slot}
+use Rattle.descriptor_table.specs.Slots.{Slot}
 use Rattle.descriptor_table.specs.declared.slot.Use.{Use}
 use Rattle.descriptor_table.specs.declared.slot.Use.TheVariants.{Kept}
 use Rattle.descriptor_renderer.specs.Stores.{is_free}

@@ -13,7 +13,7 @@ use Rattle.descriptor_table.specs.Sets.{Sets, find, is_last, sets_of}
 use Rattle.descriptor_table.specs.Slots.{is_live, slot_at}
 use Rattle.descriptor_table.specs.Tables.{came_under, current, lists_with}
 use Rattle.descriptor_table.specs.declared.handle.SetHandle.{SetHandle}
-use Rattle.descriptor_table.specs.declared.slot.Slot.{Slot}
+use Rattle.descriptor_table.specs.Slots.{Slot}
 use Rattle.descriptor_table.proofs.Counting.{below_or}
 use Rattle.descriptor_renderer.specs.LayoutRegistries.{layout_at, layout_slots, registry_of}
 use Rattle.descriptor_renderer.specs.Own.{AreCounted, AreOwn, HasSetsOf, IsOwn}

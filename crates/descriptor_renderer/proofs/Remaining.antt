@@ -4,7 +4,7 @@ use Rattle.std.proofs.Common.{◌≡◌, ℕ, suc, ◌<◌, ◌&&◌, Bool, true
 use Rattle.descriptor_table.specs.Sets.{joined, sets_in}
 use Rattle.descriptor_table.specs.Slots.{slot_at, waits_for}
 use Rattle.descriptor_table.specs.Tables.{aged, count, holds, is_held_use, is_kept, vacated, waits}
-use Rattle.descriptor_table.specs.declared.slot.Slot.{Slot}
+use Rattle.descriptor_table.specs.Slots.{Slot}
 use Rattle.descriptor_table.proofs.Counts.{count_none, none_count}
 use Rattle.descriptor_renderer.specs.Stores.{AreCleaned, is_placed}
 

@@ -10,7 +10,7 @@ use Rattle.gpu_descriptor.specs.declared.set.DescriptorSet.{DescriptorSet}
 use Rattle.descriptor_table.specs.Sets.{sets_in, sets_of}
 use Rattle.descriptor_table.specs.Slots.{goes, is_kept_of, is_live, slot_at}
 use Rattle.descriptor_table.specs.Tables.{Becomes, Turns, came_under, count, removed_at, vacated, used_for}
-use Rattle.descriptor_table.specs.declared.slot.Slot.{Slot}
+use Rattle.descriptor_table.specs.Slots.{Slot}
 use Rattle.descriptor_table.proofs.Counts.{none_count}
 use Rattle.descriptor_table.proofs.Naming.{names_kept}
 use Rattle.descriptor_table.proofs.Renewing.{kept_is}

@@ -4,7 +4,7 @@ use Rattle.std.proofs.lemmas.Option.{none-some}
 use Rattle.gpu_descriptor_types.specs.declared.device.DescriptorDevice.{Ghosts}
 use Rattle.descriptor_table.specs.Slots.{slot_at}
 use Rattle.descriptor_table.specs.Tables.{came_under}
-use Rattle.descriptor_table.specs.declared.slot.Slot.{Slot}
+use Rattle.descriptor_table.specs.Slots.{Slot}
 use Rattle.descriptor_renderer.specs.Stores.{IsAtRest, NoneComes, SettlesTo, StoreStays, coming_in, is_placed, slots_in}
 use Rattle.descriptor_renderer.specs.declared.store.Store.{Store}
 

@@ -6,7 +6,7 @@ use Rattle.descriptor_table.specs.Sets.{AreHeldOnce, LoseNames, sets_of}
 use Rattle.descriptor_table.specs.Slots.{in_list, is_due, is_live, slot_at, waits_for}
 use Rattle.descriptor_table.specs.Tables.{Turns, aged, is_kept, place_at, vacated, MayBecome, IsBack, used_for, Becomes}
 use Rattle.descriptor_table.specs.declared.handle.SetHandle.{SetHandle}
-use Rattle.descriptor_table.specs.declared.slot.Slot.{Slot}
+use Rattle.descriptor_table.specs.Slots.{Slot}
 use Rattle.descriptor_table.specs.declared.slot.Use.{Use}
 use Rattle.descriptor_table.specs.declared.slot.Use.TheVariants.{Waits}
 use Rattle.descriptor_table.proofs.Counting.{below_or}

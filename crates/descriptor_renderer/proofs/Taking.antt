@@ -6,7 +6,7 @@ use Rattle.gpu_descriptor.specs.declared.set.DescriptorSet.{DescriptorSet}
 use Rattle.descriptor_table.specs.Slots.{waits_for}
 use Rattle.descriptor_table.specs.Tables.{Renews, is_held_use, is_usable, renewed}
 use Rattle.descriptor_table.specs.declared.handle.SetHandle.{SetHandle}
-use Rattle.descriptor_table.specs.declared.slot.Slot.{Slot}
+use Rattle.descriptor_table.specs.Slots.{Slot}
 use Rattle.descriptor_table.specs.declared.slot.Use.{Use}
 use Rattle.descriptor_renderer.specs.Stores.{ComesOf, GetsAtLast, IsAtRest, IsRefusedAtLast, KeepsComing, KeepsStore, TakesKept, TakesOne, coming_in, generations_in, kept_of, number_of, side_of, slots_in}
 use Rattle.descriptor_renderer.specs.declared.store.Store.{Store}

@@ -4,7 +4,7 @@ use Rattle.gpu_descriptor.specs.Caller.Sets.{items_of}
 use Rattle.gpu_descriptor.specs.Model.Agreement.{Item, State, count_of, outstanding}
 use Rattle.gpu_descriptor.specs.declared.set.DescriptorSet.{DescriptorSet}
 use Rattle.descriptor_table.specs.Sets.{sets_in}
-use Rattle.descriptor_table.specs.declared.slot.Slot.{Slot}
+use Rattle.descriptor_table.specs.Slots.{Slot}
 
 module _ {S : Type 0} (name : S → ℕ) where
   -- the sets of the slots and these are exactly those that are outstanding

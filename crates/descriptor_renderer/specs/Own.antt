@@ -7,7 +7,7 @@ use Rattle.gpu_descriptor.specs.declared.layout.SetLayout.{SetLayout}
 use Rattle.gpu_descriptor.specs.declared.set.DescriptorSet.{DescriptorSet}
 use Rattle.descriptor_table.specs.Slots.{slot_at}
 use Rattle.descriptor_table.specs.Tables.{came_under, current}
-use Rattle.descriptor_table.specs.declared.slot.Slot.{Slot}
+use Rattle.descriptor_table.specs.Slots.{Slot}
 use Rattle.descriptor_renderer.specs.Stores.{IsAtRest, generations_in, lists_for, lists_in, number_of, slots_in}
 use Rattle.descriptor_renderer.specs.declared.store.Store.{Store}
 

@@ -23,7 +23,7 @@ use Rattle.descriptor_table.specs.Sets.{Names, sets_in, sets_of}
 use Rattle.descriptor_table.specs.Slots.{is_kept_of, is_live, slot_at}
 use Rattle.descriptor_table.specs.Tables.{Grows, HasRoom, Picks, Puts, Renews, Turns, Becomes, aged, came_under, count, current, generations_of, holds, is_kept, is_usable, place_at, lists_of, removed_at, slots_of, vacated, waits, MayBecome, IsBack, TurnEach}
 use Rattle.descriptor_table.specs.declared.handle.SetHandle.{SetHandle}
-use Rattle.descriptor_table.specs.declared.slot.Slot.{Slot}
+use Rattle.descriptor_table.specs.Slots.{Slot}
 use Rattle.descriptor_table.specs.declared.slot.Use.{Use}
 use Rattle.descriptor_table.specs.declared.slot.Use.TheVariants.{Vacant}
 use Rattle.descriptor_renderer.specs.declared.store.Store.{Store}

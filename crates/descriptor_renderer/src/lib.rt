@@ -8,7 +8,7 @@ mod layout_registry;
 mod renderer;
 mod store;
 
-pub use descriptor_table::SetHandle;
+pub use descriptor_table::{SetHandle, SetName};
 pub use errors::{BeginError, DestroyError, RenderError};
 pub use layout_registry::LayoutHandle;
 pub use renderer::{Counts, Renderer};

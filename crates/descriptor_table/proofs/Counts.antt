@@ -4,7 +4,7 @@ use Rattle.std.proofs.Common.{◌≡◌, ℕ, zero, suc, ◌+◌, ◌<◌, ◌�
 use Rattle.descriptor_table.specs.Places.{times, walk}
 use Rattle.descriptor_table.specs.Slots.{AreLinked, HasChains, Lists, chain_at, is_in, no_slot, slot_at}
 use Rattle.descriptor_table.specs.Tables.{count}
-use Rattle.descriptor_table.specs.declared.slot.Slot.{Slot}
+use Rattle.descriptor_table.specs.Slots.{Slot}
 use Rattle.descriptor_table.specs.declared.slot.Chain.{Chain}
 use Rattle.descriptor_table.proofs.Counting.{places_total, total, total_as, total_first}
 use Rattle.descriptor_table.proofs.Listed.{PassesNone, past_end, walk_length}

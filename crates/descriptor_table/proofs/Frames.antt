@@ -9,7 +9,7 @@ use Rattle.descriptor_table.specs.Places.{times, walk}
 use Rattle.descriptor_table.specs.Slots.{AreFramed, HasFrames, chain_of, frame_at, is_of, slot_at, waits_for}
 use Rattle.descriptor_table.specs.declared.slot.Use.{Use}
 use Rattle.descriptor_table.specs.declared.slot.Use.TheVariants.{Held, Drawn, Waits, Kept, Going, Taken, Vacant}
-use Rattle.descriptor_table.specs.declared.slot.Slot.{Slot}
+use Rattle.descriptor_table.specs.Slots.{Slot}
 use Rattle.descriptor_table.specs.declared.slot.Chain.{Chain}
 use Rattle.descriptor_table.specs.declared.slot.FrameChain.{FrameChain}
 use Rattle.descriptor_table.proofs.Counting.{few_places, same_or, times_here, times_there, below_or}

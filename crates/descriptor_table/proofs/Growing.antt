@@ -5,7 +5,7 @@ use Rattle.descriptor_table.specs.Places.{times, walk}
 use Rattle.descriptor_table.specs.Slots.{AreFramed, AreLinked, HasChains, HasLists, IsListed, chain_at, chain_of, is_in, is_of, no_slot, slot_at}
 use Rattle.descriptor_table.specs.Tables.{Puts, count, is_usable}
 use Rattle.descriptor_table.specs.declared.slot.Use.TheVariants.{Taken}
-use Rattle.descriptor_table.specs.declared.slot.Slot.{Slot}
+use Rattle.descriptor_table.specs.Slots.{Slot}
 use Rattle.descriptor_table.specs.declared.slot.Chain.{Chain}
 use Rattle.descriptor_table.specs.declared.slot.FrameChain.{FrameChain}
 use Rattle.descriptor_table.proofs.Chains.{taken_no_frame, taken_no_list}

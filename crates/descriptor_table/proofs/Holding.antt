@@ -6,12 +6,12 @@ use Rattle.std.proofs.Common.{◌≡◌, ◌≢◌, ℕ, zero, suc, ◌+◌, ◌
 use Rattle.std.proofs.lemmas.List.{length-set}
 use Rattle.std.proofs.lemmas.Bool.{true≢false}
 use Rattle.descriptor_table.specs.Sets.{AreHeldOnce, is_held}
-use Rattle.descriptor_table.specs.Slots.{slot_at}
+use Rattle.descriptor_table.specs.Slots.{IsNowhere, slot_at}
 use Rattle.descriptor_table.specs.Tables.{Becomes, TookEach, is_held_use, place_at, used_for}
 use Rattle.descriptor_table.specs.declared.handle.SetHandle.{SetHandle}
 use Rattle.descriptor_table.specs.declared.slot.Use.{Use}
 use Rattle.descriptor_table.specs.declared.slot.Use.TheVariants.{Held, Taken}
-use Rattle.descriptor_table.specs.declared.slot.Slot.{Slot}
+use Rattle.descriptor_table.specs.Slots.{Slot}
 use Rattle.descriptor_table.proofs.Chains.{and_true}
 use Rattle.descriptor_table.proofs.Counting.{same_or}
 use Rattle.descriptor_table.proofs.Listed.{other_slots, slot_set, test_within, with_use}
@@ -172,8 +172,15 @@ module _ {T : Type 0} where
     pub rest : (p : ℕ) → ((i : ℕ) → i < n → place_at handles i ≢ p) → slot_at now p ≡ slot_at before p
 
   module _ (handles : List SetHandle) (n m : ℕ) (before now start : List (Slot T)) (took : TookEach handles n before start) (some : PutSome handles n m before now) (lt : m < n) where
-    put_inside : place_at handles m < length now
+    pub put_inside : place_at handles m < length now
     put_inside = (let a = took.within m lt in let b = some.long in omega arith)
+
+    -- it is in no list
+    pub put_nowhere : IsNowhere (slot_at now (place_at handles m)).used
+    put_nowhere = elim (some.each m lt) [
+      | inl same ↦ subst IsNowhere (sym (ap (λ (s : Slot T). s.used) same ∙ took.held m lt)) tt
+      | inr taken ↦ subst IsNowhere (sym (ap (λ (s : Slot T). s.used) taken)) tt
+    ]
 
     -- one set more is held again
     pub put_more : (new : List (Slot T)) → new ≡ with_use (place_at handles m) Held now → PutSome handles n (m + 1) before new

@@ -13,7 +13,7 @@ use Rattle.descriptor_table.specs.Tables.{Gives, GivesAny, Stays, Turns, Becomes
 use Rattle.descriptor_table.specs.declared.giving.Due.{Due}
 use Rattle.descriptor_table.specs.declared.giving.Giving.{Giving}
 use Rattle.descriptor_table.specs.declared.set_table.SetTable.{SetTable}
-use Rattle.descriptor_table.specs.declared.slot.Slot.{Slot}
+use Rattle.descriptor_table.specs.Slots.{Slot}
 use Rattle.descriptor_table.proofs.Turning.{Turning, stays_more, stays_same, turn_end, turn_start, turn_step}
 
 -- what sets weigh

@@ -2,13 +2,16 @@ pub mod Chains
 pub mod Coming
 pub mod Counting
 pub mod Counts
+pub mod Entries
 pub mod Frames
 pub mod Freeing
 pub mod Growing
 pub mod Holding
 pub mod Leaving
 pub mod Listed
+pub mod Names
 pub mod Naming
 pub mod Renewing
+pub mod Sound
 pub mod Totals
 pub mod Turning

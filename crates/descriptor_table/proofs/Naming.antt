@@ -6,7 +6,7 @@ use Rattle.descriptor_table.specs.Sets.{AreHeldOnce, LoseNames, find, is_last, s
 use Rattle.descriptor_table.specs.Slots.{is_live, slot_at}
 use Rattle.descriptor_table.specs.Tables.{place_at}
 use Rattle.descriptor_table.specs.declared.handle.SetHandle.{SetHandle}
-use Rattle.descriptor_table.specs.declared.slot.Slot.{Slot}
+use Rattle.descriptor_table.specs.Slots.{Slot}
 use Rattle.descriptor_table.proofs.Chains.{and_true}
 use Rattle.descriptor_table.proofs.Holding.{handle_is, held_is, named_or, same_default}
 

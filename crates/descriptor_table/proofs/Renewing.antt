@@ -10,7 +10,7 @@ use Rattle.descriptor_table.specs.declared.handle.SetHandle.{SetHandle}
 use Rattle.descriptor_table.specs.declared.set_table.SetTable.{SetTable}
 use Rattle.descriptor_table.specs.declared.slot.Use.{Use}
 use Rattle.descriptor_table.specs.declared.slot.Use.TheVariants.{Held, Drawn, Waits, Kept, Taken, Vacant}
-use Rattle.descriptor_table.specs.declared.slot.Slot.{Slot}
+use Rattle.descriptor_table.specs.Slots.{Slot}
 use Rattle.descriptor_table.proofs.Chains.{and_true, lists_apart, taken_no_list}
 use Rattle.descriptor_table.proofs.Counting.{same_or}
 use Rattle.descriptor_table.proofs.Counts.{bit, count_set, same_count}
@@ -57,10 +57,9 @@ module _ {T : Type 0} where
   -- there is room for as many sets if as many slots are usable, and nothing else changed
   pub room_stays : (n : ℕ) (a b : SetTable T) → Stays a b → length (slots_of b) ≡ length (slots_of a) → usable_of b ≡ usable_of a → HasRoom n a → HasRoom n b
   room_stays n a b stays long usable room =
-      let slots = stays.slots in
-      let next = stays.next in
+      let space = stays.space in
       let frames = stays.frames in
-      record { few = (let h = room.few in omega arith); slots = (let h = room.slots in omega arith); next = (let h = room.next in omega arith); frames = (let h = room.frames in omega arith) }
+      record { few = (let h = room.few in omega arith); slots = (let h = room.slots in omega arith); frames = (let h = room.frames in omega arith) }
 
   -- a vacant slot got a set, and so there is room for one fewer
   pub room_less : (n p : ℕ) (s : Slot T) (a b c : SetTable T) → Picks is_usable p (slots_of a) (slots_of b) → slots_of c ≡ set (slots_of b) p s → is_usable s ≡ false → Stays a b → Stays b c → HasRoom (n + 1) a → HasRoom n c
@@ -73,10 +72,9 @@ module _ {T : Type 0} where
       let slot : is_usable (slot_at (slots_of b) p) ≡ false = ap (λ l. is_usable (slot_at l p)) picks.slots ∙ ap is_usable (slot_set (slots_of a) p (used_for Taken o) picks.within) in
       let same = ap (count is_usable) is ∙ same_count is_usable (slots_of b) p s (omega arith) (used ∙ sym slot) in
       let long = ap length is ∙ length-set (slots_of b) p s in
-      let slots = after.slots ∙ before.slots in
-      let next = after.next ∙ before.next in
+      let space = after.space ∙ before.space in
       let frames = after.frames ∙ before.frames in
-      record { few = (let h = room.few in omega arith); slots = (let h = room.slots in omega arith); next = (let h = room.next in omega arith); frames = (let h = room.frames in omega arith) }
+      record { few = (let h = room.few in omega arith); slots = (let h = room.slots in omega arith); frames = (let h = room.frames in omega arith) }
 
   -- a set that leaves a list of sets leaves as many slots to which another can come
   pub usable_picked : (k p : ℕ) (old new : List (Slot T)) → 0 ≢ k → Picks (is_in k) p old new → count is_usable new ≡ count is_usable old

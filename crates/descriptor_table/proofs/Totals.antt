@@ -8,7 +8,7 @@ use Rattle.descriptor_table.specs.Slots.{AreFramed, AreLinked, HasFrames, chain_
 use Rattle.descriptor_table.specs.Tables.{count, is_kept, waits}
 use Rattle.descriptor_table.specs.declared.slot.Use.{Use}
 use Rattle.descriptor_table.specs.declared.slot.Use.TheVariants.{Held, Drawn, Waits, Kept, Going, Taken, Vacant}
-use Rattle.descriptor_table.specs.declared.slot.Slot.{Slot}
+use Rattle.descriptor_table.specs.Slots.{Slot}
 use Rattle.descriptor_table.specs.declared.slot.Chain.{Chain}
 use Rattle.descriptor_table.specs.declared.slot.FrameChain.{FrameChain}
 use Rattle.descriptor_table.proofs.Chains.{frames_apart, frames_none}

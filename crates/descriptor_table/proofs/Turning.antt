@@ -10,7 +10,7 @@ use Rattle.descriptor_table.specs.Tables.{AtIf, IsBack, KeepsSettings, MayBecome
 use Rattle.descriptor_table.specs.declared.set_table.SetTable.{SetTable}
 use Rattle.descriptor_table.specs.declared.slot.Use.{Use}
 use Rattle.descriptor_table.specs.declared.slot.Use.TheVariants.{Held, Kept, Going, Taken}
-use Rattle.descriptor_table.specs.declared.slot.Slot.{Slot}
+use Rattle.descriptor_table.specs.Slots.{Slot}
 use Rattle.descriptor_table.proofs.Chains.{and_true, lists_apart}
 use Rattle.descriptor_table.proofs.Counting.{same_or}
 use Rattle.descriptor_table.proofs.Counts.{bit, count_set, none_count, same_count}
@@ -147,8 +147,7 @@ module _ {T : Type 0} where
       generations = two.settings.generations ∙ one.settings.generations;
       keep = two.settings.keep ∙ one.settings.keep;
     };
-    slots = two.slots ∙ one.slots;
-    next = two.next ∙ one.next;
+    space = two.space ∙ one.space;
     frames = two.frames ∙ one.frames;
   }
 
@@ -245,7 +244,7 @@ module _ {T : Type 0} where
   going_out k s two = ap (λ b. b && is_some s.set) (ne_eqb k 1 (λ e. omega arith))
 
   pub stays_same : (a : SetTable T) → Stays a a
-  stays_same a = record { settings = record { number = refl; lists = refl; generations = refl; keep = refl }; slots = refl; next = refl; frames = refl }
+  stays_same a = record { settings = record { number = refl; lists = refl; generations = refl; keep = refl }; space = refl; frames = refl }
 
   -- as many slots pass the test, if at each place the slot does as before
   pub count_same : (test : Slot T → Bool) (l m : List (Slot T)) → length m ≡ length l → ((p : ℕ) → test (slot_at m p) ≡ test (slot_at l p)) → count test m ≡ count test l

@@ -2,12 +2,11 @@
 use Rattle.std.specs.Prelude.{◌≡◌, ℕ, length, Bool, Option}
 use Rattle.std.specs.Borrow.{MutBor}
 use Rattle.descriptor_table.specs.Sets.{sets_in}
-use Rattle.descriptor_table.specs.Slots.{goes, is_due}
+use Rattle.descriptor_table.specs.Slots.{Slot, goes, is_due}
 use Rattle.descriptor_table.specs.Tables.{Changes, GivesAny, slots_of}
 use Rattle.descriptor_table.specs.declared.giving.Due.{Due}
 use Rattle.descriptor_table.specs.declared.giving.Giving.{Giving}
 use Rattle.descriptor_table.specs.declared.set_table.SetTable.{SetTable}
-use Rattle.descriptor_table.specs.declared.slot.Slot.{Slot}
 
 module _ {T : Type 0} where
   -- one of the sets that pass the test was taken out of its slot

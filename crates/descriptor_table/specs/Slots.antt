@@ -1,11 +1,47 @@
 -- Slots, and the lists that they are in.
-use Rattle.std.specs.Prelude.{◌≡◌, ℕ, ◌+◌, ◌<◌, ◌≤◌, ◌==◌, ◌&&◌, nat_le, nat_lt, Bool, true, false, List, [], ◌∷◌, length, ⊤, slice_index_or, if◌then◌else◌, None, is_some, not}
+use Rattle.std.specs.Prelude.{map, slice_set, vec_capacity, Option, Some, ◌≡◌, ℕ, ◌+◌, ◌<◌, ◌≤◌, ◌==◌, ◌&&◌, nat_le, nat_lt, Bool, true, false, List, [], ◌∷◌, length, ⊤, slice_index_or, if◌then◌else◌, None, is_some, not}
 use Rattle.descriptor_table.specs.Places.{times, walk}
 use Rattle.descriptor_table.specs.declared.slot.Use.{Use}
 use Rattle.descriptor_table.specs.declared.slot.Use.TheVariants.{Held, Drawn, Waits, Kept, Going, Taken, Vacant}
-use Rattle.descriptor_table.specs.declared.slot.Slot.{Slot}
+use Rattle.descriptor_table.specs.declared.slot.State.{State}
+use Rattle.descriptor_table.specs.declared.slot.State.TheVariants as state
+use Rattle.descriptor_table.specs.declared.slot_list.Entry.{Entry}
+use Rattle.descriptor_table.specs.declared.slot_list.SlotList.{SlotList}
 use Rattle.descriptor_table.specs.declared.slot.Chain.{Chain}
 use Rattle.descriptor_table.specs.declared.slot.FrameChain.{FrameChain}
+use Rattle.descriptor_table.specs.declared.slot.ListHead.{ListHead}
+
+-- a place for a set
+pub record Slot (T : Type 0) : Type 0 where
+  -- how many handles were given for it
+  pub generation : ℕ
+  pub layout : ℕ
+  -- how many layouts had the number before that of the set
+  pub layout_generation : ℕ
+  pub used : Use
+  -- whether the set isn't kept when it comes back: it was there at the last cleanup
+  pub leaves : Bool
+  pub set : Option T
+
+-- a use without its frame
+abbrev pub state_of : Use → State
+state_of Held = state.Held
+state_of (Drawn frame) = state.Drawn
+state_of (Waits frame) = state.Waits
+state_of Kept = state.Kept
+state_of Going = state.Going
+state_of Taken = state.Taken
+state_of Vacant = state.Vacant
+
+-- the use of a state, with this frame if it has one
+abbrev pub use_of : ℕ → State → Use
+use_of frame state.Held = Held
+use_of frame state.Drawn = Drawn frame
+use_of frame state.Waits = Waits frame
+use_of frame state.Kept = Kept
+use_of frame state.Going = Going
+use_of frame state.Taken = Taken
+use_of frame state.Vacant = Vacant
 
 -- whether the handle of such a set names it, in this frame if one is open
 abbrev pub is_live : ℕ → Bool → Use → Bool
@@ -40,6 +76,13 @@ chain_at chains k = slice_index_or chains k (record { first = 0; count = 0 })
 abbrev pub generation_at : List ℕ → ℕ → ℕ
 generation_at generations layout = slice_index_or generations (layout + 2) 0
 
+-- the lists without their generations, and their generations
+abbrev pub chains_in : List ListHead → List Chain
+chains_in lists = map (λ h. h.chain) lists
+
+abbrev pub generations_in : List ListHead → List ℕ
+generations_in lists = map (λ h. h.generation) lists
+
 -- the list of a frame at a place of the lists, empty if there is none
 abbrev pub frame_at : List FrameChain → ℕ → FrameChain
 frame_at frames i = slice_index_or frames i (record { frame = 0; first = 0; count = 0 })
@@ -49,10 +92,9 @@ abbrev pub chain_of : List FrameChain → ℕ → Chain
 chain_of [] f = record { first = 0; count = 0 }
 chain_of (c ∷ frames) f = if f == c.frame then record { first = c.first; count = c.count } else chain_of frames f
 
--- a table's vectors fit each other: so many slots and nexts there are, and for so many frames there is memory
-pub record AreSized (slots nexts frames : ℕ) : Type 0 where
+-- a table's vectors fit each other: so many slots there are, and for so many frames there is memory
+pub record AreSized (slots frames : ℕ) : Type 0 where
   pub few : slots < 4294967296
-  pub links : nexts ≡ slots
   -- a frame for each slot, so that a set can wait without an allocation
   pub room : slots ≤ frames
 
@@ -79,6 +121,35 @@ module _ {T : Type 0} where
   -- the slot at a place, or else the slot past the end
   abbrev pub slot_at : Slots T → ℕ → Slot T
   slot_at slots place = slice_index_or slots place no_slot
+
+  -- a set that a call has, in a slot of this generation
+  abbrev pub taken_slot : ℕ → ℕ → ℕ → T → Slot T
+  taken_slot generation layout layout_generation set = record { generation = generation; layout = layout; layout_generation = layout_generation; used = Taken; leaves = false; set = Some set }
+
+  -- the slot with a set, which a call has
+  abbrev pub filled : ℕ → ℕ → T → Slot T → Slot T
+  filled layout layout_generation set s = taken_slot s.generation layout layout_generation set
+
+  -- what an entry says of its slot
+  abbrev pub slot_of : Entry T → Slot T
+  slot_of e = record { generation = e.generation; layout = e.layout; layout_generation = e.layout_generation; used = use_of e.frame e.state; leaves = e.leaves; set = e.set }
+
+  -- the slots of a list
+  abbrev pub slots_in : SlotList T → Slots T
+  slots_in l = map slot_of l.entries.items
+
+  -- for each slot the next one of the list that it is in
+  abbrev pub nexts_in : SlotList T → List ℕ
+  nexts_in l = map (λ e. e.next) l.entries.items
+
+  -- for how many slots there is memory
+  abbrev pub space_in : SlotList T → ℕ
+  space_in l = vec_capacity l.entries
+
+  -- one slot became this
+  pub record Writes (p : ℕ) (becomes : Slot T → Slot T) (old new : SlotList T) : Type 0 where
+    pub slots : slots_in new ≡ slice_set (slots_in old) p (becomes (slot_at (slots_in old) p))
+    pub space : space_in new ≡ space_in old
 
   -- whether a slot is in the list
   abbrev pub is_in : ℕ → Slot T → Bool
@@ -125,3 +196,12 @@ module _ {T : Type 0} where
   -- each slot has its list
   abbrev pub HasLists : Slots T → ℕ → (ℕ → ℕ) → Type 0
   HasLists slots lists generations = (p : ℕ) → p < length slots → IsListed lists generations (slot_at slots p)
+
+  -- what a table says of its slots and its lists
+  pub record AreSound (l : SlotList T) (chains : List Chain) (generations : List ℕ) (frames : List FrameChain) (room keep : ℕ) : Type 0 where
+    pub sized : AreSized (length (slots_in l)) room
+    pub linked : AreLinked (slots_in l) (nexts_in l) chains
+    pub framed : AreFramed (slots_in l) (nexts_in l) frames
+    pub rising : HasFrames frames
+    pub known : HasLists (slots_in l) (length chains) (generation_at generations)
+    pub few : AreFew keep chains

@@ -1,12 +1,11 @@
 -- What becomes of the slots of a table.
 use Rattle.std.specs.Prelude.{◌≡◌, ◌≢◌, ℕ, zero, suc, ◌+◌, ◌-◌, ◌<◌, ◌≤◌, ◌⊎◌, ◌==◌, ◌&&◌, nat_lt, Bool, true, false, not, List, [], ◌∷◌, length, slice_index_or, slice_set, vec_capacity, is_some, if◌then◌else◌, Option, Some, None, MatchOption}
 use Rattle.std.specs.VecDeque.{deque_capacity}
-use Rattle.descriptor_table.specs.Slots.{Slots, chain_at, generation_at, is_in, is_kept_of, is_of, slot_at, waits_for}
+use Rattle.descriptor_table.specs.Slots.{Slot, Slots, chains_in, generations_in, nexts_in, slots_in, space_in, taken_slot, chain_at, generation_at, is_in, is_kept_of, is_of, slot_at, waits_for}
 use Rattle.descriptor_table.specs.declared.handle.SetHandle.{SetHandle}
 use Rattle.descriptor_table.specs.declared.set_table.SetTable.{SetTable}
 use Rattle.descriptor_table.specs.declared.slot.Use.{Use}
 use Rattle.descriptor_table.specs.declared.slot.Use.TheVariants.{Held, Kept, Going, Taken, Vacant}
-use Rattle.descriptor_table.specs.declared.slot.Slot.{Slot}
 
 -- whether a set in such a use is one that a call has
 abbrev pub is_taken_use : Use → Bool
@@ -71,11 +70,11 @@ module _ {T : Type 0} where
 
   -- the slots of a table, by place
   abbrev pub slots_of : SetTable T → Slots T
-  slots_of t = t.slots.items
+  slots_of t = slots_in t.slots
 
   -- how many lists a table has: of slots without a set, of sets that go, and of kept ones by layout
   abbrev pub lists_of : SetTable T → ℕ
-  lists_of t = length t.chains.items
+  lists_of t = length (chains_in t.lists.items)
 
   -- the number of the renderer, which its handles have
   abbrev pub number_of : SetTable T → ℕ
@@ -87,11 +86,11 @@ module _ {T : Type 0} where
 
   -- how many layouts of each number were removed
   abbrev pub generations_of : SetTable T → ℕ → ℕ
-  generations_of t = generation_at t.generations.items
+  generations_of t = generation_at (generations_in t.lists.items)
 
   -- how many slots are in the list
   abbrev pub count_of : ℕ → SetTable T → ℕ
-  count_of k t = (chain_at t.chains.items k).count
+  count_of k t = (chain_at (chains_in t.lists.items) k).count
 
   -- what a table has besides slots and memory
   abbrev pub settings_of : SetTable T → Settings
@@ -121,8 +120,7 @@ module _ {T : Type 0} where
   -- the settings and memory are as they were
   pub record Stays (old new : SetTable T) : Type 0 where
     pub settings : KeepsSettings old new
-    pub slots : vec_capacity new.slots ≡ vec_capacity old.slots
-    pub next : vec_capacity new.next ≡ vec_capacity old.next
+    pub space : space_in new.slots ≡ space_in old.slots
     pub frames : deque_capacity new.frames ≡ deque_capacity old.frames
 
   -- the slots became what the relation says, and all else is as it was
@@ -131,15 +129,13 @@ module _ {T : Type 0} where
     pub stays : Stays old new
 
   -- there is memory for a layout more
-  pub record HasListRoom (t : SetTable T) : Type 0 where
-    pub chains : lists_of t + 3 ≤ vec_capacity t.chains
-    pub generations : lists_of t + 3 ≤ vec_capacity t.generations
+  abbrev pub HasListRoom : SetTable T → Type 0
+  HasListRoom t = lists_of t + 3 ≤ vec_capacity t.lists
 
   -- there is memory for so many slots more
   pub record HasPlaces (n : ℕ) (t : SetTable T) : Type 0 where
     pub few : length (slots_of t) + n < 4294967296
-    pub slots : length (slots_of t) + n ≤ vec_capacity t.slots
-    pub next : length (slots_of t) + n ≤ vec_capacity t.next
+    pub slots : length (slots_of t) + n ≤ space_in t.slots
     pub frames : length (slots_of t) + n ≤ deque_capacity t.frames
 
   -- how many slots another set can come to
@@ -260,7 +256,7 @@ module _ {T : Type 0} where
     pub empty : (slot_at old p).set ≡ None
     pub within : p < length new
     pub next : (slot_at old p).generation < 4294967295
-    pub here : slot_at new p ≡ record { generation = (slot_at old p).generation; layout = layout; layout_generation = generations layout; used = Taken; leaves = false; set = Some set }
+    pub here : slot_at new p ≡ taken_slot (slot_at old p).generation layout (generations layout) set
     pub others : (q : ℕ) → q ≢ p → slot_at new q ≡ slot_at old q
     -- the table grows only if each slot has a set, or had its last generation
     pub grows : (length new ≡ length old) ⊎ ((length new ≡ length old + 1) × AreAllUsed old)
@@ -330,20 +326,20 @@ module _ {T : Type 0} where
 
   -- the lists of sets are as they were
   pub record KeepsLists (old new : SetTable T) : Type 0 where
-    pub chains : new.chains.items ≡ old.chains.items
-    pub next : new.next.items ≡ old.next.items
+    pub chains : chains_in new.lists.items ≡ chains_in old.lists.items
+    pub next : nexts_in new.slots ≡ nexts_in old.slots
 
   -- a slot came first into a list, and the other lists are as they were
   pub record Pushes (k p : ℕ) (old new : SetTable T) : Type 0 where
-    pub there : k < length old.chains.items
-    pub chains : new.chains.items ≡ slice_set old.chains.items k (record { first = p; count = (chain_at old.chains.items k).count + 1 })
-    pub next : new.next.items ≡ slice_set old.next.items p (chain_at old.chains.items k).first
+    pub there : k < length (chains_in old.lists.items)
+    pub chains : chains_in new.lists.items ≡ slice_set (chains_in old.lists.items) k (record { first = p; count = (chain_at (chains_in old.lists.items) k).count + 1 })
+    pub next : nexts_in new.slots ≡ slice_set (nexts_in old.slots) p (chain_at (chains_in old.lists.items) k).first
 
   -- the slot that was first left a list, and the other lists are as they were
   pub record Pops (k p : ℕ) (old new : SetTable T) : Type 0 where
-    pub first : (chain_at old.chains.items k).first ≡ p
-    pub chains : new.chains.items ≡ slice_set old.chains.items k (record { first = slice_index_or old.next.items p 0; count = (chain_at old.chains.items k).count - 1 })
-    pub next : new.next.items ≡ old.next.items
+    pub first : (chain_at (chains_in old.lists.items) k).first ≡ p
+    pub chains : chains_in new.lists.items ≡ slice_set (chains_in old.lists.items) k (record { first = slice_index_or (nexts_in old.slots) p 0; count = (chain_at (chains_in old.lists.items) k).count - 1 })
+    pub next : nexts_in new.slots ≡ nexts_in old.slots
 
   -- the set of a slot came first into the list of those that are kept, or of those that go
   pub record JoinsList (p : ℕ) (old new : SetTable T) : Type 0 where

@@ -1,5 +1,7 @@
 //! The handles of sets.
-ghost use Rattle.std.specs.Prelude.{◌≡◌};
+ghost use Rattle.std.specs.Prelude.{◌≡◌, List, map};
+ghost use Rattle.std.proofs.Common.{sym};
+ghost use Rattle.std.proofs.lemmas.List.{map-id};
 
 /// A set of a renderer: one that is held until it is freed or destroyed, or one of a frame. Only the
 /// renderer that gave it has the set, and it names no other set later.
@@ -28,4 +30,45 @@ pub fn place_of(handle: SetHandle) -> u32
     ensures { result ≡ handle.place }
 {
     handle.place
+}
+
+/// What a caller names a set of type `T` by: its handle, perhaps with something of the set.
+pub trait SetName<T> {
+    ghost use Rattle.descriptor_table.specs.declared.handle.SetHandle.{SetHandle};
+
+    /// The handle of a name.
+    ghost handle_of: { Self → SetHandle };
+
+    /// The handles of names.
+    ghost handles_of: { List Self → List SetHandle };
+
+    /// The handle.
+    fn handle(&self) -> SetHandle
+        ensures { result ≡ handle_of self.now };
+
+    /// The name of a set under a handle. There is a set: with an `Option` no test for it is left in a loop
+    /// over sets.
+    fn of(handle: SetHandle, set: Option<&T>) -> Self
+        ensures { handle_of result ≡ handle };
+
+    /// The handles of names are those of each.
+    ghost each: { (names : List Self) → handles_of names ≡ map handle_of names };
+}
+
+impl<T> SetName<T> for SetHandle {
+    ghost handle_of = { λ handle. handle };
+
+    ghost handles_of = { λ handles. handles };
+
+    ghost each = { λ handles. sym (map-id handles) };
+
+    #[inline]
+    fn handle(&self) -> SetHandle {
+        *self
+    }
+
+    #[inline]
+    fn of(handle: SetHandle, _set: Option<&T>) -> Self {
+        handle
+    }
 }

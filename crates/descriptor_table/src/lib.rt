@@ -6,7 +6,8 @@ mod giving;
 mod handle;
 mod set_table;
 mod slot;
+mod slot_list;
 
 pub use giving::{Due, Giving};
-pub use handle::{SetHandle, place_of};
+pub use handle::{SetHandle, SetName, place_of};
 pub use set_table::SetTable;

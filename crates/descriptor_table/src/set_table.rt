@@ -2,8 +2,7 @@
 ghost use Rattle.std.specs.Prelude.{◌≡◌, ◌+◌, ◌<◌, [], length, IsOk, OnErr, OnOk};
 ghost use Rattle.std.specs.Option.{option_copied};
 ghost use Rattle.std.specs.VecDeque.{deque_capacity};
-ghost use Rattle.descriptor_table.specs.Slots.{AreFew, AreFramed, AreLinked, AreSized};
-ghost use Rattle.descriptor_table.specs.Slots.{HasFrames, HasLists, generation_at};
+ghost use Rattle.descriptor_table.specs.Slots.{AreSound, chains_in, generation_at, generations_in};
 
 mod back;
 mod counts;
@@ -14,7 +13,8 @@ mod lists;
 mod sets;
 
 use crate::handle::SetHandle;
-use crate::slot::{Chain, FrameChain, Slot, Use};
+use crate::slot::{FrameChain, ListHead, Use};
+use crate::slot_list::SlotList;
 use std::alloc::{AllocError, Global};
 use std::collections::VecDeque;
 use std::vec::Vec;
@@ -36,30 +36,18 @@ pub(crate) const KEPT: usize = 2;
 pub struct SetTable<T> {
     /// The number of the renderer, which tells its handles from those of others.
     pub(crate) number: u64,
-    pub(crate) slots: Vec<Slot<T>>,
-
-    /// For each slot the next of the list that it is in.
-    pub(crate) next: Vec<u32>,
+    pub(crate) slots: SlotList<T>,
 
     /// The lists, but for those of sets that wait.
-    pub(crate) chains: Vec<Chain>,
-
-    /// For each list how many layouts of its number were removed. A set that came under one of these
-    /// isn't kept when it comes back.
-    pub(crate) generations: Vec<u32>,
+    pub(crate) lists: Vec<ListHead>,
 
     /// The lists of sets that wait, by rising frames. None is empty.
     pub(crate) frames: VecDeque<FrameChain>,
 
     /// How many sets of a layout are kept at most.
     pub(crate) keep: u32,
-    ghost sized: { AreSized (length slots.items) (length next.items) (deque_capacity frames) },
-    ghost linked: { AreLinked slots.items next.items chains.items },
-    ghost framed: { AreFramed slots.items next.items frames.items },
-    ghost rising: { HasFrames frames.items },
-    ghost counted: { length generations.items ≡ length chains.items },
-    ghost known: { HasLists slots.items (length chains.items) (generation_at generations.items) },
-    ghost few: { AreFew keep chains.items },
+    ghost sound: { AreSound slots (chains_in lists.items) (generations_in lists.items) frames.items
+        (deque_capacity frames) keep },
 }
 
 impl<T> SetTable<T> {
@@ -79,10 +67,8 @@ impl<T> SetTable<T> {
     {
         SetTable {
             number,
-            slots: Vec::new(alloc),
-            next: Vec::new(alloc),
-            chains: Vec::new(alloc),
-            generations: Vec::new(alloc),
+            slots: SlotList::new(alloc),
+            lists: Vec::new(alloc),
             frames: VecDeque::new(alloc),
             keep: u32::MAX,
         }
@@ -97,8 +83,8 @@ impl<T> SetTable<T> {
         if handle.renderer != self.number {
             return None;
         }
-        let slot = self.slots.get(handle.place as usize)?;
-        if slot.generation != handle.generation || !slot.used.is_live(frame, is_open) {
+        let slot = self.slots.get(handle.place)?;
+        if slot.generation != handle.generation || !slot.used().is_live(frame, is_open) {
             return None;
         }
         slot.set.as_ref()
@@ -112,13 +98,13 @@ impl<T> SetTable<T> {
         if handle.renderer != self.number {
             return false;
         }
-        let Some(slot) = self.slots.get(handle.place as usize) else {
+        let Some(slot) = self.slots.get(handle.place) else {
             return false;
         };
         if slot.generation != handle.generation {
             return false;
         }
-        match slot.used {
+        match slot.used() {
             Use::Held => slot.set.is_some(),
             Use::Drawn(_) | Use::Waits(_) | Use::Kept | Use::Going | Use::Taken | Use::Vacant =>
                 false,
@@ -152,7 +138,6 @@ impl<T> SetTable<T> {
             return Err(AllocError);
         }
         self.slots.reserve(additional as usize)?;
-        self.next.reserve(additional as usize)?;
         let places = places as usize;
         self.frames
             .reserve(places.saturating_sub(self.frames.len()))

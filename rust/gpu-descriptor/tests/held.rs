@@ -42,5 +42,5 @@ fn bytes_of_a_set(is_one_request: bool) -> usize {
 /// README says so.
 #[test]
 fn memory_of_a_held_set() {
-    assert_eq!((bytes_of_a_set(false), bytes_of_a_set(true)), (84, 108));
+    assert_eq!((bytes_of_a_set(false), bytes_of_a_set(true)), (80, 104));
 }

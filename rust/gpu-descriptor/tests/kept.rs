@@ -744,13 +744,13 @@ fn a_request_of_the_whole_limit_frees_kept_sets() {
 /// No memory for a slot: the device isn't asked, and kept sets stay.
 #[test]
 fn a_request_without_memory_for_a_slot_leaves_kept_sets() {
-    for number in 0..3 {
+    for number in 0..2 {
         let gpu = Gpu::default();
         let (mut it, layouts) = renderer(&gpu, u32::MAX);
         let four = it.create_sets(layouts[0], 4).unwrap();
         free(&mut it, &four);
         let device_calls = gpu.calls.get();
-        // Each of the three lists of the table is full.
+        // The slots and the lists of frames are full.
         let (answer, calls) = with_refused(number, || it.create_set(layouts[2]));
         assert_eq!(answer, Err(RenderError::Allocation(OutOfHostMemory)));
         assert_eq!(calls, number + 1);

@@ -12,8 +12,8 @@ ghost use Rattle.descriptor_renderer.specs.Stores.{current_in};
 use super::Renderer;
 use crate::errors::{DestroyError, RenderError};
 use crate::layout_registry::LayoutHandle;
-use descriptor_table::SetHandle;
-use gpu_descriptor::{AllocationError, DescriptorDevice};
+use descriptor_table::{SetHandle, SetName};
+use gpu_descriptor::{AllocationError, DescriptorDevice, DescriptorSet};
 
 impl<L: Drop, P: Drop, S: Drop, D: DescriptorDevice<L, P, S>> Renderer<L, P, S, D> {
     ghost use Rattle.gpu_descriptor.specs.declared.errors.AllocationError.{AllocationError};
@@ -50,7 +50,7 @@ impl<L: Drop, P: Drop, S: Drop, D: DescriptorDevice<L, P, S>> Renderer<L, P, S, 
         }
     }
 
-    /// Creates a set of a layout for each place of `sets`, all or none, and writes their handles there:
+    /// Creates a set of a layout for each place of `sets`, all or none, and writes their names there:
     /// each is held until it is freed or destroyed. Kept sets come first; the others are new, in one
     /// request. On an error `sets` stays as it was. It allocates only what the new sets need.
     ///
@@ -60,15 +60,15 @@ impl<L: Drop, P: Drop, S: Drop, D: DescriptorDevice<L, P, S>> Renderer<L, P, S, 
     /// an allocation of its own failed before the allocator was asked. More than `u32::MAX` sets are
     /// `OutOfHostMemory`.
     #[inline]
-    pub fn create_sets(
+    pub fn create_sets<N: SetName<DescriptorSet<S>> + Drop>(
         &mut self,
         layout: LayoutHandle,
-        sets: &mut [SetHandle],
+        sets: &mut [N],
     ) -> Result<(), RenderError>
         ensures creates { OnOk result (IfSome (layout_of self.old layout) (λ known.
-            ComeEach known.layout sets.new self.old self.new
+            ComeEach known.layout (N.handles_of sets.new) self.old self.new
             × HoldAtLast (number_of self.old) (current_in layout.slot.place (store_of self.old))
-            sets.new (slots_of self.old) (slots_of self.new))) }
+            (N.handles_of sets.new) (slots_of self.old) (slots_of self.new))) }
         ensures kept { length sets.old ≤ kept_of layout self.old → side_of self.new
             ≡ side_of self.old }
         ensures fits { IsSome (layout_of self.old layout) → length sets.old
@@ -105,12 +105,18 @@ impl<L: Drop, P: Drop, S: Drop, D: DescriptorDevice<L, P, S>> Renderer<L, P, S, 
     ///
     /// It returns `NoSet` if a handle names no set that the renderer holds, or is in the list
     /// twice. Then nothing changed.
-    pub fn free_sets(&mut self, sets: &[SetHandle]) -> Result<(), DestroyError>
-        ensures frees { OnOk result (FreesEach sets.now (store_of self.old) (store_of self.new)) }
-        ensures names { OnOk result (LoseNames sets.now (sets_by self.old) (sets_by self.new)) }
-        ensures once { OnOk result (AreHeldOnce (number_of self.old) (slots_of self.old) sets.now) }
+    pub fn free_sets<N: SetName<DescriptorSet<S>>>(
+        &mut self,
+        sets: &[N],
+    ) -> Result<(), DestroyError>
+        ensures frees { OnOk result (FreesEach (N.handles_of sets.now) (store_of self.old)
+            (store_of self.new)) }
+        ensures names { OnOk result (LoseNames (N.handles_of sets.now) (sets_by self.old)
+            (sets_by self.new)) }
+        ensures once { OnOk result (AreHeldOnce (number_of self.old) (slots_of self.old)
+            (N.handles_of sets.now)) }
         ensures no_set { IfErr result (λ e. (e ≡ DestroyError.NoSet)
-            × ¬ (AreHeldOnce (number_of self.old) (slots_of self.old) sets.now)) }
+            × ¬ (AreHeldOnce (number_of self.old) (slots_of self.old) (N.handles_of sets.now))) }
         ensures stay { OnErr result (seen self.new ≡ seen self.old) }
         ensures rest { OnlySetsChange self.old self.new }
     {
@@ -133,8 +139,12 @@ impl<L: Drop, P: Drop, S: Drop, D: DescriptorDevice<L, P, S>> Renderer<L, P, S, 
     ///
     /// It returns `FrameAhead` if the frame is later than `frame()`, and otherwise `NoSet` if a handle
     /// names no set that the renderer holds, or is in the list twice. Then nothing changed.
-    pub fn destroy_sets(&mut self, sets: &[SetHandle], last_use: u64) -> Result<(), DestroyError>
-        ensures { Destroys sets.now last_use result self.old self.new }
+    pub fn destroy_sets<N: SetName<DescriptorSet<S>>>(
+        &mut self,
+        sets: &[N],
+        last_use: u64,
+    ) -> Result<(), DestroyError>
+        ensures { Destroys (N.handles_of sets.now) last_use result self.old self.new }
     {
         if last_use > self.frame {
             return Err(DestroyError::FrameAhead);

@@ -3,8 +3,8 @@ ghost use Rattle.std.specs.Prelude.{◌≡◌, ℕ, ◌<◌, ◌≤◌, ◌↔�
 ghost use Rattle.gpu_descriptor.specs.Caller.CleansUp.{TrimsPools};
 
 use super::Store;
-use descriptor_table::{Due, Giving, SetHandle};
-use gpu_descriptor::DescriptorDevice;
+use descriptor_table::{Due, Giving, SetName};
+use gpu_descriptor::{DescriptorDevice, DescriptorSet};
 
 impl<L: Drop, P: Drop, S: Drop, D: DescriptorDevice<L, P, S>> Store<L, P, S, D> {
     ghost use Rattle.descriptor_table.specs.Sets.{AreHeldOnce, sets_in};
@@ -96,40 +96,44 @@ impl<L: Drop, P: Drop, S: Drop, D: DescriptorDevice<L, P, S>> Store<L, P, S, D> 
         self.give();
     }
 
-    /// Frees the held sets of handles at once: they are kept, or go back to their pools. If a handle
-    /// has none, or is in the list twice, nothing changes, and it returns `false`.
-    pub(crate) fn free_each(&mut self, handles: &[SetHandle]) -> bool
+    /// Frees the held sets of names at once: they are kept, or go back to their pools. If a name has
+    /// none, or is in the list twice, nothing changes, and it returns `false`.
+    pub(crate) fn free_each<N: SetName<DescriptorSet<S>>>(&mut self, names: &[N]) -> bool
         requires rest { IsAtRest self.old }
         ensures once { IsTrue result ↔ AreHeldOnce (number_of self.old) (slots_in self.old)
-            handles.now }
-        ensures frees { IsTrue result → FreesEach handles.now self.old self.new }
+            (N.handles_of names.now) }
+        ensures frees { IsTrue result → FreesEach (N.handles_of names.now) self.old self.new }
         ensures none { IsFalse result → (slots_in self.new ≡ slots_in self.old)
             × (side_of self.new ≡ side_of self.old) }
         ensures settles { Settles NoneComes self.old self.new }
     {
-        if !self.table.settle_held(handles) {
+        if !self.table.settle_held(names) {
             return false;
         }
         self.give();
         true
     }
 
-    /// Lets the held sets of handles wait for a frame. If a handle has none, or is in the list twice,
+    /// Lets the held sets of names wait for a frame. If a name has none, or is in the list twice,
     /// nothing changes, and it returns `false`.
-    pub(crate) fn wait_each(&mut self, handles: &[SetHandle], frame: u64) -> bool
+    pub(crate) fn wait_each<N: SetName<DescriptorSet<S>>>(
+        &mut self,
+        names: &[N],
+        frame: u64,
+    ) -> bool
         requires rest { IsAtRest self.old }
         ensures once { IsTrue result ↔ AreHeldOnce (number_of self.old) (slots_in self.old)
-            handles.now }
-        ensures waits { IsTrue result → TurnEach handles.now (Becomes (used_for (Use.Waits frame)))
-            (slots_in self.old) (slots_in self.new) }
+            (N.handles_of names.now) }
+        ensures waits { IsTrue result → TurnEach (N.handles_of names.now)
+            (Becomes (used_for (Use.Waits frame))) (slots_in self.old) (slots_in self.new) }
         ensures none { IsFalse result → slots_in self.new ≡ slots_in self.old }
         ensures side { side_of self.new ≡ side_of self.old }
         ensures settles { Settles NoneComes self.old self.new }
     {
-        if !self.table.take_each(handles) {
+        if !self.table.take_each(names) {
             return false;
         }
-        self.table.wait_each(handles, frame);
+        self.table.wait_each(names, frame);
         true
     }
 

@@ -1,12 +1,12 @@
-//! Sets that are taken for handles, many at once: kept ones first.
+//! Sets that are taken for names, many at once: kept ones first.
 ghost use Rattle.std.specs.Prelude.{◌≡◌, ℕ, ◌+◌, ◌-◌, ◌<◌, ◌≤◌, [], ◌∷◌, length, IfErr, OnErr, OnOk, Ok};
 ghost use Rattle.std.specs.Prelude.{true, Bool};
 ghost use Rattle.gpu_descriptor.specs.Caller.SetLayouts.{IsMeant};
 ghost use Rattle.gpu_descriptor.specs.Caller.Sets.{AreOfLayout};
 
 use super::Store;
-use descriptor_table::SetHandle;
-use gpu_descriptor::{AllocationError, DescriptorDevice, SetLayout};
+use descriptor_table::{SetHandle, SetName};
+use gpu_descriptor::{AllocationError, DescriptorDevice, DescriptorSet, SetLayout};
 
 impl<L: Drop, P: Drop, S: Drop, D: DescriptorDevice<L, P, S>> Store<L, P, S, D> {
     ghost use Rattle.descriptor_table.specs.Sets.{NameEach, sets_of};
@@ -82,19 +82,20 @@ impl<L: Drop, P: Drop, S: Drop, D: DescriptorDevice<L, P, S>> Store<L, P, S, D> 
         }
     }
 
-    /// Holds kept sets of a layout, and writes their handles.
+    /// Holds kept sets of a layout, and writes their names.
     #[inline]
-    fn hold_kept(&mut self, layout: u32, handles: &mut [SetHandle])
-        requires kept { length handles.old ≤ kept_of layout self.old }
-        ensures holds { HoldEach (number_of self.old) (current_in layout self.old) handles.new
-            (slots_in self.old) (slots_in self.new) }
-        ensures were_kept { (i : ℕ) → i < length handles.old → is_kept_of layout (slot_at
-            (slots_in self.old) (place_at handles.new i)) ≡ true }
-        ensures long { length handles.new ≡ length handles.old }
+    fn hold_kept<N: SetName<DescriptorSet<S>> + Drop>(&mut self, layout: u32, names: &mut [N])
+        requires kept { length names.old ≤ kept_of layout self.old }
+        ensures holds { HoldEach (number_of self.old) (current_in layout self.old)
+            (N.handles_of names.new) (slots_in self.old) (slots_in self.new) }
+        ensures were_kept { (i : ℕ) → i < length names.old → is_kept_of layout (slot_at
+            (slots_in self.old) (place_at (N.handles_of names.new) i)) ≡ true }
+        ensures long { length names.new ≡ length names.old }
         ensures keeps { HoldsKept self.old self.new }
     {
-        for index in 0..handles.len() {
-            handles[index] = self.hold_next(layout);
+        for index in 0..names.len() {
+            let handle = self.hold_next(layout);
+            names[index] = self.table.name_of(handle);
         }
     }
 
@@ -120,51 +121,53 @@ impl<L: Drop, P: Drop, S: Drop, D: DescriptorDevice<L, P, S>> Store<L, P, S, D> 
         }
     }
 
-    /// Holds the sets that are on their way, and writes their handles.
-    fn hold_coming(&mut self, layout: u32, handles: &mut [SetHandle])
+    /// Holds the sets that are on their way, and writes their names.
+    fn hold_coming<N: SetName<DescriptorSet<S>> + Drop>(&mut self, layout: u32, names: &mut [N])
         requires can { CanHold layout self.old }
-        requires as_many { length handles.old ≡ length (coming_in self.old) }
-        ensures holds { HoldEach (number_of self.old) (current_in layout self.old) handles.new
-            (slots_in self.old) (slots_in self.new) }
+        requires as_many { length names.old ≡ length (coming_in self.old) }
+        ensures holds { HoldEach (number_of self.old) (current_in layout self.old)
+            (N.handles_of names.new) (slots_in self.old) (slots_in self.new) }
         ensures none { coming_in self.new ≡ [] }
-        ensures long { length handles.new ≡ length handles.old }
+        ensures long { length names.new ≡ length names.old }
         ensures keeps { HoldsComing layout self.old self.new }
     {
-        for index in 0..handles.len() {
-            handles[index] = self.hold_last(layout);
+        for index in 0..names.len() {
+            let handle = self.hold_last(layout);
+            names[index] = self.table.name_of(handle);
         }
     }
 
-    /// Takes a set of a layout for each place of `handles`, kept ones first, and writes their handles. The
+    /// Takes a set of a layout for each place of `names`, kept ones first, and writes their names. The
     /// sets are held. On an error none is taken.
-    pub(crate) fn create_each(
+    pub(crate) fn create_each<N: SetName<DescriptorSet<S>> + Drop>(
         &mut self,
         known: &SetLayout<L>,
         layout: u32,
-        handles: &mut [SetHandle],
+        names: &mut [N],
     ) -> Result<(), AllocationError>
         requires can { CanTake known.now layout self.old }
-        requires few { length handles.old ≤ 4294967295 }
-        ensures creates { OnOk result (((frame : ℕ) (opened : Bool) → NameEach handles.new
+        requires few { length names.old ≤ 4294967295 }
+        ensures creates { OnOk result (((frame : ℕ) (opened : Bool) → NameEach
+            (N.handles_of names.new)
             (sets_of (number_of self.old) frame opened (slots_in self.old))
             (sets_of (number_of self.old) frame opened (slots_in self.new)))
-            × HoldAtLast (number_of self.old) (current_in layout self.old) handles.new
+            × HoldAtLast (number_of self.old) (current_in layout self.old) (N.handles_of names.new)
             (slots_in self.old) (slots_in self.new)) }
-        ensures kept { length handles.old ≤ kept_of layout self.old → (result ≡ Ok tt)
+        ensures kept { length names.old ≤ kept_of layout self.old → (result ≡ Ok tt)
             × (side_of self.new ≡ side_of self.old) }
-        ensures comes { kept_of layout self.old < length handles.old → OnOk result (BringsAtLast
-            known.now.layout (length handles.old - kept_of layout self.old) (length handles.old)
+        ensures comes { kept_of layout self.old < length names.old → OnOk result (BringsAtLast
+            known.now.layout (length names.old - kept_of layout self.old) (length names.old)
             self.old self.new) }
         ensures refused { IfErr result (λ error. IsRefusedAtLast known.now.layout
-            (length handles.old - kept_of layout self.old) (length handles.old) error self.old
+            (length names.old - kept_of layout self.old) (length names.old) error self.old
             self.new) }
-        ensures long { length handles.new ≡ length handles.old }
-        ensures handles { OnErr result (handles.new ≡ handles.old) }
+        ensures long { length names.new ≡ length names.old }
+        ensures names { OnErr result (names.new ≡ names.old) }
         ensures settles { Settles (ComesOf D.meaning known.now.layout layout) self.old self.new }
         ensures grows { Grows (slots_in self.old) (slots_in self.new) }
     {
-        self.bring(known, layout, handles.len() as u32)?;
-        let (kept, new) = handles.split_at_mut(handles.len() - self.coming.len());
+        self.bring(known, layout, names.len() as u32)?;
+        let (kept, new) = names.split_at_mut(names.len() - self.coming.len());
         self.hold_kept(layout, kept);
         self.hold_coming(layout, new);
         Ok(())

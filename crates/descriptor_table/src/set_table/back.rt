@@ -2,13 +2,13 @@
 ghost use Rattle.std.specs.Prelude.{◌≡◌, ◌↔◌, ◌+◌, ◌<◌, ◌≤◌, ℕ, true, false, IsFalse, IsTrue, length};
 
 use super::{GOING, KEPT, SetTable};
-use crate::handle::SetHandle;
+use crate::handle::SetName;
 use crate::slot::Use;
 
 impl<T> SetTable<T> {
     ghost use Rattle.descriptor_table.specs.declared.set_table.SetTable.{SetTable};
     ghost use Rattle.descriptor_table.specs.Sets.{AreHeldOnce};
-    ghost use Rattle.descriptor_table.specs.Slots.{chain_at, is_due, is_in, is_kept_of, slot_at};
+    ghost use Rattle.descriptor_table.specs.Slots.{chain_at, chains_in, is_due, is_in, is_kept_of, slot_at};
     ghost use Rattle.descriptor_table.specs.Tables.{AreAllTaken, At, AtIf, Becomes, Changes, HasTaken};
     ghost use Rattle.descriptor_table.specs.Tables.{IsBack, JoinsList, KeepsUpTo, MayBecome, PicksAbove, Pops};
     ghost use Rattle.descriptor_table.specs.Tables.{SettleEach, Stays, TurnEach, Turns, count};
@@ -23,7 +23,7 @@ impl<T> SetTable<T> {
         ensures { result ≡ may_stay (generations_of self.now) (keep_of self.now)
             (slots_of self.now) (slot_at (slots_of self.now) place) }
     {
-        let slot = &self.slots[place];
+        let slot = self.slots.at(place);
         !slot.leaves
             && slot.generation < u32::MAX
             && slot.layout_generation == self.generation(slot.layout)
@@ -39,7 +39,7 @@ impl<T> SetTable<T> {
         ensures joins { JoinsList place self.old self.new }
     {
         if self.may_stay(place) {
-            let list = self.slots[place].layout as usize + KEPT;
+            let list = self.slots.at(place).layout as usize + KEPT;
             self.link(list, place, Use::Kept);
             return;
         }
@@ -62,28 +62,28 @@ impl<T> SetTable<T> {
         requires { place < length (slots_of self.now) }
         ensures { result ≡ is_taken (slot_at (slots_of self.now) place) }
     {
-        let slot = &self.slots[place];
-        match slot.used {
+        let slot = self.slots.at(place);
+        match slot.used() {
             Use::Taken => slot.set.is_some(),
             Use::Held | Use::Drawn(_) | Use::Waits(_) | Use::Kept | Use::Going | Use::Vacant =>
                 false,
         }
     }
 
-    /// Frees the held sets of handles, all or none: each is kept, or goes. If a handle has no held set,
+    /// Frees the held sets of names, all or none: each is kept, or goes. If a name has no held set,
     /// or is in the list twice, no set is freed, and it returns `false`.
-    pub fn settle_held(&mut self, handles: &[SetHandle]) -> bool
+    pub fn settle_held<N: SetName<T>>(&mut self, names: &[N]) -> bool
         ensures once { IsTrue result ↔ AreHeldOnce (number_of self.old) (slots_of self.old)
-            handles.now }
-        ensures back { IsTrue result → TurnEach handles.now (IsBack (used_for Use.Going)
+            (N.handles_of names.now) }
+        ensures back { IsTrue result → TurnEach (N.handles_of names.now) (IsBack (used_for Use.Going)
             (generations_of self.old) (keep_of self.old)) (slots_of self.old) (slots_of self.new) }
         ensures none { IsFalse result → slots_of self.new ≡ slots_of self.old }
         ensures stays { Stays self.old self.new }
     {
-        for index in 0..handles.len() {
-            let handle = handles[index];
+        for index in 0..names.len() {
+            let handle = names[index].handle();
             if !self.holds(handle) {
-                self.unsettle(handles, index);
+                self.unsettle(names, index);
                 return false;
             }
             self.assign(handle.place as usize, Use::Taken);
@@ -92,16 +92,17 @@ impl<T> SetTable<T> {
         true
     }
 
-    /// The sets of the first handles, each of which came first into its list, are held as before.
+    /// The sets of the first names, each of which came first into its list, are held as before.
     #[cold]
-    fn unsettle(&mut self, handles: &[SetHandle], count: usize)
-        requires few { count ≤ length handles.now }
-        requires settled { (before : SetTable T) × SettleEach handles.now count before self.old }
-        ensures { Changes (λ settled back. (before : SetTable T) → SettleEach handles.now count before
-            self.old → back ≡ slots_of before) self.old self.new }
+    fn unsettle<N: SetName<T>>(&mut self, names: &[N], count: usize)
+        requires few { count ≤ length names.now }
+        requires settled { (before : SetTable T) × SettleEach (N.handles_of names.now) count before
+            self.old }
+        ensures { Changes (λ settled back. (before : SetTable T) → SettleEach (N.handles_of names.now)
+            count before self.old → back ≡ slots_of before) self.old self.new }
     {
         for index in 0..count {
-            self.hold_again(handles[count - 1 - index].place as usize);
+            self.hold_again(names[count - 1 - index].handle().place as usize);
         }
     }
 
@@ -109,7 +110,7 @@ impl<T> SetTable<T> {
     fn hold_again(&mut self, place: usize)
         requires listed { is_in (list_of (slot_at (slots_of self.old) place))
             (slot_at (slots_of self.old) place) ≡ true }
-        requires first { (chain_at self.old.chains.items
+        requires first { (chain_at (chains_in self.old.lists.items)
             (list_of (slot_at (slots_of self.old) place))).first ≡ place }
         ensures held { Changes (At place (used_for Use.Held)) self.old self.new }
         ensures pops { Pops (list_of (slot_at (slots_of self.old) place)) place self.old self.new }
@@ -126,8 +127,8 @@ impl<T> SetTable<T> {
         requires { place < length (slots_of self.now) }
         ensures { result ≡ list_of (slot_at (slots_of self.now) place) }
     {
-        let slot = &self.slots[place];
-        match slot.used {
+        let slot = self.slots.at(place);
+        match slot.used() {
             Use::Kept => slot.layout as usize + KEPT,
             Use::Held | Use::Drawn(_) | Use::Waits(_) | Use::Going | Use::Taken | Use::Vacant =>
                 GOING,
@@ -146,14 +147,14 @@ impl<T> SetTable<T> {
         self.wait(place, frame, Use::Waits(frame));
     }
 
-    /// The sets of handles, which were taken, wait for a frame. There are no others that were taken.
-    pub fn wait_each(&mut self, handles: &[SetHandle], frame: u64)
-        requires taken { AreAllTaken handles.now (slots_of self.old) }
+    /// The sets of names, which were taken, wait for a frame. There are no others that were taken.
+    pub fn wait_each<N: SetName<T>>(&mut self, names: &[N], frame: u64)
+        requires taken { AreAllTaken (N.handles_of names.now) (slots_of self.old) }
         ensures { Changes (Turns is_taken (Becomes (used_for (Use.Waits frame)))) self.old
             self.new }
     {
-        for index in 0..handles.len() {
-            self.wait_taken(handles[index].place as usize, frame);
+        for index in 0..names.len() {
+            self.wait_taken(names[index].handle().place as usize, frame);
         }
     }
 
@@ -173,17 +174,17 @@ impl<T> SetTable<T> {
         requires { place < length (slots_of self.old) }
         ensures { Changes (AtIf holds place (used_for Use.Going)) self.old self.new }
     {
-        let slot = &mut self.slots[place];
-        match slot.used {
+        let slot = self.slots.at(place);
+        match slot.used() {
             Use::Held => {
                 if slot.set.is_none() {
                     return;
                 }
-                slot.used = Use::Taken;
             }
             Use::Drawn(_) | Use::Waits(_) | Use::Kept | Use::Going | Use::Taken | Use::Vacant =>
                 return,
         }
+        self.assign(place, Use::Taken);
         self.link(GOING, place, Use::Going);
     }
 
@@ -237,7 +238,7 @@ impl<T> SetTable<T> {
         ensures as_many { (layout : ℕ) → KeepsUpTo most (is_kept_of layout) (slots_of self.old)
             (slots_of self.new) }
     {
-        for list in KEPT..self.chains.len() {
+        for list in KEPT..self.lists.len() {
             self.trim_list(list, most);
         }
     }

@@ -4,7 +4,7 @@ ghost use Rattle.std.specs.Prelude.{◌≡◌, ◌≤◌, ℕ, length};
 use super::{KEPT, SetTable};
 
 impl<T> SetTable<T> {
-    ghost use Rattle.descriptor_table.specs.Slots.{chain_at};
+    ghost use Rattle.descriptor_table.specs.Slots.{chain_at, chains_in};
     ghost use Rattle.descriptor_table.specs.Tables.{OnlySettings, count, is_kept, keep_of};
     ghost use Rattle.descriptor_table.specs.Tables.{settings_of, slots_of, waits};
 
@@ -26,7 +26,7 @@ impl<T> SetTable<T> {
 
     /// Keeps at most so many sets of a layout from now on. No more than that are kept when it is called.
     pub fn set_keep(&mut self, most: u32)
-        requires { (k : ℕ) → 2 ≤ k → (chain_at self.old.chains.items k).count ≤ most }
+        requires { (k : ℕ) → 2 ≤ k → (chain_at (chains_in self.old.lists.items) k).count ≤ most }
         ensures { OnlySettings (record (settings_of self.old) { keep = most }) self.old self.new }
     {
         self.keep = most;
@@ -37,7 +37,7 @@ impl<T> SetTable<T> {
         ensures { result ≡ count is_kept (slots_of self.now) }
     {
         let mut total = 0;
-        for list in KEPT..self.chains.len() {
+        for list in KEPT..self.lists.len() {
             total += u64::from(self.chain(list).count);
         }
         total

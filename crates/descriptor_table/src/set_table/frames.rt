@@ -106,10 +106,9 @@ impl<T> SetTable<T> {
         ensures { Changes (At place (used_for used)) self.old self.new }
     {
         let chain = &mut self.frames[at];
-        self.next[place] = chain.first;
+        self.slots.link(place, chain.first, used);
         chain.first = place as u32;
         chain.count += 1;
-        self.slots[place].used = used;
     }
 
     /// Begins the list of a frame with a slot.
@@ -129,7 +128,7 @@ impl<T> SetTable<T> {
             count: 1,
         };
         put_list(&mut self.frames, at, chain);
-        self.slots[place].used = used;
+        self.slots.set_use(place, used);
     }
 
     /// Takes a set that waits for a frame up to this one, if there is one.
@@ -171,7 +170,7 @@ impl<T> SetTable<T> {
         match self.frames.pop_front() {
             Some(chain) => {
                 let place = chain.first as usize;
-                self.slots[place].used = Use::Taken;
+                self.slots.set_use(place, Use::Taken);
                 place
             }
             None => unreachable!(),
@@ -188,9 +187,10 @@ impl<T> SetTable<T> {
     {
         let chain = &mut self.frames[0];
         let place = chain.first as usize;
-        chain.first = self.next[place];
+        let next = self.slots.at(place).next;
+        self.slots.set_use(place, Use::Taken);
+        chain.first = next;
         chain.count -= 1;
-        self.slots[place].used = Use::Taken;
         place
     }
 }

@@ -1,12 +1,12 @@
-//! Sets that are taken by their handles, all or none.
+//! Sets that are taken by their names, all or none.
 ghost use Rattle.std.specs.Prelude.{◌≡◌, ◌<◌, ◌≤◌, ◌↔◌, List, IsTrue, IsFalse, length};
 
 use super::SetTable;
-use crate::handle::SetHandle;
+use crate::handle::SetName;
 use crate::slot::Use;
 
 impl<T> SetTable<T> {
-    ghost use Rattle.descriptor_table.specs.declared.slot.Slot.{Slot};
+    ghost use Rattle.descriptor_table.specs.Slots.{Slot};
     ghost use Rattle.descriptor_table.specs.Sets.{AreHeldOnce};
     ghost use Rattle.descriptor_table.specs.Slots.{IsNowhere, slot_at};
     ghost use Rattle.descriptor_table.specs.Tables.{At, Changes, KeepsLists, Stays, TookEach, number_of};
@@ -21,23 +21,22 @@ impl<T> SetTable<T> {
         ensures changes { Changes (At place (used_for used)) self.old self.new }
         ensures lists { KeepsLists self.old self.new }
     {
-        self.slots[place].used = used;
+        self.slots.set_use(place, used);
     }
 
-    /// Takes the held sets of handles. If a handle has none, or is in the list twice, no set is
-    /// taken.
-    pub fn take_each(&mut self, handles: &[SetHandle]) -> bool
+    /// Takes the held sets of names. If a name has none, or is in the list twice, no set is taken.
+    pub fn take_each<N: SetName<T>>(&mut self, names: &[N]) -> bool
         ensures once { IsTrue result ↔ AreHeldOnce (number_of self.old) (slots_of self.old)
-            handles.now }
-        ensures took { IsTrue result → TookEach handles.now (length handles.now)
-            (slots_of self.old) (slots_of self.new) }
+            (N.handles_of names.now) }
+        ensures took { IsTrue result → TookEach (N.handles_of names.now)
+            (length (N.handles_of names.now)) (slots_of self.old) (slots_of self.new) }
         ensures none { IsFalse result → slots_of self.new ≡ slots_of self.old }
         ensures stays { Stays self.old self.new }
     {
-        for index in 0..handles.len() {
-            let handle = handles[index];
+        for index in 0..names.len() {
+            let handle = names[index].handle();
             if !self.holds(handle) {
-                self.put_back(handles, index);
+                self.put_back(names, index);
                 return false;
             }
             self.assign(handle.place as usize, Use::Taken);
@@ -45,17 +44,17 @@ impl<T> SetTable<T> {
         true
     }
 
-    /// The sets of the first handles, which were taken, are held as before.
+    /// The sets of the first names, which were taken, are held as before.
     #[cold]
-    fn put_back(&mut self, handles: &[SetHandle], count: usize)
-        requires few { count ≤ length handles.now }
-        requires took { (before : List (Slot T)) × TookEach handles.now count before
+    fn put_back<N: SetName<T>>(&mut self, names: &[N], count: usize)
+        requires few { count ≤ length names.now }
+        requires took { (before : List (Slot T)) × TookEach (N.handles_of names.now) count before
             (slots_of self.old) }
-        ensures { Changes (λ taken back. (before : List (Slot T)) → TookEach handles.now count before taken
-            → back ≡ before) self.old self.new }
+        ensures { Changes (λ taken back. (before : List (Slot T)) → TookEach (N.handles_of names.now)
+            count before taken → back ≡ before) self.old self.new }
     {
         for index in 0..count {
-            self.assign(handles[index].place as usize, Use::Held);
+            self.assign(names[index].handle().place as usize, Use::Held);
         }
     }
 }

@@ -3,7 +3,7 @@ ghost use Rattle.std.specs.Prelude.{◌≡◌, ◌↔◌, ◌+◌, ◌<◌, ℕ,
 ghost use Rattle.std.specs.Prelude.{vec_capacity};
 
 use super::{KEPT, SetTable};
-use crate::slot::Chain;
+use crate::slot::{Chain, ListHead};
 use std::alloc::AllocError;
 
 impl<T> SetTable<T> {
@@ -17,7 +17,7 @@ impl<T> SetTable<T> {
     pub fn has_layouts(&self) -> bool
         ensures { IsTrue result ↔ (0 < lists_of self.now) }
     {
-        self.chains.len() > 0
+        self.lists.len() > 0
     }
 
     /// Reserves memory for one layout more.
@@ -26,21 +26,20 @@ impl<T> SetTable<T> {
         ensures fits { HasListRoom self.old → IsOk result }
         ensures only { OnlySettings (settings_of self.old) self.old self.new }
     {
-        self.chains.reserve(KEPT + 1)?;
-        self.generations.reserve(KEPT + 1)
+        self.lists.reserve(KEPT + 1)
     }
 
     /// Adds a list without slots, over memory that was reserved.
     fn add_list(&mut self)
-        requires chains { lists_of self.old < vec_capacity self.old.chains }
-        requires generations { lists_of self.old < vec_capacity self.old.generations }
+        requires { lists_of self.old < vec_capacity self.old.lists }
         ensures only { OnlySettings (record (settings_of self.old)
             { lists = lists_of self.old + 1 }) self.old self.new }
-        ensures room { vec_capacity self.new.chains ≡ vec_capacity self.old.chains }
-        ensures more { vec_capacity self.new.generations ≡ vec_capacity self.old.generations }
+        ensures room { vec_capacity self.new.lists ≡ vec_capacity self.old.lists }
     {
-        self.chains.push_reserved(Chain { first: 0, count: 0 });
-        self.generations.push_reserved(0);
+        self.lists.push_reserved(ListHead {
+            chain: Chain { first: 0, count: 0 },
+            generation: 0,
+        });
     }
 
     /// Adds a layout, over memory that was reserved.
@@ -49,7 +48,7 @@ impl<T> SetTable<T> {
         ensures { OnlySettings (record (settings_of self.old)
             { lists = lists_with (lists_of self.old) }) self.old self.new }
     {
-        if self.chains.len() > 0 {
+        if self.lists.len() > 0 {
             self.add_list();
             return;
         }
@@ -64,7 +63,7 @@ impl<T> SetTable<T> {
         requires { place < length (slots_of self.old) }
         ensures { Changes (At place aged) self.old self.new }
     {
-        self.slots[place].leaves = true;
+        self.slots.age(place);
     }
 
     /// The sets that there are aren't kept when they come back.
@@ -87,6 +86,6 @@ impl<T> SetTable<T> {
         ensures past { (p : ℕ) → (slot_at (slots_of self.new) p).layout ≡ layout → (slot_at
             (slots_of self.new) p).layout_generation < generations_of self.new layout }
     {
-        self.generations[layout as usize + KEPT] += 1;
+        self.lists[layout as usize + KEPT].generation += 1;
     }
 }

@@ -6,7 +6,7 @@ use crate::handle::SetHandle;
 use crate::slot::{Chain, Use};
 
 impl<T> SetTable<T> {
-    ghost use Rattle.descriptor_table.specs.Slots.{chain_at, goes, is_in, is_kept_of, slot_at};
+    ghost use Rattle.descriptor_table.specs.Slots.{chain_at, chains_in, goes, is_in, is_kept_of, slot_at};
     ghost use Rattle.descriptor_table.specs.Tables.{At, Changes, IsTaken, PicksAny, Pops, Pushes, Renews, Stays, count, count_of};
     ghost use Rattle.descriptor_table.specs.Tables.{generations_of, is_kept, lists_of};
     ghost use Rattle.descriptor_table.specs.Tables.{keep_of, number_of, slots_of, used_for};
@@ -14,10 +14,10 @@ impl<T> SetTable<T> {
     /// A list by its number. One that there isn't has no slots.
     #[inline]
     pub(super) fn chain(&self, list: usize) -> Chain
-        ensures { result ≡ chain_at self.now.chains.items list }
+        ensures { result ≡ chain_at (chains_in self.now.lists.items) list }
     {
-        match self.chains.get(list) {
-            Some(chain) => *chain,
+        match self.lists.get(list) {
+            Some(head) => head.chain,
             None => Chain { first: 0, count: 0 },
         }
     }
@@ -27,8 +27,8 @@ impl<T> SetTable<T> {
     pub(super) fn generation(&self, layout: u32) -> u32
         ensures { result ≡ generations_of self.now layout }
     {
-        match self.generations.get(layout as usize + KEPT) {
-            Some(generation) => *generation,
+        match self.lists.get(layout as usize + KEPT) {
+            Some(head) => head.generation,
             None => 0,
         }
     }
@@ -39,14 +39,15 @@ impl<T> SetTable<T> {
         ensures picks { Changes (PicksAny (is_in list) result) self.old self.new }
         ensures pops { IfSome result (λ place. Pops list place self.old self.new) }
     {
-        let chain = self.chains.get_mut(list)?;
-        if chain.count == 0 {
+        let head = self.lists.get_mut(list)?;
+        if head.chain.count == 0 {
             return None;
         }
-        let place = chain.first as usize;
-        chain.first = self.next[place];
-        chain.count -= 1;
-        self.slots[place].used = Use::Taken;
+        let place = head.chain.first as usize;
+        let next = self.slots.at(place).next;
+        self.slots.set_use(place, Use::Taken);
+        head.chain.first = next;
+        head.chain.count -= 1;
         Some(place)
     }
 
@@ -63,11 +64,10 @@ impl<T> SetTable<T> {
         ensures changes { Changes (At place (used_for used)) self.old self.new }
         ensures pushes { Pushes list place self.old self.new }
     {
-        let chain = &mut self.chains[list];
-        self.next[place] = chain.first;
-        chain.first = place as u32;
-        chain.count += 1;
-        self.slots[place].used = used;
+        let head = &mut self.lists[list];
+        self.slots.link(place, head.chain.first, used);
+        head.chain.first = place as u32;
+        head.chain.count += 1;
     }
 
     /// Takes a kept set of a layout.
@@ -88,20 +88,19 @@ impl<T> SetTable<T> {
             × (count (is_kept_of layout) (slots_of self.old) ≡ 0) }
         ensures stays { Stays self.old self.new }
     {
-        let chain = self.chains.get_mut(layout as usize + KEPT)?;
-        if chain.count == 0 {
+        let head = self.lists.get_mut(layout as usize + KEPT)?;
+        if head.chain.count == 0 {
             return None;
         }
-        let place = chain.first;
-        chain.first = self.next[place as usize];
-        chain.count -= 1;
-        let slot = &mut self.slots[place as usize];
-        slot.generation += 1;
-        slot.used = Use::Held;
+        let place = head.chain.first;
+        let next = self.slots.at(place as usize).next;
+        let generation = self.slots.renew(place as usize, Use::Held);
+        head.chain.first = next;
+        head.chain.count -= 1;
         Some(SetHandle {
             renderer: self.number,
             place,
-            generation: slot.generation,
+            generation,
         })
     }
 

@@ -1,14 +1,13 @@
 //! Sets that come into slots, get handles, and leave.
-ghost use Rattle.std.specs.Prelude.{◌≡◌, ◌+◌, ◌<◌, true, false, IsSome, None, Some};
+ghost use Rattle.std.specs.Prelude.{◌≡◌, ◌+◌, ◌<◌, true, false, is_some, IsSome, None, Some};
 
 use super::{GOING, SetTable, VACANT};
-use crate::handle::SetHandle;
-use crate::slot::{Slot, Use};
-use std::mem;
+use crate::handle::{SetHandle, SetName};
+use crate::slot::Use;
 
 impl<T> SetTable<T> {
     ghost use Rattle.descriptor_table.specs.Sets.{find, is_held};
-    ghost use Rattle.descriptor_table.specs.Slots.{IsNowhere, goes, is_due, slot_at};
+    ghost use Rattle.descriptor_table.specs.Slots.{IsNowhere, filled, goes, is_due, slot_at};
     ghost use Rattle.descriptor_table.specs.Tables.{AreAllUsed, At, CanRenew, Changes, GivesAny};
     ghost use Rattle.descriptor_table.specs.Tables.{HasRoom, HasTaken, IsTaken, PutsInto, Renews, Stays};
     ghost use Rattle.descriptor_table.specs.Tables.{generations_of, lists_of, number_of};
@@ -34,35 +33,11 @@ impl<T> SetTable<T> {
         requires taken { IsTaken place (slots_of self.old) }
         requires empty { (slot_at (slots_of self.old) place).set ≡ None }
         requires layout { layout + 2 < lists_of self.old }
-        ensures { Changes (At place (λ slot. record {
-          generation = slot.generation;
-          layout = layout;
-          layout_generation = generations_of self.old layout;
-          used = Use.Taken;
-          leaves = false;
-          set = Some set;
-        })) self.old self.new }
+        ensures { Changes (At place (filled layout (generations_of self.old layout) set)) self.old
+            self.new }
     {
-        let slot = Slot {
-            generation: self.slots[place].generation,
-            layout,
-            layout_generation: self.generation(layout),
-            used: Use::Taken,
-            leaves: false,
-            set: Some(set),
-        };
-        let Slot {
-            generation: _,
-            layout: _,
-            layout_generation: _,
-            used: _,
-            leaves: _,
-            set: before,
-        } = mem::replace(&mut self.slots[place], slot);
-        match before {
-            None => {}
-            Some(_) => unreachable!(),
-        }
+        let layout_generation = self.generation(layout);
+        self.slots.fill(place, layout, layout_generation, set);
     }
 
     /// Puts a set into a new slot, and returns its place.
@@ -75,15 +50,7 @@ impl<T> SetTable<T> {
     {
         let place = self.slots.len();
         let layout_generation = self.generation(layout);
-        self.slots.push_reserved(Slot {
-            generation: 0,
-            layout,
-            layout_generation,
-            used: Use::Taken,
-            leaves: false,
-            set: Some(set),
-        });
-        self.next.push_reserved(0);
+        self.slots.push(layout, layout_generation, set);
         place
     }
 
@@ -95,13 +62,10 @@ impl<T> SetTable<T> {
         requires used { IsNowhere used }
         ensures { Changes (Renews (number_of self.old) place used result) self.old self.new }
     {
-        let slot = &mut self.slots[place];
-        slot.generation += 1;
-        slot.used = used;
         SetHandle {
             renderer: self.number,
             place: place as u32,
-            generation: slot.generation,
+            generation: self.slots.renew(place, used),
         }
     }
 
@@ -113,6 +77,15 @@ impl<T> SetTable<T> {
             self.new }
     {
         self.renew(place, Use::Held)
+    }
+
+    /// The name of the set that has a handle.
+    #[inline]
+    pub fn name_of<N: SetName<T>>(&self, handle: SetHandle) -> N
+        requires { is_some (slot_at (slots_of self.now) handle.place).set ≡ true }
+        ensures { N.handle_of result ≡ handle }
+    {
+        N::of(handle, self.slots.at(handle.place as usize).set.as_ref())
     }
 
     /// The set at a place, which a call has, is one of a frame from now on.
@@ -135,7 +108,7 @@ impl<T> SetTable<T> {
         ensures set { result ≡ (slot_at (slots_of self.old) place).set }
         ensures empties { Changes (At place (λ slot. record slot { set = None })) self.old self.new }
     {
-        self.slots[place].set.take()
+        self.slots.take_set(place)
     }
 
     /// A slot whose set was taken out is vacant, and is used again unless it had its last generation.
@@ -145,10 +118,10 @@ impl<T> SetTable<T> {
         requires empty { (slot_at (slots_of self.old) place).set ≡ None }
         ensures { Changes (At place (used_for Use.Vacant)) self.old self.new }
     {
-        if self.slots[place].generation < u32::MAX {
+        if self.slots.at(place).generation < u32::MAX {
             self.link(VACANT, place, Use::Vacant);
         } else {
-            self.slots[place].used = Use::Vacant;
+            self.slots.set_use(place, Use::Vacant);
         }
     }
 

@@ -28,3 +28,25 @@ pub fn place_of(handle: SetHandle) -> u32
 {
     handle.place
 }
+
+/// What a caller names a set of type `T` by: its handle, perhaps with something of the set.
+pub trait SetName<T> {
+    /// The handle.
+    fn handle(&self) -> SetHandle;
+
+    /// The name of a set under a handle. There is a set: with an `Option` no test for it is left in a loop
+    /// over sets.
+    fn of(handle: SetHandle, set: Option<&T>) -> Self;
+}
+
+impl<T> SetName<T> for SetHandle {
+    #[inline]
+    fn handle(&self) -> SetHandle {
+        *self
+    }
+
+    #[inline]
+    fn of(handle: SetHandle, _set: Option<&T>) -> Self {
+        handle
+    }
+}

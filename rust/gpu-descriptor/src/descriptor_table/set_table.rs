@@ -10,7 +10,8 @@ mod lists;
 mod sets;
 
 use crate::descriptor_table::handle::SetHandle;
-use crate::descriptor_table::slot::{Chain, FrameChain, Slot, Use};
+use crate::descriptor_table::slot::{FrameChain, ListHead, Use};
+use crate::descriptor_table::slot_list::SlotList;
 use crate::kit::alloc::{AllocError, Global};
 use crate::kit::collections::VecDeque;
 use crate::kit::vec::Vec;
@@ -31,17 +32,10 @@ pub(crate) const KEPT: usize = 2;
 pub struct SetTable<T> {
     /// The number of the renderer, which tells its handles from those of others.
     pub(crate) number: u64,
-    pub(crate) slots: Vec<Slot<T>>,
-
-    /// For each slot the next of the list that it is in.
-    pub(crate) next: Vec<u32>,
+    pub(crate) slots: SlotList<T>,
 
     /// The lists, but for those of sets that wait.
-    pub(crate) chains: Vec<Chain>,
-
-    /// For each list how many layouts of its number were removed. A set that came under one of these
-    /// isn't kept when it comes back.
-    pub(crate) generations: Vec<u32>,
+    pub(crate) lists: Vec<ListHead>,
 
     /// The lists of sets that wait, by rising frames. None is empty.
     pub(crate) frames: VecDeque<FrameChain>,
@@ -56,10 +50,8 @@ impl<T> SetTable<T> {
     {
         SetTable {
             number,
-            slots: Vec::new(alloc),
-            next: Vec::new(alloc),
-            chains: Vec::new(alloc),
-            generations: Vec::new(alloc),
+            slots: SlotList::new(alloc),
+            lists: Vec::new(alloc),
             frames: VecDeque::new(alloc),
             keep: u32::MAX,
         }
@@ -72,8 +64,8 @@ impl<T> SetTable<T> {
         if handle.renderer != self.number {
             return None;
         }
-        let slot = self.slots.get(handle.place as usize)?;
-        if slot.generation != handle.generation || !slot.used.is_live(frame, is_open) {
+        let slot = self.slots.get(handle.place)?;
+        if slot.generation != handle.generation || !slot.used().is_live(frame, is_open) {
             return None;
         }
         slot.set.as_ref()
@@ -86,13 +78,13 @@ impl<T> SetTable<T> {
         if handle.renderer != self.number {
             return false;
         }
-        let Some(slot) = self.slots.get(handle.place as usize) else {
+        let Some(slot) = self.slots.get(handle.place) else {
             return false;
         };
         if slot.generation != handle.generation {
             return false;
         }
-        match slot.used {
+        match slot.used() {
             Use::Held => slot.set.is_some(),
             Use::Drawn(_) | Use::Waits(_) | Use::Kept | Use::Going | Use::Taken | Use::Vacant =>
                 false,
@@ -119,7 +111,6 @@ impl<T> SetTable<T> {
             return Err(AllocError);
         }
         self.slots.reserve(additional as usize)?;
-        self.next.reserve(additional as usize)?;
         let places = places as usize;
         self.frames
             .reserve(places.saturating_sub(self.frames.len()))

@@ -11,7 +11,6 @@ pub enum Use {
     Drawn(u64),
 
     /// It waits for this frame.
-    #[expect(dead_code)]
     Waits(u64),
 
     /// It is out of use, until it is handed out again.
@@ -27,7 +26,34 @@ pub enum Use {
     Vacant,
 }
 
+/// What a set is in use for, without the frame.
+#[derive(Clone, Copy)]
+pub enum State {
+    Held,
+    Drawn,
+    Waits,
+    Kept,
+    Going,
+    Taken,
+    Vacant,
+}
+
 impl Use {
+    /// It without its frame.
+    #[inline]
+    pub(crate) fn state(self) -> State
+    {
+        match self {
+            Use::Held => State::Held,
+            Use::Drawn(_) => State::Drawn,
+            Use::Waits(_) => State::Waits,
+            Use::Kept => State::Kept,
+            Use::Going => State::Going,
+            Use::Taken => State::Taken,
+            Use::Vacant => State::Vacant,
+        }
+    }
+
     /// Whether the handle of such a set names it, in this frame if one is open.
     #[inline]
     pub fn is_live(self, frame: u64, is_open: bool) -> bool
@@ -40,26 +66,21 @@ impl Use {
     }
 }
 
-/// A place for a set.
-pub struct Slot<T> {
-    /// How many handles were given for this place.
-    pub(crate) generation: u32,
-    pub(crate) layout: u32,
-
-    /// How many layouts had the number before that of the set.
-    pub(crate) layout_generation: u32,
-    pub(crate) used: Use,
-
-    /// Whether the set isn't kept when it comes back: it was there at the last cleanup.
-    pub(crate) leaves: bool,
-    pub(crate) set: Option<T>,
-}
-
 /// A list of slots, each of which tells the next.
 #[derive(Clone, Copy)]
 pub struct Chain {
     pub(crate) first: u32,
     pub(crate) count: u32,
+}
+
+/// One of a table's lists, but for those of sets that wait.
+#[derive(Clone, Copy)]
+pub struct ListHead {
+    pub(crate) chain: Chain,
+
+    /// How many layouts of its number were removed. A set that came under one of these isn't kept when
+    /// it comes back.
+    pub(crate) generation: u32,
 }
 
 /// The sets that wait for a frame.

@@ -4,8 +4,8 @@
 use super::Renderer;
 use crate::descriptor_renderer::errors::{DestroyError, RenderError};
 use crate::descriptor_renderer::layout_registry::LayoutHandle;
-use crate::descriptor_table::SetHandle;
-use crate::gpu_descriptor::{AllocationError, DescriptorDevice};
+use crate::descriptor_table::{SetHandle, SetName};
+use crate::gpu_descriptor::{AllocationError, DescriptorDevice, DescriptorSet};
 
 impl<L, P, S, D: DescriptorDevice<L, P, S>> Renderer<L, P, S, D> {
     /// Creates a set of a layout, which is held until it is freed or destroyed, in a frame or between
@@ -22,7 +22,7 @@ impl<L, P, S, D: DescriptorDevice<L, P, S>> Renderer<L, P, S, D> {
         }
     }
 
-    /// Creates a set of a layout for each place of `sets`, all or none, and writes their handles there:
+    /// Creates a set of a layout for each place of `sets`, all or none, and writes their names there:
     /// each is held until it is freed or destroyed. Kept sets come first; the others are new, in one
     /// request. On an error `sets` stays as it was. It allocates only what the new sets need.
     ///
@@ -32,10 +32,10 @@ impl<L, P, S, D: DescriptorDevice<L, P, S>> Renderer<L, P, S, D> {
     /// an allocation of its own failed before the allocator was asked. More than `u32::MAX` sets are
     /// `OutOfHostMemory`.
     #[inline]
-    pub fn create_sets(
+    pub fn create_sets<N: SetName<DescriptorSet<S>>>(
         &mut self,
         layout: LayoutHandle,
-        sets: &mut [SetHandle],
+        sets: &mut [N],
     ) -> Result<(), RenderError>
     {
         let Some(known) = self.layouts.get(layout) else {
@@ -56,7 +56,10 @@ impl<L, P, S, D: DescriptorDevice<L, P, S>> Renderer<L, P, S, D> {
     ///
     /// It returns `NoSet` if a handle names no set that the renderer holds, or is in the list
     /// twice. Then nothing changed.
-    pub fn free_sets(&mut self, sets: &[SetHandle]) -> Result<(), DestroyError>
+    pub fn free_sets<N: SetName<DescriptorSet<S>>>(
+        &mut self,
+        sets: &[N],
+    ) -> Result<(), DestroyError>
     {
         if !self.store.free_each(sets) {
             return Err(DestroyError::NoSet);
@@ -76,7 +79,11 @@ impl<L, P, S, D: DescriptorDevice<L, P, S>> Renderer<L, P, S, D> {
     ///
     /// It returns `FrameAhead` if the frame is later than `frame()`, and otherwise `NoSet` if a handle
     /// names no set that the renderer holds, or is in the list twice. Then nothing changed.
-    pub fn destroy_sets(&mut self, sets: &[SetHandle], last_use: u64) -> Result<(), DestroyError>
+    pub fn destroy_sets<N: SetName<DescriptorSet<S>>>(
+        &mut self,
+        sets: &[N],
+        last_use: u64,
+    ) -> Result<(), DestroyError>
     {
         if last_use > self.frame {
             return Err(DestroyError::FrameAhead);

@@ -2,8 +2,8 @@
 //! Sets that come back: they are kept, or go back to their pools.
 
 use super::Store;
-use crate::descriptor_table::{Due, Giving, SetHandle};
-use crate::gpu_descriptor::DescriptorDevice;
+use crate::descriptor_table::{Due, Giving, SetName};
+use crate::gpu_descriptor::{DescriptorDevice, DescriptorSet};
 
 impl<L, P, S, D: DescriptorDevice<L, P, S>> Store<L, P, S, D> {
     /// Frees the sets that were let go. In most frames there are none.
@@ -64,25 +64,29 @@ impl<L, P, S, D: DescriptorDevice<L, P, S>> Store<L, P, S, D> {
         self.give();
     }
 
-    /// Frees the held sets of handles at once: they are kept, or go back to their pools. If a handle
-    /// has none, or is in the list twice, nothing changes, and it returns `false`.
-    pub(crate) fn free_each(&mut self, handles: &[SetHandle]) -> bool
+    /// Frees the held sets of names at once: they are kept, or go back to their pools. If a name has
+    /// none, or is in the list twice, nothing changes, and it returns `false`.
+    pub(crate) fn free_each<N: SetName<DescriptorSet<S>>>(&mut self, names: &[N]) -> bool
     {
-        if !self.table.settle_held(handles) {
+        if !self.table.settle_held(names) {
             return false;
         }
         self.give();
         true
     }
 
-    /// Lets the held sets of handles wait for a frame. If a handle has none, or is in the list twice,
+    /// Lets the held sets of names wait for a frame. If a name has none, or is in the list twice,
     /// nothing changes, and it returns `false`.
-    pub(crate) fn wait_each(&mut self, handles: &[SetHandle], frame: u64) -> bool
+    pub(crate) fn wait_each<N: SetName<DescriptorSet<S>>>(
+        &mut self,
+        names: &[N],
+        frame: u64,
+    ) -> bool
     {
-        if !self.table.take_each(handles) {
+        if !self.table.take_each(names) {
             return false;
         }
-        self.table.wait_each(handles, frame);
+        self.table.wait_each(names, frame);
         true
     }
 

@@ -2,7 +2,7 @@
 //! Sets that come back: they are kept, or go back to their pools.
 
 use super::{GOING, KEPT, SetTable};
-use crate::descriptor_table::handle::SetHandle;
+use crate::descriptor_table::handle::SetName;
 use crate::descriptor_table::slot::Use;
 
 impl<T> SetTable<T> {
@@ -10,7 +10,7 @@ impl<T> SetTable<T> {
     #[inline]
     fn may_stay(&self, place: usize) -> bool
     {
-        let slot = &self.slots[place];
+        let slot = self.slots.at(place);
         !slot.leaves
             && slot.generation < u32::MAX
             && slot.layout_generation == self.generation(slot.layout)
@@ -22,7 +22,7 @@ impl<T> SetTable<T> {
     fn settle(&mut self, place: usize)
     {
         if self.may_stay(place) {
-            let list = self.slots[place].layout as usize + KEPT;
+            let list = self.slots.at(place).layout as usize + KEPT;
             self.link(list, place, Use::Kept);
             return;
         }
@@ -41,22 +41,22 @@ impl<T> SetTable<T> {
     #[inline]
     fn has_taken(&self, place: usize) -> bool
     {
-        let slot = &self.slots[place];
-        match slot.used {
+        let slot = self.slots.at(place);
+        match slot.used() {
             Use::Taken => slot.set.is_some(),
             Use::Held | Use::Drawn(_) | Use::Waits(_) | Use::Kept | Use::Going | Use::Vacant =>
                 false,
         }
     }
 
-    /// Frees the held sets of handles, all or none: each is kept, or goes. If a handle has no held set,
+    /// Frees the held sets of names, all or none: each is kept, or goes. If a name has no held set,
     /// or is in the list twice, no set is freed, and it returns `false`.
-    pub fn settle_held(&mut self, handles: &[SetHandle]) -> bool
+    pub fn settle_held<N: SetName<T>>(&mut self, names: &[N]) -> bool
     {
-        for index in 0..handles.len() {
-            let handle = handles[index];
+        for index in 0..names.len() {
+            let handle = names[index].handle();
             if !self.holds(handle) {
-                self.unsettle(handles, index);
+                self.unsettle(names, index);
                 return false;
             }
             self.assign(handle.place as usize, Use::Taken);
@@ -65,12 +65,12 @@ impl<T> SetTable<T> {
         true
     }
 
-    /// The sets of the first handles, each of which came first into its list, are held as before.
+    /// The sets of the first names, each of which came first into its list, are held as before.
     #[cold]
-    fn unsettle(&mut self, handles: &[SetHandle], count: usize)
+    fn unsettle<N: SetName<T>>(&mut self, names: &[N], count: usize)
     {
         for index in 0..count {
-            self.hold_again(handles[count - 1 - index].place as usize);
+            self.hold_again(names[count - 1 - index].handle().place as usize);
         }
     }
 
@@ -87,8 +87,8 @@ impl<T> SetTable<T> {
     /// The list of a slot's set that is kept or goes.
     fn list_of(&self, place: usize) -> usize
     {
-        let slot = &self.slots[place];
-        match slot.used {
+        let slot = self.slots.at(place);
+        match slot.used() {
             Use::Kept => slot.layout as usize + KEPT,
             Use::Held | Use::Drawn(_) | Use::Waits(_) | Use::Going | Use::Taken | Use::Vacant =>
                 GOING,
@@ -105,11 +105,11 @@ impl<T> SetTable<T> {
         self.wait(place, frame, Use::Waits(frame));
     }
 
-    /// The sets of handles, which were taken, wait for a frame. There are no others that were taken.
-    pub fn wait_each(&mut self, handles: &[SetHandle], frame: u64)
+    /// The sets of names, which were taken, wait for a frame. There are no others that were taken.
+    pub fn wait_each<N: SetName<T>>(&mut self, names: &[N], frame: u64)
     {
-        for index in 0..handles.len() {
-            self.wait_taken(handles[index].place as usize, frame);
+        for index in 0..names.len() {
+            self.wait_taken(names[index].handle().place as usize, frame);
         }
     }
 
@@ -126,17 +126,17 @@ impl<T> SetTable<T> {
     #[inline]
     fn let_go_at(&mut self, place: usize)
     {
-        let slot = &mut self.slots[place];
-        match slot.used {
+        let slot = self.slots.at(place);
+        match slot.used() {
             Use::Held => {
                 if slot.set.is_none() {
                     return;
                 }
-                slot.used = Use::Taken;
             }
             Use::Drawn(_) | Use::Waits(_) | Use::Kept | Use::Going | Use::Taken | Use::Vacant =>
                 return,
         }
+        self.assign(place, Use::Taken);
         self.link(GOING, place, Use::Going);
     }
 
@@ -175,7 +175,7 @@ impl<T> SetTable<T> {
     /// Lets kept sets go, until no more than so many of each layout are left.
     pub fn trim(&mut self, most: u32)
     {
-        for list in KEPT..self.chains.len() {
+        for list in KEPT..self.lists.len() {
             self.trim_list(list, most);
         }
     }

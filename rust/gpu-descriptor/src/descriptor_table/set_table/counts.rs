@@ -28,7 +28,7 @@ impl<T> SetTable<T> {
     pub fn kept_total(&self) -> u64
     {
         let mut total = 0;
-        for list in KEPT..self.chains.len() {
+        for list in KEPT..self.lists.len() {
             total += u64::from(self.chain(list).count);
         }
         total

@@ -2,7 +2,7 @@
 //! Layouts that are added and removed, and sets that get old.
 
 use super::{KEPT, SetTable};
-use crate::descriptor_table::slot::Chain;
+use crate::descriptor_table::slot::{Chain, ListHead};
 use crate::kit::alloc::AllocError;
 
 impl<T> SetTable<T> {
@@ -10,27 +10,28 @@ impl<T> SetTable<T> {
     #[inline]
     pub fn has_layouts(&self) -> bool
     {
-        self.chains.len() > 0
+        self.lists.len() > 0
     }
 
     /// Reserves memory for one layout more.
     pub fn reserve_layout(&mut self) -> Result<(), AllocError>
     {
-        self.chains.reserve(KEPT + 1)?;
-        self.generations.reserve(KEPT + 1)
+        self.lists.reserve(KEPT + 1)
     }
 
     /// Adds a list without slots, over memory that was reserved.
     fn add_list(&mut self)
     {
-        self.chains.push_reserved(Chain { first: 0, count: 0 });
-        self.generations.push_reserved(0);
+        self.lists.push_reserved(ListHead {
+            chain: Chain { first: 0, count: 0 },
+            generation: 0,
+        });
     }
 
     /// Adds a layout, over memory that was reserved.
     pub fn add_layout(&mut self)
     {
-        if self.chains.len() > 0 {
+        if self.lists.len() > 0 {
             self.add_list();
             return;
         }
@@ -43,7 +44,7 @@ impl<T> SetTable<T> {
     #[inline]
     fn age_at(&mut self, place: usize)
     {
-        self.slots[place].leaves = true;
+        self.slots.age(place);
     }
 
     /// The sets that there are aren't kept when they come back.
@@ -58,6 +59,6 @@ impl<T> SetTable<T> {
     /// another layout has its number.
     pub fn remove_layout(&mut self, layout: u32)
     {
-        self.generations[layout as usize + KEPT] += 1;
+        self.lists[layout as usize + KEPT].generation += 1;
     }
 }

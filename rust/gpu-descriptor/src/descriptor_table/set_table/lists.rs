@@ -10,8 +10,8 @@ impl<T> SetTable<T> {
     #[inline]
     pub(super) fn chain(&self, list: usize) -> Chain
     {
-        match self.chains.get(list) {
-            Some(chain) => *chain,
+        match self.lists.get(list) {
+            Some(head) => head.chain,
             None => Chain { first: 0, count: 0 },
         }
     }
@@ -20,8 +20,8 @@ impl<T> SetTable<T> {
     #[inline]
     pub(super) fn generation(&self, layout: u32) -> u32
     {
-        match self.generations.get(layout as usize + KEPT) {
-            Some(generation) => *generation,
+        match self.lists.get(layout as usize + KEPT) {
+            Some(head) => head.generation,
             None => 0,
         }
     }
@@ -30,14 +30,15 @@ impl<T> SetTable<T> {
     #[inline]
     pub(super) fn pick(&mut self, list: usize) -> Option<usize>
     {
-        let chain = self.chains.get_mut(list)?;
-        if chain.count == 0 {
+        let head = self.lists.get_mut(list)?;
+        if head.chain.count == 0 {
             return None;
         }
-        let place = chain.first as usize;
-        chain.first = self.next[place];
-        chain.count -= 1;
-        self.slots[place].used = Use::Taken;
+        let place = head.chain.first as usize;
+        let next = self.slots.at(place).next;
+        self.slots.set_use(place, Use::Taken);
+        head.chain.first = next;
+        head.chain.count -= 1;
         Some(place)
     }
 
@@ -45,11 +46,10 @@ impl<T> SetTable<T> {
     #[inline]
     pub(super) fn link(&mut self, list: usize, place: usize, used: Use)
     {
-        let chain = &mut self.chains[list];
-        self.next[place] = chain.first;
-        chain.first = place as u32;
-        chain.count += 1;
-        self.slots[place].used = used;
+        let head = &mut self.lists[list];
+        self.slots.link(place, head.chain.first, used);
+        head.chain.first = place as u32;
+        head.chain.count += 1;
     }
 
     /// Takes a kept set of a layout.
@@ -63,20 +63,19 @@ impl<T> SetTable<T> {
     #[inline]
     pub fn hold_kept(&mut self, layout: u32) -> Option<SetHandle>
     {
-        let chain = self.chains.get_mut(layout as usize + KEPT)?;
-        if chain.count == 0 {
+        let head = self.lists.get_mut(layout as usize + KEPT)?;
+        if head.chain.count == 0 {
             return None;
         }
-        let place = chain.first;
-        chain.first = self.next[place as usize];
-        chain.count -= 1;
-        let slot = &mut self.slots[place as usize];
-        slot.generation += 1;
-        slot.used = Use::Held;
+        let place = head.chain.first;
+        let next = self.slots.at(place as usize).next;
+        let generation = self.slots.renew(place as usize, Use::Held);
+        head.chain.first = next;
+        head.chain.count -= 1;
         Some(SetHandle {
             renderer: self.number,
             place,
-            generation: slot.generation,
+            generation,
         })
     }
 

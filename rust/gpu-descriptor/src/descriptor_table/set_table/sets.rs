@@ -2,9 +2,8 @@
 //! Sets that come into slots, get handles, and leave.
 
 use super::{GOING, SetTable, VACANT};
-use crate::descriptor_table::handle::SetHandle;
-use crate::descriptor_table::slot::{Slot, Use};
-use crate::kit::mem;
+use crate::descriptor_table::handle::{SetHandle, SetName};
+use crate::descriptor_table::slot::Use;
 
 impl<T> SetTable<T> {
     /// Puts a set into a slot, over memory that was reserved. Returns its place.
@@ -22,26 +21,8 @@ impl<T> SetTable<T> {
     #[inline]
     fn fill(&mut self, place: usize, layout: u32, set: T)
     {
-        let slot = Slot {
-            generation: self.slots[place].generation,
-            layout,
-            layout_generation: self.generation(layout),
-            used: Use::Taken,
-            leaves: false,
-            set: Some(set),
-        };
-        let Slot {
-            generation: _,
-            layout: _,
-            layout_generation: _,
-            used: _,
-            leaves: _,
-            set: before,
-        } = mem::replace(&mut self.slots[place], slot);
-        match before {
-            None => {}
-            Some(_) => unreachable!(),
-        }
+        let layout_generation = self.generation(layout);
+        self.slots.fill(place, layout, layout_generation, set);
     }
 
     /// Puts a set into a new slot, and returns its place.
@@ -50,15 +31,7 @@ impl<T> SetTable<T> {
     {
         let place = self.slots.len();
         let layout_generation = self.generation(layout);
-        self.slots.push_reserved(Slot {
-            generation: 0,
-            layout,
-            layout_generation,
-            used: Use::Taken,
-            leaves: false,
-            set: Some(set),
-        });
-        self.next.push_reserved(0);
+        self.slots.push(layout, layout_generation, set);
         place
     }
 
@@ -67,13 +40,10 @@ impl<T> SetTable<T> {
     #[inline]
     fn renew(&mut self, place: usize, used: Use) -> SetHandle
     {
-        let slot = &mut self.slots[place];
-        slot.generation += 1;
-        slot.used = used;
         SetHandle {
             renderer: self.number,
             place: place as u32,
-            generation: slot.generation,
+            generation: self.slots.renew(place, used),
         }
     }
 
@@ -82,6 +52,13 @@ impl<T> SetTable<T> {
     pub fn hold(&mut self, place: usize) -> SetHandle
     {
         self.renew(place, Use::Held)
+    }
+
+    /// The name of the set that has a handle.
+    #[inline]
+    pub fn name_of<N: SetName<T>>(&self, handle: SetHandle) -> N
+    {
+        N::of(handle, self.slots.at(handle.place as usize).set.as_ref())
     }
 
     /// The set at a place, which a call has, is one of a frame from now on.
@@ -97,17 +74,17 @@ impl<T> SetTable<T> {
     #[inline]
     fn empty(&mut self, place: usize) -> Option<T>
     {
-        self.slots[place].set.take()
+        self.slots.take_set(place)
     }
 
     /// A slot whose set was taken out is vacant, and is used again unless it had its last generation.
     #[inline]
     fn vacate(&mut self, place: usize)
     {
-        if self.slots[place].generation < u32::MAX {
+        if self.slots.at(place).generation < u32::MAX {
             self.link(VACANT, place, Use::Vacant);
         } else {
-            self.slots[place].used = Use::Vacant;
+            self.slots.set_use(place, Use::Vacant);
         }
     }
 

@@ -36,7 +36,7 @@ returns-in-Ok-clause-creates g c =
     let known = c.in-Some.known.now in
     let here = layout_here old.layouts c.args.layout known c.place.result c.place.ensures (sym c.in-Some.ensures.layout) in
     let creates = c.in-Ok.ensures.creates in
-    let given = c.create_each.new.handles in
+    let given = g.N.SetName.handles_of c.create_each.new.names in
     let new = slots_in c.create_each.new.self in
     let names = subst (λ n. NameEach given (sets_of n old.frame old.is_open (slots_in old.store)) (sets_of n old.frame old.is_open new)) old.sets.number (creates.0 old.frame old.is_open) in
     if_some _ known _ c.in-Some.ensures.layout (
@@ -72,7 +72,7 @@ pub returns-then-sets-clause-fits : goal.returns-then-sets-clause-fits
 returns-then-sets-clause-fits g c = λ known enough.
     let s = c.args.self.now.store.table in
     let few = count_few (is_kept_of c.args.layout.slot.place) (slots_of s) in
-    let slots = s.sized.few in
+    let slots = s.sound.sized.few in
     let many = c.if-sets.true in
     absurd (omega arith)
 

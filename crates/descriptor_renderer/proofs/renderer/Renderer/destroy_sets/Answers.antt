@@ -14,11 +14,11 @@ invariant_of-self-clause-sets g c =
 pub returns : goal.returns
 returns g c =
     let old = c.args.self.now in
-    let once = subst (λ n. AreHeldOnce n (slots_in old.store) c.args.sets.now) old.sets.number (c.if-not-wait_each.ensures.once.0 refl) in
+    let once = subst (λ n. AreHeldOnce n (slots_in old.store) (g.N.SetName.handles_of c.args.sets.now)) old.sets.number (c.if-not-wait_each.ensures.once.0 refl) in
     let waits = c.if-not-wait_each.ensures.waits refl in
     record {
       waits = waits;
-      names = waited_names old.frame old.is_open old.renderer c.args.last_use c.args.sets.now (slots_in old.store) (slots_in c.wait_each.new.self) once waits;
+      names = waited_names old.frame old.is_open old.renderer c.args.last_use (g.N.SetName.handles_of c.args.sets.now) (slots_in old.store) (slots_in c.wait_each.new.self) once waits;
       once = once;
       ahead = search rules;
       no_set = search rules;

@@ -15,7 +15,7 @@ same_sets : (g : Over) (c : After-settle_held g) → sets_in (slots_of c.settle_
 same_sets g c =
     let s = c.args.self.now in
     let held = c.settle_held.ensures in
-    settled_each c.args.handles.now s.table.number (generations_of s.table) s.table.keep (slots_of s.table) (slots_of c.settle_held.new.self) c.settle_held.result held.back held.none
+    settled_each (g.N.SetName.handles_of c.args.names.now) s.table.number (generations_of s.table) s.table.keep (slots_of s.table) (slots_of c.settle_held.new.self) c.settle_held.result held.back held.none
 
 pub invariant_of-self-clause-exact : goal.invariant_of-self-clause-exact
 invariant_of-self-clause-exact g c = exact_as c.args.self.now (same_sets g c)
@@ -23,18 +23,18 @@ invariant_of-self-clause-exact g c = exact_as c.args.self.now (same_sets g c)
 pub invariant_of-self-clause-accounted : goal.invariant_of-self-clause-accounted
 invariant_of-self-clause-accounted g c = accounted_as c.args.self.now (same_sets g c)
 
-back : (g : Over) (c : After-give g) → TurnEach c.args.handles.now (IsBack vacated (generations_of c.args.self.now.table) c.args.self.now.table.keep) (slots_of c.args.self.now.table) (slots_of c.give.new.self.table)
+back : (g : Over) (c : After-give g) → TurnEach (g.N.SetName.handles_of c.args.names.now) (IsBack vacated (generations_of c.args.self.now.table) c.args.self.now.table.keep) (slots_of c.args.self.now.table) (slots_of c.give.new.self.table)
 back g c =
     let s = c.args.self.now in
     let held = c.if-not-settle_held.ensures in
-    back_each c.args.handles.now s.table.number (generations_of s.table) s.table.keep (slots_of s.table) (slots_of c.settle_held.new.self) (slots_of c.give.new.self.table) (held.once.0 refl) (held.back refl) c.requires.rest.placed c.give.ensures.turns
+    back_each (g.N.SetName.handles_of c.args.names.now) s.table.number (generations_of s.table) s.table.keep (slots_of s.table) (slots_of c.settle_held.new.self) (slots_of c.give.new.self.table) (held.once.0 refl) (held.back refl) c.requires.rest.placed c.give.ensures.turns
 
 pub returns-clause-frees : goal.returns-clause-frees
 returns-clause-frees g c = λ t. record { turns = back g (goal.at.returns-clause-frees g c).After-give; back = c.give.ensures.back }
 
 pub returns-clause-settles : goal.returns-clause-settles
 returns-clause-settles g c =
-    let handles = c.args.handles.now in
+    let handles = g.N.SetName.handles_of c.args.names.now in
     let s = c.args.self.now in
     let old = slots_of s.table in
     let new = slots_of c.give.new.self.table in

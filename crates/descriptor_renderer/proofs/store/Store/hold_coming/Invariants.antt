@@ -6,8 +6,8 @@ use Rattle.descriptor_renderer.proofs.store.Store.hold_coming.Given as goal
 
 abbrev pub invariant-loop-index : goal.invariant-loop-index
 invariant-loop-index g l = record {
-  long : length l.handles ≡ length l.fn.handles;
-  holds : HoldEach (number_of l.fn.self) (current_in l.layout l.fn.self) (take l.index l.handles) (slots_in l.fn.self) (slots_in l.self);
+  long : length l.names ≡ length l.fn.names;
+  holds : HoldEach (number_of l.fn.self) (current_in l.layout l.fn.self) (take l.index (g.N.SetName.handles_of l.names)) (slots_in l.fn.self) (slots_in l.self);
   fewer : length (coming_in l.self) + l.index ≡ length (coming_in l.fn.self);
   own : (known : g.row.L.Denot) → AreOfLayout g.D.DescriptorDevice.meaning known (coming_in l.fn.self) → AreOfLayout g.D.DescriptorDevice.meaning known (coming_in l.self);
   table : HasRoom (length (coming_in l.self)) l.self.table;

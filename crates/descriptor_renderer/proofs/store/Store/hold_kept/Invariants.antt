@@ -6,9 +6,9 @@ use Rattle.descriptor_renderer.proofs.store.Store.hold_kept.Given as goal
 
 abbrev pub invariant-loop-index : goal.invariant-loop-index
 invariant-loop-index g l = record {
-  long : length l.handles ≡ length l.fn.handles;
-  holds : HoldEach (number_of l.fn.self) (current_in l.layout l.fn.self) (take l.index l.handles) (slots_in l.fn.self) (slots_in l.self);
-  were_kept : (i : ℕ) → i < l.index → is_kept_of l.layout (slot_at (slots_in l.fn.self) (place_at l.handles i)) ≡ true;
+  long : length l.names ≡ length l.fn.names;
+  holds : HoldEach (number_of l.fn.self) (current_in l.layout l.fn.self) (take l.index (g.N.SetName.handles_of l.names)) (slots_in l.fn.self) (slots_in l.self);
+  were_kept : (i : ℕ) → i < l.index → is_kept_of l.layout (slot_at (slots_in l.fn.self) (place_at (g.N.SetName.handles_of l.names) i)) ≡ true;
   fewer : kept_of l.layout l.self + l.index ≡ kept_of l.layout l.fn.self;
   keeps : HoldsKept l.fn.self l.self;
 }

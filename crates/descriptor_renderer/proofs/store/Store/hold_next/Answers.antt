@@ -44,7 +44,7 @@ returns-clause-holds g c =
     let both = steps g (goal.at.returns-clause-holds g c).In-Some in
     hold_one NoneComes (number_of s) (generations_in s) c.args.layout h.place h (slots_in s) (slots_of c.hold_kept.new.self)
     (kept_fills NoneComes (number_of s) (generations_in s) c.args.layout h.place Held h (slots_in s) (with_use h.place Taken (slots_in s)) (slots_of c.hold_kept.new.self)
-    (λ q inside. (s.table.known q inside).kept) both.0 both.1)
+    (λ q inside. (s.table.sound.known q inside).kept) both.0 both.1)
 
 pub returns-clause-was_kept : goal.returns-clause-was_kept
 returns-clause-was_kept g c = c.in-Some.ensures.holds.0

@@ -6,6 +6,8 @@ use Rattle.gpu_descriptor.specs.Model.Agreement.{count_of}
 use Rattle.gpu_descriptor.specs.Model.Books.{books_of}
 use Rattle.gpu_descriptor.proofs.release.Places.{none_out}
 use Rattle.descriptor_table.specs.Sets.{sets_in}
+use Rattle.descriptor_table.specs.Slots.{slot_at}
+use Rattle.descriptor_renderer.specs.Stores.{is_placed}
 use Rattle.descriptor_renderer.proofs.store.Store.new.Goals as goal
 
 pub invariant_of-result-clause-agree : goal.invariant_of-result-clause-agree
@@ -37,3 +39,6 @@ returns-clause-besides g c =
     let others = others_of g.D.DescriptorDevice.meaning.pool_name in
     let ledger = g.D.DescriptorDevice.ledger c.args.device in
     ap (λ a. others a ledger) c.set_most_pool_descriptors.ensures.value ∙ ap (λ a. others a ledger) c.new-allocator.ensures.value
+
+pub returns-clause-rest : goal.returns-clause-rest
+returns-clause-rest g c = record { none_coming = c.new-2.ensures.items; placed = λ p. ap (λ l. is_placed (slot_at l p)) c.new.ensures.slots }

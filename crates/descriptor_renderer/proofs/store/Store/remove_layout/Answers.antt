@@ -3,6 +3,7 @@ use Rattle.gpu_descriptor.specs.Caller.Sets.{items_of}
 use Rattle.gpu_descriptor.specs.Model.Agreement.{count_of}
 use Rattle.gpu_descriptor.specs.declared.set.DescriptorSet.{DescriptorSet}
 use Rattle.descriptor_table.specs.Sets.{sets_in}
+use Rattle.descriptor_table.specs.Slots as table
 use Rattle.descriptor_table.specs.Slots.{goes, is_kept_of}
 use Rattle.descriptor_table.specs.Tables.{Turns, Becomes, removed_at, slots_of, vacated}
 use Rattle.descriptor_renderer.specs.Stores.{slots_in}
@@ -15,11 +16,11 @@ use Rattle.descriptor_renderer.proofs.store.Store.remove_layout.Goals as goal
 use Rattle.descriptor_renderer.proofs.store.Store.remove_layout.Goals.{After-give, After-remove_layout}
 
 same_sets : (g : Over) (c : After-remove_layout g) → sets_in (slots_of c.remove_layout.new.self) ≡ sets_in (slots_in c.args.self.now)
-same_sets g c = ap (λ v. sets_in v.items) c.remove_layout.ensures.only.slots ∙ left_sets c.args.layout (slots_in c.args.self.now) (slots_of c.let_kept_go.new.self) c.let_kept_go.ensures.turns.slots
+same_sets g c = ap (λ v. sets_in (table.slots_in v)) c.remove_layout.ensures.only.slots ∙ left_sets c.args.layout (slots_in c.args.self.now) (slots_of c.let_kept_go.new.self) c.let_kept_go.ensures.turns.slots
 
 turns : (g : Over) (c : After-give g) → Turns (is_kept_of c.args.layout) (Becomes vacated) (slots_in c.args.self.now) (slots_in c.give.new.self)
 turns g c =
-    let gives = subst (λ v. Turns goes (Becomes vacated) v.items (slots_in c.give.new.self)) c.remove_layout.ensures.only.slots c.give.ensures.turns in
+    let gives = subst (λ v. Turns goes (Becomes vacated) (table.slots_in v) (slots_in c.give.new.self)) c.remove_layout.ensures.only.slots c.give.ensures.turns in
     removed_turns c.args.layout (slots_in c.args.self.now) (slots_of c.let_kept_go.new.self) (slots_in c.give.new.self) c.requires.rest.placed c.let_kept_go.ensures.turns.slots gives
 
 pub invariant_of-self-clause-exact : goal.invariant_of-self-clause-exact

@@ -1,6 +1,6 @@
 use Rattle.std.proofs.Common.{◌≡◌, ◌+◌, ◌-◌, ◌∙◌, ap, subst, arith, rules}
 use Rattle.descriptor_table.specs.Sets.{sets_in}
-use Rattle.descriptor_table.specs.Slots.{goes, is_in}
+use Rattle.descriptor_table.specs.Slots.{goes, is_in, chains_in, nexts_in, slots_in}
 use Rattle.descriptor_table.specs.Tables.{Turns, Becomes, count, is_kept, slots_of, vacated, MayBecome}
 use Rattle.descriptor_table.proofs.Counts.{chain_count}
 use Rattle.descriptor_renderer.proofs.Given.{accounted_as, exact_as}
@@ -17,14 +17,14 @@ set_keep-requires g c = λ k two.
     let s = c.trim.new.self in
     let few = c.trim.ensures.few (k - 2) in
     let back : k - 2 + 2 ≡ k = omega arith in
-    let same = ap (λ j. count (is_in j) s.slots.items) back in
-    let all = chain_count s.slots.items s.next.items s.chains.items s.linked k in
+    let same = ap (λ j. count (is_in j) (slots_of s)) back in
+    let all = chain_count (slots_of s) (nexts_in s.slots) (chains_in s.lists.items) s.sound.linked k in
     omega arith
 
 -- the sets are as they were
 same_sets : (g : _) (c : After-set_keep g) → sets_in (slots_of c.set_keep.new.self) ≡ sets_in (slots_of c.args.self.now.table)
 same_sets g c =
-    ap (λ v. sets_in v.items) c.set_keep.ensures.slots ∙ gone_sets is_kept (slots_of c.args.self.now.table) (slots_of c.trim.new.self) c.trim.ensures.turns.slots
+    ap (λ v. sets_in (slots_in v)) c.set_keep.ensures.slots ∙ gone_sets is_kept (slots_of c.args.self.now.table) (slots_of c.trim.new.self) c.trim.ensures.turns.slots
 
 pub invariant_of-self-clause-exact : goal.invariant_of-self-clause-exact
 invariant_of-self-clause-exact g c = exact_as c.args.self.now (same_sets g (goal.at.invariant_of-self-clause-exact g c).After-set_keep)
@@ -34,7 +34,7 @@ invariant_of-self-clause-accounted g c = accounted_as c.args.self.now (same_sets
 
 -- those that were let go were given back
 gives : (g : Over) (c : After-give g) → Turns goes (Becomes vacated) (slots_of c.trim.new.self) (slots_of c.give.new.self.table)
-gives g c = subst (λ v. Turns goes (Becomes vacated) v.items (slots_of c.give.new.self.table)) c.set_keep.ensures.slots c.give.ensures.turns
+gives g c = subst (λ v. Turns goes (Becomes vacated) (slots_in v) (slots_of c.give.new.self.table)) c.set_keep.ensures.slots c.give.ensures.turns
 
 all : (g : Over) (c : After-give g) → Turns is_kept (MayBecome vacated) (slots_of c.args.self.now.table) (slots_of c.give.new.self.table)
 all g c =

@@ -13,13 +13,13 @@ use Rattle.descriptor_renderer.proofs.store.Store.wait_each.Goals as goal
 pub wait_each-requires : goal.wait_each-requires
 wait_each-requires g c =
     let old = slots_of c.args.self.now.table in
-    record { taken = took_named c.args.handles.now old (slots_of c.take_each.new.self) (c.if-not-take_each.ensures.took refl) c.requires.rest.placed }
+    record { taken = took_named (g.N.SetName.handles_of c.args.names.now) old (slots_of c.take_each.new.self) (c.if-not-take_each.ensures.took refl) c.requires.rest.placed }
 
 -- the sets are as they were
 same_sets : (g : _) (c : After-wait_each g) → sets_in (slots_of c.wait_each.new.self) ≡ sets_in (slots_of c.args.self.now.table)
 same_sets g c =
     let took = c.if-not-take_each.ensures.took refl in
-    waiting_sets is_taken c.args.frame (slots_of c.take_each.new.self) (slots_of c.wait_each.new.self) c.wait_each.ensures.slots ∙ took_sets c.args.handles.now (slots_of c.args.self.now.table) (slots_of c.take_each.new.self) took
+    waiting_sets is_taken c.args.frame (slots_of c.take_each.new.self) (slots_of c.wait_each.new.self) c.wait_each.ensures.slots ∙ took_sets (g.N.SetName.handles_of c.args.names.now) (slots_of c.args.self.now.table) (slots_of c.take_each.new.self) took
 
 pub invariant_of-self-2-clause-exact : goal.invariant_of-self-2-clause-exact
 invariant_of-self-2-clause-exact g c = exact_as c.args.self.now (same_sets g (goal.at.invariant_of-self-2-clause-exact g c).After-wait_each)
@@ -32,11 +32,11 @@ returns-clause-waits g c = λ t.
     let old = slots_of c.args.self.now.table in
     let took = c.if-not-take_each.ensures.took refl in
     let once = c.if-not-take_each.ensures.once.0 refl in
-    waited c.args.handles.now old (slots_of c.take_each.new.self) took c.args.self.now.table.number c.args.frame (slots_of c.wait_each.new.self) once c.requires.rest.placed c.wait_each.ensures.slots
+    waited (g.N.SetName.handles_of c.args.names.now) old (slots_of c.take_each.new.self) took c.args.self.now.table.number c.args.frame (slots_of c.wait_each.new.self) once c.requires.rest.placed c.wait_each.ensures.slots
 
 pub returns-clause-settles : goal.returns-clause-settles
 returns-clause-settles g c =
-    let handles = c.args.handles.now in
+    let handles = g.N.SetName.handles_of c.args.names.now in
     let old = slots_of c.args.self.now.table in
     let new = slots_of c.wait_each.new.self in
     let took = c.if-not-take_each.ensures.took refl in

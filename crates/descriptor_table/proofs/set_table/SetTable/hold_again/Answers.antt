@@ -1,5 +1,5 @@
 use Rattle.std.proofs.Common.{◌≡◌, sym, ap, subst, ◌∙◌}
-use Rattle.descriptor_table.specs.Slots.{chain_at}
+use Rattle.descriptor_table.specs.Slots.{chain_at, chains_in}
 use Rattle.descriptor_table.specs.Tables.{At, Pops, slots_of, used_for}
 use Rattle.descriptor_table.specs.declared.slot.Use.TheVariants.{Held, Taken}
 use Rattle.descriptor_table.proofs.Listed.{with_use}
@@ -9,7 +9,7 @@ use Rattle.descriptor_table.proofs.set_table.SetTable.hold_again.Goals as goal
 
 -- the slot that was picked
 is_place : (g : _) (c : After-assign g) → c.in-Some.first ≡ c.args.place
-is_place g c = sym c.in-Some.ensures.pops.first ∙ ap (λ k. (chain_at c.args.self.now.chains.items k).first) c.list_of-list.ensures ∙ c.requires.first
+is_place g c = sym c.in-Some.ensures.pops.first ∙ ap (λ k. (chain_at (chains_in c.args.self.now.lists.items) k).first) c.list_of-list.ensures ∙ c.requires.first
 
 pub returns-clause-held : goal.returns-clause-held
 returns-clause-held g c =

@@ -1,4 +1,5 @@
 use Rattle.std.proofs.Common.{◌+◌, ◌∙◌, ap}
+use Rattle.descriptor_table.specs.Slots.{slots_in, nexts_in, chains_in}
 use Rattle.descriptor_table.specs.declared.slot.Chain.{Chain}
 use Rattle.descriptor_table.proofs.Counts.{chain_count}
 use Rattle.descriptor_table.proofs.set_table.SetTable.kept_count.Goals as goal
@@ -6,4 +7,4 @@ use Rattle.descriptor_table.proofs.set_table.SetTable.kept_count.Goals as goal
 pub returns-clause-count : goal.returns-clause-count
 returns-clause-count g c =
     let s = c.args.self.now in
-    ap (λ (d : Chain). d.count) c.chain.ensures ∙ chain_count s.slots.items s.next.items s.chains.items s.linked (c.args.layout + 2)
+    ap (λ (d : Chain). d.count) c.chain.ensures ∙ chain_count (slots_in s.slots) (nexts_in s.slots) (chains_in s.lists.items) s.sound.linked (c.args.layout + 2)

@@ -14,7 +14,6 @@ loop-place-preserved g c =
     let lt = c.loop-place-test.true in
     let long = inv.turning.long in
     let n = c.len-place-end.ensures in
-    let ok = c.args.self.now.slots.ok.0 in
     let one = use_one holds Going (slots_of c.args.self.now) now new c.loop-place.place inv.turning (omega arith) c.let_go_at.ensures.slots (λ s. refl) in
     record {
       turning = one.turning;

@@ -1,6 +1,6 @@
 use Rattle.std.proofs.lemmas.Grind.{common_steps}
 use Rattle.std.proofs.Common.{◌≡◌, ℕ, ◌==◌, ◌&&◌, Bool, true, refl, sym, ◌∙◌, arith, eqb-true, is_some}
-use Rattle.descriptor_table.specs.Slots.{frame_at, slot_at, waits_for}
+use Rattle.descriptor_table.specs.Slots.{frame_at, slot_at, waits_for, slots_in, nexts_in}
 use Rattle.descriptor_table.specs.Tables.{Becomes, Picks, slots_of, used_for, waits}
 use Rattle.descriptor_table.specs.declared.slot.Use.{Use}
 use Rattle.descriptor_table.specs.declared.slot.Use.TheVariants.{Going}
@@ -35,4 +35,4 @@ returns g c =
     let s = c.loop-self.self in
     let empty = eqb-true _ 0 (sym c.is_empty.ensures ∙ c.loop-self-test.false) in
     let ok = s.frames.ok in
-    record { slots = turn_end waits (Becomes (used_for Going)) (slots_of c.args.self.now) (slots_of s) c.loop-self.invariant.turning (none_waits s.slots.items s.next.items s.frames.items s.framed s.rising (λ w. true) (λ i lt. absurd (omega arith))); stays = c.loop-self.invariant.stays }
+    record { slots = turn_end waits (Becomes (used_for Going)) (slots_of c.args.self.now) (slots_of s) c.loop-self.invariant.turning (none_waits (slots_in s.slots) (nexts_in s.slots) s.frames.items s.sound.framed s.sound.rising (λ w. true) (λ i lt. absurd (omega arith))); stays = c.loop-self.invariant.stays }

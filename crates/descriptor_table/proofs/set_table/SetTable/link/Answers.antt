@@ -1,79 +1,67 @@
-use Rattle.std.proofs.Common.{◌≡◌, ◌+◌, true, sym, ap, subst, set, ◌∙◌, arith}
-use Rattle.std.proofs.lemmas.List.{length-set}
-use Rattle.descriptor_table.specs.Slots.{is_in, slot_at}
-use Rattle.descriptor_table.specs.Tables.{generations_of, is_kept, used_for}
+use Rattle.std.proofs.Common.{◌≡◌, ◌+◌, refl, sym, ap, set, ◌∙◌, arith}
+use Rattle.std.proofs.lemmas.List.{length-map, length-set}
+use Rattle.descriptor_table.specs.Slots.{AreSound, chain_at, chains_in, generation_at, generations_in, nexts_in, slot_at, slots_in}
+use Rattle.descriptor_table.specs.Tables.{used_for}
 use Rattle.descriptor_table.specs.declared.slot.Chain.{Chain}
-use Rattle.descriptor_table.proofs.Chains.{few_set, in_no_frame, known_chains, known_set, link_framed, link_linked, link_more, read_chain, taken_no_frame}
-use Rattle.descriptor_table.proofs.Listed.{read_slot}
+use Rattle.descriptor_table.specs.declared.slot.ListHead.{ListHead}
+use Rattle.descriptor_table.proofs.Chains.{link_more}
+use Rattle.descriptor_table.proofs.Entries.{chain_was, chain_written, generations_stay, in_place}
+use Rattle.descriptor_table.proofs.Sound.{link_sound, listed}
+use Rattle.descriptor_table.proofs.set_table.SetTable.link.Goals.{After-index_mut-head}
 use Rattle.descriptor_table.proofs.set_table.SetTable.link.Goals as goal
 
-pub overflow_add-chain : goal.overflow_add-chain
-overflow_add-chain g c =
+-- the list that was read
+is_list : (g : _) (c : After-index_mut-head g) → c.index_mut-head.result.now.chain ≡ chain_at (chains_in c.args.self.now.lists.items) c.args.list
+is_list g c = chain_was c.args.self.now.lists.items c.args.list c.index_mut-head.result.now c.index_mut-head.ensures.value c.requires.list
+
+-- its head with the slot
+abbrev new_head : (g : _) (c : After-index_mut-head g) → ListHead
+new_head g c = record { chain = record { first = c.args.place; count = c.index_mut-head.result.now.chain.count + 1 }; generation = c.index_mut-head.result.now.generation }
+
+-- the lists, and their generations
+chains : (g : _) (c : After-index_mut-head g) → chains_in (set c.args.self.now.lists.items c.args.list (new_head g c)) ≡ set (chains_in c.args.self.now.lists.items) c.args.list (new_head g c).chain
+chains g c = chain_written c.args.self.now.lists.items c.args.list c.index_mut-head.result.now c.index_mut-head.ensures.value (new_head g c)
+
+generations : (g : _) (c : After-index_mut-head g) → generations_in (set c.args.self.now.lists.items c.args.list (new_head g c)) ≡ generations_in c.args.self.now.lists.items
+generations g c = generations_stay c.args.self.now.lists.items c.args.list c.index_mut-head.result.now c.index_mut-head.ensures.value (new_head g c) refl
+
+pub overflow_add-head : goal.overflow_add-head
+overflow_add-head g c =
     let s = c.args.self.now in
-    let few = s.sized.few in
-    let more =
-    link_more s.slots.items s.next.items s.chains.items c.args.list c.index_mut-chain.result.now s.linked
-    (sym
-    (read_chain s.chains.items c.args.list c.index_mut-chain.result.now c.requires.list
-    c.index_mut-chain.ensures.value))
-    c.args.place (used_for c.args.used (slot_at s.slots.items c.args.place)) c.requires.taken.within
-    c.requires.taken.taken c.requires.goes in
+    let few = s.sound.sized.few in
+    let more = link_more (slots_in s.slots) (nexts_in s.slots) (chains_in s.lists.items) c.args.list c.index_mut-head.result.now.chain s.sound.linked (sym (is_list g (goal.at.overflow_add-head g c).After-index_mut-head)) c.args.place (used_for c.args.used (slot_at (slots_in s.slots) c.args.place)) c.requires.taken.within c.requires.taken.taken c.requires.goes in
     omega arith
 
-pub invariant_of-self-clause-linked : goal.invariant_of-self-clause-linked
-invariant_of-self-clause-linked g c =
+pub invariant_of-self : goal.invariant_of-self
+invariant_of-self g c =
     let s = c.args.self.now in
-    let read = read_slot s.slots.items c.args.place c.index_mut-2.result.now c.requires.taken.within c.index_mut-2.ensures.value in
-    link_linked s.slots.items s.next.items s.chains.items c.args.list c.index_mut-chain.result.now s.linked
-    (sym
-    (read_chain s.chains.items c.args.list c.index_mut-chain.result.now c.requires.list
-    c.index_mut-chain.ensures.value))
-    c.args.place (used_for c.args.used c.index_mut-2.result.now) c.requires.taken.within s.sized.links c.requires.list
-    c.requires.taken.taken (ap (λ w. is_in c.args.list (used_for c.args.used w)) read ∙ c.requires.goes)
+    let d = (goal.at.invariant_of-self g c).After-index_mut-head in
+    let is = is_list g d in
+    let p = c.args.place in
+    let new = used_for c.args.used (slot_at (slots_in s.slots) p) in
+    let sound = link_sound s.slots c.link.new.self (chains_in s.lists.items) (generations_in s.lists.items) s.frames.items s.frames.cap s.keep s.sound p new c.link.ensures.writes.slots c.args.list c.index_mut-head.result.now.chain (sym is) c.requires.list c.requires.taken.within c.requires.taken.taken c.requires.goes c.link.ensures.nexts (listed s.slots s.slots (chains_in s.lists.items) (generations_in s.lists.items) s.frames.items s.frames.cap s.keep s.sound p new c.requires.taken.within refl refl c.requires.current) (λ two. let few = c.requires.few two in let same = ap (λ (d : Chain). d.count) is in omega arith) in
+    record { sound = in_place (λ chains generations. AreSound c.link.new.self chains generations s.frames.items s.frames.cap s.keep) _ _ _ _ (chains g d) (generations g d) sound }
 
-pub invariant_of-self-clause-framed : goal.invariant_of-self-clause-framed
-invariant_of-self-clause-framed g c =
+pub returns-clause-changes : goal.returns-clause-changes
+returns-clause-changes g c =
     let s = c.args.self.now in
-    let read = read_slot s.slots.items c.args.place c.index_mut-2.result.now c.requires.taken.within c.index_mut-2.ensures.value in
-    link_framed s.slots.items s.next.items s.frames.items s.framed c.args.place
-    (used_for c.args.used c.index_mut-2.result.now) c.index_mut-chain.result.now.first c.requires.taken.within
-    (taken_no_frame (slot_at s.slots.items c.args.place) c.requires.taken.taken)
-    (in_no_frame c.args.list (used_for c.args.used c.index_mut-2.result.now)
-    (ap (λ w. is_in c.args.list (used_for c.args.used w)) read ∙ c.requires.goes))
-
-pub invariant_of-self-clause-counted : goal.invariant_of-self-clause-counted
-invariant_of-self-clause-counted g c =
-    let s = c.args.self.now in
-    s.counted ∙ sym (length-set s.chains.items c.args.list (record { first = c.args.place; count = c.index_mut-chain.result.now.count + 1 }))
-
-pub invariant_of-self-clause-known : goal.invariant_of-self-clause-known
-invariant_of-self-clause-known g c =
-    let s = c.args.self.now in
-    let new = used_for c.args.used c.index_mut-2.result.now in
-    let read = read_slot s.slots.items c.args.place c.index_mut-2.result.now c.requires.taken.within c.index_mut-2.ensures.value in
-    let current = subst (λ w. is_kept (used_for c.args.used w) ≡ true → w.layout_generation ≡ generations_of s w.layout) (sym read) c.requires.current in
-    let known = known_set s.slots.items c.args.place c.args.used c.index_mut-2.result.now _ _ s.known c.requires.taken.within read current in
-    known_chains (set s.slots.items c.args.place new) s.chains.items c.args.list (record { first = c.args.place; count = c.index_mut-chain.result.now.count + 1 }) _ known
-
-pub invariant_of-self-clause-few : goal.invariant_of-self-clause-few
-invariant_of-self-clause-few g c =
-    let s = c.args.self.now in
-    few_set s.keep s.chains.items c.args.list
-    (record { first = c.args.place; count = c.index_mut-chain.result.now.count + 1 }) s.few c.requires.list
-    (λ two.
-    let few = c.requires.few two in
-    let same =
-    ap (λ (d : Chain). d.count)
-    (read_chain s.chains.items c.args.list c.index_mut-chain.result.now c.requires.list
-    c.index_mut-chain.ensures.value) in
-    omega arith)
+    let d = (goal.at.returns-clause-changes g c).After-index_mut-head in
+    record {
+      slots = c.link.ensures.writes.slots;
+      stays = record {
+        settings = record { number = refl; lists = length-map _ _ ∙ length-set s.lists.items c.args.list (new_head g d) ∙ sym (length-map _ _); generations = ap generation_at (generations g d); keep = refl };
+        space = c.link.ensures.writes.space;
+        frames = refl;
+      };
+    }
 
 pub returns-clause-pushes : goal.returns-clause-pushes
 returns-clause-pushes g c =
     let s = c.args.self.now in
-    let is = read_chain s.chains.items c.args.list c.index_mut-chain.result.now c.requires.list c.index_mut-chain.ensures.value in
+    let d = (goal.at.returns-clause-pushes g c).After-index_mut-head in
+    let is = is_list g d in
     record {
       there = c.requires.list;
-      chains = (λ i. set s.chains.items c.args.list (record { first = c.args.place; count = (is i).count + 1 }));
-      next = (λ i. set s.next.items c.args.place (is i).first);
+      chains = chains g d ∙ (λ i. set (chains_in s.lists.items) c.args.list (record { first = c.args.place; count = (is i).count + 1 }));
+      next = c.link.ensures.nexts ∙ (λ i. set (nexts_in s.slots) c.args.place (is i).first);
     }

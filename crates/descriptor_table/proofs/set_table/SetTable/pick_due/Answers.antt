@@ -1,6 +1,6 @@
 use Rattle.std.proofs.Common.{ℕ, ◌<◌, length, inl, inr, refl, ap, arith, nat_le}
 use Rattle.std.proofs.lemmas.Bool.{lt-leb}
-use Rattle.descriptor_table.specs.Slots.{frame_at}
+use Rattle.descriptor_table.specs.Slots.{frame_at, slots_in, nexts_in}
 use Rattle.descriptor_table.specs.declared.slot.FrameChain.{FrameChain}
 use Rattle.descriptor_table.proofs.Counting.{same_or}
 use Rattle.descriptor_table.proofs.Frames.{none_waits, read_frame}
@@ -13,7 +13,7 @@ returns-then-count-eq0 g c =
     let none = c.if-count-eq0.true in
     let n = c.len-count.ensures in
     let ok = s.frames.ok in
-    record { slots = record { none = none_waits s.slots.items s.next.items s.frames.items s.framed s.rising (λ w. nat_le w c.args.frame) (λ i lt. absurd (omega arith)); slots = refl }; stays = stays_same s }
+    record { slots = record { none = none_waits (slots_in s.slots) (nexts_in s.slots) s.frames.items s.sound.framed s.sound.rising (λ w. nat_le w c.args.frame) (λ i lt. absurd (omega arith)); slots = refl }; stays = stays_same s }
 
 pub returns-then-index-frame : goal.returns-then-index-frame
 returns-then-index-frame g c =
@@ -27,11 +27,11 @@ returns-then-index-frame g c =
     let later : (i : ℕ) → i < length s.frames.items → c.args.frame < (frame_at s.frames.items i).frame = (λ i lt.
     elim (same_or i 0) [
       | inl e ↦ (let h = ap (λ i. (frame_at s.frames.items i).frame) e in omega arith)
-      | inr ne ↦ (let h = s.rising.rises 0 i (omega arith) lt in omega arith)
+      | inr ne ↦ (let h = s.sound.rising.rises 0 i (omega arith) lt in omega arith)
     ]) in
     record {
       slots = record {
-        none = none_waits s.slots.items s.next.items s.frames.items s.framed s.rising (λ w. nat_le w c.args.frame) (λ i lt. lt-leb (frame_at s.frames.items i).frame c.args.frame (later i lt));
+        none = none_waits (slots_in s.slots) (nexts_in s.slots) s.frames.items s.sound.framed s.sound.rising (λ w. nat_le w c.args.frame) (λ i lt. lt-leb (frame_at s.frames.items i).frame c.args.frame (later i lt));
         slots = refl;
       };
       stays = stays_same s;

@@ -35,5 +35,5 @@ returns-clause-within g c =
 pub returns-clause-place : goal.returns-clause-place
 returns-clause-place g c =
     let frame = c.args.frame in
-    let point = IsPartitionPoint-from_clause (λ r. ltb r.frame frame) _ _ c.partition_point.ensures.partitioned (parted c.args.self.now.frames.items frame c.args.self.now.rising) (λ a r q k. search rules) in
+    let point = IsPartitionPoint-from_clause (λ r. ltb r.frame frame) _ _ c.partition_point.ensures.partitioned (parted c.args.self.now.frames.items frame c.args.self.now.sound.rising) (λ a r q k. search rules) in
     (λ k d low lt. ltb-true _ _ (point.0 k d low lt), λ k d low lt. ltb-false _ _ (point.1 k d low lt))

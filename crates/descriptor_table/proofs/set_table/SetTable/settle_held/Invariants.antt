@@ -6,7 +6,7 @@ use Rattle.descriptor_table.proofs.set_table.SetTable.settle_held.Given as goal
 -- the sets of the first handles settled, each of which came first into its list
 abbrev pub invariant-loop-index : goal.invariant-loop-index
 invariant-loop-index g l = record {
-  some : TurnedSome l.fn.self.number l.handles (IsBack (used_for Going) (generations_of l.fn.self) l.fn.self.keep) l.index (slots_of l.fn.self) (slots_of l.self);
-  settled : SettleEach l.handles l.index l.fn.self l.self;
+  some : TurnedSome l.fn.self.number (g.N.SetName.handles_of l.names) (IsBack (used_for Going) (generations_of l.fn.self) l.fn.self.keep) l.index (slots_of l.fn.self) (slots_of l.self);
+  settled : SettleEach (g.N.SetName.handles_of l.names) l.index l.fn.self l.self;
   stays : Stays l.fn.self l.self;
 }

@@ -1,26 +1,30 @@
-use Rattle.std.proofs.Common.{◌≡◌, ◌∙◌, get_or, length, refl, sym, subst, arith}
+use Rattle.std.proofs.Common.{◌≡◌, ◌<◌, ◌∙◌, get_or, length, refl, sym, subst, arith}
 use Rattle.std.proofs.lemmas.Bool.{false≢true}
 use Rattle.descriptor_table.specs.Sets.{is_held}
 use Rattle.descriptor_table.specs.Slots.{slot_at}
 use Rattle.descriptor_table.specs.Tables.{Becomes, TookEach, slots_of, used_for}
 use Rattle.descriptor_table.specs.declared.handle.SetHandle.{SetHandle}
 use Rattle.descriptor_table.specs.declared.slot.Use.TheVariants.{Taken}
-use Rattle.descriptor_table.proofs.Holding.{TurnedSome, handle_at, taken_not_held, took_each, turn_more, turned_all, turned_no, turned_none}
+use Rattle.descriptor_table.proofs.Holding.{TurnedSome, taken_not_held, took_each, turn_more, turned_all, turned_no, turned_none}
+use Rattle.descriptor_table.proofs.Names.{handle_read, handles_long}
 use Rattle.descriptor_table.proofs.Turning.{stays_more, stays_same}
 use Rattle.descriptor_table.proofs.set_table.SetTable.take_each.Goals.{After-holds}
 use Rattle.descriptor_table.proofs.set_table.SetTable.take_each.Goals as goal
 
--- the handle
-abbrev handle : (g : _) (c : After-holds g) → SetHandle
-handle g c = get_or c.args.handles.now c.loop-index.index (record { renderer = 0; place = 0; generation = 0 })
+-- the handle of the name
+named : (g : _) (c : After-holds g) (d : SetHandle) → c.handle-handle.result ≡ get_or (g.N.SetName.handles_of c.args.names.now) c.loop-index.index d
+named g c = handle_read g.N.SetName g.met.N.SetName.each c.args.names.now c.loop-index.index c.index-names-index.result c.handle-handle.result c.loop-index-test.true c.index-names-index.is c.handle-handle.ensures
+
+within : (g : _) (c : After-holds g) → c.loop-index.index < length (g.N.SetName.handles_of c.args.names.now)
+within g c = (let long = handles_long g.N.SetName g.met.N.SetName.each c.args.names.now in let lt = c.loop-index-test.true in omega arith)
 
 -- whether it has a held set now
-holds : (g : _) (c : After-holds g) → c.holds.result ≡ is_held c.args.self.now.number (slots_of c.loop-index.self) (get_or c.args.handles.now c.loop-index.index (record { renderer = 0; place = 0; generation = 0 }))
-holds g c = subst (λ n. c.holds.result ≡ is_held n (slots_of c.loop-index.self) (get_or c.args.handles.now c.loop-index.index (record { renderer = 0; place = 0; generation = 0 }))) c.loop-index.invariant.stays.settings.number c.holds.ensures
+holds : (g : _) (c : After-holds g) → c.holds.result ≡ is_held c.args.self.now.number (slots_of c.loop-index.self) c.handle-handle.result
+holds g c = subst (λ n. c.holds.result ≡ is_held n (slots_of c.loop-index.self) c.handle-handle.result) c.loop-index.invariant.stays.settings.number c.holds.ensures
 
 pub loop-index-init : goal.loop-index-init
 loop-index-init g c = record {
-  some = turned_none c.args.self.now.number c.args.handles.now (Becomes (used_for Taken)) (slots_of c.args.self.now);
+  some = turned_none c.args.self.now.number (g.N.SetName.handles_of c.args.names.now) (Becomes (used_for Taken)) (slots_of c.args.self.now);
   stays = stays_same c.args.self.now;
 }
 
@@ -31,10 +35,10 @@ loop-index-preserved g c =
     let now = slots_of c.loop-index.self in
     record {
       some =
-          turn_more c.args.self.now.number c.args.handles.now (Becomes (used_for Taken)) c.loop-index.index (slots_of c.args.self.now)
-          now inv.some taken_not_held (handle g d) c.loop-index-test.true
-          (handle_at c.args.handles.now c.loop-index.index c.loop-index-test.true)
-          (sym (holds g d) ∙ c.if-not-holds.false) (used_for Taken (slot_at now (handle g d).place)) (slots_of c.assign.new.self) c.assign.ensures.changes.slots (λ o x is. is) refl;
+          turn_more c.args.self.now.number (g.N.SetName.handles_of c.args.names.now) (Becomes (used_for Taken)) c.loop-index.index (slots_of c.args.self.now)
+          now inv.some taken_not_held c.handle-handle.result (within g d)
+          (named g d)
+          (sym (holds g d) ∙ c.if-not-holds.false) (used_for Taken (slot_at now c.handle-handle.result.place)) (slots_of c.assign.new.self) c.assign.ensures.changes.slots (λ o x is. is) refl;
       stays = stays_more c.args.self.now c.loop-index.self c.assign.new.self inv.stays c.assign.ensures.changes.stays;
     }
 
@@ -42,35 +46,39 @@ pub put_back-requires-clause-took : goal.put_back-requires-clause-took
 put_back-requires-clause-took g c =
     let inv = c.loop-index.invariant in
     let lt = c.loop-index-test.true in
-    (slots_of c.args.self.now, took_each c.args.self.now.number c.args.handles.now c.loop-index.index (slots_of c.args.self.now) (slots_of c.loop-index.self) (omega arith) inv.some)
+    let long = handles_long g.N.SetName g.met.N.SetName.each c.args.names.now in
+    (slots_of c.args.self.now, took_each c.args.self.now.number (g.N.SetName.handles_of c.args.names.now) c.loop-index.index (slots_of c.args.self.now) (slots_of c.loop-index.self) (omega arith) inv.some)
 
 pub returns-then-not-holds-clause-once : goal.returns-then-not-holds-clause-once
 returns-then-not-holds-clause-once g c =
     let d = (goal.at.returns-then-not-holds-clause-once g c).After-holds in
     let inv = c.loop-index.invariant in
-    (λ t. absurd (false≢true t), λ once. absurd (turned_no c.args.self.now.number c.args.handles.now (Becomes (used_for Taken)) c.loop-index.index (slots_of c.args.self.now) (slots_of c.loop-index.self) inv.some (handle g d) c.loop-index-test.true (handle_at c.args.handles.now c.loop-index.index c.loop-index-test.true) (sym (holds g d) ∙ c.if-not-holds.true) once))
+    (λ t. absurd (false≢true t), λ once. absurd (turned_no c.args.self.now.number (g.N.SetName.handles_of c.args.names.now) (Becomes (used_for Taken)) c.loop-index.index (slots_of c.args.self.now) (slots_of c.loop-index.self) inv.some c.handle-handle.result (within g d) (named g d) (sym (holds g d) ∙ c.if-not-holds.true) once))
 
 pub returns-then-not-holds-clause-none : goal.returns-then-not-holds-clause-none
 returns-then-not-holds-clause-none g c = λ f.
     let inv = c.loop-index.invariant in
     let lt = c.loop-index-test.true in
+    let long = handles_long g.N.SetName g.met.N.SetName.each c.args.names.now in
     let old = slots_of c.args.self.now in
-    c.put_back.ensures.slots old (took_each c.args.self.now.number c.args.handles.now c.loop-index.index old (slots_of c.loop-index.self) (omega arith) inv.some)
+    c.put_back.ensures.slots old (took_each c.args.self.now.number (g.N.SetName.handles_of c.args.names.now) c.loop-index.index old (slots_of c.loop-index.self) (omega arith) inv.some)
 
 pub returns-clause-once : goal.returns-clause-once
 returns-clause-once g c =
     let inv = c.loop-index.invariant in
     let end = c.loop-index-test.false in
     let le = c.loop-index.auto.index-end in
-    let same : c.loop-index.index ≡ length c.args.handles.now = omega arith in
+    let long = handles_long g.N.SetName g.met.N.SetName.each c.args.names.now in
+    let same : c.loop-index.index ≡ length (g.N.SetName.handles_of c.args.names.now) = omega arith in
     let old = slots_of c.args.self.now in
-    (λ t. turned_all c.args.self.now.number c.args.handles.now (Becomes (used_for Taken)) old (slots_of c.loop-index.self) (subst (λ n. TurnedSome c.args.self.now.number c.args.handles.now (Becomes (used_for Taken)) n old (slots_of c.loop-index.self)) same inv.some), λ o. refl)
+    (λ t. turned_all c.args.self.now.number (g.N.SetName.handles_of c.args.names.now) (Becomes (used_for Taken)) old (slots_of c.loop-index.self) (subst (λ n. TurnedSome c.args.self.now.number (g.N.SetName.handles_of c.args.names.now) (Becomes (used_for Taken)) n old (slots_of c.loop-index.self)) same inv.some), λ o. refl)
 
 pub returns-clause-took : goal.returns-clause-took
 returns-clause-took g c = λ t.
     let inv = c.loop-index.invariant in
     let end = c.loop-index-test.false in
     let le = c.loop-index.auto.index-end in
-    let same : c.loop-index.index ≡ length c.args.handles.now = omega arith in
+    let long = handles_long g.N.SetName g.met.N.SetName.each c.args.names.now in
+    let same : c.loop-index.index ≡ length (g.N.SetName.handles_of c.args.names.now) = omega arith in
     let old = slots_of c.args.self.now in
-    subst (λ n. TookEach c.args.handles.now n old (slots_of c.loop-index.self)) same (took_each c.args.self.now.number c.args.handles.now c.loop-index.index old (slots_of c.loop-index.self) le inv.some)
+    subst (λ n. TookEach (g.N.SetName.handles_of c.args.names.now) n old (slots_of c.loop-index.self)) same (took_each c.args.self.now.number (g.N.SetName.handles_of c.args.names.now) c.loop-index.index old (slots_of c.loop-index.self) (omega arith) inv.some)

@@ -1,8 +1,9 @@
 use Rattle.std.proofs.Common.{◌≤◌, ◌+◌, length, inl, inr, sym, subst, ap, arith}
-use Rattle.std.proofs.lemmas.List.{get_or_past}
-use Rattle.descriptor_table.specs.Slots.{is_in}
+use Rattle.std.proofs.lemmas.List.{get_or_past, length-map}
+use Rattle.descriptor_table.specs.Slots.{is_in, slots_in, nexts_in, chains_in}
 use Rattle.descriptor_table.specs.Tables.{count, slots_of}
 use Rattle.descriptor_table.specs.declared.slot.Chain.{Chain}
+use Rattle.descriptor_table.specs.declared.slot.ListHead.{ListHead}
 use Rattle.descriptor_table.proofs.Counting.{below_or, same_or}
 use Rattle.descriptor_table.proofs.Counts.{chain_count}
 use Rattle.descriptor_table.proofs.Turning.{stays_more, trim_more, trim_others}
@@ -39,9 +40,10 @@ returns-clause-few g c = λ layout.
     let inv = c.loop-list.invariant in
     let end = c.loop-list-test.false in
     let n = c.len-list-end.ensures in
-    let ok = c.args.self.now.chains.ok.0 in
+    let ok = c.args.self.now.lists.ok.0 in
     let lists = inv.stays.settings.lists in
-    elim (below_or (layout + 2) (length s.chains.items)) [
+    let long = length-map c.args.self.now.lists.items (λ (h : ListHead). h.chain) in
+    elim (below_or (layout + 2) (length (chains_in s.lists.items))) [
       | inl lt ↦ inv.few (layout + 2) (omega arith) (omega arith)
-      | inr past ↦ (let none = ap (λ (d : Chain). d.count) (get_or_past s.chains.items (layout + 2) (record { first = 0; count = 0 }) past) in let all = chain_count s.slots.items s.next.items s.chains.items s.linked (layout + 2) in omega arith)
+      | inr past ↦ (let none = ap (λ (d : Chain). d.count) (get_or_past (chains_in s.lists.items) (layout + 2) (record { first = 0; count = 0 }) past) in let all = chain_count (slots_in s.slots) (nexts_in s.slots) (chains_in s.lists.items) s.sound.linked (layout + 2) in omega arith)
     ]

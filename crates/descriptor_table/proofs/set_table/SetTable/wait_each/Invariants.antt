@@ -9,6 +9,6 @@ use Rattle.descriptor_table.proofs.set_table.SetTable.wait_each.Given as goal
 abbrev pub invariant-loop-index : goal.invariant-loop-index
 invariant-loop-index g l = record {
   turning : Turning is_taken (Becomes (used_for (Waits l.frame))) (slots_of l.fn.self) (slots_of l.self);
-  done : (i : ℕ) → i < l.index → is_taken (slot_at (slots_of l.self) (place_at l.handles i)) ≡ false;
+  done : (i : ℕ) → i < l.index → is_taken (slot_at (slots_of l.self) (place_at (g.N.SetName.handles_of l.names) i)) ≡ false;
   stays : Stays l.fn.self l.self;
 }

@@ -1,4 +1,5 @@
 use Rattle.std.proofs.Common.{◌≡◌, ◌+◌, refl, sym, ap, ◌∙◌, arith}
+use Rattle.descriptor_table.specs.Slots.{slots_in, nexts_in}
 use Rattle.descriptor_table.specs.Tables.{count, slots_of}
 use Rattle.descriptor_table.specs.declared.slot.FrameChain.{FrameChain}
 use Rattle.descriptor_table.proofs.Counts.{count_few}
@@ -14,21 +15,21 @@ total g c =
     let n = c.len-index-end.ensures in
     let ok = s.frames.ok in
     let lt = c.loop-index-test.true in
-    let step = first_step s.slots.items s.next.items s.frames.items s.framed s.rising c.loop-index.index (c.loop-index.index + 1) refl (omega arith) in
+    let step = first_step (slots_in s.slots) (nexts_in s.slots) s.frames.items s.sound.framed s.sound.rising c.loop-index.index (c.loop-index.index + 1) refl (omega arith) in
     let one = ap (λ (d : FrameChain). d.count) (read_frame s.frames.items c.loop-index.index c.index.result.now (omega arith) c.index.ensures) in
     let before = c.loop-index.invariant in
     let read = c.from-total.ensures in
     omega arith
 
 pub loop-index-init : goal.loop-index-init
-loop-index-init g c = sym (first_start c.args.self.now.frames.items c.args.self.now.slots.items)
+loop-index-init g c = sym (first_start c.args.self.now.frames.items (slots_in c.args.self.now.slots))
 
 pub overflow_add-total : goal.overflow_add-total
 overflow_add-total g c =
     let s = c.args.self.now in
     let is = total g c in
-    let few = count_few (first_of s.frames.items (c.loop-index.index + 1)) s.slots.items in
-    let slots = s.sized.few in
+    let few = count_few (first_of s.frames.items (c.loop-index.index + 1)) (slots_in s.slots) in
+    let slots = s.sound.sized.few in
     omega arith
 
 pub loop-index-preserved : goal.loop-index-preserved
@@ -41,4 +42,4 @@ returns g c =
     let ok = s.frames.ok in
     let end = c.loop-index-test.false in
     let le = c.loop-index.auto.index-end in
-    c.loop-index.invariant ∙ first_end s.slots.items s.next.items s.frames.items s.framed s.rising c.loop-index.index (omega arith)
+    c.loop-index.invariant ∙ first_end (slots_in s.slots) (nexts_in s.slots) s.frames.items s.sound.framed s.sound.rising c.loop-index.index (omega arith)

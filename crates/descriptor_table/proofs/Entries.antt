@@ -1,0 +1,38 @@
+-- What a list of entries says of slots and of their nexts, when an entry changes: for the methods of `SlotList`.
+use Rattle.std.proofs.Common.{◌≡◌, ℕ, ◌<◌, List, length, get_or, set, map, sym, ap, subst, ◌∙◌, arith}
+use Rattle.std.proofs.Math.Seq.{map-set_same}
+use Rattle.std.proofs.lemmas.List.{get_or-map, length-map, map-set}
+use Rattle.descriptor_table.specs.Slots.{Slot, chain_at, chains_in, generations_in, no_slot, slot_at, slot_of}
+use Rattle.descriptor_table.specs.declared.slot.ListHead.{ListHead}
+use Rattle.descriptor_table.specs.declared.slot_list.Entry.{Entry}
+
+-- a list changed, of which the code read the head
+module _ (lists : List ListHead) (k : ℕ) (h : ListHead) (is : h ≡ get_or lists k h) where
+  pub chain_was : k < length (chains_in lists) → h.chain ≡ chain_at (chains_in lists) k
+  chain_was within = let long = length-map lists (λ (h : ListHead). h.chain) in ap (λ (h : ListHead). h.chain) is ∙ sym (get_or-map (λ (h : ListHead). h.chain) lists k h (record { first = 0; count = 0 }) (omega arith))
+
+  pub chain_written : (h' : ListHead) → chains_in (set lists k h') ≡ set (chains_in lists) k h'.chain
+  chain_written h' = map-set (λ (h : ListHead). h.chain) lists k h'
+
+  pub generations_stay : (h' : ListHead) → h'.generation ≡ h.generation → generations_in (set lists k h') ≡ generations_in lists
+  generations_stay h' same = map-set_same (λ (h : ListHead). h.generation) lists k h' h (same ∙ ap (λ (h : ListHead). h.generation) is)
+
+-- in the place of two things the same two
+pub in_place : {X Y : Type 0} (P : X → Y → Type 0) (x x' : X) (y y' : Y) → x' ≡ x → y' ≡ y → P x y → P x' y'
+in_place P x x' y y' one two p = subst (λ x. P x y') (sym one) (subst (P x) (sym two) p)
+
+module _ {T : Type 0} (entries : List (Entry T)) (p : ℕ) (e : Entry T) (within : p < length (map slot_of entries)) (is : e ≡ get_or entries p e) where
+  inside : p < length entries
+  inside = let long = length-map entries slot_of in omega arith
+
+  pub slot_is : slot_of e ≡ slot_at (map slot_of entries) p
+  slot_is = ap slot_of is ∙ sym (get_or-map slot_of entries p e no_slot inside)
+
+  pub written : (y : Entry T) (becomes : Slot T → Slot T) → slot_of y ≡ becomes (slot_of e) → map slot_of (set entries p y) ≡ set (map slot_of entries) p (becomes (slot_at (map slot_of entries) p))
+  written y becomes same = map-set slot_of entries p y ∙ ap (set (map slot_of entries) p) (same ∙ ap becomes slot_is)
+
+  pub next_set : (y : Entry T) (x : ℕ) → y.next ≡ x → map (λ (e : Entry T). e.next) (set entries p y) ≡ set (map (λ (e : Entry T). e.next) entries) p x
+  next_set y x same = map-set (λ (e : Entry T). e.next) entries p y ∙ ap (set (map (λ (e : Entry T). e.next) entries) p) same
+
+  pub next_stays : (y : Entry T) → y.next ≡ e.next → map (λ (e : Entry T). e.next) (set entries p y) ≡ map (λ (e : Entry T). e.next) entries
+  next_stays y same = map-set_same (λ (e : Entry T). e.next) entries p y e (same ∙ ap (λ (e : Entry T). e.next) is)

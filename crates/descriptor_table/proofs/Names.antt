@@ -1,0 +1,26 @@
+-- The handles of names: `n` says which each has, and `each` that a list's are those of its names.
+use Rattle.std.proofs.Common.{◌≡◌, ℕ, ◌<◌, List, ◌++◌, length, get_or, set, map, sym, ap, ◌∙◌}
+use Rattle.std.proofs.lemmas.List.{get_or-map, length-map, map-append, map-set}
+use Rattle.descriptor_table.specs.Tables.{place_at}
+use Rattle.descriptor_table.specs.declared.handle.SetHandle.{SetHandle}
+use Rattle.descriptor_table.specs.declared.handle.SetName.{Ghosts}
+
+module _ {N T : Type 0} (n : Ghosts N T) (each : (names : List N) → n.handles_of names ≡ map n.handle_of names) where
+  -- as many as there are names
+  pub handles_long : (names : List N) → length (n.handles_of names) ≡ length names
+  handles_long names = ap length (each names) ∙ length-map names n.handle_of
+
+  -- the handle of a name that was read
+  pub handle_read : (names : List N) (i : ℕ) (x : N) (h : SetHandle) → i < length names → x ≡ get_or names i x → h ≡ n.handle_of x → (d : SetHandle) → h ≡ get_or (n.handles_of names) i d
+  handle_read names i x h lt read is d = is ∙ ap n.handle_of read ∙ sym (get_or-map n.handle_of names i x d lt) ∙ ap (λ l. get_or l i d) (sym (each names))
+
+  pub place_read : (names : List N) (i : ℕ) (x : N) (h : SetHandle) → i < length names → x ≡ get_or names i x → h ≡ n.handle_of x → place_at (n.handles_of names) i ≡ h.place
+  place_read names i x h lt read is = sym (ap (λ (h : SetHandle). h.place) (handle_read names i x h lt read is (record { renderer = 0; place = 0; generation = 0 })))
+
+  -- a name that was written
+  pub handles_written : (names : List N) (i : ℕ) (x : N) (h : SetHandle) → n.handle_of x ≡ h → n.handles_of (set names i x) ≡ set (n.handles_of names) i h
+  handles_written names i x h is = each (set names i x) ∙ map-set n.handle_of names i x ∙ (λ j. set (sym (each names) j) i (is j))
+
+  -- the handles of two lists
+  pub handles_both : (a b : List N) → n.handles_of (a ++ b) ≡ n.handles_of a ++ n.handles_of b
+  handles_both a b = each (a ++ b) ∙ map-append n.handle_of a b ∙ (λ i. sym (each a) i ++ sym (each b) i)

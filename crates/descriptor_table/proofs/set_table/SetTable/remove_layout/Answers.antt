@@ -1,0 +1,58 @@
+use Rattle.std.proofs.Common.{◌≡◌, ◌+◌, ◌<◌, ◌≤◌, inl, inr, length, set, refl, sym, ap, subst, ◌∙◌, arith}
+use Rattle.std.proofs.Math.Seq.{map-set_same}
+use Rattle.std.proofs.lemmas.List.{get_or-map, length-map, length-set, map-set}
+use Rattle.descriptor_table.specs.Slots.{AreSound, chains_in, generation_at, generations_in, slot_at, slots_in}
+use Rattle.descriptor_table.specs.declared.slot.Chain.{Chain}
+use Rattle.descriptor_table.specs.declared.slot.ListHead.{ListHead}
+use Rattle.descriptor_table.proofs.Counting.{below_or}
+use Rattle.descriptor_table.proofs.Entries.{in_place}
+use Rattle.descriptor_table.proofs.Listed.{past_end}
+use Rattle.descriptor_table.proofs.Sound.{remove_sound, removed_here, removed_is}
+use Rattle.descriptor_table.proofs.set_table.SetTable.remove_layout.Goals.{After-index_mut}
+use Rattle.descriptor_table.proofs.set_table.SetTable.remove_layout.Goals as goal
+
+abbrev new_head : (g : _) (c : After-index_mut g) → ListHead
+new_head g c = record { chain = c.index_mut.result.now.chain; generation = c.index_mut.result.now.generation + 1 }
+
+within : (g : _) (c : After-index_mut g) → c.args.layout + 2 < length (generations_in c.args.self.now.lists.items)
+within g c = let a = length-map c.args.self.now.lists.items (λ (h : ListHead). h.chain) in let b = length-map c.args.self.now.lists.items (λ (h : ListHead). h.generation) in let there = c.requires.layout in omega arith
+
+chains : (g : _) (c : After-index_mut g) → chains_in (set c.args.self.now.lists.items (c.args.layout + 2) (new_head g c)) ≡ chains_in c.args.self.now.lists.items
+chains g c = map-set_same (λ (h : ListHead). h.chain) c.args.self.now.lists.items (c.args.layout + 2) (new_head g c) c.index_mut.result.now (ap (λ (h : ListHead). h.chain) c.index_mut.ensures.value)
+
+generations : (g : _) (c : After-index_mut g) → generations_in (set c.args.self.now.lists.items (c.args.layout + 2) (new_head g c)) ≡ set (generations_in c.args.self.now.lists.items) (c.args.layout + 2) (generation_at (generations_in c.args.self.now.lists.items) c.args.layout + 1)
+generations g c =
+    let lists = c.args.self.now.lists.items in
+    let there = within g c in
+    let long = length-map lists (λ (h : ListHead). h.generation) in
+    let was : c.index_mut.result.now.generation ≡ generation_at (generations_in lists) c.args.layout = ap (λ (h : ListHead). h.generation) c.index_mut.ensures.value ∙ sym (get_or-map (λ (h : ListHead). h.generation) lists (c.args.layout + 2) c.index_mut.result.now 0 (omega arith)) in
+    map-set (λ (h : ListHead). h.generation) lists (c.args.layout + 2) (new_head g c) ∙ ap (λ n. set (generations_in lists) (c.args.layout + 2) (n + 1)) was
+
+pub invariant_of-self : goal.invariant_of-self
+invariant_of-self g c =
+    let s = c.args.self.now in
+    let a = (goal.at.invariant_of-self g c).After-index_mut in
+    record { sound = in_place (λ chains generations. AreSound s.slots chains generations s.frames.items s.frames.cap s.keep) _ _ _ _ (chains g a) (generations g a) (remove_sound s.slots (chains_in s.lists.items) (generations_in s.lists.items) s.frames.items s.frames.cap s.keep s.sound c.args.layout (within g a) c.requires.none_kept) }
+
+pub returns-clause-only : goal.returns-clause-only
+returns-clause-only g c =
+    let a = (goal.at.returns-clause-only g c).After-index_mut in
+    record {
+      slots = refl;
+      settings = record {
+        number = refl;
+        lists = ap length (chains g a);
+        generations = ap generation_at (generations g a) ∙ (λ i n. removed_is (generations_in c.args.self.now.lists.items) c.args.layout (within g a) n i);
+        keep = refl;
+      };
+    }
+
+pub returns-clause-past : goal.returns-clause-past
+returns-clause-past g c = λ p at.
+    let s = c.args.self.now in
+    let a = (goal.at.returns-clause-past g c).After-index_mut in
+    let now = ap (λ l. generation_at l c.args.layout) (generations g a) ∙ removed_here (generations_in s.lists.items) c.args.layout (generation_at (generations_in s.lists.items) c.args.layout + 1) (within g a) in
+    elim (below_or p (length (slots_in s.slots))) [
+      | inl lt ↦ (let before = subst (λ n. (slot_at (slots_in s.slots) p).layout_generation ≤ generation_at (generations_in s.lists.items) n) at (s.sound.known p lt).before in omega arith)
+      | inr past ↦ (let none = ap (λ s. s.layout_generation) (past_end (slots_in s.slots) p past) in omega arith)
+    ]

@@ -1,0 +1,237 @@
+//! The slots of a table, each with the next one of the list that it is in.
+ghost use Rattle.std.specs.Prelude.{◌≡◌, ◌+◌, ◌<◌, ◌≤◌, [], ◌∷◌, ◌++◌, length, slice_index_or, slice_set};
+ghost use Rattle.std.specs.Prelude.{IfSome, IsOk, OnOk, None};
+
+use crate::slot::{State, Use};
+use std::alloc::{AllocError, Global};
+use std::mem;
+use std::vec::Vec;
+
+/// A place for a set.
+#[derive(Drop)]
+pub struct Entry<T> {
+    /// How many handles were given for this place.
+    pub(crate) generation: u32,
+    pub(crate) layout: u32,
+
+    /// How many layouts had the number before that of the set.
+    pub(crate) layout_generation: u32,
+
+    /// The next slot of the list that this one is in.
+    pub(crate) next: u32,
+
+    /// The frame, if the state has one.
+    pub(crate) frame: u64,
+    pub(crate) state: State,
+
+    /// Whether the set isn't kept when it comes back: it was there at the last cleanup.
+    pub(crate) leaves: bool,
+    pub(crate) set: Option<T>,
+}
+
+impl<T> Entry<T> {
+    ghost use Rattle.descriptor_table.specs.Slots.{slot_of, taken_slot};
+    ghost use Rattle.descriptor_table.specs.Tables.{used_for};
+
+    /// A slot with a set that a call has.
+    #[inline]
+    pub(crate) fn new(generation: u32, layout: u32, layout_generation: u32, set: T) -> Self
+        ensures slot { slot_of result ≡ taken_slot generation layout layout_generation set }
+        ensures next { result.next ≡ 0 }
+    {
+        Entry {
+            generation,
+            layout,
+            layout_generation,
+            next: 0,
+            frame: 0,
+            state: State::Taken,
+            leaves: false,
+            set: Some(set),
+        }
+    }
+
+    /// What the set is in use for.
+    #[inline]
+    pub(crate) fn used(&self) -> Use
+        ensures { result ≡ (slot_of self.now).used }
+    {
+        match self.state {
+            State::Held => Use::Held,
+            State::Drawn => Use::Drawn(self.frame),
+            State::Waits => Use::Waits(self.frame),
+            State::Kept => Use::Kept,
+            State::Going => Use::Going,
+            State::Taken => Use::Taken,
+            State::Vacant => Use::Vacant,
+        }
+    }
+
+    /// The set is in use for this from now on.
+    #[inline]
+    fn set_use(&mut self, used: Use)
+        ensures slot { slot_of self.new ≡ used_for used (slot_of self.old) }
+        ensures next { self.new.next ≡ self.old.next }
+    {
+        match used {
+            Use::Drawn(frame) | Use::Waits(frame) => self.frame = frame,
+            Use::Held | Use::Kept | Use::Going | Use::Taken | Use::Vacant => {}
+        }
+        self.state = used.state();
+    }
+}
+
+/// Slots by place.
+#[derive(Drop)]
+pub struct SlotList<T> {
+    pub(crate) entries: Vec<Entry<T>>,
+}
+
+impl<T> SlotList<T> {
+    ghost use Rattle.descriptor_table.specs.Slots.{Writes, filled, nexts_in, slot_at, slot_of, slots_in, space_in};
+    ghost use Rattle.descriptor_table.specs.Slots.{taken_slot};
+    ghost use Rattle.descriptor_table.specs.Tables.{aged, renewed, used_for};
+
+    /// No slots. It allocates nothing.
+    pub(crate) fn new(alloc: Global) -> Self
+        ensures { slots_in result ≡ [] }
+    {
+        SlotList {
+            entries: Vec::new(alloc),
+        }
+    }
+
+    /// How many slots there are.
+    #[inline]
+    pub(crate) fn len(&self) -> usize
+        ensures { result ≡ length (slots_in self.now) }
+    {
+        self.entries.len()
+    }
+
+    /// Reserves memory for so many slots more.
+    pub(crate) fn reserve(&mut self, additional: usize) -> Result<(), AllocError>
+        ensures room { OnOk result (length (slots_in self.old) + additional ≤ space_in self.new) }
+        ensures fits { length (slots_in self.old) + additional ≤ space_in self.old → IsOk result }
+        ensures slots { slots_in self.new ≡ slots_in self.old }
+        ensures nexts { nexts_in self.new ≡ nexts_in self.old }
+    {
+        self.entries.reserve(additional)
+    }
+
+    /// The slot at a place, if there is one.
+    #[inline]
+    pub(crate) fn get(&self, place: u32) -> Option<&Entry<T>>
+        ensures there { IfSome result (λ entry. (place < length (slots_in self.now))
+            × (slot_of entry.now ≡ slot_at (slots_in self.now) place)) }
+        ensures none { result ≡ None → length (slots_in self.now) ≤ place }
+    {
+        self.entries.get(place as usize)
+    }
+
+    /// The slot at a place.
+    #[inline]
+    pub(crate) fn at(&self, place: usize) -> &Entry<T>
+        requires { place < length (slots_in self.now) }
+        ensures slot { slot_of result.now ≡ slot_at (slots_in self.now) place }
+        ensures next { result.now.next ≡ slice_index_or (nexts_in self.now) place 0 }
+    {
+        &self.entries[place]
+    }
+
+    /// The set of a slot is in use for this from now on.
+    #[inline]
+    pub(crate) fn set_use(&mut self, place: usize, used: Use)
+        requires { place < length (slots_in self.old) }
+        ensures writes { Writes place (used_for used) self.old self.new }
+        ensures nexts { nexts_in self.new ≡ nexts_in self.old }
+    {
+        self.entries[place].set_use(used);
+    }
+
+    /// The same, for the first slot of a list, after which this one comes.
+    #[inline]
+    pub(crate) fn link(&mut self, place: usize, next: u32, used: Use)
+        requires { place < length (slots_in self.old) }
+        ensures writes { Writes place (used_for used) self.old self.new }
+        ensures nexts { nexts_in self.new ≡ slice_set (nexts_in self.old) place next }
+    {
+        let entry = &mut self.entries[place];
+        entry.next = next;
+        entry.set_use(used);
+    }
+
+    /// The same, under the next handle of the slot, whose generation rises. Returns it.
+    #[inline]
+    pub(crate) fn renew(&mut self, place: usize, used: Use) -> u32
+        requires within { place < length (slots_in self.old) }
+        requires next { (slot_at (slots_in self.old) place).generation < 4294967295 }
+        ensures generation { result ≡ (slot_at (slots_in self.old) place).generation + 1 }
+        ensures writes { Writes place (renewed used) self.old self.new }
+        ensures nexts { nexts_in self.new ≡ nexts_in self.old }
+    {
+        let entry = &mut self.entries[place];
+        entry.generation += 1;
+        entry.set_use(used);
+        entry.generation
+    }
+
+    /// The set of a slot isn't kept when it comes back.
+    #[inline]
+    pub(crate) fn age(&mut self, place: usize)
+        requires { place < length (slots_in self.old) }
+        ensures writes { Writes place aged self.old self.new }
+        ensures nexts { nexts_in self.new ≡ nexts_in self.old }
+    {
+        self.entries[place].leaves = true;
+    }
+
+    /// Takes the set out of a slot.
+    #[inline]
+    pub(crate) fn take_set(&mut self, place: usize) -> Option<T>
+        requires { place < length (slots_in self.old) }
+        ensures set { result ≡ (slot_at (slots_in self.old) place).set }
+        ensures writes { Writes place (λ slot. record slot { set = None }) self.old self.new }
+        ensures nexts { nexts_in self.new ≡ nexts_in self.old }
+    {
+        self.entries[place].set.take()
+    }
+
+    /// Puts a set into a slot that has none.
+    #[inline]
+    pub(crate) fn fill(&mut self, place: usize, layout: u32, layout_generation: u32, set: T)
+        requires within { place < length (slots_in self.old) }
+        requires empty { (slot_at (slots_in self.old) place).set ≡ None }
+        ensures writes { Writes place (filled layout layout_generation set) self.old self.new }
+        ensures nexts { nexts_in self.new ≡ slice_set (nexts_in self.old) place 0 }
+    {
+        let generation = self.entries[place].generation;
+        let entry = Entry::new(generation, layout, layout_generation, set);
+        let Entry {
+            generation: _,
+            layout: _,
+            layout_generation: _,
+            next: _,
+            frame: _,
+            state: _,
+            leaves: _,
+            set: before,
+        } = mem::replace(&mut self.entries[place], entry);
+        match before {
+            None => {}
+            Some(_) => unreachable!(),
+        }
+    }
+
+    /// Puts a set into a new slot, over memory that was reserved.
+    #[inline]
+    pub(crate) fn push(&mut self, layout: u32, layout_generation: u32, set: T)
+        requires { length (slots_in self.old) < space_in self.old }
+        ensures slots { slots_in self.new ≡ slots_in self.old ++ taken_slot 0 layout layout_generation set ∷ [] }
+        ensures nexts { nexts_in self.new ≡ nexts_in self.old ++ 0 ∷ [] }
+        ensures space { space_in self.new ≡ space_in self.old }
+    {
+        self.entries
+            .push_reserved(Entry::new(0, layout, layout_generation, set));
+    }
+}
