@@ -88,13 +88,15 @@ impl<G: GpuOfC> Player<G> for Library<G> {
 
     fn take(&mut self, _: usize, layout: usize, count: u32, sets: &mut Vec<Set>) -> bool {
         let len = sets.len();
-        sets.resize(len + count as usize, Set([0; 3]));
-        // SAFETY: there is room for so many sets.
-        let is_taken = unsafe { c_take(self.layouts[layout], count, sets[len..].as_mut_ptr()) };
-        if !is_taken {
-            sets.truncate(len);
+        sets.reserve(count as usize);
+        // SAFETY: there is room for so many sets, and they are written if it is `true`.
+        unsafe {
+            let is_taken = c_take(self.layouts[layout], count, sets.as_mut_ptr().add(len));
+            if is_taken {
+                sets.set_len(len + count as usize);
+            }
+            is_taken
         }
-        is_taken
     }
 
     fn free(&mut self, _pool: usize, sets: &mut Vec<Set>) {

@@ -33,7 +33,8 @@
  * while the device uses it, but of a set that was kept it sees neither: so keep none in a debug build.
  *
  * Pointers must be valid, and arrays at least as long as their count. NULL is GD_NULL_POINTER, unless
- * the count is 0. A gd_allocator is zeroed, or gd_create wrote it.
+ * the count is 0. While a call runs, nothing else writes the sets that it reads, or uses the memory that
+ * it writes. A gd_allocator is zeroed, or gd_create wrote it.
  *
  * Threads: each function may be called from any thread. One call on an allocator runs at a time, and a
  * call that comes from another thread waits for its turn. A call from one of your four functions, on the

@@ -132,7 +132,7 @@ class set : public last_use {
     uint64_t handle() const noexcept { return raw_.handle; }
     vk_descriptor_set vk() const noexcept { return gd::vk_handle(raw_); }
     const gd_set &raw() const noexcept { return raw_; }
-    explicit operator bool() const noexcept { return raw_.owner != 0; }
+    explicit operator bool() const noexcept { return raw_.name != 0; }
 
     /* Frees it after the current frame, or that of used_in. It keeps the set if that fails. */
     [[nodiscard]] gd_status reset() noexcept {

@@ -55,7 +55,7 @@ void trace_request(device &it, const VkDescriptorSetAllocateInfo &info, VkResult
 
 /* Gives sets that were taken out of a pool to the library, and counts those of the pool itself. */
 void give_back(device &it, std::vector<gd_set> sets) {
-    const auto own = std::remove_if(sets.begin(), sets.end(), [](const gd_set &set) { return set.owner == 0; });
+    const auto own = std::remove_if(sets.begin(), sets.end(), [](const gd_set &set) { return set.name == 0; });
     it.own.sets.now -= uint64_t(sets.end() - own);
     sets.erase(own, sets.end());
     it.library.sets.now -= sets.size();
@@ -139,7 +139,7 @@ VkResult free_sets(VkDevice handle, VkDescriptorPool of, uint32_t count, const V
     it.trace << "free " << from.number << ' ' << count;
     for (const auto *set = sets; set != sets + count; set++) {
         const auto node = from.sets.extract(GDV_NUMBER(*set));
-        if (node.empty() || node.mapped().set.owner == 0)
+        if (node.empty() || node.mapped().set.name == 0)
             others.push_back(*set);
         if (!node.empty()) {
             known.push_back(node.mapped().set);

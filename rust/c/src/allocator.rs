@@ -1,22 +1,25 @@
 //! An allocator: a renderer over the host's device.
 //!
 //! Sets, their names and their frames are the renderer's, of which it is proved that a name leads to one
-//! set, that a set is freed once, and that a name leads to one layout. What this file adds is the form that
-//! they have in C, that a `gd_set` has the handle of its set, and that a layout is known by the host's handle.
+//! set, that a set is freed once, and that a name leads to one layout. What is added here is the form that
+//! they have in C, and that a layout is known by the host's handle.
 
 use crate::abi::{AllocateVariableSets, GdLayout, GdSet, GdStatus};
-use crate::descriptor_renderer::{DestroyError, LayoutHandle, RenderError, Renderer, SetHandle};
+use crate::descriptor_renderer::{DestroyError, LayoutHandle, RenderError, Renderer};
 use crate::device::{HostDevice, HostLayout, HostPool};
 use crate::gpu_descriptor::{
     AllocationError, DescriptorSetLayoutCreateFlags, DescriptorTotalCount, SetLayout,
 };
-use crate::kit::alloc::{AllocError, Global};
-use crate::kit::vec::Vec;
+use crate::kit::alloc::Global;
 use crate::known::Known;
+use core::mem::MaybeUninit;
 
 type HostRenderer = Renderer<HostLayout, HostPool, u64, HostDevice>;
 
+mod names;
 mod statistics;
+
+use names::{layout_of, name_of};
 
 pub struct Allocator {
     id: u64,
@@ -25,38 +28,11 @@ pub struct Allocator {
     /// How many sets are held.
     held: usize,
 
-    /// The handles of a call: a place for each set that is held, at least.
-    handles: Vec<SetHandle>,
-
     /// The layouts, by the host's handles.
     known: Known,
 
     /// The host's current frame. Before the first it is one that no device is done with.
     frame: u64,
-}
-
-/// The name of a set or a layout in C: 64 bits, which no other set or layout of the allocator gets. It is
-/// never 0.
-#[inline]
-fn name_of(handle: SetHandle) -> u64 {
-    u64::from(handle.generation) << 32 | u64::from(handle.place)
-}
-
-/// The handle of a set or a layout with this name.
-#[inline]
-fn handle_of(owner: u64, name: u64) -> SetHandle {
-    SetHandle {
-        renderer: owner,
-        place: name as u32,
-        generation: (name >> 32) as u32,
-    }
-}
-
-/// The renderer's handle of a layout with this name.
-#[inline]
-fn layout_of(owner: u64, name: u64) -> LayoutHandle {
-    let slot = handle_of(owner, name);
-    LayoutHandle { slot }
 }
 
 /// The host's handle of a known layout, by its name.
@@ -78,7 +54,6 @@ impl Allocator {
             id,
             renderer,
             held: 0,
-            handles: Vec::new(Global),
             known: Known::new(),
             frame: u64::MAX,
         }
@@ -171,77 +146,17 @@ impl Allocator {
         GdStatus::OK
     }
 
-    /// Allocates sets, and passes each with its index to `put`.
+    /// Allocates a set for each place of `sets`, and writes it there, or none.
     #[inline]
-    pub fn allocate(
-        &mut self,
-        layout: GdLayout,
-        count: u32,
-        put: impl Fn(usize, GdSet),
-    ) -> GdStatus {
+    pub fn allocate(&mut self, layout: GdLayout, sets: &mut [MaybeUninit<GdSet>]) -> GdStatus {
         self.renderer.device().cause.set(GdStatus::OK);
-        match self.create(layout_of(layout.owner, layout.index), count, put) {
-            Ok(()) => GdStatus::OK,
+        let layout = layout_of(layout.owner, layout.index);
+        match self.renderer.create_sets(layout, sets) {
+            Ok(()) => {
+                self.held += sets.len();
+                GdStatus::OK
+            }
             Err(error) => self.status_of(error),
-        }
-    }
-
-    #[inline]
-    fn create(
-        &mut self,
-        layout: LayoutHandle,
-        count: u32,
-        put: impl Fn(usize, GdSet),
-    ) -> Result<(), RenderError> {
-        if self.reserve(count).is_err() {
-            return Err(match self.renderer.layout(layout) {
-                Some(_) => RenderError::Allocation(AllocationError::OutOfHostMemory),
-                None => RenderError::NoLayout,
-            });
-        }
-        if count == 1 {
-            let handle = self.renderer.create_set(layout)?;
-            self.held += 1;
-            put(0, self.shown(handle));
-            return Ok(());
-        }
-        let count = count as usize;
-        self.renderer
-            .create_sets(layout, &mut self.handles.0[..count])?;
-        self.held += count;
-        for (at, handle) in self.handles.0[..count].iter().enumerate() {
-            put(at, self.shown(*handle));
-        }
-        Ok(())
-    }
-
-    /// Reserves memory for the handles of the held sets and of so many more.
-    #[inline]
-    fn reserve(&mut self, count: u32) -> Result<(), AllocError> {
-        let wanted = self.held.checked_add(count as usize);
-        let wanted = wanted.ok_or(AllocError)?;
-        if wanted > self.handles.len() {
-            self.grow(wanted)?;
-        }
-        Ok(())
-    }
-
-    #[cold]
-    fn grow(&mut self, wanted: usize) -> Result<(), AllocError> {
-        self.handles.reserve(wanted - self.handles.len())?;
-        let places = self.handles.capacity();
-        self.handles.0.resize(places, SetHandle::NONE);
-        Ok(())
-    }
-
-    /// A set that is held, as the host gets it.
-    #[inline]
-    fn shown(&self, set: SetHandle) -> GdSet {
-        let handle = self.renderer.set(set).copied();
-        GdSet {
-            handle: handle.expect("a set that was created is held"),
-            name: name_of(set),
-            owner: self.id,
         }
     }
 
@@ -261,45 +176,21 @@ impl Allocator {
         }
     }
 
-    /// Reads a host's sets into `handles`. Whether they are held, each under its handle.
+    /// The status of a call by which all of these sets were let go, or none.
     #[inline]
-    fn read(&mut self, count: u32, get: impl Fn(usize) -> GdSet) -> bool {
-        let count = count as usize;
-        if count > self.held {
-            return false;
-        }
-        let mut are_held = true;
-        for (at, handle) in self.handles.0[..count].iter_mut().enumerate() {
-            let it = get(at);
-            *handle = handle_of(it.owner, it.name);
-            are_held &= self.renderer.set(*handle) == Some(&it.handle);
-        }
-        are_held
-    }
-
-    /// Lets a host's sets go by a call of the renderer, which takes all or none.
-    #[inline]
-    fn release(
-        &mut self,
-        count: u32,
-        get: impl Fn(usize) -> GdSet,
-        call: impl FnOnce(&mut HostRenderer, &[SetHandle]) -> Result<(), DestroyError>,
-    ) -> GdStatus {
-        if !self.read(count, get) {
+    fn let_go(&mut self, sets: &[GdSet], result: Result<(), DestroyError>) -> GdStatus {
+        if result.is_err() {
             return GdStatus::BAD_SET;
         }
-        let count = count as usize;
-        if call(&mut self.renderer, &self.handles.0[..count]).is_err() {
-            return GdStatus::BAD_SET;
-        }
-        self.held -= count;
+        self.held -= sets.len();
         GdStatus::OK
     }
 
     /// Frees sets. It allocates nothing.
     #[inline]
-    pub fn free(&mut self, count: u32, get: impl Fn(usize) -> GdSet) -> GdStatus {
-        self.release(count, get, |renderer, sets| renderer.free_sets(sets))
+    pub fn free(&mut self, sets: &[GdSet]) -> GdStatus {
+        let result = self.renderer.free_sets(sets);
+        self.let_go(sets, result)
     }
 
     /// Frees all sets, those that wait and those that are kept too. It allocates nothing.
@@ -309,10 +200,9 @@ impl Allocator {
     }
 
     /// Lets sets wait for the end of a frame. It allocates nothing.
-    pub fn free_after(&mut self, count: u32, get: impl Fn(usize) -> GdSet, frame: u64) -> GdStatus {
-        self.release(count, get, |renderer, sets| {
-            renderer.destroy_sets(sets, frame)
-        })
+    pub fn free_after(&mut self, sets: &[GdSet], frame: u64) -> GdStatus {
+        let result = self.renderer.destroy_sets(sets, frame);
+        self.let_go(sets, result)
     }
 
     /// The current frame from now on.
@@ -321,8 +211,8 @@ impl Allocator {
     }
 
     /// Lets sets wait for the end of the current frame. It allocates nothing.
-    pub fn free_after_current(&mut self, count: u32, get: impl Fn(usize) -> GdSet) -> GdStatus {
-        self.free_after(count, get, self.frame)
+    pub fn free_after_current(&mut self, sets: &[GdSet]) -> GdStatus {
+        self.free_after(sets, self.frame)
     }
 
     /// Keeps or frees the sets that wait for this frame or an earlier one. It allocates nothing.

@@ -12,6 +12,8 @@ use crate::allocator::Allocator;
 use crate::device::{Host, HostDevice, HostLayout};
 use crate::slot::{self, GdAllocator};
 use core::ffi::c_char;
+use core::mem::MaybeUninit;
+use core::slice;
 
 /// Zeroes an array of the host's, so that a request that failed leaves no set there.
 ///
@@ -25,6 +27,32 @@ unsafe fn zero(sets: *mut GdSet, count: u32) {
             unsafe { sets.add(at).write(GdSet::NONE) };
         }
     }
+}
+
+/// The host's array.
+///
+/// # Safety
+///
+/// It has so many elements, which nobody writes as long as it is used.
+unsafe fn array<'a>(sets: *const GdSet, count: u32) -> &'a [GdSet] {
+    if count == 0 {
+        return &[];
+    }
+    // SAFETY: as above.
+    unsafe { slice::from_raw_parts(sets, count as usize) }
+}
+
+/// The host's array, of which the elements may never have been written.
+///
+/// # Safety
+///
+/// There is memory for so many elements, which nobody else uses as long as it is used.
+unsafe fn places<'a>(sets: *mut GdSet, count: u32) -> &'a mut [MaybeUninit<GdSet>] {
+    if count == 0 {
+        return &mut [];
+    }
+    // SAFETY: as above.
+    unsafe { slice::from_raw_parts_mut(sets.cast(), count as usize) }
 }
 
 /// Whether a pointer to so many elements is one that the header forbids.
@@ -252,11 +280,7 @@ pub unsafe extern "C" fn gd_allocate(
         return GdStatus::NULL_POINTER;
     }
     // SAFETY: the header's.
-    let status = unsafe {
-        slot::enter(allocator, move |it| {
-            it.allocate(layout, count, move |at, set| sets.add(at).write(set))
-        })
-    };
+    let status = unsafe { slot::enter(allocator, |it| it.allocate(layout, places(sets, count))) };
     if status != GdStatus::OK {
         // SAFETY: the header's.
         unsafe { zero(sets, count) };
@@ -274,7 +298,7 @@ pub unsafe extern "C" fn gd_free(
         return GdStatus::NULL_POINTER;
     }
     // SAFETY: the header's.
-    unsafe { slot::enter(allocator, |it| it.free(count, |at| sets.add(at).read())) }
+    unsafe { slot::enter(allocator, |it| it.free(array(sets, count))) }
 }
 
 #[unsafe(no_mangle)]
@@ -294,11 +318,7 @@ pub unsafe extern "C" fn gd_free_after(
         return GdStatus::NULL_POINTER;
     }
     // SAFETY: the header's.
-    unsafe {
-        slot::enter(allocator, |it| {
-            it.free_after(count, |at| sets.add(at).read(), frame)
-        })
-    }
+    unsafe { slot::enter(allocator, |it| it.free_after(array(sets, count), frame)) }
 }
 
 #[unsafe(no_mangle)]
@@ -319,7 +339,7 @@ pub unsafe extern "C" fn gd_free_after_current(
     // SAFETY: the header's.
     unsafe {
         slot::enter(allocator, |it| {
-            it.free_after_current(count, |at| sets.add(at).read())
+            it.free_after_current(array(sets, count))
         })
     }
 }

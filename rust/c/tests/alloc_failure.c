@@ -135,22 +135,6 @@ static uint64_t refuse_each(void) {
     return turns - 1;
 }
 
-// There is no memory for so many sets, and the layout is removed.
-static void allocate_without_a_layout(void) {
-    static gd_set sets[MOST];
-    const uint32_t counts[GD_KINDS] = {1};
-    const gd_device device = {NULL, create_pool, destroy_pool, allocate_sets, free_sets};
-    gd_layout layout;
-    memory_refuses_at = 0;
-    CHECK(LIBRARY(gd_create(&device, 0, &allocator)) == GD_OK);
-    CHECK(LIBRARY(gd_add_layout(allocator, 1, counts, 0, &layout)) == GD_OK);
-    CHECK(LIBRARY(gd_remove_layout(allocator, layout)) == GD_OK);
-    uint64_t refusals = memory_refusals;
-    memory_refuses_at = memory_requests + 1;
-    CHECK(LIBRARY(gd_allocate(allocator, layout, MOST, sets)) == GD_BAD_LAYOUT && memory_refusals == refusals + 1);
-    CHECK(LIBRARY(gd_destroy(allocator)) == GD_OK && pools == 0);
-}
-
 int main(void) {
     static const uint32_t KEEPS[] = {0, 1, 7, UINT32_MAX};
     uint64_t turns = 0;
@@ -159,7 +143,6 @@ int main(void) {
         turns += refuse_each();
         CHECK(keep == 0 ? refused_calls == turns : refused_calls < turns);
     }
-    allocate_without_a_layout();
     printf("each of %" PRIu64 " allocations failed in turn: %" PRIu64 " calls failed, nothing lost\n",
            turns, refused_calls);
     return 0;

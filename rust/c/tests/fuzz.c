@@ -138,7 +138,7 @@ static void allocate(struct side *side) {
     CHECK((status == GD_BAD_LAYOUT) == (which >= 250));
     side->out += status == GD_OK ? count : 0;
     for (uint32_t at = 0; at < count; at++) {
-        CHECK((sets[at].owner == 0) == (status != GD_OK));
+        CHECK((sets[at].name == 0) == (status != GD_OK));
         CHECK(status != GD_OK || pool_of[sets[at].handle] > 0);
         if (status != GD_OK)
             continue;

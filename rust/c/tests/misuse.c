@@ -305,8 +305,7 @@ static void pass_wrong_sets(void) {
             for (uint32_t bit = 0; bit < 64; bit++) {
                 back[at] = sets[at];
                 back[at].name ^= UINT64_C(1) << bit;
-                if (bit >= 3) // else it is another's name
-                    BAD(&back[at], 1);
+                BAD(&back[at], 1);
                 BAD(back, 8);
                 back[at] = sets[at];
                 back[at].owner ^= UINT64_C(1) << bit;

@@ -5,6 +5,7 @@ use crate::abi::{GdDevice, GdPoolInfo, GdStatus};
 use crate::allocator::Allocator;
 use crate::device::{Host, HostDevice, HostLayout};
 use core::ffi::c_void;
+use core::mem::MaybeUninit;
 
 /// Calls the allocator that `user` leads to, if it isn't null, from inside of its call.
 unsafe extern "C" fn create_pool(user: *mut c_void, _: *const GdPoolInfo, _: *mut u64) -> GdStatus {
@@ -92,7 +93,7 @@ fn a_call_inside_is_busy() {
                     variable: None,
                 };
                 let layout = it.add_layout(handle, &[1; 14], 0).unwrap();
-                it.allocate(layout, 1, |_, _| unreachable!())
+                it.allocate(layout, &mut [MaybeUninit::uninit()])
             });
             assert_eq!(status, GdStatus::FRAGMENTATION);
             assert_eq!((*user).1, [GdStatus::BUSY; 2]);
