@@ -7,12 +7,12 @@ from common import Counts, need, refuse
 COSTS = {
     "kept": ("a set is allocated, and freed", 2000, 100, 600, 197),
     "frame": ("a frame of one set", 2000, 100, 600, 273),
-    "unkept": ("the same, and no sets are kept", 2000, 100, 600, 761),
-    "removed": ("a layout is added and removed, and has a set in between", 2000, 100, 600, 1016),
+    "unkept": ("the same, and no sets are kept", 2000, 100, 600, 752),
+    "removed": ("a layout is added and removed, and has a set in between", 2000, 100, 600, 1049),
     "keys": ("a set of the first key and one of the last, by the allocator alone", 2000, 100, 600, 895),
-    "waits": ("a set is destroyed after a new frame, and no frame is done", 1, 1000, 3000, 770),
-    "grown": ("a set that stays", 1, 1000, 2000, 649),
-    "layout": ("a layout that stays", 1, 1000, 2000, 298),
+    "waits": ("a set is destroyed after a new frame, and no frame is done", 1, 1000, 3000, 754),
+    "grown": ("a set that stays", 1, 1000, 2000, 633),
+    "layout": ("a layout that stays", 1, 1000, 2000, 341),
 }
 
 

@@ -37,7 +37,7 @@
  * it writes. A gd_allocator is zeroed, or gd_create wrote it.
  *
  * Threads: each function may be called from any thread. One call on an allocator runs at a time, and a
- * call that comes from another thread waits for its turn. A call from one of your four functions, on the
+ * call that comes from another thread waits for its turn. A call from one of your functions, on the
  * allocator that called it, changes nothing and returns GD_BUSY. An allocator that was created with
  * GD_EXTERNALLY_SYNCHRONIZED doesn't wait: a call that comes while another runs is GD_BUSY, from another
  * thread too, so use a lock if threads share it. A library without std has only such ones. Two threads
@@ -421,6 +421,25 @@ gd_status gd_keep(gd_allocator allocator, uint32_t most);
  * GD_BAD_ALLOCATOR, GD_BUSY, GD_INTERNAL_ERROR.
  */
 gd_status gd_set_most_pool_descriptors(gd_allocator allocator, uint64_t most);
+
+/*
+ * A function of yours that gets each new pool, for example to give it a debug name by
+ * vkSetDebugUtilsObjectNameEXT. 'info' is what create_pool got, valid during the call: each set of the pool has
+ * counts[kind] / max_sets descriptors of a kind. (If the sets have none, the pool has one sampler.)
+ *
+ * It is called in gd_allocate, once for each pool: after create_pool returned GD_OK, and before the pool's first
+ * set is allocated. A pool that create_pool refused has no call. A pool whose first sets are refused had one, and
+ * is destroyed. As one of your four functions it must return, and a call on the same allocator is GD_BUSY.
+ */
+typedef void (*gd_pool_created)(void *user, uint64_t pool, const gd_pool_info *info) GD_NOEXCEPT;
+
+/*
+ * Calls 'function' with 'user', which isn't that of the gd_device, for each pool that is created from now on. NULL
+ * ends it, and at first there is none. 'user' must stay valid until then, or until gd_destroy. It allocates nothing.
+ *
+ * GD_BAD_ALLOCATOR, GD_BUSY, GD_INTERNAL_ERROR.
+ */
+gd_status gd_set_pool_created(gd_allocator allocator, gd_pool_created function, void *user);
 
 /*
  * Gives kept sets back to the driver, and destroys all pools that then have no set. If no set is

@@ -29,7 +29,7 @@
  * A destructor has no status. It waits for other threads' calls. If no call waits (GD_EXTERNALLY_SYNCHRONIZED, or a
  * library without std) and one of another thread runs, the sets stay outstanding until gd_free_all, the layout
  * stays, and the allocator isn't destroyed: so keep the lock that orders your calls while owners end. The same
- * happens in one of the device's four functions: no owner may end there.
+ * happens in a function that the allocator calls: no owner may end there.
  */
 #ifndef GPU_DESCRIPTOR_HPP
 #define GPU_DESCRIPTOR_HPP
@@ -351,6 +351,9 @@ class allocator {
     [[nodiscard]] gd_status cleanup() noexcept { return gd_cleanup(raw_); }
     [[nodiscard]] gd_status trim() noexcept { return gd_trim(raw_); }
     [[nodiscard]] gd_status statistics(gd_statistics &to) const noexcept { return gd_get_statistics(raw_, &to); }
+    [[nodiscard]] gd_status set_pool_created(gd_pool_created function, void *user) noexcept {
+        return gd_set_pool_created(raw_, function, user);
+    }
 
     /* Allocates sets, which replace the old ones of `to`. If it fails, `to` is as before. */
     [[nodiscard]] gd_status allocate(gd_layout of, uint32_t count, sets &to) noexcept {

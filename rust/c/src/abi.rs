@@ -82,6 +82,7 @@ pub type AllocateSets =
     unsafe extern "C" fn(*mut c_void, u64, u32, *const u64, *mut u64) -> GdStatus;
 pub type AllocateVariableSets =
     unsafe extern "C" fn(*mut c_void, u64, u32, *const u64, *const u32, *mut u64) -> GdStatus;
+pub type PoolCreated = unsafe extern "C" fn(*mut c_void, u64, *const GdPoolInfo);
 pub type FreeSets = unsafe extern "C" fn(*mut c_void, u64, u32, *const u64);
 
 /// `gd_device`.

@@ -12,6 +12,7 @@ use crate::gpu_descriptor::{
 };
 use crate::kit::alloc::Global;
 use crate::known::Known;
+use crate::pool_created::OnPoolCreated;
 use core::mem::MaybeUninit;
 
 type HostRenderer = Renderer<HostLayout, HostPool, u64, HostDevice>;
@@ -71,13 +72,18 @@ impl Allocator {
 
     /// How many pools exist.
     pub fn pools(&self) -> u64 {
-        self.renderer.device().pools.count
+        self.renderer.device().pools.count()
     }
 
     /// Layouts of variable counts may be added from now on.
     pub fn set_allocate_variable_sets(&mut self, function: AllocateVariableSets) {
         let device = self.renderer.device();
         device.allocate_variable_sets.set(Some(function));
+    }
+
+    /// Calls this function for each pool that is created from now on.
+    pub fn set_pool_created(&mut self, function: Option<OnPoolCreated>) {
+        self.renderer.device().on_pool_created.set(function);
     }
 
     /// Adds a layout. A known one with the same counts and flags keeps its index.

@@ -10,6 +10,8 @@ use crate::gpu_descriptor_types::{
 };
 use crate::kit::alloc::AllocError;
 use crate::lock::Lock;
+use crate::pool_created::OnPoolCreated;
+use crate::statistics::{PoolCounts, PoolSize};
 use core::cell::Cell;
 use core::ffi::c_void;
 use std_alloc::vec::Vec;
@@ -24,39 +26,7 @@ pub struct HostLayout {
 /// A pool of the host, and what it may have.
 pub struct HostPool {
     handle: u64,
-    sets: u32,
-    descriptors: u64,
-}
-
-/// How many pools there are, and what they may have.
-#[derive(Clone, Copy, Default)]
-pub struct Pools {
-    pub count: u64,
-    pub sets: u64,
-    pub descriptors: u64,
-}
-
-impl Pools {
-    fn add(&mut self, pool: &HostPool) {
-        self.count += 1;
-        self.sets += u64::from(pool.sets);
-        self.descriptors += pool.descriptors;
-    }
-
-    fn remove(&mut self, pool: &HostPool) {
-        self.count -= 1;
-        self.sets -= u64::from(pool.sets);
-        self.descriptors -= pool.descriptors;
-    }
-
-    /// The greater of each number.
-    fn max(self, other: Self) -> Self {
-        Pools {
-            count: self.count.max(other.count),
-            sets: self.sets.max(other.sets),
-            descriptors: self.descriptors.max(other.descriptors),
-        }
-    }
+    size: PoolSize,
 }
 
 /// A `gd_device` of which no function is `NULL`.
@@ -133,9 +103,10 @@ pub struct HostDevice {
     pub allocate_variable_sets: Cell<Option<AllocateVariableSets>>,
     variables: Vec<u32>,
 
-    /// The pools that exist, and the most that there were at once.
-    pub pools: Pools,
-    pub peak: Pools,
+    /// The host's function for new pools, if it gave one.
+    pub on_pool_created: Cell<Option<OnPoolCreated>>,
+
+    pub pools: PoolCounts,
 
     /// Why a request was refused, if that is no reason of the allocator's: `DEVICE_LOST`, or `BAD_RESULT` for
     /// an unknown status; else `OK`. It is refused as if an allocation of the host had failed.
@@ -154,8 +125,8 @@ impl HostDevice {
             filled: 0,
             allocate_variable_sets: Cell::new(None),
             variables: Vec::new(),
-            pools: Pools::default(),
-            peak: Pools::default(),
+            on_pool_created: Cell::new(None),
+            pools: PoolCounts::default(),
             cause: Cell::new(GdStatus::OK),
         }
     }
@@ -229,6 +200,13 @@ impl HostDevice {
         self.call(|it| unsafe { function(it.user, pool, count, layouts, variables, handles) })
     }
 
+    /// Tells the host that it created a pool.
+    fn tell_created(&self, pool: u64, info: &GdPoolInfo) {
+        if let Some(function) = self.on_pool_created.get() {
+            self.call(|_| function.call(pool, info));
+        }
+    }
+
     /// Sets the cause to a status that is no reason of the allocator's. A lost device stays lost.
     #[cold]
     fn set_cause(&self, status: GdStatus) {
@@ -266,15 +244,17 @@ impl DescriptorDevice<HostLayout, HostPool, u64> for HostDevice {
         };
         let mut pool = HostPool {
             handle: 0,
-            sets: max_sets,
-            descriptors: counts.total_u64(),
+            size: PoolSize {
+                sets: max_sets,
+                descriptors: counts.total_u64(),
+            },
         };
         // SAFETY: both pointers are valid during the call.
         let status = self.call(|it| unsafe { (it.create_pool)(it.user, &info, &mut pool.handle) });
         match status {
             GdStatus::OK => {
-                self.pools.add(&pool);
-                self.peak = self.peak.max(self.pools);
+                self.pools.add(pool.size);
+                self.tell_created(pool.handle, &info);
                 Ok(pool)
             }
             GdStatus::OUT_OF_DEVICE_MEMORY => Err(CreatePoolError::OutOfDeviceMemory),
@@ -290,7 +270,7 @@ impl DescriptorDevice<HostLayout, HostPool, u64> for HostDevice {
     }
 
     fn destroy_descriptor_pool(&mut self, pool: HostPool) {
-        self.pools.remove(&pool);
+        self.pools.remove(pool.size);
         // SAFETY: the host created the pool, and it has no sets.
         self.call(|it| unsafe { (it.destroy_pool)(it.user, pool.handle) });
     }

@@ -6,12 +6,13 @@
 
 use crate::abi::{
     AllocateVariableSets, EXTERNALLY_SYNCHRONIZED, GdDevice, GdLayout, GdLayoutStatistics, GdSet,
-    GdStatistics, GdStatus, HEADER,
+    GdStatistics, GdStatus, HEADER, PoolCreated,
 };
 use crate::allocator::Allocator;
 use crate::device::{Host, HostDevice, HostLayout};
+use crate::pool_created::OnPoolCreated;
 use crate::slot::{self, GdAllocator};
-use core::ffi::c_char;
+use core::ffi::{c_char, c_void};
 use core::mem::MaybeUninit;
 use core::slice;
 
@@ -363,6 +364,17 @@ pub unsafe extern "C" fn gd_set_most_pool_descriptors(
 ) -> GdStatus {
     // SAFETY: the header's.
     unsafe { run(allocator, |it| it.set_most_pool_descriptors(most)) }
+}
+
+#[unsafe(no_mangle)]
+pub unsafe extern "C" fn gd_set_pool_created(
+    allocator: GdAllocator,
+    function: Option<PoolCreated>,
+    user: *mut c_void,
+) -> GdStatus {
+    let function = function.map(|it| OnPoolCreated::new(it, user));
+    // SAFETY: the header's.
+    unsafe { run(allocator, |it| it.set_pool_created(function)) }
 }
 
 #[unsafe(no_mangle)]

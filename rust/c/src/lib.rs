@@ -1,8 +1,8 @@
 //! The C interface of the allocator. `include/gpu_descriptor.h` states what each function does.
 //!
 //! Generated from proved sources are the modules `gpu_descriptor_types`, `gpu_descriptor`,
-//! `descriptor_table` and `descriptor_renderer`, which are the files of rust/gpu-descriptor, as is the
-//! `kit` that they use. By hand are `device`, which calls the host's functions, `allocator`, a
+//! `descriptor_table` and `descriptor_renderer`, which are the files of rust/gpu-descriptor, as are the
+//! `kit` that they use and `statistics`. By hand are `device`, which calls the host's functions, `allocator`, a
 //! renderer over it, `known`, which finds its layouts, `slot`, through which each call goes in its turn
 //! (`lock`), and `exports`.
 #![cfg_attr(not(any(feature = "std", test)), no_std)]
@@ -42,9 +42,15 @@ mod gpu_descriptor_types;
 mod kit;
 mod known;
 mod lock;
+#[allow(unsafe_code)]
+mod pool_created;
 // Tests have an allocator and a panic handler of std.
 #[cfg(not(any(feature = "std", test)))]
 #[allow(unsafe_code)]
 mod memory;
 #[allow(unsafe_code)]
 mod slot;
+#[path = "../../gpu-descriptor/src/statistics.rs"]
+#[allow(dead_code)]
+#[forbid(unsafe_code)]
+mod statistics;

@@ -113,6 +113,7 @@ static void run(void) {
     RETRY(gd_allocate(allocator, layouts[4], MOST, more));
     ALLOCATES_NOTHING(gd_free_after(allocator, more, 100, 1));
     ALLOCATES_NOTHING(gd_set_allocate_variable_sets(allocator, allocate_variable_sets));
+    ALLOCATES_NOTHING(gd_set_pool_created(allocator, NULL, NULL));
     RETRY(gd_add_variable_layout(allocator, 4, 5, other, 0, &layouts[5]));
     RETRY(gd_allocate(allocator, layouts[5], MOST, more));
     ALLOCATES_NOTHING(gd_begin_frame(allocator, 5));

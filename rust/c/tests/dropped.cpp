@@ -25,6 +25,7 @@ void drop(gd::allocator &allocator, gd::set &set, gd::sets &sets, gd::frame &fra
     (void)allocator.cleanup();
     (void)allocator.trim();
     (void)allocator.statistics(numbers);
+    (void)allocator.set_pool_created(nullptr, nullptr);
     (void)allocator.destroy();
     (void)layout.remove();
     (void)frame.allocate(layout, 2, raw);

@@ -54,6 +54,7 @@ static void expect_of_each(gd_status wanted, gd_allocator it, gd_layout known, g
     CHECK(gd_add_layout(it, 1, counts, 0, &layout) == wanted);
     CHECK(gd_add_variable_layout(it, 1, 1, counts, 0, &layout) == wanted);
     CHECK(gd_set_allocate_variable_sets(it, allocate_variable_sets) == wanted);
+    CHECK(gd_set_pool_created(it, NULL, NULL) == wanted);
     CHECK(layout.index == UNTOUCHED && layout.owner == UNTOUCHED);
     CHECK(gd_outstanding(it, &number) == wanted && gd_waiting(it, &number) == wanted);
     CHECK(gd_pool_count(it, &number) == wanted && number == UNTOUCHED);

@@ -301,6 +301,13 @@ void call_by_short_names() {
     CHECK(numbers.pools == 1 && it.allocator.cleanup() == GD_OK && it.device.sets == 0 && it.device.pools == 0);
     CHECK(it.allocator.keep(0) == GD_OK && it.allocator.allocate(it.layout, 1, many) == GD_OK && many.free() == GD_OK);
     CHECK(it.device.pools == 1 && it.allocator.trim() == GD_OK && it.device.pools == 0);
+    uint64_t created = 0;
+    const auto function = [](void *user, uint64_t pool, const gd_pool_info *) noexcept {
+        *static_cast<uint64_t *>(user) = pool;
+    };
+    CHECK(it.allocator.set_pool_created(function, &created) == GD_OK);
+    CHECK(it.allocator.allocate(it.layout, 1, many) == GD_OK && many.free() == GD_OK);
+    CHECK(created != 0 && created == it.device.handles - 1);
 }
 
 // A batch that is used in a frame is freed at once all the same, or after that frame, although an earlier one is

@@ -1,5 +1,6 @@
 // What the header says of layouts that are added again, of a limit of 0, of how many calls of the driver a
-// request and a free take, of what 'user' points to, and of handles and counts that take all of their bits.
+// request and a free take, of what 'user' points to, of handles and counts that take all of their bits, and of names
+// for new pools.
 #include "gpu_descriptor.h"
 #include "host.h"
 #include <string.h>
@@ -209,6 +210,104 @@ static void copy_users(void) {
     }
 }
 
+// ---- names of pools ----
+
+// A device that refuses some calls. A pool that was created is named before any other call.
+static gd_allocator naming;
+static uint64_t unnamed; // the pool that was just created, or 0
+static uint64_t named, refused_pools, refused_new;
+static bool is_new;    // whether the last call created a pool
+static bool is_naming; // whether new pools get names
+
+static bool is_refused(uint32_t one_of, gd_status *why) {
+    static const gd_status REASONS[] = {GD_OUT_OF_DEVICE_MEMORY, GD_OUT_OF_HOST_MEMORY, GD_FRAGMENTATION,
+                                        GD_OUT_OF_POOL_MEMORY,   GD_DEVICE_LOST,        77};
+    *why = one_in(one_of) ? REASONS[random_below(6)] : GD_OK;
+    return *why != GD_OK;
+}
+
+static gd_status create_pool_to_name(void *user, const gd_pool_info *info, uint64_t *pool) {
+    gd_status why;
+    CHECK(unnamed == 0);
+    is_new = false;
+    *pool = ++next_handle; // of a refused pool it means nothing
+    if (is_refused(3, &why)) {
+        refused_pools++;
+        return why;
+    }
+    is_new = true;
+    (void)create_pool(user, info, pool);
+    unnamed = is_naming ? *pool : 0;
+    return GD_OK;
+}
+
+static void destroy_named_pool(void *user, uint64_t pool) {
+    CHECK(unnamed == 0);
+    destroy_pool(user, pool);
+}
+
+static gd_status allocate_sets_of_named(void *user, uint64_t pool, uint32_t count, const uint64_t *layouts,
+                                        uint64_t *handles) {
+    gd_status why;
+    CHECK(unnamed == 0);
+    if (is_refused(4, &why)) {
+        refused_new += is_new;
+        return why;
+    }
+    is_new = false;
+    return allocate_sets(user, pool, count, layouts, handles);
+}
+
+// Names go to the user that was given with this function, in a call on the allocator.
+static void name_pool(void *user, uint64_t pool, const gd_pool_info *info) {
+    CHECK(user == &named && pool == unnamed && memcmp(info, &last_pool, sizeof *info) == 0);
+    CHECK(gd_trim(naming) == GD_BUSY && gd_set_pool_created(naming, NULL, NULL) == GD_BUSY);
+    unnamed = 0;
+    named++;
+}
+
+static void count_pool(void *user, uint64_t pool, const gd_pool_info *info) {
+    (void)info;
+    CHECK(pool == unnamed);
+    unnamed = 0;
+    ++*(uint64_t *)user;
+}
+
+static void allocate_named(const gd_layout *layouts) {
+    const uint32_t count = 1 + random_below(600);
+    const gd_status status = gd_allocate(naming, layouts[random_below(3)], count, sets);
+    CHECK(unnamed == 0);
+    CHECK(status != GD_OK || gd_free(naming, sets, count) == GD_OK);
+    CHECK(gd_trim(naming) == GD_OK && sets_alive == 0 && pools == 0);
+}
+
+// Each pool is named once, whatever the device refuses before and after.
+static void name_pools(void) {
+    const gd_device device = {&pools, create_pool_to_name, destroy_named_pool, allocate_sets_of_named, free_sets};
+    uint64_t counted = 0;
+    CHECK(gd_create(&device, UINT32_MAX, &naming) == GD_OK && gd_keep(naming, 0) == GD_OK);
+    const gd_layout layouts[] = {added(naming, 1, 1, 0), added(naming, 2, 0, GD_UPDATE_AFTER_BIND),
+                                 added(naming, 3, 1000, 0)};
+    CHECK(gd_set_most_pool_descriptors(naming, 20000) == GD_OK);
+    is_naming = true;
+    CHECK(gd_set_pool_created(naming, name_pool, &named) == GD_OK);
+    for (int turn = 0; turn < 1000; turn++)
+        allocate_named(layouts);
+    CHECK(named > 100 && refused_pools > 100 && refused_new > 100);
+    const uint64_t before = named;
+    CHECK(gd_set_pool_created(naming, count_pool, &counted) == GD_OK);
+    for (int turn = 0; turn < 100; turn++)
+        allocate_named(layouts);
+    CHECK(named == before && counted > 10);
+    is_naming = false;
+    const uint64_t counted_before = counted;
+    CHECK(gd_set_pool_created(naming, NULL, &counted) == GD_OK);
+    for (int turn = 0; turn < 100; turn++)
+        allocate_named(layouts);
+    CHECK(named == before && counted == counted_before);
+    CHECK(gd_destroy(naming) == GD_OK);
+}
+
 int main(void) {
     add_layouts_again();
     allocate_at_a_limit_of_zero();
@@ -218,6 +317,7 @@ int main(void) {
     count_past_31_bits();
     pass_2_to_the_31_sets();
     copy_users();
+    name_pools();
     printf("requests are as the header says\n");
     return 0;
 }

@@ -112,6 +112,8 @@ mod cache;
 #[cfg(doctest)]
 mod compile_fail;
 #[forbid(unsafe_code)]
+mod counted;
+#[forbid(unsafe_code)]
 mod counts;
 #[allow(clippy::all, missing_docs)]
 #[warn(clippy::incompatible_msrv, clippy::missing_panics_doc, clippy::missing_safety_doc)]
@@ -149,6 +151,8 @@ mod kit_refusals;
 #[forbid(unsafe_code)]
 mod poison;
 pub mod renderer;
+#[forbid(unsafe_code)]
+mod statistics;
 #[cfg(feature = "vulkan")]
 pub mod vulkan;
 
@@ -160,3 +164,4 @@ pub use crate::gpu_descriptor_types::{
 };
 pub use allocator::DescriptorAllocator;
 pub use device::DescriptorDevice;
+pub use statistics::{LayoutStatistics, Statistics};

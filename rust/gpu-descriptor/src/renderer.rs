@@ -88,13 +88,13 @@
 //! # }
 //! ```
 
+mod statistics;
+
+use crate::counted::{Counted, CountedPool};
 use crate::device::{Adapter, DescriptorDevice};
-use crate::gpu_descriptor_types::{self as types, Layouts, SetSink};
 use crate::poison::{Guarded, is_panicking, refuse, warn};
-use crate::{
-    AllocationError, CreatePoolError, DescriptorPoolCreateFlags, DescriptorTotalCount,
-    DeviceAllocationError, PoolView, SetLayout, descriptor_renderer as inner, kit,
-};
+use crate::statistics::PoolCounts;
+use crate::{AllocationError, PoolView, SetLayout, descriptor_renderer as inner, kit};
 use core::error::Error;
 use core::fmt;
 use core::sync::atomic::{AtomicU32, Ordering};
@@ -157,7 +157,12 @@ static RENDERERS: AtomicU32 = AtomicU32::new(0);
 /// A drop without `shutdown` destroys no pools: see [At a drop](crate#at-a-drop). The raw layouts, pools
 /// and sets are dropped before the device.
 pub struct Renderer<L, P, S, D: DescriptorDevice<L, P, S>> {
-    inner: Guarded<inner::Renderer<L, P, S, Owned<D>>>,
+    inner: Guarded<inner::Renderer<L, CountedPool<P>, S, Owned<D>>>,
+
+    /// The number in its handles, and by the place of a layout the generation of its last handle, also if the
+    /// layout was removed: so all layouts can be listed.
+    number: u64,
+    generations: Vec<u32>,
 }
 
 impl<L, P, S, D: DescriptorDevice<L, P, S>> Renderer<L, P, S, D> {
@@ -174,17 +179,20 @@ impl<L, P, S, D: DescriptorDevice<L, P, S>> Renderer<L, P, S, D> {
         let number = RENDERERS.fetch_update(Ordering::Relaxed, Ordering::Relaxed, |number| {
             number.checked_add(1)
         });
-        let device = Owned {
-            pools: Pools(0),
-            adapter: Adapter { device },
+        let number = number.expect("no number is left for a renderer").into();
+        let device = Counted {
+            device: Adapter { device },
+            pools: Pools(PoolCounts::default()),
         };
         Renderer {
             inner: Guarded::new(inner::Renderer::new(
                 kit::alloc::Global,
                 device,
                 max_update_after_bind_descriptors_in_all_pools,
-                u64::from(number.expect("no number is left for a renderer")),
+                number,
             )),
+            number,
+            generations: Vec::new(),
         }
     }
 
@@ -202,8 +210,22 @@ impl<L, P, S, D: DescriptorDevice<L, P, S>> Renderer<L, P, S, D> {
         &mut self,
         layout: SetLayout<L>,
     ) -> Result<LayoutHandle, AddLayoutError<L>> {
-        let added = self.inner.call(|inner| inner.add_layout(layout));
-        added.map_err(|failed| AddLayoutError(failed.value))
+        let generations = &mut self.generations;
+        self.inner.call(|inner| {
+            if generations.try_reserve(1).is_err() {
+                return Err(AddLayoutError(layout));
+            }
+            let added = inner.add_layout(layout);
+            let handle = added.map_err(|failed| AddLayoutError(failed.value))?;
+            let SetHandle {
+                place, generation, ..
+            } = handle.slot;
+            match generations.get_mut(place as usize) {
+                Some(last) => *last = generation,
+                None => generations.push(generation),
+            }
+            Ok(handle)
+        })
     }
 
     /// Removes a layout, and returns it. Its handle names none from now on, and none later. Its kept sets
@@ -495,7 +517,7 @@ impl<L, P, S, D: DescriptorDevice<L, P, S>> Renderer<L, P, S, D> {
     /// The device, to write sets and to bind them.
     #[must_use]
     pub fn device(&self) -> &D {
-        &self.inner.get().device().adapter.device
+        &self.inner.get().device().device.device
     }
 
     /// The number of the last frame that was opened, or skipped by `skip_to`; 0 before the first.
@@ -567,9 +589,9 @@ impl<L, P, S, D: DescriptorDevice<L, P, S>> Renderer<L, P, S, D> {
     /// Hands the device back without a call of it. Pools and sets stay with the device, and nobody
     /// destroys them. It is for a device that is lost, and for a poisoned renderer.
     pub fn into_device(self) -> D {
-        let Owned { adapter, pools } = self.inner.into_inner().into_device();
+        let Counted { device, pools } = self.inner.into_inner().into_device();
         core::mem::forget(pools);
-        adapter.device
+        device.device
     }
 
     /// Frees all sets, kept ones too, destroys all pools, and hands the device back. It allocates nothing
@@ -587,7 +609,7 @@ impl<L, P, S, D: DescriptorDevice<L, P, S>> Renderer<L, P, S, D> {
     /// panics even then, which ends the program.
     pub unsafe fn shutdown(self) -> D {
         if !self.inner.is_poisoned() {
-            return self.inner.into_inner().shutdown().adapter.device;
+            return self.inner.into_inner().shutdown().device.device;
         }
         // The pools aren't dropped, which without std is a panic too.
         let device = self.into_device();
@@ -609,52 +631,22 @@ impl<L, P, S, D: DescriptorDevice<L, P, S>> fmt::Debug for Renderer<L, P, S, D> 
     }
 }
 
-/// The device of a renderer, and how many pools it has for it.
-struct Owned<D> {
-    pools: Pools,
-    adapter: Adapter<D>,
-}
+/// The device of a renderer, and the pools that it has for it.
+type Owned<D> = Counted<Adapter<D>, Pools>;
 
-struct Pools(u64);
+struct Pools(PoolCounts);
+
+impl AsMut<PoolCounts> for Pools {
+    fn as_mut(&mut self) -> &mut PoolCounts {
+        &mut self.0
+    }
+}
 
 impl Drop for Pools {
     fn drop(&mut self) {
-        if self.0 > 0 {
+        if self.0.count() > 0 {
             warn("Descriptor pools were not destroyed");
         }
-    }
-}
-
-impl<L, P, S, D: DescriptorDevice<L, P, S>> types::DescriptorDevice<L, P, S> for Owned<D> {
-    fn create_descriptor_pool(
-        &mut self,
-        counts: &DescriptorTotalCount,
-        max_sets: u32,
-        flags: DescriptorPoolCreateFlags,
-    ) -> Result<P, CreatePoolError> {
-        let created = self.adapter.create_descriptor_pool(counts, max_sets, flags);
-        self.pools.0 += u64::from(created.is_ok());
-        created
-    }
-
-    fn destroy_descriptor_pool(&mut self, pool: P) {
-        self.adapter.destroy_descriptor_pool(pool);
-        self.pools.0 -= 1;
-    }
-
-    #[inline]
-    fn alloc_descriptor_sets<K: SetSink<S>>(
-        &mut self,
-        pool: &mut P,
-        layouts: Layouts<'_, L>,
-        sets: &mut K,
-    ) -> Result<(), DeviceAllocationError> {
-        self.adapter.alloc_descriptor_sets(pool, layouts, sets)
-    }
-
-    #[inline]
-    fn dealloc_descriptor_sets<I: Iterator<Item = S>>(&mut self, pool: &mut P, sets: &mut I) {
-        self.adapter.dealloc_descriptor_sets(pool, sets)
     }
 }
 

@@ -345,6 +345,9 @@ fn calls_of_a_renderer() -> Vec<Call<Rendering>> {
         Answers (on.it.as_mut().unwrap()).update_after_bind_limit();
         Answers (on.it.as_mut().unwrap()).pool_count(on.layout);
         Answers (on.it.as_mut().unwrap()).pool(on.layout, 0).unwrap();
+        Answers (on.it.as_mut().unwrap()).statistics();
+        Answers (on.it.as_mut().unwrap()).layout_statistics(on.layout).unwrap();
+        Answers (on.it.as_mut().unwrap()).write_statistics(&mut String::new(), |_| 0).unwrap();
     }
 }
 
@@ -379,6 +382,7 @@ fn every_call_is_listed() {
     assert!(all.remove("into_inner"));
     assert_eq!(names(&calls_of_a_manager()), all);
     let mut all = methods(include_str!("../src/renderer.rs"));
+    all.extend(methods(include_str!("../src/renderer/statistics.rs")));
     assert!(all.remove("into_inner"));
     assert_eq!(names(&calls_of_a_renderer()), all);
 }
