@@ -338,11 +338,7 @@ pub unsafe extern "C" fn gd_free_after_current(
         return GdStatus::NULL_POINTER;
     }
     // SAFETY: the header's.
-    unsafe {
-        slot::enter(allocator, |it| {
-            it.free_after_current(array(sets, count))
-        })
-    }
+    unsafe { slot::enter(allocator, |it| it.free_after_current(array(sets, count))) }
 }
 
 #[unsafe(no_mangle)]
