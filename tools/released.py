@@ -20,6 +20,9 @@ LOST = re.compile(r"\]\((?![a-z+]+:|#)[^)\s]*\.(?:md|rs|svg)\b|\]\(\.\.?/")
 # The packages of pkg-config, by what they link.
 PACKAGES = {"static": "gpu-descriptor-static", "shared": "gpu-descriptor"}
 
+# Examples that are linked with Vulkan.
+OVER_VULKAN = {"vulkan.c", "engine.cpp"}
+
 
 def read(path):
     with open(path, encoding="utf-8", errors="surrogateescape") as it:
@@ -162,7 +165,7 @@ def program_fault(program):
 def by_pkg_config(folder, name, kind, made):
     """Builds an example with the flags of pkg-config."""
     language = "c++ -std=c++17" if name.endswith(".cpp") else "cc -std=c11"
-    more = "-lvulkan" if name == "vulkan.c" else ""
+    more = "-lvulkan -lpthread" if name in OVER_VULKAN else ""
     line = (f"flags=$(pkg-config --cflags --libs {PACKAGES[kind]}) && "
             f"{language} examples/{name} $flags {more} -Wl,-rpath,{folder}/lib -o {made}")
     return run("sh", "-c", line, cwd=folder, PKG_CONFIG_PATH=f"{folder}/lib/pkgconfig")
@@ -178,7 +181,7 @@ def check_programs(say, folder, room):
     examples = [it for it in sorted(os.listdir(f"{folder}/examples")) if it.endswith((".c", ".cpp"))]
     if run("sh", "-c", "echo '#include <vulkan/vulkan.h>' | cc -E -x c - -o /dev/null"):
         print("skipped: what needs Vulkan: apt-get install libvulkan-dev")
-        examples.remove("vulkan.c")
+        examples = [it for it in examples if it not in OVER_VULKAN]
     has_cmake = shutil.which("cmake") and say("the examples by CMake", by_cmake(folder, f"{room}/made"))
     for missing in (it for it in ("cmake", "pkg-config") if not shutil.which(it)):
         print(f"skipped: programs by {missing}: apt-get install {missing}")

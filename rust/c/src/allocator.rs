@@ -182,6 +182,12 @@ impl Allocator {
         }
     }
 
+    /// How many sets are held.
+    #[inline]
+    pub fn held(&self) -> usize {
+        self.held
+    }
+
     /// The status of a call by which all of these sets were let go, or none.
     #[inline]
     fn let_go(&mut self, sets: &[GdSet], result: Result<(), DestroyError>) -> GdStatus {

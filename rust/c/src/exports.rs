@@ -43,6 +43,29 @@ unsafe fn array<'a>(sets: *const GdSet, count: u32) -> &'a [GdSet] {
     unsafe { slice::from_raw_parts(sets, count as usize) }
 }
 
+/// Passes the host's array to a call. One that is longer than all sets that are held isn't read.
+///
+/// # Safety
+///
+/// As that of `array`, and of `slot::enter`.
+#[inline]
+unsafe fn release(
+    allocator: GdAllocator,
+    sets: *const GdSet,
+    count: u32,
+    call: impl FnOnce(&mut Allocator, &[GdSet]) -> GdStatus,
+) -> GdStatus {
+    let call = |it: &mut Allocator| {
+        if count as usize > it.held() {
+            return GdStatus::BAD_SET;
+        }
+        // SAFETY: the caller's.
+        call(it, unsafe { array(sets, count) })
+    };
+    // SAFETY: the caller's.
+    unsafe { slot::enter(allocator, call) }
+}
+
 /// The host's array, of which the elements may never have been written.
 ///
 /// # Safety
@@ -299,7 +322,7 @@ pub unsafe extern "C" fn gd_free(
         return GdStatus::NULL_POINTER;
     }
     // SAFETY: the header's.
-    unsafe { slot::enter(allocator, |it| it.free(array(sets, count))) }
+    unsafe { release(allocator, sets, count, |it, sets| it.free(sets)) }
 }
 
 #[unsafe(no_mangle)]
@@ -319,7 +342,11 @@ pub unsafe extern "C" fn gd_free_after(
         return GdStatus::NULL_POINTER;
     }
     // SAFETY: the header's.
-    unsafe { slot::enter(allocator, |it| it.free_after(array(sets, count), frame)) }
+    unsafe {
+        release(allocator, sets, count, |it, sets| {
+            it.free_after(sets, frame)
+        })
+    }
 }
 
 #[unsafe(no_mangle)]
@@ -338,7 +365,11 @@ pub unsafe extern "C" fn gd_free_after_current(
         return GdStatus::NULL_POINTER;
     }
     // SAFETY: the header's.
-    unsafe { slot::enter(allocator, |it| it.free_after_current(array(sets, count))) }
+    unsafe {
+        release(allocator, sets, count, |it, sets| {
+            it.free_after_current(sets)
+        })
+    }
 }
 
 #[unsafe(no_mangle)]
