@@ -63,6 +63,15 @@ class Counts:
         self.failed += not is_fine
         print(text if is_fine else f"FAILED: {text}", flush=True)
 
+    def part(self, *words):
+        """Runs a tool whose last line counts, and adds that."""
+        ran = subprocess.run(words, stdout=subprocess.PIPE, text=True)
+        print(f"-- {os.path.basename(words[0])}", ran.stdout, sep="\n", end="", flush=True)
+        found = re.search(r"^(\d+) passed, (\d+) failed\n\Z", ran.stdout, re.M)
+        passed, failed = map(int, found.groups()) if found else (0, 1)
+        self.passed += passed
+        self.failed += failed or int(ran.returncode != 0)
+
     def end(self):
         """Says how many, and is the exit code."""
         print(f"{self.passed} passed, {self.failed} failed")
@@ -79,6 +88,11 @@ def report(checks):
         counts.passed += not found
         counts.failed += bool(found)
     return counts.end()
+
+
+def read(path):
+    with open(path, encoding="utf-8") as it:
+        return it.read()
 
 
 def is_built(file):
@@ -206,64 +220,54 @@ TIMED = ["timeout", "--kill-after=10", "900"]
 
 
 class BadEdit(Exception):
-    """An edit that reads as none, or that no longer applies."""
+    """An edit that no longer applies."""
 
 
-class EditText(NamedTuple):
-    """What a file of an edit has: its replacements, (file, old, new) in order, and by their word its other lines."""
+class Mutant(NamedTuple):
+    """An edit that something has to refuse: its name, what stands after the name, its replacements (file, old, new)
+    in order, and by their word its other lines."""
+    name: str
+    note: str
     pairs: list
     lines: dict
 
-    def line(self, word):
-        """The only line with this word."""
-        if len(self.lines[word]) != 1:
-            raise BadEdit(f"it has not one line '{word}:'")
-        return self.lines[word][0]
 
-
-def read_edit(path):
-    """Reads the edit of a file."""
-    with open(path, encoding="utf-8") as it:
-        return parse_edit(it.read())
+# In a line of a mutant what it takes out, and what it writes.
+CHANGE = re.compile(r"\[-(.*?)-\]|\{\+(.*?)\+\}")
 
 
 def mutants_of(path):
-    """The name and the text of each mutant of a file, in which one begins with '== NAME'."""
-    if not os.path.isfile(path):
-        return
-    with open(path, encoding="utf-8") as it:
-        for part in re.split("^== ", it.read(), flags=re.M)[1:]:
-            name, _, text = part.partition("\n")
-            yield name, text
+    """The mutants of a list, if it is there. A line 'file: PATH' is for all that follows up to the next one. A mutant
+    begins with '== NAME' or '== NAME: NOTE'. A line that it changes is '~ if count > [-1-]{+2+} {', with what goes
+    and what comes. Of several lines each begins with '- ', and what comes in their place with '+ '."""
+    found, file, last = [], None, None
+    lines = read(path).splitlines() if os.path.isfile(path) else []
+    for number, line in enumerate(lines, 1):
+        mark, _, text = line.partition(" ")
+        pairs = found[-1].pairs if found else None
+        if mark == "file:":
+            file = text
+        elif mark == "==":
+            name, _, note = text.partition(": ")
+            found.append(Mutant(name, note, [], {"error": [], "function": [], "clause": [], "rust": []}))
+        elif mark == "~" and pairs is not None and file:
+            pairs.append((file, *(CHANGE.sub(lambda it: it[side] or "", text) for side in (1, 2))))
+        elif mark == "-" and pairs is not None and file:
+            pairs.append((file, f"{pairs.pop()[1]}\n{text}" if last == "-" else text, ""))
+        elif mark == "+" and last == "-":
+            pairs[-1] = (*pairs[-1][:2], text)
+        elif found and mark[:-1] in found[-1].lines:
+            found[-1].lines[mark[:-1]].append(text)
+        elif line:
+            refuse(f"{path}:{number}: this line is out of place: {line}")
+        last = mark
+    return found
 
 
 def rust_mutants():
-    """The folder, the name and the text of each mutant of rust/mutants."""
+    """The folder and the mutant, of each list of rust/mutants."""
     for path in sorted(glob.glob(f"{TOP}/rust/mutants/*.txt")):
-        for name, text in mutants_of(path):
-            yield os.path.basename(path).removesuffix(".txt"), name, text
-
-
-def parse_edit(text):
-    """Parses an edit. An old text of several lines has a line 'old:' for each."""
-    lines = [line.partition(":") for line in text.splitlines() if line.strip()]
-    file, old, pairs, others = None, [], [], {"error": [], "function": [], "clause": [], "rust": [], "test": []}
-    for key, _, value in lines:
-        value = value[1:] if value.startswith(" ") else value
-        if key == "file":
-            file = value
-        elif key in others:
-            others[key].append(value)
-        elif key == "old":
-            old.append(value)
-        elif key == "new" and file and old:
-            pairs.append((file, "\n".join(old), value))
-            old = []
-        else:
-            raise BadEdit(f"the line '{key}:' is out of place")
-    if not pairs:
-        raise BadEdit("it has no 'old:' and 'new:' pair")
-    return EditText(pairs, others)
+        yield from ((os.path.basename(path).removesuffix(".txt"), it) for it in mutants_of(path))
 
 
 def edited(crate, pairs, texts=()):

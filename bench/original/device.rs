@@ -1,6 +1,4 @@
 //! A device that only counts, so that what is timed is the allocator.
-//!
-//! It is the device of `crates/descriptor_bench`, without what that proves.
 
 use crate::types::{
     CreatePoolError, DescriptorDevice, DescriptorPoolCreateFlags, DescriptorTotalCount,

@@ -1,4 +1,4 @@
-//! Times the same workloads as `crates/descriptor_bench`, by the original allocator. With the words `trace`, a
+//! Times workloads by the original allocator. With the words `trace`, a
 //! file and a number it plays a trace so often.
 
 extern crate alloc;

@@ -1,4 +1,4 @@
-//! The workloads of `crates/descriptor_bench`, by any allocator.
+//! The workloads, by any allocator.
 //!
 //! Arguments of the program: a workload and a number N. The line on standard output is to be the same
 //! as ours; the time of all operations goes to standard error.

@@ -1,8 +1,8 @@
 //! Sets and pools as they are to be used: each while it is out, and each is freed once.
-ghost use Rattle.std.specs.Prelude.{◌≡◌, ◌+◌, IfOk, OnOk};
+ghost use Rattle.std.specs.Prelude.{◌≡◌};
 ghost use Rattle.gpu_descriptor.specs.Caller.States.{Agrees, outstanding_of};
 ghost use Rattle.descriptor_script.specs.Scripted.Raw.{pool_id};
-ghost use Rattle.descriptor_script.specs.Scripted.Logged.{ledger_logged, next_pool};
+ghost use Rattle.descriptor_script.specs.Scripted.Logged.{ledger_logged};
 
 use bitflags::Flags;
 use descriptor_script::{LogDevice, RawPool, RawSet, ScriptLayout};
@@ -61,8 +61,6 @@ pub fn borrow_pool(
     counts: &DescriptorTotalCount,
 ) -> Result<u64, CreatePoolError>
     ensures pools { (ledger_logged device.new).pools ≡ (ledger_logged device.old).pools }
-    ensures name { IfOk result (λ name. name ≡ next_pool device.old) }
-    ensures next { OnOk result (next_pool device.new ≡ next_pool device.old + 1) }
 {
     let flags = DescriptorPoolCreateFlags::empty();
     match device.create_descriptor_pool(counts, 1, flags) {

@@ -4,7 +4,7 @@ use Rattle.std.specs.List.{flat_map, zip}
 use Rattle.std.proofs.lemmas.List.{take_all, take_more, flat_map_more}
 use Rattle.std.proofs.lemmas.Slice.Zip.{length-zip, get_or-zip}
 use Rattle.descriptor_lines.specs.Answers.{kind_answer, kinds_answer}
-use Rattle.descriptor_words.specs.Kinds.{kind_names}
+use Rattle.descriptor_lines.specs.Kinds.{kind_names}
 
 -- the first n kinds
 unfoldable pub answer_of_first : ℕ → List (List ℕ) → List ℕ → List ℕ

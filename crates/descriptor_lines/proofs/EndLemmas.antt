@@ -6,10 +6,10 @@ use Rattle.std.specs.List.{position_or_len}
 use Rattle.std.specs.Io.BufRead.{strip_last}
 use Rattle.std.specs.Io.KnownBytes.{Appends, IsAtEnd, prepend_known}
 use Rattle.std.proofs.KnownBytes.{Appends-trans}
-use Rattle.descriptor_words.specs.Words.{is_byte, words}
-use Rattle.descriptor_words.specs.declared.fault.Fault.TheVariants.{LineTooLong}
-use Rattle.descriptor_words.specs.declared.fault.Refusal.{Refusal}
-use Rattle.descriptor_words.specs.declared.fault.Refusal.TheVariants as refusal
+use Rattle.descriptor_lines.specs.Words.{is_byte, words}
+use Rattle.descriptor_lines.specs.declared.words.fault.Fault.TheVariants.{LineTooLong}
+use Rattle.descriptor_lines.specs.declared.words.fault.Refusal.{Refusal}
+use Rattle.descriptor_lines.specs.declared.words.fault.Refusal.TheVariants as refusal
 use Rattle.descriptor_lines.specs.Answers.{fault_line}
 use Rattle.descriptor_lines.specs.LineBuffers.{buffered, bytes_at, unread}
 use Rattle.descriptor_lines.specs.LineStates.{LineState}

@@ -1,9 +1,12 @@
 pub mod AnswerLemmas
 pub mod EndLemmas
-pub mod FirstLayoutLemmas
 pub mod LayoutLemmas
 pub mod LineLemmas
+pub mod NameLemmas
+pub mod NumberLemmas
 pub mod ReplyLemmas
 pub mod SessionLemmas
 pub mod ShownLemmas
+pub mod TicketLemmas
 pub mod TranscriptLemmas
+pub mod WordLemmas

@@ -14,7 +14,7 @@ use Rattle.std.proofs.lemmas.List.Edits.{length-between}
 use Rattle.std.proofs.lemmas.List.Folds.{prefix_len-append}
 use Rattle.std.proofs.lemmas.List.Sums.{prefix_len-le-length}
 use Rattle.descriptor_lines.specs.Lines.{HasEnd, HasNoEnd, LosesLine, BeginsTooLong, before_end, after_end, longest_line}
-use Rattle.descriptor_words.specs.Words.{is_byte}
+use Rattle.descriptor_lines.specs.Words.{is_byte}
 
 -- ---- parts of a list
 

@@ -11,7 +11,7 @@ use Rattle.descriptor_script.specs.Sessions.Session.{allocator_of, sets_of}
 use Rattle.descriptor_script.specs.Sessions.Tickets.{held_sets}
 use Rattle.descriptor_script.specs.declared.raw.RawPool.{RawPool}
 use Rattle.descriptor_lines.specs.Answers.{held_answer, pool_answer}
-use Rattle.descriptor_lines.specs.FirstLayouts.{first_layouts, key_of, listed}
+use Rattle.descriptor_lines.specs.LayoutTables.{key_of, listed}
 use Rattle.descriptor_lines.specs.LineStates.{LineState}
 use Rattle.descriptor_lines.specs.Shown.{calls_answer, pools_answer, show_answer, view_of, views_of}
 use Rattle.descriptor_lines.specs.declared.layouts.Entry.{Entry}
@@ -85,5 +85,4 @@ unfolding said_of_told show_answer
 said_whole p old text pools =
     let calls = calls_answer p.ledger.counters in
     let held = held_answer (length (held_sets (sets_of p.session))) (marked_load_of (allocator_of p.session)) in
-    let firsts = pools ∙ ap (λ layouts. old ++ flat_map (pools_answer (allocator_of p.session).table) layouts) p.layouts.told in
-    ap (λ said. (said ++ calls) ++ held) firsts ∙ joined old (flat_map (pools_answer (allocator_of p.session).table) (first_layouts (map listed p.layouts.by_name.entries))) calls held
+    ap (λ said. (said ++ calls) ++ held) pools ∙ joined old (said_of_told (allocator_of p.session).table p.layouts.by_name.entries) calls held

@@ -5,7 +5,7 @@ use Rattle.std.specs.List.{position_or_len, slice_split}
 use Rattle.std.proofs.lemmas.Bool.{cases_lt}
 use Rattle.std.proofs.lemmas.List.Splits.{length-slice_split, slice_split_first, slice_split_none}
 use Rattle.std.proofs.lemmas.List.Sums.{fails_before_first, prefix_len-le-length}
-use Rattle.descriptor_words.specs.Words.{is_byte}
+use Rattle.descriptor_lines.specs.Words.{is_byte}
 use Rattle.descriptor_lines.specs.LineStates.{LineState}
 use Rattle.descriptor_lines.specs.Lines.{HasEnd, LosesLine, after_end, before_end, lines_of, without_empty_last}
 use Rattle.descriptor_lines.specs.Transcripts.{AreAnswered, IsAnswered}

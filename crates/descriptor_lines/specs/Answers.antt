@@ -4,9 +4,9 @@ use Rattle.std.specs.Fmt.{decimal}
 use Rattle.std.specs.List.{flat_map, zip}
 use Rattle.gpu_descriptor_types.specs.PoolSize.{IsPoolSize, pool_counts}
 use Rattle.gpu_descriptor.specs.declared.view.PoolView.{PoolView}
-use Rattle.descriptor_words.specs.declared.fault.Fault.{Fault}
-use Rattle.descriptor_words.specs.Fault.{words_of_fault}
-use Rattle.descriptor_words.specs.Kinds.{kind_names}
+use Rattle.descriptor_lines.specs.declared.words.fault.Fault.{Fault}
+use Rattle.descriptor_lines.specs.Fault.{words_of_fault}
+use Rattle.descriptor_lines.specs.Kinds.{kind_names}
 
 -- so many bytes may be appended to the text without an allocation
 abbrev pub HasReserveFor : {Z : Type 0} → ℕ → String Z → Type 0

@@ -1,11 +1,15 @@
 pub mod Answers
 pub mod Commands
 pub mod Exit
-pub mod FirstLayouts
+pub mod Fault
+pub mod Keywords
+pub mod Kinds
 pub mod LayoutTables
 pub mod LineBuffers
 pub mod LineStates
 pub mod Lines
+pub mod Names
+pub mod Numbers
 pub mod Orders
 pub mod Outcomes
 pub mod Programs
@@ -13,4 +17,6 @@ pub mod Replies
 pub mod ReplyTexts
 pub mod ScriptWords
 pub mod Shown
+pub mod Tickets
 pub mod Transcripts
+pub mod Words

@@ -1,7 +1,7 @@
 -- The lines that known bytes begin with.
 use Rattle.std.specs.Prelude.{◌≡◌, ℕ, ◌<◌, List, [], ◌∷◌, Option, None, Some, ⊤, length, IfSome}
 use Rattle.std.specs.List.{after_first, before_first, position_or_len, slice_split}
-use Rattle.descriptor_words.specs.Words.{is_byte}
+use Rattle.descriptor_lines.specs.Words.{is_byte}
 
 -- a line ends among the bytes
 abbrev pub HasEnd : List ℕ → Type 0

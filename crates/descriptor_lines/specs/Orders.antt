@@ -5,23 +5,22 @@ use Rattle.gpu_descriptor_types.specs.Bounds.{greatest_u32, greatest_u64}
 use Rattle.gpu_descriptor_types.specs.Counts.{kinds}
 use Rattle.descriptor_script.specs.declared.answer.Answer.{Answer}
 use Rattle.descriptor_lines.specs.Commands.{most_sets}
-use Rattle.descriptor_lines.specs.FirstLayouts.{key_of}
-use Rattle.descriptor_lines.specs.LayoutTables.{layout_count, layout_named, most_layouts, place_named}
+use Rattle.descriptor_lines.specs.LayoutTables.{key_of, layout_count, layout_named, most_layouts, place_named}
 use Rattle.descriptor_lines.specs.ScriptWords.{script_in}
 use Rattle.descriptor_lines.specs.declared.command.Command.{Command}
 use Rattle.descriptor_lines.specs.declared.command.Command.TheVariants as command
 use Rattle.descriptor_lines.specs.declared.layouts.LayoutTable.{LayoutTable}
-use Rattle.descriptor_words.specs.Fault.{◌>>=◌}
-use Rattle.descriptor_words.specs.Keywords.{keyword_of}
-use Rattle.descriptor_words.specs.Kinds.{counts_in}
-use Rattle.descriptor_words.specs.Names.{name_in}
-use Rattle.descriptor_words.specs.Numbers.{number_in}
-use Rattle.descriptor_words.specs.Tickets.{tickets_in}
-use Rattle.descriptor_words.specs.Words.{is_silent, named}
-use Rattle.descriptor_words.specs.declared.keyword.Keyword.{Keyword}
-use Rattle.descriptor_words.specs.declared.keyword.Keyword.TheVariants as keyword
-use Rattle.descriptor_words.specs.declared.fault.Fault.{Fault}
-use Rattle.descriptor_words.specs.declared.fault.Fault.TheVariants.{UnknownCommand, LimitNotFirst, BadWordCount, NameIsTaken, NoSuchLayout, BadMark, TooManyLayouts}
+use Rattle.descriptor_lines.specs.Fault.{◌>>=◌}
+use Rattle.descriptor_lines.specs.Keywords.{keyword_of}
+use Rattle.descriptor_lines.specs.Kinds.{counts_in}
+use Rattle.descriptor_lines.specs.Names.{name_in}
+use Rattle.descriptor_lines.specs.Numbers.{number_in}
+use Rattle.descriptor_lines.specs.Tickets.{tickets_in}
+use Rattle.descriptor_lines.specs.Words.{is_silent, named}
+use Rattle.descriptor_lines.specs.declared.words.keyword.Keyword.{Keyword}
+use Rattle.descriptor_lines.specs.declared.words.keyword.Keyword.TheVariants as keyword
+use Rattle.descriptor_lines.specs.declared.words.fault.Fault.{Fault}
+use Rattle.descriptor_lines.specs.declared.words.fault.Fault.TheVariants.{UnknownCommand, LimitNotFirst, BadWordCount, NameIsTaken, NoSuchLayout, BadMark, TooManyLayouts}
 
 -- what a command says
 pub data Order : Type 0 where

@@ -2,9 +2,9 @@
 use Rattle.std.specs.Prelude.{◌≡◌, List, ℕ, Option, ◌++◌, Result, Ok, Err, IfErr}
 use Rattle.std.specs.Io.KnownBytes.{Appends}
 use Rattle.descriptor_lines.specs.Answers.{fault_line, no_memory}
-use Rattle.descriptor_words.specs.declared.fault.Fault.{Fault}
-use Rattle.descriptor_words.specs.declared.fault.Refusal.{Refusal}
-use Rattle.descriptor_words.specs.declared.fault.Refusal.TheVariants as refusal
+use Rattle.descriptor_lines.specs.declared.words.fault.Fault.{Fault}
+use Rattle.descriptor_lines.specs.declared.words.fault.Refusal.{Refusal}
+use Rattle.descriptor_lines.specs.declared.words.fault.Refusal.TheVariants as refusal
 
 -- the line is not faulty: it ran, or an allocation to run it failed
 abbrev pub IsNoFault : Result Unit Refusal → Type 0

@@ -1,5 +1,5 @@
 -- What a line does to what the lines before it made.
-use Rattle.std.specs.Prelude.{◌≡◌, ◌⊎◌, ◌++◌, ◌∷◌, [], ℕ, List, Option, None, Some, IsOkAnd, IsSome, OnErr, OnOk, Result, Err, length, map, sum, true, IsTrue, IsFalse}
+use Rattle.std.specs.Prelude.{◌≡◌, ◌⊎◌, ◌++◌, ◌∷◌, [], ℕ, List, Option, None, Some, IsOkAnd, IsSome, OnErr, OnOk, Result, Err, length, map, sum, true, IsTrue, IsFalse, if◌then◌else◌}
 use Rattle.gpu_descriptor_types.specs.Bounds.{greatest_u32}
 use Rattle.gpu_descriptor.specs.Caller.Values.{without_keys}
 use Rattle.descriptor_script.specs.Scripted.Device.{empty_ledger}
@@ -10,15 +10,14 @@ use Rattle.descriptor_script.specs.declared.command.Command.TheVariants as sessi
 use Rattle.descriptor_script.specs.declared.command.Reply.{Reply}
 use Rattle.descriptor_script.specs.declared.raw.ScriptLayout.{ScriptLayout}
 use Rattle.descriptor_lines.specs.Answers.{AnswersSize, layout_answer, limit_answer, script_answer}
-use Rattle.descriptor_lines.specs.LayoutTables.{SameLayouts, layout_count, layouts_in}
-use Rattle.descriptor_lines.specs.FirstLayouts.{key_of}
+use Rattle.descriptor_lines.specs.LayoutTables.{SameLayouts, first_layouts, has_key, key_of, layout_count, layouts_in}
 use Rattle.descriptor_lines.specs.LineStates.{LineState}
 use Rattle.descriptor_lines.specs.Orders.{BeginsList, Order, Limit, Layout as NewLayout, Size, Script, Alloc, Free, Cleanup, Show, line_in}
 use Rattle.descriptor_lines.specs.Replies.{LineSession}
 use Rattle.descriptor_lines.specs.ReplyTexts.{text_of_reply}
 use Rattle.descriptor_lines.specs.Shown.{show_answer}
-use Rattle.descriptor_words.specs.declared.fault.Refusal.{Refusal}
-use Rattle.descriptor_words.specs.declared.fault.Refusal.TheVariants as refusal
+use Rattle.descriptor_lines.specs.declared.words.fault.Refusal.{Refusal}
+use Rattle.descriptor_lines.specs.declared.words.fault.Refusal.TheVariants as refusal
 use Rattle.descriptor_lines.specs.declared.layouts.Layout.{Layout}
 use Rattle.gpu_descriptor_types.specs.Side.{Side, side}
 
@@ -72,6 +71,8 @@ pub record Begins (max : ℕ) (old new : LineState) : Type 0 where
 -- a layout of a new name came last
 pub record AddsLayout (name : List ℕ) (layout : Layout) (old new : LineState) : Type 0 where
   pub layouts : layouts_in new.layouts ≡ layouts_in old.layouts ++ (name, layout) ∷ []
+  -- it is the first with its counts and mark, unless there was one before
+  pub firsts : first_layouts new.layouts ≡ first_layouts old.layouts ++ (if has_key (layouts_in old.layouts) layout then [] else (name, layout) ∷ [])
   pub allocator : allocator_of new.session ≡ allocator_of old.session
   pub sets : sets_of new.session ≡ sets_of old.session
   pub device : KeepsDevice old new

@@ -3,10 +3,10 @@ use Rattle.std.specs.Prelude.{ℕ, List, [], ◌∷◌, ◌++◌, Result, codes,
 use Rattle.std.specs.Prelude.{Ok as Read}
 use Rattle.descriptor_script.specs.declared.answer.Answer.{Answer}
 use Rattle.descriptor_script.specs.declared.answer.Answer.TheVariants.{Ok, Device, Host, Frag, Pool}
-use Rattle.descriptor_words.specs.Fault.{◌>>=◌}
-use Rattle.descriptor_words.specs.Words.{in_turn, named}
-use Rattle.descriptor_words.specs.declared.fault.Fault.{Fault}
-use Rattle.descriptor_words.specs.declared.fault.Fault.TheVariants.{BadAnswerWord}
+use Rattle.descriptor_lines.specs.Fault.{◌>>=◌}
+use Rattle.descriptor_lines.specs.Words.{in_turn, named}
+use Rattle.descriptor_lines.specs.declared.words.fault.Fault.{Fault}
+use Rattle.descriptor_lines.specs.declared.words.fault.Fault.TheVariants.{BadAnswerWord}
 
 -- the word of an answer
 abbrev pub word_of_answer : Answer → List ℕ

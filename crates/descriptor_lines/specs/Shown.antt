@@ -9,8 +9,7 @@ use Rattle.descriptor_script.specs.Sessions.Session.{allocator_of, sets_of}
 use Rattle.descriptor_script.specs.Sessions.Tickets.{held_sets}
 use Rattle.descriptor_script.specs.declared.raw.RawPool.{RawPool}
 use Rattle.descriptor_lines.specs.Answers.{device_answer, held_answer, pool_answer}
-use Rattle.descriptor_lines.specs.FirstLayouts.{first_layouts, key_of}
-use Rattle.descriptor_lines.specs.LayoutTables.{layouts_in}
+use Rattle.descriptor_lines.specs.LayoutTables.{first_layouts, key_of}
 use Rattle.descriptor_lines.specs.LineStates.{LineState}
 use Rattle.descriptor_lines.specs.declared.layouts.Layout.{Layout}
 
@@ -38,4 +37,4 @@ calls_answer n = device_answer (shown n.created) (shown n.destroyed) (shown n.as
 unfoldable pub show_answer : LineState → List ℕ
 show_answer p =
     let allocator = allocator_of p.session in
-    flat_map (pools_answer allocator.table) (first_layouts (layouts_in p.layouts)) ++ calls_answer p.ledger.counters ++ held_answer (length (held_sets (sets_of p.session))) (marked_load_of allocator)
+    flat_map (pools_answer allocator.table) (first_layouts p.layouts) ++ calls_answer p.ledger.counters ++ held_answer (length (held_sets (sets_of p.session))) (marked_load_of allocator)

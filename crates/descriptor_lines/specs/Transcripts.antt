@@ -5,10 +5,10 @@ use Rattle.std.specs.Io.KnownBytes.{Appends, IsAtEnd, Keeps}
 use Rattle.gpu_descriptor_types.specs.Ledger.{Ledger}
 use Rattle.descriptor_script.specs.Scripted.Device.{empty_ledger}
 use Rattle.descriptor_script.specs.declared.answer.Answer.{Answer}
-use Rattle.descriptor_words.specs.Words.{words}
-use Rattle.descriptor_words.specs.declared.fault.Fault.{Fault}
-use Rattle.descriptor_words.specs.declared.fault.Fault.TheVariants.{LineTooLong}
-use Rattle.descriptor_words.specs.declared.fault.Refusal.TheVariants as refusal
+use Rattle.descriptor_lines.specs.Words.{words}
+use Rattle.descriptor_lines.specs.declared.words.fault.Fault.{Fault}
+use Rattle.descriptor_lines.specs.declared.words.fault.Fault.TheVariants.{LineTooLong}
+use Rattle.descriptor_lines.specs.declared.words.fault.Refusal.TheVariants as refusal
 use Rattle.descriptor_lines.specs.Answers.{fault_line, no_memory}
 use Rattle.descriptor_lines.specs.LineStates.{LineState}
 use Rattle.descriptor_lines.specs.Lines.{lines_of, longest_line}

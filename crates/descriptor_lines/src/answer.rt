@@ -6,7 +6,7 @@ ghost use Rattle.descriptor_lines.specs.Answers as says;
 mod reply;
 mod reserved;
 
-use descriptor_words::{Fault, kind_name};
+use crate::words::{Fault, kind_name};
 use gpu_descriptor::PoolView;
 use gpu_descriptor_types::DescriptorTotalCount;
 pub use reply::{reply_answer, reserve_for};

@@ -4,16 +4,16 @@ ghost use Rattle.std.specs.Prelude.{option_map};
 ghost use Rattle.descriptor_lines.specs.Orders.{BeginsList, HasList, alloc_in, limit_in, line_in};
 ghost use Rattle.descriptor_lines.specs.Orders.{nothing_in, order_in, order_of, size_in};
 ghost use Rattle.descriptor_lines.specs.Commands.{IsRunnable};
-ghost use Rattle.descriptor_words.specs.Fault.{Reads, read_as};
+ghost use Rattle.descriptor_lines.specs.Fault.{Reads, read_as};
 ghost use Rattle.descriptor_lines.specs.LayoutTables.{layout_count};
-ghost use Rattle.descriptor_words.specs.Words.{words as words_of, words_left, is_silent};
+ghost use Rattle.descriptor_lines.specs.Words.{words as words_of, words_left, is_silent};
 
 mod layout;
 mod script;
 
 use crate::layouts::{Layout, LayoutTable};
+use crate::words::{Fault, Keyword, Refusal, Words, number_within, parse_free, parse_u32};
 use descriptor_script::Answer;
-use descriptor_words::{Fault, Keyword, Refusal, Words, number_within, parse_free, parse_u32};
 use gpu_descriptor_types::DescriptorTotalCount;
 use layout::parse_layout;
 use script::parse_script;
@@ -162,7 +162,7 @@ fn parse_size<'a>(mut words: Words<'a>, layouts: &LayoutTable) -> Result<Command
     ) else {
         return Err(Fault::BadWordCount);
     };
-    let name = descriptor_words::name(name).ok_or(Fault::BadName)?;
+    let name = crate::words::name(name).ok_or(Fault::BadName)?;
     let counts = layouts.get(name).ok_or(Fault::NoSuchLayout)?.counts;
     let total = number_within(total, u64::MAX).ok_or(Fault::BadNumber)?;
     let wanted = parse_u32(wanted)?;
@@ -181,7 +181,7 @@ fn parse_alloc<'a>(mut words: Words<'a>, layouts: &LayoutTable) -> Result<Comman
     let (Some(name), Some(count), None) = (words.next(), words.next(), words.next()) else {
         return Err(Fault::BadWordCount);
     };
-    let name = descriptor_words::name(name).ok_or(Fault::BadName)?;
+    let name = crate::words::name(name).ok_or(Fault::BadName)?;
     let layout = layouts.place(name).ok_or(Fault::NoSuchLayout)?;
     let count = number_within(count, MAX_SETS).ok_or(Fault::BadNumber)? as u32;
     Ok(Command::Alloc { layout, count })

@@ -6,7 +6,7 @@ ghost use Rattle.std.specs.Io.KnownBytes.{IsAtEnd, Keeps};
 ghost use Rattle.descriptor_lines.specs.Lines.{HasEnd, HasNoEnd, LosesLine, BeginsTooLong};
 ghost use Rattle.descriptor_lines.specs.Lines.{before_end, after_end, buffer_len, longest_line};
 
-use descriptor_words::first_of;
+use crate::words::first_of;
 use std::alloc::{AllocError, Global};
 use std::io::Read;
 use std::vec::{self, Vec};

@@ -1,7 +1,6 @@
 //! The layouts that the lines made, by name.
 ghost use Rattle.std.specs.Prelude.{◌≡◌, ◌+◌, ◌<◌, ◌≤◌, ◌↔◌, ◌++◌, ◌∷◌, [], IsTrue, IfOk, IfSome};
-ghost use Rattle.std.specs.Prelude.{Contains, map, OnOk, None, string_bytes};
-ghost use Rattle.descriptor_lines.specs.FirstLayouts.{TellFirsts};
+ghost use Rattle.std.specs.Prelude.{OnOk, None, if◌then◌else◌, string_bytes};
 
 use gpu_descriptor_types::DescriptorTotalCount;
 use indexmap::IndexMap;
@@ -33,11 +32,10 @@ pub struct Entry {
 pub struct LayoutTable {
     alloc: Global,
     by_name: IndexMap<String, Entry>,
-    ghost told: { TellFirsts by_name.entries },
 }
 
 impl LayoutTable {
-    ghost use Rattle.descriptor_lines.specs.LayoutTables.{layout_count, place_named};
+    ghost use Rattle.descriptor_lines.specs.LayoutTables.{first_layouts, has_key, layout_count, place_named};
     ghost use Rattle.descriptor_lines.specs.LayoutTables.{layout_named, layouts_in, most_layouts};
     ghost use Rattle.descriptor_lines.specs.LayoutTables.{SameLayouts};
     ghost use Rattle.indexmap.specs.IndexMap.{spare};
@@ -95,16 +93,16 @@ impl LayoutTable {
         String::from_str(self.alloc, name)
     }
 
-    /// Whether no layout has the same counts and the same mark.
-    fn is_new(&self, layout: &Layout) -> bool
-        ensures { IsTrue result ↔ ¬ Contains (map (λ l. l.1) (layouts_in self.now)) layout.now }
+    /// Whether a layout has the same counts and the same mark.
+    fn has_key(&self, layout: &Layout) -> bool
+        ensures { result ≡ has_key (layouts_in self.now) layout.now }
     {
         for entry in self.by_name.values() {
             if entry.layout == *layout {
-                return false;
+                return true;
             }
         }
-        true
+        false
     }
 
     /// Puts a layout of a new name last, over memory that was reserved.
@@ -113,8 +111,11 @@ impl LayoutTable {
         requires absent { layout_named self.old (string_bytes name) ≡ None }
         ensures layouts { layouts_in self.new ≡ layouts_in self.old ++ (string_bytes name, layout)
             ∷ [] }
+        ensures firsts { first_layouts self.new ≡ first_layouts self.old
+            ++ (if has_key (layouts_in self.old) layout then [] else (string_bytes name, layout)
+            ∷ []) }
     {
-        let is_first = self.is_new(&layout);
+        let is_first = !self.has_key(&layout);
         // Memory is reserved, and the name is new.
         let _ = self.by_name.insert(name, Entry { layout, is_first });
     }

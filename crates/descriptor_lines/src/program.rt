@@ -10,7 +10,7 @@ ghost use Rattle.descriptor_lines.specs.LineBuffers.{most_reads, unread};
 ghost use Rattle.descriptor_lines.specs.LineStates.{line_state};
 ghost use Rattle.descriptor_lines.specs.Programs.{CanAnswer, CanRun, DoesLine, IsFresh, IsNotRun};
 ghost use Rattle.descriptor_lines.specs.Transcripts.{RunsLines, Writes};
-ghost use Rattle.descriptor_words.specs.Words.{words};
+ghost use Rattle.descriptor_lines.specs.Words.{words};
 
 mod output;
 mod run;
@@ -21,8 +21,8 @@ use crate::device::LineDevice;
 use crate::exit::Exit;
 use crate::input::{InputFault, LineBuffer, MAX_READS};
 use crate::layouts::LayoutTable;
+use crate::words::{Fault, Refusal};
 use descriptor_script::{RawPool, RawSet, ScriptLayout, ScriptedDevice, Session};
-use descriptor_words::{Fault, Refusal};
 use output::answer_line;
 use std::alloc::Global;
 use std::io::{Read, Write};

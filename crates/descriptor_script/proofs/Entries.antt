@@ -10,6 +10,7 @@ use Rattle.indexmap.proofs.MapLemmas.{Found-position, some_index, swap_remove_en
 use Rattle.gpu_descriptor_types.specs.Multiset.{LiveSet, times, AreIn}
 use Rattle.gpu_descriptor_types.specs.declared.counts.DescriptorTotalCount.{DescriptorTotalCount}
 use Rattle.gpu_descriptor_types.proofs.Counting.{set_exact, count_by_yes, count_by_no, count_by-append, all_taken_out}
+use Rattle.gpu_descriptor.proofs.release.RunsOfOne.{count_all}
 use Rattle.descriptor_script.specs.Inner.Live.{live_set_of, live_sets_of}
 
 pub map_push : {A B : Type 0} (f : A → B) (xs : List A) (x : A) → map f (xs ++ x ∷ []) ≡ map f xs ++ f x ∷ []
@@ -100,3 +101,7 @@ found_left n (e ∷ es) lt = elim (cases_Bool (nat_eq n e.0)) [
       | inl same ↦ absurd (let k : nat_eq a b ≡ true = eq-eqb a b (sym (eqb-true b a same)) in true≢false (sym k ∙ h))
       | inr other ↦ other
     ]
+
+-- as many sets are gone as the table has fewer
+pub gone_many : (gone : List LiveSet) (old new : List (ℕ × DescriptorTotalCount)) → ((p : LiveSet → Bool) → count_by p gone + count_by p (live_sets_of new) ≡ count_by p (live_sets_of old)) → length gone + length new ≡ length old
+gone_many gone old new parts = omega (arith, parts (λ _. true), count_all gone, count_all (live_sets_of new), count_all (live_sets_of old), length-map new live_set_of, length-map old live_set_of)

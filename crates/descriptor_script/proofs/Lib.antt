@@ -5,7 +5,6 @@ mod Entries
 mod Filling
 mod Given
 mod Held
-pub mod Owing
 mod Promised
 mod Running
 mod Written

@@ -3,7 +3,6 @@ pub mod Counters
 pub mod Live
 pub mod Log
 pub mod Marks
-pub mod Owed
 pub mod Pools
 pub mod Slots
 pub mod Table

@@ -207,7 +207,6 @@ impl DescriptorDevice<ScriptLayout, RawPool, RawSet> for ScriptedDevice {
         // The device's own, besides the trait's: no word is read, and no name is given.
         ensures reads { ReadsNone self.old self.new }
     {
-        self.pools.release(pool.id, sets);
-        self.counters.released.rise();
+        self.release(pool, sets);
     }
 }

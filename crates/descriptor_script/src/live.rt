@@ -57,16 +57,18 @@ pub fn fill<K: SetSink<RawSet>>(
     }
 }
 
-/// Takes each set that the iterator gives from the live sets.
-pub fn take_back<I: Iterator<Item = RawSet>>(live: &mut LiveSets, sets: &mut I)
+/// Takes each set that the iterator gives from the live sets, and returns how many they were.
+pub fn take_back<I: Iterator<Item = RawSet>>(live: &mut LiveSets, sets: &mut I) -> usize
     requires ends { CanDrain I.can_next I.remaining sets.old }
     requires live { HoldsAlong I.next_gives sets.old
         (λ xs. HasNamed (map set_id xs) (live_sets_of live.old.entries)) }
-    ensures back { TakesOut I.next_gives sets.old sets.new (live_sets_of live.old.entries)
-        (live_sets_of live.new.entries) }
+    ensures back { TakesOut I.next_gives result sets.old sets.new
+        (live_sets_of live.old.entries) (live_sets_of live.new.entries) }
     ensures fresh { (n : ℕ) → get nat_eq live.old n ≡ None → get nat_eq live.new n ≡ None }
 {
+    let before = live.len();
     while let Some(set) = sets.next() {
         live.swap_remove(&set.id);
     }
+    before - live.len()
 }

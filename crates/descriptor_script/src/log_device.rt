@@ -1,17 +1,10 @@
 //! A device that answers by a script and keeps a list of the calls that it granted.
-ghost use Rattle.std.specs.Prelude.{◌≡◌, ◌+◌, ◌-◌, ◌<◌, ◌^◌, ◌++◌, [], ◌∷◌, min, map, None};
-ghost use Rattle.std.specs.Prelude.{ℕ, IfOk, IfErr, OnOk, OnErr};
-ghost use Rattle.std.specs.Iterator.{HoldsAlong};
+ghost use Rattle.std.specs.Prelude.{◌≡◌, ◌-◌, ◌^◌, min, IfErr, OnOk};
 ghost use Rattle.gpu_descriptor_types.specs.Counts.{kinds};
-ghost use Rattle.gpu_descriptor_types.specs.Flags.{bits};
 ghost use Rattle.gpu_descriptor_types.specs.Layouts.{layout, left};
-ghost use Rattle.gpu_descriptor_types.specs.Ledger.{AreLive, CanDrain, CanPut, HasNoSets, Puts, PutsNone};
-ghost use Rattle.gpu_descriptor_types.specs.Ledger.{Releases, after_create, after_destroy};
-ghost use Rattle.gpu_descriptor_types.specs.Ledger.{after_no_create};
-ghost use Rattle.descriptor_script.specs.Scripted.Device.{ReadsNone, ledger_of};
-ghost use Rattle.descriptor_script.specs.Scripted.Raw.{pool_id, raw_sets, script_meaning, set_id};
-ghost use Rattle.descriptor_script.specs.Scripted.Script.{alloc_error, create_error};
-ghost use Rattle.descriptor_script.specs.Inner.Owed.{IsOwed, ReleasesMany};
+ghost use Rattle.gpu_descriptor_types.specs.Ledger.{CanPut, Puts, PutsNone};
+ghost use Rattle.descriptor_script.specs.Scripted.Device.{empty_ledger};
+ghost use Rattle.descriptor_script.specs.Scripted.Raw.{pool_id, script_meaning};
 
 use crate::answer::Answer;
 use crate::device::ScriptedDevice;
@@ -35,22 +28,21 @@ use std::vec::Vec;
 pub struct LogDevice {
     device: ScriptedDevice,
     log: Log,
-    ghost owed: { ∥ IsOwed (ledger_of device) log.owed ∥₁ },
 }
 
 impl LogDevice {
-    ghost use Rattle.descriptor_script.specs.Scripted.Logged.{IsNewLogDevice, calls_of, ledger_logged};
+    ghost use Rattle.descriptor_script.specs.Scripted.Logged.{ledger_logged};
 
     /// A device without pools, which grants all that its memory allows.
     pub fn new(alloc: Global) -> Self
-        ensures { IsNewLogDevice [] result }
+        ensures { ledger_logged result ≡ empty_ledger }
     {
         LogDevice::with_script(alloc, Vec::new(alloc))
     }
 
     /// A device without pools, which begins with this script.
     pub fn with_script(alloc: Global, script: Vec<Answer>) -> Self
-        ensures { IsNewLogDevice script.items result }
+        ensures { ledger_logged result ≡ empty_ledger }
     {
         LogDevice {
             device: ScriptedDevice::new(alloc, script),
@@ -59,9 +51,7 @@ impl LogDevice {
     }
 
     /// The calls that were granted, in their order.
-    pub fn calls(&self) -> &[Call]
-        ensures { result.now ≡ calls_of self.now }
-    {
+    pub fn calls(&self) -> &[Call] {
         &self.log.calls
     }
 
@@ -95,8 +85,7 @@ impl LogDevice {
 }
 
 impl DescriptorDevice<ScriptLayout, RawPool, RawSet> for LogDevice {
-    ghost use Rattle.descriptor_script.specs.Scripted.Logged.{ReadsWordLogged, ListsRelease, ReadsNoneLogged};
-    ghost use Rattle.descriptor_script.specs.Scripted.Logged.{calls_of, ledger_logged, next_pool};
+    ghost use Rattle.descriptor_script.specs.Scripted.Logged.{ledger_logged};
 
     ghost meaning = { script_meaning };
 
@@ -107,28 +96,7 @@ impl DescriptorDevice<ScriptLayout, RawPool, RawSet> for LogDevice {
         counts: &DescriptorTotalCount,
         max_sets: u32,
         flags: DescriptorPoolCreateFlags,
-    ) -> Result<RawPool, CreatePoolError>
-        ensures new_name { IfOk result (λ pool. (ledger_logged self.old).pools (pool_id pool)
-            ≡ None) }
-        ensures ok { IfOk result (λ pool. ledger_logged self.new ≡ after_create (kinds counts.now)
-            max_sets (bits flags) (pool_id pool) (ledger_logged self.old)) }
-        ensures err { IfErr result (λ e. ledger_logged self.new
-            ≡ after_no_create e (ledger_logged self.old)) }
-
-        // Above are the trait's clauses, repeated; from here on the device's own. A word is read,
-        // unless an allocation for the list failed.
-        ensures reads { ReadsWordLogged create_error CreatePoolError.OutOfHostMemory result self.old
-            self.new }
-
-        // The pool has the next name.
-        ensures next_name { IfOk result (λ pool. pool_id pool ≡ next_pool self.old) }
-        ensures named { OnOk result (next_pool self.new ≡ next_pool self.old + 1) }
-        ensures unnamed { OnErr result (next_pool self.new ≡ next_pool self.old) }
-
-        // A granted call is listed.
-        ensures listed { IfOk result (λ pool. calls_of self.new ≡ calls_of self.old
-            ++ Call.Create (pool_id pool) ∷ []) }
-    {
+    ) -> Result<RawPool, CreatePoolError> {
         if self.log.reserve(2).is_err() {
             let error = CreatePoolError::OutOfHostMemory;
             self.device.refuse_create(error);
@@ -143,15 +111,7 @@ impl DescriptorDevice<ScriptLayout, RawPool, RawSet> for LogDevice {
         }
     }
 
-    fn destroy_descriptor_pool(&mut self, pool: RawPool)
-        requires { HasNoSets (pool_id pool) (ledger_logged self.old) }
-        ensures ledger { ledger_logged self.new ≡ after_destroy (pool_id pool)
-            (ledger_logged self.old) }
-
-        // The device's own, besides the trait's: no word is read, and the call is listed.
-        ensures reads { ReadsNoneLogged self.old self.new }
-        ensures listed { calls_of self.new ≡ calls_of self.old ++ Call.Destroy (pool_id pool) ∷ [] }
-    {
+    fn destroy_descriptor_pool(&mut self, pool: RawPool) {
         let name = pool.id();
         self.device.destroy_descriptor_pool(pool);
         self.log.settle(Call::Destroy { pool: name }, 1);
@@ -171,21 +131,6 @@ impl DescriptorDevice<ScriptLayout, RawPool, RawSet> for LogDevice {
             (ledger_logged self.new)) }
         ensures err { IfErr result (λ e. PutsNone K.sink (pool_id pool.old) e sets.old sets.new
             (ledger_logged self.old) (ledger_logged self.new)) }
-
-        // Above are the trait's clauses, repeated; from here on the device's own. A word is read,
-        // unless an allocation for the list failed.
-        ensures reads { ReadsWordLogged alloc_error DeviceAllocationError.OutOfHostMemory result self.old
-            self.new }
-
-        // The sets have names in a row, and name their pool.
-        ensures sets { OnOk result ((first : ℕ) × (K.sink.kept sets.new ≡ K.sink.kept sets.old
-            ++ map (K.sink.kept_as sets.old)
-            (raw_sets (pool_id pool.old) first (left layouts.entry)))) }
-
-        // No pool is named, and a granted call is listed with the number of its sets.
-        ensures next_pool { next_pool self.new ≡ next_pool self.old }
-        ensures listed { OnOk result (calls_of self.new ≡ calls_of self.old
-            ++ Call.Alloc (pool_id pool.old) (left layouts.entry) ∷ []) }
     {
         let count = layouts.len();
         if self.log.reserve(count as usize + 1).is_err() {
@@ -210,20 +155,8 @@ impl DescriptorDevice<ScriptLayout, RawPool, RawSet> for LogDevice {
         &mut self,
         pool: &mut RawPool,
         sets: &mut I,
-    )
-        requires ends { CanDrain I.can_next I.remaining sets.old }
-        requires live { HoldsAlong I.next_gives sets.old
-            (λ xs. AreLive (pool_id pool.old) (map set_id xs) (ledger_logged self.old)) }
-        ensures name { pool_id pool.new ≡ pool_id pool.old }
-        ensures released { Releases I.next_gives set_id (pool_id pool.old) sets.old sets.new
-            (ledger_logged self.old) (ledger_logged self.new) }
-
-        // The device's own, besides the trait's: no word is read; a release of some sets is listed.
-        ensures reads { ReadsNoneLogged self.old self.new }
-        ensures listed { ListsRelease I.next_gives (pool_id pool.old) sets.old sets.new
-            (calls_of self.old) (calls_of self.new) }
-    {
-        let released = release(&mut self.device, pool, sets);
+    ) {
+        let released = self.device.release(pool, sets);
         if released > 0 {
             let call = Call::Release {
                 pool: pool.id(),
@@ -232,24 +165,4 @@ impl DescriptorDevice<ScriptLayout, RawPool, RawSet> for LogDevice {
             self.log.settle(call, released);
         }
     }
-}
-
-/// Releases the sets that the iterator gives, and counts them.
-fn release<I: Iterator<Item = RawSet>>(
-    device: &mut ScriptedDevice,
-    pool: &mut RawPool,
-    sets: &mut I,
-) -> usize
-    requires ends { CanDrain I.can_next I.remaining sets.old }
-    requires live { HoldsAlong I.next_gives sets.old
-        (λ xs. AreLive (pool_id pool.old) (map set_id xs) (ledger_of device.old)) }
-    ensures name { pool_id pool.new ≡ pool_id pool.old }
-    ensures released { ReleasesMany I.next_gives set_id (pool_id pool.old) result sets.old sets.new
-        (ledger_of device.old) (ledger_of device.new) }
-    ensures reads { ReadsNone device.old device.new }
-{
-    let before = device.live_sets(pool);
-    device.dealloc_descriptor_sets(pool, sets);
-    let after = device.live_sets(pool);
-    before - after
 }

@@ -1,14 +1,13 @@
 //! The live pools of a device, by name.
 ghost use Rattle.std.specs.Prelude.{◌≡◌, ◌+◌, ◌-◌, ◌<◌, ◌≤◌, ◌^◌, ◌++◌, map, Some, None};
-ghost use Rattle.std.specs.Prelude.{IfOk, IfSome, IsSome, OnOk, OnErr, nat_eq};
+ghost use Rattle.std.specs.Prelude.{IfOk, IsSome, OnOk, OnErr, nat_eq};
 ghost use Rattle.std.specs.Iterator.{HoldsAlong};
 ghost use Rattle.std.specs.Map.{update};
 ghost use Rattle.gpu_descriptor_types.specs.Counts.{kinds};
 ghost use Rattle.gpu_descriptor_types.specs.Flags.{bits};
 ghost use Rattle.gpu_descriptor_types.specs.Layouts.{layout, left};
 ghost use Rattle.gpu_descriptor_types.specs.Ledger.{fresh as fresh_pool, on_pool, pool_refusals};
-ghost use Rattle.gpu_descriptor_types.specs.Multiset.{HasSize};
-ghost use Rattle.descriptor_script.specs.Scripted.Raw.{raw_sets, set_id};
+ghost use Rattle.descriptor_script.specs.Scripted.Raw.{ReleasesMany, raw_sets, set_id};
 ghost use Rattle.descriptor_script.specs.Inner.Table.{PoolsAreBelow, SetsAreBelow};
 
 use crate::live::{LivePool, fill, take_back};
@@ -36,7 +35,7 @@ pub struct Pools {
 
 impl Pools {
     ghost use Rattle.descriptor_script.specs.Inner.Pools.{next_names, owed, pools_of};
-    ghost use Rattle.gpu_descriptor_types.specs.Ledger.{AreLive, CanDrain, Counters, Releases, live_sets};
+    ghost use Rattle.gpu_descriptor_types.specs.Ledger.{AreLive, CanDrain, Counters, live_sets};
     ghost use Rattle.gpu_descriptor_types.specs.Ledger.{no_rise};
     ghost use Rattle.gpu_descriptor_types.specs.Multiset.{times};
 
@@ -96,17 +95,6 @@ impl Pools {
         ensures names { next_names self.new ≡ next_names self.old }
     {
         self.live.swap_remove(&pool);
-    }
-
-    /// How many sets are live in the pool; 0 where the pool isn't live.
-    pub fn live_sets(&self, pool: u64) -> usize
-        ensures live { IfSome (pools_of self.now pool) (λ p. HasSize p.live result) }
-        ensures not_live { pools_of self.now pool ≡ None → result ≡ 0 }
-    {
-        match self.live.get(&pool) {
-            Some(live) => live.sets.len(),
-            None => 0,
-        }
     }
 
     /// Counts an alloc that was refused, if it was the pool that refused.
@@ -181,19 +169,19 @@ impl Pools {
         Ok(())
     }
 
-    /// Takes the sets that the iterator gives from the pool.
-    pub fn release<I: Iterator<Item = RawSet>>(&mut self, pool: u64, sets: &mut I)
+    /// Takes the sets that the iterator gives from the pool, and returns how many they were.
+    pub fn release<I: Iterator<Item = RawSet>>(&mut self, pool: u64, sets: &mut I) -> usize
         requires ends { CanDrain I.can_next I.remaining sets.old }
         requires live { HoldsAlong I.next_gives sets.old (λ xs.
             AreLive pool (map set_id xs) (owed self.old no_rise)) }
         // With whatever counters, of which one rises.
-        ensures released { (n : Counters) → Releases I.next_gives set_id pool sets.old sets.new
+        ensures released { (n : Counters) → ReleasesMany I.next_gives pool result sets.old sets.new
             (owed self.old n) (owed self.new (record n { released = n.released + 1 })) }
         ensures names { next_names self.new ≡ next_names self.old }
     {
         let Some(live) = self.live.get_mut(&pool) else {
             unreachable!()
         };
-        take_back(&mut live.sets, sets);
+        take_back(&mut live.sets, sets)
     }
 }

@@ -188,10 +188,8 @@ impl<W: Write> DescriptorDevice<ScriptLayout, RawPool, RawSet> for Traced<W> {
         ensures written { WritesRelease W.contents I.next_gives (pool_id pool.old) sets.old
             sets.new self.old self.new }
     {
-        let before = self.device.live_sets(pool);
-        self.device.dealloc_descriptor_sets(pool, sets);
-        let after = self.device.live_sets(pool);
-        self.write_release(pool.id(), before - after);
+        let released = self.device.release(pool, sets);
+        self.write_release(pool.id(), released);
     }
 }
 

@@ -1,23 +1,26 @@
-//! The interface that callers rely on: each public item by its name, with its fields, cases,
-//! arguments, results and derives, as a caller writes them. A changed name or type, or a lost derive,
-//! doesn't compile here. What a call does is said elsewhere, and nothing runs.
+//! The public interface, item by item (`interface`), and tests: callers of all crates, each once with ample memory,
+//! which succeed; no clause says that. Tests have a crate of their own, since CI proves a crate with tests twice.
+//! What the packages for Rust have too is tested there.
 #![tactic(auto)]
 
-mod allocator;
+#[cfg(test)]
+mod callers;
+#[cfg(test)]
 mod device;
+#[cfg(test)]
 mod frames;
-mod lines;
-mod session;
-
-use std::fmt::Debug;
-use std::hash::Hash;
-
-fn is_debug<T: Debug>() {}
-
-fn is_plain<T: Clone + Copy + Debug>() {}
-
-fn is_compared<T: Debug + PartialEq + Eq>() {}
-
-fn is_value<T: Clone + Copy + Debug + PartialEq + Eq>() {}
-
-fn is_hashed_value<T: Clone + Copy + Debug + PartialEq + Eq + Hash>() {}
+mod interface;
+#[cfg(test)]
+mod pair;
+#[cfg(test)]
+mod refused_first;
+#[cfg(test)]
+mod renderer;
+#[cfg(test)]
+mod seen;
+#[cfg(test)]
+mod sets;
+#[cfg(test)]
+mod values;
+#[cfg(test)]
+mod visits;

@@ -55,10 +55,10 @@ pub use Rattle.gpu_descriptor.specs.Inner.OpenOrdinals.{IsEntered, first_ordinal
 pub use Rattle.gpu_descriptor.specs.Inner.OpenPools.{CountsLooks, KeepsView, bucket_in, looked_at, newest_place}
 pub use Rattle.gpu_descriptor.specs.Inner.Releases.{Compares, FreesRun, IsTakenAt, Releases, bucket_back, names_of}
 pub use Rattle.gpu_descriptor.specs.Inner.RunSteps.{AllPass, CountsFrom, EndsRun, Hands, Looks, RunStep}
-pub use Rattle.gpu_descriptor.specs.Inner.Serves.{IsDeclined, IsServed, IsUnserved, IsSound, ServesKey, Takes}
+pub use Rattle.gpu_descriptor.specs.Inner.Serves.{IsDeclined, IsServed, IsUnserved, ServesKey, Takes}
 pub use Rattle.gpu_descriptor.specs.Inner.SetAt.{set_at}
 pub use Rattle.gpu_descriptor.specs.Inner.Stored.{IsConsistent, books_in, bucket_of, entry_of, has_sets, kept_in, kept_of, row_of, stored_keys, stored_load}
-pub use Rattle.gpu_descriptor.specs.Inner.Walk.{HasTaken, IsAsked, IsNoMemory, IsRefused, IsWalked}
+pub use Rattle.gpu_descriptor.specs.Inner.Walk.{Adds, HasTaken, IsAsked, IsNoMemory, IsRefused, IsWalked}
 pub use Rattle.gpu_descriptor.specs.Model.Cleanup.{LosesEmpty, are_named, gone_of, left_of, pools_lost, with_pools}
 pub use Rattle.gpu_descriptor.specs.Model.Foreign.{IsForeign, IsNamed, KeepsForeign}
 pub use Rattle.gpu_descriptor.specs.Model.FreshPools.{AreFull, AreNew, AreSized, Fresh, IsFreshPrefix, IsFreshList, IsNextSize, fresh_entries, fresh_entry, fresh_portions, given_by, room_after}

@@ -1,5 +1,5 @@
 -- Numbers without gaps: no pools have any, and a request, a free and a cleanup leave none. For the law `only_a_trim_leaves_gaps`.
-use Rattle.gpu_descriptor.proofs.Common.{◌≡◌, ℕ, ◌++◌, inl, inr, Bool, true, false, List, drop, refl, sym, ap, subst, ◌∙◌, arith, if◌then◌else◌, cases_Bool, prefix_len}
+use Rattle.gpu_descriptor.proofs.Common.{◌≡◌, ℕ, ◌++◌, cond, list_any, spent_front, without_front, inl, inr, Bool, true, false, List, drop, refl, sym, ap, subst, ◌∙◌, arith, if◌then◌else◌, cases_Bool, prefix_len}
 use Rattle.gpu_descriptor.proofs.Common.{Agree, Allocates, Bucket, Call, Entry, Grant, Item, Key, State, fresh_entries, granted, key_eq, next_number, numbers_of, released, rises}
 use Rattle.gpu_descriptor.specs.Model.Agreement.{HasNoGaps, HasNoPools}
 use Rattle.gpu_descriptor.specs.Model.Cleanup.{LosesEmpty, left_of}
@@ -9,7 +9,7 @@ use Rattle.gpu_descriptor.specs.Model.Release.{bucket_less, is_empty}
 use Rattle.gpu_descriptor.proofs.cleanup.Splitting.{pools_with}
 use Rattle.gpu_descriptor.proofs.lists.Gaps.{IsDense, dense_drop, dense_fresh}
 use Rattle.gpu_descriptor.proofs.lists.Numbers.{numbers_drop}
-use Rattle.gpu_descriptor.proofs.release.Places.{back, front_of, numbers_less, released_books}
+use Rattle.gpu_descriptor.proofs.release.Places.{back, numbers_less}
 use Rattle.gpu_descriptor.proofs.request.FreshNumbers.{numbers_taken, rises_fresh}
 
 -- the numbers of each key rise
@@ -36,6 +36,13 @@ module _ (k : Key) (n : ℕ) (g : Grant) (s : State) where
 
 fewer : (s : State) (k : Key) (es : List Entry) (n : ℕ) → AreRising s → HasNoGaps s → numbers_of es ≡ numbers_of (s.books k).pools → IsDense (numbers_of (drop n es))
 fewer s k es n rising dense same = subst IsDense (sym (numbers_drop es n ∙ ap (drop n) same)) (dense_drop (numbers_of (s.books k).pools) n (rising k) (dense k))
+
+-- how many pools leave a key if these sets are freed, and its books then
+abbrev front_of : List Item → State → Key → ℕ
+front_of m s k = cond (list_any (λ t. key_eq t.key k) m) (spent_front (bucket_less (back m s) (s.books k))) 0
+
+released_books : (m : List Item) (s : State) (k : Key) → (released m s).books k ≡ without_front (front_of m s k) (bucket_less (back m s) (s.books k))
+released_books m s k = grind arith
 
 gone : (m : List Item) (s : State) → AreRising s → HasNoGaps s → HasNoGaps (released m s)
 gone m s rising dense k =

@@ -1,4 +1,5 @@
 pub mod Cleaning
+pub mod Emptied
 pub mod Splitting
 pub mod Rotation
 pub mod Counted

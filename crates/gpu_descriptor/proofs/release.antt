@@ -5,6 +5,7 @@ pub mod Digits
 pub mod Freed
 pub mod FreedOne
 pub mod FrontPool
+pub mod Given
 pub mod Fronts
 pub mod LentRow
 pub mod OneLook

@@ -1,3 +1,4 @@
+pub mod Added
 pub mod Asks
 pub mod Causes
 pub mod FreshNumbers
@@ -19,7 +20,6 @@ pub mod Rollback
 pub mod Serving
 pub mod Shares
 pub mod StateAgrees
-pub mod TakenAgrees
 pub mod TakenPlaces
 pub mod WalkStep
 pub mod Walking

@@ -1,61 +1,25 @@
 //! The bound on the descriptors of new pools, by hand: how many sets each pool is created for.
 
+mod gpu;
+
+use gpu::Gpu;
 use gpu_descriptor::frames::FrameManager;
 use gpu_descriptor::renderer::Renderer;
 use gpu_descriptor::*;
-use std::cell::RefCell;
 
-/// It notes how many sets each pool is for, and sees that the counts are those of so many.
-struct Device {
-    images: u32,
-    pools: RefCell<Vec<u32>>,
-}
-
-impl Device {
-    fn new(images: u32) -> Self {
-        Device {
-            images,
-            pools: RefCell::default(),
-        }
-    }
-
-    /// The pools that came since the last call.
-    fn pools(&self) -> Vec<u32> {
-        self.pools.take()
-    }
-}
-
-impl DescriptorDevice<(), (), ()> for Device {
-    unsafe fn create_descriptor_pool(
-        &self,
-        counts: &DescriptorTotalCount,
-        max_sets: u32,
-        _: DescriptorPoolCreateFlags,
-    ) -> Result<(), CreatePoolError> {
-        assert_eq!(counts.sampled_image, self.images * max_sets);
-        self.pools.borrow_mut().push(max_sets);
-        Ok(())
-    }
-
-    unsafe fn destroy_descriptor_pool(&self, (): ()) {}
-
-    unsafe fn alloc_descriptor_sets<'a>(
-        &self,
-        (): &mut (),
-        layouts: impl ExactSizeIterator<Item = &'a ()>,
-        sets: &mut impl Extend<()>,
-    ) -> Result<(), DeviceAllocationError> {
-        sets.extend(layouts.copied());
-        Ok(())
-    }
-
-    unsafe fn dealloc_descriptor_sets(&self, (): &mut (), sets: impl Iterator<Item = ()>) {
-        sets.for_each(drop);
-    }
+/// The pools that came since the last call, by their sets of so many images.
+fn pools_of(device: &Gpu, images: u32) -> Vec<u32> {
+    let created = device.created().into_iter();
+    let sets = created.map(|(sets, descriptors)| {
+        // One without descriptors has one.
+        assert_eq!(descriptors, (u64::from(images) * u64::from(sets)).max(1));
+        sets
+    });
+    sets.collect()
 }
 
 /// A layout with so many images, update-after-bind or not.
-fn layout(images: u32, is_marked: bool) -> SetLayout<()> {
+fn layout(images: u32, is_marked: bool) -> SetLayout<u32> {
     let mut flags = DescriptorSetLayoutCreateFlags::empty();
     flags.set(DescriptorSetLayoutCreateFlags::UPDATE_AFTER_BIND, is_marked);
     let counts = DescriptorTotalCount {
@@ -63,7 +27,7 @@ fn layout(images: u32, is_marked: bool) -> SetLayout<()> {
         ..Default::default()
     };
     SetLayout {
-        layout: (),
+        layout: 0,
         counts,
         flags,
     }
@@ -74,7 +38,7 @@ const MOST: Option<u64> = Some(65_536);
 
 /// The pools of these requests to an allocator. With a limit the layout is update-after-bind.
 fn pools(most: Option<u64>, limit: u32, images: u32, requests: &[u32]) -> Vec<u32> {
-    let (mut it, device) = (DescriptorAllocator::new(limit), Device::new(images));
+    let (mut it, device) = (DescriptorAllocator::new(limit), Gpu::new());
     it.set_most_pool_descriptors(most);
     assert_eq!(it.most_pool_descriptors(), most);
     let layout = layout(images, limit > 0);
@@ -84,7 +48,7 @@ fn pools(most: Option<u64>, limit: u32, images: u32, requests: &[u32]) -> Vec<u3
     }
     unsafe { it.free(&device, sets) };
     unsafe { it.cleanup(&device) };
-    device.pools()
+    pools_of(&device, images)
 }
 
 /// Without the feature an allocator begins without a bound, and with it as a renderer does.
@@ -140,26 +104,26 @@ fn of_few_images() {
 /// Pools that exist stay, with all their sets, when the bound changes.
 #[test]
 fn pools_stay() {
-    let (mut it, device) = (DescriptorAllocator::new(0), Device::new(100_000));
+    let (mut it, device) = (DescriptorAllocator::new(0), Gpu::new());
     let layout = layout(100_000, false);
     it.set_most_pool_descriptors(None);
     let mut sets = unsafe { it.allocate_for(&device, &layout, 1) }.unwrap();
-    assert_eq!(device.pools(), [64]);
+    assert_eq!(pools_of(&device, 100_000), [64]);
     it.set_most_pool_descriptors(MOST);
     assert_eq!(it.pool_count(&layout.counts, false), 1);
     unsafe { it.allocate_into(&device, &layout, 63, &mut sets) }.unwrap();
-    assert_eq!(device.pools(), []);
+    assert_eq!(pools_of(&device, 100_000), []);
     unsafe { it.allocate_into(&device, &layout, 1, &mut sets) }.unwrap();
-    assert_eq!(device.pools(), [1]);
+    assert_eq!(pools_of(&device, 100_000), [1]);
     it.set_most_pool_descriptors(Some(200_000));
     unsafe { it.allocate_into(&device, &layout, 1, &mut sets) }.unwrap();
-    assert_eq!(device.pools(), [2]);
+    assert_eq!(pools_of(&device, 100_000), [2]);
     unsafe { it.free(&device, sets) };
 }
 
 #[test]
 fn of_a_manager() {
-    let (mut it, device) = (FrameManager::new(0), Device::new(100_000));
+    let (mut it, device) = (FrameManager::new(0), Gpu::new());
     assert_eq!(it.most_pool_descriptors(), None);
     it.set_most_pool_descriptors(MOST);
     assert_eq!(it.most_pool_descriptors(), MOST);
@@ -167,13 +131,13 @@ fn of_a_manager() {
     let mut sets = unsafe { it.allocate_for(&device, &layout, 1) }.unwrap();
     it.set_most_pool_descriptors(None);
     unsafe { it.allocate_into(&device, &layout, 1, &mut sets) }.unwrap();
-    assert_eq!(device.pools(), [1, 64]);
+    assert_eq!(pools_of(&device, 100_000), [1, 64]);
     unsafe { it.free(&device, sets) };
 }
 
 #[test]
 fn a_renderer_begins_with_one() {
-    let device = Device::new(100_000);
+    let device = Gpu::new();
     let mut it = Renderer::new(&device, 500_000);
     assert_eq!(it.most_pool_descriptors(), MOST);
     let plain = unsafe { it.add_layout(layout(100_000, false)) }.unwrap();
@@ -181,12 +145,12 @@ fn a_renderer_begins_with_one() {
     let _ = it.create_set(plain).unwrap();
     let _ = it.create_set(marked).unwrap();
     let _ = it.create_sets(marked, 2).unwrap();
-    assert_eq!(device.pools(), [1, 1, 2]);
+    assert_eq!(pools_of(&device, 100_000), [1, 1, 2]);
     it.set_most_pool_descriptors(None);
     assert_eq!(it.most_pool_descriptors(), None);
     let _ = it.create_set(plain).unwrap();
     let _ = it.create_set(marked).unwrap();
     // Two more marked sets would fit.
-    assert_eq!(device.pools(), [64, 2]);
+    assert_eq!(pools_of(&device, 100_000), [64, 2]);
     unsafe { it.shutdown() };
 }

@@ -1,55 +1,12 @@
 //! Where the crate departs from gpu-descriptor 0.3.2, or has more than it.
 
+mod gpu;
+
+use gpu::{Fault, Gpu, Set};
 use gpu_descriptor::*;
-use std::cell::Cell;
 
-/// A device that hands out numbers.
-#[derive(Default)]
-struct Device {
-    next: Cell<u64>,
-    refuses_new_pools: Cell<bool>,
-    pools: Cell<i64>,
-    sets: Cell<i64>,
-}
-
-impl DescriptorDevice<(), u64, u64> for Device {
-    unsafe fn create_descriptor_pool(
-        &self,
-        _: &DescriptorTotalCount,
-        _: u32,
-        _: DescriptorPoolCreateFlags,
-    ) -> Result<u64, CreatePoolError> {
-        self.pools.set(self.pools.get() + 1);
-        Ok(0)
-    }
-
-    unsafe fn destroy_descriptor_pool(&self, _: u64) {
-        self.pools.set(self.pools.get() - 1);
-    }
-
-    unsafe fn alloc_descriptor_sets<'a>(
-        &self,
-        _: &mut u64,
-        layouts: impl ExactSizeIterator<Item = &'a ()>,
-        sets: &mut impl Extend<u64>,
-    ) -> Result<(), DeviceAllocationError> {
-        if self.refuses_new_pools.get() {
-            return Err(DeviceAllocationError::OutOfPoolMemory);
-        }
-        let first = self.next.get();
-        self.next.set(first + layouts.len() as u64);
-        self.sets.set(self.sets.get() + layouts.len() as i64);
-        sets.extend(first..self.next.get());
-        Ok(())
-    }
-
-    unsafe fn dealloc_descriptor_sets(&self, _: &mut u64, sets: impl Iterator<Item = u64>) {
-        self.sets.set(self.sets.get() - sets.count() as i64);
-    }
-}
-
-type Allocator = DescriptorAllocator<u64, u64>;
-type Sets = Vec<DescriptorSet<u64>>;
+type Allocator = DescriptorAllocator<usize, Set>;
+type Sets = Vec<DescriptorSet<Set>>;
 
 fn samplers(sampler: u32) -> DescriptorTotalCount {
     DescriptorTotalCount {
@@ -60,7 +17,7 @@ fn samplers(sampler: u32) -> DescriptorTotalCount {
 
 fn take(
     allocator: &mut Allocator,
-    device: &Device,
+    device: &Gpu,
     counts: DescriptorTotalCount,
     is_marked: bool,
     count: u32,
@@ -68,7 +25,7 @@ fn take(
     let mut flags = DescriptorSetLayoutCreateFlags::empty();
     flags.set(DescriptorSetLayoutCreateFlags::UPDATE_AFTER_BIND, is_marked);
     // SAFETY: each test has one device, and the layouts are what they are said to be.
-    unsafe { allocator.allocate(device, &(), flags, &counts, count) }
+    unsafe { allocator.allocate(device, &0, flags, &counts, count) }
 }
 
 /// In the original it panics or wraps.
@@ -85,20 +42,19 @@ fn the_total_stops_at_the_greatest_number() {
 /// The original lets it past the limit: the product of 2^16 sets and 2^16 descriptors wraps to 0.
 #[test]
 fn a_product_of_33_bits_is_past_the_limit() {
-    let (device, mut allocator) = (Device::default(), Allocator::new(u32::MAX));
+    let (device, mut allocator) = (Gpu::new(), Allocator::new(u32::MAX));
     let sets = take(&mut allocator, &device, samplers(1 << 16), true, 1 << 16);
     assert!(matches!(sets, Err(AllocationError::Fragmentation)));
-    assert_eq!(device.pools.get(), 0);
+    assert_eq!(device.pools(), 0);
 }
 
 /// In the original it is a panic.
 #[test]
 fn a_new_pool_that_refuses_is_destroyed() {
-    let (device, mut allocator) = (Device::default(), Allocator::new(0));
-    device.refuses_new_pools.set(true);
+    let (device, mut allocator) = (Gpu::with_fault(1, Fault::Refuses(3)), Allocator::new(0));
     let sets = take(&mut allocator, &device, samplers(1), false, 1);
     assert!(matches!(sets, Err(AllocationError::Fragmentation)));
-    assert_eq!(device.pools.get(), 0);
+    assert_eq!(device.pools(), 0);
 }
 
 /// The original counts the first set of a run to the run before, and refuses marked sets for good.
@@ -106,7 +62,7 @@ fn a_new_pool_that_refuses_is_destroyed() {
 fn marked_and_plain_sets_go_back_in_one_call() {
     for marked_first in [false, true] {
         // The marked sets of a round use the whole limit, so a wrong count refuses those of the next.
-        let (device, mut allocator) = (Device::default(), Allocator::new(64 * 5));
+        let (device, mut allocator) = (Gpu::new(), Allocator::new(64 * 5));
         for _ in 0..3 {
             let plain = take(&mut allocator, &device, samplers(3), false, 1).unwrap();
             let marked = take(&mut allocator, &device, samplers(5), true, 64).unwrap();
@@ -119,21 +75,21 @@ fn marked_and_plain_sets_go_back_in_one_call() {
             unsafe { allocator.free(&device, first) };
             unsafe { allocator.cleanup(&device) };
         }
-        assert_eq!((device.pools.get(), device.sets.get()), (0, 0));
+        assert_eq!((device.pools(), device.live_sets()), (0, 0));
     }
 }
 
 /// In the original the limit is on the sets that are out, and a driver refuses the pools.
 #[test]
 fn pools_of_marked_sets_keep_to_the_limit() {
-    let (device, mut allocator) = (Device::default(), Allocator::new(100));
+    let (device, mut allocator) = (Gpu::new(), Allocator::new(100));
     // Their pool is for ten sets, by the whole limit: another key gets none, and six more sets fit.
     let sets = take(&mut allocator, &device, samplers(10), true, 4).unwrap();
     assert_eq!(sets.len(), 4);
     let refused = take(&mut allocator, &device, samplers(11), true, 1);
     assert!(matches!(refused, Err(AllocationError::Fragmentation)));
     let more = take(&mut allocator, &device, samplers(10), true, 6).unwrap();
-    assert_eq!(device.pools.get(), 1);
+    assert_eq!(device.pools(), 1);
     unsafe { allocator.free(&device, sets.into_iter().chain(more)) };
     unsafe { allocator.cleanup(&device) };
 }
@@ -198,13 +154,13 @@ fn flags_with_unknown_bits() {
 /// A device that is lent to it is one, as `&Device` and `&&Device` are.
 #[test]
 fn a_lent_device() {
-    let (device, mut allocator) = (Device::default(), Allocator::new(0));
+    let (device, mut allocator) = (Gpu::new(), Allocator::new(0));
     let flags = DescriptorSetLayoutCreateFlags::empty();
     let lent = &&device;
-    let sets = unsafe { allocator.allocate(lent, &(), flags, &samplers(1), 2) }.unwrap();
+    let sets = unsafe { allocator.allocate(lent, &0, flags, &samplers(1), 2) }.unwrap();
     unsafe { allocator.free(lent, sets) };
     unsafe { allocator.cleanup(lent) };
-    assert_eq!((device.pools.get(), device.sets.get()), (0, 0));
+    assert_eq!((device.pools(), device.live_sets()), (0, 0));
 }
 
 /// Errors are values, and are errors without std too.
@@ -270,7 +226,7 @@ fn counts_by_kind() {
 #[test]
 fn a_drop_warns_once() {
     if std::env::var_os("DROP_ALLOCATOR").is_some() {
-        let (device, mut allocator) = (Device::default(), Allocator::new(0));
+        let (device, mut allocator) = (Gpu::new(), Allocator::new(0));
         for sampler in 1..4 {
             take(&mut allocator, &device, samplers(sampler), false, 1).unwrap();
         }
@@ -294,10 +250,10 @@ fn a_drop_warns_once() {
 /// A set shows whose it is.
 #[test]
 fn ids_tell_allocators_apart() {
-    let device = Device::default();
+    let device = Gpu::new();
     let (mut first, second) = (Allocator::new(0), Allocator::new(0));
     let flags = DescriptorSetLayoutCreateFlags::empty();
-    let sets = unsafe { first.allocate(&device, &(), flags, &samplers(1), 1) }.unwrap();
+    let sets = unsafe { first.allocate(&device, &0, flags, &samplers(1), 1) }.unwrap();
     assert!(sets[0].has_id_in(&first.ids()));
     assert!(!sets[0].has_id_in(&second.ids()));
     unsafe { first.free(&device, sets) };

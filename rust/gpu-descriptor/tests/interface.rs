@@ -1,5 +1,5 @@
 //! The interface by its names: this file compiles over gpu-descriptor 0.3.2 (the original) too, and
-//! tools/original/dropin runs it over both. So it has only what is the same there.
+//! tools/both runs it over that. So it has only what is the same there.
 //!
 //! Each call of an unsafe function has a block of its own, which would be an error around a safe one.
 #![deny(unused_unsafe)]

@@ -1,98 +1,11 @@
 //! Each allocation of memory in a request fails in turn. Freeing sets and cleaning up allocate nothing.
 
+mod gpu;
 mod refuses;
 
+use gpu::{Gpu, TWO_A_POOL};
 use gpu_descriptor::*;
 use refuses::with_refused;
-use std::cell::{Cell, RefCell};
-
-/// A device that takes no memory once it is made. A set has its pool and its place.
-struct Device {
-    /// Which places of each pool have a set, which pools exist, and how many calls there were.
-    live: RefCell<Vec<Vec<bool>>>,
-    exists: RefCell<Vec<bool>>,
-    calls: Cell<u64>,
-}
-
-/// How many pools there may be at a time, and how many sets in one.
-const POOLS: usize = 400;
-const PLACES: usize = 600;
-
-impl Device {
-    fn new() -> Self {
-        Device {
-            live: RefCell::new(vec![vec![false; PLACES]; POOLS]),
-            exists: RefCell::new(vec![false; POOLS]),
-            calls: Cell::new(0),
-        }
-    }
-
-    fn live_sets(&self) -> usize {
-        self.live
-            .borrow()
-            .iter()
-            .flatten()
-            .filter(|it| **it)
-            .count()
-    }
-}
-
-impl DescriptorDevice<u32, usize, (usize, usize)> for Device {
-    unsafe fn create_descriptor_pool(
-        &self,
-        _: &DescriptorTotalCount,
-        max_sets: u32,
-        _: DescriptorPoolCreateFlags,
-    ) -> Result<usize, CreatePoolError> {
-        assert!(max_sets as usize <= PLACES);
-        self.calls.set(self.calls.get() + 1);
-        let mut exists = self.exists.borrow_mut();
-        let pool = exists.iter().position(|it| !it).unwrap();
-        exists[pool] = true;
-        Ok(pool)
-    }
-
-    unsafe fn destroy_descriptor_pool(&self, pool: usize) {
-        self.calls.set(self.calls.get() + 1);
-        assert!(std::mem::replace(
-            &mut self.exists.borrow_mut()[pool],
-            false
-        ));
-        assert!(self.live.borrow()[pool].iter().all(|it| !it));
-    }
-
-    unsafe fn alloc_descriptor_sets<'a>(
-        &self,
-        pool: &mut usize,
-        layouts: impl ExactSizeIterator<Item = &'a u32>,
-        sets: &mut impl Extend<(usize, usize)>,
-    ) -> Result<(), DeviceAllocationError> {
-        self.calls.set(self.calls.get() + 1);
-        let mut live = self.live.borrow_mut();
-        let places = &mut live[*pool];
-        sets.extend(layouts.map(|_| {
-            let place = places.iter().position(|it| !it).unwrap();
-            places[place] = true;
-            (*pool, place)
-        }));
-        Ok(())
-    }
-
-    unsafe fn dealloc_descriptor_sets(
-        &self,
-        pool: &mut usize,
-        sets: impl Iterator<Item = (usize, usize)>,
-    ) {
-        self.calls.set(self.calls.get() + 1);
-        for set in sets {
-            assert_eq!(set.0, *pool);
-            assert!(std::mem::replace(
-                &mut self.live.borrow_mut()[set.0][set.1],
-                false
-            ));
-        }
-    }
-}
 
 type Allocator = DescriptorAllocator<usize, (usize, usize)>;
 type Set = DescriptorSet<(usize, usize)>;
@@ -114,11 +27,7 @@ fn plain(samplers: u32, count: u32) -> Request {
 }
 
 /// Makes a request. Its layout is the number of its samplers.
-fn take(
-    allocator: &mut Allocator,
-    device: &Device,
-    it: Request,
-) -> Result<Vec<Set>, AllocationError> {
+fn take(allocator: &mut Allocator, device: &Gpu, it: Request) -> Result<Vec<Set>, AllocationError> {
     let mut flags = DescriptorSetLayoutCreateFlags::empty();
     flags.set(
         DescriptorSetLayoutCreateFlags::UPDATE_AFTER_BIND,
@@ -129,6 +38,11 @@ fn take(
         ..Default::default()
     };
     unsafe { allocator.allocate(device, &it.samplers, flags, &counts, it.count) }
+}
+
+/// How many calls the device got, but for ends of pools.
+fn all_calls(device: &Gpu) -> u64 {
+    device.calls.get() + device.releases.get()
 }
 
 /// The books as their debug text, but for the place that is looked at first.
@@ -143,7 +57,7 @@ fn books(allocator: &Allocator) -> String {
 }
 
 /// The sets of several requests, all granted.
-fn take_all(allocator: &mut Allocator, device: &Device, requests: &[Request]) -> Vec<Set> {
+fn take_all(allocator: &mut Allocator, device: &Gpu, requests: &[Request]) -> Vec<Set> {
     let taken = requests.iter().map(|it| take(allocator, device, *it));
     taken.flat_map(Result::unwrap).collect()
 }
@@ -153,15 +67,15 @@ fn take_all(allocator: &mut Allocator, device: &Device, requests: &[Request]) ->
 /// pools.
 fn refuse_each(before: &[Request], last: Request, at_start: u64, others: u64) {
     for number in 0..at_start + others {
-        let (device, mut allocator) = (Device::new(), Allocator::new(100_000));
+        let (device, mut allocator) = (Gpu::new(), Allocator::new(100_000));
         let mut held = take_all(&mut allocator, &device, before);
-        let (had, calls) = (books(&allocator), device.calls.get());
+        let (had, calls) = (books(&allocator), all_calls(&device));
         let (result, allocations) = with_refused(number, || take(&mut allocator, &device, last));
         assert!(matches!(result, Err(AllocationError::OutOfHostMemory)));
         assert!(allocations > number, "there is such an allocation");
         assert_eq!(device.live_sets(), held.len(), "what it took went back");
         if number < at_start {
-            assert_eq!(device.calls.get(), calls);
+            assert_eq!(all_calls(&device), calls);
             assert_eq!(books(&allocator), had, "nothing changed");
         }
         // With memory it is granted.
@@ -169,7 +83,7 @@ fn refuse_each(before: &[Request], last: Request, at_start: u64, others: u64) {
         give_back(allocator, &device, held);
     }
     // There is no other allocation.
-    let (device, mut allocator) = (Device::new(), Allocator::new(100_000));
+    let (device, mut allocator) = (Gpu::new(), Allocator::new(100_000));
     let mut held = take_all(&mut allocator, &device, before);
     let (result, allocations) = with_refused(u64::MAX, || take(&mut allocator, &device, last));
     assert_eq!(allocations, at_start + others);
@@ -178,7 +92,7 @@ fn refuse_each(before: &[Request], last: Request, at_start: u64, others: u64) {
 }
 
 /// Gives all sets back, every fifth one first, and cleans up: without memory.
-fn give_back(mut allocator: Allocator, device: &Device, held: Vec<Set>) {
+fn give_back(mut allocator: Allocator, device: &Gpu, held: Vec<Set>) {
     assert_eq!(device.live_sets(), held.len());
     let in_places = held.into_iter().enumerate();
     let (first, rest): (Vec<_>, Vec<_>) = in_places.partition(|(place, _)| place % 5 == 0);
@@ -189,11 +103,8 @@ fn give_back(mut allocator: Allocator, device: &Device, held: Vec<Set>) {
     });
     assert_eq!(allocations, 0, "free and cleanup take no memory");
     assert_eq!(device.live_sets(), 0);
-    assert!(device.exists.borrow().iter().all(|it| !it));
+    assert_eq!(device.pools(), 0);
 }
-
-/// Sets of so many samplers go two to a pool.
-const TWO_A_POOL: u32 = u32::MAX / 2;
 
 #[test]
 fn first_request() {
@@ -264,7 +175,7 @@ fn layout(samplers: u32) -> SetLayout<u32> {
 
 #[test]
 fn one_set_takes_memory_for_the_books_alone() {
-    let (device, mut allocator) = (Device::new(), Allocator::new(0));
+    let (device, mut allocator) = (Gpu::new(), Allocator::new(0));
     let mut held = Vec::new();
     // The table, its order, the pools and the list of open ones; then nothing.
     for wanted in [4, 0, 0] {
@@ -281,7 +192,7 @@ fn one_set_takes_memory_for_the_books_alone() {
 /// is asked.
 #[test]
 fn sets_are_appended_to_a_vector() {
-    let (device, mut allocator) = (Device::new(), Allocator::new(0));
+    let (device, mut allocator) = (Gpu::new(), Allocator::new(0));
     let mut held = take(&mut allocator, &device, plain(1, 1)).unwrap();
     let first = *held[0].raw();
     held.reserve_exact(2);
@@ -294,10 +205,10 @@ fn sets_are_appended_to_a_vector() {
     assert_eq!(into(&mut held, room as u32, 0), (Ok(()), 0), "they fit");
     assert_eq!((held.len(), *held[0].raw()), (1 + room, first));
 
-    let calls = device.calls.get();
+    let calls = all_calls(&device);
     let refused = Err(AllocationError::OutOfHostMemory);
     assert_eq!(into(&mut held, 2, 0), (refused, 1));
-    assert_eq!(device.calls.get(), calls, "the device was not asked");
+    assert_eq!(all_calls(&device), calls, "the device was not asked");
     assert_eq!((held.len(), *held[0].raw()), (1 + room, first));
 
     assert_eq!(into(&mut held, 2, u64::MAX), (Ok(()), 1));
@@ -308,7 +219,7 @@ fn sets_are_appended_to_a_vector() {
 /// The books of a new pool find no memory when some sets came: these go back, and no others.
 #[test]
 fn a_vector_keeps_what_it_had() {
-    let (device, mut allocator) = (Device::new(), Allocator::new(0));
+    let (device, mut allocator) = (Gpu::new(), Allocator::new(0));
     let mut held = take(&mut allocator, &device, plain(TWO_A_POOL, 1)).unwrap();
     let first = *held[0].raw();
     // Number 0 is for the vector, and 1 for the books of the fifth pool: they had room for four.
@@ -324,7 +235,7 @@ fn a_vector_keeps_what_it_had() {
 /// Of the keys that stay, the order is made anew.
 #[test]
 fn cleanup_takes_no_memory_where_keys_stay() {
-    let (device, mut allocator) = (Device::new(), Allocator::new(0));
+    let (device, mut allocator) = (Gpu::new(), Allocator::new(0));
     let (mut held, mut back) = (Vec::new(), Vec::new());
     for samplers in 0..400 {
         let sets = if samplers % 4 == 0 {

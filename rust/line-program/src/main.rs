@@ -1,8 +1,8 @@
 //! The line program: each line of standard input is a call of the allocator, over a device that grants and
 //! refuses by a script, and each gets an answer on standard output. docs/LINES.md has the commands.
 //!
-//! Generated from proved sources are the modules `descriptor_words`, `descriptor_script` and
-//! `descriptor_lines`, and `gpu_descriptor_types` and `gpu_descriptor`, which are the files of
+//! Generated from proved sources are the modules `descriptor_script` and `descriptor_lines`,
+//! and `gpu_descriptor_types` and `gpu_descriptor`, which are the files of
 //! rust/gpu-descriptor. By hand are `kit`, `indexmap`, `itoa` and `macros`, in which the sources find what
 //! they take of the kit's std, `main`, and `many` for tests.
 extern crate alloc as std_alloc;
@@ -23,10 +23,6 @@ mod descriptor_lines;
 #[forbid(unsafe_code)]
 #[rustfmt::skip]
 mod descriptor_script;
-#[allow(dead_code, unused_imports, clippy::all)]
-#[forbid(unsafe_code)]
-#[rustfmt::skip]
-mod descriptor_words;
 #[path = "../../gpu-descriptor/src/gpu_descriptor/mod.rs"]
 #[allow(dead_code, unused_imports, clippy::all)]
 #[rustfmt::skip]

@@ -15,14 +15,13 @@ const MANY_PROGRAMS: u64 = 1000;
 pub struct Counts {
     passed: u64,
 
-    /// Uses and programs that differ, also before a departure; panics of the original; uses in which
-    /// it departs; and refusals that no program met.
+    /// Programs that differ, also before a departure; panics of the original; and refusals that no program met.
     failed: u64,
 
     /// Programs that were left out, by the departure that they meet.
     left_out: BTreeMap<&'static str, u64>,
 
-    /// Refusals in the uses and programs that passed.
+    /// Refusals in the programs that passed.
     refusals: BTreeMap<(Call, Outcome), u64>,
 }
 
@@ -39,41 +38,29 @@ impl Counts {
         }
     }
 
-    /// Compares both, and returns whether the original didn't depart. Where it is about to depart,
-    /// they are compared up to there. A panic of the crate has a transcript of its own, and one of the
-    /// original is a failure.
+    /// Compares both. Where the original is about to depart, they are compared up to there. A panic of the
+    /// crate has a transcript of its own, and one of the original is a failure.
     pub fn compare(
         &mut self,
         name: &str,
         there: impl FnOnce() -> Vec<Event> + UnwindSafe,
         here: impl FnOnce() -> Vec<Event> + UnwindSafe,
-    ) -> bool {
-        let there = match catch_unwind(there).map_err(|why| why.downcast::<Departure>()) {
-            Ok(there) => Ok(there),
-            Err(Ok(departure)) => Err(departure),
-            Err(Err(_)) => {
-                self.fail(&format!("{name}: the original panics"));
-                return true;
-            }
-        };
+    ) {
+        let there = catch_unwind(there).map_err(|why| why.downcast::<Departure>());
         let here = catch_unwind(here).unwrap_or_else(|_| vec![Event::Panicked]);
         match there {
             Ok(there) if there == here => {
                 self.passed += 1;
                 self.note_refusals(&there);
-                true
             }
-            Ok(there) => {
-                self.fail(&difference(name, &there, &here));
-                true
-            }
-            Err(departure) => {
+            Ok(there) => self.fail(&difference(name, &there, &here)),
+            Err(Ok(departure)) => {
                 *self.left_out.entry(departure.why).or_default() += 1;
                 if !here.starts_with(&departure.before) {
                     self.fail(&difference(name, &departure.before, &here));
                 }
-                false
             }
+            Err(Err(_)) => self.fail(&format!("{name}: the original panics")),
         }
     }
 

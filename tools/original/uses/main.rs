@@ -1,5 +1,5 @@
-//! Runs uses and random programs over gpu-descriptor 0.3.2 (the original) and over the new crate, and
-//! compares their transcripts: each device call, which sets a request gives, and why it is refused.
+//! Runs random programs over gpu-descriptor 0.3.2 (the original) and over the new crate, and compares their
+//! transcripts: each device call, which sets a request gives, and why it is refused.
 //!
 //! Arguments: how many random programs, and the first seed.
 
@@ -7,7 +7,6 @@ mod counts;
 mod device;
 mod random;
 mod subject;
-mod uses;
 
 mod there {
     use original as under_test;
@@ -28,35 +27,15 @@ mod here {
 }
 
 use counts::Counts;
-use device::Event;
 use here::Over as New;
 use std::ops::Range;
 use std::process::ExitCode;
 use std::sync::atomic::{AtomicU64, Ordering};
 use std::thread::{available_parallelism, scope};
-use subject::Subject;
 use there::Over as Original;
 
 /// So many programs a thread takes at once.
 const BATCH: u64 = 100;
-
-/// The transcript of a use.
-fn transcript<S: Subject>(run: fn(&mut S)) -> Vec<Event> {
-    let mut subject = S::with_limit(uses::LIMIT);
-    run(&mut subject);
-    std::mem::take(&mut subject.device().transcript)
-}
-
-fn compare_uses(counts: &mut Counts) {
-    let both = uses::uses::<Original>()
-        .into_iter()
-        .zip(uses::uses::<New>());
-    for ((name, there), (_, here)) in both {
-        if !counts.compare(name, || transcript(there), || transcript(here)) {
-            counts.fail(&format!("{name}: the original departs"));
-        }
-    }
-}
 
 /// Compares the random programs of these seeds, by as many threads as there are processors.
 fn compare_programs(seeds: Range<u64>) -> Counts {
@@ -94,16 +73,9 @@ fn number(place: usize, otherwise: u64) -> u64 {
 }
 
 fn main() -> ExitCode {
-    let mut counts = Counts::default();
-    compare_uses(&mut counts);
-    println!("compared: {} uses", counts.compared());
     let (programs, first) = (number(1, 1000), number(2, 1));
-    let of_programs = compare_programs(first..first + programs);
-    println!(
-        "compared: {} of {programs} random programs",
-        of_programs.compared()
-    );
-    of_programs.print();
-    counts.add(of_programs);
+    let counts = compare_programs(first..first + programs);
+    println!("compared: {} of {programs}", counts.compared());
+    counts.print();
     counts.end()
 }

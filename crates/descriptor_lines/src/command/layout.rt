@@ -2,12 +2,12 @@
 ghost use Rattle.std.specs.Prelude.{◌≡◌, IfOk};
 ghost use Rattle.descriptor_lines.specs.Commands.{IsRunnable};
 ghost use Rattle.descriptor_lines.specs.Orders.{layout_in, mark_in, order_of};
-ghost use Rattle.descriptor_words.specs.Fault.{read_as};
-ghost use Rattle.descriptor_words.specs.Words.{words_left};
+ghost use Rattle.descriptor_lines.specs.Fault.{read_as};
+ghost use Rattle.descriptor_lines.specs.Words.{words_left};
 
-use super::Command;
 use crate::layouts::{Layout, LayoutTable};
-use descriptor_words::{Fault, Words, parse_counts};
+use crate::words::{Fault, Words, parse_counts};
+use super::Command;
 
 /// `layout NAME plain` or `mark`, and the kinds with their counts.
 pub fn parse_layout<'a>(mut words: Words<'a>, layouts: &LayoutTable) -> Result<Command<'a>, Fault>
@@ -17,7 +17,7 @@ pub fn parse_layout<'a>(mut words: Words<'a>, layouts: &LayoutTable) -> Result<C
     let (Some(name), Some(mark)) = (words.next(), words.next()) else {
         return Err(Fault::BadWordCount);
     };
-    let name = descriptor_words::name(name).ok_or(Fault::BadName)?;
+    let name = crate::words::name(name).ok_or(Fault::BadName)?;
     if layouts.get(name).is_some() {
         return Err(Fault::NameIsTaken);
     }

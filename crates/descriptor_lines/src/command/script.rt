@@ -1,11 +1,11 @@
 //! The command that gives the device a new script.
 ghost use Rattle.std.specs.Prelude.{◌≡◌};
-ghost use Rattle.descriptor_words.specs.Fault.{Reads};
+ghost use Rattle.descriptor_lines.specs.Fault.{Reads};
 ghost use Rattle.descriptor_lines.specs.ScriptWords.{answer_in, script_in};
-ghost use Rattle.descriptor_words.specs.Words.{words_left};
+ghost use Rattle.descriptor_lines.specs.Words.{words_left};
 
+use crate::words::{Fault, Refusal, Words};
 use descriptor_script::Answer;
-use descriptor_words::{Fault, Refusal, Words};
 use std::alloc::Global;
 use std::vec::Vec;
 

@@ -6,7 +6,7 @@ ghost use Rattle.descriptor_lines.specs.Outcomes.{AppendsPrefix, IsNoFault, said
 
 use crate::answer;
 use crate::exit::Exit;
-use descriptor_words::Refusal;
+use crate::words::Refusal;
 use std::io::Write;
 use std::string::String;
 

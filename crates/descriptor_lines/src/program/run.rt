@@ -3,8 +3,7 @@ ghost use Rattle.std.specs.Prelude.{◌≡◌, [], None, IsTrue, OnOk, string_by
 ghost use Rattle.gpu_descriptor_types.specs.Counts.{kinds};
 ghost use Rattle.descriptor_lines.specs.Answers.{AnswersSize};
 ghost use Rattle.descriptor_lines.specs.Commands.{IsKnown, IsRunnable};
-ghost use Rattle.descriptor_lines.specs.FirstLayouts.{key_of};
-ghost use Rattle.descriptor_lines.specs.LayoutTables.{layout_count, layout_named};
+ghost use Rattle.descriptor_lines.specs.LayoutTables.{key_of, layout_count, layout_named};
 ghost use Rattle.descriptor_lines.specs.LineStates.{line_state};
 ghost use Rattle.descriptor_lines.specs.Orders.{Limit, Layout as NewLayout, Script, order_of};
 ghost use Rattle.descriptor_lines.specs.Programs.{CanAnswer, Does, DoesOrder, RunsAs};

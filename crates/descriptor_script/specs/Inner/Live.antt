@@ -1,5 +1,5 @@
 -- The live sets of a pool, as a table by name keeps them.
-use Rattle.std.specs.Prelude.{◌≡◌, ℕ, ◌-◌, List, map, Option, None}
+use Rattle.std.specs.Prelude.{◌≡◌, ℕ, ◌-◌, List, length, map, Option, None}
 use Rattle.std.specs.Iterator.{YieldsThen}
 use Rattle.gpu_descriptor_types.specs.Counts.{kinds}
 use Rattle.gpu_descriptor_types.specs.Multiset.{LiveSet, times, AreIn}
@@ -21,9 +21,10 @@ pub record HasNamed (names : List ℕ) (all : List LiveSet) : Type 0 where
   pub named : map (λ s. s.name) gone ≡ names
   pub live : AreIn gone (times all)
 
--- the iterator gave its items, up to its end, and sets of their names were taken from the list
-pub record TakesOut {I : Type 0} (steps : I → Option RawSet → I → Type 0) (old new : I) (before after : List LiveSet) : Type 0 where
+-- the iterator gave so many items, up to its end, and sets of their names were taken from the list
+pub record TakesOut {I : Type 0} (steps : I → Option RawSet → I → Type 0) (n : ℕ) (old new : I) (before after : List LiveSet) : Type 0 where
   pub items : List RawSet
+  pub many : length items ≡ n
   pub drained : YieldsThen steps old items None new
   pub gone : List LiveSet
   pub named : map (λ s. s.name) gone ≡ map set_id items

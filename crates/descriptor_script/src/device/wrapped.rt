@@ -1,23 +1,30 @@
-//! What a device needs that wraps a scripted one: to see what is live, and to refuse by itself.
-ghost use Rattle.std.specs.Prelude.{◌≡◌, None, IfSome};
-ghost use Rattle.gpu_descriptor_types.specs.Ledger.{after_no_alloc, after_no_create};
-ghost use Rattle.gpu_descriptor_types.specs.Multiset.{HasSize};
-ghost use Rattle.descriptor_script.specs.Scripted.Raw.{pool_id};
+//! What a device needs that wraps a scripted one: to count what it releases, and to refuse by itself.
+ghost use Rattle.std.specs.Prelude.{◌≡◌, map};
+ghost use Rattle.std.specs.Iterator.{HoldsAlong};
+ghost use Rattle.gpu_descriptor_types.specs.Ledger.{AreLive, CanDrain, after_no_alloc, after_no_create};
+ghost use Rattle.descriptor_script.specs.Scripted.Raw.{ReleasesMany, pool_id, set_id};
 
 use super::ScriptedDevice;
-use crate::raw::RawPool;
+use crate::raw::{RawPool, RawSet};
 use gpu_descriptor_types::{CreatePoolError, DeviceAllocationError};
 
 impl ScriptedDevice {
     ghost use Rattle.descriptor_script.specs.Scripted.Device.{ReadsNone, ledger_of};
 
-    /// How many sets are live in the pool; 0 where the pool isn't live.
-    pub fn live_sets(&self, pool: &RawPool) -> usize
-        ensures live { IfSome ((ledger_of self.now).pools (pool_id pool.now))
-            (λ p. HasSize p.live result) }
-        ensures not_live { (ledger_of self.now).pools (pool_id pool.now) ≡ None → result ≡ 0 }
+    /// Releases the sets that the iterator gives, as `dealloc_descriptor_sets` does, and returns how many
+    /// they were.
+    pub fn release<I: Iterator<Item = RawSet>>(&mut self, pool: &mut RawPool, sets: &mut I) -> usize
+        requires ends { CanDrain I.can_next I.remaining sets.old }
+        requires live { HoldsAlong I.next_gives sets.old
+            (λ xs. AreLive (pool_id pool.old) (map set_id xs) (ledger_of self.old)) }
+        ensures name { pool_id pool.new ≡ pool_id pool.old }
+        ensures released { ReleasesMany I.next_gives (pool_id pool.old) result sets.old sets.new
+            (ledger_of self.old) (ledger_of self.new) }
+        ensures reads { ReadsNone self.old self.new }
     {
-        self.pools.live_sets(pool.id)
+        let many = self.pools.release(pool.id, sets);
+        self.counters.released.rise();
+        many
     }
 
     /// Counts a create that the wrapping device refused. It reads no word.

@@ -3,7 +3,8 @@ use Rattle.gpu_descriptor.proofs.Common.{State, AreOutstanding, Item, Agree, ◌
 use Rattle.gpu_descriptor.proofs.Common.{released, pools_gone}
 use Rattle.gpu_descriptor.proofs.release.Fronts.{less-less, spent_front-less}
 use Rattle.gpu_descriptor.proofs.release.Places.{back}
-use Rattle.gpu_descriptor.proofs.release.Parts.{trimmed_if, names_key, quiet_key, back_still}
+use Rattle.gpu_descriptor.proofs.release.Given.{names_key}
+use Rattle.gpu_descriptor.proofs.release.Parts.{trimmed_if, quiet_key, back_still}
 
 -- of one key, which each part names or not
 count_law : (first second : Bool) (f g : ℕ → ℕ) (b : Bucket) → (second ≡ false → bucket_less (λ p. f p + g p) b ≡ bucket_less f b)

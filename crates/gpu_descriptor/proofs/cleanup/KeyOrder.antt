@@ -3,7 +3,8 @@ use Rattle.gpu_descriptor.proofs.Common.{◌≡◌, ℕ, zero, suc, ◌==◌, no
 use Rattle.gpu_descriptor.proofs.Common.{key_of, Allocations, keys_with_pools, common_steps, has_pools, LosesEmpty, left_of, with_pools, Entry, with_key, key_eq, is_of, named_row, state_of, row_of, stored_keys, none-some}
 use Rattle.gpu_descriptor.specs.Caller.States.{keys_of}
 use Rattle.gpu_descriptor.proofs.cleanup.Splitting.{pools_with}
-use Rattle.gpu_descriptor.proofs.cleanup.RowsCleaned.{Rows, cleared_row, first_keys, has_row, row_books, rows_left}
+use Rattle.gpu_descriptor.proofs.cleanup.RowsCleaned.{cleared_row, first_keys, has_row, rows_left}
+use Rattle.gpu_descriptor.proofs.table.RowAt.{Rows, row_books}
 use Rattle.gpu_descriptor.proofs.table.TableBooks.{keys_are, rows_are, rows_in}
 use Rattle.gpu_descriptor.proofs.table.Exact.{key_exact}
 

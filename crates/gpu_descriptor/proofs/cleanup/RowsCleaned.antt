@@ -12,12 +12,10 @@ use Rattle.gpu_descriptor.proofs.table.Exact.{key_exact}
 use Rattle.gpu_descriptor.proofs.cleanup.Splitting.{gone_at, named_at, no_pools_left, split}
 use Rattle.gpu_descriptor.proofs.foreign.LedgerPools.{destroyed_both}
 use Rattle.gpu_descriptor.proofs.sums.Loads.{set_descriptors-none, rows_load, rows_out, rows_pool_load, stored_load_in, sum_put}
+use Rattle.gpu_descriptor.proofs.table.RowAt.{Rows, row_books, rows_set}
 use Rattle.gpu_descriptor.proofs.table.TableBooks.{rows_in, rows_are, keys_are}
 use Rattle.gpu_descriptor.proofs.table.Tables.{key_eq_symm, none_behind}
 use Rattle.gpu_descriptor.proofs.request.StateAgrees.{booked_of}
-
-abbrev pub Rows : Type 0
-Rows = List (Key × Bucket)
 
 -- ---- rows with distinct keys
 
@@ -27,12 +25,6 @@ apart [] j i r s h lt at at' same = none-some r at
 apart (x ∷ rows) j zero r s h lt at at' same = omega arith
 apart (x ∷ rows) zero (suc i) r s h lt at at' same = grind (arith, key_exact, none_at)
 apart (x ∷ rows) (suc j) (suc i) r s h lt at at' same = apart rows j i r s h.1 (omega arith) at at' same
-
--- at the key of a row the books have its bucket
-pub row_books : (rows : Rows) (i : ℕ) (r : Key × Bucket) → HasDistinctKeys rows → slice_get rows i ≡ Some r → books_of rows r.0 ≡ r.1
-row_books [] i r h at = absurd (none-some r at)
-row_books (x ∷ rows) zero r h at = (let eq : x ≡ r = same_Some x r at in subst (λ (y : Key × Bucket). books_of (x ∷ rows) y.0 ≡ y.1) eq (rw (key_exact.self x.0) refl))
-row_books (x ∷ rows) (suc i) r h at = grind (arith, key_eq_symm, none_at, (row_books rows i r h.1 at))
 
 -- a row's key has no other
 absent_row : (r : Key × Bucket) (rows : Rows) (k : Key) → HasDistinctKeys (r ∷ rows) → key_eq r.0 k ≡ true → books_of rows k ≡ no_pools
@@ -86,12 +78,6 @@ module _ (everywhere : Bool) where
   cleared_set (x ∷ rows) (suc i) r at = ap (λ (l : Rows). cleared_row x ∷ l) (cleared_set rows i r at)
 
   module _ {P : Type 0} (name : P → ℕ) where
-    -- a bucket that is written at a place of the map is that of the row there
-    rows_set : (es : List (BucketKey × DescriptorBucket P)) (i : ℕ) (k : BucketKey) (v w : DescriptorBucket P) → slice_get es i ≡ Some (k, v) → rows_in name (set_value_at es i w) ≡ set (rows_in name es) i (key_of k, bucket_of name w)
-    rows_set [] i k v w at = absurd (none-some (k, v) at)
-    rows_set (e ∷ es) zero k v w at = (let eq : e ≡ (k, v) = same_Some e (k, v) at in ap (λ (x : BucketKey × DescriptorBucket P). (key_of x.0, bucket_of name w) ∷ rows_in name es) eq)
-    rows_set (e ∷ es) (suc i) k v w at = ap (λ (l : Rows). (key_of e.0, bucket_of name e.1) ∷ l) (rows_set es i k v w at)
-
     -- the row that is next stands there as it did
     pub next : (i : ℕ) (es : List (BucketKey × DescriptorBucket P)) (rows : Rows) (k : BucketKey) (v : DescriptorBucket P) → rows_in name es ≡ cleared i rows → slice_get es i ≡ Some (k, v) → slice_get rows i ≡ Some (key_of k, bucket_of name v)
     next i es rows k v h at = sym (cleared_at rows i) ∙ ap (λ (l : Rows). slice_get l i) (sym h) ∙ slice_get-map (λ (e : BucketKey × DescriptorBucket P). (key_of e.0, bucket_of name e.1)) es i ∙ ap (option_map (λ (e : BucketKey × DescriptorBucket P). (key_of e.0, bucket_of name e.1))) at
@@ -99,7 +85,7 @@ module _ (everywhere : Bool) where
     -- one step of the loop: what it leaves of the rows, and of the ledger
     pub step_rows : (i : ℕ) (es : List (BucketKey × DescriptorBucket P)) (rows : Rows) (k : BucketKey) (v w : DescriptorBucket P) → rows_in name es ≡ cleared i rows → slice_get es i ≡ Some (k, v) → bucket_of name w ≡ less (bucket_of name v) → rows_in name (set_value_at es i w) ≡ cleared (suc i) rows
     step_rows i es rows k v w h at new =
-        rows_set es i k v w at ∙ ap (λ (b : Bucket). set (rows_in name es) i (key_of k, b)) new
+        rows_set name es i k v w at ∙ ap (λ (b : Bucket). set (rows_in name es) i (key_of k, b)) new
         ∙ ap (λ (l : Rows). set l i (cleared_row (key_of k, bucket_of name v))) h ∙ cleared_set rows i (key_of k, bucket_of name v) (next i es rows k v h at)
 
   -- here `now` is the ledger before the step

@@ -1,9 +1,10 @@
 -- The pools of a key in two lists, those that are left and the empty ones that go, each in their order.
 -- For cleanup and trim alike (`sweep`): what holds of each such split holds of the two that `left_of` and `gone_of` make, one for
 -- each value of everywhere.
-use Rattle.gpu_descriptor.proofs.Common.{common_steps, ◌≡◌, ◌≢◌, ◌⊎◌, ℕ, zero, suc, ◌==◌, Bool, true, false, nat_lt, List, [], ◌∷◌, take, drop, filter, slice_get, Some, inl, inr, refl, sym, ap, ◌∙◌, arith, eq-eqb, eqb-true, ne_eqb, lt-ltb, and_parts, and_from, cases_Bool, list_all}
-use Rattle.gpu_descriptor.proofs.Common.{or_right, or_cases, prefix_len, Entry, Bucket, rises, numbers_of, no_pools, is_empty, are_named, gone_of, left_of, with_pools, none-some, same_Some, true≢false}
-use Rattle.gpu_descriptor.proofs.lists.Numbers.{number_of, rises_at}
+use Rattle.gpu_descriptor.proofs.Common.{common_steps, ◌≡◌, ◌≢◌, ◌≤◌, ◌⊎◌, ℕ, zero, suc, ◌==◌, Bool, true, false, nat_lt, List, [], ◌∷◌, take, drop, filter, slice_get, Some, inl, inr, refl, sym, ap, ◌∙◌, arith, eq-eqb, eqb-true, ne_eqb, lt-ltb, and_parts, and_from, cases_Bool, list_all}
+use Rattle.gpu_descriptor.proofs.Common.{prefix_len, Entry, Bucket, rises, numbers_of, no_pools, is_empty, are_named, gone_of, left_of, with_pools, none-some, same_Some}
+use Rattle.gpu_descriptor.proofs.lists.AtPlaces.{any_here, found_at}
+use Rattle.gpu_descriptor.proofs.lists.Numbers.{number_of, rises_once}
 
 -- each pool is the next that is left, or it is empty and the next that goes
 abbrev pub Split : (pools left gone : List Entry) → Type 0
@@ -22,12 +23,13 @@ none_first : (pools : List Entry) → Split pools pools []
 none_first [] = (refl, refl)
 none_first (e ∷ pools) = inl (pools, refl, none_first pools)
 
--- by a cleanup the front goes, and by a trim (`split_all`) each empty pool
-split_front : (pools : List Entry) → Split pools (drop (prefix_len is_empty pools) pools) (take (prefix_len is_empty pools) pools)
-split_front [] = (refl, refl)
-split_front (e ∷ pools) = elim (cases_Bool (is_empty e)) [
-  | inl empty ↦ rw (front_yes e pools empty) (inr (take (prefix_len is_empty pools) pools, refl, empty, split_front pools))
-  | inr full ↦ rw (front_no e pools full) (inl (pools, refl, none_first pools))
+-- so many of the front go, or by a trim (`split_all`) each empty pool
+pub split_cut : (n : ℕ) (pools : List Entry) → n ≤ prefix_len is_empty pools → Split pools (drop n pools) (take n pools)
+split_cut zero pools le = none_first pools
+split_cut (suc n) [] le = (refl, refl)
+split_cut (suc n) (e ∷ pools) le = elim (cases_Bool (is_empty e)) [
+  | inl empty ↦ inr (take n pools, refl, empty, split_cut n pools (let long = front_yes e pools empty in omega arith))
+  | inr full ↦ absurd (let none = front_no e pools full in omega arith)
 ]
 
 filter_yes : (p : Entry → Bool) (e : Entry) (es : List Entry) → p e ≡ true → filter p (e ∷ es) ≡ e ∷ filter p es
@@ -49,7 +51,7 @@ split_all (e ∷ pools) = go e.allocated refl (split_all pools)
 
 pub split : (everywhere : Bool) (pools : List Entry) → Split pools (left_of everywhere pools) (gone_of everywhere pools)
 split true pools = split_all pools
-split false pools = split_front pools
+split false pools = split_cut (prefix_len is_empty pools) pools (omega arith)
 
 -- ---- what they have
 
@@ -84,26 +86,27 @@ left_or_gone (x ∷ pools) left gone (inr s) (suc j) e at = elim (left_or_gone p
   | inr g ↦ inr (suc g.0, ap (λ m. slice_get m (suc g.0)) s.1 ∙ g.1)
 ]
 
+-- no two places have one name
+abbrev AreApart : List Entry → Type 0
+AreApart pools = (i j : ℕ) (d e : Entry) → slice_get pools i ≡ Some d → slice_get pools j ≡ Some e → d.pool ≡ e.pool → i ≡ j
+
+later : (x : Entry) (pools : List Entry) → AreApart (x ∷ pools) → AreApart pools
+later x pools distinct i j d e p q r = (let both : suc i ≡ suc j = distinct (suc i) (suc j) d e p q r in omega arith)
+
 -- and none does both: a pool that goes has the name of none that is left
-pub apart : (pools left gone : List Entry) → Split pools left gone → ((i j : ℕ) (d e : Entry) → slice_get pools i ≡ Some d → slice_get pools j ≡ Some e → d.pool ≡ e.pool → i ≡ j)
+pub apart : (pools left gone : List Entry) → Split pools left gone → AreApart pools
     → (i j : ℕ) (d e : Entry) → slice_get left i ≡ Some d → slice_get gone j ≡ Some e → d.pool ≢ e.pool
 apart [] left gone s distinct i j d e at at' same = absurd (none-some d (ap (λ l. slice_get l i) (sym s.0) ∙ at))
 apart (x ∷ pools) left gone (inl s) distinct zero j d e at at' same =
     let there = gone_at pools s.0 gone s.2 j e at' in
     let bad : 0 ≡ suc there.0 = distinct 0 (suc there.0) d e (ap (λ l. slice_get l 0) (sym s.1) ∙ at) there.1 same in
     omega arith
-apart (x ∷ pools) left gone (inl s) distinct (suc i) j d e at at' same = apart pools s.0 gone s.2 (rest x pools distinct) i j d e (ap (λ l. slice_get l (suc i)) (sym s.1) ∙ at) at' same
-  where
-    rest : (x : Entry) (pools : List Entry) → ((i j : ℕ) (d e : Entry) → slice_get (x ∷ pools) i ≡ Some d → slice_get (x ∷ pools) j ≡ Some e → d.pool ≡ e.pool → i ≡ j) → (i j : ℕ) (d e : Entry) → slice_get pools i ≡ Some d → slice_get pools j ≡ Some e → d.pool ≡ e.pool → i ≡ j
-    rest x pools distinct i j d e p q r = (let both : suc i ≡ suc j = distinct (suc i) (suc j) d e p q r in omega arith)
+apart (x ∷ pools) left gone (inl s) distinct (suc i) j d e at at' same = apart pools s.0 gone s.2 (later x pools distinct) i j d e (ap (λ l. slice_get l (suc i)) (sym s.1) ∙ at) at' same
 apart (x ∷ pools) left gone (inr s) distinct i zero d e at at' same =
     let there = left_at pools left s.0 s.3 i d at in
     let bad : suc there.0 ≡ 0 = distinct (suc there.0) 0 d e there.1 (ap (λ l. slice_get l 0) (sym s.1) ∙ at') same in
     omega arith
-apart (x ∷ pools) left gone (inr s) distinct i (suc j) d e at at' same = apart pools left s.0 s.3 (rest x pools distinct) i j d e at (ap (λ l. slice_get l (suc j)) (sym s.1) ∙ at') same
-  where
-    rest : (x : Entry) (pools : List Entry) → ((i j : ℕ) (d e : Entry) → slice_get (x ∷ pools) i ≡ Some d → slice_get (x ∷ pools) j ≡ Some e → d.pool ≡ e.pool → i ≡ j) → (i j : ℕ) (d e : Entry) → slice_get pools i ≡ Some d → slice_get pools j ≡ Some e → d.pool ≡ e.pool → i ≡ j
-    rest x pools distinct i j d e p q r = (let both : suc i ≡ suc j = distinct (suc i) (suc j) d e p q r in omega arith)
+apart (x ∷ pools) left gone (inr s) distinct i (suc j) d e at at' same = apart pools left s.0 s.3 (later x pools distinct) i j d e at (ap (λ l. slice_get l (suc j)) (sym s.1) ∙ at') same
 
 -- the numbers of those that are left rise
 all_left : (n : ℕ) (pools left gone : List Entry) → Split pools left gone → list_all (nat_lt n) (numbers_of pools) ≡ true → list_all (nat_lt n) (numbers_of left) ≡ true
@@ -118,7 +121,7 @@ left_rises (x ∷ pools) left gone (inr s) h = left_rises pools left s.0 s.3 (an
 
 -- no pool has two places
 pub one_place : (es : List Entry) → rises (numbers_of es) ≡ true → (i j : ℕ) (e : Entry) → slice_get es i ≡ Some e → slice_get es j ≡ Some e → i ≡ j
-one_place es h i j e at at' = grind (arith, common_steps, number_of, rises_at)
+one_place es h i j e at at' = rises_once (numbers_of es) h i j e.number (number_of es i e at) (number_of es j e at')
 
 -- ---- a second time nothing goes
 
@@ -168,16 +171,10 @@ all_go false (e ∷ pools) h = rw (front_yes e pools (h 0 e refl)) (all_go false
 
 -- a name among entries is that of one at a place; and the name of an entry at a place is among them
 pub named_at : (es : List Entry) (pool : ℕ) → are_named es pool ≡ true → (i : ℕ) × (e : Entry) × (slice_get es i ≡ Some e) × (e.pool ≡ pool)
-named_at [] pool h = absurd (true≢false (sym h))
-named_at (x ∷ es) pool h = elim (or_cases (x.pool == pool) (are_named es pool) h) [
-  | inl here ↦ (0, x, refl, eqb-true x.pool pool here)
-  | inr later ↦ (let f = named_at es pool later in (suc f.0, f.1, f.2, f.3))
-]
+named_at es pool h = (let found = found_at (λ e. e.pool == pool) es h in (found.0, found.1, found.2, eqb-true found.1.pool pool found.3))
 
 pub is_named_at : (es : List Entry) (i : ℕ) (e : Entry) → slice_get es i ≡ Some e → are_named es e.pool ≡ true
-is_named_at [] i e at = absurd (none-some e at)
-is_named_at (x ∷ es) zero e at = (let is : x ≡ e = cc in rw (eq-eqb x.pool e.pool (ap (λ (y : Entry). y.pool) is)) refl)
-is_named_at (x ∷ es) (suc i) e at = or_right (x.pool == e.pool) (are_named es e.pool) (is_named_at es i e at)
+is_named_at es i e at = any_here (λ d. d.pool == e.pool) es i e at (eq-eqb e.pool e.pool refl)
 
 -- the bucket with these of its pools: its pools, its id if there are some, and itself cleaned up or trimmed again
 pub pools_with : (b : Bucket) (es : List Entry) → (with_pools b es).pools ≡ es

@@ -1,17 +1,15 @@
 -- What an allocator leaves of the ledger when it is done, nothing of its own: for `laws::no_pool_is_lost`.
-use Rattle.gpu_descriptor.proofs.Common.{Allocations, ◌≡◌, ◌≢◌, ◌⊎◌, ℕ, zero, suc, ◌==◌, true, false, List, [], ◌∷◌, slice_get, Option, Some, None, inl, inr, refl, sym, ap, ◌∙◌, arith, eqb-true, fun_ext, list_any, cases_Bool, or_cases, Pool, Ledger, State, Item, outstanding, Agree, HasNoPools}
-use Rattle.gpu_descriptor.proofs.Common.{Key, key_eq, Entry, Bucket, HasDistinctKeys, books_of, entry_at, no_pools, common_steps, LosesEmpty, IsForeign, IsNamed, KeepsForeign, table_of, state_of, none-some, true≢false}
+use Rattle.gpu_descriptor.proofs.Common.{Allocations, ◌≡◌, ◌≢◌, ◌⊎◌, ℕ, ◌==◌, false, List, [], ◌∷◌, slice_get, Option, Some, None, inl, inr, refl, sym, ap, ◌∙◌, arith, eqb-false, fun_ext, list_any, cases_Bool, Pool, Ledger, State, Item, outstanding, Agree, HasNoPools}
+use Rattle.gpu_descriptor.proofs.Common.{Key, key_eq, Entry, Bucket, HasDistinctKeys, books_of, no_pools, common_steps, LosesEmpty, IsForeign, IsNamed, KeepsForeign, table_of, state_of, none-some}
 use Rattle.gpu_descriptor.proofs.cleanup.Cleaning.{no_pool_left}
+use Rattle.gpu_descriptor.proofs.cleanup.Splitting.{named_at}
+use Rattle.gpu_descriptor.proofs.lists.AtPlaces.{none_at}
 use Rattle.gpu_descriptor.proofs.foreign.ForeignPools.{cleaned_foreign, cleaned_loses, foreign_through}
-use Rattle.gpu_descriptor.proofs.lists.Numbers.{entry_at-found}
 use Rattle.gpu_descriptor.proofs.table.Tables.{first_books, none_behind}
 
 -- ---- nothing is left
 
--- without pools no number has one
-pub none_at : (b : Bucket) (n : ℕ) (e : Entry) → b.pools ≡ [] → entry_at b n ≡ Some e → ⊥
-none_at b n e empty at = (let found = entry_at-found b n e at in none-some e (ap (λ es. slice_get es found.0) (sym empty) ∙ found.1))
-
+-- without pools no place has one
 pub nothing_at : (b : Bucket) (i : ℕ) (e : Entry) → b.pools ≡ [] → slice_get b.pools i ≡ Some e → ⊥
 nothing_at b i e empty at = (none-some e (ap (λ es. slice_get es i) (sym empty) ∙ at))
 
@@ -32,24 +30,15 @@ restores s t u began keeps loses agree nothing clean =
 
 -- ---- a pool is in the books, or not
 
-pub found_in : (es : List Entry) (name : ℕ) → list_any (λ e. e.pool == name) es ≡ true → (i : ℕ) × (e : Entry) × (slice_get es i ≡ Some e) × (e.pool ≡ name)
-found_in [] name any = absurd (true≢false (sym any))
-found_in (x ∷ es) name any = elim (or_cases (x.pool == name) (list_any (λ e. e.pool == name) es) any) [
-  | inl here ↦ (0, x, refl, eqb-true x.pool name here)
-  | inr later ↦ (let f = found_in es name later in (suc f.0, f.1, f.2, f.3))
-]
-
 pub none_in : (es : List Entry) (name : ℕ) → list_any (λ e. e.pool == name) es ≡ false → (i : ℕ) (e : Entry) → slice_get es i ≡ Some e → e.pool ≢ name
-none_in [] name none i e at same = none-some e at
-none_in (x ∷ es) name none zero e at same = grind arith
-none_in (x ∷ es) name none (suc i) e at same = grind (arith, (none_in es name))
+none_in es name none i e at = eqb-false e.pool name (none_at (λ d. d.pool == name) es i e none at)
 
 -- the books of a table name a pool, or it is foreign
 in_table : (l : ℕ → Option Pool) (rows : List (Key × Bucket)) → HasDistinctKeys rows → (name : ℕ) → IsNamed (record { books = books_of rows; ledger = l }) name ⊎ IsForeign (record { books = books_of rows; ledger = l }) name
 in_table l [] distinct name = inr (λ k n e at same. nothing_at no_pools n e refl at)
 in_table l (row ∷ rows) distinct name = elim (cases_Bool (list_any (λ e. e.pool == name) row.1.pools)) [
   | inl own ↦ (
-      let f = found_in row.1.pools name own in
+      let f = named_at row.1.pools name own in
       let b = row.1 in
       inl (row.0, f.0, f.1, ap (λ (x : Bucket). slice_get x.pools f.0) (first_books row rows) ∙ f.2, f.3))
   | inr none ↦ elim (in_table l rows distinct.1 name) [

@@ -6,7 +6,8 @@ use Rattle.gpu_descriptor.specs.Caller.Others.{others_of}
 use Rattle.gpu_descriptor.proofs.cleanup.Cleaning.{no_pool_left}
 use Rattle.gpu_descriptor.proofs.table.Exact.{key_exact}
 use Rattle.gpu_descriptor.proofs.foreign.ForeignPools.{cleaned_foreign, cleaned_loses, freed_foreign, freed_loses}
-use Rattle.gpu_descriptor.proofs.foreign.NoneLost.{all_foreign, found_in, none_in}
+use Rattle.gpu_descriptor.proofs.cleanup.Splitting.{named_at}
+use Rattle.gpu_descriptor.proofs.foreign.NoneLost.{all_foreign, none_in}
 use Rattle.gpu_descriptor.proofs.sums.OutSets.{out_is_size}
 use Rattle.gpu_descriptor.proofs.table.Tables.{absent}
 use Rattle.gpu_descriptor.proofs.sums.TableSums.{outstanding_of-table}
@@ -18,7 +19,7 @@ found_row g (x ∷ rows) any = grind (arith, (found_row g rows))
 module _ (table : List (Key × Bucket)) (l : ℕ → Option Pool) (pool : ℕ) where
   -- whether a table's books name a pool: the test and the statement
   pub named : is_named table pool ≡ true → IsNamed (record { books = books_of table; ledger = l }) pool
-  named any = grind (arith, common_steps, found_in, found_row)
+  named any = grind (arith, common_steps, named_at, found_row)
 
   pub unnamed : is_named table pool ≡ false → IsForeign (record { books = books_of table; ledger = l }) pool
   unnamed none k n e at same = grind (arith, absent, found_row, key_exact, none_in)

@@ -22,6 +22,13 @@ found_before p (x ∷ xs) (suc n) h = elim (or_cases (p x) (list_any p (take n x
   | inr later ↦ (let found = found_before p xs n later in let below = found.2 in (suc found.0, found.1, (let lt : suc found.0 < suc n = omega arith in lt), found.3, found.4))
 ]
 
+pub found_at : {A : Type 0} (p : A → Bool) (xs : List A) → list_any p xs ≡ true → (i : ℕ) × (x : A) × (slice_get xs i ≡ Some x) × (p x ≡ true)
+found_at p [] h = absurd (true≢false (sym h))
+found_at p (x ∷ xs) h = elim (or_cases (p x) (list_any p xs) h) [
+  | inl here ↦ (0, x, refl, here)
+  | inr later ↦ (let found = found_at p xs later in (suc found.0, found.1, found.2, found.3))
+]
+
 -- one that passes at a place is found, and if none is found none passes
 pub any_here : {A : Type 0} (p : A → Bool) (xs : List A) (i : ℕ) (x : A) → slice_get xs i ≡ Some x → p x ≡ true → list_any p xs ≡ true
 any_here p [] i x at hit = absurd (cc)
@@ -47,6 +54,23 @@ set_got (z ∷ xs) zero x zero y at = inl (refl, (let e : x ≡ y = cc in sym e)
 set_got (z ∷ xs) zero x (suc j) y at = inr ((λ e. omega arith), at)
 set_got (z ∷ xs) (suc i) x zero y at = inr ((λ e. omega arith), at)
 set_got (z ∷ xs) (suc i) x (suc j) y at = grind (arith, (set_got xs i x j y at))
+
+pub set_here : {A : Type 0} (xs : List A) (i : ℕ) (x y : A) → slice_get xs i ≡ Some y → slice_get (slice_set xs i x) i ≡ Some x
+set_here [] i x y at = absurd (cc)
+set_here (z ∷ xs) zero x y at = refl
+set_here (z ∷ xs) (suc i) x y at = set_here xs i x y at
+
+-- ---- one more at the end
+
+pub get_last : {A : Type 0} (xs : List A) (x : A) → slice_get (xs ++ x ∷ []) (length xs) ≡ Some x
+get_last [] x = refl
+get_last (z ∷ xs) x = get_last xs x
+
+pub got_last : {A : Type 0} (xs : List A) (x : A) (i : ℕ) (y : A) → slice_get (xs ++ x ∷ []) i ≡ Some y → (slice_get xs i ≡ Some y) ⊎ ((i ≡ length xs) × (y ≡ x))
+got_last [] x zero y at = inr (refl, (let e : x ≡ y = cc in sym e))
+got_last [] x (suc i) y at = absurd (cc)
+got_last (z ∷ xs) x zero y at = inl at
+got_last (z ∷ xs) x (suc i) y at = elim (got_last xs x i y at) [ inl there ↦ inl there | inr here ↦ inr (ap suc here.0, here.1) ]
 
 -- ---- the list around a place
 

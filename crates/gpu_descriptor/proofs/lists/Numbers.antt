@@ -22,6 +22,13 @@ rises_at (x ∷ xs) h i zero m n lt a b = absurd (omega arith)
 rises_at (x ∷ xs) h zero (suc j) m n lt a b = grind (arith, common_steps, all_above, and_parts, rises)
 rises_at (x ∷ xs) h (suc i) (suc j) m n lt a b = rises_at xs (and_parts (list_all (nat_lt x) xs) (rises xs) h).1 i j m n (omega arith) a b
 
+-- so each stands at one place
+pub rises_once : (xs : List ℕ) → rises xs ≡ true → (i j n : ℕ) → slice_get xs i ≡ Some n → slice_get xs j ≡ Some n → i ≡ j
+rises_once xs h i j n a b = elim (cases_lt i j) [
+  | inl lt ↦ absurd (let bad = rises_at xs h i j n n lt a b in omega arith)
+  | inr le ↦ elim (cases_lt j i) [ inl lt ↦ absurd (let bad = rises_at xs h j i n n lt b a in omega arith) | inr ge ↦ omega arith ]
+]
+
 -- the next number is above all
 pub below_next : (xs : List ℕ) → rises xs ≡ true → (i m : ℕ) → slice_get xs i ≡ Some m → m < number_after xs
 below_next [] h i m at = absurd (none-some m at)

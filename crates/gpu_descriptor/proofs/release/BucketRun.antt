@@ -1,9 +1,9 @@
 -- Giving one run back to a stored bucket.
 -- For `release_sets`. names are those of the run's sets, ls the live sets that left the pool q, whose entry e is at place i.
-use Rattle.gpu_descriptor.proofs.Common.{entry_at, greatest_pool_size, ◌≡◌, ℕ, zero, suc, ◌+◌, ◌-◌, ◌<◌, ◌≤◌, List, [], ◌∷◌, length, map, sum_by, set, get_or, slice_get, Option, Some, option_map, inl, inr, refl, sym, ap, ◌∙◌, arith, IfSome, slice_get-map, slice_get_read, length-map, sum_by-cons}
+use Rattle.gpu_descriptor.proofs.Common.{entry_at, greatest_pool_size, ◌≡◌, ℕ, zero, suc, ◌+◌, ◌-◌, ◌<◌, ◌≤◌, List, [], ◌∷◌, length, map, sum_by, set, get_or, slice_get, Option, Some, option_map, refl, ap, ◌∙◌, arith, IfSome, slice_get-map, slice_get_read, length-map, sum_by-cons}
 use Rattle.gpu_descriptor.proofs.Common.{Pool, live_sets, LiveSet, times, AreIn, DescriptorPool, live_in, IsAsBooked, Key, Entry, Bucket, ∥∥₁_elim, ∥∥₁_map, props, common_steps, AreBookedIn, IsTakenAt, entry_less, pool_less, entry_of}
 use Rattle.gpu_descriptor.proofs.foreign.LedgerPools.{taken_from, with_pool_same, with_pool_other, size_minus, only_these}
-use Rattle.gpu_descriptor.proofs.lists.AtPlaces.{set_got}
+use Rattle.gpu_descriptor.proofs.request.StateAgrees.{changed_booked}
 
 -- a place that was read
 pub read_at : {P : Type 0} (name : P → ℕ) (items : List (DescriptorPool P)) (i : ℕ) (q : DescriptorPool P) → i < length items → q ≡ get_or items i q → slice_get (map (entry_of name) items) i ≡ Some (entry_of name q)
@@ -52,44 +52,25 @@ pub stored_after :
     → AreBookedIn k (taken_from pools e.pool ls) (set es i (entry_less (length ls) e))
 stored_after k es pools i e ls stored at within =
     let y = entry_less (length ls) e in
-    let was : (j : ℕ) (d : Entry) → slice_get (set es i y) j ≡ Some d → (c : Entry) × (slice_get es j ≡ Some c) × (c.pool ≡ d.pool) = λ j d h. elim (set_got es i y j d h) [
-      | inl same ↦ (e, (ap (slice_get es) same.0 ∙ at), ap (λ (x : Entry). x.pool) (sym same.1))
-      | inr other ↦ (d, other.1, refl)
-    ] in
-    record {
-      distinct = λ a b c d h h' same.
-          let p = was a c h in
-          let q = was b d h' in
-          stored.distinct a b p.0 q.0 p.1 q.1 (p.2 ∙ same ∙ sym q.2);
-      each = λ j d h. elim (set_got es i y j d h) [
-        | inl same ↦ (
-            let booked = stored.each i e at in
-            let pool = booked.pool in
-            let live : (x : LiveSet) → times ls x ≤ pool.live x = λ x. (let is : live_in pools e.pool x ≡ pool.live x = rw booked.is_live refl in let less = within x in omega arith) in
-            let bound = booked.booked.fits in
-            let fits : length ls ≤ e.allocated = ∥∥₁_elim booked.booked.allocated (search props) (λ size. (size_minus pool.live e.allocated ls size live).0) in
-            let after : Pool = pool_less (times ls) pool in
-            let is : IsAsBooked k after y = record {
-              flags = booked.booked.flags;
-              at_least = booked.booked.at_least;
-              small = booked.booked.small;
-              capacity = booked.booked.capacity;
-              counts = booked.booked.counts;
-              sets = λ x some. booked.booked.sets x (omega arith);
-              allocated = ∥∥₁_map booked.booked.allocated (λ size. (size_minus pool.live e.allocated ls size live).1);
-              fits = omega arith;
-              full = λ none. (let whole = booked.booked.full none in omega arith);
-            } in
-            grind (arith, common_steps, taken_from, with_pool_same))
-        | inr other ↦ (
-            let booked = stored.each j d other.1 in
-            record {
-              pool = booked.pool;
-              is_live = with_pool_other pools e.pool d.pool (option_map (pool_less (times ls)) (pools e.pool)) (λ same. other.0 (stored.distinct j i d e other.1 at same)) ∙ booked.is_live;
-              booked = booked.booked;
-            })
-      ];
-    }
+    let booked = stored.each i e at in
+    let pool = booked.pool in
+    let live : (x : LiveSet) → times ls x ≤ pool.live x = λ x. (let is : live_in pools e.pool x ≡ pool.live x = rw booked.is_live refl in let less = within x in omega arith) in
+    let bound = booked.booked.fits in
+    let fits : length ls ≤ e.allocated = ∥∥₁_elim booked.booked.allocated (search props) (λ size. (size_minus pool.live e.allocated ls size live).0) in
+    let is : IsAsBooked k (pool_less (times ls) pool) y = record {
+      flags = booked.booked.flags;
+      at_least = booked.booked.at_least;
+      small = booked.booked.small;
+      capacity = booked.booked.capacity;
+      counts = booked.booked.counts;
+      sets = λ x some. booked.booked.sets x (omega arith);
+      allocated = ∥∥₁_map booked.booked.allocated (λ size. (size_minus pool.live e.allocated ls size live).1);
+      fits = omega arith;
+      full = λ none. (let whole = booked.booked.full none in omega arith);
+    } in
+    let to = option_map (pool_less (times ls)) (pools e.pool) in
+    changed_booked k es pools (taken_from pools e.pool ls) i e y (pool_less (times ls) pool) stored at refl
+    (with_pool_same pools e.pool to ∙ ap (option_map (pool_less (times ls))) booked.is_live) (λ q apart. with_pool_other pools e.pool q to apart) is
 
 pub place_fits : (k : Key) (b : Bucket) (pools : ℕ → Option Pool) (i : ℕ) (e : Entry) → AreBookedIn k pools b.pools → slice_get b.pools i ≡ Some e → e.allocated + e.available ≤ greatest_pool_size
 place_fits k b pools i e stored at =

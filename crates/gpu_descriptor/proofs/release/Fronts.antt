@@ -1,9 +1,7 @@
 -- The front of a bucket: what giving back does to it, and which places keep their pools when it goes.
 -- For release.Parts, which takes the law of one key from it, and release.FrontPool. es are entries, keep is how many are to stay.
-use Rattle.gpu_descriptor.proofs.Common.{◌≡◌, ℕ, zero, suc, ◌+◌, ◌-◌, ◌<◌, ◌≤◌, true, false, min, List, [], ◌∷◌, length, map, drop, slice_get, Some, inl, inr, refl, sym, ap, ◌∙◌, arith, drop-drop, prefix_len, cases_Bool, cases_lt, drop-map, Entry, Bucket, entry_at, rises, numbers_of, common_steps}
-use Rattle.gpu_descriptor.proofs.Common.{bucket_but_front, entry_less, bucket_less, is_empty, empty_front, spent_front, without_front, true≢false}
-use Rattle.gpu_descriptor.proofs.lists.AtPlaces.{get_drop}
-use Rattle.gpu_descriptor.proofs.lists.Numbers.{entry_at-found, entry_at-named, numbers_drop, rises_drop}
+use Rattle.gpu_descriptor.proofs.Common.{◌≡◌, ℕ, suc, ◌+◌, ◌-◌, ◌≤◌, true, false, min, List, [], ◌∷◌, length, map, drop, inl, inr, refl, sym, ap, ◌∙◌, arith, drop-drop, prefix_len, cases_Bool, drop-map, Entry, Bucket, common_steps}
+use Rattle.gpu_descriptor.proofs.Common.{bucket_but_front, entry_less, bucket_less, is_empty, spent_front, without_front}
 
 -- how many pools go from the front of a list, if so many are to stay
 abbrev pub trim : ℕ → List Entry → ℕ
@@ -30,30 +28,6 @@ trim-map g keeps (x ∷ y ∷ es) = elim (cases_Bool (is_empty x)) [
   | inl h ↦ rw (trim_yes 1 (g x) (map g (y ∷ es)) (let more : 1 ≤ length (map g (y ∷ es)) = omega arith in more) (keeps x h), trim_yes 1 x (y ∷ es) (let more : 1 ≤ length (y ∷ es) = omega arith in more) h) (omega (arith, trim-map g keeps (y ∷ es)))
   | inr h ↦ rw (trim_no 1 x (y ∷ es) h) (omega arith)
 ]
-
--- a pool in the front is empty
-pub front_empty : (es : List Entry) (i : ℕ) (e : Entry) → slice_get es i ≡ Some e → i < prefix_len is_empty es → is_empty e ≡ true
-front_empty [] i e at lt = absurd (omega arith)
-front_empty (x ∷ es) zero e at lt = grind arith
-front_empty (x ∷ es) (suc i) e at lt = grind (arith, (front_empty es i e at))
-
--- what has a number after the front is gone had it before
-pub entry_at-without : (f : ℕ) (b : Bucket) (n : ℕ) (e : Entry) → rises (numbers_of b.pools) ≡ true → entry_at (without_front f b) n ≡ Some e → entry_at b n ≡ Some e
-entry_at-without f b n e rising h =
-    let found = entry_at-found (without_front f b) n e h in
-    entry_at-named b (f + found.0) n e rising (sym (get_drop b.pools f found.0) ∙ found.1) found.2
-
--- a pool with sets keeps its number when the front goes
-pub entry_at-kept : (b : Bucket) (f n : ℕ) (e : Entry) → rises (numbers_of b.pools) ≡ true → f ≤ empty_front b → entry_at b n ≡ Some e → is_empty e ≡ false → entry_at (without_front f b) n ≡ Some e
-entry_at-kept b f n e rising le h full =
-    let found = entry_at-found b n e h in
-    let rest : rises (numbers_of (drop f b.pools)) ≡ true = ap rises (numbers_drop b.pools f) ∙ rises_drop (numbers_of b.pools) f rising in
-    elim (cases_lt found.0 f) [
-      | inl lt ↦ absurd (let empty = front_empty b.pools found.0 e found.1 (omega arith) in true≢false (sym empty ∙ full))
-      | inr ge ↦ (
-          let place : f + (found.0 - f) ≡ found.0 = omega arith in
-          entry_at-named (without_front f b) (found.0 - f) n e rest (get_drop b.pools f (found.0 - f) ∙ ap (slice_get b.pools) place ∙ found.1) found.2)
-    ]
 
 -- giving back in two parts, to an entry and to a bucket, also one of which the front goes
 pub entry_less-less : (a c : ℕ) (e : Entry) → entry_less c (entry_less a e) ≡ entry_less (a + c) e

@@ -1,21 +1,18 @@
 -- Giving back in two parts is giving back at once.
 -- For `laws::release_parts`, and for `free_from`, which frees run by run. The parts are m and n; first and second say whether they
 -- name a key, f and g how many sets they give back to a pool. `quiet`: a part that doesn't name the key gives its pools nothing.
-use Rattle.gpu_descriptor.proofs.Common.{common_steps, ◌≡◌, ℕ, suc, ◌+◌, ◌<◌, Bool, true, false, ◌&&◌, ◌||◌, ◌==◌, List, [], ◌∷◌, ◌++◌, map, take, drop, slice_get, Option, Some, None, option_map, refl, sym, ap, ◌∙◌, arith, take-add, if◌then◌else◌, fun_ext, list_any, and_parts, and_from, true≢false}
-use Rattle.gpu_descriptor.proofs.Common.{false_from_ne_true, take-map, set_of, State, Item, item_eq, count_of, AreOutstanding, Agree, Key, key_eq, Entry, Bucket, Pool, LiveSet, set_eq, count_by-append, count_by_alike, count_by_none, any_from, any_found, list_any-append, bucket_but_front, lies_in}
+use Rattle.gpu_descriptor.proofs.Common.{common_steps, ◌≡◌, ℕ, suc, ◌+◌, ◌<◌, Bool, true, false, ◌&&◌, ◌||◌, ◌==◌, List, [], ◌∷◌, ◌++◌, map, take, drop, slice_get, Option, Some, None, option_map, refl, sym, ap, ◌∙◌, arith, take-add, if◌then◌else◌, fun_ext, list_any, true≢false}
+use Rattle.gpu_descriptor.proofs.Common.{false_from_ne_true, take-map, set_of, State, Item, item_eq, count_of, AreOutstanding, Agree, Key, key_eq, Entry, Bucket, Pool, LiveSet, set_eq, count_by-append, count_by_alike, count_by_none, any_from, list_any-append, bucket_but_front, lies_in}
 use Rattle.gpu_descriptor.proofs.Common.{entry_less, bucket_less, pool_less, spent_front, without_front, in_front, released}
 use Rattle.gpu_descriptor.proofs.lists.Numbers.{entry_at-found}
 use Rattle.gpu_descriptor.proofs.release.Fronts.{less-less, less-without, one_key, spent_front-less}
 use Rattle.gpu_descriptor.proofs.table.Exact.{key_exact, item_exact}
-use Rattle.gpu_descriptor.proofs.release.Places.{back, back_named, lies_in-at, lies_in-found, kept}
+use Rattle.gpu_descriptor.proofs.release.Given.{any_key, goes, kept, key_any, names_key}
+use Rattle.gpu_descriptor.proofs.release.Places.{back, back_named, lies_in-at, lies_in-found}
 
 -- the key's spent front goes if the key is named
 abbrev pub trimmed_if : Bool → Bucket → Bucket
 trimmed_if named b = if named then without_front (spent_front b) b else b
-
--- whether a set of the list is of the key
-abbrev pub names_key : List Item → Key → Bool
-names_key m k = list_any (λ t. key_eq t.key k) m
 
 -- ONE KEY, named by either part or by both. A part that doesn't name it takes nothing from its pools
 books_law : (first second : Bool) (f g : ℕ → ℕ) (b : Bucket) → (second ≡ false → bucket_less (λ p. f p + g p) b ≡ bucket_less f b) → trimmed_if second (bucket_less g (trimmed_if first (bucket_less f b))) ≡ trimmed_if (first || second) (bucket_less (λ p. f p + g p) b)
@@ -42,10 +39,6 @@ pub or-false : (a : Bool) → a ≡ (a || false)
 or-false true = refl
 or-false false = refl
 
--- whether a pool is in the front that goes
-abbrev pub goes : Bucket → ℕ → Bool
-goes b pool = in_front (spent_front b) b pool
-
 -- what goes at once goes with the first part or with the second
 goes_law : (first second : Bool) (f g : ℕ → ℕ) (b : Bucket) (pool : ℕ) → (second ≡ false → bucket_less (λ p. f p + g p) b ≡ bucket_less f b)
     → ((first || second) && goes (bucket_less (λ p. f p + g p) b) pool) ≡ ((first && goes (bucket_less f b) pool) || (second && goes (bucket_less g (trimmed_if first (bucket_less f b))) pool))
@@ -63,20 +56,6 @@ goes_law true true f g b pool quiet =
 goes_law true false f g b pool quiet = ap (λ (x : Bucket). goes x pool) (quiet refl) ∙ or-false (goes (bucket_less f b) pool)
 goes_law false true f g b pool quiet = ap (λ (x : Bucket). goes x pool) (sym (less-less f g b))
 goes_law false false f g b pool quiet = refl
-
--- a fact of some key that the list names
-pub any_key : (test : Key → Bool) (m : List Item) → list_any (λ t. test t.key) m ≡ true → (k : Key) × ((names_key m k && test k) ≡ true)
-any_key test m h =
-    let found = any_found item_exact (λ t. test t.key) m h in
-    let t = found.0 in
-    (t.key, and_from (names_key m t.key) (test t.key) (any_from item_exact (λ u. key_eq u.key t.key) m t found.1 (key_exact.self t.key)) found.2)
-
-pub key_any : (test : Key → Bool) (m : List Item) (k : Key) → (names_key m k && test k) ≡ true → list_any (λ t. test t.key) m ≡ true
-key_any test m k h =
-    let both = and_parts (names_key m k) (test k) h in
-    let found = any_found item_exact (λ t. key_eq t.key k) m both.0 in
-    let t = found.0 in
-    any_from item_exact (λ u. test u.key) m t found.1 (ap test (key_exact.same t.key k found.2) ∙ both.1)
 
 -- a test of the keys that one part or the other names, over the two lists together
 any_law : (a b c : Key → Bool) (m n : List Item) → ((k : Key) → ((names_key m k || names_key n k) && a k) ≡ ((names_key m k && b k) || (names_key n k && c k))) → list_any (λ t. a t.key) (m ++ n) ≡ (list_any (λ t. b t.key) m || list_any (λ t. c t.key) n)

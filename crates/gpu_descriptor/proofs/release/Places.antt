@@ -1,14 +1,12 @@
--- Which places of the books keep their pools when sets go back: those that still have a set out.
--- For the laws of `released` in release.ReleaseAgrees and Parts. The items m go back to pools of the state s; back m s counts those of a pool,
--- `back_named` those of a live set in it; `front_of` is how many pools a key then loses.
-use Rattle.gpu_descriptor.proofs.Common.{◌≡◌, ℕ, ◌+◌, ◌-◌, ◌<◌, ◌≤◌, Bool, true, false, cond, ◌&&◌, ◌==◌, List, [], ◌∷◌, length, map, filter, count_by, Option, Some, None, option_map, inl, inr, refl, sym, ap, ◌∙◌, arith, eqb-true, eq-eqb, ne_eqb, option_map_or, list_any, cases_Bool}
-use Rattle.gpu_descriptor.proofs.Common.{false_from_ne_true, and_parts, and_from, length-map, length-filter, count_by-le-length, slice_get, slice_get-map, rises, numbers_of, set_of, State, Item, item_eq, count_of, live_in, outstanding, AreOutstanding, HasSize, Agree, live_at, Key, key_eq, Entry}
-use Rattle.gpu_descriptor.proofs.Common.{Bucket, entry_at, no_pools, Pool, LiveSet, set_eq, bool_iff, count_by_alike, count_by_none, set_exact, all_taken_out, ∥∥₁_elim, ∥∥₁_map, props, common_steps, lies_in, entry_less, bucket_less, is_empty, empty_front, spent_front, without_front, released}
+-- How many sets go back to a pool, and that the pool has them.
+-- For the laws of `released` in release.Given, ReleaseAgrees and Parts. The items m go back to pools of the state s; back m s counts those of a pool,
+-- `back_named` those of a live set in it.
+use Rattle.gpu_descriptor.proofs.Common.{◌≡◌, ℕ, ◌-◌, ◌<◌, ◌≤◌, Bool, true, false, ◌&&◌, ◌==◌, List, [], ◌∷◌, length, map, filter, count_by, Option, Some, None, option_map, inl, inr, refl, sym, ap, ◌∙◌, arith, eqb-true, eq-eqb, option_map_or, cases_Bool}
+use Rattle.gpu_descriptor.proofs.Common.{false_from_ne_true, and_parts, and_from, length-map, length-filter, count_by-le-length, numbers_of, set_of, State, Item, item_eq, count_of, live_in, outstanding, AreOutstanding, HasSize, Agree, live_at, Key, Entry}
+use Rattle.gpu_descriptor.proofs.Common.{Bucket, entry_at, no_pools, Pool, LiveSet, set_eq, bool_iff, count_by_alike, count_by_none, set_exact, all_taken_out, ∥∥₁_elim, ∥∥₁_map, props, common_steps, lies_in, entry_less, bucket_less}
 use Rattle.gpu_descriptor.proofs.Common.{none-some, true≢false}
 use Rattle.gpu_descriptor.proofs.lists.Numbers.{find_map, numbers_map}
-use Rattle.gpu_descriptor.proofs.lists.AtPlaces.{get_drop}
-use Rattle.gpu_descriptor.proofs.release.Fronts.{entry_at-without, entry_at-kept}
-use Rattle.gpu_descriptor.proofs.request.StateAgrees.{booked_at, distinct_at}
+use Rattle.gpu_descriptor.proofs.request.StateAgrees.{distinct_at}
 use Rattle.gpu_descriptor.proofs.table.Exact.{item_exact, item_parts, item_from}
 
 -- how many sets go back to a pool, and how many of these are that live set
@@ -141,49 +139,6 @@ numbers_less g b = numbers_map (λ e. entry_less (g e.pool) e) (λ e. refl) b.po
 pub some_before : (f : Entry → Entry) (o : Option Entry) (e : Entry) → option_map f o ≡ Some e → (d : Entry) × (o ≡ Some d) × (f d ≡ e)
 some_before f None e h = absurd (none-some e h)
 some_before f (Some d) e h = (d, refl, (let is : ◌≡◌ {A = Option Entry} (Some (f d)) (Some e) = h in cc))
-
--- how many pools leave a key
-abbrev pub front_of : List Item → State → Key → ℕ
-front_of m s k = cond (list_any (λ t. key_eq t.key k) m) (spent_front (bucket_less (back m s) (s.books k))) 0
-
--- the books of a key afterwards: less, and without so many pools of the front, which are all empty
-pub released_books : (m : List Item) (s : State) (k : Key) → (released m s).books k ≡ without_front (front_of m s k) (bucket_less (back m s) (s.books k))
-released_books m s k = grind arith
-
-pub front_of-le : (m : List Item) (s : State) (k : Key) → front_of m s k ≤ empty_front (bucket_less (back m s) (s.books k))
-front_of-le m s k = grind arith
-
--- what stands at a place afterwards stood before it, in the same pool
-pub was_there : (m : List Item) (s : State) (k : Key) (i : ℕ) (e : Entry) → slice_get ((released m s).books k).pools i ≡ Some e → (d : Entry) × (slice_get (s.books k).pools (front_of m s k + i) ≡ Some d) × (entry_less (back m s d.pool) d ≡ e)
-was_there m s k i e h = grind (arith, common_steps, back, get_drop, released_books, slice_get-map, some_before)
-
--- and so what has a number
-pub was_at : (m : List Item) (s : State) → Agree s → (k : Key) (n : ℕ) (e : Entry) → entry_at ((released m s).books k) n ≡ Some e → (d : Entry) × (entry_at (s.books k) n ≡ Some d) × (entry_less (back m s d.pool) d ≡ e)
-was_at m s agree k n e h =
-    let c = bucket_less (back m s) (s.books k) in
-    let here : entry_at (without_front (front_of m s k) c) n ≡ Some e = ap (λ (b : Bucket). entry_at b n) (sym (released_books m s k)) ∙ h in
-    let whole = entry_at-without (front_of m s k) c n e (ap rises (numbers_less (back m s) (s.books k)) ∙ agree.rising k) here in
-    some_before (λ d. entry_less (back m s d.pool) d) (entry_at (s.books k) n) e (sym (entry_at-less (back m s) (s.books k) n) ∙ whole)
-
--- THE CRUX: the place of a set that is still out keeps its pool and its number
-pub kept : (m : List Item) (s : State) → Agree s → AreOutstanding m s → (t : Item) → count_of t m < outstanding s t → (e : Entry) × (entry_at (s.books t.key) t.number ≡ Some e) × (entry_at ((released m s).books t.key) t.number ≡ Some (entry_less (back m s e.pool) e))
-kept m s agree out t more =
-    let here = outstanding_found s t (count_of t m) more in
-    let e = here.0 in
-    let booked = booked_at s agree t.key t.number e here.1 in
-    let pool = booked.0 in
-    let live : live_in s.ledger e.pool (set_of t) ≡ pool.live (set_of t) = rw booked.1 refl in
-    let left = size_less pool.live e.allocated (lies_in s.books e.pool) m booked.2.allocated (part_fits m s agree out t.key t.number e pool here.1 booked.1) in
-    let named : back_named m s e.pool (set_of t) ≡ count_of t m = back_named-is m s agree out t.key t.number e here.1 t.name ∙ ap (λ (i : ℕ). let u : Item = record t { id = i } in count_of u m) here.3 in
-    let above = here.2 in
-    let some : 0 < e.allocated - back m s e.pool = size_pos (λ name. pool.live name - back_named m s e.pool name) (e.allocated - back m s e.pool) (set_of t) left.1 (omega arith) in
-    let full : is_empty (entry_less (back m s e.pool) e) ≡ false = ne_eqb (e.allocated - back m s e.pool) 0 (λ none. omega arith) in
-    let there : entry_at (bucket_less (back m s) (s.books t.key)) t.number ≡ Some (entry_less (back m s e.pool) e) = entry_at-less (back m s) (s.books t.key) t.number ∙ ap (option_map (λ e. entry_less (back m s e.pool) e)) here.1 in (
-      e,
-      here.1,
-      ap (λ (b : Bucket). entry_at b t.number) (released_books m s t.key)
-          ∙ entry_at-kept (bucket_less (back m s) (s.books t.key)) (front_of m s t.key) t.number (entry_less (back m s e.pool) e) (ap rises (numbers_less (back m s) (s.books t.key)) ∙ agree.rising t.key) (front_of-le m s t.key) there full,
-    )
 
 -- for new allocators: one without keys agrees with every ledger
 pub empty_agrees : (ledger : ℕ → Option Pool) → Agree (record { books = λ _. no_pools; ledger = ledger })

@@ -1,15 +1,15 @@
 -- Giving one run back, over the books of all keys.
 -- For `release_run`, by release.LentRow: a run leaves the state released of its sets. x is its first set, xs are the others, all of
 -- one key and pool number; m are their items; e is the entry of their pool, at place i of the key's bucket.
-use Rattle.gpu_descriptor.proofs.Common.{slice_get, ◌≡◌, ℕ, suc, ◌<◌, ◌≤◌, Bool, true, false, ◌==◌, List, [], ◌∷◌, length, map, count_by, sum_by, Option, Some, None, option_map, inl, inr, refl, sym, ap, ◌∙◌, arith, eq-eqb, ne_eqb, if◌then◌else◌, fun_ext, list_any, cases_Bool, cases_eq, and_parts}
-use Rattle.gpu_descriptor.proofs.Common.{and_from, false_from_ne_true, length-map, sum_by-cons, Pool, live_sets, LiveSet, set_eq, times, bool_iff, any_found, any_from, count_by_yes, count_by_no, DescriptorSet, set_of, State, Item, item_eq, count_of, live_in, AreOutstanding, Agree, Key, key_eq}
+use Rattle.gpu_descriptor.proofs.Common.{slice_get, ◌≡◌, ℕ, suc, ◌<◌, ◌≤◌, Bool, true, false, ◌==◌, List, [], ◌∷◌, length, map, count_by, Option, Some, None, option_map, inl, inr, refl, sym, ap, ◌∙◌, arith, eq-eqb, ne_eqb, if◌then◌else◌, fun_ext, list_any, cases_Bool, cases_eq, and_parts}
+use Rattle.gpu_descriptor.proofs.Common.{and_from, false_from_ne_true, length-map, Pool, live_sets, LiveSet, set_eq, times, bool_iff, any_found, any_from, count_by_yes, count_by_no, DescriptorSet, set_of, State, Item, item_eq, count_of, live_in, AreOutstanding, Agree, Key, key_eq}
 use Rattle.gpu_descriptor.proofs.Common.{Entry, Bucket, entry_at, common_steps, IsTakenAt, names_of, bucket_back, bucket_but_front, entry_less, pool_less, given_back, fronts_gone, released, spent_front, pools_gone, in_front, item_of, items_of, AllPass, true≢false}
 use Rattle.gpu_descriptor.specs.Inner.RunSteps.{lies_at}
 use Rattle.gpu_descriptor.proofs.table.Exact.{key_exact, item_exact}
 use Rattle.gpu_descriptor.proofs.lists.Numbers.{entry_at-named}
 use Rattle.gpu_descriptor.proofs.release.ReleaseAgrees.{has_place}
 use Rattle.gpu_descriptor.proofs.foreign.LedgerPools.{taken_from, with_pool_same, with_pool_other}
-use Rattle.gpu_descriptor.proofs.release.Parts.{names_key, any_key, key_any, goes}
+use Rattle.gpu_descriptor.proofs.release.Given.{names_key, any_key, key_any, goes}
 use Rattle.gpu_descriptor.proofs.release.Places.{back, back_named, part_fits}
 use Rattle.gpu_descriptor.proofs.release.RunsOfOne.{IsRun, run_back, run_named, run_books, untouched_rest}
 use Rattle.gpu_descriptor.proofs.table.TableBooks.{put_books}
@@ -179,34 +179,14 @@ module _ {S : Type 0} (name : S → ℕ) where
       let left : ◌≡◌ {A = State} (record { books = put_books s.books k c; ledger = pools }) (record { books = put_books s.books k (bucket_but_front 1 b); ledger = trimmed_pools b after }) = λ z. record { books = put_books s.books k (is z); ledger = are z } in
       left ∙ sym (front_run x xs have s.books b after) ∙ ap (fronts_gone (items_of name (x ∷ xs))) (sym (given_run s agree x xs have i e at named))
 
-  -- what is 0 at all other keys adds up to what it is at one that is there once
-  sum_none : (k : Key) (f : Key → ℕ) → ((l : Key) → key_eq k l ≡ false → f l ≡ 0) → (keys : List Key) → count_by (key_eq k) keys ≡ 0 → sum_by f keys ≡ 0
-  sum_none k f none [] h = refl
-  sum_none k f none (l ∷ keys) h = grind (arith, common_steps, (sum_none k f none keys))
-
-  sum_once : (k : Key) (f : Key → ℕ) → ((l : Key) → key_eq k l ≡ false → f l ≡ 0) → (keys : List Key) → count_by (key_eq k) keys ≡ 1 → sum_by f keys ≡ f k
-  sum_once k f none [] h = absurd (omega arith)
-  sum_once k f none (l ∷ keys) h = elim (cases_Bool (key_eq k l)) [
-    | inl at ↦ (let more = count_by_yes (key_eq k) l keys at in let here : f l ≡ f k = ap f (sym (key_exact.same k l at)) in let rest = sum_none k f none keys (omega arith) in let sum = sum_by-cons f l keys in omega arith)
-    | inr at ↦ (let skip = count_by_no (key_eq k) l keys at in let here = none l at in let rest = sum_once k f none keys (omega arith) in let sum = sum_by-cons f l keys in omega arith)
-  ]
-
-  -- THE POOLS THAT GO are those of the run's key
+  -- THE POOLS THAT GO from the run's key
   pub gone_run : (s : State) → Agree s → (x : DescriptorSet S) (xs : List (DescriptorSet S)) → AllPass (lies_at x.key.is x.number) xs → (i : ℕ) (e : Entry) → slice_get (s.books x.key.is).pools i ≡ Some e → e.number ≡ x.number
-      → (keys : List Key) → count_by (key_eq x.key.is) keys ≡ 1 → pools_gone keys (items_of name (x ∷ xs)) s ≡ spent_front (bucket_back (s.books x.key.is) i (length (names_of name (x ∷ xs))) e)
-  gone_run s agree x xs have i e at named_so keys there =
+      → pools_gone (x.key.is ∷ []) (items_of name (x ∷ xs)) s ≡ spent_front (bucket_back (s.books x.key.is) i (length (names_of name (x ∷ xs))) e)
+  gone_run s agree x xs have i e at named_so =
       let k = x.key.is in
       let m = items_of name (x ∷ xs) in
       let b = bucket_back (s.books k) i (length (names_of name (x ∷ xs))) e in
-      let run = is_run x.key.is x.number (x ∷ xs) (all_have x xs have) in
-      let f : Key → ℕ = λ l. if names_key m l then spent_front ((given_back m s).books l) else 0 in
       let named : names_key m k ≡ true = any_from item_exact (λ u. key_eq u.key k) m (item_of name x) (first_of x xs) (key_exact.self k) in
-      let only : (l : Key) → key_eq k l ≡ false → f l ≡ 0 = λ l other.
-      let unnamed : names_key m l ≡ false = false_from_ne_true (names_key m l) (λ h.
-      let who = any_found item_exact (λ u. key_eq u.key l) m h in
-      let same : k ≡ l = sym (run who.0 who.1).0 ∙ key_exact.same who.0.key l who.2 in
-      true≢false (sym (ap (key_eq k) (sym same) ∙ key_exact.self k) ∙ other)) in
-      rw unnamed refl in
       let given : (given_back m s).books k ≡ b = ap (λ (t : State). t.books k) (given_run s agree x xs have i e at named_so) ∙ (let own : put_books s.books k b k ≡ b = rw (key_exact.self k) refl in own) in
-      let here : f k ≡ spent_front ((given_back m s).books k) = rw named refl in
-      sum_once k f only keys there ∙ here ∙ ap spent_front given
+      let here : pools_gone (k ∷ []) m s ≡ spent_front ((given_back m s).books k) = rw named (omega arith) in
+      here ∙ ap spent_front given

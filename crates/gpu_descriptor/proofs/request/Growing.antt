@@ -4,7 +4,7 @@
 use Rattle.gpu_descriptor.proofs.Common.{common_steps, ◌≡◌, ℕ, zero, suc, take, drop, ◌+◌, ◌-◌, ◌<◌, List, [], ◌∷◌, ◌++◌, length, map, Bool, true, false, cond, ◌==◌, nat_eq, Option, Some, None, Ok, Err, refl, sym, ap, ◌∙◌, subst, arith, eqb-true, eq-eqb, fun_ext, nil_from_length, eqb-false}
 use Rattle.gpu_descriptor.proofs.Common.{map-append, append-nil, sum_by-cons, sum_by-append, list_any, update, if◌then◌else◌, option_map, Item, flags_of, Key, Entry, Bucket, Pool, Ledger, live_sets, on_pool, or_from, or_parts, pool_counts, Stop, list_any-append, Fresh, fresh_portions}
 use Rattle.gpu_descriptor.proofs.Common.{fresh_entries, fresh_entry, number_after, numbers_of, given_by, IsNextSize, room_after, AreSized, AreFull, AreNew, IsFreshPrefix, IsFreshList, Grant, Part, items_at, portion_of, came, pool_with, ledger_with, fresh_or, IsGrown, IsTaken, IsRefused}
-use Rattle.gpu_descriptor.proofs.Common.{allocated_in, pool_descriptors, risen, grant_rise, StopsAtNew, StopsAt, rest, all_shared, portions_of, AreBookedIn, HasTaken, IsWalked}
+use Rattle.gpu_descriptor.proofs.Common.{allocated_in, pool_descriptors, risen, grant_rise, StopsAtNew, StopsAt, rest, all_shared, portions_of, Adds, AreBookedIn, HasTaken, IsWalked}
 use Rattle.gpu_descriptor.proofs.sums.PoolsLoad.{pools_load}
 use Rattle.gpu_descriptor.specs.declared.bucket.stop.Stop.TheVariants as stop
 use Rattle.gpu_descriptor_types.specs.Ledger as ledgers
@@ -13,6 +13,7 @@ use Rattle.gpu_descriptor.proofs.request.FreshNumbers.{fresh_entries_more, next_
 use Rattle.gpu_descriptor.proofs.request.NextSize.{room_more}
 use Rattle.gpu_descriptor.proofs.request.Promises.{length_items, shares_sum, sum_given}
 use Rattle.gpu_descriptor.proofs.table.Exact.{bucket}
+use Rattle.gpu_descriptor.proofs.request.Added.{added_both, added_grown}
 use Rattle.gpu_descriptor.proofs.request.Asks.{none_with, same_counters}
 use Rattle.gpu_descriptor.proofs.request.Shares.{IsApart, apart_from, not_refused}
 use Rattle.gpu_descriptor.proofs.request.WalkStep.{grant_of, items_more, ledger_more, part}
@@ -171,6 +172,7 @@ module _ {most : Option ℕ} {k : Key} {start n id room left total wanting : ℕ
           bucket = ap (bucket id) entries_now;
           pools = pools_now;
           counters = counters_now;
+          keeps = subst (λ (xs : List Item). Adds k xs (bucket id old) (bucket id new') l.pools m'.pools) (sym (put_is ∙ ap (λ (i : ℕ). items ++ items_at k id i more) named)) (added_both refl s.taken.keeps (added_grown k id new m.pools s.taken.keeps.booked s.taken.keeps.rising most room left total wanting more new' m m' refl a));
         };
       }
 

@@ -5,7 +5,7 @@ use Rattle.gpu_descriptor.proofs.Common.{granted, items_in, stop_error, call_of,
 use Rattle.gpu_descriptor.specs.Caller.HandsOut.{HandsOut}
 use Rattle.gpu_descriptor.specs.Caller.Keeps.{Keeps}
 use Rattle.gpu_descriptor.specs.Caller.States.{keys_of}
-use Rattle.gpu_descriptor.proofs.request.Outcomes.{taken_agree, taken_out, taken_own, taken_others, taken_others_of, went_back, back_out, back_others, back_others_of, back_totals, kept, kept_many, kept_totals}
+use Rattle.gpu_descriptor.proofs.request.Outcomes.{taken_agree, taken_out, taken_own, taken_others, taken_others_of, went_back, back_out, back_others, back_totals, kept, kept_many, kept_totals}
 use Rattle.gpu_descriptor.proofs.request.Causes.{has_cause}
 use Rattle.gpu_descriptor.proofs.request.Promises.{short}
 
@@ -21,17 +21,6 @@ module _ {L P S : Type 0} {means : Meaning L P S} {k : Key} {count : ℕ} {sets 
         load = load;
         pool_load = pool_load;
         others = taken_others_of t agree;
-      }
-
-  pub keeps_back : {last : Allocations P} {final : Ledger} → Returns means sets (side new after) (side last final) → new.limit ≡ old.limit → new.most ≡ old.most → Keeps means (side new after) (side last final) → Keeps means (side old before) (side last final)
-  keeps_back r limit most then =
-      record {
-        agree = then.agree;
-        limit = then.limit ∙ limit;
-        most = then.most ∙ most;
-        load = then.load;
-        pool_load = then.pool_load;
-        others = back_others_of t agree r.back;
       }
 
 module _ {L P S : Type 0} {means : Meaning L P S} {k : Key} {count : ℕ} (sets : List (DescriptorSet S)) {ended : Result (Unit {0}) Stop} {old new : Allocations P} {before after : Ledger}

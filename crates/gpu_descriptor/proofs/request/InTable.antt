@@ -1,11 +1,14 @@
 -- What a request takes of one key, in the table of keys.
 -- For `serve`, if the key has a row, and `serve_absent`, if it has none. v and w are the key's bucket before and after.
-use Rattle.gpu_descriptor.proofs.Common.{bool_iff, ltb-true, ◌≡◌, ℕ, ◌+◌, ◌≤◌, Bool, true, false, List, [], ◌∷◌, ◌++◌, length, Option, Some, None, is_some, Result, Ok, Err, inl, inr, refl, sym, ap, ◌∙◌, subst, arith, ◌-◌, ◌&&◌, lt-ltb, map, lookup, set_value, option_map_or, nat_lt, sum_by}
-use Rattle.gpu_descriptor.proofs.Common.{if◌then◌else◌, cases_Bool, sum_by-append, Meaning, Ledger, Pool, BucketKey, DescriptorSet, DescriptorBucket, Stop, Key, key_eq, Bucket, no_pools, key_of, Item, set_descriptors, books_in, bucket_of, row_of, HasTaken, Grant, IsGrantOf, IsServed, ServesKey}
-use Rattle.std.proofs.lemmas.Map.Steps.{set_value_same}
+use Rattle.gpu_descriptor.proofs.Common.{bool_iff, ltb-true, ◌≡◌, ℕ, ◌+◌, ◌≤◌, Bool, true, false, List, [], ◌∷◌, ◌++◌, length, Option, Some, None, Result, Ok, Err, inl, inr, refl, sym, ap, ◌∙◌, subst, arith, ◌-◌, ◌&&◌, lt-ltb, map, lookup, option_map_or, nat_lt, sum_by, IsDistinct}
+use Rattle.gpu_descriptor.proofs.Common.{if◌then◌else◌, cases_Bool, sum_by-append, Meaning, Ledger, Pool, BucketKey, DescriptorSet, DescriptorBucket, Stop, Key, key_eq, Bucket, no_pools, key_of, Item, set_descriptors, books_in, bucket_of, kept_in, named_bucket, row_of, stored_keys, HasTaken, Grant, IsGrantOf, IsServed, ServesKey}
 use Rattle.gpu_descriptor.proofs.table.Exact.{key_exact}
-use Rattle.gpu_descriptor.proofs.sums.Loads.{IsRow, IsWritten, load_in, sum_set, set_descriptors-add, rows_out, rows_load}
-use Rattle.gpu_descriptor.proofs.table.TableBooks.{put_books, written, looked_up, row_bucket}
+use Rattle.indexmap.specs.Layout.{set_value_at}
+use Rattle.gpu_descriptor.proofs.sums.Loads.{load_in, sum_put, set_descriptors-add, rows_out, rows_load}
+use Rattle.gpu_descriptor.proofs.sums.TableSums.{books_named}
+use Rattle.gpu_descriptor.proofs.table.Readings.{kept_at}
+use Rattle.gpu_descriptor.proofs.table.RowAt.{IsAt, present, written}
+use Rattle.gpu_descriptor.proofs.table.TableBooks.{put_books, row_bucket}
 
 -- a new key goes last
 books_end : {P : Type 0} (name : P → ℕ) (k : BucketKey) (w : DescriptorBucket P) (test : BucketKey → Bool) → ((l : BucketKey) → test l ≡ key_eq (key_of k) (key_of l)) → (es : List (BucketKey × DescriptorBucket P)) → lookup test es ≡ None → (l : Key)
@@ -24,12 +27,9 @@ books_end {P} name k w test same (e ∷ es) none l = elim (cases_Bool (test e.0)
       ])
 ]
 
--- the books have the bucket of a key's row, and none of a key without one
-pub present : {P : Type 0} (name : P → ℕ) {k : Key} {es : List (BucketKey × DescriptorBucket P)} {v : DescriptorBucket P} → IsRow k es v → books_in name (map row_of es) k ≡ bucket_of name v
-present {P} name {k} {es} row = looked_up name row.test k row.same es ∙ ap (λ (o : Option (DescriptorBucket P)). option_map_or (bucket_of name) o no_pools) row.at
-
+-- the books have none of a key without a row
 pub missing : {P : Type 0} (name : P → ℕ) (k : Key) (es : List (BucketKey × DescriptorBucket P)) (test : BucketKey → Bool) → ((l : BucketKey) → test l ≡ key_eq k (key_of l)) → lookup test es ≡ None → books_in name (map row_of es) k ≡ no_pools
-missing {P} name k es test same at = looked_up name test k same es ∙ ap (λ (o : Option (DescriptorBucket P)). option_map_or (bucket_of name) o no_pools) at
+missing {P} name k es test same at = books_named name (map row_of es) k ∙ ap (named_bucket name) (kept_at test k same es ∙ ap (λ (o : Option (DescriptorBucket P)). option_map_or kept_in o no_pools) at)
 
 load_grows : {P : Type 0} (k l : BucketKey) (v w : DescriptorBucket P) (n : ℕ) → key_of l ≡ key_of k → w.total ≡ v.total + n → load_in (l, w) ≡ load_in (l, v) + set_descriptors (key_of k) n
 load_grows k l v w n is more =
@@ -40,7 +40,7 @@ grant_new : {n id : ℕ} {ledger : ℕ → Option Pool} {g : Grant} → IsGrantO
 grant_new h = record { id = λ some. absurd (omega arith); refusing = h.refusing; parts = h.parts; new = h.new }
 
 taken_new : {k : Key} {n id : ℕ} {g : Grant} {items : List Item} {b : Bucket} {l m : Ledger} → HasTaken k n g items (record no_pools { id = id }) b l m → HasTaken k n g items no_pools b l m
-taken_new t = record { grant = grant_new t.grant; came = t.came; bucket = t.bucket; pools = t.pools; counters = t.counters }
+taken_new t = record { grant = grant_new t.grant; came = t.came; bucket = t.bucket; pools = t.pools; counters = t.counters; keeps = (let a = t.keeps in record { booked = a.booked; rising = a.rising; live = a.live; stays = a.stays; comes = a.comes; others = a.others }) }
 
 served_new :
     {L P S : Type 0} {means : Meaning L P S} {most : Option ℕ} {k : Key} {room count id : ℕ}
@@ -55,19 +55,18 @@ module _ {L P S : Type 0} {means : Meaning L P S} (k : BucketKey) (w : Descripto
     (s : IsServed means most (key_of k) room count sets ended old (bucket_of means.pool_name w) before after) where
   module _ {had : ℕ} (total : w.total ≡ had + length sets) (es : List (BucketKey × DescriptorBucket P)) {fs : List (BucketKey × DescriptorBucket P)} where
     -- the key had a row, which was written; or its row came last (`serves_new`)
-    pub serves_present : {v : DescriptorBucket P} → bucket_of means.pool_name v ≡ old → v.total ≡ had → IsWritten (key_of k) es fs v w → ServesKey means most (key_of k) room count sets ended (map row_of es) (map row_of fs) before after
-    serves_present {v} was many r =
-        let here : books_in means.pool_name (map row_of es) (key_of k) ≡ old = present means.pool_name r.row ∙ was in
-        let out = sum_set (λ b. b.1.total) r.row.test es v w r.row.at in
-        let load = sum_set load_in r.row.test es v w r.row.at in
-        let key : key_of load.0 ≡ key_of k = sym (key_exact.same (key_of k) (key_of load.0) (sym (r.row.same load.0) ∙ load.1)) in
-        let grows = load_grows k load.0 v w (length sets) key (total ∙ ap (λ n. n + length sets) (sym many)) in
-        rw r.wrote (record {
+    pub serves_present : {i : ℕ} {v : DescriptorBucket P} → IsDistinct key_eq (stored_keys es) → bucket_of means.pool_name v ≡ old → v.total ≡ had → IsAt (key_of k) es i v → fs ≡ set_value_at es i w → ServesKey means most (key_of k) room count sets ended (map row_of es) (map row_of fs) before after
+    serves_present {i} {v} distinct was many h wrote =
+        let here : books_in means.pool_name (map row_of es) (key_of k) ≡ old = present means.pool_name distinct h ∙ was in
+        let out = (sum_put (λ b. b.1.total) es i h.key v w h.at).1 in
+        let load = (sum_put load_in es i h.key v w h.at).1 in
+        let grows = load_grows k h.key v w (length sets) h.is (total ∙ ap (λ n. n + length sets) (sym many)) in
+        rw wrote (record {
           bucket = bucket_of means.pool_name w;
           served = subst (λ (b : Bucket). IsServed means most (key_of k) room count sets ended b (bucket_of means.pool_name w) before after) (sym here) s;
-          books = written means.pool_name r.row.test (key_of k) r.row.same es w (ap is_some r.row.at);
-          out = (let a = out.2 in let b = out.3 in let was = rows_out es in let is = rows_out (set_value r.row.test es w) in omega arith);
-          load = (let a = load.2 in let b = load.3 in let was = rows_load es in let is = rows_load (set_value r.row.test es w) in omega arith);
+          books = written means.pool_name distinct h w;
+          out = (let was = rows_out es in let is = rows_out (set_value_at es i w) in omega arith);
+          load = (let was = rows_load es in let is = rows_load (set_value_at es i w) in omega arith);
         })
 
     pub serves_new :
@@ -88,10 +87,6 @@ module _ {L P S : Type 0} {means : Meaning L P S} (k : BucketKey) (w : Descripto
               let one : sum_by load_in ((k, w) ∷ []) ≡ set_descriptors (key_of k) w.total = omega arith in
               let n : w.total ≡ length sets = omega arith in let e = ap (set_descriptors (key_of k)) n in omega arith);
         })
-
--- a write of what is there
-pub written-same : {P : Type 0} {k : Key} {es fs : List (BucketKey × DescriptorBucket P)} {v w : DescriptorBucket P} → IsWritten k es fs v w → w ≡ v → fs ≡ es
-written-same {es = es} {v = v} r same = r.wrote ∙ ap (set_value r.row.test es) same ∙ set_value_same r.row.test es v r.row.at
 
 -- a test against what is left of the limit
 pub above-limit : (key : Bool) (left product limit current load count : ℕ) → key ≡ true → left ≡ limit - current → current ≡ load → current ≤ limit → product ≡ count → nat_lt left product ≡ key && nat_lt limit (count + load)

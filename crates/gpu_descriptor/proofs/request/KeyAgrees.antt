@@ -1,6 +1,6 @@
 -- What a request takes of one pool leaves its entry as booked; how often each set came from it. For request.TakenAgrees.
 use Rattle.gpu_descriptor.proofs.Common.{common_steps, ◌≡◌, ◌≢◌, ℕ, ◌+◌, ◌<◌, ◌≤◌, inl, inr, List, [], ◌∷◌, ◌++◌, length, Bool, false, refl, sym, ap, ◌∙◌, arith, length-append, cases_Bool, cases_lt, length-map, if◌then◌else◌, Pool, live_sets, LiveSet, set_eq, times, bool_iff, count_by_yes}
-use Rattle.gpu_descriptor.proofs.Common.{count_by_no, set_exact, times-append, Key, Entry, Item, item_eq, set_of, count_of, IsAsBooked, ∥∥₁_map, count_by-append, items_at, pool_with}
+use Rattle.gpu_descriptor.proofs.Common.{count_by_no, set_exact, times-append, Key, Entry, Item, item_eq, set_of, count_of, IsAsBooked, ∥∥₁_map, count_by-append, Part, items_at, items_in, pool_with}
 use Rattle.gpu_descriptor.proofs.table.Exact.{item_exact, item_from}
 
 -- a set that stands among sets of these counts has them
@@ -60,6 +60,14 @@ place_of_items k id number (n ∷ names) t some =
       | inl same ↦ (let is : u ≡ t = item_exact.same u t same in (sym (ap (λ (v : Item). v.key) is), sym (ap (λ (v : Item). v.number) is), sym (ap (λ (v : Item). v.id) is)))
       | inr other ↦ (let skip = count_by_no (λ v. item_eq v t) u (items_at k id number names) other in place_of_items k id number names t (omega arith))
     ]
+
+-- so has one among all that came
+pub own_items : (k : Key) (id : ℕ) (parts : List Part) (t : Item) → 0 < count_of t (items_in k id parts) → (t.key ≡ k) × (t.id ≡ id)
+own_items k id [] t some = absurd (omega arith)
+own_items k id (p ∷ parts) t some = elim (cases_lt 0 (count_of t (items_at k id p.number p.names))) [
+  | inl here ↦ (let is = place_of_items k id p.number p.names t here in (is.0, is.2))
+  | inr none ↦ (let both = count_append t (items_at k id p.number p.names) (items_in k id parts) in own_items k id parts t (omega arith))
+]
 
 -- as often as its name came
 pub count_of_items : (k : Key) (id number : ℕ) (names : List ℕ) (t : Item) → t.key ≡ k → t.number ≡ number → t.id ≡ id → count_of t (items_at k id number names) ≡ times (live_sets k.counts names) (set_of t)

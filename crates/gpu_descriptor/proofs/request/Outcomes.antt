@@ -2,17 +2,16 @@
 -- For `fill`, by request.HandedOut. Between old, before and new, after it took sets (Takes); if it stopped they went back, which left
 -- last and final. `taken_` is of what it took, `kept_` of a request that was met, `back_` of one whose sets went back.
 use Rattle.gpu_descriptor.proofs.Common.{common_steps, fun_ext, ◌≡◌, ℕ, ◌+◌, ◌-◌, ◌<◌, Some, is_some, true, List, [], ◌∷◌, length, arith, Result, Ok, Err, OnOk, refl, sym, ap, ◌∙◌, subst, length-map, side, Meaning, Ledger, no_rise, AllocationError, DescriptorSet, Stop, State, Item, Agree}
-use Rattle.gpu_descriptor.proofs.Common.{AreOutstanding, Option, Pool, count_of, outstanding, key_eq, if◌then◌else◌, Key, Bucket, HasDistinctKeys, Allocations, KeepsForeign, GivesBack, Grant, IsGrantOf, bucket_with, items_in, granted, ledger_with, IsTaken, IsRefused, set_descriptors, Allocates}
+use Rattle.gpu_descriptor.proofs.Common.{AreOutstanding, Option, Pool, count_of, outstanding, key_eq, if◌then◌else◌, Key, Bucket, HasDistinctKeys, Allocations, KeepsForeign, GivesBack, Adds, Grant, items_in, granted, IsTaken, IsRefused, set_descriptors, Allocates}
 use Rattle.gpu_descriptor.proofs.Common.{Call, Proceeds, taken_by, risen, rollback_rise, StopsAt, stop_error, stop_rise, IsUntouched, KeepsOtherKeys, AreOfKey, AreOutBesides, KeepsOutstanding, released, pools_gone, call_of, Takes, runs, item_of, items_of, state_of, table_of, outstanding_of}
 use Rattle.gpu_descriptor.proofs.Common.{marked_load_of, pool_load_of, HasTaken}
 use Rattle.gpu_descriptor.specs.Caller.Others.{others_of}
 use Rattle.gpu_descriptor.specs.Model.Outcomes.Allocates.{done, stopped}
 use Rattle.gpu_descriptor.specs.Caller.States.{keys_of}
-use Rattle.gpu_descriptor.proofs.request.TakenAgrees.{granted_agree, granted_foreign, granted_loses_none, granted_others, granted_outstanding, granted_own}
-use Rattle.gpu_descriptor.proofs.request.TakenPlaces.{AreMade, made_all, made_prefix}
-use Rattle.gpu_descriptor.specs.declared.bucket.stop.Stop.TheVariants as stop
+use Rattle.gpu_descriptor.proofs.request.KeyAgrees.{own_items}
+use Rattle.gpu_descriptor.proofs.request.Added.{added_agree, added_foreign, added_loses_none, added_others, added_outstanding}
 use Rattle.gpu_descriptor.proofs.release.ReleaseAgrees.{takes}
-use Rattle.gpu_descriptor.proofs.foreign.OthersStay.{freed_others, others_stay}
+use Rattle.gpu_descriptor.proofs.foreign.OthersStay.{others_stay}
 use Rattle.gpu_descriptor.proofs.release.OtherKeys.{release_others, untouched_twice}
 use Rattle.gpu_descriptor.proofs.request.Rollback.{give_back_rise, only_key, keys_table, unnamed_key, load_of_items}
 
@@ -20,23 +19,24 @@ use Rattle.gpu_descriptor.proofs.request.Rollback.{give_back_rise, only_key, key
 abbrev with_bucket : Key → Bucket → (ℕ → Option Pool) → State → State
 with_bucket k b ledger s = record { books = λ l. if key_eq k l then b else s.books l; ledger = ledger }
 
--- what a request took, wherever it stopped
-record Had (k : Key) (n : ℕ) (items : List Item) (old new : Bucket) (l m : ℕ → Option Pool) : Type 0 where
-  g : Grant
-  grant : IsGrantOf n old l g
-  made : AreMade g.fresh
-  came : items_in k g.id g.parts ≡ items
-  bucket : new ≡ bucket_with n g old
-  ledger : m ≡ ledger_with k g l
+-- what a request added, wherever it stopped: sets of the key; and a key that had pools kept its id
+record Had (k : Key) (items : List Item) (old new : Bucket) (l m : ℕ → Option Pool) : Type 0 where
+  keeps : Adds k items old new l m
+  own : (u : Item) → 0 < count_of u items → (u.key ≡ k) × (u.id ≡ new.id)
+  owns : 0 < length old.pools → new.id ≡ old.id
 
--- a bucket gave so much, whether the request had all or stopped
-had_taken : (ended : Result (Unit {0}) Stop) (most : Option ℕ) (k : Key) (room n : ℕ) (items : List Item) (old new : Bucket) (l m : Ledger) → IsTaken ended most k room n items old new l m → Had k n items old new l.pools m.pools
-had_taken (Ok x) most k room n items old new l m t = record { g = t.0; grant = t.1.grant; made = made_all most k t.0.fresh room _ _ t.3; came = t.1.came; bucket = t.1.bucket; ledger = t.1.pools }
-had_taken (Err why) most k room n items old new l m t = record { g = t.0; grant = t.2.grant; made = made_before why t.3; came = t.2.came; bucket = t.2.bucket; ledger = t.4.pools ∙ t.2.pools }
-  where
-    made_before : (why : Stop) → StopsAt why most k room n t.0 old.pools → AreMade t.0.fresh
-    made_before (stop.ExistingPoolWithoutMemory e) at = subst AreMade (sym at.no_fresh) tt
-    made_before why at = made_prefix most k t.0.fresh _ _ _ at.1.sized at.1.full
+had_so : {k : Key} {n : ℕ} {g : Grant} {items : List Item} {old new : Bucket} {l m : Ledger} {p : ℕ → Option Pool} → HasTaken k n g items old new l m → p ≡ m.pools → Had k items old new l.pools p
+had_so {k} {g = g} {new = new} t is =
+    let id : new.id ≡ g.id = ap (λ (b : Bucket). b.id) t.bucket in
+    record {
+      keeps = rw is t.keeps;
+      own = λ u some. (let is = own_items k g.id g.parts u (subst (λ (xs : List Item). 0 < count_of u xs) (sym t.came) some) in (is.0, is.1 ∙ sym id));
+      owns = λ some. id ∙ t.grant.id some;
+    }
+
+had_taken : (ended : Result (Unit {0}) Stop) (most : Option ℕ) (k : Key) (room n : ℕ) (items : List Item) (old new : Bucket) (l m : Ledger) → IsTaken ended most k room n items old new l m → Had k items old new l.pools m.pools
+had_taken (Ok x) most k room n items old new l m t = had_so t.1 refl
+had_taken (Err why) most k room n items old new l m t = had_so t.2 t.4.pools
 
 module _ {L P S : Type 0} {means : Meaning L P S} {k : Key} {count : ℕ} {sets : List (DescriptorSet S)} {ended : Result (Unit {0}) Stop} {old new : Allocations P} {before after : Ledger}
     (t : Takes means k count sets ended (side old before) (side new after)) (agree : Agree (state_of means.pool_name old before)) where
@@ -54,19 +54,16 @@ module _ {L P S : Type 0} {means : Meaning L P S} {k : Key} {count : ℕ} {sets 
   state : state_of means.pool_name new after ≡ with_bucket k t.serves.bucket after.pools s
   state = λ i. record { books = fun_ext t.serves.books i; ledger = after.pools }
 
-  had : Had k count items (s.books k) t.serves.bucket s.ledger after.pools
+  had : Had k items (s.books k) t.serves.bucket s.ledger after.pools
   had = had_taken ended old.most k room count items (s.books k) t.serves.bucket before after t.serves.served.taken
-
-  as_granted : granted k count had.g s ≡ state_of means.pool_name new after
-  as_granted = sym (state ∙ (λ i. with_bucket k (had.bucket i) (had.ledger i) s))
 
   -- books and ledger agree after it
   pub taken_agree : Agree (state_of means.pool_name new after)
-  taken_agree = subst Agree as_granted (granted_agree k count had.g s agree had.grant had.made)
+  taken_agree = subst Agree (sym state) (added_agree s agree had.keeps had.own had.owns)
 
   -- exactly these sets are outstanding besides
   pub taken_out : AreOutBesides items s (state_of means.pool_name new after)
-  taken_out u = ap (λ (w : State). outstanding w u) (sym as_granted) ∙ granted_outstanding k count had.g s agree had.grant had.made u ∙ ap (λ (m : List Item). outstanding s u + count_of u m) had.came
+  taken_out u = ap (λ (w : State). outstanding w u) state ∙ added_outstanding s agree had.keeps had.own had.owns u
 
   -- so they may be given back
   pub taken_given : AreOutstanding items (state_of means.pool_name new after)
@@ -74,15 +71,15 @@ module _ {L P S : Type 0} {means : Meaning L P S} {k : Key} {count : ℕ} {sets 
 
   -- they are of the key; other keys are untouched; and the pools of others are the same
   pub taken_own : AreOfKey k items
-  taken_own = subst (AreOfKey k) had.came (granted_own k count had.g s agree had.grant had.made)
+  taken_own u some = (had.own u some).0
 
   pub taken_others : KeepsOtherKeys k s (state_of means.pool_name new after)
-  taken_others = subst (KeepsOtherKeys k s) as_granted (granted_others k count had.g s agree had.grant had.made)
+  taken_others = subst (KeepsOtherKeys k s) (sym state) (added_others s agree had.keeps had.own had.owns)
 
   pub taken_others_of : others_of means.pool_name new after ≡ others_of means.pool_name old before
   taken_others_of =
-      let keeps = subst (KeepsForeign s) as_granted (granted_foreign k count had.g s agree had.grant had.made) in
-      let lost = subst (λ t. KeepsForeign t s) as_granted (granted_loses_none k count had.g s agree had.grant had.made) in
+      let keeps = subst (KeepsForeign s) (sym state) (added_foreign s agree had.keeps had.own had.owns) in
+      let lost = subst (λ t. KeepsForeign t s) (sym state) (added_loses_none s agree had.keeps had.own had.owns) in
       others_stay means.pool_name old new before after keeps lost
 
   -- it passed the tests before the walk
@@ -161,9 +158,6 @@ module _ {L P S : Type 0} {means : Meaning L P S} {k : Key} {count : ℕ} {sets 
         let load = load_of_items k items taken_own in
         let long = ap (set_descriptors k) (length-map sets (λ (x : DescriptorSet S). item_of means.set_name x)) in
         ((let e : outstanding_of last ≡ outstanding_of old = omega arith in e), (let e : marked_load_of last ≡ marked_load_of old = omega arith in e))
-
-    pub back_others_of : others_of means.pool_name last final ≡ others_of means.pool_name old before
-    back_others_of = freed_others means sets calls new last after final back ∙ taken_others_of
 
   -- ---- the sets are kept
 

@@ -3,7 +3,7 @@
 -- of the allocator. above and past are the results of its tests, against the limit and against 64 bits.
 use Rattle.gpu_descriptor.proofs.Common.{common_steps, side, Meaning, greatest_u64, [], ◌≡◌, ℕ, ◌+◌, ◌*◌, ◌<◌, ◌≤◌, ◌&&◌, Bool, true, false, List, map, length, sum, Option, Result, Err, inl, inr, refl, sym, ap, subst, ◌∙◌, arith, mul-le-mul_right, and_parts, ltb-true, ltb-false, IsDistinct}
 use Rattle.gpu_descriptor.proofs.Common.{nat_lt, ◌⊎◌, kinds, Ledger, AllocationError, BucketKey, DescriptorSet, DescriptorBucket, Stop, Key, key_eq, Bucket, BucketOf, HasDistinctKeys, books_of, next_number, sum_over, key_of, Allocations, bucket_load, set_descriptors, IsWithinLimit, call_of}
-use Rattle.gpu_descriptor.proofs.Common.{IsDeclined, IsUnserved, IsSound, ServesKey, Takes, named_row, state_of, table_of, outstanding_of, marked_load_of, pool_load_of, IsConsistent, row_of, stored_keys, books_in}
+use Rattle.gpu_descriptor.proofs.Common.{IsDeclined, IsUnserved, ServesKey, Takes, named_row, state_of, table_of, outstanding_of, marked_load_of, pool_load_of, IsConsistent, row_of, stored_keys, books_in}
 use Rattle.gpu_descriptor.specs.declared.errors.AllocationError.TheVariants.{Fragmentation, OutOfHostMemory}
 use Rattle.gpu_descriptor.specs.Model.Outcomes.Allocates.{past_bound, no_memory_at_start}
 use Rattle.gpu_descriptor.proofs.table.TableBooks.{rows_are, distinct_rows}
@@ -48,11 +48,6 @@ module _ {P : Type 0} {a : Allocations P} {max looks compared : ℕ} {most : Opt
 
   pub pool_load_within : {marked room out : ℕ} → IsConsistent max marked room out es → pool_load_of a ≤ a.limit
   pool_load_within counted = subst (λ (x : Allocations P). pool_load_of x ≤ x.limit) is (let room = counted.is_room in omega arith)
-
--- the rows of an allocator and its limit
-module _ {P : Type 0} {a : Allocations P} {max looks compared marked room out : ℕ} {most : Option ℕ} {es : List (BucketKey × DescriptorBucket P)} (is : seen max most looks compared es ≡ a) (counted : IsConsistent max marked room out es) (apart : IsDistinct key_eq (stored_keys es)) where
-  pub keeps_limit : (name : P → ℕ) → IsSound name a
-  keeps_limit name = record { rows = rows_apart es is name apart; load = load_within es is counted; pool_load = pool_load_within es is counted }
 
 -- ---- the tests of a request, over the fields of an allocator
 

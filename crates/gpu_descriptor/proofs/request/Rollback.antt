@@ -6,7 +6,8 @@ use Rattle.gpu_descriptor.proofs.request.Asks.{same_counters}
 use Rattle.gpu_descriptor.proofs.table.Exact.{key_exact, item_exact}
 use Rattle.gpu_descriptor.proofs.release.ReleaseAgrees.{none_back}
 use Rattle.gpu_descriptor.proofs.sums.Loads.{set_descriptors-none, set_descriptors-add}
-use Rattle.gpu_descriptor.proofs.release.Parts.{names_key, quiet_key}
+use Rattle.gpu_descriptor.proofs.release.Given.{names_key}
+use Rattle.gpu_descriptor.proofs.release.Parts.{quiet_key}
 use Rattle.gpu_descriptor.proofs.release.Places.{back}
 use Rattle.gpu_descriptor.proofs.table.Tables.{key_eq_symm}
 

@@ -3,7 +3,7 @@
 -- refused says which of them refused, and parts what they gave; `_now` is what the grant says after the step.
 use Rattle.gpu_descriptor.proofs.Common.{common_steps, ◌≡◌, ℕ, suc, ◌+◌, inl, inr, List, [], ◌∷◌, ◌++◌, length, map, take, drop, slice_set, Bool, true, false, cond, ◌&&◌, ◌==◌, nat_eq, nat_lt, Option, Some, None, refl, sym, ap, ◌∙◌, subst, arith, eqb-true, eq-eqb, or_cases, and_parts, and_from}
 use Rattle.gpu_descriptor.proofs.Common.{or_left, or_right, eqb-false, fun_ext, map-append, append-nil, sum_by-cons, if◌then◌else◌, option_map, times-append, Key, Entry, Bucket, Item, Pool, Ledger, Counters, live_sets, on_pool, flat_map-append, Grant, Part, fresh_or, items_at, items_in}
-use Rattle.gpu_descriptor.proofs.Common.{portion_of, came, pool_with, ledger_with, Fresh, risen, grant_rise, offer, rest, is_asked, share, all_shared, asked_count, refused_count, OnlyAskedRefuse, portions_of, IsAsked, HasTaken}
+use Rattle.gpu_descriptor.proofs.Common.{portion_of, came, pool_with, ledger_with, Fresh, risen, grant_rise, offer, rest, is_asked, share, all_shared, asked_count, refused_count, OnlyAskedRefuse, portions_of, Adds, IsAsked, HasTaken}
 use Rattle.std.proofs.Math.Seq.{set-append_seam}
 use Rattle.gpu_descriptor.proofs.request.Asks.{same_counters}
 use Rattle.gpu_descriptor.proofs.table.Exact.{bucket}
@@ -115,13 +115,14 @@ module _ (id n i : ℕ) (refused : ℕ → Bool) (parts : List Part) (old : List
   pools_now before was = a.pools ∙ ap (on_pool e.pool (pool_with (live_sets k.counts names) a.refused)) was ∙ ledger_more k refused [] parts a.refused e.number e.pool names before.pools id (suc i) i not_yet
 
   pub taken_more : (before : Ledger) (entries : List Entry) (items given : List Item) → length (take i old) ≡ i → take (suc i) old ≡ take i old ++ e ∷ [] → HasTaken k n (so_far id (suc i) refused parts) items (bucket id old) (bucket id entries) before l
-      → items_in k id (parts ++ part_now ∷ []) ≡ given → HasTaken k n (so_far id i now (parts ++ part_now ∷ [])) given (bucket id old) (bucket id (slice_set entries i f)) before m
-  taken_more before entries items given long more was came = record {
+      → items_in k id (parts ++ part_now ∷ []) ≡ given → Adds k given (bucket id old) (bucket id (slice_set entries i f)) before.pools m.pools → HasTaken k n (so_far id i now (parts ++ part_now ∷ [])) given (bucket id old) (bucket id (slice_set entries i f)) before m
+  taken_more before entries items given long more was came keeps = record {
     grant = record { id = λ some. refl; refusing = subst (λ (es : List Entry). OnlyAskedRefuse now n es) (sym tail) (refusing_now was.grant.refusing); parts = parts_now was.grant.parts; new = tt };
     came = came;
     bucket = ap (bucket id) (ap (λ (b : Bucket). slice_set b.pools i f) was.bucket ∙ entries_now long more);
     pools = pools_now before was.pools;
     counters = counters_now before.counters was.counters;
+    keeps = keeps;
   }
 
   -- what is wanting falls by what was given

@@ -1,11 +1,12 @@
 -- The walk over a key's pools, as far as it has come.
 -- For `walk`, by request.OpenWalk. Of n sets, wanting are still wanting; left is how many of the oldest pools weren't asked yet.
 -- old and l are the key's entries and the ledger before the walk, new and m those now; items are the sets that came.
-use Rattle.gpu_descriptor.proofs.Common.{common_steps, ◌≡◌, ◌≢◌, ℕ, zero, suc, ◌+◌, ◌<◌, ◌≤◌, List, [], ◌∷◌, ◌++◌, length, map, min, take, drop, slice_set, Bool, false, nat_lt, ◌&&◌, Option, None, Some, Err, refl, sym, ap, ◌∙◌, subst, arith, append-nil, drop_all, fun_ext, slice_get, Key, Entry}
-use Rattle.gpu_descriptor.proofs.Common.{Item, Pool, Ledger, live_sets, DeviceAllocationError, set_at, update_apart, items_of, Part, items_at, pool_with, ledger_with, rest, all_shared, IsBookedIn, AreBookedIn, IsAsked, IsNoMemory, HasTaken, IsWalked, IsTaken, option_map}
+use Rattle.gpu_descriptor.proofs.Common.{common_steps, ◌≡◌, ℕ, zero, suc, ◌+◌, ◌<◌, ◌≤◌, List, [], ◌∷◌, ◌++◌, length, map, min, take, drop, slice_set, Bool, false, nat_lt, ◌&&◌, true, Option, None, Some, Err, refl, sym, ap, ◌∙◌, subst, arith, append-nil, drop_all, fun_ext, slice_get, Key, Entry}
+use Rattle.gpu_descriptor.proofs.Common.{Item, Pool, Ledger, DeviceAllocationError, set_at, items_of, Part, items_at, ledger_with, rest, all_shared, IsBookedIn, AreBookedIn, IsAsked, IsNoMemory, HasTaken, IsWalked, IsTaken, numbers_of, rises, slice_get_within}
 use Rattle.gpu_descriptor.specs.declared.bucket.stop.Stop.TheVariants.{ExistingPoolWithoutMemory}
 use Rattle.std.proofs.Math.Seq.{take-length}
 use Rattle.gpu_descriptor.proofs.table.Exact.{bucket}
+use Rattle.gpu_descriptor.proofs.request.Added.{added_asked, added_both, added_none}
 use Rattle.gpu_descriptor.proofs.request.Asks.{none_with, same_counters, skipped}
 use Rattle.gpu_descriptor.proofs.request.Shares.{IsApart, apart_from, not_refused, or_at}
 use Rattle.gpu_descriptor.proofs.request.WalkStep.{items_more, part, so_far, taken_more, rest_now}
@@ -16,8 +17,6 @@ pub record Walking (k : Key) (n id left wanting : ℕ) (items : List Item) (old 
   pub parts : List Part
   pub wants : wanting ≡ rest refused n (drop left old)
   pub taken : HasTaken k n (so_far id left refused parts) items (bucket id old) (bucket id new) l m
-  -- a pool that wasn't asked yet is as it was
-  pub untouched : (j : ℕ) (e : Entry) → j < left → slice_get old j ≡ Some e → m.pools e.pool ≡ l.pools e.pool
 
 get_take : {A : Type 0} (xs ys : List A) (i : ℕ) → i < length xs → slice_get (take (suc i) xs ++ ys) i ≡ slice_get xs i
 get_take [] ys i h = absurd (omega arith)
@@ -29,10 +28,11 @@ module _ (k : Key) (n id i wanting : ℕ) (items : List Item) (old new : List En
   pub next_was : i < length old → slice_get new i ≡ slice_get old i
   next_was here = grind (arith, common_steps, append-nil, get_take)
 
+  next_is : (e : Entry) → slice_get old i ≡ Some e → slice_get new i ≡ Some e
+  next_is e at = next_was (slice_get_within old i e at) ∙ at
+
   pub next_booked : (e : Entry) → slice_get old i ≡ Some e → IsBookedIn k m.pools e
-  next_booked e at =
-      let b = booked.each i e at in
-      record { pool = b.pool; is_live = s.untouched i e (omega arith) at ∙ b.is_live; booked = b.booked }
+  next_booked e at = s.taken.keeps.booked.each i e (next_is e at)
 
   apart : (e : Entry) → slice_get old i ≡ Some e → IsApart e.pool (drop (suc i) old)
   apart e at = apart_from e.pool (drop (suc i) old) (λ j d there same. (let place = booked.distinct (suc i + j) i d e (sym (get_drop old (suc i) j) ∙ there) at same in absurd (omega arith)))
@@ -48,20 +48,16 @@ module _ (k : Key) (n id i wanting : ℕ) (items : List Item) (old new : List En
         parts = s.parts ++ part e.number e.pool more ∷ [];
         wants = (let r = rest_now id n i s.refused s.parts old e f more k m m' (apart e at) tail not_yet a in let w = s.wants in omega arith);
         taken = taken_more id n i s.refused s.parts old e f more k m m' (apart e at) tail not_yet a l new items (items ++ items_at k id e.number more)
-            (long_take old i e at) (take_get old i e at) s.taken (items_more k id e.number e.pool more s.parts ∙ ap (λ x. x ++ items_at k id e.number more) s.taken.came);
-        untouched = λ j d lt there.
-            let ne : d.pool ≢ e.pool = λ same. (let place = booked.distinct j i d e there at same in absurd (omega arith)) in
-            ap (λ (f : ℕ → Option Pool). f d.pool) asked.pools
-            ∙ update_apart m.pools e.pool (option_map (pool_with (live_sets k.counts more) asked.refused) (m.pools e.pool)) d.pool ne
-            ∙ s.untouched j d (omega arith) there;
+            (long_take old i e at) (take_get old i e at) s.taken (items_more k id e.number e.pool more s.parts ∙ ap (λ x. x ++ items_at k id e.number more) s.taken.came)
+            (added_both refl s.taken.keeps (added_asked k id new m.pools s.taken.keeps.booked s.taken.keeps.rising i wanting e f more m m' (next_is e at) refl asked));
       }
 
 ledger_none : (k : Key) (id left : ℕ) (pools : ℕ → Option Pool) → pools ≡ ledger_with k (so_far id left (λ _. false) []) pools
 ledger_none k id left pools = fun_ext (λ q. sym (none_with (pools q)))
 
 -- before the first step, after the last one (`walk_end`), and at a pool that returned a memory error (`walk_stop`)
-pub walk_start : (k : Key) (n id : ℕ) (old : List Entry) (l : Ledger) → Walking k n id (length old) n [] old old l l
-walk_start k n id old l =
+pub walk_start : (k : Key) (n id : ℕ) (old : List Entry) (l : Ledger) → AreBookedIn k l.pools old → rises (numbers_of old) ≡ true → Walking k n id (length old) n [] old old l l
+walk_start k n id old l booked rising =
     let none : drop (length old) old ≡ [] = drop_all (length old) old (omega arith) in
     let none_refuse : ℕ → Bool = λ _. false in
     record {
@@ -74,8 +70,8 @@ walk_start k n id old l =
         bucket = ap (bucket id) (sym (ap (λ es. take (length old) old ++ all_shared none_refuse n es ++ []) none ∙ append-nil (take (length old) old ++ []) ∙ append-nil (take (length old) old) ∙ take-length old));
         pools = ledger_none k id (length old) l.pools;
         counters = rw none (same_counters _ _ (omega arith) (omega arith) (omega arith) (omega arith) (omega arith) (omega arith) (omega arith) (omega arith));
+        keeps = added_none booked rising;
       };
-      untouched = λ j e lt at. refl;
     }
 
 pub walk_end : {k : Key} {n id own wanting : ℕ} {items : List Item} {old new : List Entry} {l m : Ledger} → id ≡ own → Walking k n id 0 wanting items old new l m → IsWalked k n wanting items (bucket own old) (bucket id new) l m

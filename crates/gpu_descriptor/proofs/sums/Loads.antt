@@ -1,14 +1,14 @@
 -- The running totals of a table, and what a run takes from them.
 -- For the functions of the allocator that keep its totals (IsConsistent). es and fs are the map's entries before and after a write, v
 -- and w the bucket of the key k that was there and that is; left is the room then.
-use Rattle.gpu_descriptor.proofs.Common.{◌≡◌, ℕ, ◌+◌, ◌-◌, ◌*◌, ◌≤◌, Bool, true, List, [], ◌∷◌, ◌++◌, length, map, sum_by, Some, inl, inr, refl, sym, ap, ◌∙◌, arith, zero, suc, slice_get, lookup, set_value, cases_Bool, sum_by-cons, BucketKey, DescriptorSet, DescriptorBucket, Key, key_eq}
-use Rattle.gpu_descriptor.proofs.Common.{sum_over, key_of, Allocations, common_steps, bucket_load, descriptors_out, set_descriptors, sets_out, marked_descriptors, items_of, outstanding_of, marked_load_of, AllPass, kept_in, kept_of, row_of, stored_load, IsConsistent, none-some, same_Some}
+use Rattle.gpu_descriptor.proofs.Common.{◌≡◌, ℕ, ◌+◌, ◌-◌, ◌*◌, ◌≤◌, List, [], ◌∷◌, ◌++◌, length, map, sum_by, Some, inl, inr, refl, sym, ap, ◌∙◌, arith, zero, suc, slice_get, cases_Bool, sum_by-cons, BucketKey, DescriptorSet, DescriptorBucket, Key}
+use Rattle.gpu_descriptor.proofs.Common.{sum_over, key_of, Allocations, common_steps, bucket_load, descriptors_out, set_descriptors, sets_out, marked_descriptors, items_of, outstanding_of, marked_load_of, AllPass, kept_in, kept_of, row_of, stored_load, IsConsistent, none-some}
 use Rattle.indexmap.specs.Layout.{set_value_at}
 use Rattle.gpu_descriptor.specs.Inner.RunSteps.{lies_at}
 use Rattle.gpu_descriptor.specs.Inner.Stored.{IsCounted}
-use Rattle.gpu_descriptor.proofs.table.Exact.{key_exact}
 use Rattle.gpu_descriptor.proofs.sums.TableSums.{sum_map}
 use Rattle.gpu_descriptor.proofs.release.WholeRun.{at_parts}
+use Rattle.gpu_descriptor.proofs.table.RowAt.{IsAt}
 
 pub set_descriptors-none : (k : Key) → set_descriptors k 0 ≡ 0
 set_descriptors-none k = elim (cases_Bool k.marked) [ inl on ↦ rw on (omega arith) | inr off ↦ rw off refl ]
@@ -33,17 +33,6 @@ module _ {P : Type 0} {limit marked room out : ℕ} {es : List (BucketKey × Des
   unfolding IsCounted
   closed counted = counted
 
--- the row of a key, which a test of the map finds
-pub record IsRow {P : Type 0} (k : Key) (es : List (BucketKey × DescriptorBucket P)) (v : DescriptorBucket P) : Type 0 where
-  pub test : BucketKey → Bool
-  pub same : (l : BucketKey) → test l ≡ key_eq k (key_of l)
-  pub at : lookup test es ≡ Some v
-
--- the row is written through the map
-pub record IsWritten {P : Type 0} (k : Key) (es fs : List (BucketKey × DescriptorBucket P)) (v w : DescriptorBucket P) : Type 0 where
-  pub row : IsRow k es v
-  pub wrote : fs ≡ set_value row.test es w
-
 -- a sum over all rows, once the value at a place is another
 pub sum_put : {A B : Type 0} (f : A × B → ℕ) (es : List (A × B)) (i : ℕ) (k : A) (v w : B) → slice_get es i ≡ Some (k, v) → (f (k, v) ≤ sum_by f es) × (sum_by f (set_value_at es i w) + f (k, v) ≡ sum_by f es + f (k, w))
 sum_put {A} {B} f [] i k v w at = absurd (none-some (k, v) at)
@@ -51,26 +40,6 @@ sum_put {A} {B} f (e ∷ es) zero k v w at = grind (arith, sum_by-cons)
 sum_put {A} {B} f (e ∷ es) (suc i) k v w at = grind (arith, common_steps, sum_by-cons, (sum_put f es i k v w at))
 
 module _ {P : Type 0} where
-  -- what a look-up finds stands at a place, and a write through the map is one there
-  found_place : (test : BucketKey → Bool) (es : List (BucketKey × DescriptorBucket P)) (v : DescriptorBucket P) → lookup test es ≡ Some v → (i : ℕ) × (k : BucketKey) × (test k ≡ true) × (slice_get es i ≡ Some (k, v)) × ((w : DescriptorBucket P) → set_value test es w ≡ set_value_at es i w)
-  found_place test [] v found = absurd (none-some v found)
-  found_place test (e ∷ es) v found = elim (cases_Bool (test e.0)) [
-    | inl at ↦ (let same : e.1 ≡ v = same_Some e.1 v (rw at at found) in (0, e.0, at, ap (λ (b : DescriptorBucket P). Some (e.0, b)) same, λ w. rw at refl))
-    | inr at ↦ (let rest = found_place test es v (rw at at found) in (suc rest.0, rest.1, rest.2, rest.3, λ w. rw at (ap (λ (l : List (BucketKey × DescriptorBucket P)). e ∷ l) (rest.4 w))))
-  ]
-
-  -- a write through the map, in a sum over its entries
-  pub sum_set :
-      (f : BucketKey × DescriptorBucket P → ℕ) (test : BucketKey → Bool) (es : List (BucketKey × DescriptorBucket P))
-      (v w : DescriptorBucket P)
-      → lookup test es ≡ Some v
-      → (k : BucketKey) × (test k ≡ true) × (f (k, v) ≤ sum_by f es)
-      × (sum_by f (set_value test es w) + f (k, v) ≡ sum_by f es + f (k, w))
-  sum_set f test es v w found =
-      let place = found_place test es v found in
-      let put = sum_put f es place.0 place.1 v w place.3 in
-      (place.1, place.2, put.0, ap (λ l. sum_by f l + f (place.1, v)) (place.4 w) ∙ put.1)
-
   -- ---- the totals that the code keeps are those that callers see
 
   -- what an entry of the map adds to the marked load, and to the pool load
@@ -106,50 +75,46 @@ pub record Taken {P : Type 0} (k : Key) (n : ℕ) (es fs : List (BucketKey × De
   pub out : sum_over sets_out (map row_of fs) + n ≡ sum_over sets_out (map row_of es)
   pub load : sum_over descriptors_out (map row_of fs) + set_descriptors k n ≡ sum_over descriptors_out (map row_of es)
 
-module _ {P : Type 0} {k : Key} {es : List (BucketKey × DescriptorBucket P)} {v : DescriptorBucket P} (row : IsRow k es v) where
-  -- its sets are of the table's
+module _ {P : Type 0} {k : Key} {es : List (BucketKey × DescriptorBucket P)} {i : ℕ} {v : DescriptorBucket P} (h : IsAt k es i v) where
+  -- the sets of a row are of the table's
   pub total_present : v.total ≤ sum_over sets_out (map row_of es)
-  total_present = (let le = (sum_set (λ (r : BucketKey × DescriptorBucket P). r.1.total) row.test es v v row.at).2 in let is = rows_out es in omega arith)
+  total_present = (let le = (sum_put (λ (r : BucketKey × DescriptorBucket P). r.1.total) es i h.key v v h.at).0 in let is = rows_out es in omega arith)
 
-  -- the room that the pools of the row take is of the table's
+  -- and so is the room that its pools take
   pub pools_present : stored_load k v.pools.items ≤ sum_over bucket_load (map row_of es)
   pools_present =
-      let a = sum_set (stored_load_in {P = P}) row.test es v v row.at in
-      let here = ap (λ (l : Key). stored_load l v.pools.items) (key_exact.same k (key_of a.0) (sym (row.same a.0) ∙ a.1)) in
+      let le = (sum_put (stored_load_in {P = P}) es i h.key v v h.at).0 in
+      let here = ap (λ (l : Key). stored_load l v.pools.items) h.is in
       let all = rows_pool_load es in
-      let le = a.2 in
       omega arith
 
-module _ {P : Type 0} {k : Key} {es fs : List (BucketKey × DescriptorBucket P)} {v w : DescriptorBucket P} (r : IsWritten k es fs v w) where
-  -- the pools of the bucket took of the room, or gave some back
-  pub pools_set : (left room : ℕ) → left + stored_load k w.pools.items ≡ room + stored_load k v.pools.items → left + sum_over bucket_load (map row_of fs) ≡ room + sum_over bucket_load (map row_of es)
-  pools_set left room moved =
-      let a = sum_set (stored_load_in {P = P}) r.row.test es v w r.row.at in
-      let is = key_exact.same k (key_of a.0) (sym (r.row.same a.0) ∙ a.1) in
-      let was = ap (λ (l : Key). stored_load l v.pools.items) is in
-      let now = ap (λ (l : Key). stored_load l w.pools.items) is in
-      let all = rows_pool_load es in
-      let after = ap (λ (l : List (BucketKey × DescriptorBucket P)). sum_over bucket_load (map row_of l)) r.wrote ∙ rows_pool_load (set_value r.row.test es w) in
-      let sums = a.3 in
-      omega arith
+  -- the bucket w is written there
+  module _ (w : DescriptorBucket P) where
+    abbrev fs : List (BucketKey × DescriptorBucket P)
+    fs = set_value_at es i w
 
-  -- of the bucket n sets fewer are out: so it is of the totals
-  taken_out : (n : ℕ) → w.total + n ≡ v.total → sum_over sets_out (map row_of (set_value r.row.test es w)) + n ≡ sum_over sets_out (map row_of es)
-  taken_out n total = (let moved = (sum_set (λ (b : BucketKey × DescriptorBucket P). b.1.total) r.row.test es v w r.row.at).3 in let was = rows_out es in let is = rows_out (set_value r.row.test es w) in omega arith)
+    -- its pools took of the room, or gave some back
+    pub pools_set : (left room : ℕ) → left + stored_load k w.pools.items ≡ room + stored_load k v.pools.items → left + sum_over bucket_load (map row_of fs) ≡ room + sum_over bucket_load (map row_of es)
+    pools_set left room moved =
+        let sums = (sum_put (stored_load_in {P = P}) es i h.key v w h.at).1 in
+        let was = ap (λ (l : Key). stored_load l v.pools.items) h.is in
+        let now = ap (λ (l : Key). stored_load l w.pools.items) h.is in
+        let all = rows_pool_load es in
+        let after = rows_pool_load fs in
+        omega arith
 
-  taken_load : (n : ℕ) → w.total + n ≡ v.total → sum_over descriptors_out (map row_of (set_value r.row.test es w)) + set_descriptors k n ≡ sum_over descriptors_out (map row_of es)
-  taken_load n total =
-      let a = sum_set (load_in {P = P}) r.row.test es v w r.row.at in
-      let is = key_exact.same k (key_of a.0) (sym (r.row.same a.0) ∙ a.1) in
-      let was = ap (λ (l : Key). set_descriptors l v.total) (sym is) ∙ ap (set_descriptors k) (sym total) ∙ set_descriptors-add k w.total n in
-      let now = ap (λ (l : Key). set_descriptors l w.total) is in
-      let all = rows_load es in
-      let after = rows_load (set_value r.row.test es w) in
-      let sums = a.3 in
-      omega arith
-
-  pub taken : {n : ℕ} → w.total + n ≡ v.total → Taken k n es fs
-  taken {n} total = rw r.wrote (record { out = taken_out n total; load = taken_load n total })
+    -- n sets fewer are out of it: so it is of the totals
+    pub taken : {n : ℕ} → w.total + n ≡ v.total → Taken k n es fs
+    taken {n} total =
+        let out = (sum_put (λ (r : BucketKey × DescriptorBucket P). r.1.total) es i h.key v w h.at).1 in
+        let load = (sum_put (load_in {P = P}) es i h.key v w h.at).1 in
+        let was = ap (λ (l : Key). set_descriptors l v.total) h.is ∙ ap (set_descriptors k) (sym total) ∙ set_descriptors-add k w.total n in
+        let now = ap (λ (l : Key). set_descriptors l w.total) h.is in
+        let outs = rows_out es in
+        let outs_after = rows_out fs in
+        let loads = rows_load es in
+        let loads_after = rows_load fs in
+        record { out = omega arith; load = omega arith }
 
 module _ {P : Type 0} {k : Key} {n : ℕ} {es fs : List (BucketKey × DescriptorBucket P)} (t : Taken k n es fs) where
   -- what goes was there

@@ -3,7 +3,7 @@ use Rattle.gpu_descriptor.proofs.Common.{◌≡◌, Bool, List, [], ◌∷◌, m
 use Rattle.gpu_descriptor.proofs.table.Tables.{key_eq_symm}
 
 module _ {P : Type 0} (test : BucketKey → Bool) (k : Key) (same : (l : BucketKey) → test l ≡ key_eq k (key_of l)) where
-  kept_at : (es : List (BucketKey × DescriptorBucket P)) → books_of (map row_of es) k ≡ option_map_or kept_in (lookup test es) no_pools
+  pub kept_at : (es : List (BucketKey × DescriptorBucket P)) → books_of (map row_of es) k ≡ option_map_or kept_in (lookup test es) no_pools
   kept_at [] = refl
   kept_at (e ∷ es) =
       let here = key_eq_symm (key_of e.0) k ∙ sym (same e.0) in

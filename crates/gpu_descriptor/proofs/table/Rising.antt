@@ -1,11 +1,10 @@
 -- The ids of a table's keys: they rise, so one place has each, and one key.
 -- For `place_of_id`, which finds an entry of the map by halving, and for `release_run`.
-use Rattle.gpu_descriptor.proofs.Common.{◌≡◌, ◌<◌, ℕ, zero, suc, Bool, true, false, ◌∷◌, [], List, length, slice_get, Some, inl, inr, refl, sym, ap, subst, ◌∙◌, arith, slice_index_or, nat_lt, list_all, IsNonDecreasingBy, IsPartitionPoint, IsPartitionedBy, lookup, values_of, none-some}
-use Rattle.gpu_descriptor.proofs.Common.{cases_Bool, cases_lt, and_parts, ltb-true, ltb-false, BucketKey, DescriptorBucket, Key, key_eq, key_of, common_steps, rises, stored_ids}
-use Rattle.gpu_descriptor.proofs.lists.Numbers.{all_above, rises_at}
+use Rattle.gpu_descriptor.proofs.Common.{◌≡◌, ◌<◌, ℕ, zero, suc, true, false, ◌∷◌, [], List, length, slice_get, Some, inl, inr, refl, ap, arith, slice_index_or, nat_lt, IsNonDecreasingBy, IsPartitionPoint, IsPartitionedBy, values_of, none-some}
+use Rattle.gpu_descriptor.proofs.Common.{cases_lt, ltb-true, ltb-false, BucketKey, DescriptorBucket, common_steps, rises, stored_ids}
+use Rattle.gpu_descriptor.proofs.lists.Numbers.{rises_at}
 use Rattle.std.proofs.lemmas.List.Sorted.{IsPartitionedBy-ltb}
 use Rattle.indexmap.specs.Layout.{set_value_at}
-use Rattle.gpu_descriptor.proofs.table.Exact.{key_exact}
 
 pub inside : {A : Type 0} (x y : A) → Some x ≡ Some y → x ≡ y
 inside x y same = cc
@@ -54,45 +53,11 @@ module _ {P : Type 0} where
           ]
         ]
 
--- ---- keys
-
 module _ {P : Type 0} where
-  -- the row that a key's test finds has an id above those before it
-  found_above : (n : ℕ) (test : BucketKey → Bool) (es : List (BucketKey × DescriptorBucket P)) (v : DescriptorBucket P) → list_all (nat_lt n) (stored_ids es) ≡ true → lookup test es ≡ Some v → n < v.id
-  found_above n test [] v h found = absurd (none-some v found)
-  found_above n test (e ∷ es) v h found = grind (arith, (found_above n test es v))
-
   pub id_of : (es : List (BucketKey × DescriptorBucket P)) (i : ℕ) (e : BucketKey × DescriptorBucket P) → slice_get es i ≡ Some e → slice_get (stored_ids es) i ≡ Some e.1.id
   id_of [] i e at = absurd (none-some e at)
   id_of (x ∷ es) zero e at = ap (λ (r : BucketKey × DescriptorBucket P). Some r.1.id) (inside x e at)
   id_of (x ∷ es) (suc i) e at = id_of es i e at
-
-  -- a row's key and bucket are those that a key's test found
-  abbrev Is : BucketKey × DescriptorBucket P → Key → DescriptorBucket P → Type 0
-  Is e k w = (key_of e.0 ≡ k) × (e.1 ≡ w)
-
-  -- the row that a key's test finds is the first, if that has its id, or else among the later ones
-  first_is : (x : BucketKey × DescriptorBucket P) (es : List (BucketKey × DescriptorBucket P)) → list_all (nat_lt x.1.id) (stored_ids es) ≡ true → (k : Key) (w : DescriptorBucket P) → lookup (λ l. key_eq k (key_of l)) (x ∷ es) ≡ Some w → x.1.id ≡ w.id → Is x k w
-  first_is x es above k w found same = elim (cases_Bool (key_eq k (key_of x.0))) [
-    | inl hit ↦ (sym (key_exact.same k (key_of x.0) hit), inside x.1 w (rw hit at found))
-    | inr other ↦ absurd (let less = found_above x.1.id (λ l. key_eq k (key_of l)) es w above (rw other at found) in omega arith)
-  ]
-
-  later_is :
-      (x : BucketKey × DescriptorBucket P) (es : List (BucketKey × DescriptorBucket P))
-      → list_all (nat_lt x.1.id) (stored_ids es) ≡ true → (k : Key) (w : DescriptorBucket P)
-      → lookup (λ l. key_eq k (key_of l)) (x ∷ es) ≡ Some w → (i n : ℕ) → slice_get (stored_ids es) i ≡ Some n
-      → n ≡ w.id → lookup (λ l. key_eq k (key_of l)) es ≡ Some w
-  later_is x es above k w found i n at same = grind (arith, all_above)
-
-  -- the row of a key stands where its id does
-  pub own_key : (es : List (BucketKey × DescriptorBucket P)) → rises (stored_ids es) ≡ true → (k : Key) (w : DescriptorBucket P) → lookup (λ l. key_eq k (key_of l)) es ≡ Some w → (i : ℕ) (e : BucketKey × DescriptorBucket P) → slice_get es i ≡ Some e → e.1.id ≡ w.id → Is e k w
-  own_key [] rise k w found i e at same = absurd (none-some w found)
-  own_key (x ∷ es) rise k w found zero e at same =
-      subst (λ (r : BucketKey × DescriptorBucket P). Is r k w) (inside x e at) (first_is x es (and_parts (list_all (nat_lt x.1.id) (stored_ids es)) (rises (stored_ids es)) rise).0 k w found (ap (λ (r : BucketKey × DescriptorBucket P). r.1.id) (inside x e at) ∙ same))
-  own_key (x ∷ es) rise k w found (suc i) e at same =
-      let p = and_parts (list_all (nat_lt x.1.id) (stored_ids es)) (rises (stored_ids es)) rise in
-      own_key es p.1 k w (later_is x es p.0 k w found i e.1.id (id_of es i e at) same) i e at same
 
 -- ---- as the table changes
 

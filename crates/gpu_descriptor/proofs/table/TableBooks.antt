@@ -1,10 +1,8 @@
--- The books of a table, and what a write to one of its rows does to them.
--- For what looks up a key or writes its bucket. es are the entries of the map, and test is its test for the key k (same).
-use Rattle.gpu_descriptor.proofs.Common.{◌≡◌, ℕ, arith, Bool, true, false, List, [], ◌∷◌, map, count_by, Some, IsSome, inl, inr, refl, sym, ap, ◌∙◌, if◌then◌else◌, list_any, IsDistinct, AllByRecursion, lookup, set_value, option_map_or, cases_Bool, or_from, or_parts, count_by_yes}
-use Rattle.gpu_descriptor.proofs.Common.{count_by_no, BucketKey, DescriptorPool, DescriptorBucket, Key, key_eq, Entry, Bucket, no_pools, HasDistinctKeys, key_of, Allocations, named, named_row, books_in, kept_of, row_of, entry_of, bucket_of, stored_keys, none-some, false≢true}
+-- The books of a table, read off the entries of the map, es.
+use Rattle.gpu_descriptor.proofs.Common.{◌≡◌, ℕ, Bool, false, List, [], ◌∷◌, map, refl, sym, ap, ◌∙◌, if◌then◌else◌, list_any, IsDistinct, AllByRecursion, or_from}
+use Rattle.gpu_descriptor.proofs.Common.{BucketKey, DescriptorPool, DescriptorBucket, Key, key_eq, Entry, Bucket, HasDistinctKeys, key_of, Allocations, named, named_row, kept_of, row_of, entry_of, bucket_of, stored_keys}
 use Rattle.std.specs.Map.{keys_of as map_keys}
 use Rattle.gpu_descriptor.specs.Caller.States.{keys_of}
-use Rattle.gpu_descriptor.proofs.table.Exact.{key_exact}
 use Rattle.gpu_descriptor.proofs.table.Tables.{key_eq_symm}
 
 -- the map's keys are distinct, so those of the books are
@@ -34,33 +32,6 @@ module _ {P : Type 0} (name : P → ℕ) where
   pub row_bucket : (r : BucketKey × DescriptorBucket P) → (named_row name (row_of r)).1 ≡ bucket_of name r.1
   row_bucket r = λ i. record { id = r.1.id; pools = entries r.1.pools.items i }
 
-  -- a look-up in the map is what the books have
-  pub looked_up : (test : BucketKey → Bool) (k : Key) → ((l : BucketKey) → test l ≡ key_eq k (key_of l)) → (es : List (BucketKey × DescriptorBucket P)) → books_in name (map row_of es) k ≡ option_map_or (bucket_of name) (lookup test es) no_pools
-  looked_up test k same [] = refl
-  looked_up test k same (e ∷ es) =
-      let here : key_eq (key_of e.0) k ≡ test e.0 = key_eq_symm (key_of e.0) k ∙ sym (same e.0) in
-      elim (cases_Bool (test e.0)) [
-        | inl hit ↦ rw (hit, here ∙ hit) (row_bucket e)
-        | inr miss ↦ rw (miss, here ∙ miss) (looked_up test k same es)
-      ]
-
-  -- a write through the map is a write to the books
-  pub written :
-      (test : BucketKey → Bool) (k : Key) → ((l : BucketKey) → test l ≡ key_eq k (key_of l))
-      → (es : List (BucketKey × DescriptorBucket P)) (w : DescriptorBucket P) → IsSome (lookup test es) → (l : Key)
-      → books_in name (map row_of (set_value test es w)) l
-      ≡ put_books (books_in name (map row_of es)) k (bucket_of name w) l
-  written test k same [] w some l = absurd (false≢true some)
-  written test k same (e ∷ es) w some l = elim (cases_Bool (test e.0)) [
-    | inl h ↦ (
-        let is : key_eq k l ≡ key_eq (key_of e.0) l = ap (λ (m : Key). key_eq m l) (key_exact.same k (key_of e.0) (sym (same e.0) ∙ h)) in
-        rw h (elim (cases_Bool (key_eq (key_of e.0) l)) [ inl at ↦ rw (at, is ∙ at) (row_bucket (e.0, w)) | inr other ↦ rw (other, is ∙ other) refl ]))
-    | inr h ↦ rw h (elim (cases_Bool (key_eq (key_of e.0) l)) [
-      | inl at ↦ rw (at, ap (key_eq k) (sym (key_exact.same (key_of e.0) l at)) ∙ sym (same e.0) ∙ h) refl
-      | inr other ↦ rw other (written test k same es w (rw h at some) l)
-    ])
-  ]
-
   pub rows_are : (es : List (BucketKey × DescriptorBucket P)) → map (named_row name) (map row_of es) ≡ rows_in es
   rows_are [] = refl
   rows_are (e ∷ es) = λ i. (key_of e.0, row_bucket e i) ∷ rows_are es i
@@ -74,24 +45,6 @@ module _ {P : Type 0} (name : P → ℕ) where
       none : (e : BucketKey × DescriptorBucket P) (es : List (BucketKey × DescriptorBucket P)) → AllByRecursion (λ l. key_eq (key_of e.0) l ≡ false) (stored_keys es) → list_any (λ other. key_eq other.0 (key_of e.0)) (rows_in es) ≡ false
       none e [] all = refl
       none e (f ∷ es) all = or_from (key_eq (key_of f.0) (key_of e.0)) (list_any (λ other. key_eq other.0 (key_of e.0)) (rows_in es)) (key_eq_symm (key_of f.0) (key_of e.0) ∙ all.0) (none e es all.1)
-
-  -- a key that is in the map is there once
-  pub key_once : (test : BucketKey → Bool) (k : Key) → ((l : BucketKey) → test l ≡ key_eq k (key_of l)) → (es : List (BucketKey × DescriptorBucket P)) (v : DescriptorBucket P) → HasDistinctKeys (rows_in es) → lookup test es ≡ Some v → count_by (key_eq k) (map (λ e. key_of e.0) es) ≡ 1
-  key_once test k same [] v h found = absurd (none-some v found)
-  key_once test k same (e ∷ es) v h found = elim (cases_Bool (test e.0)) [
-    | inl at ↦ (
-        let yes : key_eq k (key_of e.0) ≡ true = sym (same e.0) ∙ at in
-        let is : key_of e.0 ≡ k = sym (key_exact.same k (key_of e.0) yes) in
-        let rest = no_key k es (ap (λ (l : Key). list_any (λ other. key_eq other.0 l) (rows_in es)) (sym is) ∙ h.0) in
-        count_by_yes (key_eq k) (key_of e.0) (map (λ e. key_of e.0) es) yes ∙ (omega arith))
-    | inr at ↦ count_by_no (key_eq k) (key_of e.0) (map (λ e. key_of e.0) es) (sym (same e.0) ∙ at) ∙ key_once test k same es v h.1 (rw at at found)
-  ]
-    where
-      no_key : (k : Key) (es : List (BucketKey × DescriptorBucket P)) → list_any (λ other. key_eq other.0 k) (rows_in es) ≡ false → count_by (key_eq k) (map (λ e. key_of e.0) es) ≡ 0
-      no_key k [] h = refl
-      no_key k (e ∷ es) h =
-          let both = or_parts (key_eq (key_of e.0) k) (list_any (λ other. key_eq other.0 k) (rows_in es)) h in
-          count_by_no (key_eq k) (key_of e.0) (map (λ e. key_of e.0) es) (key_eq_symm k (key_of e.0) ∙ both.0) ∙ no_key k es both.1
 
 module _ {P : Type 0} where
   pub row_keys : (es : List (BucketKey × DescriptorBucket P)) → map (λ r. r.0) (map row_of es) ≡ map (λ e. key_of e.0) es

@@ -12,22 +12,16 @@ use Rattle.gpu_descriptor.specs.declared.errors.AllocationError.TheVariants.{Out
 use Rattle.gpu_descriptor.specs.declared.key.BucketKey.{BucketKey}
 use Rattle.gpu_descriptor.specs.declared.set.DescriptorSet.{DescriptorSet}
 use Rattle.gpu_descriptor.specs.declared.bucket.stop.Stop.{Stop}
-use Rattle.gpu_descriptor.specs.Model.Books.{Key, key_eq, Bucket, BucketOf, HasDistinctKeys, next_number, sum_over}
+use Rattle.gpu_descriptor.specs.Model.Books.{Key, key_eq, Bucket, BucketOf, next_number, sum_over}
 use Rattle.gpu_descriptor.specs.Model.Outcomes.{Call, Allocates, taken_by}
 use Rattle.gpu_descriptor.specs.Caller.Keys.{with_key}
 use Rattle.gpu_descriptor.specs.Caller.SetLists.{appended}
 use Rattle.gpu_descriptor.specs.Caller.Sets.{PutsOfLayout, items_of}
-use Rattle.gpu_descriptor.specs.Caller.States.{outstanding_of, marked_load_of, pool_load_of, table_of}
+use Rattle.gpu_descriptor.specs.Caller.States.{outstanding_of, marked_load_of, pool_load_of}
 use Rattle.gpu_descriptor.specs.Caller.Values.{Allocations}
 use Rattle.gpu_descriptor.specs.Inner.OpenPools.{CountsLooks}
 use Rattle.gpu_descriptor.specs.Inner.Stored.{books_in, row_of, stored_keys}
 use Rattle.gpu_descriptor.specs.Inner.Grow.{IsTaken}
-
--- no key of an allocator has two rows, and both loads keep its limit
-pub record IsSound {P : Type 0} (name : P → ℕ) (a : Allocations P) : Type 0 where
-  pub rows : HasDistinctKeys (table_of name a)
-  pub load : marked_load_of a ≤ a.limit
-  pub pool_load : pool_load_of a ≤ a.limit
 
 module _ {L P S : Type 0} (means : Meaning L P S) where
   -- sets of a layout were appended to a list, and so many of them are left to come

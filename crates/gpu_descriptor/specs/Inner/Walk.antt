@@ -1,12 +1,14 @@
 -- How a request walks over a key's pools, in the words of the books.
-use Rattle.std.specs.Prelude.{if◌then◌else◌, ◌≡◌, ℕ, ◌+◌, ◌-◌, ◌&&◌, Bool, true, nat_lt, min, List, [], length}
-use Rattle.gpu_descriptor_types.specs.Ledger.{Ledger, live_sets, on_pool, pool_refusals, no_rise}
+use Rattle.std.specs.Prelude.{if◌then◌else◌, ◌≡◌, ℕ, ◌+◌, ◌-◌, ◌&&◌, ◌⊎◌, Bool, true, false, nat_lt, min, List, [], length, Option, None}
+use Rattle.gpu_descriptor_types.specs.Ledger.{Ledger, Pool, live_sets, on_pool, pool_refusals, no_rise}
 use Rattle.gpu_descriptor.specs.declared.bucket.stop.Stop.{Stop}
 use Rattle.gpu_descriptor.specs.declared.bucket.stop.Stop.TheVariants as stop
 use Rattle.gpu_descriptor_types.specs.declared.errors.DeviceAllocationError.{DeviceAllocationError}
-use Rattle.gpu_descriptor.specs.Model.Books.{Key, Entry, Bucket}
-use Rattle.gpu_descriptor.specs.Model.Agreement.{Item}
+use Rattle.gpu_descriptor.specs.Model.Books.{Key, Entry, Bucket, numbers_of, rises}
+use Rattle.gpu_descriptor.specs.Model.Agreement.{Item, count_of, live_at}
 use Rattle.gpu_descriptor.specs.Model.Shares.{rest}
+use Rattle.gpu_descriptor.specs.Inner.Buckets.{AreBookedIn}
+use Rattle.gpu_descriptor.specs.Model.Cleanup.{are_named}
 use Rattle.gpu_descriptor.specs.Model.Grants.{Grant, IsGrantOf, items_in, bucket_with, ledger_with, pool_with}
 use Rattle.gpu_descriptor.specs.Model.Outcomes.{risen, grant_rise, stop_rise}
 
@@ -32,6 +34,16 @@ pub record IsNoMemory (wanted : ℕ) (e : Entry) (error : DeviceAllocationError)
   pub memory : pool_refusals error ≡ 0
   pub refused : IsRefused (stop.ExistingPoolWithoutMemory error) before after
 
+-- items came to a key's pools: these are in the ledger as the books say again, and exactly the items are live besides
+pub record Adds (k : Key) (items : List Item) (old new : Bucket) (before after : ℕ → Option Pool) : Type 0 where
+  pub booked : AreBookedIn k after new.pools
+  pub rising : rises (numbers_of new.pools) ≡ true
+  pub live : (t : Item) → t.key ≡ k → t.id ≡ new.id → live_at after new t ≡ live_at before old t + count_of t items
+  -- the pools that were there still are, a pool that came wasn't in the ledger, and the ledger's others stay
+  pub stays : (pool : ℕ) → are_named old.pools pool ≡ true → are_named new.pools pool ≡ true
+  pub comes : (pool : ℕ) → are_named new.pools pool ≡ true → (are_named old.pools pool ≡ true) ⊎ (before pool ≡ None)
+  pub others : (pool : ℕ) → are_named new.pools pool ≡ false → after pool ≡ before pool
+
 -- a request of n sets took so much of a key's pools, and these sets came
 pub record HasTaken (k : Key) (n : ℕ) (g : Grant) (items : List Item) (old new : Bucket) (before after : Ledger) : Type 0 where
   -- so much could be taken of the bucket and the ledger before, and what is after follows from it
@@ -40,6 +52,7 @@ pub record HasTaken (k : Key) (n : ℕ) (g : Grant) (items : List Item) (old new
   pub bucket : new ≡ bucket_with n g old
   pub pools : after.pools ≡ ledger_with k g before.pools
   pub counters : after.counters ≡ risen (grant_rise n g old.pools) before.counters
+  pub keeps : Adds k items old new before.pools after.pools
 
 -- all existing pools were asked, and so many sets are still wanting
 pub record IsWalked (k : Key) (n wanting : ℕ) (items : List Item) (old new : Bucket) (before after : Ledger) : Type 0 where

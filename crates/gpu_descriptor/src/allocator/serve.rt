@@ -11,7 +11,7 @@ ghost use Rattle.gpu_descriptor.specs.Caller.SetLists.{appended};
 ghost use Rattle.gpu_descriptor.specs.Caller.States.{Agrees, keys_of, marked_load_of};
 ghost use Rattle.gpu_descriptor.specs.Inner.KeyOf.{key_of};
 ghost use Rattle.gpu_descriptor.specs.Inner.OpenPools.{CountsLooks};
-ghost use Rattle.gpu_descriptor.specs.Inner.Serves.{Appends, IsDeclined, IsSound, Takes};
+ghost use Rattle.gpu_descriptor.specs.Inner.Serves.{Appends, IsDeclined, Takes};
 ghost use Rattle.gpu_descriptor.specs.Model.Load.{set_descriptors};
 
 use super::DescriptorAllocator;
@@ -124,9 +124,8 @@ impl<P: Drop, S> DescriptorAllocator<P, S> {
             ≡ with_key (key_of request.now.key) (keys_of self.old)) }
         ensures allocator { OnErr result (self.new ≡ self.old) }
         ensures ledger { OnErr result (D.ledger device.new ≡ D.ledger device.old) }
-        ensures within { IsSound D.meaning.pool_name self.new }
-        ensures limit { self.new.limit ≡ self.old.limit }
-        ensures most { self.new.most ≡ self.old.most }
+        ensures keeps { Keeps D.meaning (side self.old (D.ledger device.old))
+            (side self.new (D.ledger device.new)) }
     {
         let each = request.key.marked_descriptors_of_set();
         if self.would_exceed_limit(&request.key, each, request.count) {

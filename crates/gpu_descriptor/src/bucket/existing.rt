@@ -1,6 +1,6 @@
 //! How a request takes sets from the existing pools of its key.
 ghost use Rattle.std.specs.Prelude.{◌≡◌, ◌+◌, ◌<◌, ◌++◌, ◌^◌, List, length, map};
-ghost use Rattle.std.specs.Prelude.{IfErr, OnOk, Err, None};
+ghost use Rattle.std.specs.Prelude.{IfErr, OnOk, Err, None, true};
 ghost use Rattle.std.specs.VecDeque.{deque_capacity};
 ghost use Rattle.gpu_descriptor.specs.declared.set.DescriptorSet.{DescriptorSet};
 ghost use Rattle.gpu_descriptor.specs.declared.bucket.stop.Stop.TheVariants.{ExistingPoolWithoutMemory};
@@ -15,6 +15,7 @@ ghost use Rattle.gpu_descriptor.specs.Inner.SetAt.{set_at};
 ghost use Rattle.gpu_descriptor.specs.Inner.OpenOrdinals.{stored_numbers};
 ghost use Rattle.gpu_descriptor.specs.Inner.Stored.{bucket_of, entry_of};
 ghost use Rattle.gpu_descriptor.specs.Inner.Walk.{IsAsked, IsNoMemory, IsWalked};
+ghost use Rattle.gpu_descriptor.specs.Model.Books.{rises};
 
 use crate::bucket::open_pools::OpenPools;
 use crate::bucket::request::SetRequest;
@@ -81,6 +82,7 @@ fn walk<'k, L, P, S, D: DescriptorDevice<L, P, S>, K: SetPlaces<S>>(
 ) -> Result<(), DeviceAllocationError>
     requires booked { AreBookedIn (key_of request.now.key) (D.ledger device.old).pools
         (map (entry_of D.meaning.pool_name) view.old.pools.now.items) }
+    requires rising { rises (stored_numbers view.old.pools.now.items) ≡ true }
     requires listed { IsListed view.old }
     requires left { sink.old.left ≡ request.now.count }
     ensures walked { OnOk result ((put : List (DescriptorSet S)) ×

@@ -10,8 +10,8 @@ use std::collections::VecDeque;
 pub type Set = (usize, usize);
 
 /// How many pools there may be at a time, and how many sets in one.
-const POOLS: usize = 100;
-const PLACES: usize = 512;
+const POOLS: usize = 400;
+const PLACES: usize = 600;
 
 /// What the device does at the call with the fault.
 #[derive(Clone, Copy, Debug, PartialEq, Eq)]
@@ -36,6 +36,10 @@ pub struct Gpu {
     /// The pools that were destroyed last, as many as there may be.
     destroyed: RefCell<VecDeque<usize>>,
 
+    /// For how many sets the pools were created that came since `created`, and their descriptors; as many as
+    /// there may be.
+    created: RefCell<Vec<(u32, u64)>>,
+
     /// Which sets which frame reads.
     reads: RefCell<Vec<(u64, Set)>>,
 
@@ -56,6 +60,7 @@ impl Gpu {
             live_sets: Cell::new(0),
             exists: RefCell::new(vec![false; POOLS]),
             destroyed: RefCell::new(VecDeque::with_capacity(POOLS)),
+            created: RefCell::new(Vec::with_capacity(POOLS)),
             reads: RefCell::default(),
             calls: Cell::new(0),
             faulty: Cell::new(u64::MAX),
@@ -99,6 +104,11 @@ impl Gpu {
             .collect()
     }
 
+    /// The pools that came since the last call: for how many sets, and their descriptors.
+    pub fn created(&self) -> Vec<(u32, u64)> {
+        self.created.borrow_mut().drain(..).collect()
+    }
+
     pub fn is_empty(&self) -> bool {
         self.pools() == 0 && self.live_sets() == 0
     }
@@ -128,7 +138,7 @@ impl Gpu {
 impl DescriptorDevice<u32, usize, Set> for Gpu {
     unsafe fn create_descriptor_pool(
         &self,
-        _: &DescriptorTotalCount,
+        counts: &DescriptorTotalCount,
         max_sets: u32,
         _: DescriptorPoolCreateFlags,
     ) -> Result<usize, CreatePoolError> {
@@ -142,6 +152,10 @@ impl DescriptorDevice<u32, usize, Set> for Gpu {
         let mut exists = self.exists.borrow_mut();
         let pool = exists.iter().position(|it| !it).unwrap();
         exists[pool] = true;
+        let mut created = self.created.borrow_mut();
+        if created.len() < created.capacity() {
+            created.push((max_sets, counts.total_u64()));
+        }
         Ok(pool)
     }
 

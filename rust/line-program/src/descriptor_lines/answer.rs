@@ -4,7 +4,7 @@
 mod reply;
 mod reserved;
 
-use crate::descriptor_words::{Fault, kind_name};
+use crate::descriptor_lines::words::{Fault, kind_name};
 use crate::gpu_descriptor::PoolView;
 use crate::gpu_descriptor_types::DescriptorTotalCount;
 pub use reply::{reply_answer, reserve_for};

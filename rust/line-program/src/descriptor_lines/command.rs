@@ -5,8 +5,8 @@ mod layout;
 mod script;
 
 use crate::descriptor_lines::layouts::{Layout, LayoutTable};
+use crate::descriptor_lines::words::{Fault, Keyword, Refusal, Words, number_within, parse_free, parse_u32};
 use crate::descriptor_script::Answer;
-use crate::descriptor_words::{Fault, Keyword, Refusal, Words, number_within, parse_free, parse_u32};
 use crate::gpu_descriptor_types::DescriptorTotalCount;
 use layout::parse_layout;
 use script::parse_script;
@@ -140,7 +140,7 @@ fn parse_size<'a>(mut words: Words<'a>, layouts: &LayoutTable) -> Result<Command
     ) else {
         return Err(Fault::BadWordCount);
     };
-    let name = crate::descriptor_words::name(name).ok_or(Fault::BadName)?;
+    let name = crate::descriptor_lines::words::name(name).ok_or(Fault::BadName)?;
     let counts = layouts.get(name).ok_or(Fault::NoSuchLayout)?.counts;
     let total = number_within(total, u64::MAX).ok_or(Fault::BadNumber)?;
     let wanted = parse_u32(wanted)?;
@@ -157,7 +157,7 @@ fn parse_alloc<'a>(mut words: Words<'a>, layouts: &LayoutTable) -> Result<Comman
     let (Some(name), Some(count), None) = (words.next(), words.next(), words.next()) else {
         return Err(Fault::BadWordCount);
     };
-    let name = crate::descriptor_words::name(name).ok_or(Fault::BadName)?;
+    let name = crate::descriptor_lines::words::name(name).ok_or(Fault::BadName)?;
     let layout = layouts.place(name).ok_or(Fault::NoSuchLayout)?;
     let count = number_within(count, MAX_SETS).ok_or(Fault::BadNumber)? as u32;
     Ok(Command::Alloc { layout, count })

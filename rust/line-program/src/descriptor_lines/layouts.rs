@@ -77,21 +77,21 @@ impl LayoutTable {
         String::from_str(self.alloc, name)
     }
 
-    /// Whether no layout has the same counts and the same mark.
-    fn is_new(&self, layout: &Layout) -> bool
+    /// Whether a layout has the same counts and the same mark.
+    fn has_key(&self, layout: &Layout) -> bool
     {
         for entry in self.by_name.values() {
             if entry.layout == *layout {
-                return false;
+                return true;
             }
         }
-        true
+        false
     }
 
     /// Puts a layout of a new name last, over memory that was reserved.
     pub fn push(&mut self, name: String, layout: Layout)
     {
-        let is_first = self.is_new(&layout);
+        let is_first = !self.has_key(&layout);
         // Memory is reserved, and the name is new.
         let _ = self.by_name.insert(name, Entry { layout, is_first });
     }

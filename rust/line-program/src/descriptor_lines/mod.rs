@@ -9,6 +9,7 @@ mod exit;
 mod input;
 mod layouts;
 mod program;
+mod words;
 
 pub use answer::kinds_answer;
 pub use device::{LineDevice, ScriptedMeaning};

@@ -130,7 +130,6 @@ impl DescriptorDevice<ScriptLayout, RawPool, RawSet> for ScriptedDevice {
         sets: &mut I,
     )
     {
-        self.pools.release(pool.id, sets);
-        self.counters.released.rise();
+        self.release(pool, sets);
     }
 }

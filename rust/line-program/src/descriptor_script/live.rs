@@ -37,10 +37,12 @@ pub fn fill<K: SetSink<RawSet>>(
     }
 }
 
-/// Takes each set that the iterator gives from the live sets.
-pub fn take_back<I: Iterator<Item = RawSet>>(live: &mut LiveSets, sets: &mut I)
+/// Takes each set that the iterator gives from the live sets, and returns how many they were.
+pub fn take_back<I: Iterator<Item = RawSet>>(live: &mut LiveSets, sets: &mut I) -> usize
 {
+    let before = live.len();
     while let Some(set) = sets.next() {
         live.swap_remove(&set.id);
     }
+    before - live.len()
 }

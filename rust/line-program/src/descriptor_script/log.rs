@@ -54,10 +54,12 @@ impl Log {
         self.owed += owes;
     }
 
-    /// Puts a call in the place of so many that were owed.
-    pub(crate) fn settle(&mut self, call: Call, count: usize)
-    {
-        self.calls.push_reserved(call);
-        self.owed -= count;
+    /// Puts a call in the place of so many that were owed. A device whose conditions are kept owes a
+    /// call for each live pool and each live set, so none is left out.
+    pub(crate) fn settle(&mut self, call: Call, count: usize) {
+        if count > 0 && count <= self.owed {
+            self.calls.push_reserved(call);
+            self.owed -= count;
+        }
     }
 }

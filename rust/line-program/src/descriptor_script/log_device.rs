@@ -42,8 +42,7 @@ impl LogDevice {
     }
 
     /// The calls that were granted, in their order.
-    pub fn calls(&self) -> &[Call]
-    {
+    pub fn calls(&self) -> &[Call] {
         &self.log.calls
     }
 
@@ -78,8 +77,7 @@ impl DescriptorDevice<ScriptLayout, RawPool, RawSet> for LogDevice {
         counts: &DescriptorTotalCount,
         max_sets: u32,
         flags: DescriptorPoolCreateFlags,
-    ) -> Result<RawPool, CreatePoolError>
-    {
+    ) -> Result<RawPool, CreatePoolError> {
         if self.log.reserve(2).is_err() {
             let error = CreatePoolError::OutOfHostMemory;
             self.device.refuse_create(error);
@@ -94,8 +92,7 @@ impl DescriptorDevice<ScriptLayout, RawPool, RawSet> for LogDevice {
         }
     }
 
-    fn destroy_descriptor_pool(&mut self, pool: RawPool)
-    {
+    fn destroy_descriptor_pool(&mut self, pool: RawPool) {
         let name = pool.id();
         self.device.destroy_descriptor_pool(pool);
         self.log.settle(Call::Destroy { pool: name }, 1);
@@ -131,9 +128,8 @@ impl DescriptorDevice<ScriptLayout, RawPool, RawSet> for LogDevice {
         &mut self,
         pool: &mut RawPool,
         sets: &mut I,
-    )
-    {
-        let released = release(&mut self.device, pool, sets);
+    ) {
+        let released = self.device.release(pool, sets);
         if released > 0 {
             let call = Call::Release {
                 pool: pool.id(),
@@ -142,17 +138,4 @@ impl DescriptorDevice<ScriptLayout, RawPool, RawSet> for LogDevice {
             self.log.settle(call, released);
         }
     }
-}
-
-/// Releases the sets that the iterator gives, and counts them.
-fn release<I: Iterator<Item = RawSet>>(
-    device: &mut ScriptedDevice,
-    pool: &mut RawPool,
-    sets: &mut I,
-) -> usize
-{
-    let before = device.live_sets(pool);
-    device.dealloc_descriptor_sets(pool, sets);
-    let after = device.live_sets(pool);
-    before - after
 }

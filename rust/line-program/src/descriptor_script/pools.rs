@@ -67,15 +67,6 @@ impl Pools {
         self.live.swap_remove(&pool);
     }
 
-    /// How many sets are live in the pool; 0 where the pool isn't live.
-    pub fn live_sets(&self, pool: u64) -> usize
-    {
-        match self.live.get(&pool) {
-            Some(live) => live.sets.len(),
-            None => 0,
-        }
-    }
-
     /// Counts an alloc that was refused, if it was the pool that refused.
     pub fn refuse(&mut self, pool: u64, error: DeviceAllocationError)
     {
@@ -117,12 +108,12 @@ impl Pools {
         Ok(())
     }
 
-    /// Takes the sets that the iterator gives from the pool.
-    pub fn release<I: Iterator<Item = RawSet>>(&mut self, pool: u64, sets: &mut I)
+    /// Takes the sets that the iterator gives from the pool, and returns how many they were.
+    pub fn release<I: Iterator<Item = RawSet>>(&mut self, pool: u64, sets: &mut I) -> usize
     {
         let Some(live) = self.live.get_mut(&pool) else {
             unreachable!()
         };
-        take_back(&mut live.sets, sets);
+        take_back(&mut live.sets, sets)
     }
 }

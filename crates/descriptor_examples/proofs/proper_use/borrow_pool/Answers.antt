@@ -7,8 +7,10 @@ use Rattle.descriptor_examples.proofs.proper_use.borrow_pool.Goals as goal
 pub destroy_descriptor_pool-requires : goal.destroy_descriptor_pool-requires
 destroy_descriptor_pool-requires c = empty_pool (ledger_logged c.args.device.now) (ledger_logged c.create_descriptor_pool.new.self) (kinds c.args.counts.now) 1 (bits c.empty-flags.result) c.in-Ok.pool.id c.in-Ok.ensures.ok
 
-pub returns-in-Ok-clause-pools : goal.returns-in-Ok-clause-pools
-returns-in-Ok-clause-pools c =
-    came_and_went (ledger_logged c.args.device.now) (ledger_logged c.create_descriptor_pool.new.self)
-    (ledger_logged c.destroy_descriptor_pool.new.self) (kinds c.args.counts.now) 1 (bits c.empty-flags.result)
-    c.in-Ok.pool.id c.in-Ok.ensures.new_name c.in-Ok.ensures.ok c.destroy_descriptor_pool.ensures.ledger
+pub returns-in-Ok : goal.returns-in-Ok
+returns-in-Ok c = record {
+  pools =
+      came_and_went (ledger_logged c.args.device.now) (ledger_logged c.create_descriptor_pool.new.self)
+      (ledger_logged c.destroy_descriptor_pool.new.self) (kinds c.args.counts.now) 1 (bits c.empty-flags.result)
+      c.in-Ok.pool.id c.in-Ok.ensures.new_name c.in-Ok.ensures.ok c.destroy_descriptor_pool.ensures;
+}

@@ -1,6 +1,6 @@
 use Rattle.std.proofs.Common.{◌≡◌, ◌++◌, ℕ, List, [], append-nil, append_assoc, get_or, sym, ap, ◌∙◌, arith, rules}
 use Rattle.std.specs.String.{string_bytes}
-use Rattle.descriptor_words.specs.Kinds.{kind_names}
+use Rattle.descriptor_lines.specs.Kinds.{kind_names}
 use Rattle.descriptor_lines.specs.Answers.{kind_answer}
 use Rattle.descriptor_lines.proofs.AnswerLemmas.{answer_of_first, answer_of_none, answer_of_more, answer_of_all}
 use Rattle.descriptor_lines.proofs.answer.kinds_answer.Goals as goal

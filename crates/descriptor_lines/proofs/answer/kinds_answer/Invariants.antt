@@ -1,6 +1,6 @@
 use Rattle.std.proofs.Common.{◌≡◌, ◌++◌}
 use Rattle.std.specs.String.{string_bytes}
-use Rattle.descriptor_words.specs.Kinds.{kind_names}
+use Rattle.descriptor_lines.specs.Kinds.{kind_names}
 use Rattle.descriptor_lines.proofs.AnswerLemmas.{answer_of_first}
 use Rattle.descriptor_lines.proofs.answer.kinds_answer.Given as goal
 

@@ -5,8 +5,8 @@ use Rattle.descriptor_lines.specs.LineBuffers.{unread}
 use Rattle.descriptor_lines.specs.LineStates.{line_state}
 use Rattle.std.proofs.KnownBytes.{Appends-nil, Appends-trans}
 use Rattle.descriptor_lines.specs.Outcomes.{EndsInFault, IsNoFault, said_of}
-use Rattle.descriptor_words.specs.declared.fault.Refusal.{Refusal}
-use Rattle.descriptor_words.specs.declared.fault.Refusal.TheVariants as refusal
+use Rattle.descriptor_lines.specs.declared.words.fault.Refusal.{Refusal}
+use Rattle.descriptor_lines.specs.declared.words.fault.Refusal.TheVariants as refusal
 use Rattle.descriptor_lines.proofs.EndLemmas.{Takes, ends_at_fault, ends_done, ends_early, ends_unread, ends_unwritten, stands_on, takes_long, takes_span}
 use Rattle.descriptor_lines.proofs.program.run_to_end.Given.{Over}
 use Rattle.descriptor_lines.proofs.program.run_to_end.Goals as goal

@@ -1,11 +1,13 @@
-use Rattle.std.proofs.Common.{ℕ, ◌<◌, ◌==◌, nat_eq, [], ◌∷◌, ◌++◌, map, count_by, sym, ap, ◌∙◌, arith}
+use Rattle.std.proofs.Common.{rules, ◌≡◌, ◌-◌, ℕ, ◌<◌, ◌==◌, nat_eq, List, [], ◌∷◌, ◌++◌, length, map, count_by, sym, ap, ◌∙◌, arith}
 use Rattle.std.proofs.iter.Next.{Yields-more}
+use Rattle.std.proofs.lemmas.List.{length-map}
 use Rattle.indexmap.specs.IndexMap.{get}
-use Rattle.gpu_descriptor_types.specs.Multiset.{LiveSet}
+use Rattle.gpu_descriptor_types.specs.Multiset.{LiveSet, set_eq}
 use Rattle.gpu_descriptor_types.proofs.Counting.{count_by-append}
 use Rattle.descriptor_script.specs.Inner.Live.{live_set_of, live_sets_of}
 use Rattle.descriptor_script.specs.Scripted.Raw.{set_id}
-use Rattle.descriptor_script.proofs.Entries.{map_push, none_either, taken, some_left, found_left}
+use Rattle.descriptor_script.specs.declared.raw.RawSet.{RawSet}
+use Rattle.descriptor_script.proofs.Entries.{gone_many, map_push, none_either, taken, some_left, found_left}
 use Rattle.descriptor_script.proofs.live.take_back.Goals as goal
 
 pub loop-set-preserved : goal.loop-set-preserved
@@ -30,4 +32,24 @@ loop-set-preserved g c =
           let h3 = out p in
           omega arith;
       fresh = λ m h. c.swap_remove.ensures.updates.0 m ∙ none_either (nat_eq n m) (get nat_eq c.loop-set.live m) (i.fresh m h);
+    }
+
+-- the names of those that are gone are those of the items
+gone_items : (gone : List LiveSet) (items : List RawSet) → map (λ (s : LiveSet). s.name) gone ≡ map set_id items → length items ≡ length gone
+gone_items gone items named = sym (length-map items set_id) ∙ ap length (sym named) ∙ length-map gone (λ (s : LiveSet). s.name)
+
+pub overflow_sub-result : goal.overflow_sub-result
+overflow_sub-result g c = omega (arith, gone_many c.loop-set.invariant.gone c.args.live.now.entries c.loop-set.live.entries c.loop-set.invariant.parts, c.len-before.ensures.len, c.len.ensures.len)
+
+pub returns-clause-back : goal.returns-clause-back
+returns-clause-back g c =
+    let i = c.loop-set.invariant in
+    record {
+      items = c.loop-set.yielded;
+      many = omega (arith, gone_items i.gone c.loop-set.yielded i.named, gone_many i.gone c.args.live.now.entries c.loop-set.live.entries i.parts, c.len-before.ensures.len, c.len.ensures.len);
+      drained = (c.loop-set.sets, i.steps, search rules);
+      gone = i.gone;
+      named = i.named;
+      live = λ x. (let p = i.parts (λ y. set_eq y x) in omega arith);
+      less = λ x. (let p = i.parts (λ y. set_eq y x) in omega arith);
     }

@@ -4,7 +4,7 @@
 
 use crate::descriptor_lines::answer;
 use crate::descriptor_lines::exit::Exit;
-use crate::descriptor_words::Refusal;
+use crate::descriptor_lines::words::Refusal;
 use crate::kit::io::Write;
 use crate::kit::string::String;
 

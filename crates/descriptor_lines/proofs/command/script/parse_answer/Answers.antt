@@ -1,6 +1,6 @@
 use Rattle.std.proofs.Common.{codes, sym, ap, arith}
 use Rattle.descriptor_lines.specs.ScriptWords.{answer_in}
-use Rattle.descriptor_words.proofs.WordLemmas.{spelled}
+use Rattle.descriptor_lines.proofs.WordLemmas.{spelled}
 use Rattle.descriptor_lines.proofs.command.script.parse_answer.Goals as goal
 
 pub returns-in-device : goal.returns-in-device

@@ -3,7 +3,7 @@ use Rattle.gpu_descriptor.specs.Caller.Views.{view_in}
 use Rattle.gpu_descriptor.specs.Model.Books.{books_of}
 use Rattle.descriptor_script.specs.Sessions.Session.{allocator_of}
 use Rattle.descriptor_lines.specs.Answers.{pool_answer}
-use Rattle.descriptor_lines.specs.FirstLayouts.{key_of}
+use Rattle.descriptor_lines.specs.LayoutTables.{key_of}
 use Rattle.descriptor_lines.proofs.ShownLemmas.{all_so_far, none_so_far, one_more, seen_within}
 use Rattle.descriptor_lines.proofs.program.Program.show_pools.Goals as goal
 use Rattle.descriptor_lines.proofs.program.Program.show_pools.Goals.{in-Some+in_ok-pool_answer, in_default}

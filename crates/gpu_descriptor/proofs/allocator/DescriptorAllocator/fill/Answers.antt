@@ -1,11 +1,11 @@
 use Rattle.gpu_descriptor.proofs.Common.{◌≡◌, ◌++◌, ℕ, List, drop, take, take_at, subst, sym, ap, ◌∙◌, Err, side, DescriptorSet, Key, items_of, call_of, layout_key, with_key, AreOutstanding, AreOfLayout, state_of, IsDeclined, Takes, Returns}
 use Rattle.gpu_descriptor.specs.Caller.SetLists.{appended}
 use Rattle.gpu_descriptor.specs.Caller.States.{keys_of}
-use Rattle.gpu_descriptor.proofs.request.Outcomes.{taken_agree, taken_given}
-use Rattle.gpu_descriptor.proofs.request.HandedOut.{hands_all, hands_back, hands_none, keeps_all, keeps_back}
+use Rattle.gpu_descriptor.proofs.request.Outcomes.{taken_given}
+use Rattle.gpu_descriptor.proofs.request.HandedOut.{hands_all, hands_back, hands_none}
 use Rattle.gpu_descriptor.proofs.request.OwnLayout.{own_behind}
 use Rattle.gpu_descriptor.proofs.allocator.DescriptorAllocator.fill.Goals.{After-free_after, In-Ok}
-use Rattle.gpu_descriptor.proofs.callers.Unchanged.{keeps_still}
+use Rattle.gpu_descriptor.proofs.callers.Unchanged.{keeps_through}
 use Rattle.gpu_descriptor.proofs.allocator.DescriptorAllocator.fill.Goals as goal
 
 -- what came
@@ -51,7 +51,7 @@ returned g c =
     c.count-first.ensures c.free_after.ensures.returns
 
 pub free_after-requires-clause-agree : goal.free_after-requires-clause-agree
-free_after-requires-clause-agree g c = record { rows = c.in-Ok.ensures.within.rows; books = taken_agree c.in-Ok.ensures.taken c.requires.agree.books }
+free_after-requires-clause-agree g c = c.in-Ok.ensures.keeps.agree
 
 pub free_after-requires-clause-outstanding : goal.free_after-requires-clause-outstanding
 free_after-requires-clause-outstanding g c =
@@ -93,14 +93,14 @@ returns-in-Ok-ended-clause-appends g c =
 
 pub returns-in-Ok-ended-clause-keeps : goal.returns-in-Ok-ended-clause-keeps
 returns-in-Ok-ended-clause-keeps g c =
-    keeps_all c.in-Ok.ensures.taken c.requires.agree.books c.in-Ok.ensures.within.rows c.in-Ok.ensures.limit c.in-Ok.ensures.most c.in-Ok.ensures.within.load c.in-Ok.ensures.within.pool_load
+    c.in-Ok.ensures.keeps
 
 pub returns-in-Err-ended-clause-appends : goal.returns-in-Err-ended-clause-appends
 returns-in-Err-ended-clause-appends g c =
     let r = (goal.at.returns-in-Err-ended-clause-appends g c).In-Ok in
     let back = returned g (goal.at.returns-in-Err-ended-clause-appends g c).After-free_after in
     record {
-      hands_out = rw c.error_of.ensures (hands_back (came g r) (taken g r) c.requires.agree (gained g r) c.in-Ok.ensures.looks c.in-Ok.ensures.comparisons_stay c.requires.some c.in-Ok.ensures.within.rows back c.in-Err-ended.is);
+      hands_out = rw c.error_of.ensures (hands_back (came g r) (taken g r) c.requires.agree (gained g r) c.in-Ok.ensures.looks c.in-Ok.ensures.comparisons_stay c.requires.some c.in-Ok.ensures.keeps.agree.rows back c.in-Err-ended.is);
       front = tt;
       own = tt;
       sets_stay = c.free_after.ensures.items ∙ ap (take c.count-first.result) (front g r) ∙ take_at (g.K.SetPlaces.items c.args.sets) (came g r) c.count-first.result (sym c.count-first.ensures);
@@ -108,9 +108,8 @@ returns-in-Err-ended-clause-appends g c =
 
 pub returns-in-Err-ended-clause-keeps : goal.returns-in-Err-ended-clause-keeps
 returns-in-Err-ended-clause-keeps g c =
-    let at = goal.at.returns-in-Err-ended-clause-keeps g c in
-    keeps_back (taken g at.In-Ok) c.requires.agree.books (returned g at.After-free_after) c.in-Ok.ensures.limit c.in-Ok.ensures.most c.free_after.ensures.keeps
+    keeps_through c.in-Ok.ensures.keeps c.free_after.ensures.keeps
 
 pub returns-in-Err-clause-keeps : goal.returns-in-Err-clause-keeps
 returns-in-Err-clause-keeps g c =
-    keeps_still c.in-Err.ensures.allocator c.in-Err.ensures.ledger c.requires.agree c.in-Err.ensures.within.load c.in-Err.ensures.within.pool_load
+    c.in-Err.ensures.keeps

@@ -1,15 +1,15 @@
 use Rattle.gpu_descriptor.proofs.Common.{common_steps}
-use Rattle.gpu_descriptor.proofs.Common.{length, bucket_but_front, ◌≡◌, ◌+◌, ◌-◌, ℕ, arith, refl, sym, ap, ◌∙◌, List, [], ◌∷◌, Some, subst, IsDistinct, Bucket, Key, key_eq, key_of, Allocations, DescriptorSet, items_of, state_of, binary_digits, rises, stored_ids, ◌++◌, stored_load, set_descriptors}
+use Rattle.gpu_descriptor.proofs.Common.{length, bucket_but_front, ◌≡◌, ◌+◌, ◌-◌, ℕ, arith, refl, sym, ap, ◌∙◌, List, [], ◌∷◌, subst, IsDistinct, Bucket, Key, key_eq, key_of, Allocations, DescriptorSet, items_of, state_of, binary_digits, rises, stored_ids, ◌++◌, stored_load, set_descriptors}
 use Rattle.indexmap.specs.Layout.{set_value_at}
 use Rattle.gpu_descriptor.proofs.callers.HeldSets.{out_back, out_less}
 use Rattle.gpu_descriptor.proofs.release.LentRow.{row_open, row_stored, row_taken, row_ran, row_counted}
-use Rattle.gpu_descriptor.proofs.sums.Loads.{IsRow, IsWritten, Taken, taken, load_fits, counted_after, out_after, load_after, run_load, pools_present, pools_set, opened, closed}
-use Rattle.gpu_descriptor.proofs.release.Owned.{Owns, ends_at, first_owns, lie_at, stands}
+use Rattle.gpu_descriptor.proofs.sums.Loads.{Taken, taken, load_fits, counted_after, out_after, load_after, run_load, pools_present, pools_set, opened, closed}
+use Rattle.gpu_descriptor.proofs.release.Owned.{Owns, ends_at, first_owns, lie_at, own_id, own_key}
 use Rattle.gpu_descriptor.proofs.request.Requested.{table_is}
 use Rattle.gpu_descriptor.proofs.lists.Numbers.{rises_front}
-use Rattle.gpu_descriptor.proofs.table.Rising.{id_of, ids_put, inside, own_key}
-use Rattle.gpu_descriptor.proofs.table.RowAt.{IsAt, keys_at, row_at, value_at, written_at}
-use Rattle.gpu_descriptor.proofs.table.TableBooks.{distinct_rows, row_keys, keys_are}
+use Rattle.gpu_descriptor.proofs.table.Rising.{ids_put}
+use Rattle.gpu_descriptor.proofs.table.RowAt.{IsAt, keys_at, value_at}
+use Rattle.gpu_descriptor.proofs.table.TableBooks.{row_keys, keys_are}
 use Rattle.gpu_descriptor.proofs.release.WholeRun.{lies_own}
 use Rattle.gpu_descriptor.proofs.allocator.DescriptorAllocator.release_run.Goals.{After-pair_mut-bucket, After-destroy_empty_front}
 use Rattle.gpu_descriptor.proofs.allocator.DescriptorAllocator.release_run.Goals as goal
@@ -17,40 +17,30 @@ use Rattle.gpu_descriptor.proofs.allocator.DescriptorAllocator.release_run.Goals
 pub place_of_id-place-requires : goal.place_of_id-place-requires
 place_of_id-place-requires g c =
     let es = c.self.inside.table.buckets.entries in
-    let own = first_owns g.D.DescriptorDevice.meaning.pool_name g.D.DescriptorDevice.meaning.set_name c.args.self.now (g.D.DescriptorDevice.ledger c.args.device.now) es (table_is _ c.self.view_is) c.args.first [] (c.requires.outstanding [] c.args.sets.now refl) in
-    let at = stands c.args.first.key.is es own.bucket own.found in
-    record { there = (at.place, at.id ∙ ap (λ (i : ℕ). Some i) own.has) }
+    let own = first_owns g.D.DescriptorDevice.meaning.pool_name g.D.DescriptorDevice.meaning.set_name c.args.self.now (g.D.DescriptorDevice.ledger c.args.device.now) es (table_is _ c.self.view_is) c.self.inside.table.distinct c.args.first [] (c.requires.outstanding [] c.args.sets.now refl) in
+    record { there = (own.place, own_id es (rises_front (stored_ids es) (c.self.inside.table.next_id ∷ []) c.self.inside.table.rising) own) }
 
 -- the key at the place is that of the set
 owner : (g : _) (c : After-pair_mut-bucket g) → Owns c.args.first.key.is c.args.first.id c.self.inside.table.buckets.entries
-owner g c = first_owns g.D.DescriptorDevice.meaning.pool_name g.D.DescriptorDevice.meaning.set_name c.args.self.now (g.D.DescriptorDevice.ledger c.args.device.now) c.self.inside.table.buckets.entries (table_is _ c.self.view_is) c.args.first [] (c.requires.outstanding [] c.args.sets.now refl)
+owner g c = first_owns g.D.DescriptorDevice.meaning.pool_name g.D.DescriptorDevice.meaning.set_name c.args.self.now (g.D.DescriptorDevice.ledger c.args.device.now) c.self.inside.table.buckets.entries (table_is _ c.self.view_is) c.self.inside.table.distinct c.args.first [] (c.requires.outstanding [] c.args.sets.now refl)
 
 own : (g : _) (c : After-pair_mut-bucket g) → key_of c.pair_mut-bucket.result.0.now ≡ c.args.first.key.is
 own g c =
     let es = c.self.inside.table.buckets.entries in
-    let row = owner g c in
-    let at = c.pair_mut-bucket.ensures.value in
-    let id = inside _ _ (sym (id_of es c.place_of_id-place.result _ at) ∙ c.place_of_id-place.ensures.place) in
-    (own_key es (rises_front (stored_ids es) (c.self.inside.table.next_id ∷ []) c.self.inside.table.rising) c.args.first.key.is row.bucket row.found c.place_of_id-place.result _ at (id ∙ sym row.has)).0
+    own_key es (rises_front (stored_ids es) (c.self.inside.table.next_id ∷ []) c.self.inside.table.rising) (owner g c) c.place_of_id-place.result _ c.pair_mut-bucket.ensures.value c.place_of_id-place.ensures.place
 
 -- the row that the place lends
 there : (g : _) (c : After-pair_mut-bucket g) → IsAt c.args.first.key.is c.self.inside.table.buckets.entries c.place_of_id-place.result c.pair_mut-bucket.result.1.now
 there g c = record { key = c.pair_mut-bucket.result.0.now; at = c.pair_mut-bucket.ensures.value; is = own g c }
 
-row : (g : _) (c : After-pair_mut-bucket g) → IsRow c.args.first.key.is c.self.inside.table.buckets.entries c.pair_mut-bucket.result.1.now
-row g c = row_at c.args.first.key.is c.self.inside.table.distinct (there g c)
-
 pub release_sets-ahead-requires-clause-stored : goal.release_sets-ahead-requires-clause-stored
 release_sets-ahead-requires-clause-stored g c =
     let at = goal.at.release_sets-ahead-requires-clause-stored g c in
-    let r = row g at.After-pair_mut-bucket in
-    row_stored g.D.DescriptorDevice.meaning.pool_name g.D.DescriptorDevice.meaning.set_name c.args.self.now (g.D.DescriptorDevice.ledger c.args.device.now) c.self.inside.table.buckets.entries (table_is _ c.self.view_is) c.requires.agree c.args.first r.test r.same
-    c.pair_mut-bucket.result.1.now r.at
+    row_stored g.D.DescriptorDevice.meaning.pool_name g.D.DescriptorDevice.meaning.set_name c.args.self.now (g.D.DescriptorDevice.ledger c.args.device.now) c.self.inside.table.buckets.entries (table_is _ c.self.view_is) c.self.inside.table.distinct c.requires.agree c.args.first (there g at.After-pair_mut-bucket)
 
 pub release_sets-ahead-requires-clause-taken : goal.release_sets-ahead-requires-clause-taken
 release_sets-ahead-requires-clause-taken g c = λ xs t gave have.
     let at = goal.at.release_sets-ahead-requires-clause-taken g c in
-    let r = row g at.After-pair_mut-bucket in
     let es = c.self.inside.table.buckets.entries in
     let was = table_is _ c.self.view_is in
     let name = g.D.DescriptorDevice.meaning.pool_name in
@@ -58,16 +48,16 @@ release_sets-ahead-requires-clause-taken g c = λ xs t gave have.
     let before = g.D.DescriptorDevice.ledger c.args.device.now in
     let out = c.requires.outstanding xs t gave in
     let lie =
-    lie_at name set_name c.args.self.now before es was (rises_front (stored_ids es) (c.self.inside.table.next_id ∷ []) c.self.inside.table.rising)
+    lie_at name set_name c.args.self.now before es was c.self.inside.table.distinct (rises_front (stored_ids es) (c.self.inside.table.next_id ∷ []) c.self.inside.table.rising)
     c.args.first.key.is c.args.first.id c.args.first.number (owner g at.After-pair_mut-bucket) xs
     (out_back set_name (c.args.first ∷ []) xs (c.args.first ∷ xs) (state_of name c.args.self.now before) refl out)
     have in
-    row_taken name set_name c.args.self.now before es was c.requires.agree c.args.first r.test r.same c.pair_mut-bucket.result.1.now r.at xs lie out
+    row_taken name set_name c.args.self.now before es was c.self.inside.table.distinct c.requires.agree c.args.first (there g at.After-pair_mut-bucket) xs lie out
 
 pub destroy_empty_front-requires-clause-room : goal.destroy_empty_front-requires-clause-room
 destroy_empty_front-requires-clause-room g c =
     let at = (goal.at.destroy_empty_front-requires-clause-room g c).After-pair_mut-bucket in
-    let below = pools_present (row g at) in
+    let below = pools_present (there g at) in
     let same = ap (λ (k : Key). stored_load k c.pair_mut-bucket.result.1.now.pools.items) (own g at) in
     let load = c.release_sets-ahead.ensures.load (key_of c.pair_mut-bucket.result.0.now) in
     let all = (opened c.self.invariant).is_room in
@@ -77,15 +67,10 @@ destroy_empty_front-requires-clause-room g c =
 went : (g : _) (c : After-destroy_empty_front g) → c.destroy_empty_front.new.self.total + length (c.args.first ∷ c.release_sets-ahead.ensures.ran.0) ≡ c.pair_mut-bucket.result.1.now.total
 went g c = (let left = c.destroy_empty_front.ensures.total in let less = c.release_sets-ahead.ensures.ran.3 in omega arith)
 
--- the row that the run leaves
-written : (g : _) (c : After-destroy_empty_front g) → IsAt c.args.first.key.is c.self.inside.table.buckets.entries c.place_of_id-place.result c.pair_mut-bucket.result.1.now
-    → IsWritten c.args.first.key.is c.self.inside.table.buckets.entries (set_value_at c.self.inside.table.buckets.entries c.place_of_id-place.result c.destroy_empty_front.new.self) c.pair_mut-bucket.result.1.now c.destroy_empty_front.new.self
-written g c at = written_at c.args.first.key.is c.self.inside.table.distinct at _ _ refl
-
 -- what the run takes from the totals
 run_taken : (g : _) (c : After-destroy_empty_front g) → IsAt c.args.first.key.is c.self.inside.table.buckets.entries c.place_of_id-place.result c.pair_mut-bucket.result.1.now
     → Taken c.args.first.key.is (c.pair_mut-bucket.result.1.now.total - c.destroy_empty_front.new.self.total) c.self.inside.table.buckets.entries (set_value_at c.self.inside.table.buckets.entries c.place_of_id-place.result c.destroy_empty_front.new.self)
-run_taken g c at = taken (written g c at) (let total = went g c in omega arith)
+run_taken g c at = taken at c.destroy_empty_front.new.self (let total = went g c in omega arith)
 
 pub overflow_sub-self : goal.overflow_sub-self
 overflow_sub-self g c =
@@ -137,15 +122,14 @@ invariant_of-self g c =
     let moved : c.destroy_empty_front.new.room + stored_load key c.destroy_empty_front.new.self.pools.items ≡ c.self.inside.budget.room + stored_load key c.pair_mut-bucket.result.1.now.pools.items =
     c.destroy_empty_front.ensures.room ∙ ap (λ n. c.self.inside.budget.room + n) (c.release_sets-ahead.ensures.load key) in
     closed (counted_after (run_taken g at.After-destroy_empty_front here) (opened c.self.invariant) (c.marked_descriptors_of_sets-descriptors.ensures ∙ ap (λ (k : Key). set_descriptors k (c.pair_mut-bucket.result.1.now.total - c.destroy_empty_front.new.self.total)) same)
-    (pools_set (written g at.After-destroy_empty_front here) _ _ (subst (λ (k : Key). c.destroy_empty_front.new.room + stored_load k c.destroy_empty_front.new.self.pools.items ≡ c.self.inside.budget.room + stored_load k c.pair_mut-bucket.result.1.now.pools.items) same moved)))
+    (pools_set here c.destroy_empty_front.new.self _ _ (subst (λ (k : Key). c.destroy_empty_front.new.room + stored_load k c.destroy_empty_front.new.self.pools.items ≡ c.self.inside.budget.room + stored_load k c.pair_mut-bucket.result.1.now.pools.items) same moved)))
 
 pub returns-clause-ran : goal.returns-clause-ran
 returns-clause-ran g c =
     let at = goal.at.returns-clause-ran g c in
     let ran = c.release_sets-ahead.ensures.ran in
-    let left = written g at.After-destroy_empty_front (there g at.After-pair_mut-bucket) in
-    let row = left.row in
-    let t = taken left (went g at.After-destroy_empty_front) in
+    let row = there g at.After-pair_mut-bucket in
+    let t = taken row c.destroy_empty_front.new.self (went g at.After-destroy_empty_front) in
     let front = c.destroy_empty_front.ensures in
     let es = c.self.inside.table.buckets.entries in
     let was = table_is _ c.self.view_is in
@@ -153,19 +137,18 @@ returns-clause-ran g c =
     let set_name = g.D.DescriptorDevice.meaning.set_name in
     let before = g.D.DescriptorDevice.ledger c.args.device.now in
     let after = g.D.DescriptorDevice.ledger c.destroy_empty_front.new.device in
-    let distinct = distinct_rows name es c.self.inside.table.distinct in
+    let distinct = c.self.inside.table.distinct in
     let rise = rises_front (stored_ids es) (c.self.inside.table.next_id ∷ []) c.self.inside.table.rising in
-    let came = ends_at name set_name c.args.self.now before es was rise c.args.first.key.is c.args.first.id c.args.first.number (owner g at.After-pair_mut-bucket) g.I.Iterator.next_gives c.args.first _ _ ran.0 _ c.requires.outstanding ran.1 in
+    let came = ends_at name set_name c.args.self.now before es was distinct rise c.args.first.key.is c.args.first.id c.args.first.number (owner g at.After-pair_mut-bucket) g.I.Iterator.next_gives c.args.first _ _ ran.0 _ c.requires.outstanding ran.1 in
     let state =
-    row_ran name set_name c.args.self.now before es was c.requires.agree c.args.first row.test row.same
-    c.pair_mut-bucket.result.1.now row.at ran.0 came.0 c.destroy_empty_front.new.self after _ _ ran.2 front.books
-    front.ledger c.self.inside.max_update_after_bind_descriptors_in_all_pools _ left.wrote in
+    row_ran name set_name c.args.self.now before es was distinct c.requires.agree c.args.first row ran.0 came.0 c.destroy_empty_front.new.self after _ _ ran.2 front.books
+    front.ledger c.self.inside.max_update_after_bind_descriptors_in_all_pools in
     record {
       sets = ran.0;
       came = came;
       back = record {
         state = state;
-        counters = row_counted name set_name c.args.self.now before es was c.requires.agree c.args.first row.test row.same c.pair_mut-bucket.result.1.now row.at ran.0 came.0 c.destroy_empty_front.new.self after _ _ ran.2 front.books front.ledger distinct;
+        counters = row_counted name set_name c.args.self.now before es was distinct c.requires.agree c.args.first row ran.0 came.0 c.destroy_empty_front.new.self after _ _ ran.2 front.books front.ledger;
         outstanding = out_after t c.args.self.now was;
         marked = load_after t c.args.self.now was _ (run_load set_name c.args.first.key.is c.args.first.number (c.args.first ∷ ran.0) (lies_own c.args.first, came.0));
         returned = out_less (items_of set_name (c.args.first ∷ ran.0)) (state_of name c.args.self.now before) _ c.requires.agree (c.requires.outstanding ran.0 ran.1.1.0 ran.1.1.1) state;
@@ -179,9 +162,7 @@ returns-clause-keys g c = grind (arith, common_steps, keys_are, keys_at, row_key
 pub returns-clause-compares : goal.returns-clause-compares
 returns-clause-compares g c =
     let at = goal.at.returns-clause-compares g c in
-    let r = row g at.After-pair_mut-bucket in
-    let open_ones = row_open g.D.DescriptorDevice.meaning.pool_name g.D.DescriptorDevice.meaning.set_name c.args.self.now (g.D.DescriptorDevice.ledger c.args.device.now) c.self.inside.table.buckets.entries (table_is _ c.self.view_is) c.requires.agree c.args.first r.test r.same
-    c.pair_mut-bucket.result.1.now r.at in
+    let open_ones = row_open g.D.DescriptorDevice.meaning.pool_name g.D.DescriptorDevice.meaning.set_name c.args.self.now (g.D.DescriptorDevice.ledger c.args.device.now) c.self.inside.table.buckets.entries (table_is _ c.self.view_is) c.self.inside.table.distinct c.requires.agree c.args.first (there g at.After-pair_mut-bucket) in
     let same = ap binary_digits open_ones in
     let count = ap (λ (a : Allocations _). a.comparisons) c.self.view_is in
     let most = c.release_sets-ahead.ensures.compares in

@@ -1,7 +1,9 @@
-use Rattle.gpu_descriptor.proofs.Common.{common_steps, ◌≡◌, ◌+◌, ◌*◌, ◌≤◌, length, arith, refl, None, ap, ltb-false, key_of, set_descriptors, IsConsistent, subst, Ledger, Bucket, state_of, AreBookedIn}
+use Rattle.gpu_descriptor.proofs.Common.{common_steps, ◌≡◌, ◌+◌, ◌*◌, ◌≤◌, length, arith, refl, None, ap, ltb-false, key_of, set_descriptors, IsConsistent, subst, sym, ◌∙◌, Ledger, Bucket, Allocations, marked_load_of, pool_load_of, state_of, AreBookedIn}
 use Rattle.gpu_descriptor.proofs.sums.Loads.{opened, closed, set_descriptors-each}
 use Rattle.gpu_descriptor.proofs.cleanup.KeyOrder.{keys_seen}
-use Rattle.gpu_descriptor.proofs.request.Requested.{keeps_limit, seen, seen_again, table_is, declined_by_limit, declined_by_bound, declined_unserved, given_fits, counted_now, takes_of, books_at}
+use Rattle.gpu_descriptor.proofs.callers.Unchanged.{keeps_still}
+use Rattle.gpu_descriptor.proofs.request.HandedOut.{keeps_all}
+use Rattle.gpu_descriptor.proofs.request.Requested.{load_within, pool_load_within, rows_apart, seen, seen_again, table_is, declined_by_limit, declined_by_bound, declined_unserved, given_fits, counted_now, takes_of, books_at}
 use Rattle.gpu_descriptor.specs.Caller.SetLists.{appended}
 use Rattle.gpu_descriptor.proofs.request.Passed.{passed}
 use Rattle.gpu_descriptor.proofs.allocator.DescriptorAllocator.serve_if_allowed.Goals.{After-from-taken}
@@ -79,17 +81,29 @@ returns-clause-taken g c =
 pub returns-clause-keys : goal.returns-clause-keys
 returns-clause-keys g c = keys_seen (key_of c.args.request.now.key) c.args.self.now (seen 0 None 0 0 c.serve.new.self.buckets.entries) c.self.inside.table.buckets.entries c.serve.new.self.buckets.entries (table_is _ c.self.view_is) refl c.in_ok-ended.ensures.serves.keys
 
-pub returns-clause-within : goal.returns-clause-within
-returns-clause-within g c = keeps_limit refl (counted g (goal.at.returns-clause-within g c).After-from-taken) c.serve.new.self.distinct g.D.DescriptorDevice.meaning.pool_name
+pub returns-clause-keeps : goal.returns-clause-keeps
+returns-clause-keeps g c =
+    let fs = c.serve.new.self.buckets.entries in
+    let all = counted g (goal.at.returns-clause-keeps g c).After-from-taken in
+    let now : Allocations _ = seen c.self.inside.max_update_after_bind_descriptors_in_all_pools c.serve.new.budget.most c.serve.new.budget.looks.count c.self.inside.comparisons.count fs in
+    keeps_all {new = now}
+    (takes_of fs c.in_ok-ended.ensures.serves.served c.self.view_is (opened c.self.invariant) c.would_exceed_limit.ensures c.if-would_exceed_limit.false c.would_exceed_64_bits.ensures c.if-would_exceed_64_bits.false)
+    c.requires.agree.books (rows_apart {a = now} fs refl g.D.DescriptorDevice.meaning.pool_name c.serve.new.self.distinct) (ap (λ (a : Allocations _). a.limit) c.self.view_is)
+    (c.in_ok-ended.ensures.serves.most ∙ ap (λ (a : Allocations _). a.most) c.self.view_is) (load_within {a = now} fs refl all) (pool_load_within {a = now} fs refl all)
 
-pub returns-then-would_exceed_limit-clause-within : goal.returns-then-would_exceed_limit-clause-within
-returns-then-would_exceed_limit-clause-within g c = keeps_limit c.self.view_is (opened c.self.invariant) c.self.inside.table.distinct g.D.DescriptorDevice.meaning.pool_name
+pub returns-then-would_exceed_limit-clause-keeps : goal.returns-then-would_exceed_limit-clause-keeps
+returns-then-would_exceed_limit-clause-keeps g c = keeps_still refl refl c.requires.agree (load_within _ c.self.view_is (opened c.self.invariant)) (pool_load_within _ c.self.view_is (opened c.self.invariant))
 
-pub returns-then-would_exceed_64_bits-clause-within : goal.returns-then-would_exceed_64_bits-clause-within
-returns-then-would_exceed_64_bits-clause-within g c = keeps_limit c.self.view_is (opened c.self.invariant) c.self.inside.table.distinct g.D.DescriptorDevice.meaning.pool_name
+pub returns-then-would_exceed_64_bits-clause-keeps : goal.returns-then-would_exceed_64_bits-clause-keeps
+returns-then-would_exceed_64_bits-clause-keeps g c = keeps_still refl refl c.requires.agree (load_within _ c.self.view_is (opened c.self.invariant)) (pool_load_within _ c.self.view_is (opened c.self.invariant))
 
-pub returns-in_err-ended-clause-within : goal.returns-in_err-ended-clause-within
-returns-in_err-ended-clause-within g c = rw c.in_err-ended.ensures.serves.entries (keeps_limit refl (opened c.self.invariant) c.self.inside.table.distinct g.D.DescriptorDevice.meaning.pool_name)
+pub returns-in_err-ended-clause-keeps : goal.returns-in_err-ended-clause-keeps
+returns-in_err-ended-clause-keeps g c =
+    let serves = c.in_err-ended.ensures.serves in
+    let same = seen_again _ c.self.view_is _ serves.entries (ap (λ b. b.looks.count) serves.budget) (ap (λ b. b.most) serves.budget) in
+    keeps_still same serves.ledger c.requires.agree
+    (subst (λ (a : Allocations _). marked_load_of a ≤ a.limit) (sym same) (load_within _ c.self.view_is (opened c.self.invariant)))
+    (subst (λ (a : Allocations _). pool_load_of a ≤ a.limit) (sym same) (pool_load_within _ c.self.view_is (opened c.self.invariant)))
 
 pub serve-requires-clause-booked : goal.serve-requires-clause-booked
 serve-requires-clause-booked g c =

@@ -40,6 +40,9 @@ walk-walked-requires-clause-booked g c =
     (map (entry_of g.D.DescriptorDevice.meaning.pool_name) q.items))
     (sym c.new-view.ensures.pools) c.requires.booked
 
+pub walk-walked-requires-clause-rising : goal.walk-walked-requires-clause-rising
+walk-walked-requires-clause-rising g c = ap (λ (q : VecDeque (DescriptorPool g.row.P.Denot) Global). rises (stored_numbers q.items)) c.new-view.ensures.pools ∙ c.args.self.now.rising
+
 pub returns-clause-walked : goal.returns-clause-walked
 returns-clause-walked g c =
     let at = (goal.at.returns-clause-walked g c).After-walk-walked in

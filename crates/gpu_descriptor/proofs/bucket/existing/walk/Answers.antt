@@ -25,7 +25,7 @@ loop-sink-init g c = record {
       rw c.requires.left
       (open_walk_start g.D.DescriptorDevice.meaning.pool_name (key_of c.args.request.now.key) c.args.request.now.count
       c.args.view.now.id c.args.view.now.offset c.args.view.now.pools.now.items c.args.view.now.listed.now.items
-      (g.D.DescriptorDevice.ledger c.args.device.now) c.requires.listed);
+      (g.D.DescriptorDevice.ledger c.args.device.now) c.requires.listed c.requires.booked c.requires.rising);
   space = refl;
   kept = (refl, refl, refl, refl, refl);
   own = λ first before. before;

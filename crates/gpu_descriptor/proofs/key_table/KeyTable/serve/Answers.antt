@@ -1,53 +1,46 @@
 use Rattle.gpu_descriptor.proofs.Common.{ℕ, List, refl, sym, ap, ◌∙◌, subst, arith, IsDistinct, Bucket, key_eq, key_of, next_number, rises, ◌++◌, ◌∷◌, [], AreBookedIn, stored_keys, IsUnserved}
 use Rattle.gpu_descriptor.proofs.table.Rising.{ids_put}
-use Rattle.gpu_descriptor.proofs.table.RowAt.{IsAt, is_at, keys_at, row_at, written_at}
-use Rattle.indexmap.specs.Layout.{set_value_at}
+use Rattle.gpu_descriptor.proofs.table.RowAt.{IsAt, is_at, keys_at, present, put_same}
 use Rattle.gpu_descriptor.proofs.cleanup.KeyOrder.{keys_stay}
-use Rattle.gpu_descriptor.proofs.sums.Loads.{IsRow, IsWritten, total_present, pools_set}
-use Rattle.gpu_descriptor.proofs.request.InTable.{present, serves_present, written-same}
+use Rattle.gpu_descriptor.proofs.sums.Loads.{total_present, pools_set}
+use Rattle.gpu_descriptor.proofs.request.InTable.{serves_present}
 use Rattle.gpu_descriptor.proofs.request.Passed.{passed}
 use Rattle.gpu_descriptor.proofs.request.Serving.{is_served, next, unserved}
-use Rattle.gpu_descriptor.proofs.key_table.KeyTable.serve.Goals.{After-index_mut-bucket, After-take}
+use Rattle.gpu_descriptor.proofs.key_table.KeyTable.serve.Goals.{After-index_mut-bucket}
 use Rattle.gpu_descriptor.proofs.key_table.KeyTable.serve.Goals as goal
 
 -- the place has the key
 there : (g : _) (c : After-index_mut-bucket g) → IsAt (key_of c.args.request.now.key) c.args.self.now.buckets.entries c.in-Some.place c.index_mut-bucket.result.now
 there g c = is_at (key_of c.args.request.now.key) c.args.self.now.buckets.entries c.in-Some.place c.index_mut-bucket.result.now c.in-Some.ensures.place c.index_mut-bucket.ensures.value
 
-row : (g : _) (c : After-index_mut-bucket g) → IsRow (key_of c.args.request.now.key) c.args.self.now.buckets.entries c.index_mut-bucket.result.now
-row g c = row_at (key_of c.args.request.now.key) c.args.self.now.distinct (there g c)
-
 pub returns-in_err-prepare : goal.returns-in_err-prepare
 returns-in_err-prepare g c =
     let at = (goal.at.returns-in_err-prepare g c).After-index_mut-bucket in
     let name = g.D.DescriptorDevice.meaning.pool_name in
-    let same = written-same (written_at (key_of c.args.request.now.key) c.args.self.now.distinct (there g at) _ c.index_mut-bucket.result.now refl) refl in
+    let same = put_same c.args.self.now.buckets.entries c.in-Some.place (there g at).key c.index_mut-bucket.result.now (there g at).at in
     record {
       serves = unserved c.args.self.now.buckets.entries (passed c.from_residual.result c.in_err-prepare.field-0.0 c.from_residual.ensures.1)
-          (subst (λ (n : ℕ). IsUnserved c.args.request.now.count n c.in_err-prepare.field-0.0) (next name c.index_mut-bucket.result.now.id c.index_mut-bucket.result.now.pools.items ∙ ap next_number (sym (present name (row g at)))) c.in_err-prepare.ensures.refused) c.prepare.ensures.sets same;
+          (subst (λ (n : ℕ). IsUnserved c.args.request.now.count n c.in_err-prepare.field-0.0) (next name c.index_mut-bucket.result.now.id c.index_mut-bucket.result.now.pools.items ∙ ap next_number (sym (present name c.args.self.now.distinct (there g at)))) c.in_err-prepare.ensures.refused) c.prepare.ensures.sets same;
     }
 
 pub take-requires-clause-booked : goal.take-requires-clause-booked
 take-requires-clause-booked g c =
-    subst (λ (b : Bucket). AreBookedIn (key_of c.args.request.now.key) (g.D.DescriptorDevice.ledger c.args.device.now).pools b.pools) (present g.D.DescriptorDevice.meaning.pool_name (row g (goal.at.take-requires-clause-booked g c).After-index_mut-bucket)) c.requires.booked
+    subst (λ (b : Bucket). AreBookedIn (key_of c.args.request.now.key) (g.D.DescriptorDevice.ledger c.args.device.now).pools b.pools) (present g.D.DescriptorDevice.meaning.pool_name c.args.self.now.distinct (there g (goal.at.take-requires-clause-booked g c).After-index_mut-bucket)) c.requires.booked
 
 pub take-requires-clause-bound : goal.take-requires-clause-bound
 take-requires-clause-bound g c =
-    let below = total_present (row g (goal.at.take-requires-clause-bound g c).After-index_mut-bucket) in
+    let below = total_present (there g (goal.at.take-requires-clause-bound g c).After-index_mut-bucket) in
     let all = c.requires.bound in
     omega arith
 
-left : (g : _) (c : After-take g) → IsWritten (key_of c.args.request.now.key) c.args.self.now.buckets.entries (set_value_at c.args.self.now.buckets.entries c.in-Some.place c.take.new.self) c.index_mut-bucket.result.now c.take.new.self
-left g c = written_at (key_of c.args.request.now.key) c.args.self.now.distinct (there g (goal.at-After-take g c).After-index_mut-bucket) _ _ refl
-
 pub returns-in-Some : goal.returns-in-Some
 returns-in-Some g c =
-    let wrote = left g (goal.at.returns-in-Some g c).After-take in
+    let at = there g (goal.at.returns-in-Some g c).After-index_mut-bucket in
     let es = c.args.self.now.buckets.entries in
     record {
       serves = is_served es c.index_mut-bucket.result.now.id c.index_mut-bucket.result.now.pools.items c.index_mut-bucket.result.now.total c.take.new.self c.prepare.ensures.sets c.in_ok-prepare.ensures.numbers c.take.ensures.appends c.take.ensures.all c.take.ensures.total c.take.ensures.taken
-          (λ served total. serves_present c.args.request.now.key c.take.new.self served total es refl refl wrote)
-          (keys_at es c.in-Some.place c.take.new.self ∙ keys_stay (key_of c.args.request.now.key) (stored_keys es) c.in-Some.place c.in-Some.ensures.place) (pools_set wrote _ _ c.take.ensures.room) c.take.ensures.most c.take.ensures.looks;
+          (λ served total. serves_present c.args.request.now.key c.take.new.self served total es c.args.self.now.distinct refl refl at refl)
+          (keys_at es c.in-Some.place c.take.new.self ∙ keys_stay (key_of c.args.request.now.key) (stored_keys es) c.in-Some.place c.in-Some.ensures.place) (pools_set at c.take.new.self _ _ c.take.ensures.room) c.take.ensures.most c.take.ensures.looks;
     }
 
 pub invariant_of-self : goal.invariant_of-self

@@ -1,4 +1,0 @@
-pub mod NameLemmas
-pub mod NumberLemmas
-pub mod TicketLemmas
-pub mod WordLemmas

@@ -1,7 +1,0 @@
-use Rattle.std.proofs.Common.{◌≡◌, take}
-use Rattle.descriptor_words.specs.Numbers.{value_of}
-use Rattle.descriptor_words.proofs.text.number_within.Given as goal
-
-abbrev pub invariant-loop-byte : goal.invariant-loop-byte
-invariant-loop-byte l =
-    l.value ≡ value_of (take l.byte-index l.word)
