@@ -1,4 +1,5 @@
-"""The tables of `bench/compare --memory`: pools while traces are played, and the worst cases by name."""
+"""The tables of `bench/compare --memory`: pools while traces are played, and the worst cases by name. The page has
+their rows, which are compared."""
 import importlib.machinery
 import importlib.util
 import os
@@ -19,6 +20,8 @@ CASES = {
     "different": "10,000 layouts come and go, each with its own counts",
     "limit": "under a limit of 500,000 the 500 sets of 1000 images that it has room for, then as many of 999",
 }
+
+PAGE = f"{HERE}/README.md"
 
 # The trace of the picture.
 DRAWN, PICTURE = "glmark2", f"{HERE}/memory.svg"
@@ -50,6 +53,33 @@ def played(columns):
             yield name, trace, {player: pools_of(columns[player], file) for player in PLAYERS}
 
 
+def has_row(checks, *cells):
+    """The page has this row of a table."""
+    with open(PAGE, encoding="utf-8") as it:
+        row = " | ".join(cells)
+        checks.equal(f"bench/README.md has the row '{row}'", row in it.read().splitlines(), True)
+
+
+def check_trace_row(name, peak, pools, checks):
+    """The row of a trace: of each player the pools at most and the sets that they hold, and what is left."""
+    cells = []
+    for player in ("pools", "crate", "renderer", "lists"):
+        _, count, sets, _ = zip(*pools[player])
+        left = f", left {count[-1]} of {sets[-1]:,}" if count[-1] else ""
+        cells.append(f"{max(count):,} of {max(sets):,}{left}")
+    has_row(checks, f"`{name}`", f"{peak:,}", *cells)
+
+
+def check_case_rows(name, cases, checks):
+    """The rows of a worst case. Columns with the same numbers, pools, sets and descriptors, share one."""
+    rows = {}
+    for column, case in cases.items():
+        cells = (f"{most:,} → {end:,}" if most != end else f"{most:,}" for most, end in zip(case["most"][:3], case["end"]))
+        rows.setdefault(tuple(cells), []).append(column)
+    for cells, names in rows.items():
+        has_row(checks, f"`{name}`", ", ".join(names), *cells)
+
+
 def print_traces(pools_by_trace, checks):
     print("pools of a trace, at most and at its end\n"
           f"{'trace':16}{'sets':>6} {'of':10}{'pools':>10}{'their sets':>16}{'descriptors':>18}")
@@ -59,6 +89,7 @@ def print_traces(pools_by_trace, checks):
             print(f"{name:16}{account_of(trace)['peak']:6} {player:10}{cells[0]:>10}{cells[1]:>16}{cells[2]:>18}")
         checks.equal(f"{name}: the program's own pools at the end", pools["pools"][-1][1], 0)
         checks.equal(f"{name}: the pools of C are the renderer's", pools["C"] == pools["renderer"], True)
+        check_trace_row(name, account_of(trace)["peak"], pools, checks)
 
 
 def case_of(words, name):
@@ -93,8 +124,9 @@ def print_cases(columns, checks):
           f"{'':10}{'pools':>14}{'their sets':>18}{'descriptors':>20}{'kB':>18}")
     for name, about in CASES.items():
         print(about)
-        for column in PLAYERS[1:]:
-            case = case_of(columns[column], name)
+        cases = {column: case_of(columns[column], name) for column in PLAYERS[1:]}
+        check_case_rows(name, cases, checks)
+        for column, case in cases.items():
             cells = [f"{most} {end}" for most, end in zip(case["most"][:3], case["end"])]
             cells.append(" ".join(f"{case[when][3] / 1000:.1f}" for when in ("most", "end")))
             got = f", sets: {' '.join(map(str, case['got']))}" if case["got"] else ""

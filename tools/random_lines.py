@@ -1,4 +1,4 @@
-"""Random programs of the line language (docs/LINES.md): some sets have so many descriptors that a pool has room for
+"""Random programs of the line language (rust/line-program/LINES.md): some sets have so many descriptors that a pool has room for
 few, and some programs end in a faulty line. `corrupt` puts something wrong or odd into one: faulty lines, lines
 about as long as a line may be, other ends of lines, bytes that are no text, a cut. A seed gives the same programs."""
 import random

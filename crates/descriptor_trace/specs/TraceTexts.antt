@@ -1,4 +1,4 @@
--- The lines of a trace (docs/LINES.md): what each says of its call, and of what the device returned.
+-- The lines of a trace (rust/line-program/LINES.md): what each says of its call, and of what the device returned.
 use Rattle.std.specs.Prelude.{ℕ, List, [], ◌++◌, ◌==◌, Bool, if◌then◌else◌, codes, sum, bit_and, Result, Ok, Err}
 use Rattle.std.specs.Fmt.{decimal}
 use Rattle.gpu_descriptor_types.specs.declared.errors.CreatePoolError.{CreatePoolError}

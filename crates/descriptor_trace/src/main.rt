@@ -1,5 +1,5 @@
 //! Runs the lines of standard input, and writes what the device was asked and what it answered to
-//! standard output (docs/LINES.md). The answers of the lines are dropped.
+//! standard output (rust/line-program/LINES.md). The answers of the lines are dropped.
 #![tactic(auto)]
 
 mod text;

@@ -1,4 +1,4 @@
-//! The lines of a trace (docs/LINES.md).
+//! The lines of a trace (rust/line-program/LINES.md).
 ghost use Rattle.std.specs.Prelude.{◌≡◌, ◌++◌, OnOk, codes, string_bytes};
 ghost use Rattle.gpu_descriptor_types.specs.Counts.{kinds};
 ghost use Rattle.gpu_descriptor_types.specs.Flags.{bits};

@@ -24,7 +24,7 @@ use gpu_descriptor::{
 use std::alloc::{AllocError, Global};
 use std::io::Write;
 
-/// The scripted device, each call of which is written as a line (docs/LINES.md). From the first
+/// The scripted device, each call of which is written as a line (rust/line-program/LINES.md). From the first
 /// line that can't be written on, nothing more is, and the device `has_lost`.
 #[derive(Drop)]
 pub struct Traced<W> {

@@ -18,31 +18,32 @@
  * Statuses: every function returns a gd_status. If it isn't GD_OK, the call changed no set that is
  * outstanding, and no count of these. A failed gd_allocate may have created pools, which are empty,
  * destroyed empty ones, or freed kept sets; any other failed call changed nothing of the allocator.
- * Outputs may be zeroed, as their function states. Of GD_INTERNAL_ERROR none of this holds. If several
+ * Outputs may be zeroed, as their function states. None of this holds after GD_INTERNAL_ERROR. If several
  * statuses apply, any of them may be returned.
  *
  * Ownership: gd_destroy frees the library's memory of an allocator and destroys its pools. The values
  * gd_allocator, gd_layout and gd_set own nothing: copy them as you like. Layouts are yours. Before you
  * destroy one, call gd_remove_layout: then no set of it is kept, and none is later.
  *
- * Kept sets: a set that is freed, at once or after a frame, is kept, and gd_allocate hands it out again
- * for the same layout under a new name, before it asks the driver for new ones. gd_keep says how many
- * are kept, at first all. A kept set isn't outstanding. Its descriptors are those that were written to
- * it last, and what they refer to may be destroyed by now. So write each set that you get, before you
- * bind it. A validation layer reports a new set that is bound without being written, and one that is freed
- * while the device uses it, but of a set that was kept it sees neither: so keep none in a debug build.
+ * Kept sets: a set that is freed, at once or after a frame, is kept, and gd_allocate reuses it for the same
+ * layout under a new name, before it asks the driver for new ones. gd_keep says how many are kept, at first
+ * all. A kept set isn't outstanding. Its descriptors are those that were written to it last, and what they
+ * refer to may be destroyed by now: write each set before you bind it. A validation layer reports a new set
+ * that is bound without being written, and one that is freed while the device uses it, but neither of a kept
+ * set: keep none in a debug build.
  *
- * Pointers must be valid, and arrays at least as long as their count. NULL is GD_NULL_POINTER, unless
- * the count is 0. While a call runs, nothing else writes the sets that it reads, or uses the memory that
- * it writes. A gd_allocator is zeroed, or gd_create wrote it.
+ * Pointers must be valid and aligned, and arrays at least as long as their count; outputs don't overlap. NULL
+ * is GD_NULL_POINTER, unless the count is 0. While a call runs, nothing else, one of your functions included,
+ * writes the sets that it reads, or uses the memory that it writes. A gd_allocator is zeroed, or gd_create
+ * wrote it.
  *
  * Threads: each function may be called from any thread. One call on an allocator runs at a time, and a
  * call that comes from another thread waits for its turn. A call from one of your functions, on the
  * allocator that called it, changes nothing and returns GD_BUSY. An allocator that was created with
  * GD_EXTERNALLY_SYNCHRONIZED doesn't wait: a call that comes while another runs is GD_BUSY, from another
- * thread too, so use a lock if threads share it. A library without std has only such ones. Two threads
- * whose functions call each the allocator that the other is in wait for ever. Make no call from a signal
- * handler.
+ * thread too, so use a lock if threads share it. A library without std has only such allocators. Two threads
+ * whose functions enter each other's allocator deadlock. Make no call from a signal handler, or from a forked
+ * child of a process with threads.
  *
  * Units: counts of sets are sets, counts of a layout or a pool are descriptors (for inline uniform
  * blocks: bytes, and bindings). Handles are the driver's own values, of 64 bits. The library compares
@@ -171,11 +172,11 @@ typedef struct gd_pool_info {
  * gd_create_pool returns one of them. Each other reason is what gd_allocate returns. For a status that
  * is no reason it returns GD_BAD_RESULT.
  *
- * They run inside of a call on the allocator, in its thread. They may call other allocators; a call on
- * the same one is GD_BUSY. They must return: not by longjmp, and not by a C++ exception, which would
- * end the program. For this their types are noexcept in C++. An allocator of which one left by longjmp is
- * stuck, and its pools stay: each later call of this thread on it is GD_BUSY, and those of others wait for
- * ever.
+ * They run inside a call on the allocator, in its thread. Nobody else may use the pools. They may call other
+ * allocators; a call on the same one is GD_BUSY. They must return: not by longjmp, and not by a C++ exception,
+ * which would end the program; for this their types are noexcept in C++. An allocator of which one left by
+ * longjmp is stuck, and its pools stay: each later call of this thread on it is GD_BUSY, and those of others
+ * wait for ever.
  */
 typedef gd_status (*gd_create_pool)(void *user, const gd_pool_info *info, uint64_t *pool) GD_NOEXCEPT;
 typedef void (*gd_destroy_pool)(void *user, uint64_t pool) GD_NOEXCEPT;
@@ -231,8 +232,8 @@ typedef struct gd_statistics {
     uint64_t peak_pool_sets;        /* the most that 'pool_sets' ever was */
     uint64_t peak_pool_descriptors; /* the most that 'pool_descriptors' ever was */
     uint64_t most_pool_descriptors; /* as gd_set_most_pool_descriptors was given it */
-    uint64_t update_after_bind_capacity; /* descriptors of the pools for update-after-bind layouts: so much
-                                            of the limit is used */
+    uint64_t update_after_bind_capacity; /* descriptors of all pools for update-after-bind layouts: how much
+                                            of the limit is in use */
     uint64_t update_after_bind_limit;    /* as gd_create was given it */
 } gd_statistics;
 
@@ -331,11 +332,12 @@ gd_status gd_add_variable_layout(gd_allocator allocator, uint64_t handle, uint32
 gd_status gd_set_allocate_variable_sets(gd_allocator allocator, gd_allocate_variable_sets function);
 
 /*
- * Removes a layout: call it before you destroy the layout, as the driver may give its handle to another.
- * From then on it is GD_BAD_LAYOUT, also once other layouts were added. Its kept sets go back to the
- * driver. Its outstanding sets stay valid until they are freed, and then go back to the driver too. The last
- * pool for its counts and flags stays, and counts against the limit, until gd_trim or gd_cleanup. It allocates
- * nothing. The time is linear in the number of its kept sets.
+ * Removes a layout: call it before you destroy the layout. Otherwise the next layout with the same handle,
+ * counts and flags is taken for it, and gets its kept sets. From then on it is GD_BAD_LAYOUT, even once other
+ * layouts were added. Its kept sets go back to the driver. Its outstanding sets stay valid until they are
+ * freed, and then go back to the driver too. The last pool for its counts and flags stays, and counts against
+ * the limit, until gd_trim or gd_cleanup. It allocates nothing. The time is linear in the number of its kept
+ * sets.
  *
  * GD_BAD_LAYOUT, GD_BAD_ALLOCATOR, GD_BUSY, GD_INTERNAL_ERROR.
  */

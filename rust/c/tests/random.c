@@ -1,6 +1,6 @@
 // Random requests over a driver that fails at random and checks each call (driver.h).
 //
-// The host writes its requests as a program for the line program (docs/LINES.md), and the output that it
+// The host writes its requests as a program for the line program (rust/line-program/LINES.md), and the output that it
 // expects of it. The line program has the same allocator over a scripted device, so the two agree in the
 // pool of each set, in each failure, and in the number of calls. The host counts the sets that it got, in
 // the order in which the driver allocated them, and writes these numbers as tickets. Sets that wait for a

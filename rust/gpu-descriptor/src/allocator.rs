@@ -21,9 +21,8 @@ const FIRST_BOUND: Option<u64> = if cfg!(feature = "bounded-pools") {
 
 /// Allocates descriptor sets of any layouts, from pools that it creates, sizes and destroys.
 ///
-/// If a device or an iterator of sets panics in a call, the allocator is poisoned: see
-/// [After a panic](crate#after-a-panic). The sets of a request that panicked are dropped, and their pools
-/// stay with the device.
+/// If a device or an iterator of sets panics in a call, the allocator is [poisoned](crate#after-a-panic). The
+/// sets of a request that panicked are dropped, and their pools stay with the device.
 ///
 /// A drop destroys no pools: see [At a drop](crate#at-a-drop).
 #[derive(Debug)]
@@ -90,8 +89,8 @@ impl<P, S> DescriptorAllocator<P, S> {
     ///
     /// # Panics
     ///
-    /// The allocator is poisoned, or the device granted more or fewer sets than it was asked for, or
-    /// put sets and refused.
+    /// If the device granted more or fewer sets than it was asked for, or put sets and refused, and if
+    /// [poisoned](crate#after-a-panic).
     pub unsafe fn allocate<L, D>(
         &mut self,
         device: &D,
@@ -116,15 +115,15 @@ impl<P, S> DescriptorAllocator<P, S> {
     ///
     /// # Safety
     ///
-    /// As of [`allocate`](Self::allocate), for what `layout` keeps.
+    /// Same as [`allocate`](Self::allocate), for what `layout` keeps.
     ///
     /// # Errors
     ///
-    /// As of `allocate`.
+    /// Same as `allocate`.
     ///
     /// # Panics
     ///
-    /// As of `allocate`.
+    /// Same as `allocate`.
     pub unsafe fn allocate_for<L, D: DescriptorDevice<L, P, S>>(
         &mut self,
         device: &D,
@@ -145,15 +144,15 @@ impl<P, S> DescriptorAllocator<P, S> {
     ///
     /// # Safety
     ///
-    /// As of [`allocate`](Self::allocate), for what `layout` keeps.
+    /// Same as [`allocate`](Self::allocate), for what `layout` keeps.
     ///
     /// # Errors
     ///
-    /// As of `allocate`.
+    /// Same as `allocate`.
     ///
     /// # Panics
     ///
-    /// As of `allocate`.
+    /// Same as `allocate`.
     pub unsafe fn allocate_into<L, D: DescriptorDevice<L, P, S>>(
         &mut self,
         device: &D,
@@ -175,15 +174,15 @@ impl<P, S> DescriptorAllocator<P, S> {
     ///
     /// # Safety
     ///
-    /// As of [`allocate`](Self::allocate), for what `layout` keeps.
+    /// Same as [`allocate`](Self::allocate), for what `layout` keeps.
     ///
     /// # Errors
     ///
-    /// As of `allocate`.
+    /// Same as `allocate`.
     ///
     /// # Panics
     ///
-    /// As of `allocate`.
+    /// Same as `allocate`.
     pub unsafe fn allocate_one<L, D: DescriptorDevice<L, P, S>>(
         &mut self,
         device: &D,
@@ -206,14 +205,13 @@ impl<P, S> DescriptorAllocator<P, S> {
     ///   fewer than 2^24 allocators and managers.
     /// * No raw set was replaced through `raw_mut`.
     /// * No command buffer into which one of the sets was bound is pending, or is submitted again before it
-    ///   is recorded anew.
+    ///   is recorded again.
     ///
     /// # Panics
     ///
-    /// A set is of another allocator: the sets before it were freed, it is dropped, and the allocator can
-    /// still be used. Or the allocator is poisoned, or the device left sets in the iterator that it was
-    /// given. While the thread unwinds a poisoned allocator does nothing instead; without std it panics
-    /// even then, which ends the program.
+    /// If a set is of another allocator: the sets before it were freed, it is dropped, and the allocator can
+    /// still be used. If the device left sets in the iterator that it was given, and if
+    /// [poisoned](crate#after-a-panic).
     pub unsafe fn free<L, D, I>(&mut self, device: &D, sets: I)
     where
         D: DescriptorDevice<L, P, S>,
@@ -235,8 +233,7 @@ impl<P, S> DescriptorAllocator<P, S> {
     ///
     /// # Panics
     ///
-    /// The allocator is poisoned. While the thread unwinds it does nothing instead; without std it panics
-    /// even then, which ends the program.
+    /// If [poisoned](crate#after-a-panic).
     pub unsafe fn cleanup<L>(&mut self, device: &impl DescriptorDevice<L, P, S>) {
         let device = &mut Adapter { device };
         self.inner.call_in_drop(|inner| inner.cleanup(device));
@@ -252,16 +249,15 @@ impl<P, S> DescriptorAllocator<P, S> {
     ///
     /// # Panics
     ///
-    /// The allocator is poisoned. While the thread unwinds it does nothing instead; without std it panics
-    /// even then, which ends the program.
+    /// If [poisoned](crate#after-a-panic).
     pub unsafe fn trim<L>(&mut self, device: &impl DescriptorDevice<L, P, S>) {
         let device = &mut Adapter { device };
         self.inner.call_in_drop(|inner| inner.trim(device));
     }
 
     /// Bounds new pools from now on: each has at most `most` descriptors, of all kinds together, unless the
-    /// sets that a request still needs have more. So it holds no more sets than have `most` descriptors, or
-    /// than are needed, and at least one. Pools that exist stay.
+    /// sets that a request still needs have more. Therefore it holds no more sets than have `most`
+    /// descriptors, or than are needed, and at least one. Pools that exist stay.
     ///
     /// At first it is `None`, or `Some(65_536)` if the feature `bounded-pools` is on anywhere in the build.
     /// With `None` pools are as in gpu-descriptor 0.3.2, where a new one is for at least 64 sets
@@ -270,7 +266,7 @@ impl<P, S> DescriptorAllocator<P, S> {
     ///
     /// # Panics
     ///
-    /// The allocator is poisoned.
+    /// If [poisoned](crate#after-a-panic).
     pub fn set_most_pool_descriptors(&mut self, most: Option<u64>) {
         self.inner
             .call(|inner| inner.set_most_pool_descriptors(most));
@@ -283,19 +279,19 @@ impl<P, S> DescriptorAllocator<P, S> {
         self.inner.get().most_pool_descriptors()
     }
 
-    /// How many sets are outstanding.
+    /// How many sets are live: allocated and not freed.
     #[must_use]
     pub fn outstanding(&self) -> u64 {
         self.inner.get().outstanding()
     }
 
-    /// How many descriptors the outstanding sets of update-after-bind layouts have.
+    /// How many descriptors the live sets of update-after-bind layouts have.
     #[must_use]
     pub fn update_after_bind_descriptors(&self) -> u32 {
         self.inner.get().update_after_bind_descriptors()
     }
 
-    /// How many descriptors the pools for update-after-bind layouts have. So much of the limit is used.
+    /// How much of the limit is in use: the descriptors of all pools for update-after-bind layouts.
     #[must_use]
     pub fn update_after_bind_capacity(&self) -> u32 {
         self.inner.get().update_after_bind_capacity()

@@ -9,8 +9,8 @@ use std_alloc::vec::Vec;
 /// `refill` sets from the renderer by one call and gives as many back by one, so that threads seldom wait.
 ///
 /// Each set comes with its raw one, which takes no lock to read. To the renderer the sets of a cache are
-/// held: their pools stay, and a cache that is dropped leaves them to it. So [`flush`](Self::flush) each cache
-/// before a `cleanup` or `remove_layout`. Sets that wait for a frame don't go through a cache: pass those of a
+/// held: their pools stay, and a cache that is dropped leaves them to it. Therefore [`flush`](Self::flush) each
+/// cache before a `cleanup` or `remove_layout`. Sets that wait for a frame don't go through a cache: pass those of a
 /// thread and frame to one `destroy_sets`.
 ///
 /// ```
@@ -115,7 +115,7 @@ impl<S: Copy> SetCache<S> {
     ///
     /// # Safety
     ///
-    /// As of [`Renderer::free_sets`]. And the set is one of the layout, with its raw one, and is freed once.
+    /// Same as [`Renderer::free_sets`]. And the set is one of the layout, with its raw one, and is freed once.
     #[inline]
     pub unsafe fn free<L, P, D: DescriptorDevice<L, P, S>, G>(
         &mut self,
@@ -141,7 +141,7 @@ impl<S: Copy> SetCache<S> {
     ///
     /// # Safety
     ///
-    /// As of [`Renderer::free_sets`].
+    /// Same as [`Renderer::free_sets`].
     pub unsafe fn flush<L, P, D: DescriptorDevice<L, P, S>>(
         &mut self,
         renderer: &mut Renderer<L, P, S, D>,
@@ -159,7 +159,7 @@ impl<S: Copy> SetCache<S> {
     ///
     /// # Safety
     ///
-    /// As of [`Renderer::free_sets`].
+    /// Same as [`Renderer::free_sets`].
     unsafe fn give_back<L, P, D: DescriptorDevice<L, P, S>>(
         &mut self,
         count: usize,

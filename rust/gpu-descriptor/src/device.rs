@@ -17,8 +17,69 @@ use core::marker::PhantomData;
 ///
 /// A device may hold a lock or a `RefCell` borrow while it reads `layouts` and extends `sets`, since
 /// neither runs code of a device or of a caller. Reading the sets of a release may: in a call of `free`
-/// it reads the iterator that the caller passed. So the caller's iterator must not take a lock or a borrow
+/// it reads the iterator that the caller passed. Therefore the caller's iterator must not take a lock or a borrow
 /// that the device holds in `dealloc_descriptor_sets`.
+///
+/// A device of one's own, and an allocator over it:
+///
+/// ```
+/// use gpu_descriptor::{
+///     CreatePoolError, DescriptorAllocator, DescriptorDevice, DescriptorPoolCreateFlags,
+///     DescriptorSetLayoutCreateFlags, DescriptorTotalCount, DeviceAllocationError,
+/// };
+/// # use std::cell::Cell;
+///
+/// /// A device that only numbers its pools and sets.
+/// struct Device(Cell<u64>);
+/// # impl Device {
+/// #     fn next(&self) -> u64 {
+/// #         self.0.set(self.0.get() + 1);
+/// #         self.0.get()
+/// #     }
+/// # }
+///
+/// impl DescriptorDevice<u64, u64, u64> for Device {
+///     unsafe fn create_descriptor_pool(
+///         &self,
+///         _counts: &DescriptorTotalCount,
+///         _max_sets: u32,
+///         _flags: DescriptorPoolCreateFlags,
+///     ) -> Result<u64, CreatePoolError> {
+///         Ok(self.next())
+///     }
+///
+///     unsafe fn destroy_descriptor_pool(&self, _pool: u64) {}
+///
+///     unsafe fn alloc_descriptor_sets<'a>(
+///         &self,
+///         _pool: &mut u64,
+///         layouts: impl ExactSizeIterator<Item = &'a u64>,
+///         sets: &mut impl Extend<u64>,
+///     ) -> Result<(), DeviceAllocationError> {
+///         sets.extend(layouts.map(|_| self.next()));
+///         Ok(())
+///     }
+///
+///     unsafe fn dealloc_descriptor_sets(&self, _pool: &mut u64, sets: impl Iterator<Item = u64>) {
+///         sets.for_each(drop);
+///     }
+/// }
+///
+/// # fn main() -> Result<(), Box<dyn std::error::Error>> {
+/// let device = Device(Cell::new(0));
+/// let layout = 7;
+/// let flags = DescriptorSetLayoutCreateFlags::empty();
+/// let counts = DescriptorTotalCount { uniform_buffer: 1, ..Default::default() };
+///
+/// let limit = 500_000; // maxUpdateAfterBindDescriptorsInAllPools of the driver
+/// let mut allocator = DescriptorAllocator::new(limit);
+/// let sets = unsafe { allocator.allocate(&device, &layout, flags, &counts, 3) }?;
+/// assert_eq!(*sets[0].raw(), 2);
+/// unsafe { allocator.free(&device, sets) };
+/// unsafe { allocator.cleanup(&device) };
+/// # Ok(())
+/// # }
+/// ```
 pub trait DescriptorDevice<L, P, S> {
     /// Creates a pool for at most `max_sets` sets, which have at most these descriptors altogether.
     ///

@@ -43,8 +43,7 @@ use std_alloc::vec::Vec;
 /// and `retire_all` make no call of the device, and are safe: the sets are freed by `finish`, whose
 /// caller promises that the device is done with them.
 ///
-/// If a device or an iterator of sets panics in a call, the manager is poisoned: see
-/// [After a panic](crate#after-a-panic).
+/// If a device or an iterator of sets panics in a call, the manager is [poisoned](crate#after-a-panic).
 ///
 /// A drop destroys no pools: see [At a drop](crate#at-a-drop).
 #[derive(Debug)]
@@ -78,11 +77,11 @@ impl<P, S> FrameManager<P, S> {
     ///
     /// # Errors
     ///
-    /// As of `DescriptorAllocator::allocate`.
+    /// Same as `DescriptorAllocator::allocate`.
     ///
     /// # Panics
     ///
-    /// As of `DescriptorAllocator::allocate`.
+    /// Same as `DescriptorAllocator::allocate`.
     pub unsafe fn allocate<L, D: DescriptorDevice<L, P, S>>(
         &mut self,
         device: &D,
@@ -102,15 +101,15 @@ impl<P, S> FrameManager<P, S> {
     ///
     /// # Safety
     ///
-    /// As of `allocate`, for what `layout` keeps.
+    /// Same as `allocate`, for what `layout` keeps.
     ///
     /// # Errors
     ///
-    /// As of `allocate`.
+    /// Same as `allocate`.
     ///
     /// # Panics
     ///
-    /// As of `allocate`.
+    /// Same as `allocate`.
     pub unsafe fn allocate_for<L, D: DescriptorDevice<L, P, S>>(
         &mut self,
         device: &D,
@@ -131,15 +130,15 @@ impl<P, S> FrameManager<P, S> {
     ///
     /// # Safety
     ///
-    /// As of `allocate`, for what `layout` keeps.
+    /// Same as `allocate`, for what `layout` keeps.
     ///
     /// # Errors
     ///
-    /// As of `allocate`.
+    /// Same as `allocate`.
     ///
     /// # Panics
     ///
-    /// As of `allocate`.
+    /// Same as `allocate`.
     pub unsafe fn allocate_into<L, D: DescriptorDevice<L, P, S>>(
         &mut self,
         device: &D,
@@ -161,15 +160,15 @@ impl<P, S> FrameManager<P, S> {
     ///
     /// # Safety
     ///
-    /// As of `allocate`, for what `layout` keeps.
+    /// Same as `allocate`, for what `layout` keeps.
     ///
     /// # Errors
     ///
-    /// As of `allocate`.
+    /// Same as `allocate`.
     ///
     /// # Panics
     ///
-    /// As of `allocate`.
+    /// Same as `allocate`.
     pub unsafe fn allocate_one<L, D: DescriptorDevice<L, P, S>>(
         &mut self,
         device: &D,
@@ -179,7 +178,7 @@ impl<P, S> FrameManager<P, S> {
         self.inner.call(|inner| inner.allocate_one(device, layout))
     }
 
-    /// Reserves memory for so many more retired sets, so that retiring them can't fail with `Memory`.
+    /// Reserves memory for `additional` more retired sets, so that retiring them can't fail with `Memory`.
     ///
     /// # Errors
     ///
@@ -256,16 +255,14 @@ impl<P, S> FrameManager<P, S> {
     ///
     /// * Every call of this manager gets the same device.
     /// * No command buffer into which a set was bound that was retired at this frame or before is pending,
-    ///   or is submitted again before it is recorded anew.
+    ///   or is submitted again before it is recorded again.
     /// * The retired sets came from this manager. `retire` returns any other set if the process
     ///   creates fewer than 2^24 allocators and managers.
     /// * No raw set was replaced through `raw_mut`.
     ///
     /// # Panics
     ///
-    /// The manager is poisoned, or the device left sets in the iterator that it was given. While the thread
-    /// unwinds a poisoned manager does nothing instead; without std it panics even then, which ends the
-    /// program.
+    /// If the device left sets in the iterator that it was given, and if [poisoned](crate#after-a-panic).
     pub unsafe fn finish<L, D: DescriptorDevice<L, P, S>>(&mut self, device: &D, frame: u64) {
         let device = &mut Adapter { device };
         self.inner.call_in_drop(|inner| inner.finish(device, frame));
@@ -275,11 +272,11 @@ impl<P, S> FrameManager<P, S> {
     ///
     /// # Safety
     ///
-    /// As of [`DescriptorAllocator::free`](crate::DescriptorAllocator::free).
+    /// Same as [`DescriptorAllocator::free`](crate::DescriptorAllocator::free).
     ///
     /// # Panics
     ///
-    /// As of `DescriptorAllocator::free`.
+    /// Same as `DescriptorAllocator::free`.
     pub unsafe fn free<L, D, I>(&mut self, device: &D, sets: I)
     where
         D: DescriptorDevice<L, P, S>,
@@ -302,8 +299,7 @@ impl<P, S> FrameManager<P, S> {
     ///
     /// # Panics
     ///
-    /// The manager is poisoned. While the thread unwinds it does nothing instead; without std it panics
-    /// even then, which ends the program.
+    /// If [poisoned](crate#after-a-panic).
     pub unsafe fn cleanup<L>(&mut self, device: &impl DescriptorDevice<L, P, S>) {
         let device = &mut Adapter { device };
         self.inner.call_in_drop(|inner| inner.cleanup(device));
@@ -318,8 +314,7 @@ impl<P, S> FrameManager<P, S> {
     ///
     /// # Panics
     ///
-    /// The manager is poisoned. While the thread unwinds it does nothing instead; without std it panics
-    /// even then, which ends the program.
+    /// If [poisoned](crate#after-a-panic).
     pub unsafe fn trim<L>(&mut self, device: &impl DescriptorDevice<L, P, S>) {
         let device = &mut Adapter { device };
         self.inner.call_in_drop(|inner| inner.trim(device));
@@ -331,7 +326,7 @@ impl<P, S> FrameManager<P, S> {
     ///
     /// # Panics
     ///
-    /// The manager is poisoned.
+    /// If [poisoned](crate#after-a-panic).
     pub fn set_most_pool_descriptors(&mut self, most: Option<u64>) {
         self.inner
             .call(|inner| inner.set_most_pool_descriptors(most));
@@ -349,7 +344,7 @@ impl<P, S> FrameManager<P, S> {
         self.inner.get().outstanding()
     }
 
-    /// How many descriptors the pools for update-after-bind layouts have. So much of the limit is used.
+    /// How much of the limit is in use: the descriptors of all pools for update-after-bind layouts.
     #[must_use]
     pub fn update_after_bind_capacity(&self) -> u32 {
         self.inner.get().allocator().update_after_bind_capacity()
@@ -368,7 +363,7 @@ impl<P, S> FrameManager<P, S> {
         allocator.pool_count(counts, update_after_bind)
     }
 
-    /// The books of a pool, as of [`DescriptorAllocator::pool`](crate::DescriptorAllocator::pool).
+    /// The books of a pool, same as [`DescriptorAllocator::pool`](crate::DescriptorAllocator::pool).
     #[must_use]
     pub fn pool(
         &self,

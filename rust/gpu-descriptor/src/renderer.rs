@@ -1,9 +1,8 @@
-//! All descriptor sets of a renderer under handles: those of a frame, which come back once the device is
-//! done with the frame, and those that are held until they are freed or destroyed. What comes back is
-//! handed out again.
+//! All descriptor sets of a renderer under handles: sets of a frame, which are freed once the device is
+//! done with the frame, and sets that live until they are freed or destroyed. Freed sets are kept for reuse.
 //!
 //! A frame loop over a device of one's own. A material is replaced while frames that read it are in
-//! flight, so its set comes back once they are done.
+//! flight, so its set is freed once they are done.
 //!
 //! ```
 //! use gpu_descriptor::renderer::{Counts, Renderer};
@@ -78,7 +77,7 @@
 //! }
 //! // Of each of the last two frames a draw and a material wait.
 //! assert_eq!(renderer.counts(), Counts { held: 3, waiting: 4, kept: 0 });
-//! // These are all sets that the device ever made: in each later frame two came back, and came again.
+//! // The device made no other sets: each later frame freed two, and reused them.
 //! assert_eq!(renderer.device().sets.get(), 7);
 //!
 //! // .. the device is idle ..
@@ -110,26 +109,24 @@ static RENDERERS: AtomicU32 = AtomicU32::new(0);
 
 /// The descriptor sets of a renderer, over a device that it owns. `&D` is a device too.
 ///
-/// A frame is opened by `begin_frame`, gets any number of sets by `draw`, and is ended by
-/// `end_frame`. Its sets come back at the `gpu_done` of the frame or a later one; frames in
-/// between may be in flight. A set by `create_set`, `create_sets` or `create_sets_into` is held until it is
-/// freed at once by `free_sets`, or destroyed by `destroy_set` or `destroy_sets`: then it comes back at the
-/// next `gpu_done` of the frame of its last use or a later one. Memory for a set to come back is reserved
-/// before the set is asked for, so only `add_layout`, `draw`, `create_set`, `create_sets` and
-/// `create_sets_into` allocate. No handle comes twice, although memory follows the most sets that there were
-/// at a time.
+/// `begin_frame` opens a frame, `draw` allocates its sets, and `end_frame` ends it. Its sets are freed by the
+/// `gpu_done` of the frame or a later one; frames in between may be in flight. A set of `create_set`,
+/// `create_sets` or `create_sets_into` lives until `free_sets` frees it at once, or `destroy_set` or
+/// `destroy_sets` lets it wait: then the next `gpu_done` of the frame of its last use or a later one frees it.
+/// Memory to free a set is reserved when it is allocated, so only `add_layout`, `draw`, `create_set`,
+/// `create_sets` and `create_sets_into` allocate. No handle is given twice, although memory follows the peak
+/// number of sets.
 ///
 /// # Kept sets
 ///
-/// A set that comes back is kept, if no more sets of its layout are kept than [`set_keep`](Self::set_keep)
-/// says, at first all; otherwise the device frees it. `draw`, `create_set`, `create_sets` and
-/// `create_sets_into` hand kept sets of the layout out again, under new handles, before they ask the device
-/// for new ones. So in a frame loop the device soon allocates and frees no set.
+/// A freed set is kept, up to as many of its layout as [`set_keep`](Self::set_keep) says, at first all;
+/// otherwise the device frees it. `draw`, `create_set`, `create_sets` and `create_sets_into` reuse kept sets of
+/// the layout, under new handles, before they ask the device for new ones. In a frame loop the device
+/// therefore soon allocates and frees no set.
 ///
-/// The descriptors of a kept set are those that were written to it last, and what they refer to may be
-/// destroyed by now. So write each set that you get, before you bind it. A new set has no descriptors,
-/// and a validation layer reports that it is bound without; of a kept one it can't. So call `set_keep(0)`
-/// in a debug build: it keeps none, and the layer reports a set that isn't written.
+/// A kept set has the descriptors that were written to it last, and what they refer to may be destroyed by
+/// now. Write each set before you bind it. A validation layer reports a new set that is bound without being
+/// written, but not a kept one: call `set_keep(0)` in a debug build, which keeps none.
 ///
 /// The device frees the kept sets at a `cleanup`, `free_all` or `shutdown`, those of a layout at its
 /// `remove_layout`, and all if a new set is refused. They stay if the request alone exceeds the limit: see
@@ -151,8 +148,8 @@ static RENDERERS: AtomicU32 = AtomicU32::new(0);
 /// # Panics
 ///
 /// If the device panics in a call, or does what it may not (see
-/// [`DescriptorAllocator::allocate`](crate::DescriptorAllocator::allocate)), the renderer is poisoned:
-/// see [After a panic](crate#after-a-panic).
+/// [`DescriptorAllocator::allocate`](crate::DescriptorAllocator::allocate)), the renderer is
+/// [poisoned](crate#after-a-panic).
 ///
 /// A drop without `shutdown` destroys no pools: see [At a drop](crate#at-a-drop). The raw layouts, pools
 /// and sets are dropped before the device.
@@ -173,7 +170,7 @@ impl<L, P, S, D: DescriptorDevice<L, P, S>> Renderer<L, P, S, D> {
     ///
     /// # Panics
     ///
-    /// So many were made before in this process that there is no number left, 2^32 - 1.
+    /// If 2^32 - 1 were made before in this process: no number is left.
     #[must_use]
     pub fn new(device: D, max_update_after_bind_descriptors_in_all_pools: u32) -> Self {
         let number = RENDERERS.fetch_update(Ordering::Relaxed, Ordering::Relaxed, |number| {
@@ -230,8 +227,8 @@ impl<L, P, S, D: DescriptorDevice<L, P, S>> Renderer<L, P, S, D> {
 
     /// Removes a layout, and returns it. Its handle names none from now on, and none later. Its kept sets
     /// are freed, and then pools are destroyed as by
-    /// [`DescriptorAllocator::free`](crate::DescriptorAllocator::free). Its other sets stay as they are,
-    /// and aren't kept when they come back. It allocates nothing. The time is linear in the number of its
+    /// [`DescriptorAllocator::free`](crate::DescriptorAllocator::free). Its live sets stay as they are,
+    /// and aren't kept when they are freed. It allocates nothing. The time is linear in the number of its
     /// kept sets.
     ///
     /// # Errors
@@ -260,8 +257,8 @@ impl<L, P, S, D: DescriptorDevice<L, P, S>> Renderer<L, P, S, D> {
         self.inner.call(|inner| inner.skip_to(frame))
     }
 
-    /// A set of a layout for the open frame: the last one that was kept, or else a new one. The handle is
-    /// good until the frame ends, and the set comes back at the `gpu_done` of the frame.
+    /// Allocates a set of a layout for the open frame: the last one that was kept, or else a new one. The
+    /// handle is valid until the frame ends, and the `gpu_done` of the frame frees the set.
     ///
     /// If a new set is refused while sets of any layout are kept, all kept sets are freed and empty pools
     /// are destroyed, as by [`cleanup`](Self::cleanup), and `draw` retries once. It does not, and kept sets
@@ -278,19 +275,18 @@ impl<L, P, S, D: DescriptorDevice<L, P, S>> Renderer<L, P, S, D> {
         self.inner.call(|inner| inner.draw(layout))
     }
 
-    /// Ends the frame, if one is open: its sets wait for the device, and their handles name nothing from now
+    /// Ends the frame, if one is open: its sets wait for the device, and their handles are invalid from now
     /// on.
     ///
     /// # Panics
     ///
-    /// The renderer is poisoned. While the thread unwinds the call then does nothing instead; without std
-    /// it panics even then, which ends the program.
+    /// If [poisoned](crate#after-a-panic).
     pub fn end_frame(&mut self) {
         self.inner.call_in_drop(|inner| inner.end_frame());
     }
 
-    /// States that the device is done with this frame and those before it. The sets that wait for these
-    /// frames come back: they are kept, or freed, and then pools are destroyed as by
+    /// States that the device is done with this frame and those before it. Frees the sets that wait for these
+    /// frames: they are kept, or the device frees them, and then pools are destroyed as by
     /// [`DescriptorAllocator::free`](crate::DescriptorAllocator::free). It allocates nothing.
     ///
     /// The device is never done with an open frame, also with `u64::MAX`: its sets, and those destroyed
@@ -304,20 +300,18 @@ impl<L, P, S, D: DescriptorDevice<L, P, S>> Renderer<L, P, S, D> {
     ///
     /// # Panics
     ///
-    /// The renderer is poisoned. While the thread unwinds the call then does nothing instead; without std
-    /// it panics even then, which ends the program.
+    /// If [poisoned](crate#after-a-panic).
     pub unsafe fn gpu_done(&mut self, frame: u64) {
         self.inner.call_in_drop(|inner| inner.gpu_done(frame));
     }
 
     /// Frees all kept sets, and destroys all pools that then have no set, wherever they are. Call it
-    /// between levels, or when memory is short. The sets that are out aren't kept when they come back, so
-    /// that their pools become empty. Sets that come later are kept again.
+    /// between levels, or when memory is short. The sets that are live now aren't kept when they are freed, so
+    /// that their pools become empty. Sets that are allocated later are kept again.
     ///
     /// # Panics
     ///
-    /// The renderer is poisoned. While the thread unwinds the call then does nothing instead; without std
-    /// it panics even then, which ends the program.
+    /// If [poisoned](crate#after-a-panic).
     pub fn cleanup(&mut self) {
         self.inner.call_in_drop(|inner| inner.cleanup());
     }
@@ -327,8 +321,7 @@ impl<L, P, S, D: DescriptorDevice<L, P, S>> Renderer<L, P, S, D> {
     ///
     /// # Panics
     ///
-    /// The renderer is poisoned. While the thread unwinds the call then does nothing instead; without std
-    /// it panics even then, which ends the program.
+    /// If [poisoned](crate#after-a-panic).
     pub fn trim(&mut self) {
         self.inner.call_in_drop(|inner| inner.trim());
     }
@@ -358,7 +351,7 @@ impl<L, P, S, D: DescriptorDevice<L, P, S>> Renderer<L, P, S, D> {
     ///
     /// # Errors
     ///
-    /// The handle names no layout, or the request was refused, as of [`draw`](Self::draw). The renderer
+    /// The handle names no layout, or the request was refused (see [`draw`](Self::draw)). The renderer
     /// has the sets in use that it had. It is never `NoFrame`.
     #[inline]
     pub fn create_set(&mut self, layout: LayoutHandle) -> Result<SetHandle, RenderError> {
@@ -424,7 +417,7 @@ impl<L, P, S, D: DescriptorDevice<L, P, S>> Renderer<L, P, S, D> {
 
     /// Frees sets at once, all or none: they are kept, or the device frees them, neighbours of one pool in
     /// one call, and then pools are destroyed as by
-    /// [`DescriptorAllocator::free`](crate::DescriptorAllocator::free). Their handles name nothing from now
+    /// [`DescriptorAllocator::free`](crate::DescriptorAllocator::free). Their handles are invalid from now
     /// on. It allocates nothing.
     ///
     /// # Errors
@@ -438,16 +431,15 @@ impl<L, P, S, D: DescriptorDevice<L, P, S>> Renderer<L, P, S, D> {
     ///
     /// # Panics
     ///
-    /// The renderer is poisoned. While the thread unwinds the call then does nothing and returns `Ok`;
-    /// without std it panics even then, which ends the program.
+    /// If [poisoned](crate#after-a-panic).
     #[inline]
     pub unsafe fn free_sets(&mut self, sets: &[SetHandle]) -> Result<(), DestroyError> {
         let answer = self.inner.call_in_drop(|inner| inner.free_sets(sets));
         answer.unwrap_or(Ok(()))
     }
 
-    /// Destroys a set that was last used in a frame (0 if in none). It comes back at the next `gpu_done`
-    /// of that frame or a later one, and its handle names nothing from now on. It allocates nothing.
+    /// Destroys a set that was last used in a frame (0 if in none). The next `gpu_done` of that frame or a
+    /// later one frees it, and its handle is invalid from now on. It allocates nothing.
     ///
     /// # Errors
     ///
@@ -455,8 +447,7 @@ impl<L, P, S, D: DescriptorDevice<L, P, S>> Renderer<L, P, S, D> {
     ///
     /// # Panics
     ///
-    /// The renderer is poisoned. While the thread unwinds the call then does nothing and returns `Ok`;
-    /// without std it panics even then, which ends the program.
+    /// If [poisoned](crate#after-a-panic).
     pub fn destroy_set(&mut self, set: SetHandle, last_use: u64) -> Result<(), DestroyError> {
         let answer = self
             .inner
@@ -464,9 +455,9 @@ impl<L, P, S, D: DescriptorDevice<L, P, S>> Renderer<L, P, S, D> {
         answer.unwrap_or(Ok(()))
     }
 
-    /// Destroys all sets of the list, or none, which were last used in a frame (0 if in none). They come
-    /// back at the next `gpu_done` of that frame or a later one, and their handles name nothing from now on.
-    /// It allocates nothing.
+    /// Destroys all sets of the list, or none, which were last used in a frame (0 if in none). The next
+    /// `gpu_done` of that frame or a later one frees them, and their handles are invalid from now on. It
+    /// allocates nothing.
     ///
     /// # Errors
     ///
@@ -475,8 +466,7 @@ impl<L, P, S, D: DescriptorDevice<L, P, S>> Renderer<L, P, S, D> {
     ///
     /// # Panics
     ///
-    /// The renderer is poisoned. While the thread unwinds the call then does nothing and returns `Ok`;
-    /// without std it panics even then, which ends the program.
+    /// If [poisoned](crate#after-a-panic).
     pub fn destroy_sets(&mut self, sets: &[SetHandle], last_use: u64) -> Result<(), DestroyError> {
         let answer = self
             .inner
@@ -494,8 +484,7 @@ impl<L, P, S, D: DescriptorDevice<L, P, S>> Renderer<L, P, S, D> {
     ///
     /// # Panics
     ///
-    /// The renderer is poisoned. While the thread unwinds the call then does nothing instead; without std
-    /// it panics even then, which ends the program.
+    /// If [poisoned](crate#after-a-panic).
     pub unsafe fn free_all(&mut self) {
         self.inner.call_in_drop(|inner| inner.free_all());
     }
@@ -553,14 +542,14 @@ impl<L, P, S, D: DescriptorDevice<L, P, S>> Renderer<L, P, S, D> {
         self.inner.get().kept_count(layout)
     }
 
-    /// How many sets are out: held or waiting, and not kept. The time is that of `counts`.
+    /// How many sets are live: held or waiting, and not kept. The time is that of `counts`.
     #[must_use]
     pub fn outstanding(&self) -> u64 {
         let counts = self.counts();
         counts.held + counts.waiting
     }
 
-    /// How many descriptors the pools for update-after-bind layouts have. So much of the limit is used.
+    /// How much of the limit is in use: the descriptors of all pools for update-after-bind layouts.
     #[must_use]
     pub fn update_after_bind_capacity(&self) -> u32 {
         self.inner.get().update_after_bind_capacity()
@@ -604,9 +593,8 @@ impl<L, P, S, D: DescriptorDevice<L, P, S>> Renderer<L, P, S, D> {
     ///
     /// # Panics
     ///
-    /// The renderer is poisoned: its pools stay with the device, and [`into_device`](Self::into_device)
-    /// hands it back even so. While the thread unwinds the call then is `into_device`; without std it
-    /// panics even then, which ends the program.
+    /// If [poisoned](crate#after-a-panic): the pools stay with the device, which
+    /// [`into_device`](Self::into_device) still returns. While the thread unwinds, the call is `into_device`.
     pub unsafe fn shutdown(self) -> D {
         if !self.inner.is_poisoned() {
             return self.inner.into_inner().shutdown().device.device;

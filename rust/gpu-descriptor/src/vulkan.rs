@@ -5,36 +5,7 @@
 //! [`DescriptorAllocator`](crate::DescriptorAllocator), [`FrameManager`](crate::frames::FrameManager) and
 //! [`Renderer`](crate::renderer::Renderer) take it as any other device.
 //!
-//! # With ash
-//!
-//! ```ignore
-//! use ash::vk::{self, Handle};
-//! use gpu_descriptor::{DescriptorAllocator, vulkan};
-//!
-//! let functions = vulkan::Functions::load(|name| unsafe {
-//!     instance.get_device_proc_addr(device.handle(), name.as_ptr())
-//! })?;
-//! let handle = vulkan::DeviceHandle::from_raw(device.handle().as_raw());
-//! let gpu = unsafe { vulkan::Device::new(handle, functions) };
-//!
-//! // A layout that was created from `bindings`, a slice of vk::DescriptorSetLayoutBinding.
-//! let layout = vulkan::DescriptorSetLayout(layout.as_raw());
-//! let counts = vulkan::count_bindings(bindings.iter().map(|binding| {
-//!     let descriptor_type = vulkan::DescriptorType(binding.descriptor_type.as_raw());
-//!     (descriptor_type, binding.descriptor_count)
-//! }))?;
-//! let flags = vulkan::layout_flags(layout_info.flags.as_raw())?;
-//!
-//! let mut allocator = DescriptorAllocator::new(max_update_after_bind_descriptors_in_all_pools);
-//! let sets = unsafe { allocator.allocate(&gpu, &layout, flags, &counts, 2) }?;
-//! let first = vk::DescriptorSet::from_raw(sets[0].raw().0);
-//! // .. when no command buffer that uses the sets is pending ..
-//! unsafe { allocator.free(&gpu, sets) };
-//! unsafe { allocator.cleanup(&gpu) };
-//! ```
-//!
-//! `max_update_after_bind_descriptors_in_all_pools` is the field of that name in
-//! `VkPhysicalDeviceDescriptorIndexingProperties` or `VkPhysicalDeviceVulkan12Properties`.
+//! The [crate's root](crate#over-vulkan-with-ash) has the device, a layout and a set over ash.
 //!
 //! # Results
 //!

@@ -1,5 +1,5 @@
 //! The line program: each line of standard input is a call of the allocator, over a device that grants and
-//! refuses by a script, and each gets an answer on standard output. docs/LINES.md has the commands.
+//! refuses by a script, and each gets an answer on standard output. rust/line-program/LINES.md has the commands.
 //!
 //! Generated from proved sources are the modules `descriptor_script` and `descriptor_lines`,
 //! and `gpu_descriptor_types` and `gpu_descriptor`, which are the files of

@@ -10,7 +10,7 @@ use std::io::{self, ErrorKind, Read, Write};
 /// A line with its end, and all that it is answered.
 type Exchange = (&'static str, &'static str);
 
-/// Whole runs (docs/LINES.md has the commands). `pool s 1 10/54`: it has ten sets out, and 54 free places.
+/// Whole runs (rust/line-program/LINES.md has the commands). `pool s 1 10/54`: it has ten sets out, and 54 free places.
 const DIALOGUES: [&[Exchange]; 4] = [
     // Sizes of pools, between a comment and carriage returns.
     &[

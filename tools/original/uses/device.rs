@@ -94,7 +94,7 @@ pub enum Event {
     Panicked,
 }
 
-/// Why a run of the original ends: it is about to act otherwise by design (docs/DIFFERENCES.md).
+/// Why a run of the original ends: it is about to act otherwise by design (docs/MIGRATING.md).
 pub struct Departure {
     pub why: &'static str,
 

@@ -2,6 +2,7 @@
 //! those of the Vulkan specification.
 #![cfg(feature = "vulkan")]
 
+mod ash;
 mod count;
 mod driver;
 mod layout;
@@ -12,3 +13,4 @@ mod refuses;
 mod results;
 mod sets;
 mod variable;
+mod with_ash;
