@@ -6,13 +6,13 @@ from common import Counts, need, refuse
 # above it.
 COSTS = {
     "kept": ("a set is allocated, and freed", 2000, 100, 600, 197),
-    "frame": ("a frame of one set", 2000, 100, 600, 273),
-    "unkept": ("the same, and no sets are kept", 2000, 100, 600, 752),
-    "removed": ("a layout is added and removed, and has a set in between", 2000, 100, 600, 1049),
+    "frame": ("a frame of one set", 2000, 100, 600, 244),
+    "unkept": ("the same, and no sets are kept", 2000, 100, 600, 723),
+    "removed": ("a layout is added and removed, and has a set in between", 2000, 100, 600, 1178),
     "keys": ("a set of the first key and one of the last, by the allocator alone", 2000, 100, 600, 895),
-    "waits": ("a set is destroyed after a new frame, and no frame is done", 1, 1000, 3000, 754),
-    "grown": ("a set that stays", 1, 1000, 2000, 633),
-    "layout": ("a layout that stays", 1, 1000, 2000, 341),
+    "waits": ("a set is destroyed after a new frame, and no frame is done", 1, 1000, 3000, 702),
+    "grown": ("a set that stays", 1, 1000, 2000, 616),
+    "layout": ("a layout that stays", 1, 2000, 8000, 320),
 }
 
 

@@ -6,7 +6,7 @@ import os
 import sys
 from types import SimpleNamespace
 
-from common import TOP, account_of
+from common import TOP, Counts, account_of
 from trace_table import HERE, build_columns, finish, traces, written
 
 # Whose pools are measured in a trace; `pools` are the program's own.
@@ -27,17 +27,13 @@ PAGE = f"{HERE}/README.md"
 DRAWN, PICTURE = "glmark2", f"{HERE}/memory.svg"
 
 
-class Checks:
+class Checks(Counts):
     """How many values are as they must be."""
-
-    def __init__(self):
-        self.passed, self.failed = 0, 0
 
     def equal(self, what, value, expected):
         self.passed += value == expected
-        self.failed += value != expected
         if value != expected:
-            print(f"FAILED: {what}: {value}, not {expected}")
+            self.say(False, f"{what}: {value}, not {expected}")
 
 
 def pools_of(words, file):
@@ -113,6 +109,8 @@ def check_case(name, column, case, checks):
     elif name == "same":
         check("pools at most", case["most"][0], 1)
         check("bytes at most are below 8192", case["most"][3] < 8192, True)
+    elif name == "different" and column != "crate":
+        check("pools at most", case["most"][0], 1)
     elif name == "limit":
         check("descriptors at most", case["most"][2], 500_000)
         check("sets of the first layout, and of the second after all was given back", case["got"][::2], [500, 500])
@@ -187,5 +185,4 @@ def run(given):
     print_cases(columns, checks)
     with open(PICTURE, encoding="utf-8") as it:
         checks.equal(f"{os.path.relpath(PICTURE, TOP)} is what it draws", it.read() == drawn, True)
-    print(f"{checks.passed} passed, {checks.failed} failed")
-    sys.exit(checks.failed > 0)
+    sys.exit(checks.end())

@@ -9,7 +9,7 @@ import subprocess
 import sys
 import tempfile
 
-from common import SKIPPED, TOP, account_of, cargo_build, need, original_source, refuse, skip, write_package
+from common import SKIPPED, TOP, account_of, cargo_build, need, original_source, refuse, report, skip, write_package
 
 HERE = os.path.dirname(os.path.abspath(__file__))
 TRACES = f"{HERE}/traces"
@@ -69,13 +69,22 @@ def build_columns(allocator, over="counts"):
 
 
 def finish(words):
-    """What a program wrote, once it has ended well."""
+    """What a program wrote, on both outputs, once it has ended well."""
     ran = subprocess.run(words, capture_output=True, text=True)
     if ran.returncode == SKIPPED:
         skip(f"{ran.stderr.strip()}: apt-get install mesa-vulkan-drivers")
     if ran.returncode:
         refuse(f"{' '.join(words)} failed: {ran.stderr.strip()}", 1)
     return ran.stdout.strip(), ran.stderr
+
+
+def count(words):
+    """What a program wrote, and how many instructions it ran."""
+    said, told = finish([*CALLGRIND, *words])
+    found = re.search(r"Collected : (\d+)", told)
+    if found is None:
+        refuse(f"callgrind does not say what it counted of {' '.join(words)}", 1)
+    return said, int(found[1])
 
 
 def expected(trace, times):
@@ -109,21 +118,23 @@ def instructions(words, name, trace, file, how):
     """The instructions of a set, in passes after the first ones."""
     counted = []
     for times in (FEWER, MORE):
-        said, told = finish([*CALLGRIND, *words, file, str(times), *how])
+        said, number = count([*words, file, str(times), *how])
         require(name, trace, times, said)
-        counted.append(int(re.search(r"Collected : (\d+)", told)[1]))
+        counted.append(number)
     return (counted[1] - counted[0]) / (account_of(trace)["allocated"] * (MORE - FEWER))
 
 
-def faults(columns, name, trace, file, over_driver):
-    """What each column does otherwise than the trace says, or nothing. Over a driver a renderer with layouts that
-    stay must make no call after the first passes."""
-    for column, words in columns.items():
-        said, _ = finish([*words, file, "1"])
-        yield "" if said == expected(trace, 1) else f"{name} by {column}: {said}, not {expected(trace, 1)}"
-        if over_driver and column in ("renderer", "C"):
-            _, calls, _ = timed(words, name, trace, file, "timed", "stay")
-            yield f"{name} by {column}: {calls} calls a set" if calls else ""
+def checks(columns, over_driver):
+    """What each column does otherwise than a trace says. Over a driver a renderer with layouts that stay must make no
+    call after the first passes."""
+    for name, trace in traces():
+        with written(trace) as file:
+            for column, words in columns.items():
+                said, _ = finish([*words, file, "1"])
+                yield f"{name} by {column}", None if said == expected(trace, 1) else f"{said}, not {expected(trace, 1)}"
+                if over_driver and column in ("renderer", "C"):
+                    _, calls, _ = timed(words, name, trace, file, "timed", "stay")
+                    yield f"{name} by {column}, layouts stay", f"{calls} calls a set" if calls else None
 
 
 def traces():
@@ -167,24 +178,12 @@ def print_rows(columns, row, unit, width):
             print(f"{name:16}{account_of(trace)['allocated']:8}{cells}{stay}", flush=True)
 
 
-def check_all(columns, over_driver):
-    passed, failed = 0, 0
-    for name, trace in traces():
-        with written(trace) as file:
-            found = list(faults(columns, name, trace, file, over_driver))
-        print("".join(f"FAILED: {fault}\n" for fault in found if fault), end="")
-        passed, failed = passed + found.count(""), failed + len(found) - found.count("")
-        print(f"{name}: {found.count('')} of {len(found)} are as the trace says", flush=True)
-    print(f"{passed} passed, {failed} failed")
-    sys.exit(failed > 0)
-
-
 def run(given):
     """The table that was asked for."""
     columns = build_columns(given.allocator, "driver" if given.vulkan else "counts")
     each = lambda value: lambda *where: [f"{value(words, *where):10.1f}" for words in columns.values()]
     if given.check:
-        check_all(columns, given.vulkan)
+        sys.exit(report(checks(columns, given.vulkan)))
     elif given.vulkan:
         unit = f"nanoseconds, lowest of {given.runs}, of them the driver's, and calls of the driver,"
         print_rows(columns, lambda *where: row_over_driver(columns, given.runs, *where), unit, 21)

@@ -71,13 +71,13 @@ impl<'a, B: Bench> Renderer<'a, B> {
         self.gpu_done(number.saturating_sub(2));
     }
 
-    /// The device is done with this frame and those before it. The last set of a frame comes first.
+    /// The device is done with this frame and those before it. Their sets come back in the order of their use.
     fn gpu_done(&mut self, number: u64) {
         while let Some(frame) = self.frames.front_mut() {
             if frame.number > number {
                 break;
             }
-            let sets = mem::take(&mut frame.sets).into_iter().rev();
+            let sets = mem::take(&mut frame.sets).into_iter();
             self.frames.pop_front();
             if self.keeps {
                 sets.for_each(|(layout, set)| self.kept[layout].push(set));

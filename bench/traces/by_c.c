@@ -41,12 +41,10 @@ static void require(gd_status status) {
         abort();
 }
 
-void c_create_with(const gd_device *device, uint32_t limit);
 void c_create_with(const gd_device *device, uint32_t limit) {
     require(gd_create(device, limit, &allocator));
 }
 
-void c_create(void);
 void c_create(void) {
     gd_device device = {NULL, create_pool, destroy_pool, allocate_sets, free_sets};
     c_create_with(&device, UINT32_MAX);
@@ -55,7 +53,6 @@ void c_create(void) {
 #ifdef WITH_DRIVER
 PFN_vkVoidFunction driver_function(VkDevice of, const char *name);
 
-void c_create_over(VkDevice device);
 void c_create_over(VkDevice device) {
     gdv_device vulkan;
     require(gdv_load(&vulkan, device, NULL, driver_function));
@@ -64,34 +61,28 @@ void c_create_over(VkDevice device) {
 #endif
 
 // Over the device that counts each layout has a handle of its own, as the driver's are while they exist.
-gd_layout c_add_layout(uint64_t handle, const uint32_t *counts, uint32_t flags);
 gd_layout c_add_layout(uint64_t handle, const uint32_t *counts, uint32_t flags) {
     gd_layout layout;
     require(gd_add_layout(allocator, handle != 0 ? handle : next_handle++, counts, flags, &layout));
     return layout;
 }
 
-void c_remove_layout(gd_layout layout);
 void c_remove_layout(gd_layout layout) {
     require(gd_remove_layout(allocator, layout));
 }
 
-bool c_take(gd_layout layout, uint32_t count, gd_set *sets);
 bool c_take(gd_layout layout, uint32_t count, gd_set *sets) {
     return gd_allocate(allocator, layout, count, sets) == GD_OK;
 }
 
-void c_free(const gd_set *sets, uint32_t count);
 void c_free(const gd_set *sets, uint32_t count) {
     require(gd_free(allocator, sets, count));
 }
 
-void c_cleanup(void);
 void c_cleanup(void) {
     require(gd_cleanup(allocator));
 }
 
-uint64_t c_outstanding(void);
 uint64_t c_outstanding(void) {
     uint64_t sets;
     require(gd_outstanding(allocator, &sets));

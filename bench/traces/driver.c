@@ -77,7 +77,6 @@ static void create_device(void) {
 }
 
 // Makes the device. The program ends with 3 if there is no driver or no device.
-VkDevice driver_open(bool timed);
 VkDevice driver_open(bool timed) {
     create_device();
     is_timed = timed;
@@ -92,7 +91,6 @@ VkDevice driver_open(bool timed) {
 }
 
 // The driver's function of this name, or the one that times it.
-PFN_vkVoidFunction driver_function(VkDevice of, const char *name);
 PFN_vkVoidFunction driver_function(VkDevice of, const char *name) {
 #define RETURN(NAME)                                                                                     \
     if (is_timed && strcmp(name, "vk" #NAME) == 0)                                                       \
@@ -102,7 +100,6 @@ PFN_vkVoidFunction driver_function(VkDevice of, const char *name) {
 }
 
 // A layout with one binding for each kind that it counts. Its inline uniform blocks are one.
-VkDescriptorSetLayout driver_create_layout(const uint32_t *counts, uint32_t flags);
 VkDescriptorSetLayout driver_create_layout(const uint32_t *counts, uint32_t flags) {
     VkDescriptorSetLayoutBinding bindings[GD_KINDS];
     VkDescriptorSetLayoutCreateInfo info = {
@@ -118,19 +115,16 @@ VkDescriptorSetLayout driver_create_layout(const uint32_t *counts, uint32_t flag
     return layout;
 }
 
-void driver_reset_pool(VkDescriptorPool pool);
 void driver_reset_pool(VkDescriptorPool pool) {
     (void)(is_timed ? timed_ResetDescriptorPool : plain_ResetDescriptorPool)(device, pool, 0);
 }
 
 // The calls until now don't count.
-void driver_forget(void);
 void driver_forget(void) {
     calls = spent = 0;
 }
 
 // How many calls there were since driver_forget, and their time without the clock's own.
-uint64_t driver_account(uint64_t *time);
 uint64_t driver_account(uint64_t *time) {
     *time = spent - (spent < calls * of_the_clock ? spent : calls * of_the_clock);
     return calls;

@@ -30,7 +30,6 @@ static void change(uint64_t sets, uint64_t descriptors, bool is_marked, uint64_t
 }
 
 // 0 if the limit refuses the pool.
-uint64_t measured_create(uint64_t sets, uint64_t descriptors, bool is_marked);
 uint64_t measured_create(uint64_t sets, uint64_t descriptors, bool is_marked) {
     if (is_marked && descriptors > limit - marked)
         return 0;
@@ -38,30 +37,25 @@ uint64_t measured_create(uint64_t sets, uint64_t descriptors, bool is_marked) {
     return sets << SETS_SHIFT | descriptors << DESCRIPTORS_SHIFT | is_marked;
 }
 
-void measured_destroy(uint64_t pool);
 void measured_destroy(uint64_t pool) {
     uint64_t descriptors = pool >> DESCRIPTORS_SHIFT & ((UINT64_C(1) << (SETS_SHIFT - DESCRIPTORS_SHIFT)) - 1);
     change(pool >> SETS_SHIFT, descriptors, pool & 1, UINT64_MAX);
 }
 
-struct account measured_now(void);
 struct account measured_now(void) {
     return now;
 }
 
-struct account measured_most(void);
 struct account measured_most(void) {
     return most;
 }
 
 // The bytes that malloc has given.
-uint64_t measured_bytes(void);
 uint64_t measured_bytes(void) {
     struct mallinfo2 info = mallinfo2();
     return info.uordblks + info.hblkhd;
 }
 
-void measured_limit(uint32_t most_descriptors);
 void measured_limit(uint32_t most_descriptors) {
     limit = most_descriptors;
 }
@@ -94,7 +88,6 @@ static void free_sets(void *user, uint64_t pool, uint32_t count, const uint64_t 
 
 void c_create_with(const gd_device *device, uint32_t most_descriptors);
 
-void measured_create_in_c(void);
 void measured_create_in_c(void) {
     gd_device device = {NULL, create_pool, destroy_pool, allocate_sets, free_sets};
     c_create_with(&device, (uint32_t)limit);

@@ -29,7 +29,6 @@ static void find(const char *name, void *function) {
     memcpy(function, &found, sizeof found);
 }
 
-xcb_cookie xcb_destroy_window(void *connection, uint32_t window);
 xcb_cookie xcb_destroy_window(void *connection, uint32_t window) {
     xcb_destroy next;
     find("xcb_destroy_window", &next);
@@ -37,7 +36,6 @@ xcb_cookie xcb_destroy_window(void *connection, uint32_t window) {
     return next(connection, window);
 }
 
-int XDestroyWindow(void *display, unsigned long window);
 int XDestroyWindow(void *display, unsigned long window) {
     x_destroy next;
     find("XDestroyWindow", &next);

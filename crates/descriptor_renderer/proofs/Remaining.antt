@@ -2,8 +2,8 @@
 use Rattle.std.proofs.lemmas.Grind.{common_steps}
 use Rattle.std.proofs.Common.{◌≡◌, ℕ, suc, ◌<◌, ◌&&◌, Bool, true, false, List, [], ◌∷◌, length, if◌then◌else◌, Option, None, is_some, refl, ap, ◌∙◌, arith}
 use Rattle.descriptor_table.specs.Sets.{joined, sets_in}
-use Rattle.descriptor_table.specs.Slots.{slot_at, waits_for}
-use Rattle.descriptor_table.specs.Tables.{aged, count, holds, is_held_use, is_kept, vacated, waits}
+use Rattle.descriptor_table.specs.Slots.{slot_at, waits, waits_for}
+use Rattle.descriptor_table.specs.Tables.{aged, count, holds, is_held_use, is_kept, vacated}
 use Rattle.descriptor_table.specs.Slots.{Slot}
 use Rattle.descriptor_table.proofs.Counts.{count_none, none_count}
 use Rattle.descriptor_renderer.specs.Stores.{AreCleaned, is_placed}

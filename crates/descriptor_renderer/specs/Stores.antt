@@ -6,7 +6,7 @@ use Rattle.gpu_descriptor_types.specs.Meaning.{IsOfLayout, Meaning}
 use Rattle.gpu_descriptor_types.specs.Side.{Side, side}
 use Rattle.gpu_descriptor_types.specs.declared.device.DescriptorDevice.{Ghosts}
 use Rattle.gpu_descriptor.specs.Caller.Call.{layout_key}
-use Rattle.gpu_descriptor.specs.Caller.CleansUp.{TrimsPools}
+use Rattle.gpu_descriptor.specs.Caller.CleansUp.{TrimsKey, TrimsPools}
 use Rattle.gpu_descriptor.specs.Caller.Frees.{Returns}
 use Rattle.gpu_descriptor.specs.Caller.HandsOut.{HandsOut}
 use Rattle.gpu_descriptor.specs.Caller.Keeps.{Keeps}
@@ -20,8 +20,8 @@ use Rattle.gpu_descriptor.specs.declared.errors.AllocationError.TheVariants.{Out
 use Rattle.gpu_descriptor.specs.declared.layout.SetLayout.{SetLayout}
 use Rattle.gpu_descriptor.specs.declared.set.DescriptorSet.{DescriptorSet}
 use Rattle.descriptor_table.specs.Sets.{Names, sets_in, sets_of}
-use Rattle.descriptor_table.specs.Slots.{is_kept_of, is_live, slot_at}
-use Rattle.descriptor_table.specs.Tables.{Grows, HasRoom, Picks, Puts, Renews, Turns, Becomes, aged, came_under, count, current, generations_of, holds, is_kept, is_usable, place_at, lists_of, removed_at, slots_of, vacated, waits, MayBecome, IsBack, TurnEach}
+use Rattle.descriptor_table.specs.Slots.{is_kept_of, is_live, slot_at, waits}
+use Rattle.descriptor_table.specs.Tables.{Grows, HasRoom, Picks, Puts, Renews, Turns, Becomes, aged, came_under, count, current, generations_of, holds, is_kept, is_usable, place_at, lists_of, removed_at, slots_of, vacated, MayBecome, IsBack, TurnEach}
 use Rattle.descriptor_table.specs.declared.handle.SetHandle.{SetHandle}
 use Rattle.descriptor_table.specs.Slots.{Slot}
 use Rattle.descriptor_table.specs.declared.slot.Use.{Use}
@@ -298,15 +298,17 @@ module _ {L P S D : Type 0} {d : Ghosts D L P S} where
     pub turns : Turns test (IsBack vacated (generations_in old) (keep_of old)) (slots_in old) (slots_in new)
     pub back : GaveBack d.meaning (side_of old) (side_of new)
 
-  -- the kept sets of the layout were given back by one free_from, if there were any, and all other slots are as they were
-  pub record Removes (layout : ℕ) (old new : StoreOver d) : Type 0 where
+  -- the kept sets of the layout were given back by one free_from, if there were any, and all other slots are as they were. Then the empty pools of its key went
+  pub record Removes (known : L) (layout : ℕ) (old new : StoreOver d) : Type 0 where
     pub turns : Turns (is_kept_of layout) (Becomes vacated) (slots_in old) (slots_in new)
     -- one layout more of the number was removed. Each set that is left under the number came under one of these, so it isn't kept when it comes back
     pub generations : generations_in new ≡ removed_at layout (generations_in old)
     pub past : (p : ℕ) → (slot_at (slots_in new) p).layout ≡ layout → (slot_at (slots_in new) p).layout_generation < generations_in new layout
-    pub back : GaveBack d.meaning (side_of old) (side_of new)
+    pub mid : Side (Allocations P)
+    pub back : GaveBack d.meaning (side_of old) mid
     -- these, and those that are left, are those that there were
     pub gave : (t : Item) → count_of t (items_of d.meaning.set_name (sets_in (slots_in old))) ≡ count_of t (items_of d.meaning.set_name back.sets) + count_of t (items_of d.meaning.set_name (sets_in (slots_in new)))
+    pub trims : TrimsKey d.meaning (layout_key d.meaning known) mid (side_of new)
 
   -- the sets of the handles came back, and those that are not kept were given back by one free_from, if there were any
   pub record FreesEach (handles : List SetHandle) (old new : StoreOver d) : Type 0 where

@@ -125,6 +125,7 @@ impl<L, P, S, D: DescriptorDevice<L, P, S>> LayoutRegistry<L, P, S, D> {
     /// allocates nothing.
     pub fn remove(&mut self, handle: LayoutHandle) -> Option<SetLayout<L>>
         ensures layout { result ≡ layout_at self.old handle }
+        ensures meant { IfSome result (λ known. IsMeant D.meaning known) }
         ensures names { IsSome result → LoseNames (handle.slot ∷ []) (layouts_by self.old)
             (layouts_by self.new) }
         ensures slots { IsSome result → layout_slots self.new ≡ slice_set (layout_slots self.old)

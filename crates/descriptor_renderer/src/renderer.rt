@@ -4,8 +4,8 @@ ghost use Rattle.std.specs.Prelude.{IfErr, IfOk, IsErrOf, IsSome, None, OnErr, O
 ghost use Rattle.std.specs.Option.{option_copied};
 ghost use Rattle.gpu_descriptor.specs.Caller.CleansUp.{TrimsPools};
 ghost use Rattle.gpu_descriptor.specs.Caller.SetLayouts.{IsMeant};
-ghost use Rattle.descriptor_table.specs.Slots.{is_kept_of};
-ghost use Rattle.descriptor_table.specs.Tables.{Grows, KeepsUpTo, count, holds, is_kept, waits};
+ghost use Rattle.descriptor_table.specs.Slots.{is_kept_of, waits};
+ghost use Rattle.descriptor_table.specs.Tables.{Grows, KeepsUpTo, count, holds, is_kept};
 ghost use Rattle.descriptor_renderer.specs.LayoutRegistries.{layout_slots, registry_of};
 ghost use Rattle.descriptor_renderer.specs.Own.{HasSetsOf};
 ghost use Rattle.descriptor_renderer.specs.Stores.{AreCleaned, Cleans, Removes, Trims};
@@ -137,8 +137,9 @@ impl<L: Drop, P: Drop, S: Drop, D: DescriptorDevice<L, P, S>> Renderer<L, P, S, 
     }
 
     /// Removes a layout, and returns it. Its handle names none from now on, and none later. Its kept sets
-    /// are given back. Its other sets stay as they are, and aren't kept when they come back. It allocates
-    /// nothing.
+    /// are given back, and then the pools of its key that have no set are destroyed, as by the allocator's
+    /// `trim_layout`. Its other sets stay as they are, and aren't kept when they come back: a pool that they
+    /// leave empty may stay until `trim` or `cleanup`. It allocates nothing.
     ///
     /// It returns `NoLayout` if the handle names no layout, and then nothing changed.
     pub fn remove_layout(&mut self, layout: LayoutHandle) -> Result<SetLayout<L>, RenderError>
@@ -146,8 +147,8 @@ impl<L: Drop, P: Drop, S: Drop, D: DescriptorDevice<L, P, S>> Renderer<L, P, S, 
         ensures gone { OnOk result (layout_of self.new layout ≡ None) }
         ensures others { (other : LayoutHandle) → other ≢ layout → layout_of self.new other
             ≡ layout_of self.old other }
-        ensures removes { OnOk result (Removes layout.slot.place (store_of self.old)
-            (store_of self.new)) }
+        ensures removes { IfOk result (λ known. Removes known.layout layout.slot.place
+            (store_of self.old) (store_of self.new)) }
         ensures none_kept { OnOk result (kept_of layout self.new ≡ 0) }
         ensures names { sets_by self.new ≡ sets_by self.old }
         ensures no_layout { (IsErrOf result RenderError.NoLayout) ↔ (layout_of self.old layout ≡ None) }
@@ -162,7 +163,7 @@ impl<L: Drop, P: Drop, S: Drop, D: DescriptorDevice<L, P, S>> Renderer<L, P, S, 
     {
         match self.layouts.remove(layout) {
             Some(removed) => {
-                self.store.remove_layout(layout.place());
+                self.store.remove_layout(&removed, layout.place());
                 Ok(removed)
             }
             None => Err(RenderError::NoLayout),
@@ -253,8 +254,7 @@ impl<L: Drop, P: Drop, S: Drop, D: DescriptorDevice<L, P, S>> Renderer<L, P, S, 
         self.is_open
     }
 
-    /// How many sets are held, how many wait, and how many are kept. It goes over the layouts, and over
-    /// the frames that sets wait for.
+    /// How many sets are held, how many wait, and how many are kept. It goes over the layouts.
     pub fn counts(&self) -> Counts
         ensures held { result.held ≡ count holds (slots_of self.now) }
         ensures waiting { result.waiting ≡ count waits (slots_of self.now) }

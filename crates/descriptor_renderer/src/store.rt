@@ -7,8 +7,8 @@ ghost use Rattle.gpu_descriptor.specs.Caller.Sets.{raw_of};
 ghost use Rattle.gpu_descriptor.specs.Caller.States.{Agrees, outstanding_of, state_of};
 ghost use Rattle.gpu_descriptor.proofs.callers.OneAgreement.{Agrees-prop};
 ghost use Rattle.descriptor_table.specs.Sets.{find, sets_in};
-ghost use Rattle.descriptor_table.specs.Slots.{generation_at};
-ghost use Rattle.descriptor_table.specs.Tables.{HasListRoom, HasRoom, HasSettings, count, holds, is_kept, lists_with, settings_of, slots_of, waits};
+ghost use Rattle.descriptor_table.specs.Slots.{generation_at, waits};
+ghost use Rattle.descriptor_table.specs.Tables.{HasListRoom, HasRoom, HasSettings, count, holds, is_kept, lists_with, settings_of, slots_of};
 ghost use Rattle.descriptor_renderer.specs.Exact.{AreExactly};
 
 mod back;
@@ -171,7 +171,7 @@ impl<L: Drop, P: Drop, S: Drop, D: DescriptorDevice<L, P, S>> Store<L, P, S, D> 
         self.table.kept_total()
     }
 
-    /// How many sets wait for a frame. It goes over these frames.
+    /// How many sets wait for a frame.
     pub(crate) fn waiting(&self) -> u64
         ensures { result ≡ count waits (slots_in self.now) }
     {

@@ -1,68 +1,55 @@
--- The lists of slots, by the code's chains: for `SetTable::pick`, `link`, `settle`, `join`, `start` and others.
--- What `Listed` says of any lists, for those of sets (`AreLinked`, by `is_in`) and of frames (`AreFramed`, by `is_of`): that no slot is
--- in two lists (`apart`), and the slot past the end in none (`none`). `pick` takes a slot out of a list, `link` puts it into one.
+-- The lists of slots, by the code's chains: for `SetTable::pick`, `link`, `settle` and others. No slot is in two lists (`lists_apart`),
+-- and one that waits is in none. `pick` takes a slot out of a list, `link` puts it into one.
 use Rattle.std.proofs.lemmas.Grind.{common_steps}
-use Rattle.std.proofs.Common.{◌≡◌, ◌≢◌, ℕ, ◌+◌, ◌-◌, ◌<◌, ◌≤◌, ◌==◌, ◌&&◌, Bool, true, false, List, length, get_or, set, is_some, inl, inr, refl, sym, ap, subst, ◌∙◌, arith, ne_eqb, eqb-true}
-use Rattle.std.proofs.lemmas.List.{get_or-set_other, get_or-set_same, get_or_read, length-set}
+use Rattle.std.proofs.Common.{◌≡◌, ◌≢◌, ℕ, suc, ◌+◌, ◌-◌, ◌<◌, ◌≤◌, ◌&&◌, Bool, true, false, List, ◌∷◌, length, get_or, set, is_some, inl, inr, refl, sym, ap, subst, ◌∙◌, arith, add-one}
+use Rattle.std.proofs.lemmas.List.{get_or-set_other, get_or-set_same, length-set}
 use Rattle.std.proofs.lemmas.Bool.{false≢true, true≢false}
-use Rattle.descriptor_table.specs.Places.{walk}
-use Rattle.descriptor_table.specs.Slots.{AreFew, AreFramed, AreLinked, HasLists, IsListed, chain_at, chain_of, in_list, is_in, is_of, slot_at, waits_for}
+use Rattle.descriptor_table.specs.Places.{times, walk}
+use Rattle.descriptor_table.specs.Slots.{AreFew, AreLinked, HasLists, IsListed, IsNowhere, Lists, Slot, chain_at, in_list, is_in, slot_at, waits, waits_for}
 use Rattle.descriptor_table.specs.Tables.{is_kept, used_for}
 use Rattle.descriptor_table.specs.declared.slot.Use.{Use}
-use Rattle.descriptor_table.specs.declared.slot.Use.TheVariants.{Taken}
-use Rattle.descriptor_table.specs.Slots.{Slot}
+use Rattle.descriptor_table.specs.declared.slot.Use.TheVariants.{Held, Taken}
 use Rattle.descriptor_table.specs.declared.slot.Chain.{Chain}
-use Rattle.descriptor_table.specs.declared.slot.FrameChain.{FrameChain}
-use Rattle.descriptor_table.proofs.Counting.{same_or}
-use Rattle.descriptor_table.proofs.Listed.{IsApart, PassesNone, first_in, first_within, linked, one_more, other_slots, slot_set, still_linked, stay_linked, unlinked}
+use Rattle.descriptor_table.proofs.Counting.{same_or, walk_other}
+use Rattle.descriptor_table.proofs.Listed.{first_passes, lists_few, lists_other, lists_pop, lists_push, not_listed, one_none, other_slots, slot_set, test_within, walk_length}
 
 pub and_true : (a b : Bool) → (a && b) ≡ true → (a ≡ true) × (b ≡ true)
 and_true x0 x1 e = grind (arith, common_steps)
 
--- a slot is in one list, and waits for one frame
-apart_from : (j k l : ℕ) (more : Bool) → ((k == l) && more) ≡ true → j ≢ k → ((j == l) && more) ≡ false
-apart_from j k l more e ne =
-    let same : k ≡ l = eqb-true k l (and_true (k == l) more e).0 in
-    ap (λ b. b && more) (ne_eqb j l (λ f. ne (f ∙ sym same)))
-
+-- a slot is in one list
 one_list : (j k : ℕ) (u : Use) (layout generation : ℕ) (full : Bool) → in_list k u layout generation full ≡ true → j ≢ k → in_list j u layout generation full ≡ false
 one_list j k u layout generation full e ne = grind (arith, common_steps)
 
-one_frame : (j k : ℕ) (u : Use) (full : Bool) → (waits_for (λ w. k == w) u && full) ≡ true → j ≢ k → (waits_for (λ w. j == w) u && full) ≡ false
-one_frame j k u full e ne = grind (arith, common_steps)
-
--- a set in a list waits for no frame
-listed_no_frame : (f k : ℕ) (u : Use) (layout generation : ℕ) (full : Bool) → in_list k u layout generation full ≡ true → (waits_for (λ w. f == w) u && full) ≡ false
-listed_no_frame f k u layout generation full e = grind (arith, common_steps)
-
--- a set that waits for a frame is in no list
-pub framed_not_listed : (f k : ℕ) (u : Use) (layout generation : ℕ) (full : Bool) → (waits_for (λ w. f == w) u && full) ≡ true → in_list k u layout generation full ≡ false
-framed_not_listed f k u layout generation full e = grind (arith, common_steps)
-
--- so it is for whole slots; and the slot past the end, in which no set ever was, is in no list
-pub lists_apart : {T : Type 0} → IsApart {T = T} is_in
-lists_apart j k s e ne = one_list j k s.used s.layout s.generation (is_some s.set) e ne
-
-pub frames_apart : {T : Type 0} → IsApart {T = T} is_of
-frames_apart j k s e ne = one_frame j k s.used (is_some s.set) e ne
-
-pub lists_none : (T : Type 0) → PassesNone {T = T} is_in
-lists_none T k = refl
-
-pub frames_none : (T : Type 0) → PassesNone {T = T} is_of
-frames_none T k = refl
-
 module _ {T : Type 0} where
-  -- a slot that is in a list waits for no frame, and one that waits is in no list
-  pub in_no_frame : (k : ℕ) (s : Slot T) → is_in k s ≡ true → (f : ℕ) → is_of f s ≡ false
-  in_no_frame k s e f = listed_no_frame f k s.used s.layout s.generation (is_some s.set) e
+  -- so it is for whole slots
+  pub lists_apart : (j k : ℕ) (s : Slot T) → is_in k s ≡ true → j ≢ k → is_in j s ≡ false
+  lists_apart j k s e ne = one_list j k s.used s.layout s.generation (is_some s.set) e ne
 
-  pub in_no_list : (f : ℕ) (s : Slot T) → is_of f s ≡ true → (k : ℕ) → is_in k s ≡ false
-  in_no_list f s e k = framed_not_listed f k s.used s.layout s.generation (is_some s.set) e
+  -- a slot that is in a list doesn't wait, and one that waits is in no list
+  pub listed_out : (k : ℕ) (s : Slot T) → is_in k s ≡ true → waits s ≡ false
+  listed_out k s e = by_use k s.used s.layout s.generation (is_some s.set) e
+    where
+      by_use : (k : ℕ) (u : Use) (layout generation : ℕ) (full : Bool) → in_list k u layout generation full ≡ true → (waits_for (λ w. true) u && full) ≡ false
+      by_use k u layout generation full e = grind (arith, common_steps)
+
+  pub waits_no_list : (s : Slot T) → waits s ≡ true → (k : ℕ) → is_in k s ≡ false
+  waits_no_list s e k = by_use s.used s.layout s.generation (is_some s.set) e
+    where
+      by_use : (u : Use) (layout generation : ℕ) (full : Bool) → (waits_for (λ w. true) u && full) ≡ true → in_list k u layout generation full ≡ false
+      by_use u layout generation full e = grind (arith, common_steps)
 
   -- nor is it kept
-  pub waits_unkept : (f : ℕ) (s : Slot T) {X : Type 0} → is_of f s ≡ true → is_kept s ≡ true → X
-  waits_unkept f s waits kept = absurd (true≢false (sym kept ∙ in_no_list f s waits (s.layout + 2)))
+  pub waits_unkept : (s : Slot T) {X : Type 0} → waits s ≡ true → is_kept s ≡ true → X
+  waits_unkept s waiting kept = absurd (true≢false (sym kept ∙ waits_no_list s waiting (s.layout + 2)))
+
+  -- a set in such a use is in no list, and waits for no frame
+  pub nowhere_out : (s : Slot T) → IsNowhere s.used → (waits s ≡ false) × ((k : ℕ) → is_in k s ≡ false)
+  nowhere_out s n = by_use s.used n
+    where
+      by_use : (u : Use) → IsNowhere u → ((waits_for (λ w. true) u && is_some s.set) ≡ false) × ((k : ℕ) → in_list k u s.layout s.generation (is_some s.set) ≡ false)
+      by_use Held n = (refl, λ k. refl)
+      by_use Taken n = (refl, λ k. refl)
+      by_use x0 n = grind (arith, common_steps)
 
   pub taken_unkept : (s : Slot T) {X : Type 0} → is_kept (used_for Taken s) ≡ true → X
   taken_unkept s kept = absurd (false≢true kept)
@@ -70,17 +57,14 @@ module _ {T : Type 0} where
   pub taken_no_list : (s : Slot T) → s.used ≡ Taken → (k : ℕ) → is_in k s ≡ false
   taken_no_list s e k = ap (λ u. in_list k u s.layout s.generation (is_some s.set)) e
 
-  pub taken_no_frame : (s : Slot T) → s.used ≡ Taken → (f : ℕ) → is_of f s ≡ false
-  taken_no_frame s e f = ap (λ u. waits_for (λ w. f == w) u && is_some s.set) e
+  pub taken_out : (s : Slot T) → s.used ≡ Taken → waits s ≡ false
+  taken_out s e = ap (λ u. waits_for (λ w. true) u && is_some s.set) e
 
 pub chain_set : (chains : List Chain) (k : ℕ) (c : Chain) → k < length chains → chain_at (set chains k c) k ≡ c
 chain_set chains k c within = get_or-set_same chains k c (record { first = 0; count = 0 }) within
 
 pub other_chains : (chains : List Chain) (k : ℕ) (c : Chain) (j : ℕ) → j ≢ k → chain_at (set chains k c) j ≡ chain_at chains j
 other_chains chains k c j ne = get_or-set_other chains k j c (record { first = 0; count = 0 }) ne
-
-pub read_chain : (chains : List Chain) (k : ℕ) (c : Chain) → k < length chains → c ≡ get_or chains k c → c ≡ chain_at chains k
-read_chain chains k c within is = get_or_read chains k c within is (record { first = 0; count = 0 })
 
 -- a list of kept sets got shorter, or another list longer
 pub few_set : (most : ℕ) (chains : List Chain) (k : ℕ) (c : Chain) → AreFew most chains → k < length chains → (2 ≤ k → c.count ≤ most) → AreFew most (set chains k c)
@@ -107,55 +91,78 @@ module _ {T : Type 0} where
       let was = subst (IsListed lists generations) (sym is) (known p within) in
       lists_set slots p (used_for u w) lists generations known within (record { there = was.there; before = was.before; kept = current })
 
-one_before : (n : ℕ) → n ≢ 0 → n ≡ n - 1 + 1
-one_before n some = omega arith
+module _ {T : Type 0} (slots : List (Slot T)) (next : List ℕ) (chains : List Chain) (h : AreLinked slots next chains) where
+  -- the places of a list
+  abbrev places : ℕ → List ℕ
+  places k = walk (chain_at chains k).count next (chain_at chains k).first
 
--- a list that isn't empty, by its first place and how many come after it
-pub split_chain : (d c : Chain) → d ≡ c → c.count ≢ 0 → d ≡ record { first = c.first; count = c.count - 1 + 1 }
-split_chain d c e some = e ∙ (λ i. record { first = c.first; count = one_before c.count some i })
+  -- no slot is in a list that has none
+  pub none_in : (k : ℕ) → (chain_at chains k).count ≡ 0 → (p : ℕ) → is_in k (slot_at slots p) ≡ false
+  none_in k e p = one_none (is_in k (slot_at slots p)) (sym (h k p) ∙ ap (λ n. times p (walk n next (chain_at chains k).first)) e)
 
-module _ {T : Type 0} (slots : List (Slot T)) (next : List ℕ) (chains : List Chain) (k : ℕ) (c : Chain) (linked_all : AreLinked slots next chains) (is : chain_at chains k ≡ c) where
-  -- the first slot of a list, as the code has it
-  pub picked : c.count ≢ 0 → (c.first < length slots) × (is_in k (slot_at slots c.first) ≡ true)
-  picked some = (first_within is_in slots next (chain_at chains) linked_all (lists_none T) k (c.count - 1) c.first (split_chain (chain_at chains k) c is some), first_in is_in slots next (chain_at chains) linked_all k (c.count - 1) c.first (split_chain (chain_at chains k) c is some))
+  -- a slot that is in no list comes to none
+  pub out_linked : (p : ℕ) (s : Slot T) → p < length slots → ((k : ℕ) → is_in k (slot_at slots p) ≡ false) → ((k : ℕ) → is_in k s ≡ false) → AreLinked (set slots p s) next chains
+  out_linked p s within was now k = lists_other (is_in k) slots p s (places k) (h k) within (now k ∙ sym (was k))
 
-  -- the first slot left the list
-  pub pick_linked : (s : Slot T) (after : ℕ) → c.count ≢ 0 → k < length chains → after ≡ get_or next c.first 0 → ((j : ℕ) → is_in j s ≡ false) → AreLinked (set slots c.first s) next (set chains k (record { first = after; count = c.count - 1 }))
-  pick_linked s after some within told out =
-      let d : Chain = record { first = after; count = c.count - 1 } in
-      unlinked is_in slots next (chain_at chains) linked_all (lists_none T) lists_apart (chain_at (set chains k d)) k
-      (c.count - 1) c.first s (split_chain (chain_at chains k) c is some)
-      (ap (λ (d : Chain). walk d.count next d.first) (chain_set chains k d within)
-      ∙ ap (walk (c.count - 1) next) told)
-      (other_chains chains k d) out
+  module _ (p : ℕ) (s : Slot T) (within : p < length slots) (taken : (slot_at slots p).used ≡ Taken) where
+    -- a list that the slot isn't in stays, whatever its next is
+    other_places : (k x : ℕ) → walk (chain_at chains k).count (set next p x) (chain_at chains k).first ≡ places k
+    other_places k x = walk_other (chain_at chains k).count next (chain_at chains k).first p x (not_listed (is_in k) slots (places k) p (h k) (taken_no_list (slot_at slots p) taken k))
 
-  -- a slot that a call had came first in the list, which has no more places then than there are slots
-  pub link_linked : (p : ℕ) (s : Slot T) → p < length slots → length next ≡ length slots → k < length chains → (slot_at slots p).used ≡ Taken → is_in k s ≡ true → AreLinked (set slots p s) (set next p c.first) (set chains k (record { first = p; count = c.count + 1 }))
-  link_linked p s inside long within taken goes =
-      let d : Chain = record { first = p; count = c.count + 1 } in
-      linked is_in slots next (chain_at chains) linked_all lists_apart (chain_at (set chains k d)) k p c s is inside long (chain_set chains k d within) (other_chains chains k d) (taken_no_list (slot_at slots p) taken) goes
+    pub filled_linked : (x : ℕ) → ((k : ℕ) → is_in k s ≡ false) → AreLinked (set slots p s) (set next p x) chains
+    filled_linked x now k = subst (Lists (is_in k) (set slots p s)) (sym (other_places k x)) (out_linked p s within (taken_no_list (slot_at slots p) taken) now k)
 
-  pub link_more : (p : ℕ) (s : Slot T) → p < length slots → (slot_at slots p).used ≡ Taken → is_in k s ≡ true → c.count + 1 ≤ length slots
-  link_more p s inside taken goes =
-      let more = one_more is_in slots next (chain_at chains) linked_all (lists_none T) k p s inside (taken_no_list (slot_at slots p) taken) goes in
-      let same = ap (λ (d : Chain). d.count) is in
-      omega arith
+  -- one list changed
+  chain_changed : (slots' : List (Slot T)) (next' : List ℕ) (k : ℕ) (d : Chain) → k < length chains → Lists (is_in k) slots' (walk d.count next' d.first) → ((j : ℕ) → j ≢ k → Lists (is_in j) slots' (walk (chain_at chains j).count next' (chain_at chains j).first)) → AreLinked slots' next' (set chains k d)
+  chain_changed slots' next' k d within here others j = elim (same_or j k) [
+    | inl e ↦ subst (λ j. Lists (is_in j) slots' (walk (chain_at (set chains k d) j).count next' (chain_at (set chains k d) j).first)) (sym e) (subst (λ (c : Chain). Lists (is_in k) slots' (walk c.count next' c.first)) (sym (chain_set chains k d within)) here)
+    | inr ne ↦ subst (λ (c : Chain). Lists (is_in j) slots' (walk c.count next' c.first)) (sym (other_chains chains k d j ne)) (others j ne)
+  ]
 
--- a slot that leaves a list, or comes to one, waits for no frame before and after
-module _ {T : Type 0} (slots : List (Slot T)) (next : List ℕ) (frames : List FrameChain) (framed : AreFramed slots next frames) (p : ℕ) (s : Slot T) where
-  pub pick_framed : p < length slots → ((f : ℕ) → is_of f (slot_at slots p) ≡ false) → ((f : ℕ) → is_of f s ≡ false) → AreFramed (set slots p s) next frames
-  pick_framed within was now = stay_linked is_of slots next (chain_of frames) framed p s within (λ f. now f ∙ sym (was f))
+  module _ (k : ℕ) (c : Chain) (is : chain_at chains k ≡ c) where
+    -- a list that isn't empty is its first place, and then what begins with the next of that
+    parts : c.count ≢ 0 → Lists (is_in k) slots (c.first ∷ walk (c.count - 1) next (get_or next c.first 0))
+    parts some =
+        let more : c.count ≡ suc (c.count - 1) = omega arith in
+        subst (Lists (is_in k) slots) (ap (λ (c : Chain). walk c.count next c.first) is ∙ ap (λ n. walk n next c.first) more) (h k)
 
-  pub link_framed : (x : ℕ) → p < length slots → ((f : ℕ) → is_of f (slot_at slots p) ≡ false) → ((f : ℕ) → is_of f s ≡ false) → AreFramed (set slots p s) (set next p x) frames
-  link_framed x within was now = still_linked is_of slots next (chain_of frames) framed p x s within was now
+    -- the first slot of a list, as the code has it
+    pub picked : c.count ≢ 0 → (c.first < length slots) × (is_in k (slot_at slots c.first) ≡ true)
+    picked some = (let first = (first_passes (is_in k) slots c.first (walk (c.count - 1) next (get_or next c.first 0)) (parts some)).1 in (test_within (is_in k) slots c.first refl first, first))
 
--- the lists of sets stay if a slot comes to the list of a frame, or leaves it: it is in none of them before and after
-module _ {T : Type 0} (slots : List (Slot T)) (next : List ℕ) (chains : List Chain) (h : AreLinked slots next chains) (p : ℕ) (s : Slot T) where
-  pub wait_linked : (x : ℕ) → p < length slots → (slot_at slots p).used ≡ Taken → ((k : ℕ) → is_in k s ≡ false) → AreLinked (set slots p s) (set next p x) chains
-  wait_linked x within taken now = still_linked is_in slots next (chain_at chains) h p x s within (taken_no_list (slot_at slots p) taken) now
+    -- it left the list
+    pub pick_linked : (s : Slot T) (after : ℕ) → c.count ≢ 0 → k < length chains → after ≡ get_or next c.first 0 → ((j : ℕ) → is_in j s ≡ false) → AreLinked (set slots c.first s) next (set chains k (record { first = after; count = c.count - 1 }))
+    pick_linked s after some within told out =
+        let first = picked some in
+        chain_changed (set slots c.first s) next k (record { first = after; count = c.count - 1 }) within
+        (subst (λ q. Lists (is_in k) (set slots c.first s) (walk (c.count - 1) next q)) (sym told)
+        (lists_pop (is_in k) slots c.first s (walk (c.count - 1) next (get_or next c.first 0)) (parts some) first.0 (out k)))
+        (λ j ne. lists_other (is_in j) slots c.first s (places j) (h j) first.0 (out j ∙ sym (lists_apart j k (slot_at slots c.first) first.1 ne)))
 
-  pub out_linked : p < length slots → ((k : ℕ) → is_in k (slot_at slots p) ≡ false) → ((k : ℕ) → is_in k s ≡ false) → AreLinked (set slots p s) next chains
-  out_linked within was now = stay_linked is_in slots next (chain_at chains) h p s within (λ k. now k ∙ sym (was k))
+    module _ (p : ℕ) (s : Slot T) (within : p < length slots) (taken : (slot_at slots p).used ≡ Taken) (goes : is_in k s ≡ true) where
+      pushed : Lists (is_in k) (set slots p s) (p ∷ places k)
+      pushed = lists_push (is_in k) slots p s (places k) (h k) within (taken_no_list (slot_at slots p) taken k) goes
+
+      -- a slot that a call had came first in the list
+      pub link_linked : length next ≡ length slots → k < length chains → AreLinked (set slots p s) (set next p c.first) (set chains k (record { first = p; count = c.count + 1 }))
+      link_linked long there =
+          let told : get_or (set next p c.first) p 0 ≡ c.first = get_or-set_same next p c.first 0 (omega arith) in
+          let same : walk c.count (set next p c.first) c.first ≡ places k = ap (λ (c' : Chain). walk c'.count (set next p c.first) c'.first) (sym is) ∙ other_places p s within taken k c.first in
+          chain_changed (set slots p s) (set next p c.first) k (record { first = p; count = c.count + 1 }) there
+          (subst (Lists (is_in k) (set slots p s))
+          (sym (ap (λ n. walk n (set next p c.first) p) (add-one c.count)
+          ∙ ap (λ q. p ∷ walk c.count (set next p c.first) q) told
+          ∙ ap (λ l. p ∷ l) same)) pushed)
+          (λ j ne. subst (Lists (is_in j) (set slots p s)) (sym (other_places p s within taken j c.first)) (lists_other (is_in j) slots p s (places j) (h j) within (lists_apart j k s goes ne ∙ sym (taken_no_list (slot_at slots p) taken j))))
+
+      -- which has no more places then than there are slots
+      pub link_more : c.count + 1 ≤ length slots
+      link_more =
+          let few = lists_few (is_in k) (set slots p s) (p ∷ places k) refl pushed in
+          let size = length-set slots p s in
+          let long = walk_length (chain_at chains k).count next (chain_at chains k).first in
+          let same = ap (λ (c : Chain). c.count) is in
+          omega arith
 
 -- there are as many lists if one changed
 pub known_chains : {T : Type 0} (slots : List (Slot T)) (chains : List Chain) (k : ℕ) (d : Chain) (generations : ℕ → ℕ) → HasLists slots (length chains) generations → HasLists slots (length (set chains k d)) generations

@@ -2,12 +2,12 @@
 use Rattle.std.proofs.lemmas.Grind.{common_steps}
 use Rattle.std.proofs.Common.{◌≡◌, ℕ, zero, suc, ◌+◌, ◌<◌, ◌≤◌, Bool, false, if◌then◌else◌, List, [], ◌∷◌, length, set, refl, sym, ap, ◌∙◌, arith}
 use Rattle.descriptor_table.specs.Places.{times, walk}
-use Rattle.descriptor_table.specs.Slots.{AreLinked, HasChains, Lists, chain_at, is_in, no_slot, slot_at}
+use Rattle.descriptor_table.specs.Slots.{AreLinked, Lists, chain_at, is_in, no_slot, slot_at}
 use Rattle.descriptor_table.specs.Tables.{count}
 use Rattle.descriptor_table.specs.Slots.{Slot}
 use Rattle.descriptor_table.specs.declared.slot.Chain.{Chain}
 use Rattle.descriptor_table.proofs.Counting.{places_total, total, total_as, total_first}
-use Rattle.descriptor_table.proofs.Listed.{PassesNone, past_end, walk_length}
+use Rattle.descriptor_table.proofs.Listed.{past_end, walk_length}
 
 -- 1 if the test holds
 abbrev pub bit : Bool → ℕ
@@ -27,7 +27,7 @@ module _ {T : Type 0} where
   same_count test slots p s within same = let h = count_set test slots p s within in let e = ap bit same in omega arith
 
   -- as many slots as places in a list
-  listed_count : (test : Slot T → Bool) (slots : List (Slot T)) (l : List ℕ) → test no_slot ≡ false → Lists test slots l → length l ≡ count test slots
+  pub listed_count : (test : Slot T → Bool) (slots : List (Slot T)) (l : List ℕ) → test no_slot ≡ false → Lists test slots l → length l ≡ count test slots
   listed_count test slots l none h =
       places_total (length slots) l (λ p past. h p ∙ ap (λ x. if test x then 1 else 0) (past_end slots p past) ∙ ap bit none)
       ∙ total_as (λ p. times p l) (λ p. if test (slot_at slots p) then 1 else 0) (length slots) h
@@ -38,13 +38,10 @@ module _ {T : Type 0} where
       all_count (s ∷ slots) = total_first (λ p. if test (slot_at (s ∷ slots) p) then 1 else 0) (length slots) ∙ ap (λ n. (if test s then 1 else 0) + n) (all_count slots)
 
   -- a list has as many slots as it counts
-  pub heads_count : (test : ℕ → Slot T → Bool) (slots : List (Slot T)) (next : List ℕ) (heads : ℕ → Chain) → PassesNone test → HasChains test slots next heads → (k : ℕ) → (heads k).count ≡ count (test k) slots
-  heads_count test slots next heads none h k =
-      let l = walk (heads k).count next (heads k).first in
-      sym (walk_length (heads k).count next (heads k).first) ∙ listed_count (test k) slots l (none k) (h k)
-
   pub chain_count : (slots : List (Slot T)) (next : List ℕ) (chains : List Chain) → AreLinked slots next chains → (k : ℕ) → (chain_at chains k).count ≡ count (is_in k) slots
-  chain_count slots next chains h k = heads_count is_in slots next (chain_at chains) (λ j. refl) h k
+  chain_count slots next chains h k =
+      let c = chain_at chains k in
+      sym (walk_length c.count next c.first) ∙ listed_count (is_in k) slots (walk c.count next c.first) refl (h k)
 
   -- each slot that passes a test passes one of two others
   pub count_split : (all a b : Slot T → Bool) (slots : List (Slot T)) → ((s : Slot T) → bit (all s) ≡ bit (a s) + bit (b s)) → count all slots ≡ count a slots + count b slots

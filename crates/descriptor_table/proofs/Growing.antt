@@ -1,14 +1,11 @@
 -- The lists of slots, when a slot comes at the end, whose set a call has: for `SetTable::push`.
--- No list changes: the new slot is in none, as the slot past the end is in none.
 use Rattle.std.proofs.Common.{◌≡◌, ◌≢◌, ℕ, zero, suc, ◌+◌, Bool, false, if◌then◌else◌, List, [], ◌∷◌, ◌++◌, length, get_or, Some, inl, inr, refl, sym, ap, subst, ◌∙◌, arith}
 use Rattle.descriptor_table.specs.Places.{times, walk}
-use Rattle.descriptor_table.specs.Slots.{AreFramed, AreLinked, HasChains, HasLists, IsListed, chain_at, chain_of, is_in, is_of, no_slot, slot_at}
+use Rattle.descriptor_table.specs.Slots.{AreLinked, HasLists, IsListed, IsQueue, Slot, chain_at, frame_of, is_in, no_slot, slot_at, waits}
 use Rattle.descriptor_table.specs.Tables.{Puts, count, is_usable}
 use Rattle.descriptor_table.specs.declared.slot.Use.TheVariants.{Taken}
-use Rattle.descriptor_table.specs.Slots.{Slot}
 use Rattle.descriptor_table.specs.declared.slot.Chain.{Chain}
-use Rattle.descriptor_table.specs.declared.slot.FrameChain.{FrameChain}
-use Rattle.descriptor_table.proofs.Chains.{taken_no_frame, taken_no_list}
+use Rattle.descriptor_table.proofs.Chains.{taken_no_list, taken_out}
 use Rattle.descriptor_table.proofs.Counting.{same_or}
 
 -- the next of each place stays with a 0 at the end, and so does each list
@@ -44,21 +41,18 @@ module _ {T : Type 0} where
   past [] = refl
   past (x ∷ slots) = past slots
 
-  -- the lists stay if the slot that comes at the end is in none, as the slot past the end is in none
-  chains_grown :
-      (test : ℕ → Slot T → Bool) (slots : List (Slot T)) (next : List ℕ) (heads : ℕ → Chain) (s : Slot T)
-      → ((k : ℕ)
-      → test k s
-      ≡ test k
-      no_slot)
-      → HasChains test slots next heads → HasChains test (slots ++ s ∷ []) (next ++ 0 ∷ []) heads
-  chains_grown test slots next heads s same h = λ k q. ap (times q) (walk_grown (heads k).count next (heads k).first) ∙ h k q ∙ ap (λ b. if b then 1 else 0) (sym (grown (test k) slots s q (same k)))
-
+  -- the lists and the queue stay, as the slot that comes at the end is in none, and the slot past the end is in none
   pub linked_grown : (slots : List (Slot T)) (next : List ℕ) (chains : List Chain) (s : Slot T) → s.used ≡ Taken → AreLinked slots next chains → AreLinked (slots ++ s ∷ []) (next ++ 0 ∷ []) chains
-  linked_grown slots next chains s taken h = chains_grown is_in slots next (chain_at chains) s (taken_no_list s taken) h
+  linked_grown slots next chains s taken h k q = ap (times q) (walk_grown (chain_at chains k).count next (chain_at chains k).first) ∙ h k q ∙ ap (λ b. if b then 1 else 0) (sym (grown (is_in k) slots s q (taken_no_list s taken k)))
 
-  pub framed_grown : (slots : List (Slot T)) (next : List ℕ) (frames : List FrameChain) (s : Slot T) → s.used ≡ Taken → AreFramed slots next frames → AreFramed (slots ++ s ∷ []) (next ++ 0 ∷ []) frames
-  framed_grown slots next frames s taken h = chains_grown is_of slots next (chain_of frames) s (taken_no_frame s taken) h
+  pub queue_grown : (slots : List (Slot T)) (l : List ℕ) (s : Slot T) → s.used ≡ Taken → IsQueue slots l → IsQueue (slots ++ s ∷ []) l
+  queue_grown slots l s taken h = record {
+    has = λ q. h.has q ∙ ap (λ b. if b then 1 else 0) (sym (grown waits slots s q (taken_out s taken)));
+    rises = λ i j d le lt. (let a = frame (get_or l i d) in let b = frame (get_or l j d) in let c = h.rises i j d le lt in omega arith);
+  }
+    where
+      frame : (q : ℕ) → frame_of (slot_at (slots ++ s ∷ []) q).used ≡ frame_of (slot_at slots q).used
+      frame q = grown (λ (s : Slot T). frame_of s.used) slots s q (ap frame_of taken)
 
   -- the layout of each slot has its list, also that of the new slot
   pub known_grown : (slots : List (Slot T)) (s : Slot T) (lists : ℕ) (generations : ℕ → ℕ) → IsListed lists generations s → HasLists slots lists generations → length (slots ++ s ∷ []) ≡ length slots + 1 → HasLists (slots ++ s ∷ []) lists generations

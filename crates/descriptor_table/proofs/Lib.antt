@@ -3,7 +3,6 @@ pub mod Coming
 pub mod Counting
 pub mod Counts
 pub mod Entries
-pub mod Frames
 pub mod Freeing
 pub mod Growing
 pub mod Holding
@@ -15,3 +14,4 @@ pub mod Renewing
 pub mod Sound
 pub mod Totals
 pub mod Turning
+pub mod Waiting

@@ -58,8 +58,8 @@ module _ {T : Type 0} where
   pub room_stays : (n : ℕ) (a b : SetTable T) → Stays a b → length (slots_of b) ≡ length (slots_of a) → usable_of b ≡ usable_of a → HasRoom n a → HasRoom n b
   room_stays n a b stays long usable room =
       let space = stays.space in
-      let frames = stays.frames in
-      record { few = (let h = room.few in omega arith); slots = (let h = room.slots in omega arith); frames = (let h = room.frames in omega arith) }
+      let waiting = stays.waiting in
+      record { few = (let h = room.few in omega arith); slots = (let h = room.slots in omega arith); waiting = (let h = room.waiting in omega arith) }
 
   -- a vacant slot got a set, and so there is room for one fewer
   pub room_less : (n p : ℕ) (s : Slot T) (a b c : SetTable T) → Picks is_usable p (slots_of a) (slots_of b) → slots_of c ≡ set (slots_of b) p s → is_usable s ≡ false → Stays a b → Stays b c → HasRoom (n + 1) a → HasRoom n c
@@ -73,8 +73,8 @@ module _ {T : Type 0} where
       let same = ap (count is_usable) is ∙ same_count is_usable (slots_of b) p s (omega arith) (used ∙ sym slot) in
       let long = ap length is ∙ length-set (slots_of b) p s in
       let space = after.space ∙ before.space in
-      let frames = after.frames ∙ before.frames in
-      record { few = (let h = room.few in omega arith); slots = (let h = room.slots in omega arith); frames = (let h = room.frames in omega arith) }
+      let waiting = after.waiting ∙ before.waiting in
+      record { few = (let h = room.few in omega arith); slots = (let h = room.slots in omega arith); waiting = (let h = room.waiting in omega arith) }
 
   -- a set that leaves a list of sets leaves as many slots to which another can come
   pub usable_picked : (k p : ℕ) (old new : List (Slot T)) → 0 ≢ k → Picks (is_in k) p old new → count is_usable new ≡ count is_usable old

@@ -148,7 +148,7 @@ module _ {T : Type 0} where
       keep = two.settings.keep ∙ one.settings.keep;
     };
     space = two.space ∙ one.space;
-    frames = two.frames ∙ one.frames;
+    waiting = two.waiting ∙ one.waiting;
   }
 
   -- with settings as they were, a set comes back to the same use
@@ -244,7 +244,7 @@ module _ {T : Type 0} where
   going_out k s two = ap (λ b. b && is_some s.set) (ne_eqb k 1 (λ e. omega arith))
 
   pub stays_same : (a : SetTable T) → Stays a a
-  stays_same a = record { settings = record { number = refl; lists = refl; generations = refl; keep = refl }; space = refl; frames = refl }
+  stays_same a = record { settings = record { number = refl; lists = refl; generations = refl; keep = refl }; space = refl; waiting = refl }
 
   -- as many slots pass the test, if at each place the slot does as before
   pub count_same : (test : Slot T → Bool) (l m : List (Slot T)) → length m ≡ length l → ((p : ℕ) → test (slot_at m p) ≡ test (slot_at l p)) → count test m ≡ count test l

@@ -1,5 +1,6 @@
 -- Slots, and the lists that they are in.
-use Rattle.std.specs.Prelude.{map, slice_set, vec_capacity, Option, Some, ◌≡◌, ℕ, ◌+◌, ◌<◌, ◌≤◌, ◌==◌, ◌&&◌, nat_le, nat_lt, Bool, true, false, List, [], ◌∷◌, length, ⊤, slice_index_or, if◌then◌else◌, None, is_some, not}
+use Rattle.std.specs.Prelude.{map, slice_set, vec_capacity, Option, Some, ◌≡◌, ℕ, ◌+◌, ◌<◌, ◌≤◌, ◌==◌, ◌&&◌, nat_le, nat_lt, Bool, true, false, List, length, ⊤, slice_index_or, if◌then◌else◌, None, is_some, not}
+use Rattle.std.specs.List.Sorted.{IsNonDecreasingBy}
 use Rattle.descriptor_table.specs.Places.{times, walk}
 use Rattle.descriptor_table.specs.declared.slot.Use.{Use}
 use Rattle.descriptor_table.specs.declared.slot.Use.TheVariants.{Held, Drawn, Waits, Kept, Going, Taken, Vacant}
@@ -8,7 +9,6 @@ use Rattle.descriptor_table.specs.declared.slot.State.TheVariants as state
 use Rattle.descriptor_table.specs.declared.slot_list.Entry.{Entry}
 use Rattle.descriptor_table.specs.declared.slot_list.SlotList.{SlotList}
 use Rattle.descriptor_table.specs.declared.slot.Chain.{Chain}
-use Rattle.descriptor_table.specs.declared.slot.FrameChain.{FrameChain}
 use Rattle.descriptor_table.specs.declared.slot.ListHead.{ListHead}
 
 -- a place for a set
@@ -62,6 +62,12 @@ waits_for test (Drawn frame) = test frame
 waits_for test (Waits frame) = test frame
 waits_for test _ = false
 
+-- the frame that a set in such a use waits for, or 0
+abbrev pub frame_of : Use → ℕ
+frame_of (Drawn frame) = frame
+frame_of (Waits frame) = frame
+frame_of _ = 0
+
 -- a set in such a use is in no list, and waits for no frame
 abbrev pub IsNowhere : Use → Type 0
 IsNowhere Held = ⊤
@@ -83,27 +89,11 @@ chains_in lists = map (λ h. h.chain) lists
 abbrev pub generations_in : List ListHead → List ℕ
 generations_in lists = map (λ h. h.generation) lists
 
--- the list of a frame at a place of the lists, empty if there is none
-abbrev pub frame_at : List FrameChain → ℕ → FrameChain
-frame_at frames i = slice_index_or frames i (record { frame = 0; first = 0; count = 0 })
-
--- the list of a frame
-abbrev pub chain_of : List FrameChain → ℕ → Chain
-chain_of [] f = record { first = 0; count = 0 }
-chain_of (c ∷ frames) f = if f == c.frame then record { first = c.first; count = c.count } else chain_of frames f
-
--- a table's vectors fit each other: so many slots there are, and for so many frames there is memory
-pub record AreSized (slots frames : ℕ) : Type 0 where
+-- a table's vectors fit each other: so many slots there are, and the queue has memory for so many places
+pub record AreSized (slots places : ℕ) : Type 0 where
   pub few : slots < 4294967296
-  -- a frame for each slot, so that a set can wait without an allocation
-  pub room : slots ≤ frames
-
--- what holds of the lists of frames
-pub record HasFrames (frames : List FrameChain) : Type 0 where
-  -- no list is empty
-  pub some : (i : ℕ) → i < length frames → 0 < (frame_at frames i).count
-  -- frames rise from list to list
-  pub rises : (i j : ℕ) → i < j → j < length frames → (frame_at frames i).frame < (frame_at frames j).frame
+  -- one for each slot, so that a set can wait without an allocation
+  pub room : slots ≤ places
 
 -- at most so many sets of a layout are kept
 abbrev pub AreFew : ℕ → List Chain → Type 0
@@ -163,9 +153,9 @@ module _ {T : Type 0} where
   abbrev pub is_kept_of : ℕ → Slot T → Bool
   is_kept_of layout = is_in (layout + 2)
 
-  -- whether a slot has a set that waits for this frame
-  abbrev pub is_of : ℕ → Slot T → Bool
-  is_of f s = waits_for (λ frame. f == frame) s.used && is_some s.set
+  -- whether a slot has a set that waits for a frame
+  abbrev pub waits : Slot T → Bool
+  waits s = waits_for (λ frame. true) s.used && is_some s.set
 
   -- whether a slot has a set that waits for a frame up to this one
   abbrev pub is_due : ℕ → Slot T → Bool
@@ -175,17 +165,15 @@ module _ {T : Type 0} where
   abbrev pub Lists : (Slot T → Bool) → Slots T → List ℕ → Type 0
   Lists test slots places = (p : ℕ) → times p places ≡ (if test (slot_at slots p) then 1 else 0)
 
-  -- each list, by its first place and its count, has the slots that pass its test
-  abbrev pub HasChains : (ℕ → Slot T → Bool) → Slots T → List ℕ → (ℕ → Chain) → Type 0
-  HasChains test slots next heads = (k : ℕ) → Lists (test k) slots (walk (heads k).count next (heads k).first)
-
-  -- each list of sets has those that are in it
+  -- each list, by its first place and its count, has the slots that are in it
   abbrev pub AreLinked : Slots T → List ℕ → List Chain → Type 0
-  AreLinked slots next chains = HasChains is_in slots next (chain_at chains)
+  AreLinked slots next chains = (k : ℕ) → Lists (is_in k) slots (walk (chain_at chains k).count next (chain_at chains k).first)
 
-  -- each frame has the sets that wait for it
-  abbrev pub AreFramed : Slots T → List ℕ → List FrameChain → Type 0
-  AreFramed slots next frames = HasChains is_of slots next (chain_of frames)
+  -- the queue of the sets that wait for a frame
+  pub record IsQueue (slots : Slots T) (places : List ℕ) : Type 0 where
+    pub has : Lists waits slots places
+    -- along it no set waits for an earlier frame than the one before it
+    pub rises : IsNonDecreasingBy (λ p. frame_of (slot_at slots p).used) places
 
   -- the list of a slot's layout is there. Its set came under this layout, or under one that had the number before, and a kept one under this one
   pub record IsListed (lists : ℕ) (generations : ℕ → ℕ) (s : Slot T) : Type 0 where
@@ -198,10 +186,9 @@ module _ {T : Type 0} where
   HasLists slots lists generations = (p : ℕ) → p < length slots → IsListed lists generations (slot_at slots p)
 
   -- what a table says of its slots and its lists
-  pub record AreSound (l : SlotList T) (chains : List Chain) (generations : List ℕ) (frames : List FrameChain) (room keep : ℕ) : Type 0 where
+  pub record AreSound (l : SlotList T) (chains : List Chain) (generations waiting : List ℕ) (room keep : ℕ) : Type 0 where
     pub sized : AreSized (length (slots_in l)) room
     pub linked : AreLinked (slots_in l) (nexts_in l) chains
-    pub framed : AreFramed (slots_in l) (nexts_in l) frames
-    pub rising : HasFrames frames
+    pub queue : IsQueue (slots_in l) waiting
     pub known : HasLists (slots_in l) (length chains) (generation_at generations)
     pub few : AreFew keep chains

@@ -1,7 +1,7 @@
 -- What becomes of the slots of a table.
 use Rattle.std.specs.Prelude.{◌≡◌, ◌≢◌, ℕ, zero, suc, ◌+◌, ◌-◌, ◌<◌, ◌≤◌, ◌⊎◌, ◌==◌, ◌&&◌, nat_lt, Bool, true, false, not, List, [], ◌∷◌, length, slice_index_or, slice_set, vec_capacity, is_some, if◌then◌else◌, Option, Some, None, MatchOption}
 use Rattle.std.specs.VecDeque.{deque_capacity}
-use Rattle.descriptor_table.specs.Slots.{Slot, Slots, chains_in, generations_in, nexts_in, slots_in, space_in, taken_slot, chain_at, generation_at, is_in, is_kept_of, is_of, slot_at, waits_for}
+use Rattle.descriptor_table.specs.Slots.{Slot, Slots, chains_in, generations_in, nexts_in, slots_in, space_in, taken_slot, chain_at, frame_of, generation_at, is_in, is_kept_of, slot_at, waits}
 use Rattle.descriptor_table.specs.declared.handle.SetHandle.{SetHandle}
 use Rattle.descriptor_table.specs.declared.set_table.SetTable.{SetTable}
 use Rattle.descriptor_table.specs.declared.slot.Use.{Use}
@@ -121,7 +121,7 @@ module _ {T : Type 0} where
   pub record Stays (old new : SetTable T) : Type 0 where
     pub settings : KeepsSettings old new
     pub space : space_in new.slots ≡ space_in old.slots
-    pub frames : deque_capacity new.frames ≡ deque_capacity old.frames
+    pub waiting : deque_capacity new.waiting ≡ deque_capacity old.waiting
 
   -- the slots became what the relation says, and all else is as it was
   pub record Changes (becomes : Slots T → Slots T → Type 0) (old new : SetTable T) : Type 0 where
@@ -136,7 +136,7 @@ module _ {T : Type 0} where
   pub record HasPlaces (n : ℕ) (t : SetTable T) : Type 0 where
     pub few : length (slots_of t) + n < 4294967296
     pub slots : length (slots_of t) + n ≤ space_in t.slots
-    pub frames : length (slots_of t) + n ≤ deque_capacity t.frames
+    pub waiting : length (slots_of t) + n ≤ deque_capacity t.waiting
 
   -- how many slots another set can come to
   abbrev pub usable_of : SetTable T → ℕ
@@ -162,9 +162,10 @@ module _ {T : Type 0} where
     pub next : (slot_at slots p).generation < 4294967295
 
   -- a call has a set, which waits for the frame if it is in use for this
-  pub record CanWait (frame p : ℕ) (u : Use) (slots : Slots T) : Type 0 where
+  pub record CanWait (f p : ℕ) (u : Use) (slots : Slots T) : Type 0 where
     pub taken : HasTaken p slots
-    pub goes : is_of frame (used_for u (slot_at slots p)) ≡ true
+    pub goes : waits (used_for u (slot_at slots p)) ≡ true
+    pub frame : frame_of u ≡ f
 
   -- the slot was in the list, or had its set wait, and left
   pub record Picks (test : Slot T → Bool) (p : ℕ) (old new : Slots T) : Type 0 where
@@ -226,10 +227,6 @@ module _ {T : Type 0} where
   -- whether a slot has a set that is held
   abbrev pub holds : Slot T → Bool
   holds s = is_held_use s.used && is_some s.set
-
-  -- whether a slot has a set that waits for a frame
-  abbrev pub waits : Slot T → Bool
-  waits s = waits_for (λ frame. true) s.used && is_some s.set
 
   -- whether a set is kept
   abbrev pub is_kept : Slot T → Bool

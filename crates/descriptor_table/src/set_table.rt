@@ -6,14 +6,14 @@ ghost use Rattle.descriptor_table.specs.Slots.{AreSound, chains_in, generation_a
 
 mod back;
 mod counts;
-mod frames;
 mod handles;
 mod layouts;
 mod lists;
 mod sets;
+mod waiting;
 
 use crate::handle::SetHandle;
-use crate::slot::{FrameChain, ListHead, Use};
+use crate::slot::{ListHead, Use};
 use crate::slot_list::SlotList;
 use std::alloc::{AllocError, Global};
 use std::collections::VecDeque;
@@ -41,13 +41,13 @@ pub struct SetTable<T> {
     /// The lists, but for those of sets that wait.
     pub(crate) lists: Vec<ListHead>,
 
-    /// The lists of sets that wait, by rising frames. None is empty.
-    pub(crate) frames: VecDeque<FrameChain>,
+    /// The places of the sets that wait for a frame, by rising frames.
+    pub(crate) waiting: VecDeque<u32>,
 
     /// How many sets of a layout are kept at most.
     pub(crate) keep: u32,
-    ghost sound: { AreSound slots (chains_in lists.items) (generations_in lists.items) frames.items
-        (deque_capacity frames) keep },
+    ghost sound: { AreSound slots (chains_in lists.items) (generations_in lists.items) waiting.items
+        (deque_capacity waiting) keep },
 }
 
 impl<T> SetTable<T> {
@@ -69,7 +69,7 @@ impl<T> SetTable<T> {
             number,
             slots: SlotList::new(alloc),
             lists: Vec::new(alloc),
-            frames: VecDeque::new(alloc),
+            waiting: VecDeque::new(alloc),
             keep: u32::MAX,
         }
     }
@@ -139,7 +139,7 @@ impl<T> SetTable<T> {
         }
         self.slots.reserve(additional as usize)?;
         let places = places as usize;
-        self.frames
-            .reserve(places.saturating_sub(self.frames.len()))
+        self.waiting
+            .reserve(places.saturating_sub(self.waiting.len()))
     }
 }

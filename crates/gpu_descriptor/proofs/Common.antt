@@ -59,7 +59,7 @@ pub use Rattle.gpu_descriptor.specs.Inner.Serves.{IsDeclined, IsServed, IsUnserv
 pub use Rattle.gpu_descriptor.specs.Inner.SetAt.{set_at}
 pub use Rattle.gpu_descriptor.specs.Inner.Stored.{IsConsistent, books_in, bucket_of, entry_of, has_sets, kept_in, kept_of, row_of, stored_keys, stored_load}
 pub use Rattle.gpu_descriptor.specs.Inner.Walk.{Adds, HasTaken, IsAsked, IsNoMemory, IsRefused, IsWalked}
-pub use Rattle.gpu_descriptor.specs.Model.Cleanup.{LosesEmpty, are_named, gone_of, left_of, pools_lost, with_pools}
+pub use Rattle.gpu_descriptor.specs.Model.Cleanup.{LosesEmpty, are_named, gone_of, left_of, pools_lost, with_pools, without_empty}
 pub use Rattle.gpu_descriptor.specs.Model.Foreign.{IsForeign, IsNamed, KeepsForeign}
 pub use Rattle.gpu_descriptor.specs.Model.FreshPools.{AreFull, AreNew, AreSized, Fresh, IsFreshPrefix, IsFreshList, IsNextSize, fresh_entries, fresh_entry, fresh_portions, given_by, room_after}
 pub use Rattle.gpu_descriptor.specs.Model.Grants.{Grant, IsGrantOf, Part, bucket_with, came, fresh_or, granted, items_at, items_in, ledger_with, pool_with, portion_of}

@@ -4,4 +4,5 @@ pub mod Splitting
 pub mod Rotation
 pub mod Counted
 pub mod KeyOrder
+pub mod OneKey
 pub mod RowsCleaned

@@ -62,7 +62,7 @@ impl<P> KeyTable<P> {
     /// the one after it, and the first. These serve keys that are used in the order in which they first
     /// came, again and again.
     #[inline]
-    fn place_of_key(&self, key: &BucketKey) -> Option<usize>
+    pub(crate) fn place_of_key(&self, key: &BucketKey) -> Option<usize>
         ensures place { MatchOption result
             (lookup (is_of (key_of key.now)) self.now.buckets.entries ≡ None)
             (λ place. slice_get (stored_keys self.now.buckets.entries) place

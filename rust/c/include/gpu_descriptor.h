@@ -334,10 +334,11 @@ gd_status gd_set_allocate_variable_sets(gd_allocator allocator, gd_allocate_vari
 /*
  * Removes a layout: call it before you destroy the layout. Otherwise the next layout with the same handle,
  * counts and flags is taken for it, and gets its kept sets. From then on it is GD_BAD_LAYOUT, even once other
- * layouts were added. Its kept sets go back to the driver. Its outstanding sets stay valid until they are
- * freed, and then go back to the driver too. The last pool for its counts and flags stays, and counts against
- * the limit, until gd_trim or gd_cleanup. It allocates nothing. The time is linear in the number of its kept
- * sets.
+ * layouts were added. The driver frees its kept sets, and then the pools for its counts and flags that have no
+ * set are destroyed. Its live sets stay valid until they are freed, and are freed by the driver then. A pool
+ * that they leave empty may stay, and counts against the limit, until gd_trim or gd_cleanup. Other layouts with
+ * these counts and flags keep their kept sets. It allocates no memory. The time is linear in the number of its
+ * kept sets and of these pools.
  *
  * GD_BAD_LAYOUT, GD_BAD_ALLOCATOR, GD_BUSY, GD_INTERNAL_ERROR.
  */
@@ -380,7 +381,8 @@ gd_status gd_free_all(gd_allocator allocator);
 /*
  * Frees sets, all or none, once a frame is done: they wait, and gd_frame_done frees them. They are no
  * longer yours: freeing one again is GD_BAD_SET. Frames are numbers of your own, in any order: a set is
- * freed by the next gd_frame_done with its number or a higher one. It allocates nothing.
+ * freed by the next gd_frame_done with its number or a higher one. It allocates nothing. The time of each set is
+ * constant if none waits for a higher frame; else their places, 4 bytes each, move.
  *
  * GD_BAD_SET, GD_NULL_POINTER, GD_BAD_ALLOCATOR, GD_BUSY, GD_INTERNAL_ERROR.
  */
@@ -462,8 +464,7 @@ gd_status gd_trim(gd_allocator allocator);
 
 /*
  * How many sets are outstanding, those that wait for a frame included, and kept ones not; how many of
- * them wait; how many pools exist. The time is linear in the number of frames for which sets wait, and of
- * layouts.
+ * them wait; how many pools exist. The time is linear in the number of layouts.
  *
  * GD_NULL_POINTER, GD_BAD_ALLOCATOR, GD_BUSY, GD_INTERNAL_ERROR.
  */

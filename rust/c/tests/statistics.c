@@ -182,11 +182,9 @@ static void share_pools(void) {
     expect_numbers(allocator, wanted);
     expect_numbers_of(allocator, first, (gd_layout_statistics){0, 2, 65, 63});
     expect_numbers_of(allocator, second, (gd_layout_statistics){64, 2, 65, 63});
-    // The first pool has a set, so the second one stays until gd_trim.
+    // The first pool has a set. The second one has none then, and goes.
     CHECK(gd_remove_layout(allocator, second) == GD_OK);
     expect_no_layout(allocator, second);
-    expect_numbers_of(allocator, first, (gd_layout_statistics){0, 2, 1, 127});
-    CHECK(gd_trim(allocator) == GD_OK);
     expect_numbers_of(allocator, first, (gd_layout_statistics){0, 1, 1, 63});
     // There are more sets than ever, and fewer descriptors.
     CHECK(gd_allocate(allocator, third, 100, sets + 1) == GD_OK);

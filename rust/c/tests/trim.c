@@ -1,4 +1,5 @@
-// A spike of sets, after which few stay: gd_trim and gd_cleanup leave their pools alone.
+// A spike of sets, after which few stay: gd_trim and gd_cleanup leave their pools alone. gd_remove_layout leaves no
+// empty pool of the layout's counts.
 #include "gpu_descriptor.h"
 #include "host.h"
 
@@ -80,6 +81,28 @@ static void try_kept(void) {
     CHECK(gd_cleanup(allocator) == GD_OK && pools == 0 && gd_destroy(allocator) == GD_OK);
 }
 
+// Layouts come and go. Each has counts of its own, or one beside it with the same, which keeps a set.
+static void try_removed(void) {
+    gd_allocator allocator;
+    gd_layout layout, beside;
+    uint64_t kept;
+    CHECK(gd_create(&DEVICE, 0, &allocator) == GD_OK);
+    for (uint32_t images = 1; images <= POOLS / 4; images++) {
+        uint32_t counts[GD_KINDS] = {0, 0, images};
+        CHECK(gd_add_layout(allocator, 1, counts, 0, &layout) == GD_OK);
+        CHECK(gd_allocate(allocator, layout, 2, sets) == GD_OK && gd_free(allocator, sets, 2) == GD_OK);
+        CHECK(pools == 1 && gd_remove_layout(allocator, layout) == GD_OK && pools == 0);
+    }
+    uint32_t one[GD_KINDS] = {1};
+    CHECK(gd_add_layout(allocator, 1, one, 0, &layout) == GD_OK);
+    CHECK(gd_add_layout(allocator, 2, one, 0, &beside) == GD_OK);
+    CHECK(gd_allocate(allocator, beside, 1, sets) == GD_OK && gd_allocate(allocator, layout, 64, sets + 1) == GD_OK);
+    CHECK(gd_free(allocator, sets, 65) == GD_OK && pools == 2);
+    CHECK(gd_remove_layout(allocator, layout) == GD_OK && pools == 1);
+    CHECK(gd_kept(allocator, beside, &kept) == GD_OK && kept == 1);
+    CHECK(gd_remove_layout(allocator, beside) == GD_OK && pools == 0 && gd_destroy(allocator) == GD_OK);
+}
+
 // One set of 100,000 images has a pool of its own.
 static void try_bindless(void) {
     gd_allocator allocator;
@@ -101,5 +124,7 @@ int main(void) {
     next_handle = 0;
     try_kept();
     try_bindless();
+    next_handle = 0;
+    try_removed();
     return 0;
 }

@@ -255,6 +255,28 @@ impl<P, S> DescriptorAllocator<P, S> {
         self.inner.call_in_drop(|inner| inner.trim(device));
     }
 
+    /// Destroys the pools of the layout's [key](crate) that have no set, wherever they are. It goes over no
+    /// other pools, and allocates nothing. Call it when the layout is removed. Layouts of the same key lose
+    /// empty pools too. The original has no such call.
+    ///
+    /// # Safety
+    ///
+    /// Every call of this allocator gets the same device.
+    ///
+    /// # Panics
+    ///
+    /// The allocator is poisoned. While the thread unwinds it does nothing instead; without std it panics
+    /// even then, which ends the program.
+    pub unsafe fn trim_layout<L>(
+        &mut self,
+        device: &impl DescriptorDevice<L, P, S>,
+        layout: &SetLayout<L>,
+    ) {
+        let device = &mut Adapter { device };
+        self.inner
+            .call_in_drop(|inner| inner.trim_layout(device, layout));
+    }
+
     /// Bounds new pools from now on: each has at most `most` descriptors, of all kinds together, unless the
     /// sets that a request still needs have more. Therefore it holds no more sets than have `most`
     /// descriptors, or than are needed, and at least one. Pools that exist stay.

@@ -226,10 +226,10 @@ impl<L, P, S, D: DescriptorDevice<L, P, S>> Renderer<L, P, S, D> {
     }
 
     /// Removes a layout, and returns it. Its handle names none from now on, and none later. Its kept sets
-    /// are freed, and then pools are destroyed as by
-    /// [`DescriptorAllocator::free`](crate::DescriptorAllocator::free). Its live sets stay as they are,
-    /// and aren't kept when they are freed. It allocates nothing. The time is linear in the number of its
-    /// kept sets.
+    /// are freed, and then the pools of its [key](crate) that have no set are destroyed. Its other sets stay,
+    /// and aren't kept once they are freed: a pool that they leave empty may stay until `trim` or `cleanup`.
+    /// Other layouts of the key lose empty pools, and keep their kept sets. It allocates no memory. The time is
+    /// linear in the number of its kept sets and of the pools of its key.
     ///
     /// # Errors
     ///
@@ -439,7 +439,8 @@ impl<L, P, S, D: DescriptorDevice<L, P, S>> Renderer<L, P, S, D> {
     }
 
     /// Destroys a set that was last used in a frame (0 if in none). The next `gpu_done` of that frame or a
-    /// later one frees it, and its handle is invalid from now on. It allocates nothing.
+    /// later one frees it, and its handle is invalid from now on. It allocates nothing. The time is constant
+    /// if no set waits for a later frame; else their places, 4 bytes each, move.
     ///
     /// # Errors
     ///
@@ -457,7 +458,8 @@ impl<L, P, S, D: DescriptorDevice<L, P, S>> Renderer<L, P, S, D> {
 
     /// Destroys all sets of the list, or none, which were last used in a frame (0 if in none). The next
     /// `gpu_done` of that frame or a later one frees them, and their handles are invalid from now on. It
-    /// allocates nothing.
+    /// allocates nothing. The time is constant for each if no set waits for a later frame; else the places of
+    /// these, 4 bytes each, move.
     ///
     /// # Errors
     ///
@@ -529,7 +531,7 @@ impl<L, P, S, D: DescriptorDevice<L, P, S>> Renderer<L, P, S, D> {
     }
 
     /// How many sets are held, how many wait for a frame, those of the open frame among them, and how many
-    /// are kept. The time is linear in the number of layouts, and of frames that sets wait for.
+    /// are kept. The time is linear in the number of layouts.
     #[must_use]
     pub fn counts(&self) -> Counts {
         self.inner.get().counts()

@@ -42,5 +42,5 @@ fn bytes_of_a_set(is_one_request: bool) -> usize {
 /// README says 80 to 160 bytes. One large request grows the lists to what it needs.
 #[test]
 fn memory_of_a_held_set() {
-    assert_eq!((bytes_of_a_set(false), bytes_of_a_set(true)), (80, 104));
+    assert_eq!((bytes_of_a_set(false), bytes_of_a_set(true)), (68, 92));
 }

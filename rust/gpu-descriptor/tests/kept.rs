@@ -750,7 +750,7 @@ fn a_request_without_memory_for_a_slot_leaves_kept_sets() {
         let four = it.create_sets(layouts[0], 4).unwrap();
         free(&mut it, &four);
         let device_calls = gpu.calls.get();
-        // The slots and the lists of frames are full.
+        // The slots and the queue of the sets that wait are full.
         let (answer, calls) = with_refused(number, || it.create_set(layouts[2]));
         assert_eq!(answer, Err(RenderError::Allocation(OutOfHostMemory)));
         assert_eq!(calls, number + 1);

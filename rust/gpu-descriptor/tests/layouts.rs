@@ -5,7 +5,8 @@ mod gpu;
 mod refuses;
 
 use gpu::{Gpu, Set, layout};
-use gpu_descriptor::renderer::{LayoutHandle, RenderError, Renderer};
+use gpu_descriptor::renderer::{LayoutHandle, RenderError, Renderer, SetHandle};
+use gpu_descriptor::{DescriptorSetLayoutCreateFlags, DescriptorTotalCount, SetLayout};
 use refuses::{bytes, calls, counted};
 use std::collections::HashSet;
 
@@ -22,6 +23,11 @@ fn remove(it: &mut Sets, handle: LayoutHandle) -> Result<u32, RenderError> {
     let removed = counted(|| it.remove_layout(handle));
     assert_eq!(calls(), before, "no memory is taken");
     removed.map(|it| it.layout)
+}
+
+fn free(it: &mut Sets, sets: &[SetHandle]) {
+    // SAFETY: no frame in flight reads one.
+    unsafe { it.free_sets(sets) }.unwrap();
 }
 
 fn shutdown(gpu: &Gpu, it: Sets) {
@@ -122,5 +128,63 @@ fn memory_follows_the_most_layouts_at_once() {
     let before = (calls(), bytes());
     (0..10_000).for_each(|round| turn(round * 7 % 30));
     assert_eq!((calls(), bytes()), before);
+    shutdown(&gpu, it);
+}
+
+/// Each has a key of its own, whose last pool goes with it.
+#[test]
+fn layouts_with_counts_of_their_own() {
+    let gpu = Gpu::new();
+    let mut it = Renderer::new(&gpu, 10_000);
+    for sampler in 1..=10_000 {
+        let layout = SetLayout {
+            layout: sampler,
+            counts: DescriptorTotalCount {
+                sampler,
+                ..Default::default()
+            },
+            flags: DescriptorSetLayoutCreateFlags::empty(),
+        };
+        // SAFETY: the device knows no layouts.
+        let handle = unsafe { it.add_layout(layout) }.unwrap();
+        let sets = it.create_sets(handle, 2).unwrap();
+        free(&mut it, &sets);
+        assert_eq!((gpu.pools(), gpu.live_sets()), (1, 2));
+        assert_eq!(remove(&mut it, handle), Ok(sampler));
+        assert!(gpu.is_empty());
+    }
+    assert_eq!(it.statistics().pools, 0);
+    shutdown(&gpu, it);
+}
+
+/// A layout that is removed takes the empty pools of its key with it, and no others.
+#[test]
+fn a_removed_layout_beside_one_of_its_key() {
+    let gpu = Gpu::new();
+    let mut it = Renderer::new(&gpu, 10_000);
+    let [first, second, other] = [0, 0, 1].map(|number| add(&mut it, number));
+    // An empty pool of another key.
+    it.set_keep(0);
+    let set = it.create_set(other).unwrap();
+    free(&mut it, &[set]);
+    it.set_keep(u32::MAX);
+    // A pool that both layouts have sets of, and one behind it.
+    let stays = it.create_set(second).unwrap();
+    let goes = it.create_sets(first, 64).unwrap();
+    free(&mut it, &goes);
+    free(&mut it, &[stays]);
+    assert_eq!((it.pool_count(second), it.pool_count(other)), (2, 1));
+    assert_eq!(remove(&mut it, first), Ok(0));
+    assert_eq!((it.pool_count(second), it.pool_count(other)), (1, 1));
+    assert_eq!((it.kept_count(second), gpu.live_sets()), (1, 1));
+    // Its set comes again without a call, and stays when the layout goes. The pool that it leaves stays too.
+    let calls = gpu.calls.get();
+    let held = it.create_set(second).unwrap();
+    assert_eq!(gpu.calls.get(), calls);
+    assert_eq!(remove(&mut it, second), Ok(0));
+    free(&mut it, &[held]);
+    assert_eq!((gpu.pools(), gpu.live_sets()), (2, 0));
+    it.trim();
+    assert!(gpu.is_empty());
     shutdown(&gpu, it);
 }

@@ -180,6 +180,7 @@ fn calls_of_an_allocator() -> Vec<Call<Allocating>> {
         PanicsButInADrop (on.it).free(&on.device, on.sets.drain(..));
         PanicsButInADrop (on.it).cleanup(&on.device);
         PanicsButInADrop (on.it).trim(&on.device);
+        PanicsButInADrop (on.it).trim_layout(&on.device, &on.layout);
         Panics (on.it).set_most_pool_descriptors(None);
         Answers (on.it).most_pool_descriptors();
         Answers (on.it).outstanding();

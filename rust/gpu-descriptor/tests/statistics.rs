@@ -7,84 +7,19 @@ use gpu::{Fault, Gpu, REASONS, Random, Set, layout};
 use gpu_descriptor::renderer::{LayoutHandle, Renderer};
 use gpu_descriptor::*;
 use refuses::{calls, counted};
-use std::cell::RefCell;
-use std::collections::HashMap;
 use std::fmt;
 
-/// How many pools there are, their sets and their descriptors.
-type Sums = [u64; 3];
-
-/// A device that counts its pools.
-struct Watched {
-    gpu: Gpu,
-    pools: RefCell<HashMap<usize, Sums>>,
-    peak: RefCell<Sums>,
+/// One of the next calls is refused.
+fn refuse_soon(device: &Gpu, random: &mut Random) {
+    device.faulty.set(device.calls.get() + random.below(6));
+    let reason = random.below(REASONS as u64) as usize;
+    device.fault.set(Fault::Refuses(reason));
 }
 
-impl Watched {
-    fn new() -> Self {
-        Watched {
-            gpu: Gpu::new(),
-            pools: RefCell::default(),
-            peak: RefCell::default(),
-        }
-    }
-
-    fn now(&self) -> Sums {
-        let mut sums = [0; 3];
-        for pool in self.pools.borrow().values() {
-            (0..3).for_each(|at| sums[at] += pool[at]);
-        }
-        sums
-    }
-
-    /// One of the next calls is refused.
-    fn refuse_soon(&self, random: &mut Random) {
-        self.gpu.faulty.set(self.gpu.calls.get() + random.below(6));
-        let reason = random.below(REASONS as u64) as usize;
-        self.gpu.fault.set(Fault::Refuses(reason));
-    }
-
-    fn check_pools(&self, it: &Statistics) {
-        assert_eq!([it.pools, it.pool_sets, it.pool_descriptors], self.now());
-        let peak = [it.peak_pools, it.peak_pool_sets, it.peak_pool_descriptors];
-        assert_eq!(peak, *self.peak.borrow());
-    }
-}
-
-// SAFETY of all: the caller's.
-impl DescriptorDevice<u32, usize, Set> for Watched {
-    unsafe fn create_descriptor_pool(
-        &self,
-        counts: &DescriptorTotalCount,
-        max_sets: u32,
-        flags: DescriptorPoolCreateFlags,
-    ) -> Result<usize, CreatePoolError> {
-        let pool = unsafe { self.gpu.create_descriptor_pool(counts, max_sets, flags) }?;
-        let sums = [1, max_sets.into(), counts.total_u64()];
-        self.pools.borrow_mut().insert(pool, sums);
-        let (now, mut peak) = (self.now(), self.peak.borrow_mut());
-        (0..3).for_each(|at| peak[at] = peak[at].max(now[at]));
-        Ok(pool)
-    }
-
-    unsafe fn destroy_descriptor_pool(&self, pool: usize) {
-        assert!(self.pools.borrow_mut().remove(&pool).is_some());
-        unsafe { self.gpu.destroy_descriptor_pool(pool) }
-    }
-
-    unsafe fn alloc_descriptor_sets<'a>(
-        &self,
-        pool: &mut usize,
-        layouts: impl ExactSizeIterator<Item = &'a u32>,
-        sets: &mut impl Extend<Set>,
-    ) -> Result<(), DeviceAllocationError> {
-        unsafe { self.gpu.alloc_descriptor_sets(pool, layouts, sets) }
-    }
-
-    unsafe fn dealloc_descriptor_sets(&self, pool: &mut usize, sets: impl Iterator<Item = Set>) {
-        unsafe { self.gpu.dealloc_descriptor_sets(pool, sets) }
-    }
+fn check_pools(device: &Gpu, it: &Statistics) {
+    assert_eq!([it.pools, it.pool_sets, it.pool_descriptors], device.sums());
+    let peak = [it.peak_pools, it.peak_pool_sets, it.peak_pool_descriptors];
+    assert_eq!(peak, device.peak());
 }
 
 /// Reads numbers, without memory.
@@ -105,12 +40,12 @@ fn add<D: DescriptorDevice<u32, usize, Set>>(
 
 #[test]
 fn numbers_of_a_renderer() {
-    let device = Watched::new();
+    let device = Gpu::new();
     let mut it = Renderer::new(&device, 10_000);
     let layouts = [0, 1, 2].map(|number| add(&mut it, layout(number)));
     let (mut random, mut held, mut refused) = (Random(1), Vec::new(), 0);
     for frame in 1..=2_000 {
-        device.refuse_soon(&mut random);
+        refuse_soon(&device, &mut random);
         it.begin_frame().unwrap();
         let number = random.below(3) as usize;
         let most = [70, 3, 90][number];
@@ -123,7 +58,7 @@ fn numbers_of_a_renderer() {
         it.destroy_sets(&gone, frame).unwrap();
         let counts = it.counts();
         let numbers = without_memory(|| it.statistics());
-        device.check_pools(&numbers);
+        check_pools(&device, &numbers);
         assert_eq!(
             (numbers.waiting, numbers.kept),
             (counts.waiting, counts.kept)
@@ -144,7 +79,7 @@ fn numbers_of_a_renderer() {
             unsafe { it.free_all() };
             it.cleanup();
         }
-        device.check_pools(&it.statistics());
+        check_pools(&device, &it.statistics());
     }
     // A refusal while sets are kept is tried again.
     assert!(refused > 5);
@@ -164,14 +99,14 @@ fn of(kept: u64, pools: u64, used: u64, free: u64) -> [u64; 4] {
 
 #[test]
 fn numbers_of_layouts() {
-    let device = Watched::new();
+    let device = Gpu::new();
     let (mut it, mut other) = (
         Renderer::new(&device, 10_000),
         Renderer::new(&device, 10_000),
     );
     let handles = [0, 0, 2].map(|number| add(&mut it, layout(number)));
     let foreign = add(&mut other, layout(0));
-    let read = |it: &Renderer<u32, usize, Set, &Watched>, at: usize| {
+    let read = |it: &Renderer<u32, usize, Set, &Gpu>, at: usize| {
         let numbers = without_memory(|| it.layout_statistics(handles[at])).unwrap();
         of(
             numbers.kept,

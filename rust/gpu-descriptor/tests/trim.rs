@@ -1,4 +1,5 @@
-//! `trim`: every pool without sets goes, wherever it stands, and all else stays.
+//! `trim` and `trim_layout`: every pool without sets goes, or each of one key, wherever it stands, and all else
+//! stays.
 
 mod gpu;
 mod refuses;
@@ -23,6 +24,14 @@ fn free(allocator: &mut Allocator, gpu: &Gpu, sets: Vec<DescriptorSet<Set>>) {
 fn trim(allocator: &mut Allocator, gpu: &Gpu) {
     // SAFETY: as above.
     let ((), taken) = with_refused(0, || unsafe { allocator.trim(gpu) });
+    assert_eq!(taken, 0);
+}
+
+/// It takes no memory.
+fn trim_layout(allocator: &mut Allocator, gpu: &Gpu, number: u32) {
+    let layout = layout(number);
+    // SAFETY: as above.
+    let ((), taken) = with_refused(0, || unsafe { allocator.trim_layout(gpu, &layout) });
     assert_eq!(taken, 0);
 }
 
@@ -146,10 +155,24 @@ impl Trial<'_> {
         assert_eq!(self.gpu.pools(), pools.concat().len());
     }
 
+    /// Afterwards each pool of the layout has a set, and all other pools are as they were.
+    fn trim_layout(&mut self) {
+        let number = self.random.below(3) as u32;
+        let mut expected: Vec<Vec<PoolView>> =
+            (0..3).map(|at| pools(&self.allocator, at)).collect();
+        expected[number as usize].retain(|it| it.allocated > 0);
+        trim_layout(&mut self.allocator, self.gpu, number);
+        for (at, pools_of) in expected.iter().enumerate() {
+            assert_eq!(&pools(&self.allocator, at as u32), pools_of);
+        }
+        assert_eq!(self.gpu.pools(), expected.concat().len());
+    }
+
     fn step(&mut self) {
-        match self.random.below(8) {
+        match self.random.below(9) {
             0..=3 => self.take_some(),
             4..=6 => self.free_some(),
+            7 => self.trim_layout(),
             _ => self.trim(),
         }
         assert_eq!(self.gpu.live_sets(), self.out.len());

@@ -1,10 +1,11 @@
 //! Sets that come back: they are kept, or go back to their pools.
 ghost use Rattle.std.specs.Prelude.{◌≡◌, ℕ, ◌<◌, ◌≤◌, ◌↔◌, length, false, IsFalse, IsTrue};
 ghost use Rattle.gpu_descriptor.specs.Caller.CleansUp.{TrimsPools};
+ghost use Rattle.gpu_descriptor.specs.Caller.SetLayouts.{IsMeant};
 
 use super::Store;
 use descriptor_table::{Due, Giving, SetName};
-use gpu_descriptor::{DescriptorDevice, DescriptorSet};
+use gpu_descriptor::{DescriptorDevice, DescriptorSet, SetLayout};
 
 impl<L: Drop, P: Drop, S: Drop, D: DescriptorDevice<L, P, S>> Store<L, P, S, D> {
     ghost use Rattle.descriptor_table.specs.Sets.{AreHeldOnce, sets_in};
@@ -152,18 +153,20 @@ impl<L: Drop, P: Drop, S: Drop, D: DescriptorDevice<L, P, S>> Store<L, P, S, D> 
     }
 
     /// Removes a layout: its kept sets are given back, and its other sets aren't kept when they come back,
-    /// not even once another layout has its number.
-    pub(crate) fn remove_layout(&mut self, layout: u32)
+    /// not even once another layout has its number. Then the empty pools of its key are destroyed.
+    pub(crate) fn remove_layout(&mut self, known: &SetLayout<L>, layout: u32)
+        requires meant { IsMeant D.meaning known.now }
         requires rest { IsAtRest self.old }
         requires layout { HasLayout layout self.old }
         requires next { generations_in self.old layout < 4294967295 }
-        ensures removes { Removes layout self.old self.new }
+        ensures removes { Removes known.now.layout layout self.old self.new }
         ensures settles { SettlesTo (removed_at layout (generations_in self.old)) (keep_of self.old)
             NoneComes self.old self.new }
     {
         self.table.let_kept_go(layout);
         self.table.remove_layout(layout);
         self.give();
+        self.allocator.trim_layout(&mut self.device, known);
     }
 
     /// Gives all sets back: those that are held, those that wait for a frame, and those that are kept.

@@ -8,13 +8,13 @@ use crate::slot::Use;
 impl<T> SetTable<T> {
     ghost use Rattle.descriptor_table.specs.declared.set_table.SetTable.{SetTable};
     ghost use Rattle.descriptor_table.specs.Sets.{AreHeldOnce};
-    ghost use Rattle.descriptor_table.specs.Slots.{chain_at, chains_in, is_due, is_in, is_kept_of, slot_at};
+    ghost use Rattle.descriptor_table.specs.Slots.{chain_at, chains_in, is_due, is_in, is_kept_of, slot_at, waits};
     ghost use Rattle.descriptor_table.specs.Tables.{AreAllTaken, At, AtIf, Becomes, Changes, HasTaken};
     ghost use Rattle.descriptor_table.specs.Tables.{IsBack, JoinsList, KeepsUpTo, MayBecome, PicksAbove, Pops};
     ghost use Rattle.descriptor_table.specs.Tables.{SettleEach, Stays, TurnEach, Turns, count};
     ghost use Rattle.descriptor_table.specs.Tables.{generations_of, holds, is_kept, is_taken, keep_of};
     ghost use Rattle.descriptor_table.specs.Tables.{list_of, lists_of, may_stay, next_use, number_of};
-    ghost use Rattle.descriptor_table.specs.Tables.{slots_of, used_for, waits};
+    ghost use Rattle.descriptor_table.specs.Tables.{slots_of, used_for};
 
     /// Whether a set that comes back may be kept.
     #[inline]
@@ -162,8 +162,7 @@ impl<T> SetTable<T> {
     pub fn let_waiting_go(&mut self)
         ensures { Changes (Turns waits (Becomes (used_for Use.Going))) self.old self.new }
     {
-        while !self.frames.is_empty() {
-            let place = self.pick_earliest();
+        while let Some(place) = self.pick_waiting() {
             self.link(GOING, place, Use::Going);
         }
     }

@@ -4,9 +4,9 @@ ghost use Rattle.std.specs.Prelude.{◌≡◌, ◌≤◌, ℕ, length};
 use super::{KEPT, SetTable};
 
 impl<T> SetTable<T> {
-    ghost use Rattle.descriptor_table.specs.Slots.{chain_at, chains_in};
+    ghost use Rattle.descriptor_table.specs.Slots.{chain_at, chains_in, waits};
     ghost use Rattle.descriptor_table.specs.Tables.{OnlySettings, count, is_kept, keep_of};
-    ghost use Rattle.descriptor_table.specs.Tables.{settings_of, slots_of, waits};
+    ghost use Rattle.descriptor_table.specs.Tables.{settings_of, slots_of};
 
     /// How many slots there are.
     #[inline]
@@ -43,14 +43,11 @@ impl<T> SetTable<T> {
         total
     }
 
-    /// How many sets wait for a frame. It goes over these frames.
+    /// How many sets wait for a frame.
+    #[inline]
     pub fn waiting_total(&self) -> u64
         ensures { result ≡ count waits (slots_of self.now) }
     {
-        let mut total = 0;
-        for index in 0..self.frames.len() {
-            total += u64::from(self.frames[index].count);
-        }
-        total
+        self.waiting.len() as u64
     }
 }

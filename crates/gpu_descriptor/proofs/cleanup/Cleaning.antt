@@ -1,12 +1,13 @@
 -- Cleaning up and trimming: each key loses empty pools.
--- For `sweep` and `laws::clean_again`. t is the state that a cleanup or a trim leaves of s, and u what the same leaves of t.
-use Rattle.gpu_descriptor.proofs.Common.{◌≡◌, ℕ, suc, Bool, true, false, List, [], ◌∷◌, length, count_by, slice_get, Some, None, inl, inr, refl, sym, ap, ◌∙◌, arith, eq-eqb, ∥∥₁_elim, props, list_any, cases_eq, sum_by-cons}
-use Rattle.gpu_descriptor.proofs.Common.{set_of, Item, State, outstanding, HasSize, Agree, HasNoPools, Key, key_eq, Entry, Bucket, no_pools, LiveSet, set_eq, set_exact, count_by_yes, common_steps, LosesEmpty, are_named, gone_of, left_of, pools_lost, with_pools}
-use Rattle.gpu_descriptor.proofs.Common.{is_empty, none-some}
+-- For `sweep`, `trim_layout` and `laws::clean_again`. t is the state that a cleanup or a trim leaves of s, and u what the same leaves of t.
+use Rattle.gpu_descriptor.proofs.Common.{if◌then◌else◌, cases_Bool, subst, ◌≡◌, ℕ, suc, Bool, true, false, List, [], ◌∷◌, length, count_by, slice_get, Some, None, inl, inr, refl, sym, ap, ◌∙◌, arith, eq-eqb, ∥∥₁_elim, props, list_any, cases_eq, sum_by-cons}
+use Rattle.gpu_descriptor.proofs.Common.{set_of, Item, State, outstanding, HasSize, Agree, HasNoPools, Key, key_eq, Entry, Bucket, no_pools, LiveSet, set_eq, set_exact, count_by_yes, common_steps, LosesEmpty, are_named, gone_of, left_of, pools_lost, with_pools, without_empty}
+use Rattle.gpu_descriptor.proofs.Common.{is_empty, none-some, true≢false}
 use Rattle.gpu_descriptor.proofs.cleanup.Emptied.{Empties, emptied_agree, emptied_outstanding}
-use Rattle.gpu_descriptor.proofs.cleanup.Splitting.{all_go, gone_twice, id_with, is_named_at, left_or_gone, left_twice, pools_with, split, with_twice}
+use Rattle.gpu_descriptor.proofs.cleanup.Splitting.{Split, all_go, gone_twice, id_with, is_named_at, left_or_gone, left_twice, none_first, pools_with, split, with_twice}
 use Rattle.gpu_descriptor.proofs.lists.Numbers.{entry_at-from}
 use Rattle.gpu_descriptor.proofs.release.Places.{outstanding_at}
+use Rattle.gpu_descriptor.proofs.table.Exact.{key_exact}
 
 -- a pool without live sets has none allocated
 none_live : (live : LiveSet → ℕ) (a : ℕ) → ∥ HasSize live a ∥₁ → ((name : LiveSet) → live name ≡ 0) → a ≡ 0
@@ -91,3 +92,18 @@ module _ (everywhere : Bool) where
   -- where finitely many keys have pools, it is known which pools go
   pub once : (keys : List Key) (s t u : State) → ((k : Key) → list_any (λ l. key_eq l k) keys ≡ false → (s.books k).pools ≡ []) → LosesEmpty everywhere s t → LosesEmpty everywhere s u → t ≡ u
   once keys s t u covers first second = grind arith
+
+-- a trim of one key: its empty pools go
+pub emptied_key : (k : Key) (s : State) → Empties s (without_empty k s)
+emptied_key k s = record {
+  left = λ l. ((without_empty k s).books l).pools;
+  gone = λ l. if key_eq k l then gone_of true (s.books k).pools else [];
+  split = λ l. elim (cases_Bool (key_eq k l)) [
+    | inl own ↦ rw own (subst (λ (x : Key). Split (s.books x).pools (left_of true (s.books k).pools) (gone_of true (s.books k).pools)) (key_exact.same k l own) (split true (s.books k).pools))
+    | inr other ↦ rw other (none_first (s.books l).pools)
+  ];
+  pools = λ l. refl;
+  id = λ l i e at. elim (cases_Bool (key_eq k l)) [ inl own ↦ rw own (ap (λ (x : Key). (s.books x).id) (key_exact.same k l own)) | inr other ↦ rw other refl ];
+  lost = λ l pool named. elim (cases_Bool (key_eq k l)) [ inl own ↦ rw (rw own at named) refl | inr other ↦ absurd (true≢false (sym (rw other at named))) ];
+  kept = λ pool none. rw (rw (key_exact.self k) at (none k)) refl;
+}

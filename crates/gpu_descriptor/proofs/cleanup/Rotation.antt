@@ -8,6 +8,9 @@ use Rattle.gpu_descriptor.proofs.cleanup.RowsCleaned.{sum_filter}
 use Rattle.gpu_descriptor.proofs.lists.AtPlaces.{drop_at, take_get}
 use Rattle.gpu_descriptor.proofs.release.FrontPool.{front_unused, step_stored}
 
+pub none_destroyed : (l : Ledger) → l ≡ ledger_but [] l
+none_destroyed l = (let same : l.counters.destroyed ≡ l.counters.destroyed + 0 = omega arith in λ i. record { pools = l.pools; counters = record l.counters { destroyed = same i } })
+
 module _ {P : Type 0} (name : P → ℕ) (k : Key) where
   abbrev entries : List (DescriptorPool P) → List Entry
   entries pools = map (entry_of name) pools
@@ -20,10 +23,7 @@ module _ {P : Type 0} (name : P → ℕ) (k : Key) where
     pub ledger : after ≡ ledger_but (gone_of true (entries (take n old))) before
 
   pub start : (old : List (DescriptorPool P)) (l : Ledger) → AreBookedIn k l.pools (entries old) → Turning old old 0 l l
-  start old l stored = record { pools = sym (append-nil old); stored = stored; ledger = refl_but }
-    where
-      refl_but : l ≡ ledger_but [] l
-      refl_but = (let same : l.counters.destroyed ≡ l.counters.destroyed + 0 = omega arith in λ i. record { pools = l.pools; counters = record l.counters { destroyed = same i } })
+  start old l stored = record { pools = sym (append-nil old); stored = stored; ledger = none_destroyed l }
 
   module _ (old now : List (DescriptorPool P)) (n : ℕ) (before after : Ledger) (turned : Turning old now n before after) (x : DescriptorPool P) (at : slice_get old n ≡ Some x) where
     -- the next pool is the first, and is in the ledger as the books say

@@ -19,7 +19,7 @@ front_yes x es h = rw h (omega arith)
 front_no : (x : Entry) (es : List Entry) → is_empty x ≡ false → prefix_len is_empty (x ∷ es) ≡ 0
 front_no x es h = rw h refl
 
-none_first : (pools : List Entry) → Split pools pools []
+pub none_first : (pools : List Entry) → Split pools pools []
 none_first [] = (refl, refl)
 none_first (e ∷ pools) = inl (pools, refl, none_first pools)
 

@@ -4,6 +4,7 @@ use Rattle.gpu_descriptor.proofs.Common.{common_steps, ◌≡◌, ℕ, Bool, tru
 use Rattle.gpu_descriptor.proofs.Common.{Bucket, HasDistinctKeys, books_of, Allocations, LosesEmpty, IsForeign, IsNamed, KeepsForeign, is_named, outstanding_of, state_of, table_of, side, GivesBack, Meaning, DescriptorSet, none-some, true≢false}
 use Rattle.gpu_descriptor.specs.Caller.Others.{others_of}
 use Rattle.gpu_descriptor.proofs.cleanup.Cleaning.{no_pool_left}
+use Rattle.gpu_descriptor.proofs.cleanup.Emptied.{Empties, emptied_foreign, emptied_loses}
 use Rattle.gpu_descriptor.proofs.table.Exact.{key_exact}
 use Rattle.gpu_descriptor.proofs.foreign.ForeignPools.{cleaned_foreign, cleaned_loses, freed_foreign, freed_loses}
 use Rattle.gpu_descriptor.proofs.cleanup.Splitting.{named_at}
@@ -71,6 +72,9 @@ module _ {P : Type 0} (name : P → ℕ) where
     | inl is ↦ absurd (let x = named (table_of name a) l.pools q is in all_foreign (state_of name a l) empty q x.0 x.1 x.2 x.3 x.4)
     | inr is ↦ rw is refl
   ])
+
+  pub emptied_others : (a b : Allocations P) (l m : Ledger) → Empties (state_of name a l) (state_of name b m) → others_of name b m ≡ others_of name a l
+  emptied_others a b l m less = others_stay a b l m (emptied_foreign less) (emptied_loses less)
 
   pub cleaned_others : (everywhere : Bool) (a b : Allocations P) (l m : Ledger) → LosesEmpty everywhere (state_of name a l) (state_of name b m) → others_of name b m ≡ others_of name a l
   cleaned_others everywhere a b l m clean = others_stay a b l m (cleaned_foreign everywhere _ _ clean) (cleaned_loses everywhere _ _ clean)

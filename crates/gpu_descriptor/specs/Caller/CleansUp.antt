@@ -1,8 +1,9 @@
 -- What cleaning up and trimming leave of an allocator and of the ledger.
-use Rattle.std.specs.Prelude.{◌≡◌, Bool, true, false}
+use Rattle.std.specs.Prelude.{◌≡◌, Bool, true, false, length}
 use Rattle.gpu_descriptor_types.specs.Meaning.{Meaning}
 use Rattle.gpu_descriptor_types.specs.Side.{Side}
-use Rattle.gpu_descriptor.specs.Model.Cleanup.{LosesEmpty, pools_lost}
+use Rattle.gpu_descriptor.specs.Model.Books.{Key}
+use Rattle.gpu_descriptor.specs.Model.Cleanup.{LosesEmpty, gone_of, pools_lost, without_empty}
 use Rattle.gpu_descriptor.specs.Model.Promises.{KeepsOutstanding}
 use Rattle.gpu_descriptor.specs.Model.Release.{more_destroyed}
 use Rattle.gpu_descriptor.specs.Caller.Keys.{keys_with_pools}
@@ -34,3 +35,18 @@ CleansUp means old new = Sweeps false means old new
 -- all empty pools go
 abbrev pub TrimsPools : {L P S : Type 0} → Meaning L P S → (old new : Side (Allocations P)) → Type 0
 TrimsPools means old new = Sweeps true means old new
+
+-- what a trim of one key leaves
+pub record TrimsKey {L P S : Type 0} (means : Meaning L P S) (k : Key) (old new : Side (Allocations P)) : Type 0 where
+  -- the key lost its empty pools, and all else of books and ledger is as it was
+  pub trimmed : state_of means.pool_name new.value new.ledger ≡ without_empty k (state_of means.pool_name old.value old.ledger)
+  -- as many pools more are destroyed as went, and all other counters stay
+  pub destroyed : new.ledger.counters ≡ more_destroyed (length (gone_of true ((state_of means.pool_name old.value old.ledger).books k).pools)) old.ledger.counters
+  -- the keys stay in their order, those without pools too
+  pub keys : keys_of new.value ≡ keys_of old.value
+  -- the same sets are outstanding as before
+  pub outstanding_stay : KeepsOutstanding (state_of means.pool_name old.value old.ledger) (state_of means.pool_name new.value new.ledger)
+  -- their number and the marked load stay
+  pub totals_stay : (outstanding_of new.value ≡ outstanding_of old.value) × (marked_load_of new.value ≡ marked_load_of old.value)
+  -- no pool is looked at, and nothing is compared
+  pub counts_stay : (new.value.looks ≡ old.value.looks) × (new.value.comparisons ≡ old.value.comparisons)

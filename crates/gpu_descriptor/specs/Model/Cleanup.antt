@@ -1,7 +1,7 @@
--- What cleaning up and trimming leave: each key loses the empty pools at its front, or all empty ones.
+-- What cleaning up and trimming leave: each key, or one, loses the empty pools at its front, or all empty ones.
 use Rattle.std.specs.Prelude.{◌≡◌, ℕ, Bool, true, false, nat_lt, ◌==◌, if◌then◌else◌, List, [], ◌∷◌, drop, filter, length, sum_by, take, None}
 use Rattle.std.specs.List.{list_any, prefix_len}
-use Rattle.gpu_descriptor.specs.Model.Books.{Key, Entry, Bucket, no_pools}
+use Rattle.gpu_descriptor.specs.Model.Books.{Key, Entry, Bucket, key_eq, no_pools}
 use Rattle.gpu_descriptor.specs.Model.Agreement.{State}
 use Rattle.gpu_descriptor.specs.Model.Release.{is_empty}
 
@@ -33,3 +33,10 @@ pub record LosesEmpty (everywhere : Bool) (old new : State) : Type 0 where
 -- how many pools of these keys are destroyed
 abbrev pub pools_lost : Bool → List Key → State → ℕ
 pools_lost everywhere keys s = sum_by (λ k. length (gone_of everywhere (s.books k).pools)) keys
+
+-- the state without this key's empty pools. All else is as it was: the key keeps its id, even without pools
+abbrev pub without_empty : Key → State → State
+without_empty k s = record {
+  books = λ l. if key_eq k l then record (s.books k) { pools = left_of true (s.books k).pools } else s.books l;
+  ledger = λ pool. if are_named (gone_of true (s.books k).pools) pool then None else s.ledger pool;
+}

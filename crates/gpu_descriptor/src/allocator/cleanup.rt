@@ -2,13 +2,16 @@
 ghost use Rattle.std.specs.Prelude.{◌≡◌};
 ghost use Rattle.gpu_descriptor_types.specs.Side.{side};
 ghost use Rattle.gpu_descriptor.specs.Inner.Buckets.{has_pools};
-ghost use Rattle.gpu_descriptor.specs.Caller.CleansUp.{CleansUp, Sweeps, TrimsPools};
+ghost use Rattle.gpu_descriptor.specs.Caller.Call.{layout_key};
+ghost use Rattle.gpu_descriptor.specs.Caller.CleansUp.{CleansUp, Sweeps, TrimsKey, TrimsPools};
 ghost use Rattle.gpu_descriptor.specs.Caller.Keeps.{Keeps};
+ghost use Rattle.gpu_descriptor.specs.Caller.SetLayouts.{IsMeant};
 ghost use Rattle.gpu_descriptor.specs.Caller.States.{Agrees};
 
 use super::DescriptorAllocator;
 use crate::bucket::DescriptorBucket;
 use crate::key::BucketKey;
+use crate::layout::SetLayout;
 use gpu_descriptor_types::DescriptorDevice;
 
 impl<P: Drop, S> DescriptorAllocator<P, S> {
@@ -59,5 +62,33 @@ impl<P: Drop, S> DescriptorAllocator<P, S> {
                 ensures { (result ≡ has_pools bucket.old) × (bucket.new ≡ bucket.old) }
             { !bucket.pools.is_empty() },
         );
+    }
+}
+
+impl<P, S> DescriptorAllocator<P, S> {
+    /// Destroys the pools of a layout's key that have no set, wherever they are. It allocates nothing and
+    /// can't fail.
+    ///
+    /// Layouts with the same counts and the same mark have one key, and share its pools. It takes a look-up
+    /// of the key, and goes over no other pools. The key stays, also without pools, until `cleanup` or `trim`
+    /// forgets it. The original has no such call. `device` must be that of all other calls.
+    pub fn trim_layout<L, D: DescriptorDevice<L, P, S>>(
+        &mut self,
+        device: &mut D,
+        layout: &SetLayout<L>,
+    )
+        requires meant { IsMeant D.meaning layout.now }
+        requires agree { Agrees D.meaning.pool_name self.old (D.ledger device.old) }
+        ensures trims { TrimsKey D.meaning (layout_key D.meaning layout.now.layout)
+            (side self.old (D.ledger device.old)) (side self.new (D.ledger device.new)) }
+        ensures keeps { Keeps D.meaning (side self.old (D.ledger device.old))
+            (side self.new (D.ledger device.new)) }
+    {
+        let key = layout.key();
+        let Some(place) = self.table.place_of_key(&key) else {
+            return;
+        };
+        let (key, bucket) = self.table.buckets.pair_mut(place);
+        bucket.destroy_empty(device, key, &mut self.budget.room, true);
     }
 }

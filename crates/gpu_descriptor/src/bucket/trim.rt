@@ -1,5 +1,5 @@
 //! The empty pools of a bucket, which go when it is cleaned up or trimmed.
-ghost use Rattle.std.specs.Prelude.{◌≡◌, ◌+◌, ◌<◌, ◌≤◌, ◌^◌, filter, length, map, true};
+ghost use Rattle.std.specs.Prelude.{◌≡◌, ◌+◌, ◌<◌, ◌≤◌, ◌^◌, IsTrue, filter, length, map, true};
 ghost use Rattle.std.specs.VecDeque.{deque_capacity};
 ghost use Rattle.gpu_descriptor.specs.Inner.Buckets.{AreBookedIn, ledger_but};
 ghost use Rattle.gpu_descriptor.specs.Inner.KeyOf.{key_of};
@@ -38,14 +38,29 @@ impl<P> DescriptorBucket<P> {
         ensures room { room.new + stored_load (key_of key.now) self.new.pools.items
             ≡ room.old + stored_load (key_of key.now) self.old.pools.items }
     {
-        if everywhere {
-            destroy_without_sets(&mut self.pools, device, key, room);
-            relist(&mut self.listed, &self.pools);
-            self.first = first_ordinal_of(&self.pools);
-        } else {
+        if !everywhere {
             self.destroy_empty_front(device, key, room, 0);
+            return;
+        }
+        if all_have_sets(&self.pools) {
+            return;
+        }
+        destroy_without_sets(&mut self.pools, device, key, room);
+        relist(&mut self.listed, &self.pools);
+        self.first = first_ordinal_of(&self.pools);
+    }
+}
+
+/// Whether each pool has a set, in fewer instructions than taking each from the front.
+fn all_have_sets<P>(pools: &VecDeque<DescriptorPool<P>>) -> bool
+    ensures { IsTrue result → filter has_sets pools.now.items ≡ pools.now.items }
+{
+    for place in 0..pools.len() {
+        if pools[place].allocated == 0 {
+            return false;
         }
     }
+    true
 }
 
 /// Destroys the pools without sets. Each pool is taken from the front, and those that stay go to the

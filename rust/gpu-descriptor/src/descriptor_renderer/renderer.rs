@@ -94,15 +94,16 @@ impl<L, P, S, D: DescriptorDevice<L, P, S>> Renderer<L, P, S, D> {
     }
 
     /// Removes a layout, and returns it. Its handle names none from now on, and none later. Its kept sets
-    /// are given back. Its other sets stay as they are, and aren't kept when they come back. It allocates
-    /// nothing.
+    /// are given back, and then the pools of its key that have no set are destroyed, as by the allocator's
+    /// `trim_layout`. Its other sets stay as they are, and aren't kept when they come back: a pool that they
+    /// leave empty may stay until `trim` or `cleanup`. It allocates nothing.
     ///
     /// It returns `NoLayout` if the handle names no layout, and then nothing changed.
     pub fn remove_layout(&mut self, layout: LayoutHandle) -> Result<SetLayout<L>, RenderError>
     {
         match self.layouts.remove(layout) {
             Some(removed) => {
-                self.store.remove_layout(layout.place());
+                self.store.remove_layout(&removed, layout.place());
                 Ok(removed)
             }
             None => Err(RenderError::NoLayout),
@@ -169,8 +170,7 @@ impl<L, P, S, D: DescriptorDevice<L, P, S>> Renderer<L, P, S, D> {
         self.is_open
     }
 
-    /// How many sets are held, how many wait, and how many are kept. It goes over the layouts, and over
-    /// the frames that sets wait for.
+    /// How many sets are held, how many wait, and how many are kept. It goes over the layouts.
     pub fn counts(&self) -> Counts
     {
         Counts {

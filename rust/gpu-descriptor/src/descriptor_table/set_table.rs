@@ -3,14 +3,14 @@
 
 mod back;
 mod counts;
-mod frames;
 mod handles;
 mod layouts;
 mod lists;
 mod sets;
+mod waiting;
 
 use crate::descriptor_table::handle::SetHandle;
-use crate::descriptor_table::slot::{FrameChain, ListHead, Use};
+use crate::descriptor_table::slot::{ListHead, Use};
 use crate::descriptor_table::slot_list::SlotList;
 use crate::kit::alloc::{AllocError, Global};
 use crate::kit::collections::VecDeque;
@@ -37,8 +37,8 @@ pub struct SetTable<T> {
     /// The lists, but for those of sets that wait.
     pub(crate) lists: Vec<ListHead>,
 
-    /// The lists of sets that wait, by rising frames. None is empty.
-    pub(crate) frames: VecDeque<FrameChain>,
+    /// The places of the sets that wait for a frame, by rising frames.
+    pub(crate) waiting: VecDeque<u32>,
 
     /// How many sets of a layout are kept at most.
     pub(crate) keep: u32,
@@ -52,7 +52,7 @@ impl<T> SetTable<T> {
             number,
             slots: SlotList::new(alloc),
             lists: Vec::new(alloc),
-            frames: VecDeque::new(alloc),
+            waiting: VecDeque::new(alloc),
             keep: u32::MAX,
         }
     }
@@ -112,7 +112,7 @@ impl<T> SetTable<T> {
         }
         self.slots.reserve(additional as usize)?;
         let places = places as usize;
-        self.frames
-            .reserve(places.saturating_sub(self.frames.len()))
+        self.waiting
+            .reserve(places.saturating_sub(self.waiting.len()))
     }
 }

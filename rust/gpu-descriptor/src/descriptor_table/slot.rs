@@ -54,6 +54,16 @@ impl Use {
         }
     }
 
+    /// The frame that such a set waits for. It is 0 if it waits for none.
+    #[inline]
+    pub(crate) fn frame(self) -> u64
+    {
+        match self {
+            Use::Drawn(frame) | Use::Waits(frame) => frame,
+            Use::Held | Use::Kept | Use::Going | Use::Taken | Use::Vacant => 0,
+        }
+    }
+
     /// Whether the handle of such a set names it, in this frame if one is open.
     #[inline]
     pub fn is_live(self, frame: u64, is_open: bool) -> bool
@@ -81,12 +91,4 @@ pub struct ListHead {
     /// How many layouts of its number were removed. A set that came under one of these isn't kept when
     /// it comes back.
     pub(crate) generation: u32,
-}
-
-/// The sets that wait for a frame.
-#[derive(Clone, Copy)]
-pub struct FrameChain {
-    pub(crate) frame: u64,
-    pub(crate) first: u32,
-    pub(crate) count: u32,
 }

@@ -47,7 +47,7 @@ impl<P> KeyTable<P> {
     /// the one after it, and the first. These serve keys that are used in the order in which they first
     /// came, again and again.
     #[inline]
-    fn place_of_key(&self, key: &BucketKey) -> Option<usize>
+    pub(crate) fn place_of_key(&self, key: &BucketKey) -> Option<usize>
     {
         if self.has_key(self.last, key) {
             return Some(self.last);

@@ -9,6 +9,9 @@ use std::collections::VecDeque;
 /// A raw set is its pool and its place there.
 pub type Set = (usize, usize);
 
+/// How many pools there are, their sets and their descriptors.
+pub type Sums = [u64; 3];
+
 /// How many pools there may be at a time, and how many sets in one.
 const POOLS: usize = 400;
 const PLACES: usize = 600;
@@ -40,6 +43,10 @@ pub struct Gpu {
     /// there may be.
     created: RefCell<Vec<(u32, u64)>>,
 
+    /// The same of each pool, and the most pools, sets and descriptors of pools that there were.
+    sizes: RefCell<Vec<(u32, u64)>>,
+    peak: Cell<Sums>,
+
     /// Which sets which frame reads.
     reads: RefCell<Vec<(u64, Set)>>,
 
@@ -61,6 +68,8 @@ impl Gpu {
             exists: RefCell::new(vec![false; POOLS]),
             destroyed: RefCell::new(VecDeque::with_capacity(POOLS)),
             created: RefCell::new(Vec::with_capacity(POOLS)),
+            sizes: RefCell::new(vec![(0, 0); POOLS]),
+            peak: Cell::default(),
             reads: RefCell::default(),
             calls: Cell::new(0),
             faulty: Cell::new(u64::MAX),
@@ -102,6 +111,20 @@ impl Gpu {
             .range(destroyed.len() - count..)
             .copied()
             .collect()
+    }
+
+    /// How many pools there are, for how many sets, and with how many descriptors.
+    pub fn sums(&self) -> Sums {
+        let (exists, sizes) = (self.exists.borrow(), self.sizes.borrow());
+        let pools = exists.iter().zip(sizes.iter()).filter(|it| *it.0);
+        pools.fold([0; 3], |[pools, sets, descriptors], (_, of)| {
+            [pools + 1, sets + u64::from(of.0), descriptors + of.1]
+        })
+    }
+
+    /// The most of each that there were at once.
+    pub fn peak(&self) -> Sums {
+        self.peak.get()
     }
 
     /// The pools that came since the last call: for how many sets, and their descriptors.
@@ -152,9 +175,14 @@ impl DescriptorDevice<u32, usize, Set> for Gpu {
         let mut exists = self.exists.borrow_mut();
         let pool = exists.iter().position(|it| !it).unwrap();
         exists[pool] = true;
+        drop(exists);
+        let size = (max_sets, counts.total_u64());
+        self.sizes.borrow_mut()[pool] = size;
+        let (now, peak) = (self.sums(), self.peak.get());
+        self.peak.set([0, 1, 2].map(|at| peak[at].max(now[at])));
         let mut created = self.created.borrow_mut();
         if created.len() < created.capacity() {
-            created.push((max_sets, counts.total_u64()));
+            created.push(size);
         }
         Ok(pool)
     }

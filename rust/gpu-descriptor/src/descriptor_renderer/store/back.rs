@@ -3,7 +3,7 @@
 
 use super::Store;
 use crate::descriptor_table::{Due, Giving, SetName};
-use crate::gpu_descriptor::{DescriptorDevice, DescriptorSet};
+use crate::gpu_descriptor::{DescriptorDevice, DescriptorSet, SetLayout};
 
 impl<L, P, S, D: DescriptorDevice<L, P, S>> Store<L, P, S, D> {
     /// Frees the sets that were let go. In most frames there are none.
@@ -99,12 +99,13 @@ impl<L, P, S, D: DescriptorDevice<L, P, S>> Store<L, P, S, D> {
     }
 
     /// Removes a layout: its kept sets are given back, and its other sets aren't kept when they come back,
-    /// not even once another layout has its number.
-    pub(crate) fn remove_layout(&mut self, layout: u32)
+    /// not even once another layout has its number. Then the empty pools of its key are destroyed.
+    pub(crate) fn remove_layout(&mut self, known: &SetLayout<L>, layout: u32)
     {
         self.table.let_kept_go(layout);
         self.table.remove_layout(layout);
         self.give();
+        self.allocator.trim_layout(&mut self.device, known);
     }
 
     /// Gives all sets back: those that are held, those that wait for a frame, and those that are kept.

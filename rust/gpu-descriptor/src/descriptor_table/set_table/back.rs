@@ -116,8 +116,7 @@ impl<T> SetTable<T> {
     /// Lets all sets that wait for a frame go.
     pub fn let_waiting_go(&mut self)
     {
-        while !self.frames.is_empty() {
-            let place = self.pick_earliest();
+        while let Some(place) = self.pick_waiting() {
             self.link(GOING, place, Use::Going);
         }
     }

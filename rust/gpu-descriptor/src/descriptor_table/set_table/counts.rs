@@ -34,13 +34,10 @@ impl<T> SetTable<T> {
         total
     }
 
-    /// How many sets wait for a frame. It goes over these frames.
+    /// How many sets wait for a frame.
+    #[inline]
     pub fn waiting_total(&self) -> u64
     {
-        let mut total = 0;
-        for index in 0..self.frames.len() {
-            total += u64::from(self.frames[index].count);
-        }
-        total
+        self.waiting.len() as u64
     }
 }

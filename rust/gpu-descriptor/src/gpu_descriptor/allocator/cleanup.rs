@@ -4,6 +4,7 @@
 use super::DescriptorAllocator;
 use crate::gpu_descriptor::bucket::DescriptorBucket;
 use crate::gpu_descriptor::key::BucketKey;
+use crate::gpu_descriptor::layout::SetLayout;
 use crate::gpu_descriptor_types::DescriptorDevice;
 
 impl<P, S> DescriptorAllocator<P, S> {
@@ -38,5 +39,27 @@ impl<P, S> DescriptorAllocator<P, S> {
             |_key: &BucketKey, bucket: &mut DescriptorBucket<P>| -> bool
             { !bucket.pools.is_empty() },
         );
+    }
+}
+
+impl<P, S> DescriptorAllocator<P, S> {
+    /// Destroys the pools of a layout's key that have no set, wherever they are. It allocates nothing and
+    /// can't fail.
+    ///
+    /// Layouts with the same counts and the same mark have one key, and share its pools. It takes a look-up
+    /// of the key, and goes over no other pools. The key stays, also without pools, until `cleanup` or `trim`
+    /// forgets it. The original has no such call. `device` must be that of all other calls.
+    pub fn trim_layout<L, D: DescriptorDevice<L, P, S>>(
+        &mut self,
+        device: &mut D,
+        layout: &SetLayout<L>,
+    )
+    {
+        let key = layout.key();
+        let Some(place) = self.table.place_of_key(&key) else {
+            return;
+        };
+        let (key, bucket) = self.table.buckets.pair_mut(place);
+        bucket.destroy_empty(device, key, &mut self.budget.room, true);
     }
 }

@@ -17,14 +17,28 @@ impl<P> DescriptorBucket<P> {
         everywhere: bool,
     )
     {
-        if everywhere {
-            destroy_without_sets(&mut self.pools, device, key, room);
-            relist(&mut self.listed, &self.pools);
-            self.first = first_ordinal_of(&self.pools);
-        } else {
+        if !everywhere {
             self.destroy_empty_front(device, key, room, 0);
+            return;
+        }
+        if all_have_sets(&self.pools) {
+            return;
+        }
+        destroy_without_sets(&mut self.pools, device, key, room);
+        relist(&mut self.listed, &self.pools);
+        self.first = first_ordinal_of(&self.pools);
+    }
+}
+
+/// Whether each pool has a set, in fewer instructions than taking each from the front.
+fn all_have_sets<P>(pools: &VecDeque<DescriptorPool<P>>) -> bool
+{
+    for place in 0..pools.len() {
+        if pools[place].allocated == 0 {
+            return false;
         }
     }
+    true
 }
 
 /// Destroys the pools without sets. Each pool is taken from the front, and those that stay go to the

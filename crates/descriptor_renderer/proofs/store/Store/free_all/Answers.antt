@@ -1,7 +1,7 @@
 use Rattle.std.proofs.Common.{◌≡◌, ℕ, ◌∙◌, rules}
 use Rattle.descriptor_table.specs.Sets.{sets_in}
-use Rattle.descriptor_table.specs.Slots.{slot_at}
-use Rattle.descriptor_table.specs.Tables.{holds, is_kept, slots_of, waits}
+use Rattle.descriptor_table.specs.Slots.{slot_at, waits}
+use Rattle.descriptor_table.specs.Tables.{holds, is_kept, slots_of}
 use Rattle.descriptor_renderer.proofs.Given.{accounted_as, exact_as}
 use Rattle.descriptor_renderer.proofs.Back.{leaving_sets}
 use Rattle.descriptor_renderer.proofs.Cleaned.{gone_sets}

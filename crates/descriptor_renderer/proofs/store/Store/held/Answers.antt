@@ -1,6 +1,7 @@
 use Rattle.std.proofs.Common.{◌≡◌, ◌+◌, length, ap, arith}
 use Rattle.gpu_descriptor.specs.Caller.States.{outstanding_of}
-use Rattle.descriptor_table.specs.Tables.{count, holds, is_kept, waits}
+use Rattle.descriptor_table.specs.Slots.{waits}
+use Rattle.descriptor_table.specs.Tables.{count, holds, is_kept}
 use Rattle.descriptor_renderer.specs.Stores.{slots_in}
 use Rattle.descriptor_renderer.proofs.Resting.{placed_count}
 use Rattle.descriptor_renderer.proofs.store.Store.held.Given.{Over}

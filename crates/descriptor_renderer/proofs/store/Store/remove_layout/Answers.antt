@@ -6,7 +6,7 @@ use Rattle.descriptor_table.specs.Sets.{sets_in}
 use Rattle.descriptor_table.specs.Slots as table
 use Rattle.descriptor_table.specs.Slots.{goes, is_kept_of}
 use Rattle.descriptor_table.specs.Tables.{Turns, Becomes, removed_at, slots_of, vacated}
-use Rattle.descriptor_renderer.specs.Stores.{slots_in}
+use Rattle.descriptor_renderer.specs.Stores.{side_of, slots_in}
 use Rattle.descriptor_renderer.proofs.Given.{accounted_as, exact_as}
 use Rattle.descriptor_renderer.proofs.Following.{follow_turns, follows_vacated}
 use Rattle.descriptor_renderer.proofs.Removing.{given_under, left_sets, removed_turns}
@@ -38,7 +38,7 @@ returns-clause-removes g c =
     let mid = slots_of c.remove_layout.new.self in
     let gives = c.give.ensures in
     record {
-      turns = turns g c;
+      turns = turns g (goal.at.returns-clause-removes g c).After-give;
       generations = c.give.ensures.stays.store.generations ∙ c.remove_layout.ensures.only.settings.generations ∙ ap (removed_at c.args.layout) c.let_kept_go.ensures.turns.stays.settings.generations;
       past = λ p at.
           let under = given_under c.args.layout mid new gives.turns p in
@@ -46,7 +46,9 @@ returns-clause-removes g c =
           let same = ap (λ (u : ℕ × ℕ). u.1) under in
           let most = ap (λ (generations : ℕ → ℕ). generations c.args.layout) c.give.ensures.stays.store.generations in
           omega arith;
+      mid = side_of c.give.new.self;
       back = gives.back;
+      trims = c.trim_layout.ensures.trims;
       gave = λ t. (
           let coming = λ (l : List (DescriptorSet g.row.S.Denot)). count_of t (items_of g.D.DescriptorDevice.meaning.set_name l) in
           let none = ap coming c.give.ensures.stays.coming in
@@ -61,4 +63,4 @@ pub returns-clause-settles : goal.returns-clause-settles
 returns-clause-settles g c =
     let old = slots_in c.args.self.now in
     let new = slots_in c.give.new.self in
-    settled c.args.self.now c.give.new.self (follow_turns (is_kept_of c.args.layout) (Becomes vacated) old new (turns g c) (λ o n e. follows_vacated o n e)) (c.give.ensures.stays.coming ∙ c.requires.rest.none_coming) c.requires.rest (search rules)
+    settled _ _ (follow_turns (is_kept_of c.args.layout) (Becomes vacated) old new (turns g (goal.at.returns-clause-settles g c).After-give) (λ o n e. follows_vacated o n e)) (c.give.ensures.stays.coming ∙ c.requires.rest.none_coming) c.requires.rest (search rules)

@@ -25,7 +25,7 @@ is_list g c = sym (chain_was c.args.self.now.lists.items (c.args.layout + 2) c.i
 
 -- its first slot is there, and in it
 first : (g : _) (c : Else-head-eq0 g) → (c.in_ok-head.head.now.chain.first < length (slots_in c.args.self.now.slots)) × (is_in (c.args.layout + 2) (slot_at (slots_in c.args.self.now.slots) c.in_ok-head.head.now.chain.first) ≡ true)
-first g c = let s = c.args.self.now in picked (slots_in s.slots) (nexts_in s.slots) (chains_in s.lists.items) (c.args.layout + 2) c.in_ok-head.head.now.chain s.sound.linked (is_list g c) c.if-head-eq0.false
+first g c = let s = c.args.self.now in picked (slots_in s.slots) (nexts_in s.slots) (chains_in s.lists.items) s.sound.linked (c.args.layout + 2) c.in_ok-head.head.now.chain (is_list g c) c.if-head-eq0.false
 
 -- the head without it
 abbrev new_head : (g : _) (c : After-renew-generation g) → ListHead
@@ -79,8 +79,8 @@ invariant_of-self-2 g c =
     let d = (goal.at.invariant_of-self-2 g c).Else-head-eq0 in
     let p = first g d in
     let new = renewed Held (slot_at (slots_in s.slots) at) in
-    let sound = pick_sound s.slots c.renew-generation.new.self (chains_in s.lists.items) (generations_in s.lists.items) s.frames.items s.frames.cap s.keep s.sound at new c.renew-generation.ensures.writes.slots (c.args.layout + 2) c.in_ok-head.head.now.chain c.at.result.now.next (is_list g d) c.if-head-eq0.false (there g d) c.at.ensures.next refl c.renew-generation.ensures.nexts (λ j. refl) (λ f. refl) (listed s.slots s.slots (chains_in s.lists.items) (generations_in s.lists.items) s.frames.items s.frames.cap s.keep s.sound at new p.0 refl refl (λ e. absurd (false≢true e))) in
-    record { sound = in_place (λ chains generations. AreSound c.renew-generation.new.self chains generations s.frames.items s.frames.cap s.keep) _ _ _ _ (chains g a) (generations g a) sound }
+    let sound = pick_sound s.slots c.renew-generation.new.self (chains_in s.lists.items) (generations_in s.lists.items) s.waiting.items s.waiting.cap s.keep s.sound at new c.renew-generation.ensures.writes.slots (c.args.layout + 2) c.in_ok-head.head.now.chain c.at.result.now.next (is_list g d) c.if-head-eq0.false (there g d) c.at.ensures.next refl c.renew-generation.ensures.nexts (λ j. refl) refl (listed s.slots s.slots (chains_in s.lists.items) (generations_in s.lists.items) s.waiting.items s.waiting.cap s.keep s.sound at new p.0 refl refl (λ e. absurd (false≢true e))) in
+    record { sound = in_place (λ chains generations. AreSound c.renew-generation.new.self chains generations s.waiting.items s.waiting.cap s.keep) _ _ _ _ (chains g a) (generations g a) sound }
 
 pub returns-clause-holds : goal.returns-clause-holds
 returns-clause-holds g c =
@@ -100,5 +100,5 @@ returns-clause-stays g c =
     record {
       settings = record { number = refl; lists = length-map _ _ ∙ length-set s.lists.items (c.args.layout + 2) (new_head g a) ∙ sym (length-map _ _); generations = ap generation_at (generations g a); keep = refl };
       space = c.renew-generation.ensures.writes.space;
-      frames = refl;
+      waiting = refl;
     }

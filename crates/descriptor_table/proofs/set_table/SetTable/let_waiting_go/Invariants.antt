@@ -1,14 +1,15 @@
-use Rattle.descriptor_table.specs.Tables.{Becomes, Stays, count, slots_of, used_for, waits}
+use Rattle.descriptor_table.specs.Slots.{waits}
+use Rattle.descriptor_table.specs.Tables.{Becomes, Stays, count, slots_of, used_for}
 use Rattle.descriptor_table.proofs.Turning.{Turning}
 use Rattle.descriptor_table.specs.declared.slot.Use.TheVariants.{Going}
 use Rattle.descriptor_table.proofs.set_table.SetTable.let_waiting_go.Given as goal
 
 -- some of the sets that wait go
-abbrev pub invariant-loop-self : goal.invariant-loop-self
-invariant-loop-self g l = record {
+abbrev pub invariant-loop-place : goal.invariant-loop-place
+invariant-loop-place g l = record {
   turning : Turning waits (Becomes (used_for Going)) (slots_of l.fn.self) (slots_of l.self);
   stays : Stays l.fn.self l.self;
 }
 
-abbrev pub decreases-loop-self : goal.decreases-loop-self
-decreases-loop-self g l = count waits (slots_of l.self)
+abbrev pub decreases-loop-place : goal.decreases-loop-place
+decreases-loop-place g l = count waits (slots_of l.self)

@@ -1,4 +1,4 @@
-use Rattle.std.proofs.Common.{◌≡◌, ◌-◌, ◌<◌, length, true, refl, sym, ap, set, ◌∙◌, arith, rules}
+use Rattle.std.proofs.Common.{◌≡◌, ◌-◌, ◌<◌, length, true, refl, sym, ap, set, ◌∙◌, arith}
 use Rattle.std.proofs.lemmas.List.{length-map, length-set}
 use Rattle.descriptor_table.specs.Slots.{AreSound, chain_at, chains_in, generation_at, generations_in, is_in, nexts_in, slot_at, slots_in}
 use Rattle.descriptor_table.specs.Tables.{used_for}
@@ -21,7 +21,7 @@ is_list g c = sym (chain_was c.args.self.now.lists.items c.args.list c.in_ok-hea
 
 -- its first slot is there, and in it
 first : (g : _) (c : Else-head-eq0 g) → (c.in_ok-head.head.now.chain.first < length (slots_in c.args.self.now.slots)) × (is_in c.args.list (slot_at (slots_in c.args.self.now.slots) c.in_ok-head.head.now.chain.first) ≡ true)
-first g c = let s = c.args.self.now in picked (slots_in s.slots) (nexts_in s.slots) (chains_in s.lists.items) c.args.list c.in_ok-head.head.now.chain s.sound.linked (is_list g c) c.if-head-eq0.false
+first g c = let s = c.args.self.now in picked (slots_in s.slots) (nexts_in s.slots) (chains_in s.lists.items) s.sound.linked c.args.list c.in_ok-head.head.now.chain (is_list g c) c.if-head-eq0.false
 
 -- the head without it
 abbrev new_head : (g : _) (c : After-set_use g) → ListHead
@@ -48,8 +48,8 @@ invariant_of-self-2 g c =
     let at = c.in_ok-head.head.now.chain.first in
     let p = first g d in
     let new = used_for Taken (slot_at (slots_in s.slots) at) in
-    let sound = pick_sound s.slots c.set_use.new.self (chains_in s.lists.items) (generations_in s.lists.items) s.frames.items s.frames.cap s.keep s.sound at new c.set_use.ensures.writes.slots c.args.list c.in_ok-head.head.now.chain c.at.result.now.next (is_list g d) c.if-head-eq0.false (there g d) c.at.ensures.next refl c.set_use.ensures.nexts (λ j. refl) (λ f. refl) (listed s.slots s.slots (chains_in s.lists.items) (generations_in s.lists.items) s.frames.items s.frames.cap s.keep s.sound at new p.0 refl refl (taken_unkept new)) in
-    record { sound = in_place (λ chains generations. AreSound c.set_use.new.self chains generations s.frames.items s.frames.cap s.keep) _ _ _ _ (chains g a) (generations g a) sound }
+    let sound = pick_sound s.slots c.set_use.new.self (chains_in s.lists.items) (generations_in s.lists.items) s.waiting.items s.waiting.cap s.keep s.sound at new c.set_use.ensures.writes.slots c.args.list c.in_ok-head.head.now.chain c.at.result.now.next (is_list g d) c.if-head-eq0.false (there g d) c.at.ensures.next refl c.set_use.ensures.nexts (λ j. refl) refl (listed s.slots s.slots (chains_in s.lists.items) (generations_in s.lists.items) s.waiting.items s.waiting.cap s.keep s.sound at new p.0 refl refl (taken_unkept new)) in
+    record { sound = in_place (λ chains generations. AreSound c.set_use.new.self chains generations s.waiting.items s.waiting.cap s.keep) _ _ _ _ (chains g a) (generations g a) sound }
 
 pub returns-clause-picks : goal.returns-clause-picks
 returns-clause-picks g c =
@@ -61,7 +61,7 @@ returns-clause-picks g c =
       stays = record {
         settings = record { number = refl; lists = length-map _ _ ∙ length-set s.lists.items c.args.list (new_head g a) ∙ sym (length-map _ _); generations = ap generation_at (generations g a); keep = refl };
         space = c.set_use.ensures.writes.space;
-        frames = refl;
+        waiting = refl;
       };
     }
 

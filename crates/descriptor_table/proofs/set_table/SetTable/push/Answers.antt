@@ -1,4 +1,4 @@
-use Rattle.std.proofs.Common.{◌≡◌, ◌∙◌, ◌++◌, ◌∷◌, [], length, refl, ap, subst, arith, rules}
+use Rattle.std.proofs.Common.{◌∙◌, ◌++◌, ◌∷◌, [], length, refl, ap, arith, rules}
 use Rattle.std.proofs.lemmas.List.{length_push}
 use Rattle.descriptor_table.specs.Slots.{Slot, slots_in, taken_slot, chains_in, generations_in}
 use Rattle.descriptor_table.specs.Tables.{count, generations_of, is_usable}
@@ -23,9 +23,9 @@ invariant_of-self g c =
     let s = c.args.self.now in
     let full = none_count is_usable (slots_in s.slots) c.requires.full in
     let few = c.requires.room.few in
-    let room = c.requires.room.frames in
+    let room = c.requires.room.waiting in
     let generation = c.generation-layout_generation.ensures in
-    record { sound = push_sound s.slots c.push.new.self (chains_in s.lists.items) (generations_in s.lists.items) s.frames.items s.frames.cap s.keep s.sound (put_slot g (goal.at.invariant_of-self g c).After-generation-layout_generation) refl c.push.ensures.slots c.push.ensures.nexts (record { there = c.requires.layout; before = omega arith; kept = λ kept. generation }) (omega arith) (omega arith) }
+    record { sound = push_sound s.slots c.push.new.self (chains_in s.lists.items) (generations_in s.lists.items) s.waiting.items s.waiting.cap s.keep s.sound (put_slot g (goal.at.invariant_of-self g c).After-generation-layout_generation) refl c.push.ensures.slots c.push.ensures.nexts (record { there = c.requires.layout; before = omega arith; kept = λ kept. generation }) (omega arith) (omega arith) }
 
 pub returns : goal.returns
 returns g c =
@@ -37,6 +37,6 @@ returns g c =
     let space = c.push.ensures.space in
     record {
       puts = puts_last (generations_of s) c.args.layout c.args.set (slots_in s.slots) (slots_in c.push.new.self) c.len-place.result c.len-place.ensures (c.push.ensures.slots ∙ ap (λ n. slots_in s.slots ++ taken_slot 0 c.args.layout n c.args.set ∷ []) c.generation-layout_generation.ensures) c.requires.full;
-      reserve = λ n room. record { few = (let h = room.few in omega arith); slots = (let h = room.slots in omega arith); frames = (let h = room.frames in omega arith) };
+      reserve = λ n room. record { few = (let h = room.few in omega arith); slots = (let h = room.slots in omega arith); waiting = (let h = room.waiting in omega arith) };
       settings = search rules;
     }

@@ -1,8 +1,7 @@
 use Rattle.std.proofs.Common.{◌≡◌, ◌+◌, ◌<◌, ◌≤◌, inl, inr, length, set, refl, sym, ap, subst, ◌∙◌, arith}
 use Rattle.std.proofs.Math.Seq.{map-set_same}
-use Rattle.std.proofs.lemmas.List.{get_or-map, length-map, length-set, map-set}
+use Rattle.std.proofs.lemmas.List.{get_or-map, length-map, map-set}
 use Rattle.descriptor_table.specs.Slots.{AreSound, chains_in, generation_at, generations_in, slot_at, slots_in}
-use Rattle.descriptor_table.specs.declared.slot.Chain.{Chain}
 use Rattle.descriptor_table.specs.declared.slot.ListHead.{ListHead}
 use Rattle.descriptor_table.proofs.Counting.{below_or}
 use Rattle.descriptor_table.proofs.Entries.{in_place}
@@ -32,7 +31,7 @@ pub invariant_of-self : goal.invariant_of-self
 invariant_of-self g c =
     let s = c.args.self.now in
     let a = (goal.at.invariant_of-self g c).After-index_mut in
-    record { sound = in_place (λ chains generations. AreSound s.slots chains generations s.frames.items s.frames.cap s.keep) _ _ _ _ (chains g a) (generations g a) (remove_sound s.slots (chains_in s.lists.items) (generations_in s.lists.items) s.frames.items s.frames.cap s.keep s.sound c.args.layout (within g a) c.requires.none_kept) }
+    record { sound = in_place (λ chains generations. AreSound s.slots chains generations s.waiting.items s.waiting.cap s.keep) _ _ _ _ (chains g a) (generations g a) (remove_sound s.slots (chains_in s.lists.items) (generations_in s.lists.items) s.waiting.items s.waiting.cap s.keep s.sound c.args.layout (within g a) c.requires.none_kept) }
 
 pub returns-clause-only : goal.returns-clause-only
 returns-clause-only g c =

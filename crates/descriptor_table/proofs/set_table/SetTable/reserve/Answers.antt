@@ -20,7 +20,7 @@ returns-then-additional-vacant-clause-room g c =
     let room = s.sound.sized.room in
     let space = s.slots.entries.ok in
     let long = length-map s.slots.entries.items slot_of in
-    record { few = omega arith; slots = omega arith; frames = omega arith }
+    record { few = omega arith; slots = omega arith; waiting = omega arith }
 
 pub returns-clause-room : goal.returns-clause-room
 returns-clause-room g c =

@@ -1,0 +1,120 @@
+-- The queue of the sets that wait, when a place comes to it or leaves it: for `put_place`, and `SetTable::wait`, `pick_waiting` and `pick_due`.
+use Rattle.std.proofs.lemmas.Grind.{common_steps}
+use Rattle.std.proofs.Common.{◌≡◌, ◌≢◌, ℕ, zero, suc, ◌+◌, ◌-◌, ◌<◌, ◌≤◌, ◌==◌, ◌&&◌, Bool, true, false, if◌then◌else◌, List, [], ◌∷◌, ◌++◌, insert, length, take, drop, get_or, set, is_some, nat_le, inl, inr, refl, sym, ap, subst, ◌∙◌, arith}
+use Rattle.std.proofs.lemmas.List.{append_assoc, length-drop, length-set}
+use Rattle.std.proofs.lemmas.Bool.{true≢false}
+use Rattle.std.proofs.lemmas.List.Sorted.{IsNonDecreasingBy-drop, IsNonDecreasingBy-insert}
+use Rattle.std.proofs.Math.Seq.{drop-append_seam, take-append_seam}
+use Rattle.std.specs.List.Sorted.{IsNonDecreasingBy, IsPartitionPoint}
+use Rattle.descriptor_table.specs.Places.{times}
+use Rattle.descriptor_table.specs.Slots.{IsQueue, Slot, frame_of, is_due, slot_at, waits, waits_for}
+use Rattle.descriptor_table.specs.declared.slot.Use.{Use}
+use Rattle.descriptor_table.proofs.Counting.{same_or, times_here, times_there}
+use Rattle.descriptor_table.proofs.Listed.{first_passes, lists_few, lists_other, lists_pop, lists_push, not_listed, one_none, other_slots, slot_set, test_within}
+
+-- a place that comes before a list, and those of the list, are in it as often wherever it comes
+times_insert : (q p : ℕ) (l : List ℕ) (i : ℕ) → times q (insert l i p) ≡ times q (p ∷ l)
+times_insert q p l zero = refl
+times_insert q p [] (suc i) = refl
+times_insert q p (x ∷ l) (suc i) = ap (λ n. if q == x then n + 1 else n) (times_insert q p l i) ∙ swapped (q == x) (q == p) (times q l)
+  where
+    swapped : (a b : Bool) (n : ℕ) → (if a then (if b then n + 1 else n) + 1 else (if b then n + 1 else n)) ≡ (if b then (if a then n + 1 else n) + 1 else (if a then n + 1 else n))
+    swapped a b n = grind (arith, common_steps)
+
+-- a place that isn't in a list is nowhere in it
+apart_at : (p : ℕ) (l : List ℕ) (i d : ℕ) → times p l ≡ 0 → i < length l → get_or l i d ≢ p
+apart_at p [] i d none lt = absurd (omega arith)
+apart_at p (q ∷ l) zero d none lt = λ e. (let here = subst (λ q. times p (q ∷ l) ≡ times p l + 1) (sym e) (times_here p l) in omega arith)
+apart_at p (q ∷ l) (suc i) d none lt = apart_at p l i d (rest (p == q) (times p l) none) (omega arith)
+  where
+    rest : (b : Bool) (n : ℕ) → (if b then n + 1 else n) ≡ 0 → n ≡ 0
+    rest b n e = grind (arith, common_steps)
+
+-- what holds all along a list holds of each place in it
+along : (P : ℕ → Type 0) (l : List ℕ) (d : ℕ) → ((i : ℕ) → i < length l → P (get_or l i d)) → (p : ℕ) → times p l ≢ 0 → P p
+along P [] d each p is = absurd (is refl)
+along P (q ∷ l) d each p is = elim (same_or p q) [
+  | inl e ↦ subst P (sym e) (each 0 (omega arith))
+  | inr ne ↦ along P l d (λ i lt. each (suc i) (omega arith)) p (λ none. is (times_there p q l ne ∙ none))
+]
+
+-- the places `later` go before the others, one comes last, and they go back behind it: so it comes at its place
+pub turned : (l : List ℕ) (i n : ℕ) (p : ℕ) → n ≡ length l - i → drop n ((drop i l ++ take i l) ++ p ∷ []) ++ take n ((drop i l ++ take i l) ++ p ∷ []) ≡ insert l i p
+turned l i n p is =
+    let later = drop i l in
+    let earlier = take i l in
+    ap (λ n. drop n ((later ++ earlier) ++ p ∷ []) ++ take n ((later ++ earlier) ++ p ∷ [])) (is ∙ sym (length-drop i l))
+    ∙ ap (λ l. drop (length later) l ++ take (length later) l) (append_assoc later earlier (p ∷ []))
+    ∙ ap (λ l. l ++ take (length later) (later ++ (earlier ++ p ∷ []))) (drop-append_seam later (earlier ++ p ∷ []))
+    ∙ ap (λ l. (earlier ++ p ∷ []) ++ l) (take-append_seam later (earlier ++ p ∷ []))
+    ∙ append_assoc earlier (p ∷ []) later
+
+module _ {T : Type 0} where
+  -- the frame that the set at a place waits for
+  abbrev frame : List (Slot T) → ℕ → ℕ
+  frame slots p = frame_of (slot_at slots p).used
+
+  -- a set that waits for a later frame isn't due, nor is one that doesn't wait
+  not_due : (f : ℕ) (s : Slot T) → waits s ≡ true → f < frame_of s.used → is_due f s ≡ false
+  not_due f s e late = by_use s.used (is_some s.set) e late
+    where
+      by_use : (u : Use) (full : Bool) → (waits_for (λ w. true) u && full) ≡ true → f < frame_of u → (waits_for (λ w. nat_le w f) u && full) ≡ false
+      by_use u full e late = grind (arith, common_steps)
+
+  out_not_due : (f : ℕ) (s : Slot T) → waits s ≡ false → is_due f s ≡ false
+  out_not_due f s e = by_use s.used (is_some s.set) e
+    where
+      by_use : (u : Use) (full : Bool) → (waits_for (λ w. true) u && full) ≡ false → (waits_for (λ w. nat_le w f) u && full) ≡ false
+      by_use u full e = grind (arith, common_steps)
+
+  -- what a slot is changed to that isn't in a list says nothing of the list
+  module _ (slots : List (Slot T)) (p : ℕ) (s : Slot T) (l : List ℕ) (none : times p l ≡ 0) where
+    other_frame : (i d : ℕ) → i < length l → frame (set slots p s) (get_or l i d) ≡ frame slots (get_or l i d)
+    other_frame i d lt = ap (λ (s : Slot T). frame_of s.used) (other_slots slots p s (get_or l i d) (apart_at p l i d none lt))
+
+    other_rises : IsNonDecreasingBy (frame slots) l → IsNonDecreasingBy (frame (set slots p s)) l
+    other_rises rises i j d le lt = (let a = other_frame i d (omega arith) in let b = other_frame j d lt in let h = rises i j d le lt in omega arith)
+
+  module _ (slots : List (Slot T)) (l : List ℕ) (queue : IsQueue slots l) where
+    -- no set is due if the first one waits for a later frame
+    pub none_due : (f d : ℕ) → f < frame slots (get_or l 0 d) → (p : ℕ) → is_due f (slot_at slots p) ≡ false
+    none_due f d late p = by_test (waits (slot_at slots p)) refl
+      where
+        by_test : (b : Bool) → waits (slot_at slots p) ≡ b → is_due f (slot_at slots p) ≡ false
+        by_test false e = out_not_due f (slot_at slots p) e
+        by_test true e = not_due f (slot_at slots p) e (along (λ p. f < frame slots p) l d (λ i lt. let a = queue.rises 0 i d (omega arith) lt in omega arith) p (λ none. true≢false (sym e ∙ one_none (waits (slot_at slots p)) (sym (queue.has p) ∙ none))))
+
+    -- a slot changed that isn't in the queue
+    pub out_queue : (p : ℕ) (s : Slot T) → p < length slots → waits (slot_at slots p) ≡ false → waits s ≡ false → IsQueue (set slots p s) l
+    out_queue p s within was now = record {
+      has = lists_other waits slots p s l queue.has within (now ∙ sym was);
+      rises = other_rises slots p s l (not_listed waits slots l p queue.has was) queue.rises;
+    }
+
+    module _ (p : ℕ) (s : Slot T) (within : p < length slots) (was : waits (slot_at slots p) ≡ false) (now : waits s ≡ true) where
+      -- so there is a slot more than places in the queue
+      pub few_wait : length l < length slots
+      few_wait = (let few = lists_few waits (set slots p s) (p ∷ l) refl (lists_push waits slots p s l queue.has within was now) in let size = length-set slots p s in omega arith)
+
+      -- a set came to wait
+      pub put_queue : (f i : ℕ) → frame_of s.used ≡ f → i ≤ length l → IsPartitionPoint (λ q. frame slots q ≤ f) (λ q. f < frame slots q) l i → IsQueue (set slots p s) (insert l i p)
+      put_queue f i of le point = record {
+        has = λ q. times_insert q p l i ∙ lists_push waits slots p s l queue.has within was now q;
+        rises =
+            let none = not_listed waits slots l p queue.has was in
+            let here = ap (λ (s : Slot T). frame_of s.used) (slot_set slots p s within) in
+            IsNonDecreasingBy-insert (frame (set slots p s)) l i p (other_rises slots p s l none queue.rises) le
+            (λ k d lt. (let a = other_frame slots p s l none k d (omega arith) in let b = point.0 k d (omega arith) lt in omega arith))
+            (λ k d from lt. (let a = other_frame slots p s l none k d lt in let b = point.1 k d from lt in omega arith));
+      }
+
+  -- the first set leaves the queue
+  module _ (slots : List (Slot T)) (p : ℕ) (l : List ℕ) (queue : IsQueue slots (p ∷ l)) where
+    pub first_waits : (p < length slots) × (waits (slot_at slots p) ≡ true)
+    first_waits = (let is = (first_passes waits slots p l queue.has).1 in (test_within waits slots p refl is, is))
+
+    pub pop_queue : (s : Slot T) → waits s ≡ false → IsQueue (set slots p s) l
+    pop_queue s now = record {
+      has = lists_pop waits slots p s l queue.has first_waits.0 now;
+      rises = other_rises slots p s l (first_passes waits slots p l queue.has).0 (IsNonDecreasingBy-drop (frame slots) 1 (p ∷ l) queue.rises);
+    }

@@ -1,0 +1,136 @@
+use Rattle.gpu_descriptor.proofs.Common.{Agree, side, ◌≡◌, ◌++◌, ◌∷◌, [], ℕ, List, length-map, map, slice_get_within, refl, sym, ap, subst, ◌∙◌, arith, IsDistinct, Key, key_eq, key_of, layout_key, Bucket, Allocations, AreBookedIn, KeepsOutstanding, outstanding_of, marked_load_of, is_of, rises, row_of, state_of, stored_keys, without_empty}
+use Rattle.indexmap.specs.Layout.{set_value_at}
+use Rattle.gpu_descriptor.specs.Caller.CleansUp.{TrimsKey}
+use Rattle.gpu_descriptor.proofs.cleanup.Cleaning.{emptied_key}
+use Rattle.gpu_descriptor.proofs.cleanup.Emptied.{Empties, emptied_agree, emptied_outstanding}
+use Rattle.gpu_descriptor.proofs.cleanup.OneKey.{destroyed_row, key_there, nothing_destroyed, nothing_trimmed, own_books, trimmed_row}
+use Rattle.gpu_descriptor.proofs.cleanup.RowsCleaned.{counted_put}
+use Rattle.gpu_descriptor.proofs.callers.Unchanged.{keeps_still}
+use Rattle.gpu_descriptor.proofs.foreign.OthersStay.{emptied_others}
+use Rattle.gpu_descriptor.proofs.request.InTable.{missing}
+use Rattle.gpu_descriptor.proofs.request.Requested.{books_at, load_within, pool_load_within, rows_apart, table_is}
+use Rattle.gpu_descriptor.proofs.request.StateAgrees.{booked_of}
+use Rattle.gpu_descriptor.proofs.sums.Loads.{closed, opened, rows_pool_load, stored_load_in, sum_put}
+use Rattle.gpu_descriptor.proofs.table.Rising.{ids_put}
+use Rattle.gpu_descriptor.proofs.table.RowAt.{IsAt, keys_at, value_at}
+use Rattle.gpu_descriptor.proofs.table.TableBooks.{keys_are}
+use Rattle.gpu_descriptor.proofs.allocator.DescriptorAllocator.trim_layout.Goals.{After-key-key, After-pair_mut-bucket}
+use Rattle.gpu_descriptor.proofs.allocator.DescriptorAllocator.trim_layout.Goals as goal
+
+-- the key is that of the layout
+own : (g : _) (c : After-key-key g) → key_of c.key-key.result ≡ layout_key g.D.DescriptorDevice.meaning c.args.layout.now.layout
+own g c = c.key-key.ensures ∙ (λ i. record { counts = c.requires.meant.counted i; marked = c.requires.meant.marked i })
+
+-- and its row is lent
+there : (g : _) (c : After-pair_mut-bucket g) → IsAt (key_of c.key-key.result) c.self.inside.table.buckets.entries c.in-Some.place c.pair_mut-bucket.result.1.now
+there g c = key_there (key_of c.key-key.result) c.self.inside.table.buckets.entries c.in-Some.place c.pair_mut-bucket.result.0.now c.pair_mut-bucket.result.1.now c.pair_mut-bucket.ensures.value c.in-Some.ensures.place
+
+pub pair_mut-bucket-requires : goal.pair_mut-bucket-requires
+pair_mut-bucket-requires g c =
+    let es = c.self.inside.table.buckets.entries in
+    let within = slice_get_within (stored_keys es) c.in-Some.place (key_of c.key-key.result) c.in-Some.ensures.place in
+    let long = length-map es (λ e. key_of e.0) in
+    omega arith
+
+pub destroy_empty-requires-clause-room : goal.destroy_empty-requires-clause-room
+destroy_empty-requires-clause-room g c =
+    let es = c.self.inside.table.buckets.entries in
+    let below = (sum_put stored_load_in es c.in-Some.place c.pair_mut-bucket.result.0.now c.pair_mut-bucket.result.1.now c.pair_mut-bucket.result.1.now c.pair_mut-bucket.ensures.value).0 in
+    let rows = rows_pool_load es in
+    let all = (opened c.self.invariant).is_room in
+    omega arith
+
+pub destroy_empty-requires-clause-stored : goal.destroy_empty-requires-clause-stored
+destroy_empty-requires-clause-stored g c =
+    let name = g.D.DescriptorDevice.meaning.pool_name in
+    let before = g.D.DescriptorDevice.ledger c.args.device.now in
+    let k = key_of c.key-key.result in
+    let d = (goal.at.destroy_empty-requires-clause-stored g c).After-pair_mut-bucket in
+    let is = own_books k c.self.inside.table.buckets.entries c.self.inside.table.distinct (there g d) name c.args.self.now before (table_is _ c.self.view_is) in
+    (k, subst (λ (b : Bucket). AreBookedIn k before.pools b.pools) is (booked_of (state_of name c.args.self.now before) k c.requires.agree.books))
+
+pub invariant_of-self-inside : goal.invariant_of-self-inside
+invariant_of-self-inside g c =
+    let es = c.self.inside.table.buckets.entries in
+    let same =
+    ids_put es c.in-Some.place c.pair_mut-bucket.result.1.now c.destroy_empty.new.self
+    (value_at es c.in-Some.place _ _ c.pair_mut-bucket.ensures.value)
+    (ap (λ (b : Bucket). b.id) c.destroy_empty.ensures.books) in
+    record {
+      rising = ap (λ (ids : List ℕ). rises (ids ++ c.self.inside.table.next_id ∷ [])) same ∙ c.self.inside.table.rising;
+      distinct = subst (IsDistinct key_eq) (sym (keys_at es c.in-Some.place c.destroy_empty.new.self)) c.self.inside.table.distinct;
+    }
+
+pub invariant_of-self : goal.invariant_of-self
+invariant_of-self g c = closed (counted_put _ _ _ _ _ c.self.inside.table.buckets.entries c.in-Some.place _ _ c.destroy_empty.new.self c.pair_mut-bucket.ensures.value c.destroy_empty.ensures.total c.destroy_empty.ensures.room (opened c.self.invariant))
+
+pub returns : goal.returns
+returns g c =
+    let d = (goal.at.returns g c).After-pair_mut-bucket in
+    let means = g.D.DescriptorDevice.meaning in
+    let name = means.pool_name in
+    let old = c.args.self.now in
+    let before = g.D.DescriptorDevice.ledger c.args.device.now in
+    let after = g.D.DescriptorDevice.ledger c.destroy_empty.new.device in
+    let es = c.self.inside.table.buckets.entries in
+    let w = c.destroy_empty.new.self in
+    let fs = set_value_at es c.in-Some.place w in
+    let k = key_of c.key-key.result in
+    let was = table_is _ c.self.view_is in
+    let distinct = subst (IsDistinct key_eq) (sym (keys_at es c.in-Some.place w)) c.self.inside.table.distinct in
+    let counted = counted_put _ _ _ _ _ es c.in-Some.place _ _ w c.pair_mut-bucket.ensures.value c.destroy_empty.ensures.total c.destroy_empty.ensures.room (opened c.self.invariant) in
+    let now : Allocations _ =
+    record {
+      limit = c.self.inside.max_update_after_bind_descriptors_in_all_pools;
+      most = c.self.inside.budget.most;
+      table = map row_of fs;
+      looks = c.self.inside.budget.looks.count;
+      comparisons = c.self.inside.comparisons.count;
+    } in
+    let s = state_of name old before in
+    let less = emptied_key k s in
+    let state = trimmed_row k es c.self.inside.table.distinct (there g d) name old before was w after c.destroy_empty.ensures.books c.destroy_empty.ensures.ledger now refl in
+    record {
+      trims = subst (λ (key : Key). TrimsKey means key (side old before) (side now after)) (own g (goal.at.returns g c).After-key-key) (record {
+        trimmed = state;
+        destroyed = destroyed_row k es c.self.inside.table.distinct (there g d) name old before was w after c.destroy_empty.ensures.books c.destroy_empty.ensures.ledger;
+        keys = keys_are now fs refl ∙ keys_at es c.in-Some.place w ∙ sym (keys_are old es was);
+        outstanding_stay = subst (KeepsOutstanding s) (sym state) (emptied_outstanding less c.requires.agree.books);
+        totals_stay = (
+          sym counted.is_out ∙ (opened c.self.invariant).is_out ∙ ap outstanding_of c.self.view_is,
+          sym counted.is_load ∙ (opened c.self.invariant).is_load ∙ ap marked_load_of c.self.view_is,
+        );
+        counts_stay = (ap (λ (a : Allocations _). a.looks) c.self.view_is, ap (λ (a : Allocations _). a.comparisons) c.self.view_is);
+      });
+      keeps = record {
+        agree = record { rows = rows_apart {a = now} fs refl name distinct; books = subst Agree (sym state) (emptied_agree less c.requires.agree.books) };
+        limit = ap (λ (a : Allocations _). a.limit) c.self.view_is;
+        most = ap (λ (a : Allocations _). a.most) c.self.view_is;
+        load = load_within {a = now} fs refl counted;
+        pool_load = pool_load_within {a = now} fs refl counted;
+        others = emptied_others name old now before after (subst (Empties s) (sym state) less);
+      };
+    }
+
+-- a key that the table lacks has no pools
+pub returns-in_default : goal.returns-in_default
+returns-in_default g c =
+    let means = g.D.DescriptorDevice.meaning in
+    let name = means.pool_name in
+    let old = c.args.self.now in
+    let before = g.D.DescriptorDevice.ledger c.args.device.now in
+    let es = c.self.inside.table.buckets.entries in
+    let k = key_of c.key-key.result in
+    let s = state_of name old before in
+    let none = books_at old es (table_is _ c.self.view_is) name before k ∙ missing name k es (is_of k) (λ l. refl) c.in_default.ensures.place in
+    record {
+      trims = subst (λ (key : Key). TrimsKey means key (side old before) (side old before)) (own g (goal.at.returns-in_default g c).After-key-key) (record {
+        trimmed = nothing_trimmed k s none;
+        destroyed = nothing_destroyed k s none before;
+        keys = refl;
+        outstanding_stay = λ t. refl;
+        totals_stay = (refl, refl);
+        counts_stay = (refl, refl);
+      });
+      keeps = keeps_still refl refl c.requires.agree (load_within _ c.self.view_is (opened c.self.invariant)) (pool_load_within _ c.self.view_is (opened c.self.invariant));
+    }
