@@ -10,7 +10,7 @@ from common import TOP, Counts, account_of
 from trace_table import HERE, build_columns, finish, traces, written
 
 # Whose pools are measured in a trace; `pools` are the program's own.
-PLAYERS = ["pools", "crate", "renderer", "C", "lists"]
+PLAYERS = ["pools", "crate", "manager", "C", "lists"]
 
 CASES = {
     "first": "a spike of 100,000 sets after one that stays",
@@ -59,7 +59,7 @@ def has_row(checks, *cells):
 def check_trace_row(name, peak, pools, checks):
     """The row of a trace: of each player the pools at most and the sets that they hold, and what is left."""
     cells = []
-    for player in ("pools", "crate", "renderer", "lists"):
+    for player in ("pools", "crate", "manager", "lists"):
         _, count, sets, _ = zip(*pools[player])
         left = f", left {count[-1]} of {sets[-1]:,}" if count[-1] else ""
         cells.append(f"{max(count):,} of {max(sets):,}{left}")
@@ -84,7 +84,7 @@ def print_traces(pools_by_trace, checks):
             cells = [f"{max(values)} {values[-1]}" for values in list(zip(*rows))[1:]]
             print(f"{name:16}{account_of(trace)['peak']:6} {player:10}{cells[0]:>10}{cells[1]:>16}{cells[2]:>18}")
         checks.equal(f"{name}: the program's own pools at the end", pools["pools"][-1][1], 0)
-        checks.equal(f"{name}: the pools of C are the renderer's", pools["C"] == pools["renderer"], True)
+        checks.equal(f"{name}: the pools of C are the manager's", pools["C"] == pools["manager"], True)
         check_trace_row(name, account_of(trace)["peak"], pools, checks)
 
 

@@ -16,9 +16,9 @@ TRACES = f"{HERE}/traces"
 BUILD = f"{HERE}/out"
 PREFIX = f"{BUILD}/prefix"
 
-# The columns by the program of bench/traces: the crate's allocator, its renderer with kept sets, the library
+# The columns by the program of bench/traces: the crate's allocator, its set manager with kept sets, the library
 # for C, and by hand the program's own pools and a list of sets for each layout.
-COLUMNS = ["crate", "renderer", "C", "pools", "lists"]
+COLUMNS = ["crate", "manager", "C", "pools", "lists"]
 
 # The first passes, in which pools grow, are left out: those of the shorter of two runs that are counted, and those
 # that the programs don't time.
@@ -125,14 +125,14 @@ def instructions(words, name, trace, file, how):
 
 
 def checks(columns, over_driver):
-    """What each column does otherwise than a trace says. Over a driver a renderer with layouts that stay must make no
+    """What each column does otherwise than a trace says. Over a driver a manager with layouts that stay must make no
     call after the first passes."""
     for name, trace in traces():
         with written(trace) as file:
             for column, words in columns.items():
                 said, _ = finish([*words, file, "1"])
                 yield f"{name} by {column}", None if said == expected(trace, 1) else f"{said}, not {expected(trace, 1)}"
-                if over_driver and column in ("renderer", "C"):
+                if over_driver and column in ("manager", "C"):
                     _, calls, _ = timed(words, name, trace, file, "timed", "stay")
                     yield f"{name} by {column}, layouts stay", f"{calls} calls a set" if calls else None
 

@@ -4,13 +4,13 @@
 
 use crate::device::CountingDevice;
 use crate::drawn::add_layout;
-use gpu_descriptor::renderer::{LayoutHandle, Renderer, SetHandle};
+use gpu_descriptor::manager::{LayoutHandle, SetManager, SetHandle};
 use gpu_descriptor::{
     DescriptorAllocator, DescriptorSetLayoutCreateFlags, DescriptorTotalCount, SetLayout,
 };
 
 struct Scene<'a> {
-    renderer: Renderer<(), u64, u64, &'a CountingDevice>,
+    manager: SetManager<(), u64, u64, &'a CountingDevice>,
     layouts: Vec<LayoutHandle>,
     live: Vec<SetHandle>,
 }
@@ -18,12 +18,12 @@ struct Scene<'a> {
 impl<'a> Scene<'a> {
     /// So many layouts, each with a live set.
     fn new(device: &'a CountingDevice, size: u32) -> Self {
-        let mut renderer = Renderer::new(device, u32::MAX);
-        let layouts: Vec<_> = (0..size).map(|at| add_layout(&mut renderer, at)).collect();
-        let live = layouts.iter().map(|it| renderer.create_set(*it).unwrap());
+        let mut manager = SetManager::new(device, u32::MAX);
+        let layouts: Vec<_> = (0..size).map(|at| add_layout(&mut manager, at)).collect();
+        let live = layouts.iter().map(|it| manager.allocate(*it).unwrap());
         let live = live.collect();
         Scene {
-            renderer,
+            manager,
             layouts,
             live,
         }
@@ -31,51 +31,51 @@ impl<'a> Scene<'a> {
 
     fn free(&mut self, sets: &[SetHandle]) {
         // SAFETY: the device only counts.
-        unsafe { self.renderer.free_sets(sets) }.unwrap();
+        unsafe { self.manager.free(sets) }.unwrap();
     }
 
     /// A set of the last layout is allocated, and freed.
     fn kept(&mut self) {
         let set = self
-            .renderer
-            .create_set(self.layouts[self.layouts.len() - 1]);
+            .manager
+            .allocate(self.layouts[self.layouts.len() - 1]);
         self.free(&[set.unwrap()]);
     }
 
     /// A frame of one set.
     fn frame(&mut self) {
-        let frame = self.renderer.begin_frame().unwrap();
-        let _set = self.renderer.draw(self.layouts[0]).unwrap();
-        self.renderer.end_frame();
+        let frame = self.manager.begin_frame().unwrap();
+        let _set = self.manager.allocate_for_frame(self.layouts[0]).unwrap();
+        self.manager.end_frame();
         // SAFETY: the device only counts.
-        unsafe { self.renderer.gpu_done(frame) };
+        unsafe { self.manager.frame_done(frame) };
     }
 
     /// A layout is added and removed, with a set that is freed in between.
     fn removed(&mut self) {
-        let layout = add_layout(&mut self.renderer, 0);
-        let set = self.renderer.create_set(layout).unwrap();
+        let layout = add_layout(&mut self.manager, 0);
+        let set = self.manager.allocate(layout).unwrap();
         self.free(&[set]);
-        self.renderer.remove_layout(layout).unwrap();
+        self.manager.remove_layout(layout).unwrap();
     }
 
     /// A set is destroyed after a new frame, which isn't done.
     fn waits(&mut self) {
-        let frame = self.renderer.begin_frame().unwrap();
-        let set = self.renderer.create_set(self.layouts[0]).unwrap();
-        self.renderer.destroy_set(set, frame).unwrap();
-        self.renderer.end_frame();
+        let frame = self.manager.begin_frame().unwrap();
+        let set = self.manager.allocate(self.layouts[0]).unwrap();
+        self.manager.free_after(&[set], frame).unwrap();
+        self.manager.end_frame();
     }
 
     /// A set that stays.
     fn grown(&mut self) {
-        let set = self.renderer.create_set(self.layouts[0]).unwrap();
+        let set = self.manager.allocate(self.layouts[0]).unwrap();
         self.live.push(set);
     }
 
     /// A layout that stays.
     fn layout(&mut self) {
-        self.layouts.push(add_layout(&mut self.renderer, 1));
+        self.layouts.push(add_layout(&mut self.manager, 1));
     }
 }
 
@@ -127,7 +127,7 @@ pub fn run(name: &str, size: u32, operations: u32) {
         "grown" => Scene::grown,
         "layout" => Scene::layout,
         "unkept" => {
-            scene.renderer.set_keep(0);
+            scene.manager.set_max_kept(0);
             Scene::frame
         }
         _ => panic!("no cost has this name"),
@@ -136,7 +136,7 @@ pub fn run(name: &str, size: u32, operations: u32) {
         operation(&mut scene);
     }
     // SAFETY: the device only counts.
-    unsafe { scene.renderer.free_all() };
+    unsafe { scene.manager.free_all() };
     // SAFETY: the device only counts.
-    unsafe { scene.renderer.shutdown() };
+    unsafe { scene.manager.shutdown() };
 }

@@ -1,34 +1,34 @@
-//! The workloads `renderer` and `unkept` over the crate's own `Renderer`, by the calls of `rendering.rt`.
+//! The workloads `manager` and `unkept` over the crate's own `SetManager`, by the calls of `rendering.rt`.
 
 use crate::device::CountingDevice;
 use crate::workloads::{DRAWN_LAYOUTS, DRAWS, MATERIALS};
-use gpu_descriptor::renderer::{LayoutHandle, Renderer, SetHandle};
+use gpu_descriptor::manager::{LayoutHandle, SetManager, SetHandle};
 use gpu_descriptor::{DescriptorSetLayoutCreateFlags, DescriptorTotalCount, SetLayout};
 use std::time::{Duration, Instant};
 
 struct Scene<'a> {
-    renderer: Renderer<(), u64, u64, &'a CountingDevice>,
+    manager: SetManager<(), u64, u64, &'a CountingDevice>,
     drawn: Vec<LayoutHandle>,
     material: LayoutHandle,
     materials: Vec<SetHandle>,
 }
 
 impl<'a> Scene<'a> {
-    /// A renderer with its layouts and materials.
+    /// A set manager with its layouts and materials.
     fn new(device: &'a CountingDevice, keeps: bool) -> Self {
-        let mut renderer = Renderer::new(device, u32::MAX);
+        let mut manager = SetManager::new(device, u32::MAX);
         if !keeps {
-            renderer.set_keep(0);
+            manager.set_max_kept(0);
         }
         let drawn = (0..DRAWN_LAYOUTS)
-            .map(|samplers| add_layout(&mut renderer, samplers))
+            .map(|samplers| add_layout(&mut manager, samplers))
             .collect();
-        let material = add_layout(&mut renderer, DRAWN_LAYOUTS);
+        let material = add_layout(&mut manager, DRAWN_LAYOUTS);
         let materials = (0..MATERIALS)
-            .map(|_| renderer.create_set(material).unwrap())
+            .map(|_| manager.allocate(material).unwrap())
             .collect();
         Scene {
-            renderer,
+            manager,
             drawn,
             material,
             materials,
@@ -38,37 +38,37 @@ impl<'a> Scene<'a> {
     /// Draws a frame. A new material takes the place of one whose last use is in this frame. Once the
     /// frame has ended, the device is done with the frame two before.
     fn draw_frame(&mut self) {
-        let frame = self.renderer.begin_frame().unwrap();
+        let frame = self.manager.begin_frame().unwrap();
         let old = &mut self.materials[frame as usize % MATERIALS];
-        self.renderer.destroy_set(*old, frame).unwrap();
-        *old = self.renderer.create_set(self.material).unwrap();
+        self.manager.free_after(&[*old], frame).unwrap();
+        *old = self.manager.allocate(self.material).unwrap();
         for draw in 0..DRAWS {
             let layout = self.drawn[draw as usize % self.drawn.len()];
-            let _drawn = self.renderer.draw(layout).unwrap();
+            let _drawn = self.manager.allocate_for_frame(layout).unwrap();
         }
-        self.renderer.end_frame();
+        self.manager.end_frame();
         // SAFETY: the device only counts.
-        unsafe { self.renderer.gpu_done(frame.saturating_sub(2)) };
+        unsafe { self.manager.frame_done(frame.saturating_sub(2)) };
     }
 
     /// Destroys the materials. The device is done with the last two frames, one after the other, and
     /// then all pools are destroyed.
     fn unload(mut self) {
-        let last = self.renderer.frame();
+        let last = self.manager.frame();
         for material in self.materials {
-            self.renderer.destroy_set(material, last).unwrap();
+            self.manager.free_after(&[material], last).unwrap();
         }
         // SAFETY: the device only counts.
         unsafe {
-            self.renderer.gpu_done(last.saturating_sub(1));
-            self.renderer.gpu_done(last);
-            self.renderer.shutdown();
+            self.manager.frame_done(last.saturating_sub(1));
+            self.manager.frame_done(last);
+            self.manager.shutdown();
         }
     }
 }
 
 pub fn add_layout(
-    renderer: &mut Renderer<(), u64, u64, &CountingDevice>,
+    manager: &mut SetManager<(), u64, u64, &CountingDevice>,
     samplers: u32,
 ) -> LayoutHandle {
     let counts = DescriptorTotalCount {
@@ -82,11 +82,11 @@ pub fn add_layout(
         flags: DescriptorSetLayoutCreateFlags::empty(),
     };
     // SAFETY: the device only counts.
-    unsafe { renderer.add_layout(layout) }.unwrap()
+    unsafe { manager.add_layout(layout) }.unwrap()
 }
 
 /// Draws N frames.
-pub fn renderer(device: &CountingDevice, n: u32, keeps: bool) -> Duration {
+pub fn manager(device: &CountingDevice, n: u32, keeps: bool) -> Duration {
     let mut scene = Scene::new(device, keeps);
     let start = Instant::now();
     for _ in 0..n {

@@ -13,7 +13,7 @@ mod subject;
 mod types {
     pub use gpu_descriptor::*;
 }
-// `cleanup` is for a renderer by hand, which the crate's own stands for.
+// `cleanup` is for a set manager by hand, which the crate's own stands for.
 #[allow(dead_code)]
 #[path = "../original/workloads.rs"]
 mod workloads;
@@ -23,5 +23,5 @@ fn main() {
     if let [name, size, operations] = &words[..] {
         return costs::run(name, size.parse().unwrap(), operations.parse().unwrap());
     }
-    workloads::run::<subject::Subject>(|bench, n, keeps| drawn::renderer(&bench.device, n, keeps));
+    workloads::run::<subject::Subject>(|bench, n, keeps| drawn::manager(&bench.device, n, keeps));
 }

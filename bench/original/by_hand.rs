@@ -1,4 +1,4 @@
-//! The workloads `renderer` and `unkept`, as an author writes them by hand over an allocator.
+//! The workloads `manager` and `unkept`, as an author writes them by hand over an allocator.
 
 use crate::workloads::{Bench, DRAWN_LAYOUTS, DRAWS, MATERIALS};
 use std::collections::VecDeque;
@@ -15,8 +15,8 @@ struct Frame<S> {
     sets: Vec<(usize, S)>,
 }
 
-/// A renderer as its author writes it by hand.
-struct Renderer<'a, B: Bench> {
+/// A set manager as its author writes it by hand.
+struct SetManager<'a, B: Bench> {
     bench: &'a mut B,
 
     /// The layouts that are drawn with, and the material's.
@@ -31,13 +31,13 @@ struct Renderer<'a, B: Bench> {
     kept: Vec<Vec<B::Set>>,
 }
 
-impl<'a, B: Bench> Renderer<'a, B> {
+impl<'a, B: Bench> SetManager<'a, B> {
     /// One with its layouts and materials.
     fn new(bench: &'a mut B, keeps: bool) -> Self {
         let layouts: Vec<_> = (0..=DRAWN_LAYOUTS)
             .map(|samplers| bench.layout(samplers, 1, false))
             .collect();
-        let mut renderer = Renderer {
+        let mut manager = SetManager {
             bench,
             kept: layouts.iter().map(|_| Vec::new()).collect(),
             layouts,
@@ -45,8 +45,8 @@ impl<'a, B: Bench> Renderer<'a, B> {
             frames: VecDeque::new(),
             keeps,
         };
-        renderer.materials = (0..MATERIALS).map(|_| renderer.take(MATERIAL)).collect();
-        renderer
+        manager.materials = (0..MATERIALS).map(|_| manager.take(MATERIAL)).collect();
+        manager
     }
 
     /// A set of a layout: the last one that was kept, or else a new one.
@@ -68,11 +68,11 @@ impl<'a, B: Bench> Renderer<'a, B> {
             sets.push((layout, self.take(layout)));
         }
         self.frames.push_back(Frame { number, sets });
-        self.gpu_done(number.saturating_sub(2));
+        self.frame_done(number.saturating_sub(2));
     }
 
     /// The device is done with this frame and those before it. Their sets come back in the order of their use.
-    fn gpu_done(&mut self, number: u64) {
+    fn frame_done(&mut self, number: u64) {
         while let Some(frame) = self.frames.front_mut() {
             if frame.number > number {
                 break;
@@ -99,8 +99,8 @@ impl<'a, B: Bench> Renderer<'a, B> {
         let materials = mem::take(&mut self.materials).into_iter();
         let frame = self.frames.back_mut().unwrap();
         frame.sets.extend(materials.map(|set| (MATERIAL, set)));
-        self.gpu_done(last.saturating_sub(1));
-        self.gpu_done(last);
+        self.frame_done(last.saturating_sub(1));
+        self.frame_done(last);
         let kept = mem::take(&mut self.kept).into_iter().rev();
         self.bench.give_back(kept.flatten().collect());
         self.bench.cleanup();
@@ -108,13 +108,13 @@ impl<'a, B: Bench> Renderer<'a, B> {
 }
 
 /// Draws N frames.
-pub fn renderer<B: Bench>(bench: &mut B, n: u32, keeps: bool) -> Duration {
-    let mut renderer = Renderer::new(bench, keeps);
+pub fn manager<B: Bench>(bench: &mut B, n: u32, keeps: bool) -> Duration {
+    let mut manager = SetManager::new(bench, keeps);
     let start = Instant::now();
     for number in 1..=u64::from(n) {
-        renderer.draw_frame(number);
+        manager.draw_frame(number);
     }
     let time = start.elapsed();
-    renderer.unload(u64::from(n));
+    manager.unload(u64::from(n));
     time
 }

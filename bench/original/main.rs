@@ -51,6 +51,6 @@ fn main() {
         let asked = play::Asked::read(&words[1..]);
         play::run::<_, by_allocator::Allocator<_>>(gpu(&asked), &asked);
     } else {
-        workloads::run::<subject::Subject>(by_hand::renderer);
+        workloads::run::<subject::Subject>(by_hand::manager);
     }
 }

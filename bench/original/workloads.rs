@@ -18,13 +18,13 @@ const REQUESTS: u32 = 1000;
 /// Sets of this many samplers go two to a pool.
 const TWO_A_POOL: u32 = u32::MAX / 2;
 
-/// How many sets a frame of a renderer draws.
+/// How many sets a frame of a set manager draws.
 pub const DRAWS: u32 = 10_000;
 
 /// How many layouts these sets are of, in turn.
 pub const DRAWN_LAYOUTS: u32 = 4;
 
-/// How many materials a renderer has.
+/// How many materials a set manager has.
 pub const MATERIALS: usize = 100;
 
 /// An allocator under the greatest limit, and its device.
@@ -152,9 +152,9 @@ fn shuffle<S>(held: &mut [S]) {
     }
 }
 
-/// Runs the workload that the arguments name, and reports what it did. `renderer` draws N frames, and is
+/// Runs the workload that the arguments name, and reports what it did. `manager` draws N frames, and is
 /// told whether sets are kept.
-pub fn run<B: Bench>(renderer: impl FnOnce(&mut B, u32, bool) -> Duration) {
+pub fn run<B: Bench>(manager: impl FnOnce(&mut B, u32, bool) -> Duration) {
     let words: Vec<String> = std::env::args().skip(1).collect();
     let [name, number] = &words[..] else {
         panic!("the arguments are a workload and a number");
@@ -182,9 +182,9 @@ pub fn run<B: Bench>(renderer: impl FnOnce(&mut B, u32, bool) -> Duration) {
             full(&mut bench, n)
         }
         "drained" => drained(&mut bench, n),
-        "renderer" | "unkept" => {
+        "manager" | "unkept" => {
             operations *= u64::from(DRAWS);
-            renderer(&mut bench, n, name == "renderer")
+            manager(&mut bench, n, name == "manager")
         }
         _ => panic!("no workload has this name"),
     };

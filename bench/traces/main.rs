@@ -9,7 +9,7 @@ mod by_allocator;
 mod by_c;
 mod by_lists;
 mod by_pools;
-mod by_renderer;
+mod by_manager;
 #[allow(dead_code)]
 #[path = "../original/device.rs"]
 mod device;
@@ -34,7 +34,7 @@ use play::Asked;
 fn play<G: by_c::GpuOfC>(gpu: G, column: &str, asked: &Asked) {
     match column {
         "crate" => play::run::<G, by_allocator::Allocator<G>>(gpu, asked),
-        "renderer" => play::run::<G, by_renderer::Keeping<G>>(gpu, asked),
+        "manager" => play::run::<G, by_manager::Keeping<G>>(gpu, asked),
         "C" => play::run::<G, by_c::Library<G>>(gpu, asked),
         "pools" => play::run::<G, by_pools::Pools<G>>(gpu, asked),
         "lists" => play::run::<G, by_lists::Lists<G>>(gpu, asked),

@@ -6,7 +6,7 @@
 use crate::by_allocator::Allocator;
 use crate::by_c::Library;
 use crate::by_lists::Lists;
-use crate::by_renderer::Keeping;
+use crate::by_manager::Keeping;
 use crate::measured::{Account, Measured};
 use crate::play::{Descriptors, KINDS, Player};
 
@@ -42,7 +42,7 @@ impl Trim for Allocator<Measured> {
 
 impl Trim for Keeping<Measured> {
     fn trim(&mut self) {
-        self.renderer.cleanup();
+        self.manager.cleanup();
     }
 }
 
@@ -198,7 +198,7 @@ fn run<P: Trim>(name: &str) {
 pub fn play(column: &str, name: &str) {
     match column {
         "crate" => run::<Allocator<Measured>>(name),
-        "renderer" => run::<Keeping<Measured>>(name),
+        "manager" => run::<Keeping<Measured>>(name),
         "C" => run::<Library<Measured>>(name),
         "lists" => run::<Lists<Measured>>(name),
         _ => panic!("no column has this name"),

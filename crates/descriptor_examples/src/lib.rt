@@ -1,4 +1,4 @@
-//! Devices and callers of the allocator and of the renderer, proved: what a user of them may write.
+//! Devices and callers of the allocator and of the set manager, proved: what a user of them may write.
 #![tactic(auto)]
 
 pub mod batches;

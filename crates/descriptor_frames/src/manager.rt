@@ -75,8 +75,8 @@ impl<P, S> FrameManager<P, S> {
     }
 
     /// From now on a new pool has at most `most` descriptors, unless what is wanting needs more, as by
-    /// `DescriptorAllocator::set_most_pool_descriptors`.
-    pub fn set_most_pool_descriptors(&mut self, most: Option<u64>)
+    /// `DescriptorAllocator::set_max_pool_descriptors`.
+    pub fn set_max_pool_descriptors(&mut self, most: Option<u64>)
         ensures allocator { allocator_of self.new ≡ record (allocator_of self.old) { most = most } }
         ensures list { retired_of self.new ≡ retired_of self.old }
         ensures reserve { reserve_of self.new ≡ reserve_of self.old }
@@ -88,15 +88,15 @@ impl<P, S> FrameManager<P, S> {
         ensures retired { (pool_name : P → ℕ) (set_name : S → ℕ) (l : Ledger) → AreRetiredOut
             pool_name set_name self.old l → AreRetiredOut pool_name set_name self.new l }
     {
-        self.allocator.set_most_pool_descriptors(most);
+        self.allocator.set_max_pool_descriptors(most);
     }
 
     /// How many descriptors a new pool has at most, unless what is wanting needs more; `None` if none
     /// is bounded.
-    pub fn most_pool_descriptors(&self) -> Option<u64>
+    pub fn max_pool_descriptors(&self) -> Option<u64>
         ensures { result ≡ (allocator_of self.now).most }
     {
-        self.allocator.most_pool_descriptors()
+        self.allocator.max_pool_descriptors()
     }
 
     /// The allocator.

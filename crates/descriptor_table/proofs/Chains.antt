@@ -67,10 +67,10 @@ pub other_chains : (chains : List Chain) (k : ℕ) (c : Chain) (j : ℕ) → j �
 other_chains chains k c j ne = get_or-set_other chains k j c (record { first = 0; count = 0 }) ne
 
 -- a list of kept sets got shorter, or another list longer
-pub few_set : (most : ℕ) (chains : List Chain) (k : ℕ) (c : Chain) → AreFew most chains → k < length chains → (2 ≤ k → c.count ≤ most) → AreFew most (set chains k c)
-few_set most chains k c few within le j two = elim (same_or j k) [
-  | inl e ↦ subst (λ j. (chain_at (set chains k c) j).count ≤ most) (sym e) (subst (λ (d : Chain). d.count ≤ most) (sym (chain_set chains k c within)) (le (omega arith)))
-  | inr ne ↦ subst (λ (d : Chain). d.count ≤ most) (sym (other_chains chains k c j ne)) (few j two)
+pub few_set : (max : ℕ) (chains : List Chain) (k : ℕ) (c : Chain) → AreFew max chains → k < length chains → (2 ≤ k → c.count ≤ max) → AreFew max (set chains k c)
+few_set max chains k c few within le j two = elim (same_or j k) [
+  | inl e ↦ subst (λ j. (chain_at (set chains k c) j).count ≤ max) (sym e) (subst (λ (d : Chain). d.count ≤ max) (sym (chain_set chains k c within)) (le (omega arith)))
+  | inr ne ↦ subst (λ (d : Chain). d.count ≤ max) (sym (other_chains chains k c j ne)) (few j two)
 ]
 
 module _ {T : Type 0} where

@@ -1,4 +1,4 @@
--- A set that came into a slot adds its weight (`tally`) to that of the sets that there are: for `Given` of the renderer.
+-- A set that came into a slot adds its weight (`tally`) to that of the sets that there are: for `Given` of the set manager.
 use Rattle.std.proofs.Common.{◌≡◌, ◌≢◌, ℕ, zero, suc, ◌+◌, List, [], ◌∷◌, Some, None, refl, sym, ap, ◌∙◌, arith}
 use Rattle.std.proofs.lemmas.Option.{none-some}
 use Rattle.descriptor_table.specs.Sets.{joined, sets_in}

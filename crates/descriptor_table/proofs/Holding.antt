@@ -43,16 +43,16 @@ same_default (x ∷ l) zero d e lt = refl
 same_default (x ∷ l) (suc i) d e lt = same_default l i d e (omega arith)
 
 -- handles with the same three numbers are the same
-pub handle_is : (a b : SetHandle) → a.renderer ≡ b.renderer → a.place ≡ b.place → a.generation ≡ b.generation → a ≡ b
+pub handle_is : (a b : SetHandle) → a.manager ≡ b.manager → a.place ≡ b.place → a.generation ≡ b.generation → a ≡ b
 handle_is a b r p g =
-    ap (λ n. record { renderer = n; place = a.place; generation = a.generation }) r
-    ∙ ap (λ n. record { renderer = b.renderer; place = n; generation = a.generation }) p
-    ∙ ap (λ n. record { renderer = b.renderer; place = b.place; generation = n }) g
+    ap (λ n. record { manager = n; place = a.place; generation = a.generation }) r
+    ∙ ap (λ n. record { manager = b.manager; place = n; generation = a.generation }) p
+    ∙ ap (λ n. record { manager = b.manager; place = b.place; generation = n }) g
 
 module _ {T : Type 0} where
   -- what is known of a handle with a held set
   pub record IsHeld (number : ℕ) (slots : List (Slot T)) (h : SetHandle) : Type 0 where
-    pub renderer : h.renderer ≡ number
+    pub manager : h.manager ≡ number
     pub generation : h.generation ≡ (slot_at slots h.place).generation
     pub used : (slot_at slots h.place).used ≡ Held
     pub within : h.place < length slots
@@ -61,14 +61,14 @@ module _ {T : Type 0} where
   pub held_is : (number : ℕ) (slots : List (Slot T)) (h : SetHandle) → is_held number slots h ≡ true → IsHeld number slots h
   held_is number slots h e =
       let s = slot_at slots h.place in
-      let both = and_true ((h.renderer == number) && (h.generation == s.generation)) (is_held_use s.used && is_some s.set) e in
-      let last = and_true (h.renderer == number) (h.generation == s.generation) both.0 in
+      let both = and_true ((h.manager == number) && (h.generation == s.generation)) (is_held_use s.used && is_some s.set) e in
+      let last = and_true (h.manager == number) (h.generation == s.generation) both.0 in
       let full = and_true (is_held_use s.used) (is_some s.set) both.1 in
       record {
-        renderer = eqb-true h.renderer number last.0;
+        manager = eqb-true h.manager number last.0;
         generation = eqb-true h.generation s.generation last.1;
         used = held_use s.used full.0;
-        within = test_within (λ s. ((h.renderer == number) && (h.generation == s.generation)) && (is_held_use s.used && is_some s.set)) slots h.place (and_none ((h.renderer == number) && (h.generation == 0))) e;
+        within = test_within (λ s. ((h.manager == number) && (h.generation == s.generation)) && (is_held_use s.used && is_some s.set)) slots h.place (and_none ((h.manager == number) && (h.generation == 0))) e;
       }
 
   used_same : (s : Slot T) (u : Use) → s.used ≡ u → used_for u s ≡ s
@@ -94,7 +94,7 @@ module _ {T : Type 0} where
 
   module _ (number : ℕ) (handles : List SetHandle) (becomes : List (Slot T) → Slot T → Slot T → Type 0) (n : ℕ) (old now : List (Slot T)) (some : TurnedSome number handles becomes n old now) (not_held : (l : List (Slot T)) (o x : Slot T) → becomes l o x → x.used ≢ Held) (h : SetHandle) (lt : n < length handles) (is : (d : SetHandle) → h ≡ get_or handles n d) (has : is_held number now h ≡ true) where
     at : place_at handles n ≡ h.place
-    at = ap (λ (x : SetHandle). x.place) (sym (is (record { renderer = 0; place = 0; generation = 0 })))
+    at = ap (λ (x : SetHandle). x.place) (sym (is (record { manager = 0; place = 0; generation = 0 })))
 
     -- the place of a handle that has a held set is none of those before
     other_place : (i : ℕ) → i < n → place_at handles i ≢ h.place
@@ -108,7 +108,7 @@ module _ {T : Type 0} where
     pub turn_more : (s : Slot T) (new : List (Slot T)) → new ≡ set now h.place s → ((o x : Slot T) → becomes now o x → becomes new o x) → becomes new (slot_at now h.place) s → TurnedSome number handles becomes (n + 1) old new
     turn_more s new made grows turned =
         let held = held_is number now h has in
-        let was : is_held number old h ≡ true = ap (λ (s : Slot T). ((h.renderer == number) && (h.generation == s.generation)) && (is_held_use s.used && is_some s.set)) (sym slot_was) ∙ has in
+        let was : is_held number old h ≡ true = ap (λ (s : Slot T). ((h.manager == number) && (h.generation == s.generation)) && (is_held_use s.used && is_some s.set)) (sym slot_was) ∙ has in
         let far : (q : ℕ) → q ≢ h.place → slot_at new q ≡ slot_at now q = λ q ne. ap (λ l. slot_at l q) made ∙ other_slots now h.place s q ne in
         let here : slot_at new h.place ≡ s = ap (λ l. slot_at l h.place) made ∙ slot_set now h.place s held.within in
         record {
@@ -132,23 +132,23 @@ module _ {T : Type 0} where
   pub turned_all : (number : ℕ) (handles : List SetHandle) (becomes : List (Slot T) → Slot T → Slot T → Type 0) (old now : List (Slot T)) → TurnedSome number handles becomes (length handles) old now → AreHeldOnce number old handles
   turned_all number handles becomes old now some = record {
     held = λ i d lt. some.held i d lt lt;
-    once = λ i j d lt less e. (let z : SetHandle = record { renderer = 0; place = 0; generation = 0 } in some.apart i j lt less (ap (λ (x : SetHandle). x.place) (same_default handles i z d (let a = less in omega arith) ∙ e ∙ same_default handles j d z less)));
+    once = λ i j d lt less e. (let z : SetHandle = record { manager = 0; place = 0; generation = 0 } in some.apart i j lt less (ap (λ (x : SetHandle). x.place) (same_default handles i z d (let a = less in omega arith) ∙ e ∙ same_default handles j d z less)));
   }
 
   -- a handle without a held set now had none before, or is in the list twice
   pub turned_no : (number : ℕ) (handles : List SetHandle) (becomes : List (Slot T) → Slot T → Slot T → Type 0) (n : ℕ) (old now : List (Slot T)) → TurnedSome number handles becomes n old now → (h : SetHandle) → n < length handles → ((d : SetHandle) → h ≡ get_or handles n d) → is_held number now h ≡ false → AreHeldOnce number old handles → ⊥
   turned_no number handles becomes n old now some h lt is not once = elim (named_or n (place_at handles) h.place) [
     | inl found ↦ (
-        let z : SetHandle = record { renderer = 0; place = 0; generation = 0 } in
+        let z : SetHandle = record { manager = 0; place = 0; generation = 0 } in
         let i = found.0 in
         let here = held_is number old h (ap (is_held number old) (is z) ∙ once.held n z lt) in
         let there = held_is number old (get_or handles i z) (once.held i z (let a = found.1 in omega arith)) in
-        once.once i n z found.1 lt (handle_is (get_or handles i z) (get_or handles n z) (there.renderer ∙ sym here.renderer ∙ ap (λ (x : SetHandle). x.renderer) (is z)) (found.2 ∙ ap (λ (x : SetHandle). x.place) (is z)) (there.generation ∙ ap (λ p. (slot_at old p).generation) found.2 ∙ sym here.generation ∙ ap (λ (x : SetHandle). x.generation) (is z)))
+        once.once i n z found.1 lt (handle_is (get_or handles i z) (get_or handles n z) (there.manager ∙ sym here.manager ∙ ap (λ (x : SetHandle). x.manager) (is z)) (found.2 ∙ ap (λ (x : SetHandle). x.place) (is z)) (there.generation ∙ ap (λ p. (slot_at old p).generation) found.2 ∙ sym here.generation ∙ ap (λ (x : SetHandle). x.generation) (is z)))
         )
     | inr none ↦ (
-        let z : SetHandle = record { renderer = 0; place = 0; generation = 0 } in
+        let z : SetHandle = record { manager = 0; place = 0; generation = 0 } in
         let same = some.rest h.place none in
-        true≢false (sym (once.held n z lt) ∙ ap (is_held number old) (sym (is z)) ∙ ap (λ (s : Slot T). ((h.renderer == number) && (h.generation == s.generation)) && (is_held_use s.used && is_some s.set)) (sym same) ∙ not)
+        true≢false (sym (once.held n z lt) ∙ ap (is_held number old) (sym (is z)) ∙ ap (λ (s : Slot T). ((h.manager == number) && (h.generation == s.generation)) && (is_held_use s.used && is_some s.set)) (sym same) ∙ not)
         )
   ]
 
@@ -159,7 +159,7 @@ module _ {T : Type 0} where
   -- taken sets were held
   pub took_each : (number : ℕ) (handles : List SetHandle) (n : ℕ) (old now : List (Slot T)) → n ≤ length handles → TurnedSome number handles (Becomes (used_for Taken)) n old now → TookEach handles n old now
   took_each number handles n old now le some =
-      let z : SetHandle = record { renderer = 0; place = 0; generation = 0 } in
+      let z : SetHandle = record { manager = 0; place = 0; generation = 0 } in
       let was = λ (i : ℕ) (lt : i < n). held_is number old (get_or handles i z) (some.held i z lt (omega arith)) in
       record { long = some.long; held = λ i lt. (was i lt).used; within = λ i lt. (was i lt).within; named = some.named; rest = some.rest }
 
@@ -220,5 +220,5 @@ module _ {T : Type 0} where
   ])
 
 -- a handle of the list, whatever is said of those past the end
-pub handle_at : (handles : List SetHandle) (i : ℕ) → i < length handles → (d : SetHandle) → get_or handles i (record { renderer = 0; place = 0; generation = 0 }) ≡ get_or handles i d
-handle_at handles i lt d = same_default handles i (record { renderer = 0; place = 0; generation = 0 }) d lt
+pub handle_at : (handles : List SetHandle) (i : ℕ) → i < length handles → (d : SetHandle) → get_or handles i (record { manager = 0; place = 0; generation = 0 }) ≡ get_or handles i d
+handle_at handles i lt d = same_default handles i (record { manager = 0; place = 0; generation = 0 }) d lt

@@ -1,5 +1,5 @@
 -- Sets that leave their slots, and how many are left: for the iterators `Giving` and `Due`, and what is left once they gave all that they have.
--- Sets are counted by a weight that each has: with weight 1 it is their number, and for `Given` and `Returned` of the renderer how often
+-- Sets are counted by a weight that each has: with weight 1 it is their number, and for `Given` and `Returned` of the set manager how often
 -- an item is among them. `xs` are the sets that were given, `s` and `t` the iterator, or its table, before and after.
 use Rattle.std.proofs.lemmas.Grind.{common_steps}
 use Rattle.std.proofs.Common.{◌≡◌, ℕ, zero, suc, ◌+◌, ◌<◌, Bool, false, List, [], ◌∷◌, length, set, zero-add, Option, Some, None, refl, sym, ap, subst, ◌∙◌, arith}

@@ -15,7 +15,7 @@ module _ {N T : Type 0} (n : Ghosts N T) (each : (names : List N) → n.handles_
   handle_read names i x h lt read is d = is ∙ ap n.handle_of read ∙ sym (get_or-map n.handle_of names i x d lt) ∙ ap (λ l. get_or l i d) (sym (each names))
 
   pub place_read : (names : List N) (i : ℕ) (x : N) (h : SetHandle) → i < length names → x ≡ get_or names i x → h ≡ n.handle_of x → place_at (n.handles_of names) i ≡ h.place
-  place_read names i x h lt read is = sym (ap (λ (h : SetHandle). h.place) (handle_read names i x h lt read is (record { renderer = 0; place = 0; generation = 0 })))
+  place_read names i x h lt read is = sym (ap (λ (h : SetHandle). h.place) (handle_read names i x h lt read is (record { manager = 0; place = 0; generation = 0 })))
 
   -- a name that was written
   pub handles_written : (names : List N) (i : ℕ) (x : N) (h : SetHandle) → n.handle_of x ≡ h → n.handles_of (set names i x) ≡ set (n.handles_of names) i h

@@ -1,4 +1,4 @@
--- What handles name once slots changed: for `LayoutRegistry`, and for the calls of a renderer by which sets come back, wait or go.
+-- What handles name once slots changed: for `LayoutRegistry`, and for the calls of a set manager by which sets come back, wait or go.
 -- A handle is the *last* of its slot if no later one was given for the place; `shown` is what that one names.
 use Rattle.std.proofs.lemmas.Grind.{common_steps}
 use Rattle.std.proofs.Common.{arith, ◌≡◌, ◌≢◌, ℕ, ◌<◌, ◌==◌, ◌&&◌, nat_le, nat_lt, Bool, true, false, List, length, slice_index_or, if◌then◌else◌, Option, None, inl, inr, refl, sym, ap, subst, ◌∙◌, eqb-true}
@@ -36,10 +36,10 @@ module _ {T : Type 0} where
         let o = slot_at old h.place in
         let n = slot_at new h.place in
         if_both (is_last number new h) (is_live frame opened n.used) n.set
-        ∙ ap (λ g. if (h.renderer == number) && (h.generation == g) then shown frame opened n else None) (same h.place).generation
+        ∙ ap (λ g. if (h.manager == number) && (h.generation == g) then shown frame opened n else None) (same h.place).generation
         ∙ ap (λ x. if is_last number old h then x else None) (same h.place).set
         ∙ sym (if_both (is_last number old h) (is_live frame opened o.used) o.set)) i;
-    given = λ h. ap (λ g. (h.renderer == number) && (nat_lt 0 h.generation && nat_le h.generation g)) (same h.place).generation i;
+    given = λ h. ap (λ g. (h.manager == number) && (nat_lt 0 h.generation && nat_le h.generation g)) (same h.place).generation i;
   }
 
   -- sets that were held have no handle any more
@@ -51,7 +51,7 @@ module _ {T : Type 0} where
       → (slot_at new (place_at handles i)).generation ≡ (slot_at old (place_at handles i)).generation)
       (rest : (p : ℕ) → ((i : ℕ) → i < length handles → place_at handles i ≢ p) → slot_at new p ≡ slot_at old p) where
     abbrev zero_handle : SetHandle
-    zero_handle = record { renderer = 0; place = 0; generation = 0 }
+    zero_handle = record { manager = 0; place = 0; generation = 0 }
 
     abbrev handle_at : ℕ → SetHandle
     handle_at i = slice_index_or handles i zero_handle
@@ -67,13 +67,13 @@ module _ {T : Type 0} where
     not_last other apart i lt e false l = refl
     not_last other apart i lt e true l =
         let h = held_is number old (handle_at i) (once.held i zero_handle lt) in
-        let mine = and_true (other.renderer == number) (other.generation == (slot_at old other.place).generation) l in
-        let r = eqb-true other.renderer number mine.0 in
+        let mine = and_true (other.manager == number) (other.generation == (slot_at old other.place).generation) l in
+        let r = eqb-true other.manager number mine.0 in
         let g = eqb-true other.generation (slot_at old other.place).generation mine.1 in
-        absurd (apart i zero_handle lt (handle_is (handle_at i) other (h.renderer ∙ sym r) e (h.generation ∙ ap (λ p. (slot_at old p).generation) e ∙ sym g)))
+        absurd (apart i zero_handle lt (handle_is (handle_at i) other (h.manager ∙ sym r) e (h.generation ∙ ap (λ p. (slot_at old p).generation) e ∙ sym g)))
 
     abbrev finds : ℕ → Slot T → SetHandle → Option T
-    finds n s h = if ((h.renderer == number) && (h.generation == n)) && is_live frame opened s.used then s.set else None
+    finds n s h = if ((h.manager == number) && (h.generation == n)) && is_live frame opened s.used then s.set else None
 
     -- the handles name nothing, and each other one what it named
     pub names_lost : LoseNames handles (sets_of number frame opened old) (sets_of number frame opened new)
@@ -86,9 +86,9 @@ module _ {T : Type 0} where
             let no = not_last other apart found.0 found.1 found.2 (is_last number old other) refl in
             let n = slot_at new other.place in
             let o = slot_at old other.place in
-            if_not (is_last number new other) (is_live frame opened n.used) n.set (ap (λ g. (other.renderer == number) && (other.generation == g)) (generations other.place) ∙ no)
+            if_not (is_last number new other) (is_live frame opened n.used) n.set (ap (λ g. (other.manager == number) && (other.generation == g)) (generations other.place) ∙ no)
             ∙ sym (if_not (is_last number old other) (is_live frame opened o.used) o.set no)
         | inr none ↦ ap (λ (s : Slot T). finds s.generation s other) (rest other.place none)
       ];
-      given = λ h. ap (λ g. (h.renderer == number) && (nat_lt 0 h.generation && nat_le h.generation g)) (generations h.place);
+      given = λ h. ap (λ g. (h.manager == number) && (nat_lt 0 h.generation && nat_le h.generation g)) (generations h.place);
     }

@@ -1,4 +1,4 @@
--- A set that comes into a slot, gets a handle, or leaves: for `SetTable::put`, `draw`, `take_out`, `take_going` and `take_due`.
+-- A set that comes into a slot, gets a handle, or leaves: for `SetTable::put`, `allocate_for_frame`, `take_out`, `take_going` and `take_due`.
 -- `old` are the slots before, `mid` those once the slot was picked from its list or its set taken out, `new` those after.
 use Rattle.std.proofs.lemmas.Grind.{common_steps}
 use Rattle.std.proofs.Common.{◌≡◌, ◌≢◌, ℕ, ◌+◌, ◌<◌, ◌≤◌, ◌==◌, ◌&&◌, Bool, true, false, nat_lt, List, length, set, Option, Some, None, is_some, inl, inr, refl, sym, ap, ◌∙◌, arith, ltb-true}
@@ -9,7 +9,7 @@ use Rattle.descriptor_table.specs.Tables.{GivesAny, HasRoom, Picks, Puts, Renews
 use Rattle.descriptor_table.specs.declared.handle.SetHandle.{SetHandle}
 use Rattle.descriptor_table.specs.declared.set_table.SetTable.{SetTable}
 use Rattle.descriptor_table.specs.declared.slot.Use.{Use}
-use Rattle.descriptor_table.specs.declared.slot.Use.TheVariants.{Held, Drawn, Waits, Kept, Taken, Vacant}
+use Rattle.descriptor_table.specs.declared.slot.Use.TheVariants.{Held, InFrame, Waits, Kept, Taken, Vacant}
 use Rattle.descriptor_table.specs.Slots.{Slot}
 use Rattle.descriptor_table.proofs.Chains.{and_true, lists_apart, taken_no_list}
 use Rattle.descriptor_table.proofs.Counting.{same_or}
@@ -100,7 +100,7 @@ module _ {T : Type 0} where
       let slot = slot_set old p (used_for Taken o) within in (
         record { was = was; within = within; slots = refl },
         record {
-          is = r.is ∙ ap (λ (s : Slot T). record { renderer = number; place = p; generation = s.generation + 1 }) (sym slot);
+          is = r.is ∙ ap (λ (s : Slot T). record { manager = number; place = p; generation = s.generation + 1 }) (sym slot);
           slots = r.slots ∙ sym (set-set old p (used_for Taken o) (renewed u o)) ∙ ap (λ s. set (with_use p Taken old) p (renewed u s)) (sym slot);
         },
       )
@@ -149,7 +149,7 @@ module _ {T : Type 0} where
     where
       by_use : (u : Use) → in_list k u s.layout s.generation (is_some s.set) ≡ true → (s.generation < 4294967295) × (is_some s.set ≡ true)
       by_use Held e = absurd (cc)
-      by_use (Drawn frame) e = absurd (cc)
+      by_use (InFrame frame) e = absurd (cc)
       by_use (Waits frame) e = absurd (cc)
       by_use Kept e =
           let both = and_true (nat_lt s.generation 4294967295) (is_some s.set) (and_true (k == (s.layout + 2)) (nat_lt s.generation 4294967295 && is_some s.set) e).1 in

@@ -6,7 +6,7 @@ use Rattle.std.proofs.lemmas.List.{get_or_past}
 use Rattle.descriptor_table.specs.Slots.{AreLinked, Slot, chain_at, in_list, is_in, slot_at}
 use Rattle.descriptor_table.specs.Tables.{count, is_kept}
 use Rattle.descriptor_table.specs.declared.slot.Use.{Use}
-use Rattle.descriptor_table.specs.declared.slot.Use.TheVariants.{Held, Drawn, Waits, Kept, Going, Taken, Vacant}
+use Rattle.descriptor_table.specs.declared.slot.Use.TheVariants.{Held, InFrame, Waits, Kept, Going, Taken, Vacant}
 use Rattle.descriptor_table.specs.declared.slot.Chain.{Chain}
 use Rattle.descriptor_table.proofs.Chains.{none_in}
 use Rattle.descriptor_table.proofs.Counting.{below_or}
@@ -43,7 +43,7 @@ module _ {T : Type 0} where
     where
       by_use : (u : Use) → let n = s.layout + 2 in let full = is_some s.set in bit (in_list n u s.layout s.generation full && nat_lt n (k + 1)) ≡ bit (in_list n u s.layout s.generation full && nat_lt n k) + bit (in_list k u s.layout s.generation full)
       by_use Held = refl
-      by_use (Drawn f) = refl
+      by_use (InFrame f) = refl
       by_use (Waits f) = refl
       by_use Kept =
           let n = s.layout + 2 in

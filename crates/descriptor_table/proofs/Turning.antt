@@ -75,19 +75,19 @@ module _ {T : Type 0} where
   kept_grows k p now s within out = (let h = count_set (is_in k) now p s within in let b = ap bit out in omega arith)
 
   -- a set of a slot that is in no list settled
-  module _ (generations : ℕ → ℕ) (most : ℕ) (now mid new : List (Slot T)) (p : ℕ) (within : p < length now) (out : (k : ℕ) → is_in k (slot_at now p) ≡ false) (left : mid ≡ with_use p Taken now) (is : new ≡ with_use p (next_use generations most mid p) mid) where
+  module _ (generations : ℕ → ℕ) (max : ℕ) (now mid new : List (Slot T)) (p : ℕ) (within : p < length now) (out : (k : ℕ) → is_in k (slot_at now p) ≡ false) (left : mid ≡ with_use p Taken now) (is : new ≡ with_use p (next_use generations max mid p) mid) where
     -- only the use of its slot changed
-    pub settled_set : new ≡ set now p (used_for (next_use generations most mid p) (slot_at now p))
-    settled_set = is ∙ ap (λ l. with_use p (next_use generations most mid p) l) left ∙ use_again now p Taken (next_use generations most mid p) within
+    pub settled_set : new ≡ set now p (used_for (next_use generations max mid p) (slot_at now p))
+    settled_set = is ∙ ap (λ l. with_use p (next_use generations max mid p) l) left ∙ use_again now p Taken (next_use generations max mid p) within
 
     -- of sets that settled before it `IsBack` still holds, as no fewer sets of any layout are kept than then
-    pub settled_grows : (o n : Slot T) → IsBack (used_for Going) generations most now o n → IsBack (used_for Going) generations most new o n
+    pub settled_grows : (o n : Slot T) → IsBack (used_for Going) generations max now o n → IsBack (used_for Going) generations max new o n
     settled_grows o n (inl kept) = inl kept
-    settled_grows o n (inr goes) = inr (goes.0, λ may. (let a = goes.1 may in let b = kept_grows (o.layout + 2) p now (used_for (next_use generations most mid p) (slot_at now p)) within (out (o.layout + 2)) in let c = ap (count (is_in (o.layout + 2))) settled_set in omega arith))
+    settled_grows o n (inr goes) = inr (goes.0, λ may. (let a = goes.1 may in let b = kept_grows (o.layout + 2) p now (used_for (next_use generations max mid p) (slot_at now p)) within (out (o.layout + 2)) in let c = ap (count (is_in (o.layout + 2))) settled_set in omega arith))
 
     -- it is kept if it may be, and else goes
-    pub settled_here : IsBack (used_for Going) generations most new (slot_at now p) (used_for (next_use generations most mid p) (slot_at now p))
-    settled_here = by_test (may_stay generations most mid (slot_at mid p)) refl
+    pub settled_here : IsBack (used_for Going) generations max new (slot_at now p) (used_for (next_use generations max mid p) (slot_at now p))
+    settled_here = by_test (may_stay generations max mid (slot_at mid p)) refl
       where
         o : Slot T
         o = slot_at now p
@@ -95,17 +95,17 @@ module _ {T : Type 0} where
         slot : slot_at mid p ≡ used_for Taken (slot_at now p)
         slot = ap (λ l. slot_at l p) left ∙ slot_set now p (used_for Taken (slot_at now p)) within
 
-        both : may_stay generations most mid (slot_at mid p) ≡ (stays generations (slot_at now p) && nat_lt (count (is_in ((slot_at now p).layout + 2)) mid) most)
-        both = ap (may_stay generations most mid) slot
+        both : may_stay generations max mid (slot_at mid p) ≡ (stays generations (slot_at now p) && nat_lt (count (is_in ((slot_at now p).layout + 2)) mid) max)
+        both = ap (may_stay generations max mid) slot
 
-        by_test : (b : Bool) → may_stay generations most mid (slot_at mid p) ≡ b → IsBack (used_for Going) generations most new (slot_at now p) (used_for (if b then Kept else Going) (slot_at now p))
-        by_test true e = inl (refl, (and_true (stays generations (slot_at now p)) (nat_lt (count (is_in ((slot_at now p).layout + 2)) mid) most) (sym both ∙ e)).0)
+        by_test : (b : Bool) → may_stay generations max mid (slot_at mid p) ≡ b → IsBack (used_for Going) generations max new (slot_at now p) (used_for (if b then Kept else Going) (slot_at now p))
+        by_test true e = inl (refl, (and_true (stays generations (slot_at now p)) (nat_lt (count (is_in ((slot_at now p).layout + 2)) mid) max) (sym both ∙ e)).0)
         by_test false e = inr (
           refl,
           λ may.
               let k = (slot_at now p).layout + 2 in
-              let full = ltb-false (count (is_in k) mid) most (sym (ap (λ b. b && nat_lt (count (is_in k) mid) most) may) ∙ sym both ∙ e) in
-              let a = kept_grows k p now (used_for (next_use generations most mid p) (slot_at now p)) within (out k) in
+              let full = ltb-false (count (is_in k) mid) max (sym (ap (λ b. b && nat_lt (count (is_in k) mid) max) may) ∙ sym both ∙ e) in
+              let a = kept_grows k p now (used_for (next_use generations max mid p) (slot_at now p)) within (out k) in
               let b = ap (count (is_in k)) settled_set in
               let c = same_count (is_in k) now p (used_for Taken (slot_at now p)) within (sym (out k)) in
               let d = ap (count (is_in k)) left in
@@ -113,12 +113,12 @@ module _ {T : Type 0} where
         )
 
   -- a set that settled waits no longer, and isn't held
-  pub settled_not_due : (generations : ℕ → ℕ) (frame most : ℕ) (l : List (Slot T)) (o n : Slot T) → IsBack (used_for Going) generations most l o n → is_due frame n ≡ false
-  settled_not_due generations frame most l o n x6 = grind (arith, common_steps)
+  pub settled_not_due : (generations : ℕ → ℕ) (frame max : ℕ) (l : List (Slot T)) (o n : Slot T) → IsBack (used_for Going) generations max l o n → is_due frame n ≡ false
+  settled_not_due generations frame max l o n x6 = grind (arith, common_steps)
 
-  pub settled_not_held : (generations : ℕ → ℕ) (most : ℕ) (l : List (Slot T)) (o n : Slot T) → IsBack (used_for Going) generations most l o n → n.used ≢ Held
-  settled_not_held generations most l o n (inl kept) held = false≢true (ap is_held_use (ap (λ (s : Slot T). s.used) (sym kept.0) ∙ held))
-  settled_not_held generations most l o n (inr goes) held = false≢true (ap is_held_use (ap (λ (s : Slot T). s.used) (sym goes.0) ∙ held))
+  pub settled_not_held : (generations : ℕ → ℕ) (max : ℕ) (l : List (Slot T)) (o n : Slot T) → IsBack (used_for Going) generations max l o n → n.used ≢ Held
+  settled_not_held generations max l o n (inl kept) held = false≢true (ap is_held_use (ap (λ (s : Slot T). s.used) (sym kept.0) ∙ held))
+  settled_not_held generations max l o n (inr goes) held = false≢true (ap is_held_use (ap (λ (s : Slot T). s.used) (sym goes.0) ∙ held))
 
   -- a set that waits, or that a call has, is in no list
   pub due_not_listed : (frame : ℕ) (s : Slot T) → is_due frame s ≡ true → (k : ℕ) → is_in k s ≡ false
@@ -235,9 +235,9 @@ module _ {T : Type 0} where
 
   -- a set was picked from a list, or there was none in it, and then no more than so many are
   -- with more than so many in the list one leaves
-  pub above_of : (k most : ℕ) (r : Option ℕ) (old new : List (Slot T)) → most < count (is_in k) old → PicksAny (is_in k) r old new → PicksAbove k most r old new
-  above_of k most None old new more picks = (let h = none_count (is_in k) old picks.none in omega arith, picks.slots)
-  above_of k most (Some p) old new more picks = (more, picks)
+  pub above_of : (k max : ℕ) (r : Option ℕ) (old new : List (Slot T)) → max < count (is_in k) old → PicksAny (is_in k) r old new → PicksAbove k max r old new
+  above_of k max None old new more picks = (let h = none_count (is_in k) old picks.none in omega arith, picks.slots)
+  above_of k max (Some p) old new more picks = (more, picks)
 
   -- a set that goes is in no list of kept sets
   pub going_out : (k : ℕ) (s : Slot T) → 2 ≤ k → is_in k (used_for Going s) ≡ false

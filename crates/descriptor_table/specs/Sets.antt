@@ -29,7 +29,7 @@ module _ {T : Type 0} where
   module _ (number : ℕ) where
     -- whether a handle is the last one that was given for its slot
     abbrev pub is_last : Slots T → SetHandle → Bool
-    is_last slots h = (h.renderer == number) && (h.generation == (slot_at slots h.place).generation)
+    is_last slots h = (h.manager == number) && (h.generation == (slot_at slots h.place).generation)
 
     -- the set that a handle names, in this frame if one is open
     abbrev pub find : ℕ → Bool → Slots T → SetHandle → Option T
@@ -37,7 +37,7 @@ module _ {T : Type 0} where
 
     -- whether a handle was ever given
     abbrev pub is_given : Slots T → SetHandle → Bool
-    is_given slots h = (h.renderer == number) && (nat_lt 0 h.generation && nat_le h.generation (slot_at slots h.place).generation)
+    is_given slots h = (h.manager == number) && (nat_lt 0 h.generation && nat_le h.generation (slot_at slots h.place).generation)
 
     -- whether a handle has a held set
     abbrev pub is_held : Slots T → SetHandle → Bool

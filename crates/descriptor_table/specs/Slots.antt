@@ -3,7 +3,7 @@ use Rattle.std.specs.Prelude.{map, slice_set, vec_capacity, Option, Some, ◌≡
 use Rattle.std.specs.List.Sorted.{IsNonDecreasingBy}
 use Rattle.descriptor_table.specs.Places.{times, walk}
 use Rattle.descriptor_table.specs.declared.slot.Use.{Use}
-use Rattle.descriptor_table.specs.declared.slot.Use.TheVariants.{Held, Drawn, Waits, Kept, Going, Taken, Vacant}
+use Rattle.descriptor_table.specs.declared.slot.Use.TheVariants.{Held, InFrame, Waits, Kept, Going, Taken, Vacant}
 use Rattle.descriptor_table.specs.declared.slot.State.{State}
 use Rattle.descriptor_table.specs.declared.slot.State.TheVariants as state
 use Rattle.descriptor_table.specs.declared.slot_list.Entry.{Entry}
@@ -26,7 +26,7 @@ pub record Slot (T : Type 0) : Type 0 where
 -- a use without its frame
 abbrev pub state_of : Use → State
 state_of Held = state.Held
-state_of (Drawn frame) = state.Drawn
+state_of (InFrame frame) = state.InFrame
 state_of (Waits frame) = state.Waits
 state_of Kept = state.Kept
 state_of Going = state.Going
@@ -36,7 +36,7 @@ state_of Vacant = state.Vacant
 -- the use of a state, with this frame if it has one
 abbrev pub use_of : ℕ → State → Use
 use_of frame state.Held = Held
-use_of frame state.Drawn = Drawn frame
+use_of frame state.InFrame = InFrame frame
 use_of frame state.Waits = Waits frame
 use_of frame state.Kept = Kept
 use_of frame state.Going = Going
@@ -46,7 +46,7 @@ use_of frame state.Vacant = Vacant
 -- whether the handle of such a set names it, in this frame if one is open
 abbrev pub is_live : ℕ → Bool → Use → Bool
 is_live frame opened Held = true
-is_live frame opened (Drawn drawn) = opened && (drawn == frame)
+is_live frame opened (InFrame drawn) = opened && (drawn == frame)
 is_live frame opened _ = false
 
 -- whether a slot is in the list with this number: 0 vacant, 1 going, 2 and more kept of each layout
@@ -58,13 +58,13 @@ in_list k _ layout generation full = false
 
 -- whether a set waits for a frame that passes the test
 abbrev pub waits_for : (ℕ → Bool) → Use → Bool
-waits_for test (Drawn frame) = test frame
+waits_for test (InFrame frame) = test frame
 waits_for test (Waits frame) = test frame
 waits_for test _ = false
 
 -- the frame that a set in such a use waits for, or 0
 abbrev pub frame_of : Use → ℕ
-frame_of (Drawn frame) = frame
+frame_of (InFrame frame) = frame
 frame_of (Waits frame) = frame
 frame_of _ = 0
 
@@ -97,7 +97,7 @@ pub record AreSized (slots places : ℕ) : Type 0 where
 
 -- at most so many sets of a layout are kept
 abbrev pub AreFew : ℕ → List Chain → Type 0
-AreFew most chains = (k : ℕ) → 2 ≤ k → (chain_at chains k).count ≤ most
+AreFew max chains = (k : ℕ) → 2 ≤ k → (chain_at chains k).count ≤ max
 
 -- the slots of a table
 abbrev pub Slots : Type 0 → Type 0

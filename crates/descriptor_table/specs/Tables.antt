@@ -24,7 +24,7 @@ list_for _ layout = 1
 
 -- the place of the handle at a place of a list
 abbrev pub place_at : List SetHandle → ℕ → ℕ
-place_at handles i = (slice_index_or handles i (record { renderer = 0; place = 0; generation = 0 })).place
+place_at handles i = (slice_index_or handles i (record { manager = 0; place = 0; generation = 0 })).place
 
 -- how many layouts of each number were removed, after one more was
 abbrev pub removed_at : ℕ → (ℕ → ℕ) → ℕ → ℕ
@@ -39,7 +39,7 @@ abbrev pub lists_with : ℕ → ℕ
 lists_with zero = 3
 lists_with (suc n) = suc n + 1
 
--- what a table has besides slots: the number of its renderer, how many lists there are, how many layouts of each number were removed, and how many sets of a layout are kept at most
+-- what a table has besides slots: the number of its set manager, how many lists there are, how many layouts of each number were removed, and how many sets of a layout are kept at most
 pub record Settings : Type 0 where
   pub number : ℕ
   pub lists : ℕ
@@ -76,7 +76,7 @@ module _ {T : Type 0} where
   abbrev pub lists_of : SetTable T → ℕ
   lists_of t = length (chains_in t.lists.items)
 
-  -- the number of the renderer, which its handles have
+  -- the number of the set manager, which its handles have
   abbrev pub number_of : SetTable T → ℕ
   number_of t = t.number
 
@@ -200,15 +200,15 @@ module _ {T : Type 0} where
 
   -- whether a set is kept, if at most so many of its layout are
   abbrev pub may_stay : (ℕ → ℕ) → ℕ → Slots T → Slot T → Bool
-  may_stay generations most slots s = stays generations s && nat_lt (count (is_kept_of s.layout) slots) most
+  may_stay generations max slots s = stays generations s && nat_lt (count (is_kept_of s.layout) slots) max
 
   -- what a set that comes back is in use for
   abbrev pub next_use : (ℕ → ℕ) → ℕ → Slots T → ℕ → Use
-  next_use generations most slots p = if may_stay generations most slots (slot_at slots p) then Kept else Going
+  next_use generations max slots p = if may_stay generations max slots (slot_at slots p) then Kept else Going
 
   -- a set that came back is kept, or its slot became this: that of a set that may be kept only if as many are kept as may be
   abbrev pub IsBack : (Slot T → Slot T) → (ℕ → ℕ) → ℕ → Slots T → Slot T → Slot T → Type 0
-  IsBack gone generations most new o n = ((n ≡ used_for Kept o) × (stays generations o ≡ true)) ⊎ ((n ≡ gone o) × (stays generations o ≡ true → most ≤ count (is_kept_of o.layout) new))
+  IsBack gone generations max new o n = ((n ≡ used_for Kept o) × (stays generations o ≡ true)) ⊎ ((n ≡ gone o) × (stays generations o ≡ true → max ≤ count (is_kept_of o.layout) new))
 
   -- a slot became this
   abbrev pub Becomes : (Slot T → Slot T) → Slots T → Slot T → Slot T → Type 0
@@ -234,11 +234,11 @@ module _ {T : Type 0} where
 
   -- a kept set left the list, in which more than so many were, or none did, since no more are in it
   abbrev pub PicksAbove : ℕ → ℕ → Option ℕ → Slots T → Slots T → Type 0
-  PicksAbove k most result old new = MatchOption result ((count (is_in k) old ≤ most) × (new ≡ old)) (λ p. (most < count (is_in k) old) × Picks (is_in k) p old new)
+  PicksAbove k max result old new = MatchOption result ((count (is_in k) old ≤ max) × (new ≡ old)) (λ p. (max < count (is_in k) old) × Picks (is_in k) p old new)
 
   -- so many of the slots that pass the test pass it still, or all
   abbrev pub KeepsUpTo : ℕ → (Slot T → Bool) → Slots T → Slots T → Type 0
-  KeepsUpTo most test old new = (n : ℕ) → n ≤ most → n ≤ count test old → n ≤ count test new
+  KeepsUpTo max test old new = (n : ℕ) → n ≤ max → n ≤ count test old → n ≤ count test new
 
   -- the slot, whose set isn't kept when it comes back
   abbrev pub aged : Slot T → Slot T
@@ -274,7 +274,7 @@ module _ {T : Type 0} where
 
   -- the set at a place has the handle, the next one of the place, and is in use for this
   pub record Renews (number p : ℕ) (u : Use) (handle : SetHandle) (old new : Slots T) : Type 0 where
-    pub is : handle ≡ record { renderer = number; place = p; generation = (slot_at old p).generation + 1 }
+    pub is : handle ≡ record { manager = number; place = p; generation = (slot_at old p).generation + 1 }
     pub slots : At p (renewed u) old new
 
   -- a slot whose set was taken out

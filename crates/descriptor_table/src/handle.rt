@@ -3,12 +3,12 @@ ghost use Rattle.std.specs.Prelude.{◌≡◌, List, map};
 ghost use Rattle.std.proofs.Common.{sym};
 ghost use Rattle.std.proofs.lemmas.List.{map-id};
 
-/// A set of a renderer: one that is held until it is freed or destroyed, or one of a frame. Only the
-/// renderer that gave it has the set, and it names no other set later.
+/// A set of a manager: one that is held until it is freed or destroyed, or one of a frame. Only the
+/// set manager that gave it has the set, and it names no other set later.
 #[must_use = "a set is reached only by its handle"]
 #[derive(Clone, Copy, Debug, PartialEq, Eq, Hash)]
 pub struct SetHandle {
-    pub(crate) renderer: u64,
+    pub(crate) manager: u64,
     pub(crate) place: u32,
 
     /// How many handles were given for the place, with this one. So it is never 0.
@@ -16,9 +16,9 @@ pub struct SetHandle {
 }
 
 impl SetHandle {
-    /// It names no set of any renderer.
+    /// It names no set of any set manager.
     pub const NONE: Self = SetHandle {
-        renderer: u64::MAX,
+        manager: u64::MAX,
         place: u32::MAX,
         generation: 0,
     };

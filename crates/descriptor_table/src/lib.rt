@@ -1,4 +1,4 @@
-//! The table of a renderer's descriptor sets: each is in a slot, where it stays while it is used again
+//! The table of a set manager's descriptor sets: each is in a slot, where it stays while it is used again
 //! and again.
 #![tactic(auto)]
 

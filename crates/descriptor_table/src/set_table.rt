@@ -1,4 +1,4 @@
-//! The table of a renderer's sets: each is in a slot, where it stays while it is used again and again.
+//! The table of a set manager's sets: each is in a slot, where it stays while it is used again and again.
 ghost use Rattle.std.specs.Prelude.{◌≡◌, ◌+◌, ◌<◌, [], length, IsOk, OnErr, OnOk};
 ghost use Rattle.std.specs.Option.{option_copied};
 ghost use Rattle.std.specs.VecDeque.{deque_capacity};
@@ -34,7 +34,7 @@ pub(crate) const KEPT: usize = 2;
 /// The sets, each in a slot.
 #[derive(Drop)]
 pub struct SetTable<T> {
-    /// The number of the renderer, which tells its handles from those of others.
+    /// The number of the set manager, which tells its handles from those of others.
     pub(crate) number: u64,
     pub(crate) slots: SlotList<T>,
 
@@ -80,7 +80,7 @@ impl<T> SetTable<T> {
         ensures { option_copied result ≡ find (number_of self.now) frame is_open (slots_of self.now)
             handle }
     {
-        if handle.renderer != self.number {
+        if handle.manager != self.number {
             return None;
         }
         let slot = self.slots.get(handle.place)?;
@@ -95,7 +95,7 @@ impl<T> SetTable<T> {
     fn holds(&self, handle: SetHandle) -> bool
         ensures { result ≡ is_held (number_of self.now) (slots_of self.now) handle }
     {
-        if handle.renderer != self.number {
+        if handle.manager != self.number {
             return false;
         }
         let Some(slot) = self.slots.get(handle.place) else {
@@ -106,7 +106,7 @@ impl<T> SetTable<T> {
         }
         match slot.used() {
             Use::Held => slot.set.is_some(),
-            Use::Drawn(_) | Use::Waits(_) | Use::Kept | Use::Going | Use::Taken | Use::Vacant =>
+            Use::InFrame(_) | Use::Waits(_) | Use::Kept | Use::Going | Use::Taken | Use::Vacant =>
                 false,
         }
     }

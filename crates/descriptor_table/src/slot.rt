@@ -9,7 +9,7 @@ pub enum Use {
     Held,
 
     /// It has a handle until this frame ends, and waits for the frame.
-    Drawn(u64),
+    InFrame(u64),
 
     /// It waits for this frame.
     Waits(u64),
@@ -31,7 +31,7 @@ pub enum Use {
 #[derive(Clone, Copy)]
 pub enum State {
     Held,
-    Drawn,
+    InFrame,
     Waits,
     Kept,
     Going,
@@ -47,7 +47,7 @@ impl Use {
     {
         match self {
             Use::Held => State::Held,
-            Use::Drawn(_) => State::Drawn,
+            Use::InFrame(_) => State::InFrame,
             Use::Waits(_) => State::Waits,
             Use::Kept => State::Kept,
             Use::Going => State::Going,
@@ -62,7 +62,7 @@ impl Use {
         ensures { result ≡ frame_of self }
     {
         match self {
-            Use::Drawn(frame) | Use::Waits(frame) => frame,
+            Use::InFrame(frame) | Use::Waits(frame) => frame,
             Use::Held | Use::Kept | Use::Going | Use::Taken | Use::Vacant => 0,
         }
     }
@@ -74,7 +74,7 @@ impl Use {
     {
         match self {
             Use::Held => true,
-            Use::Drawn(drawn) => is_open && drawn == frame,
+            Use::InFrame(drawn) => is_open && drawn == frame,
             Use::Waits(_) | Use::Kept | Use::Going | Use::Taken | Use::Vacant => false,
         }
     }

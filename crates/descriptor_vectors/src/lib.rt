@@ -15,7 +15,7 @@ mod pair;
 #[cfg(test)]
 mod refused_first;
 #[cfg(test)]
-mod renderer;
+mod manager;
 #[cfg(test)]
 mod seen;
 #[cfg(test)]

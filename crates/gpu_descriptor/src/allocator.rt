@@ -107,7 +107,7 @@ impl<P, S> DescriptorAllocator<P, S> {
     /// From now on a new pool has at most `most` descriptors, unless what is wanting needs more: it
     /// holds no more sets than have so many descriptors, or than are wanting if these are more. At
     /// first, and with `None`, there is no such bound. Pools that exist stay.
-    pub fn set_most_pool_descriptors(&mut self, most: Option<u64>)
+    pub fn set_max_pool_descriptors(&mut self, most: Option<u64>)
         ensures value { self.new ≡ record self.old { most = most } }
         ensures agree { (name : P → ℕ) (ledger : Ledger) → Agrees name self.old ledger
             → Agrees name self.new ledger }

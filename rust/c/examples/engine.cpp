@@ -290,7 +290,7 @@ engine::engine() {
     require(gdv_load(&vulkan, gpu_.device, nullptr, vkGetDeviceProcAddr), "gdv_load");
     require(gdv_create(&vulkan, gpu_.limit, allocator_.put()), "gdv_create");
     if (gpu_.has_layer) // it sees each set anew
-        require(allocator_.keep(0), "keep");
+        require(allocator_.set_max_kept(0), "keep");
     for (slot &it : slots_) {
         auto fence = info_of<VkFenceCreateInfo>(VK_STRUCTURE_TYPE_FENCE_CREATE_INFO);
         require(vkCreateFence(gpu_.device, &fence, nullptr, &it.fence), "vkCreateFence");

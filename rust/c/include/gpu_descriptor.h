@@ -26,7 +26,7 @@
  * destroy one, call gd_remove_layout: then no set of it is kept, and none is later.
  *
  * Kept sets: a set that is freed, at once or after a frame, is kept, and gd_allocate reuses it for the same
- * layout under a new name, before it asks the driver for new ones. gd_keep says how many are kept, at first
+ * layout under a new name, before it asks the driver for new ones. gd_allocator_set_max_kept says how many are kept, at first
  * all. A kept set isn't outstanding. Its descriptors are those that were written to it last, and what they
  * refer to may be destroyed by now: write each set before you bind it. A validation layer reports a new set
  * that is bound without being written, and one that is freed while the device uses it, but neither of a kept
@@ -156,20 +156,20 @@ typedef struct gd_pool_info {
 /*
  * Your functions. Each gets 'user' of the gd_device.
  *
- * gd_create_pool creates a pool and writes its handle.
+ * gd_create_pool_fn creates a pool and writes its handle.
  *
- * gd_destroy_pool destroys a pool, which has no sets.
+ * gd_destroy_pool_fn destroys a pool, which has no sets.
  *
- * gd_allocate_sets allocates 'count' sets, at least 1, from a pool. Both arrays have 'count' elements:
+ * gd_allocate_sets_fn allocates 'count' sets, at least 1, from a pool. Both arrays have 'count' elements:
  * the layout, each time the same, and zeros for the handles of the sets. It writes all handles, or
  * fails and has allocated no set.
  *
- * gd_free_sets frees sets, at least 1, all of this pool.
+ * gd_free_sets_fn frees sets, at least 1, all of this pool.
  *
- * gd_create_pool and gd_allocate_sets return GD_OK or one of the reasons 10 to 14. If gd_allocate_sets
+ * gd_create_pool_fn and gd_allocate_sets_fn return GD_OK or one of the reasons 10 to 14. If gd_allocate_sets_fn
  * returns GD_FRAGMENTATION or GD_OUT_OF_POOL_MEMORY for an existing pool, the next pool is asked. If it
  * does so for a new pool, the pool is destroyed, and gd_allocate returns GD_FRAGMENTATION; so it does if
- * gd_create_pool returns one of them. Each other reason is what gd_allocate returns. For a status that
+ * gd_create_pool_fn returns one of them. Each other reason is what gd_allocate returns. For a status that
  * is no reason it returns GD_BAD_RESULT.
  *
  * They run inside a call on the allocator, in its thread. Nobody else may use the pools. They may call other
@@ -178,26 +178,26 @@ typedef struct gd_pool_info {
  * longjmp is stuck, and its pools stay: each later call of this thread on it is GD_BUSY, and those of others
  * wait for ever.
  */
-typedef gd_status (*gd_create_pool)(void *user, const gd_pool_info *info, uint64_t *pool) GD_NOEXCEPT;
-typedef void (*gd_destroy_pool)(void *user, uint64_t pool) GD_NOEXCEPT;
-typedef gd_status (*gd_allocate_sets)(void *user, uint64_t pool, uint32_t count,
+typedef gd_status (*gd_create_pool_fn)(void *user, const gd_pool_info *info, uint64_t *pool) GD_NOEXCEPT;
+typedef void (*gd_destroy_pool_fn)(void *user, uint64_t pool) GD_NOEXCEPT;
+typedef gd_status (*gd_allocate_sets_fn)(void *user, uint64_t pool, uint32_t count,
                                       const uint64_t *layouts, uint64_t *sets) GD_NOEXCEPT;
-typedef void (*gd_free_sets)(void *user, uint64_t pool, uint32_t count,
+typedef void (*gd_free_sets_fn)(void *user, uint64_t pool, uint32_t count,
                              const uint64_t *sets) GD_NOEXCEPT;
 
 /*
- * For layouts with a variable count (gd_add_variable_layout): as gd_allocate_sets, with the count of each set, each
+ * For layouts with a variable count (gd_add_variable_layout): as gd_allocate_sets_fn, with the count of each set, each
  * time the same.
  */
-typedef gd_status (*gd_allocate_variable_sets)(void *user, uint64_t pool, uint32_t count, const uint64_t *layouts,
+typedef gd_status (*gd_allocate_variable_sets_fn)(void *user, uint64_t pool, uint32_t count, const uint64_t *layouts,
                                                const uint32_t *variable_counts, uint64_t *sets) GD_NOEXCEPT;
 
 typedef struct gd_device {
     void *user;
-    gd_create_pool create_pool;
-    gd_destroy_pool destroy_pool;
-    gd_allocate_sets allocate_sets;
-    gd_free_sets free_sets;
+    gd_create_pool_fn create_pool;
+    gd_destroy_pool_fn destroy_pool;
+    gd_allocate_sets_fn allocate_sets;
+    gd_free_sets_fn free_sets;
 } gd_device;
 
 /* An allocator. Zeroed, it is none. The fields are the library's. */
@@ -231,7 +231,7 @@ typedef struct gd_statistics {
     uint64_t peak_pools;            /* the most pools that ever existed at once */
     uint64_t peak_pool_sets;        /* the most that 'pool_sets' ever was */
     uint64_t peak_pool_descriptors; /* the most that 'pool_descriptors' ever was */
-    uint64_t most_pool_descriptors; /* as gd_set_most_pool_descriptors was given it */
+    uint64_t max_pool_descriptors; /* as gd_allocator_set_max_pool_descriptors was given it */
     uint64_t update_after_bind_capacity; /* descriptors of all pools for update-after-bind layouts: how much
                                             of the limit is in use */
     uint64_t update_after_bind_limit;    /* as gd_create was given it */
@@ -256,7 +256,7 @@ uint32_t gd_version(void);
 const char *gd_status_name(gd_status status);
 
 /* The ABI's number and the sizes of structs, which gd_create compares with the library's. */
-#define GD_HEADER                                                                                       \
+#define GD_ABI_FINGERPRINT                                                                                       \
     (sizeof(gd_layout_statistics) * (UINT64_C(1) << 56) + GD_ABI * (UINT64_C(1) << 48) +                \
      sizeof(gd_statistics) * (UINT64_C(1) << 40) + sizeof(gd_device) * (UINT64_C(1) << 32) +            \
      sizeof(gd_pool_info) * (UINT64_C(1) << 24) + sizeof(gd_allocator) * (UINT64_C(1) << 16) +          \
@@ -264,7 +264,7 @@ const char *gd_status_name(gd_status status);
 
 /*
  * What gd_create calls, for those who load the library at run time or from another language. With
- * another 'header' than GD_HEADER it reads and writes nothing.
+ * another 'header' than GD_ABI_FINGERPRINT it reads and writes nothing.
  */
 gd_status gd_create_checked(uint64_t header, const gd_device *device, size_t user_size, uint32_t limit,
                             uint32_t flags, gd_allocator *allocator);
@@ -286,7 +286,7 @@ GD_INLINE gd_status gd_create_with_copy(const gd_device *device, size_t user_siz
                                         uint32_t flags, gd_allocator *allocator) {
     if (allocator)
         memset(allocator, 0, sizeof *allocator);
-    return gd_create_checked(GD_HEADER, device, user_size, limit, flags, allocator);
+    return gd_create_checked(GD_ABI_FINGERPRINT, device, user_size, limit, flags, allocator);
 }
 
 /* The same without a copy: what 'user' points to must stay where it is until gd_destroy. */
@@ -322,14 +322,14 @@ gd_status gd_add_layout(gd_allocator allocator, uint64_t handle, const uint32_t 
 /*
  * Adds a layout with a variable count, as Vulkan has them: the same, with the count of that binding for each set, and
  * 'counts' with it. Layouts of one handle with other counts are others. Its sets are allocated by the function that
- * gd_set_allocate_variable_sets gave; before that it is GD_BAD_COUNTS. gdv_create gives one.
+ * gd_allocator_set_allocate_variable_sets gave; before that it is GD_BAD_COUNTS. gdv_create gives one.
  *
  * GD_NULL_POINTER, GD_BAD_COUNTS, GD_BAD_FLAGS, GD_OUT_OF_HOST_MEMORY, GD_BAD_ALLOCATOR, GD_BUSY,
  * GD_INTERNAL_ERROR.
  */
 gd_status gd_add_variable_layout(gd_allocator allocator, uint64_t handle, uint32_t variable_count,
                                  const uint32_t counts[GD_KINDS], uint32_t flags, gd_layout *layout);
-gd_status gd_set_allocate_variable_sets(gd_allocator allocator, gd_allocate_variable_sets function);
+gd_status gd_allocator_set_allocate_variable_sets(gd_allocator allocator, gd_allocate_variable_sets_fn function);
 
 /*
  * Removes a layout: call it before you destroy the layout. Otherwise the next layout with the same handle,
@@ -408,23 +408,23 @@ gd_status gd_free_after_current(gd_allocator allocator, const gd_set *sets, uint
 gd_status gd_frame_done(gd_allocator allocator, uint64_t frame);
 
 /*
- * Keeps at most 'most' sets of each layout from now on; those above go back to the driver. At first
+ * Keeps at most 'max' sets of each layout from now on; those above go back to the driver. At first
  * all are kept, as with UINT32_MAX, and with 0 none is. It allocates nothing.
  *
  * GD_BAD_ALLOCATOR, GD_BUSY, GD_INTERNAL_ERROR.
  */
-gd_status gd_keep(gd_allocator allocator, uint32_t most);
+gd_status gd_allocator_set_max_kept(gd_allocator allocator, uint32_t max);
 
 /*
- * Bounds new pools from now on: each has at most 'most' descriptors, of all kinds together, unless the sets
- * that a gd_allocate still needs have more. So it holds no more sets than have 'most' descriptors, or than
+ * Bounds new pools from now on: each has at most 'max' descriptors, of all kinds together, unless the sets
+ * that a gd_allocate still needs have more. So it holds no more sets than have 'max' descriptors, or than
  * are needed, and at least one. At first it is 65,536. With UINT64_MAX there is no bound: a new pool is for
  * at least 64 sets however many descriptors a set has, or for as many as the limit allows. Pools that exist
  * stay. It allocates nothing.
  *
  * GD_BAD_ALLOCATOR, GD_BUSY, GD_INTERNAL_ERROR.
  */
-gd_status gd_set_most_pool_descriptors(gd_allocator allocator, uint64_t most);
+gd_status gd_allocator_set_max_pool_descriptors(gd_allocator allocator, uint64_t max);
 
 /*
  * A function of yours that gets each new pool, for example to give it a debug name by
@@ -435,7 +435,7 @@ gd_status gd_set_most_pool_descriptors(gd_allocator allocator, uint64_t most);
  * set is allocated. A pool that create_pool refused has no call. A pool whose first sets are refused had one, and
  * is destroyed. As one of your four functions it must return, and a call on the same allocator is GD_BUSY.
  */
-typedef void (*gd_pool_created)(void *user, uint64_t pool, const gd_pool_info *info) GD_NOEXCEPT;
+typedef void (*gd_pool_created_fn)(void *user, uint64_t pool, const gd_pool_info *info) GD_NOEXCEPT;
 
 /*
  * Calls 'function' with 'user', which isn't that of the gd_device, for each pool that is created from now on. NULL
@@ -443,7 +443,7 @@ typedef void (*gd_pool_created)(void *user, uint64_t pool, const gd_pool_info *i
  *
  * GD_BAD_ALLOCATOR, GD_BUSY, GD_INTERNAL_ERROR.
  */
-gd_status gd_set_pool_created(gd_allocator allocator, gd_pool_created function, void *user);
+gd_status gd_allocator_set_pool_created(gd_allocator allocator, gd_pool_created_fn function, void *user);
 
 /*
  * Gives kept sets back to the driver, and destroys all pools that then have no set. If no set is
@@ -487,7 +487,7 @@ gd_status gd_kept(gd_allocator allocator, gd_layout layout, uint64_t *sets);
  * 'length' is how long the text is without it: if that isn't less than 'room', the text was cut. 'text' may be
  * NULL if 'room' is 0. It allocates nothing.
  *
- * An object has "version", and the fields of gd_statistics by their names; but "most_pool_descriptors" is null
+ * An object has "version", and the fields of gd_statistics by their names; but "max_pool_descriptors" is null
  * without a bound, and "layouts" is a list. Each layout there has the fields of gd_layout_statistics, its
  * "handle" as a text in hexadecimal, "update_after_bind" as a truth value, and "descriptors" with the kinds that a
  * set has.

@@ -347,12 +347,12 @@ class allocator {
 
     /* The functions of gpu_descriptor.h by these names. */
     [[nodiscard]] gd_status frame_done(uint64_t frame) noexcept { return gd_frame_done(raw_, frame); }
-    [[nodiscard]] gd_status keep(uint32_t most) noexcept { return gd_keep(raw_, most); }
+    [[nodiscard]] gd_status set_max_kept(uint32_t max) noexcept { return gd_allocator_set_max_kept(raw_, max); }
     [[nodiscard]] gd_status cleanup() noexcept { return gd_cleanup(raw_); }
     [[nodiscard]] gd_status trim() noexcept { return gd_trim(raw_); }
     [[nodiscard]] gd_status statistics(gd_statistics &to) const noexcept { return gd_get_statistics(raw_, &to); }
-    [[nodiscard]] gd_status set_pool_created(gd_pool_created function, void *user) noexcept {
-        return gd_set_pool_created(raw_, function, user);
+    [[nodiscard]] gd_status set_pool_created(gd_pool_created_fn function, void *user) noexcept {
+        return gd_allocator_set_pool_created(raw_, function, user);
     }
 
     /* Allocates sets, which replace the old ones of `to`. If it fails, `to` is as before. */

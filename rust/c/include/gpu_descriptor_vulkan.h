@@ -294,7 +294,7 @@ GD_INLINE gd_status gdv_load(gdv_device *vulkan, VkDevice device,
 
 /*
  * The gd_device of a VkDevice, for gd_create: 'vulkan' must stay where it is until gd_destroy. For layouts with a
- * variable count call gd_set_allocate_variable_sets(allocator, gdv_allocate_variable_sets).
+ * variable count call gd_allocator_set_allocate_variable_sets(allocator, gdv_allocate_variable_sets).
  */
 GD_INLINE gd_device gdv_functions(gdv_device *vulkan) {
     gd_device device;
@@ -360,7 +360,7 @@ GD_INLINE gd_status gdv_create_with_flags(const gdv_device *vulkan, uint32_t lim
     gd_status status = gd_create_with_copy(&device, sizeof copy, limit, flags, allocator);
     if (status != GD_OK)
         return status;
-    return gd_set_allocate_variable_sets(*allocator, gdv_allocate_variable_sets); /* nobody else has it yet */
+    return gd_allocator_set_allocate_variable_sets(*allocator, gdv_allocate_variable_sets); /* nobody else has it yet */
 }
 
 /* The same without flags. */

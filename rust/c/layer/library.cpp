@@ -20,7 +20,7 @@ void create_allocator(device &it, uint32_t limit) {
                                  counted<gdv_free_sets, &account::free_calls>};
     it.faults += gd_create(&functions, limit, &it.allocator) != GD_OK;
     if (const char *most = setting("GPU_DESCRIPTOR_LAYER_KEEP"))
-        it.faults += gd_keep(it.allocator, uint32_t(std::strtoul(most, nullptr, 10))) != GD_OK;
+        it.faults += gd_allocator_set_max_kept(it.allocator, uint32_t(std::strtoul(most, nullptr, 10))) != GD_OK;
 }
 
 /* Each pool that was created is there, or was destroyed. */

@@ -6,7 +6,7 @@ use core::ffi::{CStr, c_void};
 /// `GD_ABI`, which names the shared library, too.
 pub const ABI: u64 = 3;
 
-/// `GD_HEADER`.
+/// `GD_ABI_FINGERPRINT`.
 pub const HEADER: u64 = (size_of::<GdLayoutStatistics>() as u64) << 56
     | ABI << 48
     | (size_of::<GdStatistics>() as u64) << 40
@@ -135,7 +135,7 @@ pub struct GdStatistics {
     pub peak_pools: u64,
     pub peak_pool_sets: u64,
     pub peak_pool_descriptors: u64,
-    pub most_pool_descriptors: u64,
+    pub max_pool_descriptors: u64,
     pub update_after_bind_capacity: u64,
     pub update_after_bind_limit: u64,
 }

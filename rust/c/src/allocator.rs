@@ -1,11 +1,11 @@
-//! An allocator: a renderer over the host's device.
+//! An allocator: a set manager over the host's device.
 //!
-//! Sets, their names and their frames are the renderer's, of which it is proved that a name leads to one
+//! Sets, their names and their frames are the set manager's, of which it is proved that a name leads to one
 //! set, that a set is freed once, and that a name leads to one layout. What is added here is the form that
 //! they have in C, and that a layout is known by the host's handle.
 
 use crate::abi::{AllocateVariableSets, GdLayout, GdSet, GdStatus};
-use crate::descriptor_renderer::{DestroyError, LayoutHandle, RenderError, Renderer};
+use crate::descriptor_manager::{FreeError, LayoutHandle, RequestError, SetManager};
 use crate::device::{HostDevice, HostLayout, HostPool};
 use crate::gpu_descriptor::{
     AllocationError, DescriptorSetLayoutCreateFlags, DescriptorTotalCount, SetLayout,
@@ -15,7 +15,7 @@ use crate::known::Known;
 use crate::pool_created::OnPoolCreated;
 use core::mem::MaybeUninit;
 
-type HostRenderer = Renderer<HostLayout, HostPool, u64, HostDevice>;
+type HostManager = SetManager<HostLayout, HostPool, u64, HostDevice>;
 
 mod names;
 mod statistics;
@@ -24,7 +24,7 @@ use names::{layout_of, name_of};
 
 pub struct Allocator {
     id: u64,
-    renderer: HostRenderer,
+    manager: HostManager,
 
     /// How many sets are held.
     held: usize,
@@ -37,9 +37,9 @@ pub struct Allocator {
 }
 
 /// The host's handle of a known layout, by its name.
-fn by_name(id: u64, renderer: &HostRenderer) -> impl Fn(u64) -> u64 {
+fn by_name(id: u64, manager: &HostManager) -> impl Fn(u64) -> u64 {
     move |name| {
-        let it = renderer.layout(layout_of(id, name));
+        let it = manager.layout(layout_of(id, name));
         it.expect("a known layout is there").layout.handle
     }
 }
@@ -47,13 +47,13 @@ fn by_name(id: u64, renderer: &HostRenderer) -> impl Fn(u64) -> u64 {
 impl Allocator {
     /// It allocates nothing.
     pub fn new(id: u64, device: HostDevice, limit: u32) -> Self {
-        let mut renderer = Renderer::new(Global, device, limit, id);
+        let mut manager = SetManager::new(Global, device, limit, id);
         // The host counts its frames itself: each may be the last use of a set.
-        let skipped = renderer.skip_to(u64::MAX);
+        let skipped = manager.skip_to(u64::MAX);
         assert!(skipped.is_ok(), "a frame is open");
         Allocator {
             id,
-            renderer,
+            manager,
             held: 0,
             known: Known::new(),
             frame: u64::MAX,
@@ -67,23 +67,23 @@ impl Allocator {
 
     /// How many sets wait.
     pub fn waiting(&self) -> u64 {
-        self.renderer.counts().waiting
+        self.manager.counts().waiting
     }
 
     /// How many pools exist.
     pub fn pools(&self) -> u64 {
-        self.renderer.device().pools.count()
+        self.manager.device().pools.count()
     }
 
     /// Layouts of variable counts may be added from now on.
     pub fn set_allocate_variable_sets(&mut self, function: AllocateVariableSets) {
-        let device = self.renderer.device();
+        let device = self.manager.device();
         device.allocate_variable_sets.set(Some(function));
     }
 
     /// Calls this function for each pool that is created from now on.
     pub fn set_pool_created(&mut self, function: Option<OnPoolCreated>) {
-        self.renderer.device().on_pool_created.set(function);
+        self.manager.device().on_pool_created.set(function);
     }
 
     /// Adds a layout. A known one with the same counts and flags keeps its index.
@@ -93,7 +93,7 @@ impl Allocator {
         counts: &[u32; 14],
         flags: u32,
     ) -> Result<GdLayout, GdStatus> {
-        let device = self.renderer.device();
+        let device = self.manager.device();
         if handle.variable.is_some() && device.allocate_variable_sets.get().is_none() {
             return Err(GdStatus::BAD_COUNTS);
         }
@@ -120,7 +120,7 @@ impl Allocator {
     /// The name of a layout with this handle, these counts and flags.
     fn known_layout(&self, layout: &SetLayout<HostLayout>) -> Option<u64> {
         self.known.find(layout.layout.handle, |name| {
-            let it = self.renderer.layout(layout_of(self.id, name));
+            let it = self.manager.layout(layout_of(self.id, name));
             it.is_some_and(|it| {
                 (it.layout, it.flags, it.counts) == (layout.layout, layout.flags, layout.counts)
             })
@@ -129,11 +129,11 @@ impl Allocator {
 
     /// Adds a layout, and returns its name.
     fn new_layout(&mut self, layout: SetLayout<HostLayout>) -> Result<u64, GdStatus> {
-        let (id, renderer, handle) = (self.id, &self.renderer, layout.layout.handle);
-        if self.known.reserve(by_name(id, renderer)).is_err() {
+        let (id, manager, handle) = (self.id, &self.manager, layout.layout.handle);
+        if self.known.reserve(by_name(id, manager)).is_err() {
             return Err(GdStatus::OUT_OF_HOST_MEMORY);
         }
-        let Ok(LayoutHandle { slot }) = self.renderer.add_layout(layout) else {
+        let Ok(LayoutHandle { slot }) = self.manager.add_layout(layout) else {
             return Err(GdStatus::OUT_OF_HOST_MEMORY);
         };
         self.known.put(handle, name_of(slot));
@@ -143,10 +143,10 @@ impl Allocator {
     /// Removes a layout. It allocates nothing.
     pub fn remove_layout(&mut self, layout: GdLayout) -> GdStatus {
         let handle = layout_of(layout.owner, layout.index);
-        let Ok(removed) = self.renderer.remove_layout(handle) else {
+        let Ok(removed) = self.manager.remove_layout(handle) else {
             return GdStatus::BAD_LAYOUT;
         };
-        let handle_of = by_name(self.id, &self.renderer);
+        let handle_of = by_name(self.id, &self.manager);
         self.known
             .remove(removed.layout.handle, layout.index, handle_of);
         GdStatus::OK
@@ -155,9 +155,9 @@ impl Allocator {
     /// Allocates a set for each place of `sets`, and writes it there, or none.
     #[inline]
     pub fn allocate(&mut self, layout: GdLayout, sets: &mut [MaybeUninit<GdSet>]) -> GdStatus {
-        self.renderer.device().cause.set(GdStatus::OK);
+        self.manager.device().cause.set(GdStatus::OK);
         let layout = layout_of(layout.owner, layout.index);
-        match self.renderer.create_sets(layout, sets) {
+        match self.manager.allocate_into(layout, sets) {
             Ok(()) => {
                 self.held += sets.len();
                 GdStatus::OK
@@ -167,17 +167,17 @@ impl Allocator {
     }
 
     /// The status of a request that was refused.
-    fn status_of(&self, error: RenderError) -> GdStatus {
-        let cause = self.renderer.device().cause.get();
+    fn status_of(&self, error: RequestError) -> GdStatus {
+        let cause = self.manager.device().cause.get();
         if cause != GdStatus::OK {
             return cause;
         }
         match error {
-            RenderError::Allocation(AllocationError::OutOfDeviceMemory) => {
+            RequestError::Allocation(AllocationError::OutOfDeviceMemory) => {
                 GdStatus::OUT_OF_DEVICE_MEMORY
             }
-            RenderError::Allocation(AllocationError::Fragmentation) => GdStatus::FRAGMENTATION,
-            RenderError::NoLayout => GdStatus::BAD_LAYOUT,
+            RequestError::Allocation(AllocationError::Fragmentation) => GdStatus::FRAGMENTATION,
+            RequestError::NoLayout => GdStatus::BAD_LAYOUT,
             _ => GdStatus::OUT_OF_HOST_MEMORY,
         }
     }
@@ -190,7 +190,7 @@ impl Allocator {
 
     /// The status of a call by which all of these sets were let go, or none.
     #[inline]
-    fn let_go(&mut self, sets: &[GdSet], result: Result<(), DestroyError>) -> GdStatus {
+    fn let_go(&mut self, sets: &[GdSet], result: Result<(), FreeError>) -> GdStatus {
         if result.is_err() {
             return GdStatus::BAD_SET;
         }
@@ -201,19 +201,19 @@ impl Allocator {
     /// Frees sets. It allocates nothing.
     #[inline]
     pub fn free(&mut self, sets: &[GdSet]) -> GdStatus {
-        let result = self.renderer.free_sets(sets);
+        let result = self.manager.free(sets);
         self.let_go(sets, result)
     }
 
     /// Frees all sets, those that wait and those that are kept too. It allocates nothing.
     pub fn free_all(&mut self) {
-        self.renderer.free_all();
+        self.manager.free_all();
         self.held = 0;
     }
 
     /// Lets sets wait for the end of a frame. It allocates nothing.
     pub fn free_after(&mut self, sets: &[GdSet], frame: u64) -> GdStatus {
-        let result = self.renderer.destroy_sets(sets, frame);
+        let result = self.manager.free_after(sets, frame);
         self.let_go(sets, result)
     }
 
@@ -229,28 +229,28 @@ impl Allocator {
 
     /// Keeps or frees the sets that wait for this frame or an earlier one. It allocates nothing.
     pub fn frame_done(&mut self, frame: u64) {
-        self.renderer.gpu_done(frame);
+        self.manager.frame_done(frame);
     }
 
     /// Keeps at most so many sets of a layout from now on. It allocates nothing.
-    pub fn keep(&mut self, most: u32) {
-        self.renderer.set_keep(most);
+    pub fn set_max_kept(&mut self, max: u32) {
+        self.manager.set_max_kept(max);
     }
 
     /// Bounds the descriptors of new pools from now on, but not if it is the greatest number. It allocates
     /// nothing.
-    pub fn set_most_pool_descriptors(&mut self, most: u64) {
-        let most = (most < u64::MAX).then_some(most);
-        self.renderer.set_most_pool_descriptors(most);
+    pub fn set_max_pool_descriptors(&mut self, max: u64) {
+        let max = (max < u64::MAX).then_some(max);
+        self.manager.set_max_pool_descriptors(max);
     }
 
     /// Frees kept sets, and destroys empty pools. It allocates nothing.
     pub fn cleanup(&mut self) {
-        self.renderer.cleanup();
+        self.manager.cleanup();
     }
 
     /// Destroys all pools without sets. It allocates nothing.
     pub fn trim(&mut self) {
-        self.renderer.trim();
+        self.manager.trim();
     }
 }

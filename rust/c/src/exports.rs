@@ -276,7 +276,7 @@ unsafe fn add_layout(
 }
 
 #[unsafe(no_mangle)]
-pub unsafe extern "C" fn gd_set_allocate_variable_sets(
+pub unsafe extern "C" fn gd_allocator_set_allocate_variable_sets(
     allocator: GdAllocator,
     function: Option<AllocateVariableSets>,
 ) -> GdStatus {
@@ -379,22 +379,22 @@ pub unsafe extern "C" fn gd_frame_done(allocator: GdAllocator, frame: u64) -> Gd
 }
 
 #[unsafe(no_mangle)]
-pub unsafe extern "C" fn gd_keep(allocator: GdAllocator, most: u32) -> GdStatus {
+pub unsafe extern "C" fn gd_allocator_set_max_kept(allocator: GdAllocator, max: u32) -> GdStatus {
     // SAFETY: the header's.
-    unsafe { run(allocator, |it| it.keep(most)) }
+    unsafe { run(allocator, |it| it.set_max_kept(max)) }
 }
 
 #[unsafe(no_mangle)]
-pub unsafe extern "C" fn gd_set_most_pool_descriptors(
+pub unsafe extern "C" fn gd_allocator_set_max_pool_descriptors(
     allocator: GdAllocator,
-    most: u64,
+    max: u64,
 ) -> GdStatus {
     // SAFETY: the header's.
-    unsafe { run(allocator, |it| it.set_most_pool_descriptors(most)) }
+    unsafe { run(allocator, |it| it.set_max_pool_descriptors(max)) }
 }
 
 #[unsafe(no_mangle)]
-pub unsafe extern "C" fn gd_set_pool_created(
+pub unsafe extern "C" fn gd_allocator_set_pool_created(
     allocator: GdAllocator,
     function: Option<PoolCreated>,
     user: *mut c_void,

@@ -1,7 +1,7 @@
 //! The names of the known layouts, found by the host's handles.
 //!
 //! Open addressing with steps of one: at most half of the cells are used, and a removal moves names back, so
-//! that nothing is left of it. No name is 0. Which layout a name has is the renderer's to say, so nothing but
+//! that nothing is left of it. No name is 0. Which layout a name has is the set manager's to say, so nothing but
 //! time rests on the place of a name.
 
 use crate::kit::alloc::{AllocError, Global};
@@ -154,7 +154,7 @@ mod tests {
                 known.put(name * step, name);
             }
             let looks = std::cell::Cell::new(0);
-            let (mut sum, mut most) = (0, 0);
+            let (mut sum, mut max) = (0, 0);
             for name in 1..=30_000 {
                 looks.set(0);
                 let found = known.find(name * step, |it| {
@@ -162,11 +162,11 @@ mod tests {
                     it == name
                 });
                 assert_eq!(found, Some(name));
-                (sum, most) = (sum + looks.get(), most.max(looks.get()));
+                (sum, max) = (sum + looks.get(), max.max(looks.get()));
             }
             assert!(
-                sum < 2 * 30_000 && most < 40,
-                "{step}: {sum} looks, {most} at most"
+                sum < 2 * 30_000 && max < 40,
+                "{step}: {sum} looks, {max} at max"
             );
         }
     }

@@ -1,9 +1,9 @@
 //! The C interface of the allocator. `include/gpu_descriptor.h` states what each function does.
 //!
 //! Generated from proved sources are the modules `gpu_descriptor_types`, `gpu_descriptor`,
-//! `descriptor_table` and `descriptor_renderer`, which are the files of rust/gpu-descriptor, as are the
+//! `descriptor_table` and `descriptor_manager`, which are the files of rust/gpu-descriptor, as are the
 //! `kit` that they use and `statistics`. By hand are `device`, which calls the host's functions, `allocator`, a
-//! renderer over it, `known`, which finds its layouts, `slot`, through which each call goes in its turn
+//! set manager over it, `known`, which finds its layouts, `slot`, through which each call goes in its turn
 //! (`lock`), and `exports`.
 #![cfg_attr(not(any(feature = "std", test)), no_std)]
 #![deny(unsafe_code)]
@@ -13,11 +13,11 @@ extern crate alloc as std_alloc;
 #[allow(unsafe_code)]
 mod abi;
 mod allocator;
-#[path = "../../gpu-descriptor/src/descriptor_renderer/mod.rs"]
+#[path = "../../gpu-descriptor/src/descriptor_manager/mod.rs"]
 #[allow(dead_code, unused_imports, clippy::all)]
 #[forbid(unsafe_code)]
 #[rustfmt::skip]
-mod descriptor_renderer;
+mod descriptor_manager;
 #[path = "../../gpu-descriptor/src/descriptor_table/mod.rs"]
 #[allow(dead_code, unused_imports, clippy::all)]
 #[forbid(unsafe_code)]

@@ -80,7 +80,7 @@ static void run(void) {
     gd_device device = {NULL, create_pool, destroy_pool, allocate_sets, free_sets};
     memset(&allocator, 0, sizeof allocator);
     RETRY(gd_create(&device, 1000000, &allocator));
-    ALLOCATES_NOTHING(gd_keep(allocator, keep));
+    ALLOCATES_NOTHING(gd_allocator_set_max_kept(allocator, keep));
     for (uint32_t at = 0; at < LAYOUTS; at++) {
         uint32_t counts[GD_KINDS] = {at + 1, at == 7 ? 40000000 : 0};
         uint32_t flags = at % 2 == 0 ? 0 : GD_UPDATE_AFTER_BIND;
@@ -112,8 +112,8 @@ static void run(void) {
     RETRY(gd_add_layout(allocator, 4, other, 0, &layouts[4]));
     RETRY(gd_allocate(allocator, layouts[4], MOST, more));
     ALLOCATES_NOTHING(gd_free_after(allocator, more, 100, 1));
-    ALLOCATES_NOTHING(gd_set_allocate_variable_sets(allocator, allocate_variable_sets));
-    ALLOCATES_NOTHING(gd_set_pool_created(allocator, NULL, NULL));
+    ALLOCATES_NOTHING(gd_allocator_set_allocate_variable_sets(allocator, allocate_variable_sets));
+    ALLOCATES_NOTHING(gd_allocator_set_pool_created(allocator, NULL, NULL));
     RETRY(gd_add_variable_layout(allocator, 4, 5, other, 0, &layouts[5]));
     RETRY(gd_allocate(allocator, layouts[5], MOST, more));
     ALLOCATES_NOTHING(gd_begin_frame(allocator, 5));

@@ -157,7 +157,7 @@ int main(int argument_count, char **arguments) {
     make_pipeline();
     make_commands();
     CHECK(gdv_init(&vulkan, layer.device, NULL) == GD_OK && gdv_create(&vulkan, layer.limit, &allocator) == GD_OK);
-    CHECK(gd_keep(allocator, keep) == GD_OK);
+    CHECK(gd_allocator_set_max_kept(allocator, keep) == GD_OK);
     CHECK(gdv_add_layout(allocator, layout, &layout_info, &known) == GD_BAD_COUNTS);
     use_count(allocator, 3);
     use_count(allocator, MOST);

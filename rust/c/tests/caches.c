@@ -57,7 +57,7 @@ static gd_layout layout;
 static void begin(void) {
     const gd_device device = {NULL, create_pool, destroy_pool, allocate_sets, free_sets};
     const uint32_t counts[GD_KINDS] = {1};
-    CHECK(gd_create(&device, 0, &allocator) == GD_OK && gd_keep(allocator, 0) == GD_OK);
+    CHECK(gd_create(&device, 0, &allocator) == GD_OK && gd_allocator_set_max_kept(allocator, 0) == GD_OK);
     CHECK(gd_add_layout(allocator, 7, counts, 0, &layout) == GD_OK);
     allocations = releases = 0;
     most_sets = UINT64_MAX;
@@ -242,7 +242,7 @@ static void share(void) {
     uint32_t numbers[THREADS];
     uint64_t out = 1;
     begin();
-    CHECK(gd_keep(allocator, UINT32_MAX) == GD_OK);
+    CHECK(gd_allocator_set_max_kept(allocator, UINT32_MAX) == GD_OK);
     for (uint32_t at = 0; at < THREADS; at++) {
         numbers[at] = at;
         CHECK(pthread_create(&threads[at], NULL, use, &numbers[at]) == 0);

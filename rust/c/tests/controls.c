@@ -5,7 +5,7 @@
 #include "host.h"
 #include "layer.h"
 
-enum { MOST_SETS = 65, PLACES = 64 };
+enum { MAX_SETS = 65, PLACES = 64 };
 
 // A pool of samplers, and a request of it, whose sets are freed.
 struct wrong {
@@ -16,7 +16,7 @@ struct wrong {
 
 // Since 1.1 the layer leaves it to the driver what a pool has no room for.
 static const struct wrong WRONG[] = {
-    {"more sets than places", VK_API_VERSION_1_0, PLACES, 2 * PLACES, MOST_SETS, 1, false, false},
+    {"more sets than places", VK_API_VERSION_1_0, PLACES, 2 * PLACES, MAX_SETS, 1, false, false},
     {"more descriptors than the pool has", VK_API_VERSION_1_0, PLACES, PLACES, 40, 2, false, false},
     {"marked sets of a plain pool", VK_API_VERSION_1_3, PLACES, PLACES, 1, 1, true, false},
     {"sets that no call frees", VK_API_VERSION_1_3, PLACES, PLACES, 1, 1, false, true},
@@ -55,9 +55,9 @@ static VkDescriptorPool make_pool(const struct wrong *it) {
 }
 
 static void make_calls(const struct wrong *it) {
-    VkDescriptorSetLayout layout = make_layout(it), layouts[MOST_SETS];
+    VkDescriptorSetLayout layout = make_layout(it), layouts[MAX_SETS];
     VkDescriptorPool pool = make_pool(it);
-    VkDescriptorSet sets[MOST_SETS];
+    VkDescriptorSet sets[MAX_SETS];
     for (uint32_t place = 0; place < it->sets; place++)
         layouts[place] = layout;
     VkDescriptorSetAllocateInfo info = {

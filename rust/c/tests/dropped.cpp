@@ -21,7 +21,7 @@ void drop(gd::allocator &allocator, gd::set &set, gd::sets &sets, gd::frame &fra
     (void)allocator.add_layout(1, counts, 0, layout);
     (void)allocator.begin_frame(1);
     (void)allocator.frame_done(1);
-    (void)allocator.keep(1);
+    (void)allocator.set_max_kept(1);
     (void)allocator.cleanup();
     (void)allocator.trim();
     (void)allocator.statistics(numbers);

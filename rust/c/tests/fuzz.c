@@ -7,7 +7,7 @@
 #include "host.h"
 #include <string.h>
 
-enum { ALLOCATORS = 2, LAYOUTS = 4, MOST_SETS = 256, MOST_POOLS = 4096, MOST_HANDLES = 1 << 16 };
+enum { ALLOCATORS = 2, LAYOUTS = 4, MAX_SETS = 256, MAX_POOLS = 4096, MAX_HANDLES = 1 << 16 };
 
 // Once all bytes were read, each further one is 0.
 static const uint8_t *bytes;
@@ -22,8 +22,8 @@ static uint8_t next_byte(void) {
 
 // ---- the driver ----
 
-static uint64_t pool_sets[MOST_POOLS]; // how many are alive, plus 1; 0 if the pool is destroyed
-static uint16_t pool_of[MOST_HANDLES]; // 0 if the set is freed
+static uint64_t pool_sets[MAX_POOLS]; // how many are alive, plus 1; 0 if the pool is destroyed
+static uint16_t pool_of[MAX_HANDLES]; // 0 if the set is freed
 static uint32_t pool_count, set_count;
 
 // An allocator, and what it has to have.
@@ -37,8 +37,8 @@ struct side {
 
 static struct side sides[ALLOCATORS];
 // The held sets, with the allocator of each, and the one that was freed last.
-static gd_set held[MOST_SETS], last;
-static uint32_t held_side[MOST_SETS], held_count;
+static gd_set held[MAX_SETS], last;
+static uint32_t held_side[MAX_SETS], held_count;
 
 // What the driver returns: a byte below 230 grants, one from 250 on may be an unknown status.
 static gd_status next_status(void) {
@@ -57,7 +57,7 @@ static void call_back(const struct side *side) {
 
 static gd_status create_pool(void *user, const gd_pool_info *info, uint64_t *pool) {
     struct side *side = user;
-    gd_status status = pool_count + 1 < MOST_POOLS ? next_status() : GD_OUT_OF_DEVICE_MEMORY;
+    gd_status status = pool_count + 1 < MAX_POOLS ? next_status() : GD_OUT_OF_DEVICE_MEMORY;
     call_back(side);
     CHECK(info->max_sets > 0 && (info->flags & GD_FREE_DESCRIPTOR_SET) != 0);
     if (status != GD_OK)
@@ -79,7 +79,7 @@ static void destroy_pool(void *user, uint64_t pool) {
 static gd_status allocate_sets(void *user, uint64_t pool, uint32_t count, const uint64_t *layouts,
                                uint64_t *sets) {
     struct side *side = user;
-    gd_status status = set_count + count < MOST_HANDLES ? next_status() : GD_OUT_OF_DEVICE_MEMORY;
+    gd_status status = set_count + count < MAX_HANDLES ? next_status() : GD_OUT_OF_DEVICE_MEMORY;
     call_back(side);
     CHECK(pool > 0 && pool <= pool_count && pool_sets[pool] > 0 && count > 0);
     for (uint32_t at = 0; at < count; at++)
@@ -109,16 +109,16 @@ static void free_sets(void *user, uint64_t pool, uint32_t count, const uint64_t 
 
 // ---- the calls ----
 
-static void set_keep(struct side *side) {
+static void set_max_kept(struct side *side) {
     static const uint32_t KEEPS[] = {0, 1, 7, UINT32_MAX};
     side->keep = KEEPS[next_byte() % 4];
-    CHECK(gd_keep(side->allocator, side->keep) == GD_OK);
+    CHECK(gd_allocator_set_max_kept(side->allocator, side->keep) == GD_OK);
 }
 
 static void create(struct side *side) {
     gd_device device = {side, create_pool, destroy_pool, allocate_sets, free_sets};
     CHECK(gd_create(&device, 5000, &side->allocator) == GD_OK);
-    set_keep(side);
+    set_max_kept(side);
     for (uint32_t at = 0; at < LAYOUTS; at++) {
         uint32_t counts[GD_KINDS] = {at, at == 3 ? 300000000 : 1};
         CHECK(gd_add_layout(side->allocator, at, counts, at == 1 ? GD_UPDATE_AFTER_BIND : 0,
@@ -127,12 +127,12 @@ static void create(struct side *side) {
 }
 
 static void allocate(struct side *side) {
-    gd_set sets[MOST_SETS];
+    gd_set sets[MAX_SETS];
     uint8_t which = next_byte();
     uint32_t count = next_byte() % 40;
     gd_layout layout = side->layouts[which % LAYOUTS];
     layout.index += which >= 250 ? which : 0;
-    if (held_count + count > MOST_SETS)
+    if (held_count + count > MAX_SETS)
         return;
     gd_status status = gd_allocate(side->allocator, layout, count, sets);
     CHECK((status == GD_BAD_LAYOUT) == (which >= 250));
@@ -156,7 +156,7 @@ static void forget(uint32_t at) {
 
 // Frees some held sets of an allocator, at once or after a frame.
 static void free_some(struct side *side, bool is_later) {
-    gd_set sets[MOST_SETS];
+    gd_set sets[MAX_SETS];
     uint32_t wanted = 1 + next_byte() % 20, first = next_byte(), count = 0;
     for (uint32_t step = held_count; step > 0 && count < wanted; step--) {
         uint32_t at = (first + step) % held_count;
@@ -251,7 +251,7 @@ static void act(void) {
     case 7: frame_done(side); break;
     case 8: clean_up(side); break;
     case 9: byte & 16 ? free_all(side) : renew(side); break;
-    case 10: set_keep(side); break;
+    case 10: set_max_kept(side); break;
     default: pass_null(side);
     }
     CHECK(gd_outstanding(side->allocator, &outstanding) == GD_OK && outstanding == side->out);

@@ -126,7 +126,7 @@ static void act(struct side *side) {
     default:
         CHECK(note(gd_cleanup(side->allocator)) == GD_OK && side->alive == side->out);
         if (keep > 0 && one_in(10))
-            CHECK(note(gd_keep(side->allocator, one_in(2) ? random_below(4) : UINT32_MAX)) == GD_OK);
+            CHECK(note(gd_allocator_set_max_kept(side->allocator, one_in(2) ? random_below(4) : UINT32_MAX)) == GD_OK);
         if (one_in(200)) {
             CHECK(note(gd_free_all(side->allocator)) == GD_OK && side->alive == 0);
             side->out = 0;
@@ -143,7 +143,7 @@ int main(int words, char **word) {
     for (uint32_t at = 0; at < ALLOCATORS; at++) {
         gd_device device = {&sides[at], create_pool, destroy_pool, allocate_sets, free_sets};
         CHECK(gd_create(&device, 2000, &sides[at].allocator) == GD_OK);
-        CHECK(gd_keep(sides[at].allocator, keep) == GD_OK);
+        CHECK(gd_allocator_set_max_kept(sides[at].allocator, keep) == GD_OK);
         for (uint32_t layout = 0; layout < LAYOUTS; layout++) {
             uint32_t counts[GD_KINDS] = {layout, layout == 3 ? 100000000 : 1};
             CHECK(gd_add_layout(sides[at].allocator, layout / 2, counts, layout == 1 ? 2 : 0,

@@ -12,14 +12,14 @@
 #include <string.h>
 
 enum {
-    MOST_HELD = 1000,
-    MOST_SETS = 40,
+    MAX_HELD = 1000,
+    MAX_SETS = 40,
     LAYOUTS = 3,
-    PLACES = 4 * MOST_HELD, // for more no name needs to be
-    HANDLES = 4 * MOST_HELD,
+    PLACES = 4 * MAX_HELD, // for more no name needs to be
+    HANDLES = 4 * MAX_HELD,
     REFUSES_ONE_IN = 100,
     POINTS = 10,
-    MOST_KILOBYTES = 1024 // by which the resident size may grow from the first point on
+    MAX_KILOBYTES = 1024 // by which the resident size may grow from the first point on
 };
 
 // What the driver gave under a handle: a pool, or a set of a pool.
@@ -39,7 +39,7 @@ struct handles {
 static gd_allocator allocator;
 static gd_layout layouts[LAYOUTS];
 static struct handles pools, sets;
-static gd_set held[MOST_HELD];
+static gd_set held[MAX_HELD];
 static uint32_t held_count;
 static uint32_t uses[PLACES];  // how often a place was used
 static uint64_t strange_names; // that have none of these places
@@ -142,7 +142,7 @@ static uint32_t allocate(uint32_t count) {
 
 // Gives some of the held sets back, in random order.
 static void free_some(uint32_t count) {
-    gd_set back[MOST_SETS] = {{0, 0, 0}};
+    gd_set back[MAX_SETS] = {{0, 0, 0}};
     for (uint32_t place = 0; place < count; place++) {
         uint32_t at = random_below(held_count);
         back[place] = held[at];
@@ -193,14 +193,14 @@ static void replace_layout(void) {
 static void open_all(void) {
     gd_device device = {NULL, create_pool, destroy_pool, allocate_sets, free_sets};
     CHECK(gd_create(&device, 200000, &allocator) == GD_OK);
-    CHECK(gd_keep(allocator, keep) == GD_OK);
+    CHECK(gd_allocator_set_max_kept(allocator, keep) == GD_OK);
     for (uint32_t layout = 0; layout < LAYOUTS; layout++)
         add_layout(layout);
 }
 
 static void close_all(void) {
     while (held_count > 0)
-        free_some(held_count < MOST_SETS ? held_count : MOST_SETS);
+        free_some(held_count < MAX_SETS ? held_count : MAX_SETS);
     CHECK(gd_frame_done(allocator, UINT64_MAX) == GD_OK);
     clean_up();
     CHECK(pools.freed_count == pools.count && sets.freed_count == sets.count);
@@ -210,10 +210,10 @@ static void close_all(void) {
 // Mostly asks until a thousand sets are out, then mostly gives back until few are.
 static void act(void) {
     static bool fills;
-    uint32_t lot = 1 + random_below(MOST_SETS);
-    if (held_count < MOST_SETS || held_count > MOST_HELD - MOST_SETS)
-        fills = held_count < MOST_SETS;
-    if (one_in(4) == fills || held_count + lot > MOST_HELD)
+    uint32_t lot = 1 + random_below(MAX_SETS);
+    if (held_count < MAX_SETS || held_count > MAX_HELD - MAX_SETS)
+        fills = held_count < MAX_SETS;
+    if (one_in(4) == fills || held_count + lot > MAX_HELD)
         free_some(lot < held_count ? lot : held_count);
     else
         operation += allocate(lot);
@@ -238,7 +238,7 @@ int main(int words, char **word) {
         printf(" %" PRIu64, last);
     }
     printf("\n");
-    CHECK(last <= first + MOST_KILOBYTES);
+    CHECK(last <= first + MAX_KILOBYTES);
     CHECK(strange_names == 0);
     close_all();
     printf("%" PRIu64 " sets allocated and freed, %" PRIu64 " held at most; requests met %" PRIu64,

@@ -15,7 +15,7 @@
 #include <unistd.h>
 #include <vulkan/vulkan.h>
 
-enum { DEVICES = 2, SETS = 5, ROUNDS = 3, THREADS = 4, MOST_EXTENSIONS = 400, MISSING = 3 };
+enum { DEVICES = 2, SETS = 5, ROUNDS = 3, THREADS = 4, MAX_EXTENSIONS = 400, MISSING = 3 };
 
 struct gpu {
     VkDevice device;
@@ -40,8 +40,8 @@ static void open_instance(void) {
 
 // Whether the driver has an extension. llvmpipe names no VK_EXT_descriptor_indexing, and has what it has.
 static bool has(const char *name) {
-    VkExtensionProperties all[MOST_EXTENSIONS];
-    uint32_t count = MOST_EXTENSIONS;
+    VkExtensionProperties all[MAX_EXTENSIONS];
+    uint32_t count = MAX_EXTENSIONS;
     CHECK(vkEnumerateDeviceExtensionProperties(physical, NULL, &count, all) >= 0);
     for (uint32_t place = 0; place < count; place++)
         if (strcmp(all[place].extensionName, name) == 0)

@@ -49,12 +49,12 @@ static void expect_of_each(gd_status wanted, gd_allocator it, gd_layout known, g
     CHECK(gd_free_after_current(it, &any, 1) == wanted && gd_begin_frame(it, UINT64_MAX) == wanted);
     CHECK(gd_free_all(it) == wanted && gd_frame_done(it, UINT64_MAX) == wanted);
     CHECK(gd_cleanup(it) == wanted && gd_trim(it) == wanted);
-    CHECK(gd_destroy(it) == wanted && gd_keep(it, 0) == wanted);
-    CHECK(gd_set_most_pool_descriptors(it, 1) == wanted && gd_remove_layout(it, known) == wanted);
+    CHECK(gd_destroy(it) == wanted && gd_allocator_set_max_kept(it, 0) == wanted);
+    CHECK(gd_allocator_set_max_pool_descriptors(it, 1) == wanted && gd_remove_layout(it, known) == wanted);
     CHECK(gd_add_layout(it, 1, counts, 0, &layout) == wanted);
     CHECK(gd_add_variable_layout(it, 1, 1, counts, 0, &layout) == wanted);
-    CHECK(gd_set_allocate_variable_sets(it, allocate_variable_sets) == wanted);
-    CHECK(gd_set_pool_created(it, NULL, NULL) == wanted);
+    CHECK(gd_allocator_set_allocate_variable_sets(it, allocate_variable_sets) == wanted);
+    CHECK(gd_allocator_set_pool_created(it, NULL, NULL) == wanted);
     CHECK(layout.index == UNTOUCHED && layout.owner == UNTOUCHED);
     CHECK(gd_outstanding(it, &number) == wanted && gd_waiting(it, &number) == wanted);
     CHECK(gd_pool_count(it, &number) == wanted && number == UNTOUCHED);
@@ -135,7 +135,7 @@ static gd_device device_of(struct world *world) {
 
 static void create(const gd_device *device, uint32_t limit, gd_allocator *allocator) {
     CHECK(gd_create(device, limit, allocator) == GD_OK);
-    CHECK(gd_keep(*allocator, keep) == GD_OK);
+    CHECK(gd_allocator_set_max_kept(*allocator, keep) == GD_OK);
 }
 
 // The device and the allocator have so many sets, of which none is kept, and pools.
@@ -179,9 +179,9 @@ static void pass_null(void) {
     CHECK(gd_add_layout(allocator, 1, counts, 0, NULL) == GD_NULL_POINTER);
     // Without its function no layout has a variable count.
     CHECK(gd_add_variable_layout(allocator, 1, 1, counts, 0, &layout) == GD_BAD_COUNTS);
-    CHECK(gd_set_allocate_variable_sets(allocator, NULL) == GD_NULL_POINTER);
+    CHECK(gd_allocator_set_allocate_variable_sets(allocator, NULL) == GD_NULL_POINTER);
     CHECK(gd_add_variable_layout(allocator, 1, 1, counts, 0, &layout) == GD_BAD_COUNTS);
-    CHECK(gd_set_allocate_variable_sets(allocator, allocate_variable_sets) == GD_OK);
+    CHECK(gd_allocator_set_allocate_variable_sets(allocator, allocate_variable_sets) == GD_OK);
     CHECK(gd_add_variable_layout(allocator, 1, 1, NULL, 0, &layout) == GD_NULL_POINTER);
     CHECK(gd_add_variable_layout(allocator, 1, 1, counts, 0, NULL) == GD_NULL_POINTER);
     CHECK(gd_add_variable_layout(allocator, 1, 1, counts, 4, &layout) == GD_BAD_FLAGS);
@@ -220,9 +220,9 @@ static void pass_null(void) {
 static void pass_other_headers(void) {
     gd_allocator allocator = {&keep, 77};
     for (uint32_t bit = 0; bit < 64; bit++)
-        CHECK(gd_create_checked(GD_HEADER ^ UINT64_C(1) << bit, NULL, 1, 0, 0, &allocator) == GD_BAD_VERSION);
+        CHECK(gd_create_checked(GD_ABI_FINGERPRINT ^ UINT64_C(1) << bit, NULL, 1, 0, 0, &allocator) == GD_BAD_VERSION);
     CHECK(allocator.slot == &keep && allocator.id == 77);
-    CHECK(gd_create_checked(GD_HEADER, NULL, 1, 0, 0, &allocator) == GD_NULL_POINTER && allocator.id == 0);
+    CHECK(gd_create_checked(GD_ABI_FINGERPRINT, NULL, 1, 0, 0, &allocator) == GD_NULL_POINTER && allocator.id == 0);
     CHECK(gd_version() == GD_VERSION && GD_VERSION >= GD_MAKE_VERSION(0u, 1u, 0u));
 }
 
@@ -511,7 +511,7 @@ static void free_in_one_call(void) {
     for (uint32_t at = 0; at < 64; at++)
         CHECK(gd_allocate(allocator, layout, 1, &sets[at]) == GD_OK);
     CHECK(gd_free(allocator, sets, 64) == GD_OK && world.releases == EITHER(1, 0));
-    CHECK(gd_keep(allocator, 0) == GD_OK && world.releases == 1 && world.pools == 1);
+    CHECK(gd_allocator_set_max_kept(allocator, 0) == GD_OK && world.releases == 1 && world.pools == 1);
     CHECK(gd_destroy(allocator) == GD_OK && world.pools == 0);
 }
 
@@ -527,10 +527,10 @@ static void bound_pools(void) {
     CHECK(gd_add_layout(allocator, 1, COUNTS, 0, &layout) == GD_OK);
     CHECK(gd_allocate(allocator, layout, 1, sets) == GD_OK && world.max_sets == 1);
     CHECK(gd_allocate(allocator, layout, 3, sets + 1) == GD_OK && world.max_sets == 3);
-    CHECK(gd_set_most_pool_descriptors(allocator, UINT64_MAX) == GD_OK && world.pools == 2);
+    CHECK(gd_allocator_set_max_pool_descriptors(allocator, UINT64_MAX) == GD_OK && world.pools == 2);
     CHECK(gd_allocate(allocator, layout, 1, sets + 4) == GD_OK && world.max_sets == 64);
     // The pool stays when it is bounded again.
-    CHECK(gd_set_most_pool_descriptors(allocator, 200000) == GD_OK && world.pools == 3);
+    CHECK(gd_allocator_set_max_pool_descriptors(allocator, 200000) == GD_OK && world.pools == 3);
     CHECK(gd_allocate(allocator, layout, 63, sets + 5) == GD_OK && world.pools == 3);
     CHECK(gd_allocate(allocator, layout, 1, sets + 68) == GD_OK && world.max_sets == 2);
     CHECK(gd_free(allocator, sets, 69) == GD_OK && gd_destroy(allocator) == GD_OK);
@@ -560,7 +560,7 @@ static void keep_some(void) {
         for (uint32_t other = 0; other < 10; other++)
             CHECK(sets[at].name != old[other].name);
     }
-    CHECK(gd_free(allocator, sets, 10) == GD_OK && gd_keep(allocator, 7) == GD_OK && world.sets == 7);
+    CHECK(gd_free(allocator, sets, 10) == GD_OK && gd_allocator_set_max_kept(allocator, 7) == GD_OK && world.sets == 7);
     CHECK(gd_allocate(allocator, layouts[1], 2, sets) == GD_OK && world.sets == 9); // of another layout
     // A refusal: what is kept goes, and it is asked for once more.
     world.results[0] = GD_OUT_OF_DEVICE_MEMORY;
@@ -584,7 +584,7 @@ static void keep_some(void) {
         CHECK(gd_frame_done(allocator, frame) == GD_OK && gd_waiting(allocator, &out) == GD_OK);
         CHECK(out == 5 - frame);
     }
-    CHECK(gd_keep(allocator, 0) == GD_OK && world.sets == 0);
+    CHECK(gd_allocator_set_max_kept(allocator, 0) == GD_OK && world.sets == 0);
     CHECK(gd_destroy(allocator) == GD_OK && world.pools == 0);
 }
 

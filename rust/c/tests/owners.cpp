@@ -77,7 +77,7 @@ struct room {
     room() {
         const uint32_t kinds[GD_KINDS] = {1};
         CHECK(allocator.create(device_of(device), 100) == GD_OK);
-        CHECK(gd_keep(allocator.raw(), 0) == GD_OK && allocator.begin_frame(0) == GD_OK);
+        CHECK(gd_allocator_set_max_kept(allocator.raw(), 0) == GD_OK && allocator.begin_frame(0) == GD_OK);
         CHECK(gd_add_layout(allocator.raw(), 7, kinds, 0, &layout) == GD_OK);
     }
 
@@ -127,7 +127,7 @@ void end_without_a_frame() {
     gd::layout layout;
     gd::set made;
     const uint32_t kinds[GD_KINDS] = {1};
-    CHECK(allocator.create(device_of(device), 0) == GD_OK && allocator.keep(0) == GD_OK);
+    CHECK(allocator.create(device_of(device), 0) == GD_OK && allocator.set_max_kept(0) == GD_OK);
     CHECK(allocator.add_layout(7, kinds, 0, layout) == GD_OK && allocator.allocate(layout, made) == GD_OK);
     CHECK(made.reset() == GD_OK && allocator.frame_done(UINT64_MAX - 1) == GD_OK && device.sets == 1);
     CHECK(allocator.frame_done(UINT64_MAX) == GD_OK && device.sets == 0);
@@ -296,10 +296,10 @@ void call_by_short_names() {
     room it;
     gd_statistics numbers{};
     gd::sets many;
-    CHECK(it.allocator.keep(2) == GD_OK && it.allocator.allocate(it.layout, 70, many) == GD_OK);
+    CHECK(it.allocator.set_max_kept(2) == GD_OK && it.allocator.allocate(it.layout, 70, many) == GD_OK);
     CHECK(many.free() == GD_OK && it.allocator.statistics(numbers) == GD_OK && numbers.kept == 2);
     CHECK(numbers.pools == 1 && it.allocator.cleanup() == GD_OK && it.device.sets == 0 && it.device.pools == 0);
-    CHECK(it.allocator.keep(0) == GD_OK && it.allocator.allocate(it.layout, 1, many) == GD_OK && many.free() == GD_OK);
+    CHECK(it.allocator.set_max_kept(0) == GD_OK && it.allocator.allocate(it.layout, 1, many) == GD_OK && many.free() == GD_OK);
     CHECK(it.device.pools == 1 && it.allocator.trim() == GD_OK && it.device.pools == 0);
     uint64_t created = 0;
     const auto function = [](void *user, uint64_t pool, const gd_pool_info *) noexcept {

@@ -7,7 +7,7 @@
 // frame are freed in the program at the end of their frame, in the order in which the driver frees them.
 //
 // Without a program to write, the driver also returns unknown statuses. With failing allocations, one in
-// so many, the program is worth nothing. gd_free, gd_frame_done, gd_keep and gd_cleanup never allocate.
+// so many, the program is worth nothing. gd_free, gd_frame_done, gd_allocator_set_max_kept and gd_cleanup never allocate.
 // KEEP is how many sets are kept. If that isn't 0 the line program knows nothing of it, and the host
 // changes the number now and then.
 //
@@ -20,7 +20,7 @@
 #include <string.h>
 
 // Sets of a request, sets of a free or waiting, and held sets beyond which most are freed.
-enum { MOST_SETS = 1600, MOST_FREED = 400, MOST_HELD = 20000 };
+enum { MAX_SETS = 1600, MAX_FREED = 400, MAX_HELD = 20000 };
 
 static const uint64_t UNTOUCHED = 0x756e746f75636864;
 
@@ -45,7 +45,7 @@ static bool writes_program;
 static struct given *given;
 static size_t *held; // tickets
 static size_t given_count, held_count, given_room, held_room;
-static struct waiting waiting[MOST_FREED];
+static struct waiting waiting[MAX_FREED];
 static size_t waiting_count;
 static uint64_t frame = 5;
 // The names that are held, by which a name that comes twice shows.
@@ -188,7 +188,7 @@ static bool exceeds_limit_alone(uint32_t layout, uint32_t count) {
 
 // Mostly few sets, sometimes many, and never very many of the layout whose pools hold few.
 static void allocate(void) {
-    static gd_set sets[MOST_SETS];
+    static gd_set sets[MAX_SETS];
     uint64_t before = driver.sets;
     uint32_t most = one_in(50) ? 1500 : one_in(5) ? 64 : 8;
     uint32_t layout = random_below(DRIVER_LAYOUTS), count = 1 + random_below(most);
@@ -304,9 +304,9 @@ static void leave(const size_t *tickets, gd_set *sets, uint32_t count) {
 }
 
 static void free_some(void) {
-    size_t tickets[MOST_FREED];
-    gd_set sets[MOST_FREED];
-    uint32_t count = draw(tickets, MOST_FREED);
+    size_t tickets[MAX_FREED];
+    gd_set sets[MAX_FREED];
+    uint32_t count = draw(tickets, MAX_FREED);
     if (count == 0)
         return;
     leave(tickets, sets, count);
@@ -320,13 +320,13 @@ static void free_some(void) {
 
 // Lets sets wait for a frame, mostly this one, sometimes an earlier or a later one.
 static void free_later(void) {
-    size_t tickets[MOST_FREED];
-    gd_set sets[MOST_FREED];
+    size_t tickets[MAX_FREED];
+    gd_set sets[MAX_FREED];
     uint32_t count = draw(tickets, (uint32_t)(held_count < 30 ? 1 : 30));
     if (count == 0)
         return;
     uint64_t when = frame + random_below(4) - (one_in(3) ? random_below(3) : 0);
-    if (waiting_count + count > MOST_FREED) {
+    if (waiting_count + count > MAX_FREED) {
         held = grown(held, &held_room, held_count + count, sizeof *held);
         for (uint32_t place = 0; place < count; place++)
             held[held_count++] = tickets[place];
@@ -354,7 +354,7 @@ static void free_later(void) {
 
 // Frames are done up to this one: what waits for them is freed, in the order of frames.
 static void end_frame(uint64_t done) {
-    size_t tickets[MOST_FREED], count = 0;
+    size_t tickets[MAX_FREED], count = 0;
     uint64_t requests_before = memory_requests;
     while (count < waiting_count && waiting[count].frame <= done) {
         tickets[count] = waiting[count].ticket;
@@ -416,7 +416,7 @@ static void clean_up(void) {
     CHECK(driver.sets == held_count + waiting_count);
     if (keep > 0) {
         keep = one_in(2) ? 1 + random_below(9) : UINT32_MAX;
-        CHECK(LIBRARY(gd_keep(allocator, keep)) == GD_OK && memory_requests == requests_before);
+        CHECK(LIBRARY(gd_allocator_set_max_kept(allocator, keep)) == GD_OK && memory_requests == requests_before);
     }
     fprintf(program, "cleanup\n");
     fprintf(expected, "clean\n");
@@ -434,7 +434,7 @@ static void look(void) {
     CHECK(waits == waiting_count && pools == driver.numbers.pools);
     gd_statistics numbers, wanted = driver.numbers;
     wanted.outstanding = sets, wanted.waiting = waits, wanted.layouts = DRIVER_LAYOUTS;
-    wanted.most_pool_descriptors = UINT64_MAX, wanted.update_after_bind_limit = driver.limit;
+    wanted.max_pool_descriptors = UINT64_MAX, wanted.update_after_bind_limit = driver.limit;
     wanted.kept = driver.sets - sets;
     CHECK(LIBRARY(gd_get_statistics(allocator, &numbers)) == GD_OK);
     CHECK(memcmp(&numbers, &wanted, sizeof numbers) == 0);
@@ -485,9 +485,9 @@ static void open_all(uint32_t limit) {
         status = LIBRARY(gd_create(&device, limit, &allocator));
         CHECK(status == GD_OK || (status == GD_OUT_OF_HOST_MEMORY && memory_refused_one_in > 0));
     } while (status != GD_OK);
-    CHECK(LIBRARY(gd_keep(allocator, keep)) == GD_OK);
+    CHECK(LIBRARY(gd_allocator_set_max_kept(allocator, keep)) == GD_OK);
     // The line program has no bound.
-    CHECK(LIBRARY(gd_set_most_pool_descriptors(allocator, UINT64_MAX)) == GD_OK);
+    CHECK(LIBRARY(gd_allocator_set_max_pool_descriptors(allocator, UINT64_MAX)) == GD_OK);
     memset(&device, 0, sizeof device); // it was copied
     fprintf(program, "limit %u\n", limit);
     fprintf(expected, "limit %u\n", limit);
@@ -498,7 +498,7 @@ static void open_all(uint32_t limit) {
 static void act(void) {
     // By turns more sets are allocated than freed, and fewer. If very many are held, most are freed.
     uint32_t dice = random_below(100), asks = operation / 2000 % 2 == 0 ? 60 : 45;
-    if (held_count > MOST_HELD)
+    if (held_count > MAX_HELD)
         asks = 10;
     if (dice < asks)
         allocate();

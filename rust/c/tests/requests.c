@@ -5,7 +5,7 @@
 #include "host.h"
 #include <string.h>
 
-enum { MOST = 5000, MOST_USER = 24 };
+enum { MOST = 5000, MAX_USER = 24 };
 
 // Handles of the driver, which have more than 32 bits.
 static const uint64_t FIRST_HANDLE = UINT64_C(1) << 40;
@@ -58,7 +58,7 @@ static void free_sets(void *user, uint64_t pool, uint32_t count, const uint64_t 
 static gd_allocator created(uint32_t limit) {
     static const gd_device DEVICE = {NULL, create_pool, destroy_pool, allocate_sets, free_sets};
     gd_allocator allocator;
-    CHECK(gd_create(&DEVICE, limit, &allocator) == GD_OK && gd_keep(allocator, 0) == GD_OK);
+    CHECK(gd_create(&DEVICE, limit, &allocator) == GD_OK && gd_allocator_set_max_kept(allocator, 0) == GD_OK);
     return allocator;
 }
 
@@ -182,7 +182,7 @@ static void pass_2_to_the_31_sets(void) {
     free(set);
 }
 
-static unsigned char seen[MOST_USER]; // what `user` pointed to in the last call
+static unsigned char seen[MAX_USER]; // what `user` pointed to in the last call
 static size_t user_size;
 
 static gd_status create_pool_of_user(void *user, const gd_pool_info *info, uint64_t *pool) {
@@ -194,10 +194,10 @@ static gd_status create_pool_of_user(void *user, const gd_pool_info *info, uint6
 // Each size is copied whole, also one that is no multiple of 8. The original may go.
 static void copy_users(void) {
     const gd_device device = {seen, create_pool_of_user, destroy_pool, allocate_sets, free_sets};
-    for (user_size = 1; user_size <= MOST_USER; user_size++) {
+    for (user_size = 1; user_size <= MAX_USER; user_size++) {
         gd_device it = device;
         gd_allocator allocator;
-        unsigned char *user = malloc(user_size), wanted[MOST_USER];
+        unsigned char *user = malloc(user_size), wanted[MAX_USER];
         CHECK(user != NULL);
         for (size_t at = 0; at < user_size; at++)
             user[at] = wanted[at] = (unsigned char)(0xff - at);
@@ -261,7 +261,7 @@ static gd_status allocate_sets_of_named(void *user, uint64_t pool, uint32_t coun
 // Names go to the user that was given with this function, in a call on the allocator.
 static void name_pool(void *user, uint64_t pool, const gd_pool_info *info) {
     CHECK(user == &named && pool == unnamed && memcmp(info, &last_pool, sizeof *info) == 0);
-    CHECK(gd_trim(naming) == GD_BUSY && gd_set_pool_created(naming, NULL, NULL) == GD_BUSY);
+    CHECK(gd_trim(naming) == GD_BUSY && gd_allocator_set_pool_created(naming, NULL, NULL) == GD_BUSY);
     unnamed = 0;
     named++;
 }
@@ -285,23 +285,23 @@ static void allocate_named(const gd_layout *layouts) {
 static void name_pools(void) {
     const gd_device device = {&pools, create_pool_to_name, destroy_named_pool, allocate_sets_of_named, free_sets};
     uint64_t counted = 0;
-    CHECK(gd_create(&device, UINT32_MAX, &naming) == GD_OK && gd_keep(naming, 0) == GD_OK);
+    CHECK(gd_create(&device, UINT32_MAX, &naming) == GD_OK && gd_allocator_set_max_kept(naming, 0) == GD_OK);
     const gd_layout layouts[] = {added(naming, 1, 1, 0), added(naming, 2, 0, GD_UPDATE_AFTER_BIND),
                                  added(naming, 3, 1000, 0)};
-    CHECK(gd_set_most_pool_descriptors(naming, 20000) == GD_OK);
+    CHECK(gd_allocator_set_max_pool_descriptors(naming, 20000) == GD_OK);
     is_naming = true;
-    CHECK(gd_set_pool_created(naming, name_pool, &named) == GD_OK);
+    CHECK(gd_allocator_set_pool_created(naming, name_pool, &named) == GD_OK);
     for (int turn = 0; turn < 1000; turn++)
         allocate_named(layouts);
     CHECK(named > 100 && refused_pools > 100 && refused_new > 100);
     const uint64_t before = named;
-    CHECK(gd_set_pool_created(naming, count_pool, &counted) == GD_OK);
+    CHECK(gd_allocator_set_pool_created(naming, count_pool, &counted) == GD_OK);
     for (int turn = 0; turn < 100; turn++)
         allocate_named(layouts);
     CHECK(named == before && counted > 10);
     is_naming = false;
     const uint64_t counted_before = counted;
-    CHECK(gd_set_pool_created(naming, NULL, &counted) == GD_OK);
+    CHECK(gd_allocator_set_pool_created(naming, NULL, &counted) == GD_OK);
     for (int turn = 0; turn < 100; turn++)
         allocate_named(layouts);
     CHECK(named == before && counted == counted_before);

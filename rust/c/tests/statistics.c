@@ -79,14 +79,14 @@ static const char ALL[] =
     "{\"version\": \"0.1.0\", \"outstanding\": 6, \"waiting\": 2, \"kept\": 3, \"pools\": 1, \"pool_sets\": 64, "
     "\"pool_descriptors\": 6720, \"peak_pools\": 1, \"peak_pool_sets\": 64, \"peak_pool_descriptors\": 6720, "
     "\"update_after_bind_capacity\": 0, \"update_after_bind_limit\": 4294967295, "
-    "\"most_pool_descriptors\": 65536, \"layouts\": [" LAYOUT "]}";
+    "\"max_pool_descriptors\": 65536, \"layouts\": [" LAYOUT "]}";
 
 // Numbers with two more layouts, and all three, which come in any order.
 static const char THREE[] =
     "{\"version\": \"0.1.0\", \"outstanding\": 7, \"waiting\": 2, \"kept\": 4, \"pools\": 2, \"pool_sets\": 66, "
     "\"pool_descriptors\": 8596654, \"peak_pools\": 2, \"peak_pool_sets\": 66, "
     "\"peak_pool_descriptors\": 8596654, \"update_after_bind_capacity\": 8589934, "
-    "\"update_after_bind_limit\": 4294967295, \"most_pool_descriptors\": 65536, \"layouts\": [";
+    "\"update_after_bind_limit\": 4294967295, \"max_pool_descriptors\": 65536, \"layouts\": [";
 
 static const char *const LAYOUTS[] = {
     LAYOUT,
@@ -127,7 +127,7 @@ static void count_and_write(void) {
     uint32_t all[GD_KINDS], one[GD_KINDS] = {[GD_SAMPLED_IMAGE] = 4294967}, none[GD_KINDS] = {0};
     for (uint32_t kind = 0; kind < GD_KINDS; kind++)
         all[kind] = kind + 1;
-    gd_statistics wanted = {.most_pool_descriptors = 65536, .update_after_bind_limit = UINT32_MAX};
+    gd_statistics wanted = {.max_pool_descriptors = 65536, .update_after_bind_limit = UINT32_MAX};
     CHECK(gd_create(&DEVICE, UINT32_MAX, &allocator) == GD_OK);
     expect_numbers(allocator, wanted);
     gd_layout first = added(allocator, UINT64_MAX, all, 0);
@@ -169,7 +169,7 @@ static void share_pools(void) {
     gd_allocator allocator;
     gd_set sets[101];
     uint32_t thousand[GD_KINDS] = {1000}, one[GD_KINDS] = {1};
-    gd_statistics wanted = {.most_pool_descriptors = 65536};
+    gd_statistics wanted = {.max_pool_descriptors = 65536};
     CHECK(gd_create(&DEVICE, 0, &allocator) == GD_OK);
     gd_layout first = added(allocator, 1, thousand, 0), second = added(allocator, 2, thousand, 0);
     gd_layout third = added(allocator, 3, one, 0);
@@ -207,7 +207,7 @@ static void count_after_a_refusal(void) {
     gd_allocator allocator;
     gd_set sets[3];
     uint32_t one[GD_KINDS] = {1};
-    CHECK(gd_create(&DEVICE, 0, &allocator) == GD_OK && gd_keep(allocator, 0) == GD_OK);
+    CHECK(gd_create(&DEVICE, 0, &allocator) == GD_OK && gd_allocator_set_max_kept(allocator, 0) == GD_OK);
     gd_layout layout = added(allocator, 1, one, 0);
     CHECK(gd_allocate(allocator, layout, 2, sets) == GD_OK);
     refusals = 1;
@@ -223,7 +223,7 @@ static void use_up_the_limit(void) {
     gd_allocator allocator;
     gd_set sets[2];
     uint32_t three[GD_KINDS] = {[GD_STORAGE_IMAGE] = 1, [GD_STORAGE_BUFFER] = 2}, none[GD_KINDS] = {0};
-    gd_statistics wanted = {.most_pool_descriptors = 65536, .update_after_bind_limit = 100};
+    gd_statistics wanted = {.max_pool_descriptors = 65536, .update_after_bind_limit = 100};
     CHECK(gd_create(&DEVICE, 100, &allocator) == GD_OK);
     gd_layout first = added(allocator, 1, three, GD_UPDATE_AFTER_BIND);
     gd_layout second = added(allocator, 2, none, GD_UPDATE_AFTER_BIND);
@@ -242,13 +242,13 @@ static void write_without_layouts(void) {
     size_t length = 77;
     char text[8];
     CHECK(gd_create(&DEVICE, 0, &allocator) == GD_OK);
-    CHECK(gd_set_most_pool_descriptors(allocator, UINT64_MAX) == GD_OK);
-    expect_numbers(allocator, (gd_statistics){.most_pool_descriptors = UINT64_MAX});
+    CHECK(gd_allocator_set_max_pool_descriptors(allocator, UINT64_MAX) == GD_OK);
+    expect_numbers(allocator, (gd_statistics){.max_pool_descriptors = UINT64_MAX});
     expect_text(allocator,
                 "{\"version\": \"0.1.0\", \"outstanding\": 0, \"waiting\": 0, \"kept\": 0, \"pools\": 0, \"pool_sets\": 0, "
                 "\"pool_descriptors\": 0, \"peak_pools\": 0, \"peak_pool_sets\": 0, \"peak_pool_descriptors\": 0, "
                 "\"update_after_bind_capacity\": 0, \"update_after_bind_limit\": 0, "
-                "\"most_pool_descriptors\": null, \"layouts\": []}");
+                "\"max_pool_descriptors\": null, \"layouts\": []}");
     CHECK(gd_write_statistics(allocator, NULL, 1, &length) == GD_NULL_POINTER && length == 77);
     CHECK(gd_write_statistics(allocator, text, sizeof text, NULL) == GD_NULL_POINTER);
     CHECK(gd_get_statistics(allocator, NULL) == GD_NULL_POINTER);

@@ -10,7 +10,7 @@
 #include <stdatomic.h>
 #include <time.h>
 
-enum { MOST_THREADS = 4, SETS = 160000, MOST_BATCH = 16 };
+enum { MAX_THREADS = 4, SETS = 160000, MAX_BATCH = 16 };
 
 enum way { LOCK, CACHE, OWN };
 
@@ -70,7 +70,7 @@ struct work {
 static void *run(void *of) {
     struct work *work = of;
     const struct side side = work->way == OWN ? make() : shared;
-    gd_set places[2 * GD_CACHE_REFILL], sets[MOST_BATCH];
+    gd_set places[2 * GD_CACHE_REFILL], sets[MAX_BATCH];
     gd_cache cache;
     CHECK(gd_cache_init(&cache, side.allocator, side.layout, places, GD_CACHE_REFILL) == GD_OK);
     (void)pthread_barrier_wait(&barrier);
@@ -92,8 +92,8 @@ static void *run(void *of) {
 
 // The mean of the threads.
 static double time_of(enum way way, uint32_t threads, uint32_t batch) {
-    pthread_t running[MOST_THREADS];
-    struct work works[MOST_THREADS];
+    pthread_t running[MAX_THREADS];
+    struct work works[MAX_THREADS];
     double sum = 0;
     CHECK(pthread_barrier_init(&barrier, NULL, threads) == 0);
     for (uint32_t at = 0; at < threads; at++) {
@@ -112,11 +112,11 @@ int main(int words, char **word) {
     static const char *const NAMES[] = {"lock", "cache", "own"};
     const uint64_t runs = number_at(words, word, 1, 5);
     shared = make();
-    for (uint32_t batch = 1; batch <= MOST_BATCH; batch *= MOST_BATCH) {
+    for (uint32_t batch = 1; batch <= MAX_BATCH; batch *= MAX_BATCH) {
         printf("%s%u at a time:", batch == 1 ? "" : "; ", batch);
         for (enum way way = LOCK; way <= OWN; way++) {
             printf(" %s", NAMES[way]);
-            for (uint32_t threads = 1; threads <= MOST_THREADS; threads *= 2) {
+            for (uint32_t threads = 1; threads <= MAX_THREADS; threads *= 2) {
                 double least = 1e18;
                 for (uint64_t done = 0; done < runs; done++) {
                     const double time = time_of(way, threads, batch);

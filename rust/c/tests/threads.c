@@ -99,7 +99,7 @@ static void *use(void *way) {
         if (done % 8 == 0)
             (void)counted_call(gd_cleanup(allocator));
         if (done % 64 == 1)
-            (void)counted_call(gd_keep(allocator, done % 3 == 0 ? 2 : UINT32_MAX));
+            (void)counted_call(gd_allocator_set_max_kept(allocator, done % 3 == 0 ? 2 : UINT32_MAX));
     }
     return NULL;
 }

@@ -51,7 +51,7 @@ static void try_spike(gd_status (*leave)(gd_allocator), uint32_t keep) {
     gd_allocator allocator;
     gd_layout layout;
     uint32_t counts[GD_KINDS] = {1};
-    CHECK(gd_create(&DEVICE, 0, &allocator) == GD_OK && gd_keep(allocator, keep) == GD_OK);
+    CHECK(gd_create(&DEVICE, 0, &allocator) == GD_OK && gd_allocator_set_max_kept(allocator, keep) == GD_OK);
     CHECK(gd_add_layout(allocator, 1, counts, 0, &layout) == GD_OK);
     for (size_t at = 0; at < SPIKE; at++)
         CHECK(gd_allocate(allocator, layout, 1, sets + at) == GD_OK);

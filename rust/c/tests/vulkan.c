@@ -22,7 +22,7 @@
 
 // Bindings of a layout, sets of a request and of a free, operations of a round, and sets of the one large
 // request in it.
-enum { MOST_BINDINGS = 5, MOST_SETS = 200, MOST_FREED = 300, ROUND = 300, MANY = 1500 };
+enum { MAX_BINDINGS = 5, MAX_SETS = 200, MAX_FREED = 300, ROUND = 300, MANY = 1500 };
 
 // How rarely the driver and the memory refuse.
 enum { DRIVER_ONE_IN = 12, MEMORY_ONE_IN = 50, MEMORY_AT_OPEN_ONE_IN = 4 };
@@ -34,7 +34,7 @@ struct layout {
     struct {
         VkDescriptorType type;
         uint32_t count;
-    } bindings[MOST_BINDINGS];
+    } bindings[MAX_BINDINGS];
     uint32_t counts[GD_KINDS];
     VkDescriptorSetLayout handle;
     gd_layout known;
@@ -214,8 +214,8 @@ static void make_layout_known(struct layout *layout, const VkDescriptorSetLayout
 
 // Makes a layout known, which is created on the device if it isn't there yet.
 static void make_layout(struct layout *layout) {
-    VkDescriptorSetLayoutBinding bindings[MOST_BINDINGS] = {0};
-    VkDescriptorBindingFlags flags[MOST_BINDINGS] = {0};
+    VkDescriptorSetLayoutBinding bindings[MAX_BINDINGS] = {0};
+    VkDescriptorBindingFlags flags[MAX_BINDINGS] = {0};
     for (uint32_t place = 0; place < layout->binding_count; place++) {
         bindings[place].binding = place;
         bindings[place].descriptorType = layout->bindings[place].type;
@@ -291,9 +291,9 @@ static void write_sampler(VkDescriptorSet set) {
 // In every other round requests are small, and several in a row are for one layout: so more sets of
 // a pool may go back at once than were ever asked for at once.
 static void allocate(void) {
-    gd_set sets[MOST_SETS];
+    gd_set sets[MAX_SETS];
     bool is_small = operation / ROUND % 2 == 0;
-    uint32_t count = 1 + random_below(one_in(10) && !is_small ? MOST_SETS : 8);
+    uint32_t count = 1 + random_below(one_in(10) && !is_small ? MAX_SETS : 8);
     if (asked_layout == NULL || !is_small || one_in(60))
         asked_layout = &layouts[random_below(layout_count)];
     struct layout *layout = asked_layout;
@@ -343,7 +343,7 @@ static void allocate_many(void) {
 
 // Some sets that are held, the last ones or any, leave the list.
 static uint32_t draw(gd_set *sets) {
-    uint32_t count = 1 + random_below(one_in(5) ? MOST_FREED : 12);
+    uint32_t count = 1 + random_below(one_in(5) ? MAX_FREED : 12);
     bool is_any = one_in(2);
     if (count > held_count)
         count = (uint32_t)held_count;
@@ -359,7 +359,7 @@ static uint32_t draw(gd_set *sets) {
 // Gives sets back. They can't be given back again, nor can one that was freed before, whose place
 // may be used again.
 static void free_some(void) {
-    gd_set sets[MOST_FREED] = {{0, 0, 0}};
+    gd_set sets[MAX_FREED] = {{0, 0, 0}};
     uint32_t count = draw(sets);
     gd_status later = one_in(3) ? LIBRARY(gd_free_after(allocator, sets, count, frame)) : GD_BUSY;
     if (later == GD_OK)
@@ -432,7 +432,7 @@ static void open_allocator(bool is_old) {
         status = LIBRARY(gdv_create(&vulkan, is_old ? 0 : layer.limit, &allocator));
         CHECK(status == GD_OK || status == GD_OUT_OF_HOST_MEMORY);
     } while (status != GD_OK);
-    CHECK(LIBRARY(gd_keep(allocator, keep)) == GD_OK);
+    CHECK(LIBRARY(gd_allocator_set_max_kept(allocator, keep)) == GD_OK);
     for (uint32_t place = 0; place < layout_count; place++)
         make_layout(&layouts[place]);
     memory_refused_one_in = MEMORY_ONE_IN;

@@ -251,11 +251,11 @@ static void allocate_many(void) {
 }
 
 // A layout of a uniform buffer and sampled images, so many or fewer in each set.
-enum { MOST_IMAGES = 100000 };
+enum { MAX_IMAGES = 100000 };
 
 static VkDescriptorSetLayoutBinding image_bindings[2] = {
     {.descriptorType = VK_DESCRIPTOR_TYPE_UNIFORM_BUFFER, .descriptorCount = 1},
-    {.binding = 1, .descriptorType = VK_DESCRIPTOR_TYPE_SAMPLED_IMAGE, .descriptorCount = MOST_IMAGES}};
+    {.binding = 1, .descriptorType = VK_DESCRIPTOR_TYPE_SAMPLED_IMAGE, .descriptorCount = MAX_IMAGES}};
 static VkDescriptorBindingFlags image_flags[2] = {0, VK_DESCRIPTOR_BINDING_VARIABLE_DESCRIPTOR_COUNT_BIT};
 static const VkDescriptorSetLayoutBindingFlagsCreateInfo images_flagged = {
     .sType = VK_STRUCTURE_TYPE_DESCRIPTOR_SET_LAYOUT_BINDING_FLAGS_CREATE_INFO,
@@ -275,8 +275,8 @@ static void count_variable(void) {
     CHECK(gdv_count_variable(&images, 1000, counts, &flags) == GD_OK && flags == GD_UPDATE_AFTER_BIND);
     CHECK(counts[GD_UNIFORM_BUFFER] == 1 && counts[GD_SAMPLED_IMAGE] == 1000);
     CHECK(gdv_count_variable(&images, 0, counts, &flags) == GD_OK && counts[GD_SAMPLED_IMAGE] == 0);
-    CHECK(gdv_count_variable(&images, MOST_IMAGES, counts, &flags) == GD_OK);
-    CHECK(gdv_count_variable(&images, MOST_IMAGES + 1, counts, &flags) == GD_BAD_COUNTS);
+    CHECK(gdv_count_variable(&images, MAX_IMAGES, counts, &flags) == GD_OK);
+    CHECK(gdv_count_variable(&images, MAX_IMAGES + 1, counts, &flags) == GD_BAD_COUNTS);
     CHECK(gdv_count_variable(&fixed, 1000, counts, &flags) == GD_BAD_COUNTS);
     fixed = images;
     fixed.flags = 4;
@@ -285,7 +285,7 @@ static void count_variable(void) {
     const VkDescriptorSetLayout handle = GDV_HANDLE(VkDescriptorSetLayout, LAYOUT);
     CHECK(gdv_add_layout(none, handle, &images, &layout) == GD_BAD_COUNTS && layout.index == 77);
     CHECK(gdv_add_variable_layout(none, handle, NULL, 5, &layout) == GD_NULL_POINTER);
-    CHECK(gdv_add_variable_layout(none, handle, &images, MOST_IMAGES + 1, &layout) == GD_BAD_COUNTS);
+    CHECK(gdv_add_variable_layout(none, handle, &images, MAX_IMAGES + 1, &layout) == GD_BAD_COUNTS);
     CHECK(gdv_add_variable_layout(none, handle, &images, 5, &layout) == GD_BAD_ALLOCATOR && layout.index == 77);
 }
 

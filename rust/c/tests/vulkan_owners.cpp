@@ -1,4 +1,4 @@
-// Owners over gpu_descriptor_vulkan.h, over functions of its own: a renderer that is moved, the types of
+// Owners over gpu_descriptor_vulkan.h, over functions of its own: a set manager that is moved, the types of
 // Vulkan, two threads that share an allocator, and the functions of a device by their names and by
 // vkGetDeviceProcAddr. There are no prototypes, but pointers with their names, as volk has them.
 //
@@ -114,14 +114,14 @@ VKAPI_ATTR PFN_vkVoidFunction VKAPI_CALL load(VkDevice, const char *name) {
     return std::strcmp(name, "vkFreeDescriptorSets") == 0 ? any(free_sets) : nullptr;
 }
 
-struct renderer {
+struct manager {
     VkAllocationCallbacks callbacks{};
     gdv_device vulkan{};
     gd::allocator allocator;
     gd_layout layout{};
 };
 
-void fill(renderer &it) {
+void fill(manager &it) {
     const uint32_t kinds[GD_KINDS] = {1};
     it.callbacks.pUserData = &blocks;
     CHECK(gdv_load(&it.vulkan, nullptr, &it.callbacks, load) == GD_OK);
@@ -130,10 +130,10 @@ void fill(renderer &it) {
 }
 
 // The device and the callbacks of its pools are inside of the allocator.
-void move_a_renderer() {
-    auto first = std::make_unique<renderer>();
+void move_a_set_manager() {
+    auto first = std::make_unique<manager>();
     fill(*first);
-    auto second = std::make_unique<renderer>(std::move(*first));
+    auto second = std::make_unique<manager>(std::move(*first));
     std::memset(static_cast<void *>(&first->vulkan), 0xff, sizeof first->vulkan);
     std::memset(static_cast<void *>(&first->callbacks), 0xff, sizeof first->callbacks);
     first.reset();
@@ -146,7 +146,7 @@ void move_a_renderer() {
 }
 
 // A call waits for that of another thread, unless the library has none that waits.
-void wait_for_another_thread(renderer &it, bool waits) {
+void wait_for_another_thread(manager &it, bool waits) {
     uint64_t out = 0;
     is_slow = true;
     std::thread other([&it] {
@@ -172,7 +172,7 @@ template <class Call> void insist(bool waits, Call call) {
 
 // Two threads share an allocator of gdv_create, and nothing is lost.
 void share_an_allocator(bool waits) {
-    renderer it;
+    manager it;
     fill(it);
     wait_for_another_thread(it, waits);
     const auto use = [&it, waits] {
@@ -232,9 +232,9 @@ PFN_vkAllocateDescriptorSets vkAllocateDescriptorSets = allocate_sets;
 PFN_vkFreeDescriptorSets vkFreeDescriptorSets = free_sets;
 
 int main(int words, char **) {
-    move_a_renderer();
+    move_a_set_manager();
     share_an_allocator(words < 2);
     take_functions();
-    std::printf("a renderer is moved, and threads share an allocator\n");
+    std::printf("a manager is moved, and threads share an allocator\n");
     return 0;
 }

@@ -12,7 +12,7 @@ use core::mem::take;
 use core::ops::Range;
 use std_alloc::vec::Vec;
 
-/// The bound of a new allocator: none, as in gpu-descriptor 0.3.2, or else that of a new renderer.
+/// The bound of a new allocator: none, as in gpu-descriptor 0.3.2, or else that of a new set manager.
 const FIRST_BOUND: Option<u64> = if cfg!(feature = "bounded-pools") {
     Some(65_536)
 } else {
@@ -45,7 +45,7 @@ impl<P, S> DescriptorAllocator<P, S> {
     /// descriptors comes from a pool of 50 sets. Requests for update-after-bind layouts with other counts
     /// then fail with `Fragmentation`, and no call destroys that pool while one of its sets is out.
     /// Allocate sets of the small layouts first, give each of two allocators a part of the limit, or bound
-    /// the pools by [`set_most_pool_descriptors`](Self::set_most_pool_descriptors).
+    /// the pools by [`set_max_pool_descriptors`](Self::set_max_pool_descriptors).
     /// [`update_after_bind_capacity`](Self::update_after_bind_capacity) returns how much is used.
     #[must_use]
     pub fn new(max_update_after_bind_descriptors_in_all_pools: u32) -> Self {
@@ -55,7 +55,7 @@ impl<P, S> DescriptorAllocator<P, S> {
             max_update_after_bind_descriptors_in_all_pools,
             ids.0.clone(),
         );
-        inner.set_most_pool_descriptors(FIRST_BOUND);
+        inner.set_max_pool_descriptors(FIRST_BOUND);
         DescriptorAllocator {
             inner: Guarded::new(inner),
             ids,
@@ -277,8 +277,8 @@ impl<P, S> DescriptorAllocator<P, S> {
             .call_in_drop(|inner| inner.trim_layout(device, layout));
     }
 
-    /// Bounds new pools from now on: each has at most `most` descriptors, of all kinds together, unless the
-    /// sets that a request still needs have more. Therefore it holds no more sets than have `most`
+    /// Bounds new pools from now on: each has at most `max` descriptors, of all kinds together, unless the
+    /// sets that a request still needs have more. Therefore it holds no more sets than have `max`
     /// descriptors, or than are needed, and at least one. Pools that exist stay.
     ///
     /// At first it is `None`, or `Some(65_536)` if the feature `bounded-pools` is on anywhere in the build.
@@ -289,16 +289,15 @@ impl<P, S> DescriptorAllocator<P, S> {
     /// # Panics
     ///
     /// If [poisoned](crate#after-a-panic).
-    pub fn set_most_pool_descriptors(&mut self, most: Option<u64>) {
-        self.inner
-            .call(|inner| inner.set_most_pool_descriptors(most));
+    pub fn set_max_pool_descriptors(&mut self, max: Option<u64>) {
+        self.inner.call(|inner| inner.set_max_pool_descriptors(max));
     }
 
     /// How many descriptors a new pool has at most, unless more are needed at once, as set by
-    /// [`set_most_pool_descriptors`](Self::set_most_pool_descriptors).
+    /// [`set_max_pool_descriptors`](Self::set_max_pool_descriptors).
     #[must_use]
-    pub fn most_pool_descriptors(&self) -> Option<u64> {
-        self.inner.get().most_pool_descriptors()
+    pub fn max_pool_descriptors(&self) -> Option<u64> {
+        self.inner.get().max_pool_descriptors()
     }
 
     /// How many sets are live: allocated and not freed.

@@ -1,29 +1,29 @@
-//! A cache of sets, for threads that share a renderer behind a lock.
+//! A cache of sets, for threads that share a set manager behind a lock.
 
-use crate::renderer::{DestroyError, LayoutHandle, RenderError, Renderer, SetHandle};
+use crate::manager::{FreeError, LayoutHandle, RequestError, SetHandle, SetManager};
 use crate::{AllocationError, DescriptorDevice};
 use core::ops::DerefMut;
 use std_alloc::vec::Vec;
 
-/// Sets of one layout for one thread, over a renderer that threads share behind a lock of yours. It takes
-/// `refill` sets from the renderer by one call and gives as many back by one, so that threads seldom wait.
+/// Sets of one layout for one thread, over a set manager that threads share behind a lock of yours. It takes
+/// `refill` sets from the set manager by one call and gives as many back by one, so that threads seldom wait.
 ///
-/// Each set comes with its raw one, which takes no lock to read. To the renderer the sets of a cache are
+/// Each set comes with its raw one, which takes no lock to read. To the set manager the sets of a cache are
 /// held: their pools stay, and a cache that is dropped leaves them to it. Therefore [`flush`](Self::flush) each
 /// cache before a `cleanup` or `remove_layout`. Sets that wait for a frame don't go through a cache: pass those of a
-/// thread and frame to one `destroy_sets`.
+/// thread and frame to one `free_after`.
 ///
 /// ```
-/// # use gpu_descriptor::renderer::{LayoutHandle, Renderer, SetCache};
+/// # use gpu_descriptor::manager::{LayoutHandle, SetManager, SetCache};
 /// # use gpu_descriptor::DescriptorDevice;
 /// # use std::sync::Mutex;
-/// # fn draw<L, P, S: Copy, D: DescriptorDevice<L, P, S>>(renderer: &Mutex<Renderer<L, P, S, D>>, layout: LayoutHandle)
+/// # fn draw<L, P, S: Copy, D: DescriptorDevice<L, P, S>>(manager: &Mutex<SetManager<L, P, S, D>>, layout: LayoutHandle)
 /// # -> Result<(), Box<dyn std::error::Error>> {
 /// let mut cache = SetCache::new(layout, 64)?;
-/// let (set, raw) = cache.allocate(|| renderer.lock().unwrap())?;
+/// let (set, raw) = cache.allocate(|| manager.lock().unwrap())?;
 /// // .. `raw` is written and bound, and the device is done with it ..
-/// unsafe { cache.free((set, raw), || renderer.lock().unwrap()) }?;
-/// unsafe { cache.flush(&mut renderer.lock().unwrap()) }?;
+/// unsafe { cache.free((set, raw), || manager.lock().unwrap()) }?;
+/// unsafe { cache.flush(&mut manager.lock().unwrap()) }?;
 /// # Ok(())
 /// # }
 /// ```
@@ -32,7 +32,7 @@ pub struct SetCache<S> {
     layout: LayoutHandle,
     refill: usize,
 
-    /// At most twice `refill`, and so many `handles`, for calls of the renderer.
+    /// At most twice `refill`, and so many `handles`, for calls of the set manager.
     sets: Vec<(SetHandle, S)>,
     handles: Vec<SetHandle>,
 }
@@ -44,8 +44,8 @@ impl<S: Copy> SetCache<S> {
     /// # Errors
     ///
     /// `OutOfHostMemory`.
-    pub fn new(layout: LayoutHandle, refill: usize) -> Result<Self, RenderError> {
-        const NO_MEMORY: RenderError = RenderError::Allocation(AllocationError::OutOfHostMemory);
+    pub fn new(layout: LayoutHandle, refill: usize) -> Result<Self, RequestError> {
+        const NO_MEMORY: RequestError = RequestError::Allocation(AllocationError::OutOfHostMemory);
         let refill = refill.max(1);
         let places = refill.checked_mul(2).ok_or(NO_MEMORY)?;
         let (mut sets, mut handles) = (Vec::new(), Vec::new());
@@ -66,19 +66,19 @@ impl<S: Copy> SetCache<S> {
         self.sets.len()
     }
 
-    /// A set of the cache. An empty one takes the lock and is refilled; if the renderer refuses so many, by
+    /// A set of the cache. An empty one takes the lock and is refilled; if the set manager refuses so many, by
     /// half as many, and so on.
     ///
     /// # Errors
     ///
-    /// Same as [`Renderer::create_set`]: not even one set was granted.
+    /// Same as [`SetManager::allocate`]: not even one set was granted.
     #[inline]
     pub fn allocate<L, P, D: DescriptorDevice<L, P, S>, G>(
         &mut self,
         lock: impl FnOnce() -> G,
-    ) -> Result<(SetHandle, S), RenderError>
+    ) -> Result<(SetHandle, S), RequestError>
     where
-        G: DerefMut<Target = Renderer<L, P, S, D>>,
+        G: DerefMut<Target = SetManager<L, P, S, D>>,
     {
         match self.sets.pop() {
             Some(set) => Ok(set),
@@ -90,23 +90,23 @@ impl<S: Copy> SetCache<S> {
     #[cold]
     fn fill<L, P, D: DescriptorDevice<L, P, S>>(
         &mut self,
-        renderer: &mut Renderer<L, P, S, D>,
-    ) -> Result<(SetHandle, S), RenderError> {
+        manager: &mut SetManager<L, P, S, D>,
+    ) -> Result<(SetHandle, S), RequestError> {
         let mut count = self.refill;
-        while let Err(error) = renderer.create_sets_into(self.layout, &mut self.handles[..count]) {
+        while let Err(error) = manager.allocate_into(self.layout, &mut self.handles[..count]) {
             match error {
-                RenderError::Allocation(_) if count > 1 => count /= 2,
+                RequestError::Allocation(_) if count > 1 => count /= 2,
                 _ => return Err(error),
             }
         }
-        let read = |handle: SetHandle| (handle, *renderer.set(handle).expect("it is held"));
+        let read = |handle: SetHandle| (handle, *manager.set(handle).expect("it is held"));
         let (first, others) = (self.handles[0], &self.handles[1..count]);
         self.sets.extend(others.iter().map(|it| read(*it)));
         Ok(read(first))
     }
 
     /// Puts a set of the cache's layout into the cache, from whichever cache it came. A full one takes the lock
-    /// and first gives `refill` sets back. The renderer checks a set only then.
+    /// and first gives `refill` sets back. The set manager checks a set only then.
     ///
     /// # Errors
     ///
@@ -115,15 +115,15 @@ impl<S: Copy> SetCache<S> {
     ///
     /// # Safety
     ///
-    /// Same as [`Renderer::free_sets`]. And the set is one of the layout, with its raw one, and is freed once.
+    /// Same as [`SetManager::free`]. And the set is one of the layout, with its raw one, and is freed once.
     #[inline]
     pub unsafe fn free<L, P, D: DescriptorDevice<L, P, S>, G>(
         &mut self,
         set: (SetHandle, S),
         lock: impl FnOnce() -> G,
-    ) -> Result<(), DestroyError>
+    ) -> Result<(), FreeError>
     where
-        G: DerefMut<Target = Renderer<L, P, S, D>>,
+        G: DerefMut<Target = SetManager<L, P, S, D>>,
     {
         if self.sets.len() == self.handles.len() {
             // SAFETY: the caller's, when the sets came.
@@ -133,7 +133,7 @@ impl<S: Copy> SetCache<S> {
         Ok(())
     }
 
-    /// Gives all sets back to the renderer.
+    /// Gives all sets back to the set manager.
     ///
     /// # Errors
     ///
@@ -141,16 +141,16 @@ impl<S: Copy> SetCache<S> {
     ///
     /// # Safety
     ///
-    /// Same as [`Renderer::free_sets`].
+    /// Same as [`SetManager::free`].
     pub unsafe fn flush<L, P, D: DescriptorDevice<L, P, S>>(
         &mut self,
-        renderer: &mut Renderer<L, P, S, D>,
-    ) -> Result<(), DestroyError> {
+        manager: &mut SetManager<L, P, S, D>,
+    ) -> Result<(), FreeError> {
         // SAFETY: the caller's.
-        let answer = unsafe { self.give_back(self.sets.len(), renderer) };
+        let answer = unsafe { self.give_back(self.sets.len(), manager) };
         for (handle, _) in self.sets.drain(..) {
             // SAFETY: the caller's. One that was freed elsewhere is named by no handle.
-            let _ = unsafe { renderer.free_sets(&[handle]) };
+            let _ = unsafe { manager.free(&[handle]) };
         }
         answer
     }
@@ -159,18 +159,18 @@ impl<S: Copy> SetCache<S> {
     ///
     /// # Safety
     ///
-    /// Same as [`Renderer::free_sets`].
+    /// Same as [`SetManager::free`].
     unsafe fn give_back<L, P, D: DescriptorDevice<L, P, S>>(
         &mut self,
         count: usize,
-        renderer: &mut Renderer<L, P, S, D>,
-    ) -> Result<(), DestroyError> {
+        manager: &mut SetManager<L, P, S, D>,
+    ) -> Result<(), FreeError> {
         let left = self.sets.len() - count;
         for (place, (handle, _)) in self.handles.iter_mut().zip(&self.sets[left..]) {
             *place = *handle;
         }
         // SAFETY: the caller's.
-        unsafe { renderer.free_sets(&self.handles[..count]) }?;
+        unsafe { manager.free(&self.handles[..count]) }?;
         self.sets.truncate(left);
         Ok(())
     }

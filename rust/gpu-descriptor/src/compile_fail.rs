@@ -27,28 +27,28 @@
 //! # }
 //! ```
 //!
-//! And of a renderer: its handle.
+//! And of a manager: its handle.
 //!
 //! ```compile_fail
 //! #![deny(unused_must_use)]
-//! use gpu_descriptor::renderer::{LayoutHandle, RenderError, Renderer};
+//! use gpu_descriptor::manager::{LayoutHandle, RequestError, SetManager};
 //! # include!(concat!(env!("CARGO_MANIFEST_DIR"), "/tests/numbers/device.rs"));
 //! # fn main() {}
-//! # type Sets = Renderer<u64, u64, u64, Device>;
-//! # fn f(renderer: &mut Sets, layout: LayoutHandle) -> Result<(), RenderError> {
-//! renderer.create_set(layout)?;
+//! # type Sets = SetManager<u64, u64, u64, Device>;
+//! # fn f(manager: &mut Sets, layout: LayoutHandle) -> Result<(), RequestError> {
+//! manager.allocate(layout)?;
 //! # Ok(())
 //! # }
 //! ```
 //!
 //! ```compile_fail
 //! #![deny(unused_must_use)]
-//! use gpu_descriptor::renderer::{LayoutHandle, RenderError, Renderer};
+//! use gpu_descriptor::manager::{LayoutHandle, RequestError, SetManager};
 //! # include!(concat!(env!("CARGO_MANIFEST_DIR"), "/tests/numbers/device.rs"));
 //! # fn main() {}
-//! # type Sets = Renderer<u64, u64, u64, Device>;
-//! # fn f(renderer: &mut Sets, layout: LayoutHandle) -> Result<(), RenderError> {
-//! renderer.draw(layout)?;
+//! # type Sets = SetManager<u64, u64, u64, Device>;
+//! # fn f(manager: &mut Sets, layout: LayoutHandle) -> Result<(), RequestError> {
+//! manager.allocate_for_frame(layout)?;
 //! # Ok(())
 //! # }
 //! ```
@@ -57,31 +57,31 @@
 //!
 //! ```compile_fail
 //! #![deny(unused_must_use)]
-//! use gpu_descriptor::renderer::{LayoutHandle, RenderError, Renderer};
+//! use gpu_descriptor::manager::{LayoutHandle, RequestError, SetManager};
 //! # include!(concat!(env!("CARGO_MANIFEST_DIR"), "/tests/numbers/device.rs"));
 //! # fn main() {}
-//! # type Sets = Renderer<u64, u64, u64, Device>;
-//! # fn f(renderer: &mut Sets, layout: LayoutHandle) -> Result<(), RenderError> {
-//! renderer.outstanding();
+//! # type Sets = SetManager<u64, u64, u64, Device>;
+//! # fn f(manager: &mut Sets, layout: LayoutHandle) -> Result<(), RequestError> {
+//! manager.outstanding();
 //! # Ok(())
 //! # }
 //! ```
 //!
 //! ```
 //! #![deny(unused_must_use)]
-//! use gpu_descriptor::renderer::{LayoutHandle, RenderError, Renderer};
+//! use gpu_descriptor::manager::{LayoutHandle, RequestError, SetManager};
 //! # include!(concat!(env!("CARGO_MANIFEST_DIR"), "/tests/numbers/device.rs"));
 //! # fn main() {}
-//! # type Sets = Renderer<u64, u64, u64, Device>;
-//! # fn f(renderer: &mut Sets, layout: LayoutHandle) -> Result<(), RenderError> {
-//! let _set = renderer.create_set(layout)?;
-//! let _drawn = renderer.draw(layout)?;
-//! let _count = renderer.outstanding();
+//! # type Sets = SetManager<u64, u64, u64, Device>;
+//! # fn f(manager: &mut Sets, layout: LayoutHandle) -> Result<(), RequestError> {
+//! let _set = manager.allocate(layout)?;
+//! let _drawn = manager.allocate_for_frame(layout)?;
+//! let _count = manager.outstanding();
 //! # Ok(())
 //! # }
 //! ```
 //!
-//! An allocator, a manager or a renderer in another thread, if its pools or sets can't go there:
+//! An allocator, a manager or a set manager in another thread, if its pools or sets can't go there:
 //!
 //! ```compile_fail
 //! # use gpu_descriptor::{DescriptorAllocator, frames::FrameManager};

@@ -321,21 +321,20 @@ impl<P, S> FrameManager<P, S> {
     }
 
     /// Bounds the descriptors of each new pool from now on, as
-    /// [`DescriptorAllocator::set_most_pool_descriptors`](crate::DescriptorAllocator::set_most_pool_descriptors)
+    /// [`DescriptorAllocator::set_max_pool_descriptors`](crate::DescriptorAllocator::set_max_pool_descriptors)
     /// does. At first it is `None`, as in gpu-descriptor 0.3.2.
     ///
     /// # Panics
     ///
     /// If [poisoned](crate#after-a-panic).
-    pub fn set_most_pool_descriptors(&mut self, most: Option<u64>) {
-        self.inner
-            .call(|inner| inner.set_most_pool_descriptors(most));
+    pub fn set_max_pool_descriptors(&mut self, max: Option<u64>) {
+        self.inner.call(|inner| inner.set_max_pool_descriptors(max));
     }
 
     /// How many descriptors a new pool has at most, unless more are needed at once.
     #[must_use]
-    pub fn most_pool_descriptors(&self) -> Option<u64> {
-        self.inner.get().most_pool_descriptors()
+    pub fn max_pool_descriptors(&self) -> Option<u64> {
+        self.inner.get().max_pool_descriptors()
     }
 
     /// How many sets are in use or retired.

@@ -23,7 +23,7 @@ mod descriptor_frames;
 #[warn(clippy::incompatible_msrv, clippy::missing_panics_doc, clippy::missing_safety_doc)]
 #[forbid(unsafe_code)]
 #[rustfmt::skip]
-mod descriptor_renderer;
+mod descriptor_manager;
 #[allow(clippy::all, missing_docs)]
 #[warn(clippy::incompatible_msrv, clippy::missing_panics_doc, clippy::missing_safety_doc)]
 #[forbid(unsafe_code)]
@@ -47,9 +47,9 @@ mod ids;
 mod kit;
 #[cfg(all(test, feature = "std"))]
 mod kit_refusals;
+pub mod manager;
 #[forbid(unsafe_code)]
 mod poison;
-pub mod renderer;
 #[forbid(unsafe_code)]
 mod statistics;
 #[cfg(feature = "vulkan")]

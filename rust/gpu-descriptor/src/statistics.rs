@@ -1,11 +1,11 @@
-//! Numbers of a renderer, and the same as JSON. The library for C has this file too.
+//! Numbers of a set manager, and the same as JSON. The library for C has this file too.
 
-use crate::descriptor_renderer::{LayoutHandle, Renderer};
+use crate::descriptor_manager::{LayoutHandle, SetManager};
 use crate::gpu_descriptor::{DescriptorSetLayoutCreateFlags, PoolView, SetLayout};
 use crate::gpu_descriptor_types::DescriptorDevice;
 use core::fmt::{self, Write};
 
-/// Numbers of a renderer. A pool's sets and descriptors are those that it may have.
+/// Numbers of a set manager. A pool's sets and descriptors are those that it may have.
 #[derive(Clone, Copy, Debug, Default, PartialEq, Eq)]
 #[non_exhaustive]
 pub struct Statistics {
@@ -40,7 +40,7 @@ pub struct Statistics {
     pub peak_pool_descriptors: u64,
 
     /// The bound on the descriptors of a new pool, if there is one.
-    pub most_pool_descriptors: Option<u64>,
+    pub max_pool_descriptors: Option<u64>,
 
     /// Descriptors of the pools for update-after-bind layouts: how much of the limit is in use.
     pub update_after_bind_capacity: u32,
@@ -135,35 +135,35 @@ impl PoolCounts {
     }
 }
 
-/// The numbers of a renderer with so many layouts, whose device has these pools.
-pub(crate) fn of_renderer<L, P, S, D: DescriptorDevice<L, P, S>>(
-    renderer: &Renderer<L, P, S, D>,
+/// The numbers of a set manager with so many layouts, whose device has these pools.
+pub(crate) fn of_set_manager<L, P, S, D: DescriptorDevice<L, P, S>>(
+    manager: &SetManager<L, P, S, D>,
     pools: &PoolCounts,
     layouts: u64,
 ) -> Statistics {
-    let counts = renderer.counts();
+    let counts = manager.counts();
     Statistics {
         outstanding: counts.held + counts.waiting,
         waiting: counts.waiting,
         kept: counts.kept,
         layouts,
-        most_pool_descriptors: renderer.most_pool_descriptors(),
-        update_after_bind_capacity: renderer.update_after_bind_capacity(),
-        update_after_bind_limit: renderer.update_after_bind_limit(),
+        max_pool_descriptors: manager.max_pool_descriptors(),
+        update_after_bind_capacity: manager.update_after_bind_capacity(),
+        update_after_bind_limit: manager.update_after_bind_limit(),
         ..pools.statistics()
     }
 }
 
-/// The numbers of a layout of a renderer. It goes over the layout's pools.
+/// The numbers of a layout of a set manager. It goes over the layout's pools.
 pub(crate) fn of_layout<L, P, S, D: DescriptorDevice<L, P, S>>(
-    renderer: &Renderer<L, P, S, D>,
+    manager: &SetManager<L, P, S, D>,
     layout: LayoutHandle,
 ) -> LayoutStatistics {
     let mut numbers = LayoutStatistics {
-        kept: renderer.kept_count(layout).into(),
+        kept: manager.kept_count(layout).into(),
         ..LayoutStatistics::default()
     };
-    let pools = (0..).map_while(|index| renderer.pool(layout, index));
+    let pools = (0..).map_while(|index| manager.pool(layout, index));
     pools.for_each(|pool| numbers.add(pool));
     numbers
 }
@@ -194,10 +194,10 @@ const KINDS: [&str; 14] = [
     "inline_uniform_block_bindings",
 ];
 
-/// Writes a renderer's numbers as JSON, with these layouts, whose handles of the driver `handle_of` returns.
-pub(crate) fn write_renderer<L, P, S, D: DescriptorDevice<L, P, S>>(
+/// Writes a set manager's numbers as JSON, with these layouts, whose handles of the driver `handle_of` returns.
+pub(crate) fn write_set_manager<L, P, S, D: DescriptorDevice<L, P, S>>(
     text: &mut impl Write,
-    renderer: &Renderer<L, P, S, D>,
+    manager: &SetManager<L, P, S, D>,
     numbers: &Statistics,
     layouts: impl Iterator<Item = LayoutHandle>,
     handle_of: impl Fn(&L) -> u64,
@@ -205,9 +205,9 @@ pub(crate) fn write_renderer<L, P, S, D: DescriptorDevice<L, P, S>>(
     write_numbers(text, numbers)?;
     let mut separator = "";
     for handle in layouts {
-        let layout = renderer.layout(handle).ok_or(fmt::Error)?;
+        let layout = manager.layout(handle).ok_or(fmt::Error)?;
         text.write_str(separator)?;
-        let numbers = of_layout(renderer, handle);
+        let numbers = of_layout(manager, handle);
         write_layout(text, handle_of(&layout.layout), layout, numbers)?;
         separator = ", ";
     }
@@ -237,9 +237,9 @@ fn write_numbers(text: &mut impl Write, numbers: &Statistics) -> fmt::Result {
         ),
     ];
     write_members(text, &members)?;
-    match numbers.most_pool_descriptors {
-        Some(most) => write!(text, ", \"most_pool_descriptors\": {most}")?,
-        None => text.write_str(", \"most_pool_descriptors\": null")?,
+    match numbers.max_pool_descriptors {
+        Some(max) => write!(text, ", \"max_pool_descriptors\": {max}")?,
+        None => text.write_str(", \"max_pool_descriptors\": null")?,
     }
     text.write_str(", \"layouts\": [")
 }

@@ -3,7 +3,7 @@
 //! [`Device`] implements [`DescriptorDevice`](crate::DescriptorDevice) over four functions of Vulkan
 //! and a handle of a `VkDevice`. It depends on no binding: whoever has a loader passes its functions.
 //! [`DescriptorAllocator`](crate::DescriptorAllocator), [`FrameManager`](crate::frames::FrameManager) and
-//! [`Renderer`](crate::renderer::Renderer) take it as any other device.
+//! [`SetManager`](crate::manager::SetManager) take it as any other device.
 //!
 //! The [crate's root](crate#over-vulkan-with-ash) has the device, a layout and a set over ash.
 //!

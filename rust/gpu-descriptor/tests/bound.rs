@@ -4,7 +4,7 @@ mod gpu;
 
 use gpu::Gpu;
 use gpu_descriptor::frames::FrameManager;
-use gpu_descriptor::renderer::Renderer;
+use gpu_descriptor::manager::SetManager;
 use gpu_descriptor::*;
 
 /// The pools that came since the last call, by their sets of so many images.
@@ -33,14 +33,14 @@ fn layout(images: u32, is_marked: bool) -> SetLayout<u32> {
     }
 }
 
-/// The bound with which a renderer begins.
+/// The bound with which a set manager begins.
 const MOST: Option<u64> = Some(65_536);
 
 /// The pools of these requests to an allocator. With a limit the layout is update-after-bind.
 fn pools(most: Option<u64>, limit: u32, images: u32, requests: &[u32]) -> Vec<u32> {
     let (mut it, device) = (DescriptorAllocator::new(limit), Gpu::new());
-    it.set_most_pool_descriptors(most);
-    assert_eq!(it.most_pool_descriptors(), most);
+    it.set_max_pool_descriptors(most);
+    assert_eq!(it.max_pool_descriptors(), most);
     let layout = layout(images, limit > 0);
     let mut sets = Vec::new();
     for count in requests {
@@ -51,7 +51,7 @@ fn pools(most: Option<u64>, limit: u32, images: u32, requests: &[u32]) -> Vec<u3
     pools_of(&device, images)
 }
 
-/// Without the feature an allocator begins without a bound, and with it as a renderer does.
+/// Without the feature an allocator begins without a bound, and with it as a set manager does.
 #[test]
 fn an_allocator_begins_as_its_feature_says() {
     let it = DescriptorAllocator::<(), ()>::new(0);
@@ -60,7 +60,7 @@ fn an_allocator_begins_as_its_feature_says() {
     } else {
         None
     };
-    assert_eq!(it.most_pool_descriptors(), first);
+    assert_eq!(it.max_pool_descriptors(), first);
 }
 
 /// A pool is for as many sets as the bound leaves, but at least for those that are needed.
@@ -106,16 +106,16 @@ fn of_few_images() {
 fn pools_stay() {
     let (mut it, device) = (DescriptorAllocator::new(0), Gpu::new());
     let layout = layout(100_000, false);
-    it.set_most_pool_descriptors(None);
+    it.set_max_pool_descriptors(None);
     let mut sets = unsafe { it.allocate_for(&device, &layout, 1) }.unwrap();
     assert_eq!(pools_of(&device, 100_000), [64]);
-    it.set_most_pool_descriptors(MOST);
+    it.set_max_pool_descriptors(MOST);
     assert_eq!(it.pool_count(&layout.counts, false), 1);
     unsafe { it.allocate_into(&device, &layout, 63, &mut sets) }.unwrap();
     assert_eq!(pools_of(&device, 100_000), []);
     unsafe { it.allocate_into(&device, &layout, 1, &mut sets) }.unwrap();
     assert_eq!(pools_of(&device, 100_000), [1]);
-    it.set_most_pool_descriptors(Some(200_000));
+    it.set_max_pool_descriptors(Some(200_000));
     unsafe { it.allocate_into(&device, &layout, 1, &mut sets) }.unwrap();
     assert_eq!(pools_of(&device, 100_000), [2]);
     unsafe { it.free(&device, sets) };
@@ -124,32 +124,32 @@ fn pools_stay() {
 #[test]
 fn of_a_manager() {
     let (mut it, device) = (FrameManager::new(0), Gpu::new());
-    assert_eq!(it.most_pool_descriptors(), None);
-    it.set_most_pool_descriptors(MOST);
-    assert_eq!(it.most_pool_descriptors(), MOST);
+    assert_eq!(it.max_pool_descriptors(), None);
+    it.set_max_pool_descriptors(MOST);
+    assert_eq!(it.max_pool_descriptors(), MOST);
     let layout = layout(100_000, false);
     let mut sets = unsafe { it.allocate_for(&device, &layout, 1) }.unwrap();
-    it.set_most_pool_descriptors(None);
+    it.set_max_pool_descriptors(None);
     unsafe { it.allocate_into(&device, &layout, 1, &mut sets) }.unwrap();
     assert_eq!(pools_of(&device, 100_000), [1, 64]);
     unsafe { it.free(&device, sets) };
 }
 
 #[test]
-fn a_renderer_begins_with_one() {
+fn a_set_manager_begins_with_one() {
     let device = Gpu::new();
-    let mut it = Renderer::new(&device, 500_000);
-    assert_eq!(it.most_pool_descriptors(), MOST);
+    let mut it = SetManager::new(&device, 500_000);
+    assert_eq!(it.max_pool_descriptors(), MOST);
     let plain = unsafe { it.add_layout(layout(100_000, false)) }.unwrap();
     let marked = unsafe { it.add_layout(layout(100_000, true)) }.unwrap();
-    let _ = it.create_set(plain).unwrap();
-    let _ = it.create_set(marked).unwrap();
-    let _ = it.create_sets(marked, 2).unwrap();
+    let _ = it.allocate(plain).unwrap();
+    let _ = it.allocate(marked).unwrap();
+    let _ = it.allocate_many(marked, 2).unwrap();
     assert_eq!(pools_of(&device, 100_000), [1, 1, 2]);
-    it.set_most_pool_descriptors(None);
-    assert_eq!(it.most_pool_descriptors(), None);
-    let _ = it.create_set(plain).unwrap();
-    let _ = it.create_set(marked).unwrap();
+    it.set_max_pool_descriptors(None);
+    assert_eq!(it.max_pool_descriptors(), None);
+    let _ = it.allocate(plain).unwrap();
+    let _ = it.allocate(marked).unwrap();
     // Two more marked sets would fit.
     assert_eq!(pools_of(&device, 100_000), [64, 2]);
     unsafe { it.shutdown() };

@@ -1,6 +1,6 @@
-//! Caches of sets over a renderer: what they take and give back, what they do if it refuses, and threads.
+//! Caches of sets over a manager: what they take and give back, what they do if it refuses, and threads.
 
-use gpu_descriptor::renderer::{DestroyError, LayoutHandle, RenderError, Renderer, SetCache};
+use gpu_descriptor::manager::{FreeError, LayoutHandle, RequestError, SetCache, SetManager};
 use gpu_descriptor::*;
 use std::cell::Cell;
 use std::sync::Mutex;
@@ -48,11 +48,11 @@ impl DescriptorDevice<u64, u64, u64> for Device {
     }
 }
 
-type Shared = Mutex<Renderer<u64, u64, u64, Device>>;
+type Shared = Mutex<SetManager<u64, u64, u64, Device>>;
 
-/// A renderer that keeps no set, and a layout.
-fn renderer(most: usize) -> (Shared, LayoutHandle) {
-    let mut it = Renderer::new(
+/// A set manager that keeps no set, and a layout.
+fn manager(most: usize) -> (Shared, LayoutHandle) {
+    let mut it = SetManager::new(
         Device {
             last: Cell::new(0),
             sets: Cell::new(0),
@@ -61,7 +61,7 @@ fn renderer(most: usize) -> (Shared, LayoutHandle) {
         },
         0,
     );
-    it.set_keep(0);
+    it.set_max_kept(0);
     let counts = DescriptorTotalCount {
         sampler: 1,
         ..Default::default()
@@ -85,7 +85,7 @@ fn end(shared: Shared) {
 
 #[test]
 fn refills_and_gives_back() {
-    let (shared, layout) = renderer(usize::MAX);
+    let (shared, layout) = manager(usize::MAX);
     let lock = || shared.lock().unwrap();
     let mut cache = SetCache::new(layout, 4).unwrap();
     let mut sets = Vec::new();
@@ -110,9 +110,9 @@ fn refills_and_gives_back() {
     let mut small = SetCache::new(layout, 0).unwrap();
     let set = small.allocate(lock).unwrap();
     // SAFETY: as above.
-    unsafe { lock().free_sets(&[set.0]) }.unwrap();
+    unsafe { lock().free(&[set.0]) }.unwrap();
     let refused = SetCache::<u64>::new(layout, usize::MAX / 2).map(|it| it.count());
-    let no_memory = RenderError::Allocation(AllocationError::OutOfHostMemory);
+    let no_memory = RequestError::Allocation(AllocationError::OutOfHostMemory);
     assert_eq!(refused, Err(no_memory));
     end(shared);
 }
@@ -120,11 +120,11 @@ fn refills_and_gives_back() {
 /// If so many are refused fewer are asked for, down to one.
 #[test]
 fn asks_for_fewer() {
-    let (shared, layout) = renderer(11);
+    let (shared, layout) = manager(11);
     let lock = || shared.lock().unwrap();
     let mut cache = SetCache::new(layout, 64).unwrap();
     let mut sets: Vec<_> = (0..11).map(|_| cache.allocate(lock).unwrap()).collect();
-    let refused = RenderError::Allocation(AllocationError::OutOfDeviceMemory);
+    let refused = RequestError::Allocation(AllocationError::OutOfDeviceMemory);
     assert_eq!(cache.allocate(lock), Err(refused));
     assert_eq!(lock().outstanding(), 11);
     assert_eq!(lock().device().calls.get(), 3);
@@ -138,14 +138,14 @@ fn asks_for_fewer() {
     // SAFETY: as above.
     unsafe { cache.flush(&mut lock()) }.unwrap();
     lock().remove_layout(layout).unwrap();
-    assert_eq!(cache.allocate(lock), Err(RenderError::NoLayout));
+    assert_eq!(cache.allocate(lock), Err(RequestError::NoLayout));
     end(shared);
 }
 
 /// A set that was freed elsewhere is refused with those beside it, until the cache is flushed.
 #[test]
 fn a_set_that_was_freed_elsewhere() {
-    let (shared, layout) = renderer(usize::MAX);
+    let (shared, layout) = manager(usize::MAX);
     let lock = || shared.lock().unwrap();
     let mut cache = SetCache::new(layout, 2).unwrap();
     let sets: Vec<_> = (0..5).map(|_| cache.allocate(lock).unwrap()).collect();
@@ -155,10 +155,10 @@ fn a_set_that_was_freed_elsewhere() {
         sets[..4]
             .iter()
             .for_each(|it| cache.free(*it, lock).unwrap());
-        lock().free_sets(&[sets[3].0]).unwrap();
-        assert_eq!(cache.free(sets[4], lock), Err(DestroyError::NoSet));
+        lock().free(&[sets[3].0]).unwrap();
+        assert_eq!(cache.free(sets[4], lock), Err(FreeError::NoSet));
         assert_eq!((cache.count(), lock().outstanding()), (4, 4));
-        assert_eq!(cache.flush(&mut lock()), Err(DestroyError::NoSet));
+        assert_eq!(cache.flush(&mut lock()), Err(FreeError::NoSet));
         assert_eq!((cache.count(), lock().outstanding()), (0, 1));
         cache.free(sets[4], lock).unwrap();
         cache.flush(&mut lock()).unwrap();
@@ -168,7 +168,7 @@ fn a_set_that_was_freed_elsewhere() {
 
 #[test]
 fn threads_lose_no_set() {
-    let (shared, layout) = renderer(usize::MAX);
+    let (shared, layout) = manager(usize::MAX);
     let lock = || shared.lock().unwrap();
     std::thread::scope(|scope| {
         for refill in [1, 5, 64] {

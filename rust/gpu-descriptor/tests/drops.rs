@@ -1,12 +1,12 @@
 //! What a drop says: a line on standard error, or without std a panic. And what is dropped before what.
 
 use gpu_descriptor::frames::FrameManager;
-use gpu_descriptor::renderer::Renderer;
+use gpu_descriptor::manager::SetManager;
 use gpu_descriptor::*;
 
 include!("numbers/device.rs");
 
-/// What a drop says of sets that are out, and of a renderer's pools that exist.
+/// What a drop says of sets that are out, and of a set manager's pools that exist.
 const SETS: &str = "Descriptor sets were not deallocated";
 const POOLS: &str = "Descriptor pools were not destroyed";
 
@@ -24,7 +24,7 @@ fn layout() -> SetLayout<u64> {
 
 type Allocator = DescriptorAllocator<u64, u64>;
 type Manager = FrameManager<u64, u64>;
-type Sets = Renderer<u64, u64, u64, Device>;
+type Sets = SetManager<u64, u64, u64, Device>;
 
 /// An allocator of which one set is out.
 fn allocator() -> (Allocator, Device, DescriptorSet<u64>) {
@@ -33,20 +33,20 @@ fn allocator() -> (Allocator, Device, DescriptorSet<u64>) {
     (allocator, device, set)
 }
 
-/// A manager of which one set is out.
-fn manager() -> (Manager, Device, DescriptorSet<u64>) {
-    let (mut manager, device) = (Manager::new(0), Device::default());
-    let set = unsafe { manager.allocate_one(&device, &layout()) }.unwrap();
-    (manager, device, set)
+/// A frame_manager of which one set is out.
+fn frame_manager() -> (Manager, Device, DescriptorSet<u64>) {
+    let (mut frame_manager, device) = (Manager::new(0), Device::default());
+    let set = unsafe { frame_manager.allocate_one(&device, &layout()) }.unwrap();
+    (frame_manager, device, set)
 }
 
-/// A renderer with one pool and a kept set.
-fn renderer() -> Sets {
-    let mut renderer = Renderer::new(Device::default(), 0);
-    let layout = unsafe { renderer.add_layout(layout()) }.unwrap();
-    let set = renderer.create_set(layout).unwrap();
-    unsafe { renderer.free_sets(&[set]) }.unwrap();
-    renderer
+/// A set manager with one pool and a kept set.
+fn manager() -> Sets {
+    let mut manager = SetManager::new(Device::default(), 0);
+    let layout = unsafe { manager.add_layout(layout()) }.unwrap();
+    let set = manager.allocate(layout).unwrap();
+    unsafe { manager.free(&[set]) }.unwrap();
+    manager
 }
 
 /// Makes something and drops it.
@@ -63,32 +63,32 @@ const DROPS: [(Drops, Option<&str>); 9] = [
         },
         None,
     ),
-    (|| drop(manager()), Some(SETS)),
+    (|| drop(frame_manager()), Some(SETS)),
     (
         || {
-            let (mut manager, _, set) = manager();
-            manager.retire(1, set).unwrap();
+            let (mut frame_manager, _, set) = frame_manager();
+            frame_manager.retire(1, set).unwrap();
         },
         Some(SETS),
     ),
     (
         || {
-            let (mut manager, device, set) = manager();
-            manager.retire(1, set).unwrap();
-            unsafe { manager.finish(&device, 1) };
+            let (mut frame_manager, device, set) = frame_manager();
+            frame_manager.retire(1, set).unwrap();
+            unsafe { frame_manager.finish(&device, 1) };
         },
         None,
     ),
-    (|| drop(renderer()), Some(POOLS)),
+    (|| drop(manager()), Some(POOLS)),
     (
         || {
-            let _device = unsafe { renderer().shutdown() };
+            let _device = unsafe { manager().shutdown() };
         },
         None,
     ),
     (
         || {
-            let _device = renderer().into_device();
+            let _device = manager().into_device();
         },
         None,
     ),
@@ -194,41 +194,41 @@ mod order {
         }
     }
 
-    /// A renderer with a layout, a pool, and sets that are drawn, held, waiting and kept.
-    fn renderer(log: &Log) -> Renderer<Noted, Noted, Noted, Gpu> {
-        let mut renderer = Renderer::new(Gpu(Noted("device", log.clone())), 0);
+    /// A set manager with a layout, a pool, and sets that are drawn, held, waiting and kept.
+    fn manager(log: &Log) -> SetManager<Noted, Noted, Noted, Gpu> {
+        let mut manager = SetManager::new(Gpu(Noted("device", log.clone())), 0);
         let SetLayout { counts, flags, .. } = layout();
         let layout = SetLayout {
             layout: Noted("layout", log.clone()),
             counts,
             flags,
         };
-        let layout = unsafe { renderer.add_layout(layout) }.unwrap();
-        let sets = renderer.create_sets(layout, 4).unwrap();
-        renderer.destroy_sets(&sets[..2], 0).unwrap();
+        let layout = unsafe { manager.add_layout(layout) }.unwrap();
+        let sets = manager.allocate_many(layout, 4).unwrap();
+        manager.free_after(&sets[..2], 0).unwrap();
         // SAFETY: the device isn't in use.
-        unsafe { renderer.gpu_done(0) };
-        renderer.destroy_set(sets[2], 0).unwrap();
-        renderer.begin_frame().unwrap();
-        let _drawn = renderer.draw(layout).unwrap();
-        renderer
+        unsafe { manager.frame_done(0) };
+        manager.free_after(&[sets[2]], 0).unwrap();
+        manager.begin_frame().unwrap();
+        let _drawn = manager.allocate_for_frame(layout).unwrap();
+        manager
     }
 
     /// Nothing is dropped after the device that it came from.
     #[test]
     fn the_device_is_dropped_last() {
         let log = Log::default();
-        drop(renderer(&log));
+        drop(manager(&log));
         let mut noted = log.take();
         assert_eq!(noted.pop(), Some("device"));
         noted.sort();
         assert_eq!(noted, ["layout", "pool", "set", "set", "set", "set"]);
         // The device that is handed back isn't dropped.
         for shuts_down in [false, true] {
-            let renderer = renderer(&log);
+            let manager = manager(&log);
             let gpu = match shuts_down {
-                true => unsafe { renderer.shutdown() },
-                false => renderer.into_device(),
+                true => unsafe { manager.shutdown() },
+                false => manager.into_device(),
             };
             let mut noted = log.take();
             noted.sort();

@@ -1,8 +1,8 @@
-//! What a renderer takes of memory for a held set.
+//! What a set manager takes of memory for a held set.
 
 mod refuses;
 
-use gpu_descriptor::renderer::Renderer;
+use gpu_descriptor::manager::SetManager;
 use gpu_descriptor::*;
 use refuses::bytes;
 
@@ -11,7 +11,7 @@ include!("numbers/device.rs");
 /// A power of two: the lists have doubled so far, and are full.
 const SETS: usize = 1 << 16;
 
-/// The memory for so many held sets, a set, beside that of a renderer with a layout.
+/// The memory for so many held sets, a set, beside that of a set manager with a layout.
 fn bytes_of_a_set(is_one_request: bool) -> usize {
     let counts = DescriptorTotalCount {
         sampler: 1,
@@ -22,15 +22,15 @@ fn bytes_of_a_set(is_one_request: bool) -> usize {
         counts,
         flags: DescriptorSetLayoutCreateFlags::empty(),
     };
-    let mut it = Renderer::new(Device::default(), 0);
+    let mut it = SetManager::new(Device::default(), 0);
     // SAFETY: the device knows no layouts.
     let layout = unsafe { it.add_layout(layout) }.unwrap();
     let before = bytes();
     if is_one_request {
-        drop(it.create_sets(layout, SETS as u32).unwrap());
+        drop(it.allocate_many(layout, SETS as u32).unwrap());
     } else {
         for _ in 0..SETS {
-            let _held = it.create_set(layout).unwrap();
+            let _held = it.allocate(layout).unwrap();
         }
     }
     let taken = bytes() - before;

@@ -1,4 +1,4 @@
-//! What a `Renderer` keeps: sets that come back are handed out again. First by hand, each case of it, then
+//! What a `SetManager` keeps: sets that come back are handed out again. First by hand, each case of it, then
 //! at random beside a plain model, a list of all sets with what each is in use for.
 //!
 //! `STEPS=1000000 cargo test --release --test kept` runs so many steps with each `keep`.
@@ -6,7 +6,7 @@
 mod refuses;
 
 use gpu_descriptor::AllocationError::*;
-use gpu_descriptor::renderer::*;
+use gpu_descriptor::manager::*;
 use gpu_descriptor::*;
 use refuses::{bytes, calls, counted, with_refused};
 use std::cell::{Cell, RefCell};
@@ -192,15 +192,15 @@ fn layout(number: usize) -> SetLayout<u32> {
     }
 }
 
-/// The renderer that is tested.
-type Sets<'a> = Renderer<u32, u64, u64, &'a Gpu>;
+/// The set manager that is tested.
+type Sets<'a> = SetManager<u32, u64, u64, &'a Gpu>;
 
-/// A renderer with all layouts, which keeps so many sets of each.
-fn renderer<'a>(gpu: &'a Gpu, keep: u32) -> (Sets<'a>, [LayoutHandle; LAYOUTS]) {
-    let mut it = Renderer::new(gpu, LIMIT);
-    it.set_keep(keep);
+/// A set manager with all layouts, which keeps so many sets of each.
+fn manager<'a>(gpu: &'a Gpu, keep: u32) -> (Sets<'a>, [LayoutHandle; LAYOUTS]) {
+    let mut it = SetManager::new(gpu, LIMIT);
+    it.set_max_kept(keep);
     // A pool of the third layout is for two sets.
-    it.set_most_pool_descriptors(None);
+    it.set_max_pool_descriptors(None);
     // SAFETY: they are the device's, and stay.
     let layouts = [0, 1, 2, 3].map(|at| unsafe { it.add_layout(layout(at)) }.unwrap());
     (it, layouts)
@@ -209,15 +209,15 @@ fn renderer<'a>(gpu: &'a Gpu, keep: u32) -> (Sets<'a>, [LayoutHandle; LAYOUTS]) 
 /// Frees sets. The device isn't in use.
 fn free(it: &mut Sets, sets: &[SetHandle]) {
     // SAFETY: as above.
-    unsafe { it.free_sets(sets) }.unwrap();
+    unsafe { it.free(sets) }.unwrap();
 }
 
 fn done(it: &mut Sets, frame: u64) {
     // SAFETY: as above.
-    unsafe { it.gpu_done(frame) };
+    unsafe { it.frame_done(frame) };
 }
 
-/// Ends a renderer: nothing is left at its device.
+/// Ends a manager: nothing is left at its device.
 fn shutdown(it: Sets) {
     // SAFETY: as above.
     let gpu = unsafe { it.shutdown() };
@@ -229,7 +229,7 @@ fn raw(it: &Sets, handle: SetHandle) -> u64 {
     *it.set(handle).expect("a set")
 }
 
-/// What `Renderer::counts` has to return.
+/// What `SetManager::counts` has to return.
 fn counts(held: u64, waiting: u64, kept: u64) -> Counts {
     Counts {
         held,
@@ -242,11 +242,11 @@ fn counts(held: u64, waiting: u64, kept: u64) -> Counts {
 #[test]
 fn kept_sets_come_first() {
     let gpu = Gpu::default();
-    let (mut it, layouts) = renderer(&gpu, u32::MAX);
-    let sets = it.create_sets(layouts[0], 3).unwrap();
+    let (mut it, layouts) = manager(&gpu, u32::MAX);
+    let sets = it.allocate_many(layouts[0], 3).unwrap();
     let kept: HashSet<_> = sets.iter().map(|set| raw(&it, *set)).collect();
     free(&mut it, &sets);
-    let sets = it.create_sets(layouts[0], 7).unwrap();
+    let sets = it.allocate_many(layouts[0], 7).unwrap();
     for (at, set) in sets.iter().enumerate() {
         assert_eq!(kept.contains(&raw(&it, *set)), at < 3);
     }
@@ -263,13 +263,13 @@ fn all_raw(it: &Sets, handles: &[SetHandle]) -> Vec<u64> {
 #[test]
 fn each_place_of_a_slice_has_a_handle() {
     let gpu = Gpu::default();
-    let (mut it, layouts) = renderer(&gpu, u32::MAX);
-    let two = it.create_sets(layouts[0], 2).unwrap();
+    let (mut it, layouts) = manager(&gpu, u32::MAX);
+    let two = it.allocate_many(layouts[0], 2).unwrap();
     let kept = all_raw(&it, &two);
     free(&mut it, &two);
 
     let mut sets = [SetHandle::NONE; 9];
-    it.create_sets_into(layouts[0], &mut sets[2..6]).unwrap();
+    it.allocate_into(layouts[0], &mut sets[2..6]).unwrap();
     for (at, set) in sets.iter().enumerate() {
         assert_eq!(*set != SetHandle::NONE, (2..6).contains(&at));
     }
@@ -278,9 +278,9 @@ fn each_place_of_a_slice_has_a_handle() {
     assert!(two.iter().all(|old| it.set(*old).is_none()));
     assert_eq!(it.counts(), counts(4, 0, 0));
 
-    it.create_sets_into(layouts[0], &mut sets[6..]).unwrap();
-    it.create_sets_into(layouts[1], &mut sets[..2]).unwrap();
-    it.create_sets_into(layouts[0], &mut sets[..0]).unwrap();
+    it.allocate_into(layouts[0], &mut sets[6..]).unwrap();
+    it.allocate_into(layouts[1], &mut sets[..2]).unwrap();
+    it.allocate_into(layouts[0], &mut sets[..0]).unwrap();
     let raws = all_raw(&it, &sets);
     assert_eq!(raws.iter().collect::<HashSet<_>>().len(), 9);
     for (at, raw) in raws.iter().enumerate() {
@@ -296,12 +296,12 @@ fn each_place_of_a_slice_has_a_handle() {
 #[test]
 fn a_slice_of_kept_sets_asks_for_nothing() {
     let gpu = Gpu::default();
-    let (mut it, layouts) = renderer(&gpu, u32::MAX);
+    let (mut it, layouts) = manager(&gpu, u32::MAX);
     let mut sets = [SetHandle::NONE; 5];
-    it.create_sets_into(layouts[0], &mut sets).unwrap();
+    it.allocate_into(layouts[0], &mut sets).unwrap();
     free(&mut it, &sets);
     let before = (gpu.calls.get(), calls());
-    counted(|| it.create_sets_into(layouts[0], &mut sets)).unwrap();
+    counted(|| it.allocate_into(layouts[0], &mut sets)).unwrap();
     assert_eq!((gpu.calls.get(), calls()), before);
     free(&mut it, &sets);
     shutdown(it);
@@ -311,29 +311,29 @@ fn a_slice_of_kept_sets_asks_for_nothing() {
 #[test]
 fn a_refused_slice_stays_as_it_was() {
     let gpu = Gpu::default();
-    let (mut it, layouts) = renderer(&gpu, u32::MAX);
+    let (mut it, layouts) = manager(&gpu, u32::MAX);
     let large = add_marked(&mut it, LIMIT + 1);
-    let held = it.create_sets(layouts[2], 100).unwrap();
+    let held = it.allocate_many(layouts[2], 100).unwrap();
     let mut sets = held.clone();
     // No memory for a hundred slots more.
-    let (answer, _) = with_refused(0, || it.create_sets_into(layouts[0], &mut sets));
-    assert_eq!(answer, Err(RenderError::Allocation(OutOfHostMemory)));
+    let (answer, _) = with_refused(0, || it.allocate_into(layouts[0], &mut sets));
+    assert_eq!(answer, Err(RequestError::Allocation(OutOfHostMemory)));
     assert_eq!(sets, held);
     // The first pool of the layout, and then the sets of the second try, which follows as some are kept.
     for (kept, refused) in [(0, 1), (4, 2)] {
-        let some = it.create_sets(layouts[0], kept).unwrap();
+        let some = it.allocate_many(layouts[0], kept).unwrap();
         free(&mut it, &some);
         gpu.refuse(refused, 0, 0);
-        let answer = it.create_sets_into(layouts[0], &mut sets);
-        assert_eq!(answer, Err(RenderError::Allocation(OutOfDeviceMemory)));
+        let answer = it.allocate_into(layouts[0], &mut sets);
+        assert_eq!(answer, Err(RequestError::Allocation(OutOfDeviceMemory)));
         assert_eq!((&sets, gpu.refuses.get()), (&held, 0));
     }
-    let answer = it.create_sets_into(large, &mut sets);
-    assert_eq!(answer, Err(RenderError::Allocation(Fragmentation)));
+    let answer = it.allocate_into(large, &mut sets);
+    assert_eq!(answer, Err(RequestError::Allocation(Fragmentation)));
     assert_eq!(sets, held);
     it.remove_layout(layouts[1]).unwrap();
-    let answer = it.create_sets_into(layouts[1], &mut sets);
-    assert_eq!(answer, Err(RenderError::NoLayout));
+    let answer = it.allocate_into(layouts[1], &mut sets);
+    assert_eq!(answer, Err(RequestError::NoLayout));
     assert_eq!(sets, held);
     assert_eq!((it.counts(), gpu.live()), (counts(100, 0, 0), 100));
     free(&mut it, &sets);
@@ -344,30 +344,30 @@ fn a_refused_slice_stays_as_it_was() {
 #[test]
 fn an_empty_slice() {
     let gpu = Gpu::default();
-    let (mut it, layouts) = renderer(&gpu, u32::MAX);
+    let (mut it, layouts) = manager(&gpu, u32::MAX);
     it.remove_layout(layouts[1]).unwrap();
-    assert_eq!(it.create_sets_into(layouts[0], &mut []), Ok(()));
-    assert_eq!(it.create_sets(layouts[0], 0), Ok(Vec::new()));
-    let answer = it.create_sets_into(layouts[1], &mut []);
-    assert_eq!(answer, Err(RenderError::NoLayout));
-    assert_eq!(it.create_sets(layouts[1], 0), Err(RenderError::NoLayout));
+    assert_eq!(it.allocate_into(layouts[0], &mut []), Ok(()));
+    assert_eq!(it.allocate_many(layouts[0], 0), Ok(Vec::new()));
+    let answer = it.allocate_into(layouts[1], &mut []);
+    assert_eq!(answer, Err(RequestError::NoLayout));
+    assert_eq!(it.allocate_many(layouts[1], 0), Err(RequestError::NoLayout));
     assert_eq!((it.counts(), gpu.calls.get()), (counts(0, 0, 0), 0));
     shutdown(it);
 }
 
-/// No memory for the vector of `create_sets`: no set is created, and a removed layout is still `NoLayout`.
+/// No memory for the vector of `allocate_many`: no set is created, and a removed layout is still `NoLayout`.
 #[test]
 fn a_vector_without_memory() {
     let gpu = Gpu::default();
-    let (mut it, layouts) = renderer(&gpu, u32::MAX);
-    let three = it.create_sets(layouts[0], 3).unwrap();
+    let (mut it, layouts) = manager(&gpu, u32::MAX);
+    let three = it.allocate_many(layouts[0], 3).unwrap();
     free(&mut it, &three);
     it.remove_layout(layouts[1]).unwrap();
     let before = gpu.calls.get();
-    let (answer, _) = with_refused(0, || it.create_sets(layouts[0], 3));
-    assert_eq!(answer, Err(RenderError::Allocation(OutOfHostMemory)));
-    let (answer, _) = with_refused(0, || it.create_sets(layouts[1], 3));
-    assert_eq!(answer, Err(RenderError::NoLayout));
+    let (answer, _) = with_refused(0, || it.allocate_many(layouts[0], 3));
+    assert_eq!(answer, Err(RequestError::Allocation(OutOfHostMemory)));
+    let (answer, _) = with_refused(0, || it.allocate_many(layouts[1], 3));
+    assert_eq!(answer, Err(RequestError::NoLayout));
     assert_eq!((it.counts(), gpu.calls.get()), (counts(0, 0, 3), before));
     shutdown(it);
 }
@@ -375,19 +375,19 @@ fn a_vector_without_memory() {
 #[test]
 fn none_names_no_set() {
     let gpu = Gpu::default();
-    let (mut it, layouts) = renderer(&gpu, 0);
-    let held = it.create_set(layouts[0]).unwrap();
+    let (mut it, layouts) = manager(&gpu, 0);
+    let held = it.allocate(layouts[0]).unwrap();
     it.begin_frame().unwrap();
-    let draw = it.draw(layouts[0]).unwrap();
+    let frame_set = it.allocate_for_frame(layouts[0]).unwrap();
     let none = SetHandle::NONE;
-    assert!(none != held && none != draw);
+    assert!(none != held && none != frame_set);
     assert_eq!(it.set(none), None);
-    assert_eq!(it.destroy_set(none, 0), Err(DestroyError::NoSet));
+    assert_eq!(it.free_after(&[none], 0), Err(FreeError::NoSet));
     for list in [&[none][..], &[held, none]] {
         // SAFETY: the device isn't in use.
-        let answer = unsafe { it.free_sets(list) };
-        assert_eq!(answer, Err(DestroyError::NoSet));
-        assert_eq!(it.destroy_sets(list, 0), Err(DestroyError::NoSet));
+        let answer = unsafe { it.free(list) };
+        assert_eq!(answer, Err(FreeError::NoSet));
+        assert_eq!(it.free_after(list, 0), Err(FreeError::NoSet));
     }
     assert_eq!((it.counts(), gpu.live()), (counts(1, 1, 0), 2));
     shutdown(it);
@@ -399,30 +399,30 @@ fn none_names_no_set() {
 fn a_refused_list_frees_no_set() {
     for keep in [0, 1, 4, u32::MAX] {
         let gpu = Gpu::default();
-        let (mut it, layouts) = renderer(&gpu, keep);
+        let (mut it, layouts) = manager(&gpu, keep);
         // Two layouts in turn. Of the first some are kept already, and one set is there at a cleanup.
-        let mut sets = vec![it.create_set(layouts[0]).unwrap()];
+        let mut sets = vec![it.allocate(layouts[0]).unwrap()];
         it.cleanup();
         for at in 1..8 {
-            sets.push(it.create_set(layouts[[0, MARKED][at % 2]]).unwrap());
+            sets.push(it.allocate(layouts[[0, MARKED][at % 2]]).unwrap());
         }
         let raws = all_raw(&it, &sets);
-        let freed = it.create_sets(layouts[0], 2).unwrap();
+        let freed = it.allocate_many(layouts[0], 2).unwrap();
         let kept: Vec<_> = all_raw(&it, &freed);
         free(&mut it, &freed);
         it.begin_frame().unwrap();
-        let draw = it.draw(layouts[1]).unwrap();
+        let frame_set = it.allocate_for_frame(layouts[1]).unwrap();
 
         let kept_counts = |it: &Sets| layouts.map(|at| it.kept_count(at));
         let before = (it.counts(), kept_counts(&it), gpu.calls.get());
-        for wrong in [Some(SetHandle::NONE), Some(freed[0]), Some(draw), None] {
+        for wrong in [Some(SetHandle::NONE), Some(freed[0]), Some(frame_set), None] {
             for at in 0..=sets.len() {
                 let mut list = sets.clone();
                 // Or a set of the list once more.
                 list.insert(at, wrong.unwrap_or(sets[(at + 3) % sets.len()]));
                 // SAFETY: the device isn't in use.
-                let answer = unsafe { it.free_sets(&list) };
-                assert_eq!(answer, Err(DestroyError::NoSet));
+                let answer = unsafe { it.free(&list) };
+                assert_eq!(answer, Err(FreeError::NoSet));
                 assert_eq!((it.counts(), kept_counts(&it), gpu.calls.get()), before);
                 assert_eq!(all_raw(&it, &sets), raws);
             }
@@ -430,7 +430,7 @@ fn a_refused_list_frees_no_set() {
 
         // The kept sets are still a stack.
         let most = keep.min(2) as usize;
-        let again = it.create_sets(layouts[0], most as u32).unwrap();
+        let again = it.allocate_many(layouts[0], most as u32).unwrap();
         let mut expected = kept[..most].to_vec();
         expected.reverse();
         assert_eq!(all_raw(&it, &again), expected);
@@ -446,13 +446,13 @@ fn a_refused_list_frees_no_set() {
 #[test]
 fn memory_is_found_for_hundreds_of_layouts() {
     let gpu = Gpu::default();
-    let mut it = Renderer::new(&gpu, LIMIT);
+    let mut it = SetManager::new(&gpu, LIMIT);
     for samplers in 1..=600 {
         let mut next = layout(0);
         next.counts.sampler = samplers;
         // SAFETY: it is the device's, and stays.
         let next = unsafe { it.add_layout(next) }.unwrap();
-        let _live = it.create_set(next).unwrap();
+        let _live = it.allocate(next).unwrap();
     }
     // SAFETY: the device isn't in use.
     unsafe { it.free_all() };
@@ -464,9 +464,9 @@ fn memory_is_found_for_hundreds_of_layouts() {
 fn as_many_are_kept_as_are_to_be() {
     for keep in KEEPS {
         let gpu = Gpu::default();
-        let (mut it, layouts) = renderer(&gpu, keep);
+        let (mut it, layouts) = manager(&gpu, keep);
         let kept = keep.min(10);
-        let sets = it.create_sets(layouts[0], 10).unwrap();
+        let sets = it.allocate_many(layouts[0], 10).unwrap();
         let first: HashSet<_> = sets.iter().map(|set| raw(&it, *set)).collect();
         free(&mut it, &sets);
         assert_eq!(
@@ -477,7 +477,7 @@ fn as_many_are_kept_as_are_to_be() {
         assert_eq!(it.outstanding(), 0);
 
         let calls = gpu.calls.get();
-        let sets = it.create_sets(layouts[0], 10).unwrap();
+        let sets = it.allocate_many(layouts[0], 10).unwrap();
         let again = sets.iter().filter(|set| first.contains(&raw(&it, **set)));
         assert_eq!(
             (again.count(), gpu.made.get()),
@@ -490,8 +490,8 @@ fn as_many_are_kept_as_are_to_be() {
         // The same, one by one and after a frame.
         it.begin_frame().unwrap();
         for set in sets {
-            it.destroy_set(set, 1).unwrap();
-            let _draw = it.draw(layouts[0]).unwrap();
+            it.free_after(&[set], 1).unwrap();
+            let _frame_set = it.allocate_for_frame(layouts[0]).unwrap();
         }
         it.end_frame();
         // Ten were destroyed, and ten were drawn.
@@ -508,8 +508,8 @@ fn as_many_are_kept_as_are_to_be() {
 #[test]
 fn the_last_one_that_was_kept_comes_first() {
     let gpu = Gpu::default();
-    let (mut it, layouts) = renderer(&gpu, 2);
-    let sets = it.create_sets(layouts[0], 3).unwrap();
+    let (mut it, layouts) = manager(&gpu, 2);
+    let sets = it.allocate_many(layouts[0], 3).unwrap();
     let raws: Vec<_> = sets.iter().map(|set| raw(&it, *set)).collect();
     for set in &sets {
         free(&mut it, &[*set]);
@@ -517,7 +517,7 @@ fn the_last_one_that_was_kept_comes_first() {
     // Two were kept, so the third went back.
     assert!(!gpu.is_live(raws[2]));
     for expected in [raws[1], raws[0]] {
-        let set = it.create_set(layouts[0]).unwrap();
+        let set = it.allocate(layouts[0]).unwrap();
         assert_eq!(raw(&it, set), expected);
     }
     shutdown(it);
@@ -528,21 +528,21 @@ fn the_last_one_that_was_kept_comes_first() {
 fn a_kept_set_of_another_layout_is_not_handed_out() {
     for (own, other) in [(0, 1), (1, 0), (0, 2), (3, 1)] {
         let gpu = Gpu::default();
-        let (mut it, layouts) = renderer(&gpu, u32::MAX);
-        let set = it.create_set(layouts[own]).unwrap();
+        let (mut it, layouts) = manager(&gpu, u32::MAX);
+        let set = it.allocate(layouts[own]).unwrap();
         let kept = raw(&it, set);
         free(&mut it, &[set]);
-        let mut others = it.create_sets(layouts[other], 2).unwrap();
-        others.push(it.create_set(layouts[other]).unwrap());
+        let mut others = it.allocate_many(layouts[other], 2).unwrap();
+        others.push(it.allocate(layouts[other]).unwrap());
         it.begin_frame().unwrap();
-        others.push(it.draw(layouts[other]).unwrap());
+        others.push(it.allocate_for_frame(layouts[other]).unwrap());
         for set in others {
             assert_ne!(raw(&it, set), kept);
             assert_eq!(gpu.sets.borrow()[&raw(&it, set)].1, other as u32);
         }
         let counts = (it.kept_count(layouts[own]), it.kept_count(layouts[other]));
         assert_eq!(counts, (1, 0));
-        let set = it.draw(layouts[own]).unwrap();
+        let set = it.allocate_for_frame(layouts[own]).unwrap();
         assert_eq!(raw(&it, set), kept);
         shutdown(it);
     }
@@ -551,28 +551,28 @@ fn a_kept_set_of_another_layout_is_not_handed_out() {
 #[test]
 fn an_old_handle_finds_nothing_after_its_set_was_handed_out_again() {
     let gpu = Gpu::default();
-    let (mut it, layouts) = renderer(&gpu, u32::MAX);
+    let (mut it, layouts) = manager(&gpu, u32::MAX);
     let mut old = Vec::new();
-    let mut set = it.create_set(layouts[0]).unwrap();
+    let mut set = it.allocate(layouts[0]).unwrap();
     let kept = raw(&it, set);
     for frame in 1..=20 {
         old.push(set);
-        it.destroy_set(set, 0).unwrap();
+        it.free_after(&[set], 0).unwrap();
         done(&mut it, 0);
         it.begin_frame().unwrap();
-        let draw = it.draw(layouts[0]).unwrap();
-        assert_eq!(raw(&it, draw), kept);
-        old.push(draw);
+        let frame_set = it.allocate_for_frame(layouts[0]).unwrap();
+        assert_eq!(raw(&it, frame_set), kept);
+        old.push(frame_set);
         it.end_frame();
         done(&mut it, frame);
-        set = it.create_set(layouts[0]).unwrap();
+        set = it.allocate(layouts[0]).unwrap();
         assert_eq!(raw(&it, set), kept);
         for handle in &old {
             assert_eq!(it.set(*handle), None);
-            assert_eq!(it.destroy_set(*handle, 0), Err(DestroyError::NoSet));
+            assert_eq!(it.free_after(&[*handle], 0), Err(FreeError::NoSet));
             // SAFETY: the device isn't in use.
-            let answer = unsafe { it.free_sets(&[*handle]) };
-            assert_eq!(answer, Err(DestroyError::NoSet));
+            let answer = unsafe { it.free(&[*handle]) };
+            assert_eq!(answer, Err(FreeError::NoSet));
         }
     }
     assert_eq!(gpu.made.get(), 1);
@@ -590,18 +590,18 @@ fn a_refusal_while_sets_are_kept() {
     for (reason, error) in reasons {
         for count in [1, 2] {
             let gpu = Gpu::default();
-            let (mut it, layouts) = renderer(&gpu, u32::MAX);
-            let kept = it.create_sets(layouts[0], 5).unwrap();
-            let held = it.create_set(layouts[2]).unwrap();
+            let (mut it, layouts) = manager(&gpu, u32::MAX);
+            let kept = it.allocate_many(layouts[0], 5).unwrap();
+            let held = it.allocate(layouts[2]).unwrap();
             free(&mut it, &kept);
             // Five are kept and one is held, each layout in a pool of its own.
             assert_eq!((gpu.pools.borrow().len(), gpu.live()), (2, 6));
             // The first pool of the layout is refused: once, and the second try is granted, or twice.
             gpu.refuse(count, 0, reason);
-            let answer = it.create_set(layouts[3]);
+            let answer = it.allocate(layouts[3]);
             match count {
                 1 => assert_eq!(gpu.sets.borrow()[&raw(&it, answer.unwrap())].1, 3),
-                _ => assert_eq!(answer, Err(RenderError::Allocation(error))),
+                _ => assert_eq!(answer, Err(RequestError::Allocation(error))),
             }
             // Those that were kept are gone, and their pool, but what is held stays.
             let new = usize::from(count == 1);
@@ -624,11 +624,11 @@ fn a_refusal_while_sets_are_kept() {
 #[test]
 fn a_refusal_while_none_is_kept() {
     let gpu = Gpu::default();
-    let (mut it, layouts) = renderer(&gpu, u32::MAX);
-    let held = it.create_set(layouts[2]).unwrap();
+    let (mut it, layouts) = manager(&gpu, u32::MAX);
+    let held = it.allocate(layouts[2]).unwrap();
     gpu.refuse(1, 0, 0);
-    let answer = it.create_set(layouts[3]);
-    assert_eq!(answer, Err(RenderError::Allocation(OutOfDeviceMemory)));
+    let answer = it.allocate(layouts[3]);
+    assert_eq!(answer, Err(RequestError::Allocation(OutOfDeviceMemory)));
     free(&mut it, &[held]);
     assert_eq!(it.kept_count(layouts[2]), 1);
     shutdown(it);
@@ -638,26 +638,26 @@ fn a_refusal_while_none_is_kept() {
 #[test]
 fn a_batch_that_is_refused_while_sets_are_kept() {
     let gpu = Gpu::default();
-    let (mut it, layouts) = renderer(&gpu, u32::MAX);
-    let two = it.create_sets(layouts[0], 2).unwrap();
+    let (mut it, layouts) = manager(&gpu, u32::MAX);
+    let two = it.allocate_many(layouts[0], 2).unwrap();
     let raws = two.iter().map(|set| raw(&it, *set)).collect::<Vec<_>>();
     free(&mut it, &two);
-    let five = it.create_sets(layouts[0], 5).unwrap();
+    let five = it.allocate_many(layouts[0], 5).unwrap();
     let again = five.iter().filter(|set| raws.contains(&raw(&it, **set)));
     assert_eq!((again.count(), gpu.made.get(), gpu.live()), (2, 5, 5));
     free(&mut it, &five);
     assert_eq!((it.kept_count(layouts[0]), gpu.live()), (5, 5));
 
     gpu.refuse(1, 0, 0);
-    let seven = it.create_sets(layouts[0], 7).unwrap();
+    let seven = it.allocate_many(layouts[0], 7).unwrap();
     // The five went back, and all seven are new.
     assert_eq!((gpu.made.get(), gpu.live()), (5 + 7, 7));
     assert_eq!(it.counts(), counts(7, 0, 0));
     free(&mut it, &seven);
 
     gpu.refuse(2, 0, 0);
-    let answer = it.create_sets(layouts[0], 8);
-    assert_eq!(answer, Err(RenderError::Allocation(OutOfDeviceMemory)));
+    let answer = it.allocate_many(layouts[0], 8);
+    assert_eq!(answer, Err(RequestError::Allocation(OutOfDeviceMemory)));
     assert_eq!((it.counts(), gpu.is_empty()), (counts(0, 0, 0), true));
     shutdown(it);
 }
@@ -666,19 +666,19 @@ fn a_batch_that_is_refused_while_sets_are_kept() {
 #[test]
 fn the_limit_while_sets_are_kept() {
     let gpu = Gpu::default();
-    let (mut it, layouts) = renderer(&gpu, u32::MAX);
+    let (mut it, layouts) = manager(&gpu, u32::MAX);
     // One pool takes all that the limit allows.
     let many = LIMIT / DESCRIPTORS;
-    let sets = it.create_sets(layouts[MARKED], many).unwrap();
+    let sets = it.allocate_many(layouts[MARKED], many).unwrap();
     let mut other = layout(MARKED);
     other.counts.sampler = DESCRIPTORS + 1;
     // SAFETY: it is the device's, and stays.
     let other = unsafe { it.add_layout(other) }.unwrap();
-    let refused = Err(RenderError::Allocation(Fragmentation));
-    assert_eq!(it.create_set(other), refused);
+    let refused = Err(RequestError::Allocation(Fragmentation));
+    assert_eq!(it.allocate(other), refused);
     free(&mut it, &sets);
     assert_eq!(it.kept_count(layouts[MARKED]), many);
-    let set = it.create_set(other).unwrap();
+    let set = it.allocate(other).unwrap();
     assert_eq!((it.counts(), gpu.live()), (counts(1, 0, 0), 1));
     free(&mut it, &[set]);
     shutdown(it);
@@ -696,22 +696,22 @@ fn add_marked(it: &mut Sets, descriptors: u32) -> LayoutHandle {
 #[test]
 fn a_request_above_the_limit_leaves_kept_sets() {
     let gpu = Gpu::default();
-    let (mut it, layouts) = renderer(&gpu, u32::MAX);
+    let (mut it, layouts) = manager(&gpu, u32::MAX);
     let large = add_marked(&mut it, LIMIT + 1);
-    let plain = it.create_sets(layouts[0], 5).unwrap();
-    let marked = it.create_sets(layouts[MARKED], 3).unwrap();
+    let plain = it.allocate_many(layouts[0], 5).unwrap();
+    let marked = it.allocate_many(layouts[MARKED], 3).unwrap();
     free(&mut it, &plain);
     free(&mut it, &marked);
     it.begin_frame().unwrap();
     let calls = gpu.calls.get();
-    let refused = RenderError::Allocation(Fragmentation);
+    let refused = RequestError::Allocation(Fragmentation);
     for _ in 0..3 {
-        assert_eq!(it.create_set(large), Err(refused));
-        assert_eq!(it.draw(large), Err(refused));
-        assert_eq!(it.create_sets(large, 2), Err(refused));
+        assert_eq!(it.allocate(large), Err(refused));
+        assert_eq!(it.allocate_for_frame(large), Err(refused));
+        assert_eq!(it.allocate_many(large, 2), Err(refused));
         // Next to the three kept ones 78 are still needed. They would fit, but all 81 never do.
         let many = LIMIT / DESCRIPTORS + 1;
-        assert_eq!(it.create_sets(layouts[MARKED], many), Err(refused));
+        assert_eq!(it.allocate_many(layouts[MARKED], many), Err(refused));
     }
     assert_eq!((it.counts(), gpu.calls.get()), (counts(0, 0, 8), calls));
     assert_eq!(it.kept_count(layouts[MARKED]), 3);
@@ -724,16 +724,16 @@ fn a_request_above_the_limit_leaves_kept_sets() {
 fn a_request_of_the_whole_limit_frees_kept_sets() {
     for many in [1, LIMIT / DESCRIPTORS] {
         let gpu = Gpu::default();
-        let (mut it, layouts) = renderer(&gpu, u32::MAX);
+        let (mut it, layouts) = manager(&gpu, u32::MAX);
         let all = add_marked(&mut it, LIMIT / many);
-        let plain = it.create_sets(layouts[0], 5).unwrap();
+        let plain = it.allocate_many(layouts[0], 5).unwrap();
         let other = add_marked(&mut it, DESCRIPTORS + 1);
-        let marked = it.create_set(other).unwrap();
+        let marked = it.allocate(other).unwrap();
         free(&mut it, &plain);
         free(&mut it, &[marked]);
         let sets = match many {
-            1 => vec![it.create_set(all).unwrap()],
-            _ => it.create_sets(all, many).unwrap(),
+            1 => vec![it.allocate(all).unwrap()],
+            _ => it.allocate_many(all, many).unwrap(),
         };
         assert_eq!(it.counts(), counts(many.into(), 0, 0));
         free(&mut it, &sets);
@@ -746,19 +746,19 @@ fn a_request_of_the_whole_limit_frees_kept_sets() {
 fn a_request_without_memory_for_a_slot_leaves_kept_sets() {
     for number in 0..2 {
         let gpu = Gpu::default();
-        let (mut it, layouts) = renderer(&gpu, u32::MAX);
-        let four = it.create_sets(layouts[0], 4).unwrap();
+        let (mut it, layouts) = manager(&gpu, u32::MAX);
+        let four = it.allocate_many(layouts[0], 4).unwrap();
         free(&mut it, &four);
         let device_calls = gpu.calls.get();
         // The slots and the queue of the sets that wait are full.
-        let (answer, calls) = with_refused(number, || it.create_set(layouts[2]));
-        assert_eq!(answer, Err(RenderError::Allocation(OutOfHostMemory)));
+        let (answer, calls) = with_refused(number, || it.allocate(layouts[2]));
+        assert_eq!(answer, Err(RequestError::Allocation(OutOfHostMemory)));
         assert_eq!(calls, number + 1);
         assert_eq!(
             (it.counts(), gpu.calls.get()),
             (counts(0, 0, 4), device_calls)
         );
-        let set = it.create_set(layouts[2]).unwrap();
+        let set = it.allocate(layouts[2]).unwrap();
         assert_eq!(it.counts(), counts(1, 0, 4));
         free(&mut it, &[set]);
         shutdown(it);
@@ -770,14 +770,14 @@ fn a_request_without_memory_for_a_slot_leaves_kept_sets() {
 fn the_open_frame_is_not_done() {
     for keep in KEEPS {
         let gpu = Gpu::default();
-        let (mut it, layouts) = renderer(&gpu, keep);
+        let (mut it, layouts) = manager(&gpu, keep);
         it.skip_to(6).unwrap();
-        let sets = it.create_sets(layouts[0], 2).unwrap();
+        let sets = it.allocate_many(layouts[0], 2).unwrap();
         let frame = it.begin_frame().unwrap();
-        let draw = it.draw(layouts[0]).unwrap();
-        it.destroy_set(sets[0], frame).unwrap();
-        it.destroy_set(sets[1], frame - 1).unwrap();
-        // Three wait: the draw and the first set for the open frame, the second set for the one before.
+        let frame_set = it.allocate_for_frame(layouts[0]).unwrap();
+        it.free_after(&[sets[0]], frame).unwrap();
+        it.free_after(&[sets[1]], frame - 1).unwrap();
+        // Three wait: the frame set and the first set for the open frame, the second set for the one before.
         for say in [0, frame - 2] {
             done(&mut it, say);
             assert_eq!(it.counts(), counts(0, 3, 0));
@@ -787,10 +787,10 @@ fn the_open_frame_is_not_done() {
         for say in [frame, u64::MAX, frame - 1] {
             done(&mut it, say);
             assert_eq!(it.counts(), counts(0, 2, kept));
-            assert!(it.set(draw).is_some());
+            assert!(it.set(frame_set).is_some());
         }
         it.end_frame();
-        assert_eq!(it.set(draw), None);
+        assert_eq!(it.set(frame_set), None);
         assert_eq!(it.counts(), counts(0, 2, kept));
         let kept = u64::from(keep.min(3));
         done(&mut it, frame);
@@ -803,18 +803,18 @@ fn the_open_frame_is_not_done() {
 #[test]
 fn a_cleanup_while_sets_are_out() {
     let gpu = Gpu::default();
-    let (mut it, layouts) = renderer(&gpu, u32::MAX);
-    let sets = it.create_sets(layouts[0], 4).unwrap();
+    let (mut it, layouts) = manager(&gpu, u32::MAX);
+    let sets = it.allocate_many(layouts[0], 4).unwrap();
     it.begin_frame().unwrap();
-    let _draw = it.draw(layouts[0]).unwrap();
+    let _frame_set = it.allocate_for_frame(layouts[0]).unwrap();
     free(&mut it, &sets[..1]);
-    it.destroy_set(sets[1], 0).unwrap();
-    // Two are held; the destroyed one and the draw wait; the freed one is kept.
+    it.free_after(&[sets[1]], 0).unwrap();
+    // Two are held; the destroyed one and the frame set wait; the freed one is kept.
     assert_eq!((it.counts(), gpu.live()), (counts(2, 2, 1), 5));
     it.cleanup();
     assert_eq!((it.counts(), gpu.live()), (counts(2, 2, 0), 4));
     // What comes after it is kept.
-    let later = it.create_set(layouts[0]).unwrap();
+    let later = it.allocate(layouts[0]).unwrap();
     done(&mut it, 0);
     free(&mut it, &sets[2..3]);
     it.end_frame();
@@ -823,7 +823,7 @@ fn a_cleanup_while_sets_are_out() {
     free(&mut it, &[later]);
     assert_eq!((it.counts(), gpu.live()), (counts(1, 0, 1), 2));
     // A set that is kept and comes again is a new one.
-    let later = it.create_set(layouts[0]).unwrap();
+    let later = it.allocate(layouts[0]).unwrap();
     free(&mut it, &[later, sets[3]]);
     assert_eq!((it.counts(), gpu.live()), (counts(0, 0, 1), 1));
     it.cleanup();
@@ -835,9 +835,9 @@ fn a_cleanup_while_sets_are_out() {
 #[test]
 fn a_trim_beside_kept_sets() {
     let gpu = Gpu::default();
-    let (mut it, layouts) = renderer(&gpu, 4);
+    let (mut it, layouts) = manager(&gpu, 4);
     let sets: Vec<SetHandle> = (0..2000)
-        .map(|_| it.create_set(layouts[0]).unwrap())
+        .map(|_| it.allocate(layouts[0]).unwrap())
         .collect();
     // Seven: for 64, 64, 128, 256 and three times 512 sets.
     assert!(gpu.pools.borrow().len() > 6);
@@ -857,20 +857,20 @@ fn a_trim_beside_kept_sets() {
 #[test]
 fn fewer_are_kept_from_now_on() {
     let gpu = Gpu::default();
-    let (mut it, layouts) = renderer(&gpu, u32::MAX);
+    let (mut it, layouts) = manager(&gpu, u32::MAX);
     for layout in layouts {
-        let sets = it.create_sets(layout, 9).unwrap();
+        let sets = it.allocate_many(layout, 9).unwrap();
         free(&mut it, &sets);
     }
     for keep in [9, 4, 6, 1, 0] {
-        it.set_keep(keep);
+        it.set_max_kept(keep);
         // What is freed with 4 doesn't come back with 6.
         let kept = keep.min(4 + 5 * u32::from(keep == 9));
         assert!(layouts.iter().all(|at| it.kept_count(*at) == kept));
         assert_eq!(gpu.live(), 4 * kept as usize);
     }
-    it.set_keep(u32::MAX);
-    let set = it.create_set(layouts[0]).unwrap();
+    it.set_max_kept(u32::MAX);
+    let set = it.allocate(layouts[0]).unwrap();
     free(&mut it, &[set]);
     assert_eq!(it.kept_count(layouts[0]), 1);
     // SAFETY: the device isn't in use.
@@ -884,42 +884,42 @@ fn fewer_are_kept_from_now_on() {
 #[test]
 fn a_frame_loop_asks_for_nothing() {
     let gpu = Gpu::default();
-    let (mut it, layouts) = renderer(&gpu, u32::MAX);
+    let (mut it, layouts) = manager(&gpu, u32::MAX);
     let mut before = (0, 0, 0);
-    let mut materials = it.create_sets(layouts[1], 8).unwrap();
+    let mut materials = it.allocate_many(layouts[1], 8).unwrap();
     for turn in 0..200 {
         let frame = it.begin_frame().unwrap();
         done(&mut it, frame.saturating_sub(3));
         for at in 0..50 {
             let layout = layouts[[0, 2, 0][at % 3]];
-            let draw = counted(|| it.draw(layout)).unwrap();
-            assert!(it.set(draw).is_some());
+            let frame_set = counted(|| it.allocate_for_frame(layout)).unwrap();
+            assert!(it.set(frame_set).is_some());
         }
         it.end_frame();
-        let new = counted(|| it.create_set(layouts[1])).unwrap();
+        let new = counted(|| it.allocate(layouts[1])).unwrap();
         let old = std::mem::replace(&mut materials[turn % 8], new);
-        it.destroy_set(old, frame).unwrap();
+        it.free_after(&[old], frame).unwrap();
         let now = (gpu.calls.get(), calls(), bytes());
         if turn >= 5 {
             assert_eq!(now, before);
         }
         before = now;
     }
-    // Eight materials, the draws of three frames, and three materials more: two wait as one comes.
+    // Eight materials, the frame sets of three frames, and three materials more: two wait as one comes.
     assert_eq!(gpu.made.get(), 8 + 50 * 3 + 3);
     shutdown(it);
 }
 
-/// What a set is in use for. A draw has its frame, and one that waits has its last use.
+/// What a set is in use for. A frame set has its frame, and one that waits has its last use.
 #[derive(Clone, Copy, Debug, PartialEq)]
 enum Use {
     Held,
-    Drawn(u64),
+    InFrame(u64),
     Waits(u64),
     Kept,
 }
 
-/// A set that the renderer has to have.
+/// A set that the set manager has to have.
 #[derive(Debug)]
 struct Known {
     raw: u64,
@@ -931,7 +931,7 @@ struct Known {
     leaves: bool,
 }
 
-/// A renderer beside the list of its sets.
+/// A set manager beside the list of its sets.
 struct Model<'a> {
     gpu: &'a Gpu,
     it: Sets<'a>,
@@ -1023,7 +1023,7 @@ impl Model<'_> {
         layout: usize,
         many: usize,
         used: Use,
-        ask: impl FnOnce(&mut Sets, LayoutHandle) -> Result<Vec<SetHandle>, RenderError>,
+        ask: impl FnOnce(&mut Sets, LayoutHandle) -> Result<Vec<SetHandle>, RequestError>,
     ) {
         let (kept, refused, calls) = (
             self.kept(layout),
@@ -1067,7 +1067,7 @@ impl Model<'_> {
                 assert_eq!(again, first);
                 self.again += again;
             }
-            Err(RenderError::Allocation(error)) => {
+            Err(RequestError::Allocation(error)) => {
                 assert!(was_refused || (layout, error) == (MARKED, Fragmentation));
                 assert!(many > kept);
                 if is_above {
@@ -1084,24 +1084,26 @@ impl Model<'_> {
         }
     }
 
-    fn draw(&mut self, layout: usize) {
-        let used = Use::Drawn(self.it.frame());
-        self.request(layout, 1, used, |it, layout| Ok(vec![it.draw(layout)?]));
+    fn allocate_for_frame(&mut self, layout: usize) {
+        let used = Use::InFrame(self.it.frame());
+        self.request(layout, 1, used, |it, layout| {
+            Ok(vec![it.allocate_for_frame(layout)?])
+        });
     }
 
     fn create(&mut self, layout: usize) {
         self.request(layout, 1, Use::Held, |it, layout| {
-            Ok(vec![it.create_set(layout)?])
+            Ok(vec![it.allocate(layout)?])
         });
     }
 
     fn create_many(&mut self, layout: usize, many: usize, is_into: bool) {
         self.request(layout, many, Use::Held, |it, layout| {
             if !is_into {
-                return it.create_sets(layout, many as u32);
+                return it.allocate_many(layout, many as u32);
             }
             let mut sets = vec![SetHandle::NONE; many];
-            let answer = it.create_sets_into(layout, &mut sets);
+            let answer = it.allocate_into(layout, &mut sets);
             if answer.is_err() {
                 assert!(sets.iter().all(|set| *set == SetHandle::NONE));
             }
@@ -1115,7 +1117,7 @@ impl Model<'_> {
     }
 
     fn destroy(&mut self, handles: &[SetHandle], last_use: u64) {
-        self.it.destroy_sets(handles, last_use).unwrap();
+        self.it.free_after(handles, last_use).unwrap();
         for set in &mut self.sets {
             if set.handle.is_some_and(|it| handles.contains(&it)) {
                 set.used = Use::Waits(last_use);
@@ -1127,7 +1129,7 @@ impl Model<'_> {
     fn end(&mut self) {
         self.it.end_frame();
         for set in &mut self.sets {
-            if let Use::Drawn(frame) = set.used {
+            if let Use::InFrame(frame) = set.used {
                 set.used = Use::Waits(frame);
                 self.old.extend(set.handle.take());
             }
@@ -1139,11 +1141,11 @@ impl Model<'_> {
         // An open frame isn't done.
         let last = self.it.frame() - u64::from(self.it.is_frame_open());
         let frame = frame.min(last);
-        self.come_back(|set| matches!(set.used, Use::Waits(it) | Use::Drawn(it) if it <= frame));
+        self.come_back(|set| matches!(set.used, Use::Waits(it) | Use::InFrame(it) if it <= frame));
     }
 
-    fn set_keep(&mut self, keep: u32) {
-        self.it.set_keep(keep);
+    fn set_max_kept(&mut self, keep: u32) {
+        self.it.set_max_kept(keep);
         self.keep = keep;
         let before: [usize; LAYOUTS] = std::array::from_fn(|at| self.kept(at));
         let gpu = self.gpu;
@@ -1175,7 +1177,7 @@ impl Model<'_> {
             assert!(self.gpu.is_live(set.raw));
             match set.handle {
                 Some(handle) => assert_eq!(self.it.set(handle), Some(&set.raw)),
-                None => assert!(!matches!(set.used, Use::Held | Use::Drawn(_))),
+                None => assert!(!matches!(set.used, Use::Held | Use::InFrame(_))),
             }
         }
         let held = self.count(|set| set.used == Use::Held) as u64;
@@ -1225,7 +1227,7 @@ fn step(model: &mut Model, random: &mut Random, changes_keep: bool) {
     let is_open = model.it.is_frame_open();
     let held = model.handles();
     match random.below(40) {
-        0..9 if is_open => model.draw(layout),
+        0..9 if is_open => model.allocate_for_frame(layout),
         9..12 => model.create(layout),
         12..15 => {
             let many = match random.below(4) {
@@ -1251,7 +1253,7 @@ fn step(model: &mut Model, random: &mut Random, changes_keep: bool) {
         36 if random.below(8) == 0 => model.cleanup(),
         37 if random.below(20) == 0 => model.free_all(),
         38 if random.below(8) == 0 && changes_keep => {
-            model.set_keep(KEEPS[random.below(KEEPS.len())]);
+            model.set_max_kept(KEEPS[random.below(KEEPS.len())]);
         }
         39 if random.below(4) == 0 && !is_open => {
             let to = frame + random.below(3) as u64;
@@ -1267,12 +1269,12 @@ fn step(model: &mut Model, random: &mut Random, changes_keep: bool) {
                 let at = random.below(list.len());
                 let last = list.len() - 1;
                 list.swap(at, last);
-                assert_eq!(model.it.destroy_sets(&list, 0), Err(DestroyError::NoSet));
+                assert_eq!(model.it.free_after(&list, 0), Err(FreeError::NoSet));
                 // SAFETY: the device isn't in use.
-                let answer = unsafe { model.it.free_sets(&list) };
-                assert_eq!(answer, Err(DestroyError::NoSet));
-                let answer = model.it.destroy_sets(&list, frame + 1);
-                assert_eq!(answer, Err(DestroyError::FrameAhead));
+                let answer = unsafe { model.it.free(&list) };
+                assert_eq!(answer, Err(FreeError::NoSet));
+                let answer = model.it.free_after(&list, frame + 1);
+                assert_eq!(answer, Err(FreeError::FrameAhead));
             }
         }
     }
@@ -1281,7 +1283,7 @@ fn step(model: &mut Model, random: &mut Random, changes_keep: bool) {
 /// Runs so many steps. Returns how many requests were refused, and how many sets came again.
 fn run(keep: u32, changes_keep: bool, steps: usize) -> (usize, usize) {
     let gpu = Gpu::default();
-    let (it, layouts) = renderer(&gpu, keep);
+    let (it, layouts) = manager(&gpu, keep);
     let mut model = Model {
         gpu: &gpu,
         it,

@@ -1,16 +1,16 @@
-//! Layouts of a `Renderer` that are removed: what their handles name, what becomes of their sets, and that
+//! Layouts of a `SetManager` that are removed: what their handles name, what becomes of their sets, and that
 //! memory follows the most layouts at once.
 
 mod gpu;
 mod refuses;
 
 use gpu::{Gpu, Set, layout};
-use gpu_descriptor::renderer::{LayoutHandle, RenderError, Renderer, SetHandle};
+use gpu_descriptor::manager::{LayoutHandle, RequestError, SetHandle, SetManager};
 use gpu_descriptor::{DescriptorSetLayoutCreateFlags, DescriptorTotalCount, SetLayout};
 use refuses::{bytes, calls, counted};
 use std::collections::HashSet;
 
-type Sets<'a> = Renderer<u32, usize, Set, &'a Gpu>;
+type Sets<'a> = SetManager<u32, usize, Set, &'a Gpu>;
 
 fn add(it: &mut Sets, number: u32) -> LayoutHandle {
     // SAFETY: the device knows no layouts.
@@ -18,7 +18,7 @@ fn add(it: &mut Sets, number: u32) -> LayoutHandle {
 }
 
 /// Removes a layout, without memory.
-fn remove(it: &mut Sets, handle: LayoutHandle) -> Result<u32, RenderError> {
+fn remove(it: &mut Sets, handle: LayoutHandle) -> Result<u32, RequestError> {
     let before = calls();
     let removed = counted(|| it.remove_layout(handle));
     assert_eq!(calls(), before, "no memory is taken");
@@ -27,7 +27,7 @@ fn remove(it: &mut Sets, handle: LayoutHandle) -> Result<u32, RenderError> {
 
 fn free(it: &mut Sets, sets: &[SetHandle]) {
     // SAFETY: no frame in flight reads one.
-    unsafe { it.free_sets(sets) }.unwrap();
+    unsafe { it.free(sets) }.unwrap();
 }
 
 fn shutdown(gpu: &Gpu, it: Sets) {
@@ -36,24 +36,24 @@ fn shutdown(gpu: &Gpu, it: Sets) {
     assert!(gpu.is_empty());
 }
 
-/// Each call with a handle that names no layout is refused as with one of another renderer.
+/// Each call with a handle that names no layout is refused as with one of another set manager.
 fn is_unknown(it: &mut Sets, handle: LayoutHandle) {
     assert!(it.layout(handle).is_none());
     assert_eq!(it.kept_count(handle), 0);
-    assert_eq!(it.create_set(handle), Err(RenderError::NoLayout));
-    assert_eq!(it.create_sets(handle, 2), Err(RenderError::NoLayout));
+    assert_eq!(it.allocate(handle), Err(RequestError::NoLayout));
+    assert_eq!(it.allocate_many(handle, 2), Err(RequestError::NoLayout));
     it.begin_frame().unwrap();
-    assert_eq!(it.draw(handle), Err(RenderError::NoLayout));
+    assert_eq!(it.allocate_for_frame(handle), Err(RequestError::NoLayout));
     it.end_frame();
-    assert_eq!(remove(it, handle), Err(RenderError::NoLayout));
+    assert_eq!(remove(it, handle), Err(RequestError::NoLayout));
 }
 
 #[test]
 fn a_removed_handle_names_nothing() {
     let (gpu, other_gpu) = (Gpu::new(), Gpu::new());
     let (mut it, mut other) = (
-        Renderer::new(&gpu, 10_000),
-        Renderer::new(&other_gpu, 10_000),
+        SetManager::new(&gpu, 10_000),
+        SetManager::new(&other_gpu, 10_000),
     );
     let (first, second) = (add(&mut it, 0), add(&mut it, 1));
     let foreign = add(&mut other, 2);
@@ -78,13 +78,13 @@ fn a_removed_handle_names_nothing() {
 #[test]
 fn sets_of_a_removed_layout() {
     let gpu = Gpu::new();
-    let mut it = Renderer::new(&gpu, 10_000);
+    let mut it = SetManager::new(&gpu, 10_000);
     let old = add(&mut it, 0);
-    let held = it.create_sets(old, 4).unwrap();
+    let held = it.allocate_many(old, 4).unwrap();
     it.begin_frame().unwrap();
-    let drawn = it.draw(old).unwrap();
+    let drawn = it.allocate_for_frame(old).unwrap();
     // SAFETY: no frame in flight reads it.
-    unsafe { it.free_sets(&held[..1]) }.unwrap();
+    unsafe { it.free(&held[..1]) }.unwrap();
     assert_eq!((it.kept_count(old), gpu.live_sets()), (1, 5));
     assert_eq!(remove(&mut it, old), Ok(0));
     assert_eq!(gpu.live_sets(), 4, "the kept set is freed, and no other");
@@ -93,20 +93,20 @@ fn sets_of_a_removed_layout() {
     assert!(it.set(drawn).is_some());
     // None is kept for the layout that has the slot now, however it comes back.
     it.end_frame();
-    it.destroy_set(held[1], 1).unwrap();
+    it.free_after(&[held[1]], 1).unwrap();
     // SAFETY: no frame in flight reads one.
-    unsafe { it.free_sets(&held[2..3]) }.unwrap();
+    unsafe { it.free(&held[2..3]) }.unwrap();
     assert_eq!((it.kept_count(new), it.counts().kept), (0, 0));
     assert!(!gpu.is_live(raws[1]));
     // SAFETY: as above.
-    unsafe { it.gpu_done(1) };
+    unsafe { it.frame_done(1) };
     assert_eq!((it.kept_count(new), it.counts().kept), (0, 0));
     assert_eq!((it.counts().held, gpu.live_sets()), (1, 1));
     assert!(gpu.is_live(raws[2]));
     // Sets of the new layout are kept.
-    let own = it.create_sets(new, 2).unwrap();
+    let own = it.allocate_many(new, 2).unwrap();
     // SAFETY: as above.
-    unsafe { it.free_sets(&[own[0], held[3], own[1]]) }.unwrap();
+    unsafe { it.free(&[own[0], held[3], own[1]]) }.unwrap();
     assert_eq!((it.kept_count(new), gpu.live_sets()), (2, 2));
     shutdown(&gpu, it);
 }
@@ -114,12 +114,12 @@ fn sets_of_a_removed_layout() {
 #[test]
 fn memory_follows_the_most_layouts_at_once() {
     let gpu = Gpu::new();
-    let mut it = Renderer::new(&gpu, 10_000);
+    let mut it = SetManager::new(&gpu, 10_000);
     let mut live: Vec<_> = (0..30).map(|number| add(&mut it, number % 3)).collect();
     let mut turn = |at: usize| {
-        let set = counted(|| it.create_set(live[at])).unwrap();
+        let set = counted(|| it.allocate(live[at])).unwrap();
         // SAFETY: no frame is in flight.
-        unsafe { it.free_sets(&[set]) }.unwrap();
+        unsafe { it.free(&[set]) }.unwrap();
         let number = it.layout(live[at]).unwrap().layout;
         assert_eq!(remove(&mut it, live[at]), Ok(number));
         live[at] = add(&mut it, number);
@@ -135,7 +135,7 @@ fn memory_follows_the_most_layouts_at_once() {
 #[test]
 fn layouts_with_counts_of_their_own() {
     let gpu = Gpu::new();
-    let mut it = Renderer::new(&gpu, 10_000);
+    let mut it = SetManager::new(&gpu, 10_000);
     for sampler in 1..=10_000 {
         let layout = SetLayout {
             layout: sampler,
@@ -147,7 +147,7 @@ fn layouts_with_counts_of_their_own() {
         };
         // SAFETY: the device knows no layouts.
         let handle = unsafe { it.add_layout(layout) }.unwrap();
-        let sets = it.create_sets(handle, 2).unwrap();
+        let sets = it.allocate_many(handle, 2).unwrap();
         free(&mut it, &sets);
         assert_eq!((gpu.pools(), gpu.live_sets()), (1, 2));
         assert_eq!(remove(&mut it, handle), Ok(sampler));
@@ -161,16 +161,16 @@ fn layouts_with_counts_of_their_own() {
 #[test]
 fn a_removed_layout_beside_one_of_its_key() {
     let gpu = Gpu::new();
-    let mut it = Renderer::new(&gpu, 10_000);
+    let mut it = SetManager::new(&gpu, 10_000);
     let [first, second, other] = [0, 0, 1].map(|number| add(&mut it, number));
     // An empty pool of another key.
-    it.set_keep(0);
-    let set = it.create_set(other).unwrap();
+    it.set_max_kept(0);
+    let set = it.allocate(other).unwrap();
     free(&mut it, &[set]);
-    it.set_keep(u32::MAX);
+    it.set_max_kept(u32::MAX);
     // A pool that both layouts have sets of, and one behind it.
-    let stays = it.create_set(second).unwrap();
-    let goes = it.create_sets(first, 64).unwrap();
+    let stays = it.allocate(second).unwrap();
+    let goes = it.allocate_many(first, 64).unwrap();
     free(&mut it, &goes);
     free(&mut it, &[stays]);
     assert_eq!((it.pool_count(second), it.pool_count(other)), (2, 1));
@@ -179,7 +179,7 @@ fn a_removed_layout_beside_one_of_its_key() {
     assert_eq!((it.kept_count(second), gpu.live_sets()), (1, 1));
     // Its set comes again without a call, and stays when the layout goes. The pool that it leaves stays too.
     let calls = gpu.calls.get();
-    let held = it.create_set(second).unwrap();
+    let held = it.allocate(second).unwrap();
     assert_eq!(gpu.calls.get(), calls);
     assert_eq!(remove(&mut it, second), Ok(0));
     free(&mut it, &[held]);

@@ -3,7 +3,7 @@
 
 use gpu_descriptor::AllocationError::Fragmentation;
 use gpu_descriptor::frames::FrameManager;
-use gpu_descriptor::renderer::{RenderError, Renderer};
+use gpu_descriptor::manager::{RequestError, SetManager};
 use gpu_descriptor::*;
 
 include!("numbers/device.rs");
@@ -62,15 +62,18 @@ fn of_a_manager() {
 }
 
 #[test]
-fn of_a_renderer() {
+fn of_a_set_manager() {
     for limit in LIMITS {
-        let mut it = Renderer::new(Device::default(), limit);
+        let mut it = SetManager::new(Device::default(), limit);
         assert_eq!(it.update_after_bind_limit(), limit);
         let layout = unsafe { it.add_layout(layout()) }.unwrap();
-        let refused = RenderError::Allocation(Fragmentation);
-        assert_eq!(it.create_sets(layout, limit + 1), Err(refused));
-        assert_eq!(it.create_sets(layout, limit).unwrap().len(), limit as usize);
-        assert_eq!(it.create_set(layout), Err(refused));
+        let refused = RequestError::Allocation(Fragmentation);
+        assert_eq!(it.allocate_many(layout, limit + 1), Err(refused));
+        assert_eq!(
+            it.allocate_many(layout, limit).unwrap().len(),
+            limit as usize
+        );
+        assert_eq!(it.allocate(layout), Err(refused));
         assert_eq!(it.update_after_bind_capacity(), limit);
         unsafe { it.shutdown() };
     }
@@ -96,7 +99,7 @@ fn of_two_bindless_layouts() {
         (Some(65_536), true, 6 * 10_000 + 8 * 8_000),
     ] {
         let (mut it, device) = (DescriptorAllocator::new(500_000), Device::default());
-        it.set_most_pool_descriptors(most);
+        it.set_max_pool_descriptors(most);
         let mut sets = vec![unsafe { it.allocate_one(&device, &first) }.unwrap()];
         match unsafe { it.allocate_one(&device, &second) } {
             Ok(set) => sets.push(set),
@@ -153,33 +156,33 @@ fn view(number: u64, allocated: u32, available: u32) -> Option<PoolView> {
 
 /// Layouts with the same counts and flag share pools, of 64 sets each. Kept sets are allocated from them.
 #[test]
-fn pools_of_a_renderer() {
-    let (mut it, plain) = (Renderer::new(Device::default(), 1000), layout());
+fn pools_of_a_set_manager() {
+    let (mut it, plain) = (SetManager::new(Device::default(), 1000), layout());
     let flags = DescriptorSetLayoutCreateFlags::empty();
     let first = unsafe { it.add_layout(layout()) }.unwrap();
     let second = unsafe { it.add_layout(layout()) }.unwrap();
     let plain = unsafe { it.add_layout(SetLayout { flags, ..plain }) }.unwrap();
     assert_eq!((it.pool_count(first), it.pool(first, 0)), (0, None));
-    let sets = it.create_sets(first, 3).unwrap();
-    it.create_sets(second, 2).unwrap();
-    unsafe { it.free_sets(&sets[1..]) }.unwrap();
+    let sets = it.allocate_many(first, 3).unwrap();
+    it.allocate_many(second, 2).unwrap();
+    unsafe { it.free(&sets[1..]) }.unwrap();
     for layout in [first, second] {
         assert_eq!((it.pool_count(layout), it.pool(layout, 1)), (1, None));
         assert_eq!(it.pool(layout, 0), view(0, 5, 59));
     }
     assert_eq!((it.pool_count(plain), it.pool(plain, 0)), (0, None));
-    assert!(it.create_set(plain).is_ok());
+    assert!(it.allocate(plain).is_ok());
     assert_eq!(it.pool(plain, 0), view(0, 1, 63));
     assert_eq!(it.update_after_bind_capacity(), 64);
     // The two that are kept, 59 more of this pool, and three of a new one.
-    it.create_sets(first, 64).unwrap();
+    it.allocate_many(first, 64).unwrap();
     assert_eq!(it.pool(second, 0), view(0, 64, 0));
     assert_eq!(it.pool(second, 1), view(1, 3, 61));
     assert_eq!(it.update_after_bind_capacity(), 128);
     it.remove_layout(first).unwrap();
     assert_eq!((it.pool_count(first), it.pool(first, 0)), (0, None));
     assert_eq!((it.pool_count(second), it.pool_count(plain)), (2, 1));
-    let other: Renderer<u64, u64, u64, Device> = Renderer::new(Device::default(), 7);
+    let other: SetManager<u64, u64, u64, Device> = SetManager::new(Device::default(), 7);
     assert_eq!((other.pool_count(second), other.pool(second, 0)), (0, None));
     assert_eq!(other.update_after_bind_limit(), 7);
     unsafe { it.shutdown() };

@@ -1,4 +1,4 @@
-//! Every public call of an allocator, a manager and a renderer that are poisoned: it panics and makes no
+//! Every public call of an allocator, a manager and a set manager that are poisoned: it panics and makes no
 //! call of the device, or it reads. While the thread unwinds, those that a `Drop` makes do nothing.
 //!
 //! The lists name every public method: `every_call_is_listed` compares them with the sources.
@@ -7,7 +7,7 @@
 mod hostile_device;
 
 use gpu_descriptor::frames::FrameManager;
-use gpu_descriptor::renderer::{LayoutHandle, Renderer, SetHandle};
+use gpu_descriptor::manager::{LayoutHandle, SetHandle, SetManager};
 use gpu_descriptor::*;
 use hostile_device::{Device, Fault, Set};
 use std::any::Any;
@@ -181,8 +181,8 @@ fn calls_of_an_allocator() -> Vec<Call<Allocating>> {
         PanicsButInADrop (on.it).cleanup(&on.device);
         PanicsButInADrop (on.it).trim(&on.device);
         PanicsButInADrop (on.it).trim_layout(&on.device, &on.layout);
-        Panics (on.it).set_most_pool_descriptors(None);
-        Answers (on.it).most_pool_descriptors();
+        Panics (on.it).set_max_pool_descriptors(None);
+        Answers (on.it).max_pool_descriptors();
         Answers (on.it).outstanding();
         Answers (on.it).update_after_bind_descriptors();
         Answers (on.it).update_after_bind_capacity();
@@ -247,8 +247,8 @@ fn calls_of_a_manager() -> Vec<Call<Managing>> {
         PanicsButInADrop (on.it).free(&on.device, on.sets.drain(..));
         PanicsButInADrop (on.it).cleanup(&on.device);
         PanicsButInADrop (on.it).trim(&on.device);
-        Panics (on.it).set_most_pool_descriptors(None);
-        Answers (on.it).most_pool_descriptors();
+        Panics (on.it).set_max_pool_descriptors(None);
+        Answers (on.it).max_pool_descriptors();
         Answers (on.it).reserve(1);
         Answers (on.it).retire(1, on.sets.remove(0));
         Answers (on.it).retire_all(1, std::mem::take(&mut on.sets));
@@ -270,9 +270,9 @@ fn a_poisoned_manager() {
     try_each_in_a_drop(&calls_of_a_manager());
 }
 
-/// The renderer is taken by two of its calls.
+/// The set manager is taken by two of its calls.
 struct Rendering {
-    it: Option<Renderer<String, u64, Set, &'static Device>>,
+    it: Option<SetManager<String, u64, Set, &'static Device>>,
     device: &'static Device,
     layout: LayoutHandle,
     drawn: SetHandle,
@@ -282,13 +282,13 @@ struct Rendering {
 impl Stage for Rendering {
     fn poisoned() -> Self {
         let device: &'static Device = Box::leak(Box::new(Device::new()));
-        let mut it = Renderer::new(device, 0);
+        let mut it = SetManager::new(device, 0);
         let layout = unsafe { it.add_layout(layout()) }.unwrap();
-        let held = it.create_set(layout).unwrap();
+        let held = it.allocate(layout).unwrap();
         it.begin_frame().unwrap();
-        let drawn = it.draw(layout).unwrap();
+        let drawn = it.allocate_for_frame(layout).unwrap();
         device.fault.set(Fault::PanicsAtAlloc);
-        let ran = catch_unwind(AssertUnwindSafe(|| it.draw(layout)));
+        let ran = catch_unwind(AssertUnwindSafe(|| it.allocate_for_frame(layout)));
         assert!(ran.is_err());
         device.fault.set(Fault::None);
         Rendering {
@@ -305,30 +305,30 @@ impl Stage for Rendering {
     }
 
     fn is_poisoned(&self) -> bool {
-        self.it.as_ref().is_none_or(Renderer::is_poisoned)
+        self.it.as_ref().is_none_or(SetManager::is_poisoned)
     }
 }
 
-fn calls_of_a_renderer() -> Vec<Call<Rendering>> {
+fn calls_of_a_set_manager() -> Vec<Call<Rendering>> {
     calls! { Rendering, on:
         Panics (on.it.as_mut().unwrap()).add_layout(layout());
         Panics (on.it.as_mut().unwrap()).remove_layout(on.layout);
         Panics (on.it.as_mut().unwrap()).begin_frame();
         Panics (on.it.as_mut().unwrap()).skip_to(9);
-        Panics (on.it.as_mut().unwrap()).set_keep(0);
-        Panics (on.it.as_mut().unwrap()).set_most_pool_descriptors(None);
-        Answers (on.it.as_mut().unwrap()).most_pool_descriptors();
-        Panics (on.it.as_mut().unwrap()).draw(on.layout);
-        Panics (on.it.as_mut().unwrap()).create_set(on.layout);
-        Panics (on.it.as_mut().unwrap()).create_sets(on.layout, 0);
-        Panics (on.it.as_mut().unwrap()).create_sets_into(on.layout, &mut []);
+        Panics (on.it.as_mut().unwrap()).set_max_kept(0);
+        Panics (on.it.as_mut().unwrap()).set_max_pool_descriptors(None);
+        Answers (on.it.as_mut().unwrap()).max_pool_descriptors();
+        Panics (on.it.as_mut().unwrap()).allocate_for_frame(on.layout);
+        Panics (on.it.as_mut().unwrap()).allocate(on.layout);
+        Panics (on.it.as_mut().unwrap()).allocate_many(on.layout, 0);
+        Panics (on.it.as_mut().unwrap()).allocate_into(on.layout, &mut []);
         PanicsButInADrop (on.it.as_mut().unwrap()).end_frame();
-        PanicsButInADrop (on.it.as_mut().unwrap()).gpu_done(9);
+        PanicsButInADrop (on.it.as_mut().unwrap()).frame_done(9);
         PanicsButInADrop (on.it.as_mut().unwrap()).cleanup();
         PanicsButInADrop (on.it.as_mut().unwrap()).trim();
-        PanicsButInADrop (on.it.as_mut().unwrap()).free_sets(&[on.held]).unwrap();
-        PanicsButInADrop (on.it.as_mut().unwrap()).destroy_set(on.held, 1).unwrap();
-        PanicsButInADrop (on.it.as_mut().unwrap()).destroy_sets(&[on.held], 1).unwrap();
+        PanicsButInADrop (on.it.as_mut().unwrap()).free(&[on.held]).unwrap();
+        PanicsButInADrop (on.it.as_mut().unwrap()).free_after(&[on.held], 1).unwrap();
+        PanicsButInADrop (on.it.as_mut().unwrap()).free_after(&[on.held], 1).unwrap();
         PanicsButInADrop (on.it.as_mut().unwrap()).free_all();
         PanicsButInADrop (on.it.take().unwrap()).shutdown();
         Answers (on.it.take().unwrap()).into_device();
@@ -353,10 +353,10 @@ fn calls_of_a_renderer() -> Vec<Call<Rendering>> {
 }
 
 #[test]
-fn a_poisoned_renderer() {
-    try_each(&calls_of_a_renderer());
+fn a_poisoned_set_manager() {
+    try_each(&calls_of_a_set_manager());
     #[cfg(feature = "std")]
-    try_each_in_a_drop(&calls_of_a_renderer());
+    try_each_in_a_drop(&calls_of_a_set_manager());
 }
 
 /// The methods that a file has for all: its lines `    pub fn name(..&self..)`.
@@ -382,8 +382,8 @@ fn every_call_is_listed() {
     // That of an error.
     assert!(all.remove("into_inner"));
     assert_eq!(names(&calls_of_a_manager()), all);
-    let mut all = methods(include_str!("../src/renderer.rs"));
-    all.extend(methods(include_str!("../src/renderer/statistics.rs")));
+    let mut all = methods(include_str!("../src/manager.rs"));
+    all.extend(methods(include_str!("../src/manager/statistics.rs")));
     assert!(all.remove("into_inner"));
-    assert_eq!(names(&calls_of_a_renderer()), all);
+    assert_eq!(names(&calls_of_a_set_manager()), all);
 }

@@ -1,10 +1,10 @@
-//! The numbers of a `Renderer` beside those that the device counts, and their JSON, byte by byte. What is expected of the JSON is worked out by hand from the rule for the size of a pool.
+//! The numbers of a `SetManager` beside those that the device counts, and their JSON, byte by byte. What is expected of the JSON is worked out by hand from the rule for the size of a pool.
 
 mod gpu;
 mod refuses;
 
 use gpu::{Fault, Gpu, REASONS, Random, Set, layout};
-use gpu_descriptor::renderer::{LayoutHandle, Renderer};
+use gpu_descriptor::manager::{LayoutHandle, SetManager};
 use gpu_descriptor::*;
 use refuses::{calls, counted};
 use std::fmt;
@@ -31,7 +31,7 @@ fn without_memory<R>(read: impl FnOnce() -> R) -> R {
 }
 
 fn add<D: DescriptorDevice<u32, usize, Set>>(
-    it: &mut Renderer<u32, usize, Set, D>,
+    it: &mut SetManager<u32, usize, Set, D>,
     layout: SetLayout<u32>,
 ) -> LayoutHandle {
     // SAFETY: the device knows no layouts.
@@ -39,9 +39,9 @@ fn add<D: DescriptorDevice<u32, usize, Set>>(
 }
 
 #[test]
-fn numbers_of_a_renderer() {
+fn numbers_of_a_set_manager() {
     let device = Gpu::new();
-    let mut it = Renderer::new(&device, 10_000);
+    let mut it = SetManager::new(&device, 10_000);
     let layouts = [0, 1, 2].map(|number| add(&mut it, layout(number)));
     let (mut random, mut held, mut refused) = (Random(1), Vec::new(), 0);
     for frame in 1..=2_000 {
@@ -49,13 +49,13 @@ fn numbers_of_a_renderer() {
         it.begin_frame().unwrap();
         let number = random.below(3) as usize;
         let most = [70, 3, 90][number];
-        match it.create_sets(layouts[number], 1 + random.below(most) as u32) {
+        match it.allocate_many(layouts[number], 1 + random.below(most) as u32) {
             Ok(mut sets) => held.append(&mut sets),
             Err(_) => refused += 1,
         }
-        let drawn = it.draw(layouts[0]).is_ok();
+        let drawn = it.allocate_for_frame(layouts[0]).is_ok();
         let gone = held.split_off(random.below(held.len() as u64 + 1) as usize);
-        it.destroy_sets(&gone, frame).unwrap();
+        it.free_after(&gone, frame).unwrap();
         let counts = it.counts();
         let numbers = without_memory(|| it.statistics());
         check_pools(&device, &numbers);
@@ -72,7 +72,7 @@ fn numbers_of_a_renderer() {
         );
         it.end_frame();
         // SAFETY: no frame is in flight.
-        unsafe { it.gpu_done(frame) };
+        unsafe { it.frame_done(frame) };
         if frame % 50 == 0 {
             held.clear();
             // SAFETY: as above.
@@ -101,12 +101,12 @@ fn of(kept: u64, pools: u64, used: u64, free: u64) -> [u64; 4] {
 fn numbers_of_layouts() {
     let device = Gpu::new();
     let (mut it, mut other) = (
-        Renderer::new(&device, 10_000),
-        Renderer::new(&device, 10_000),
+        SetManager::new(&device, 10_000),
+        SetManager::new(&device, 10_000),
     );
     let handles = [0, 0, 2].map(|number| add(&mut it, layout(number)));
     let foreign = add(&mut other, layout(0));
-    let read = |it: &Renderer<u32, usize, Set, &Gpu>, at: usize| {
+    let read = |it: &SetManager<u32, usize, Set, &Gpu>, at: usize| {
         let numbers = without_memory(|| it.layout_statistics(handles[at])).unwrap();
         of(
             numbers.kept,
@@ -115,17 +115,17 @@ fn numbers_of_layouts() {
             numbers.pool_sets_free,
         )
     };
-    let sets = it.create_sets(handles[0], 70).unwrap();
+    let sets = it.allocate_many(handles[0], 70).unwrap();
     // SAFETY: no frame is in flight.
-    unsafe { it.free_sets(&sets[..3]) }.unwrap();
+    unsafe { it.free(&sets[..3]) }.unwrap();
     // The first two layouts share a pool of 128 sets.
     assert_eq!(read(&it, 0), of(3, 1, 70, 58));
     assert_eq!(read(&it, 1), of(0, 1, 70, 58));
     assert_eq!(read(&it, 2), of(0, 0, 0, 0));
-    let more = it.create_sets(handles[1], 60).unwrap();
+    let more = it.allocate_many(handles[1], 60).unwrap();
     assert_eq!(read(&it, 0), of(3, 2, 130, 126));
     // SAFETY: as above.
-    unsafe { it.free_sets(&more) }.unwrap();
+    unsafe { it.free(&more) }.unwrap();
     assert_eq!(it.statistics().layouts, 3);
     it.remove_layout(handles[0]).unwrap();
     assert_eq!(it.layout_statistics(handles[0]), None);
@@ -180,7 +180,7 @@ fn all_kinds() -> SetLayout<u32> {
 const ALL: &str = "{\"version\": \"0.1.0\", \"outstanding\": 6, \"waiting\": 2, \"kept\": 3, \"pools\": 1, \
     \"pool_sets\": 64, \"pool_descriptors\": 6720, \"peak_pools\": 1, \"peak_pool_sets\": 64, \
     \"peak_pool_descriptors\": 6720, \"update_after_bind_capacity\": 0, \
-    \"update_after_bind_limit\": 4294967295, \"most_pool_descriptors\": 65536, \"layouts\": [\
+    \"update_after_bind_limit\": 4294967295, \"max_pool_descriptors\": 65536, \"layouts\": [\
     {\"handle\": \"0xfffffffffffffff9\", \"update_after_bind\": false, \"kept\": 3, \"pools\": 1, \
     \"pool_sets_used\": 9, \"pool_sets_free\": 55, \"descriptors\": \
     {\"sampler\": 1, \"combined_image_sampler\": 2, \"sampled_image\": 3, \"storage_image\": 4, \
@@ -192,7 +192,7 @@ const ALL: &str = "{\"version\": \"0.1.0\", \"outstanding\": 6, \"waiting\": 2, 
 const NONE: &str = "{\"version\": \"0.1.0\", \"outstanding\": 0, \"waiting\": 0, \"kept\": 0, \"pools\": 0, \
     \"pool_sets\": 0, \"pool_descriptors\": 0, \"peak_pools\": 1, \"peak_pool_sets\": 64, \
     \"peak_pool_descriptors\": 6720, \"update_after_bind_capacity\": 0, \
-    \"update_after_bind_limit\": 4294967295, \"most_pool_descriptors\": null, \"layouts\": [\
+    \"update_after_bind_limit\": 4294967295, \"max_pool_descriptors\": null, \"layouts\": [\
     {\"handle\": \"0xfffffffffffffff2\", \"update_after_bind\": true, \"kept\": 0, \"pools\": 0, \
     \"pool_sets_used\": 0, \"pool_sets_free\": 0, \"descriptors\": {\"sampler\": 5}}, \
     {\"handle\": \"0xfffffffffffffff0\", \"update_after_bind\": false, \"kept\": 0, \"pools\": 0, \
@@ -234,20 +234,20 @@ fn expect_text(wanted: &str, write: impl Fn(&mut Fails) -> fmt::Result) {
 }
 
 #[test]
-fn json_of_a_renderer() {
+fn json_of_a_set_manager() {
     let gpu = Gpu::new();
-    let mut it = Renderer::new(&gpu, u32::MAX);
+    let mut it = SetManager::new(&gpu, u32::MAX);
     let handle_of = |layout: &u32| u64::MAX - 15 + u64::from(*layout);
     let all = add(&mut it, all_kinds());
-    let sets = it.create_sets(all, 9).unwrap();
+    let sets = it.allocate_many(all, 9).unwrap();
     // SAFETY: no frame is in flight.
-    unsafe { it.free_sets(&sets[..3]) }.unwrap();
-    it.destroy_sets(&sets[3..5], 0).unwrap();
+    unsafe { it.free(&sets[..3]) }.unwrap();
+    it.free_after(&sets[3..5], 0).unwrap();
     expect_text(ALL, |text| it.write_statistics(text, handle_of));
     // SAFETY: as above.
     unsafe { it.free_all() };
     it.cleanup();
-    it.set_most_pool_descriptors(None);
+    it.set_max_pool_descriptors(None);
     it.remove_layout(all).unwrap();
     let _ = [2, 0].map(|number| add(&mut it, layout(number)));
     expect_text(NONE, |text| it.write_statistics(text, handle_of));

@@ -6,7 +6,7 @@ mod gpu;
 
 use gpu::{AS_TOLD, Gpu, Set, layout};
 use gpu_descriptor::frames::FrameManager;
-use gpu_descriptor::renderer::{LayoutHandle, Renderer, SetHandle};
+use gpu_descriptor::manager::{LayoutHandle, SetHandle, SetManager};
 use gpu_descriptor::*;
 use std::panic::{AssertUnwindSafe, catch_unwind};
 
@@ -19,9 +19,9 @@ fn panic_of(run: impl FnOnce()) -> String {
     }
 }
 
-/// A renderer that is shut down at a drop, as programs do it.
+/// A set manager that is shut down at a drop, as programs do it.
 struct App<'a> {
-    renderer: Option<Renderer<u32, usize, Set, &'a Gpu>>,
+    manager: Option<SetManager<u32, usize, Set, &'a Gpu>>,
     layout: LayoutHandle,
     held: Vec<SetHandle>,
 }
@@ -29,33 +29,33 @@ struct App<'a> {
 impl<'a> App<'a> {
     /// Four sets are held, and one is drawn.
     fn new(gpu: &'a Gpu) -> Self {
-        let mut it = Renderer::new(gpu, 0);
+        let mut it = SetManager::new(gpu, 0);
         // SAFETY: the device knows no layouts.
         let layout = unsafe { it.add_layout(layout(0)) }.unwrap();
-        let held = it.create_sets(layout, 4).unwrap();
+        let held = it.allocate_many(layout, 4).unwrap();
         it.begin_frame().unwrap();
-        let _drawn = it.draw(layout).unwrap();
+        let _drawn = it.allocate_for_frame(layout).unwrap();
         App {
-            renderer: Some(it),
+            manager: Some(it),
             layout,
             held,
         }
     }
 
-    fn renderer(&mut self) -> &mut Renderer<u32, usize, Set, &'a Gpu> {
-        self.renderer.as_mut().unwrap()
+    fn manager(&mut self) -> &mut SetManager<u32, usize, Set, &'a Gpu> {
+        self.manager.as_mut().unwrap()
     }
 }
 
 impl Drop for App<'_> {
     fn drop(&mut self) {
-        let mut it = self.renderer.take().unwrap();
+        let mut it = self.manager.take().unwrap();
         it.end_frame();
-        it.destroy_set(self.held[0], 1).unwrap();
-        it.destroy_sets(&self.held[1..2], 1).unwrap();
+        it.free_after(&[self.held[0]], 1).unwrap();
+        it.free_after(&self.held[1..2], 1).unwrap();
         // SAFETY: the device isn't in use, here and below.
-        unsafe { it.free_sets(&self.held[2..3]) }.unwrap();
-        unsafe { it.gpu_done(1) };
+        unsafe { it.free(&self.held[2..3]) }.unwrap();
+        unsafe { it.frame_done(1) };
         it.cleanup();
         unsafe { it.free_all() };
         let _gpu = unsafe { it.shutdown() };
@@ -64,20 +64,20 @@ impl Drop for App<'_> {
 
 /// Nothing more is asked of a device that panicked.
 #[test]
-fn a_renderer_after_a_panic_of_its_device() {
+fn a_set_manager_after_a_panic_of_its_device() {
     let gpu = Gpu::new();
     let why = panic_of(|| {
         let mut app = App::new(&gpu);
         gpu.faulty.set(gpu.calls.get());
         let layout = app.layout;
-        let _drawn = app.renderer().draw(layout);
+        let _drawn = app.manager().allocate_for_frame(layout);
     });
     assert_eq!((why.as_str(), gpu.releases.get()), (AS_TOLD, 0));
     let gpu = Gpu::new();
     let why = panic_of(|| {
         let mut app = App::new(&gpu);
         gpu.panics_at_release.set(true);
-        unsafe { app.renderer().free_all() };
+        unsafe { app.manager().free_all() };
     });
     assert_eq!((why.as_str(), gpu.releases.get()), (AS_TOLD, 1));
 }
@@ -89,25 +89,25 @@ fn a_frame_after_a_panic_of_the_device() {
 
     impl Drop for Frame<'_, '_> {
         fn drop(&mut self) {
-            self.0.renderer().end_frame();
+            self.0.manager().end_frame();
         }
     }
 
     let gpu = Gpu::new();
     let mut app = App::new(&gpu);
-    app.renderer().end_frame();
+    app.manager().end_frame();
     let why = panic_of(|| {
-        app.renderer().begin_frame().unwrap();
+        app.manager().begin_frame().unwrap();
         let frame = Frame(&mut app);
         gpu.faulty.set(gpu.calls.get());
         let layout = frame.0.layout;
-        let _drawn = frame.0.renderer().draw(layout);
+        let _drawn = frame.0.manager().allocate_for_frame(layout);
     });
     assert_eq!(why, AS_TOLD);
-    // The thread doesn't unwind any more: the renderer's calls panic, and the device can be taken.
-    let renderer = app.renderer.take().unwrap();
-    assert!(renderer.is_poisoned());
-    renderer.into_device();
+    // The thread doesn't unwind any more: the set manager's calls panic, and the device can be taken.
+    let manager = app.manager.take().unwrap();
+    assert!(manager.is_poisoned());
+    manager.into_device();
     std::mem::forget(app);
 }
 

@@ -439,7 +439,7 @@ fn answer_before_the_next_line() {
 // ---- how many read calls a run makes ----
 
 /// The most read calls that a run may make.
-const MOST_CALLS: u64 = 100_000_000;
+const MAX_CALLS: u64 = 100_000_000;
 
 /// Gives long comments, a byte a call, without an end.
 struct Endless(u64);
@@ -477,13 +477,13 @@ fn line_without_an_end() {
 fn as_many_calls_as_may_be() {
     let (mut input, mut output) = (Endless(0), Sink::new());
     assert_eq!(run(&mut input, &mut output), Exit::ReadFault);
-    assert_eq!((input.0, output.text.len()), (MOST_CALLS, 0));
+    assert_eq!((input.0, output.text.len()), (MAX_CALLS, 0));
 }
 
 /// Calls count, and not bytes.
 #[test]
 fn more_bytes_than_calls() {
-    let (mut input, mut output) = (EmptyLines(MOST_CALLS + 1), Sink::new());
+    let (mut input, mut output) = (EmptyLines(MAX_CALLS + 1), Sink::new());
     assert_eq!(run(&mut input, &mut output), Exit::Done);
     assert_eq!((input.0, output.text.len()), (0, 0));
 }

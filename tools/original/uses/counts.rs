@@ -6,7 +6,7 @@ use std::panic::{UnwindSafe, catch_unwind};
 use std::process::ExitCode;
 
 /// The first faults say enough.
-const MOST_FAULTS: u64 = 9;
+const MAX_FAULTS: u64 = 9;
 
 /// So many programs meet each refusal.
 const MANY_PROGRAMS: u64 = 1000;
@@ -33,7 +33,7 @@ impl Counts {
 
     pub fn fail(&mut self, why: &str) {
         self.failed += 1;
-        if self.failed <= MOST_FAULTS {
+        if self.failed <= MAX_FAULTS {
             println!("FAILED: {why}");
         }
     }

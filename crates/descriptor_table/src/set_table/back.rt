@@ -65,7 +65,7 @@ impl<T> SetTable<T> {
         let slot = self.slots.at(place);
         match slot.used() {
             Use::Taken => slot.set.is_some(),
-            Use::Held | Use::Drawn(_) | Use::Waits(_) | Use::Kept | Use::Going | Use::Vacant =>
+            Use::Held | Use::InFrame(_) | Use::Waits(_) | Use::Kept | Use::Going | Use::Vacant =>
                 false,
         }
     }
@@ -130,7 +130,7 @@ impl<T> SetTable<T> {
         let slot = self.slots.at(place);
         match slot.used() {
             Use::Kept => slot.layout as usize + KEPT,
-            Use::Held | Use::Drawn(_) | Use::Waits(_) | Use::Going | Use::Taken | Use::Vacant =>
+            Use::Held | Use::InFrame(_) | Use::Waits(_) | Use::Going | Use::Taken | Use::Vacant =>
                 GOING,
         }
     }
@@ -180,7 +180,7 @@ impl<T> SetTable<T> {
                     return;
                 }
             }
-            Use::Drawn(_) | Use::Waits(_) | Use::Kept | Use::Going | Use::Taken | Use::Vacant =>
+            Use::InFrame(_) | Use::Waits(_) | Use::Kept | Use::Going | Use::Taken | Use::Vacant =>
                 return,
         }
         self.assign(place, Use::Taken);
@@ -198,24 +198,24 @@ impl<T> SetTable<T> {
 
     /// Takes a kept set of a list, if more than so many are kept.
     #[inline]
-    fn pick_above(&mut self, list: usize, most: u32) -> Option<usize>
-        ensures { Changes (PicksAbove list most result) self.old self.new }
+    fn pick_above(&mut self, list: usize, max: u32) -> Option<usize>
+        ensures { Changes (PicksAbove list max result) self.old self.new }
     {
-        if self.chain(list).count <= most {
+        if self.chain(list).count <= max {
             return None;
         }
         self.pick(list)
     }
 
     /// Lets kept sets of a list go, until no more than so many are left.
-    fn trim_list(&mut self, list: usize, most: u32)
+    fn trim_list(&mut self, list: usize, max: u32)
         requires list { 2 ≤ list }
         requires within { list < lists_of self.old }
         ensures turns { Changes (Turns (is_in list) (MayBecome (used_for Use.Going))) self.old self.new }
-        ensures few { count (is_in list) (slots_of self.new) ≤ most }
-        ensures as_many { KeepsUpTo most (is_in list) (slots_of self.old) (slots_of self.new) }
+        ensures few { count (is_in list) (slots_of self.new) ≤ max }
+        ensures as_many { KeepsUpTo max (is_in list) (slots_of self.old) (slots_of self.new) }
     {
-        while let Some(place) = self.pick_above(list, most) {
+        while let Some(place) = self.pick_above(list, max) {
             self.link(GOING, place, Use::Going);
         }
     }
@@ -231,14 +231,14 @@ impl<T> SetTable<T> {
     }
 
     /// Lets kept sets go, until no more than so many of each layout are left.
-    pub fn trim(&mut self, most: u32)
+    pub fn trim(&mut self, max: u32)
         ensures turns { Changes (Turns is_kept (MayBecome (used_for Use.Going))) self.old self.new }
-        ensures few { (layout : ℕ) → count (is_kept_of layout) (slots_of self.new) ≤ most }
-        ensures as_many { (layout : ℕ) → KeepsUpTo most (is_kept_of layout) (slots_of self.old)
+        ensures few { (layout : ℕ) → count (is_kept_of layout) (slots_of self.new) ≤ max }
+        ensures as_many { (layout : ℕ) → KeepsUpTo max (is_kept_of layout) (slots_of self.old)
             (slots_of self.new) }
     {
         for list in KEPT..self.lists.len() {
-            self.trim_list(list, most);
+            self.trim_list(list, max);
         }
     }
 }

@@ -25,11 +25,11 @@ impl<T> SetTable<T> {
     }
 
     /// Keeps at most so many sets of a layout from now on. No more than that are kept when it is called.
-    pub fn set_keep(&mut self, most: u32)
-        requires { (k : ℕ) → 2 ≤ k → (chain_at (chains_in self.old.lists.items) k).count ≤ most }
-        ensures { OnlySettings (record (settings_of self.old) { keep = most }) self.old self.new }
+    pub fn set_max_kept(&mut self, max: u32)
+        requires { (k : ℕ) → 2 ≤ k → (chain_at (chains_in self.old.lists.items) k).count ≤ max }
+        ensures { OnlySettings (record (settings_of self.old) { keep = max }) self.old self.new }
     {
-        self.keep = most;
+        self.keep = max;
     }
 
     /// How many sets are kept. It goes over the layouts.

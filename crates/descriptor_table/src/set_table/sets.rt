@@ -63,7 +63,7 @@ impl<T> SetTable<T> {
         ensures { Changes (Renews (number_of self.old) place used result) self.old self.new }
     {
         SetHandle {
-            renderer: self.number,
+            manager: self.number,
             place: place as u32,
             generation: self.slots.renew(place, used),
         }
@@ -90,14 +90,14 @@ impl<T> SetTable<T> {
 
     /// The set at a place, which a call has, is one of a frame from now on.
     #[inline]
-    pub fn draw(&mut self, place: usize, frame: u64) -> SetHandle
+    pub fn hold_for_frame(&mut self, place: usize, frame: u64) -> SetHandle
         requires taken { HasTaken place (slots_of self.old) }
         requires next { (slot_at (slots_of self.old) place).generation < 4294967295 }
-        ensures { Changes (Renews (number_of self.old) place (Use.Drawn frame) result)
+        ensures { Changes (Renews (number_of self.old) place (Use.InFrame frame) result)
             self.old self.new }
     {
         let handle = self.renew(place, Use::Taken);
-        self.wait(place, frame, Use::Drawn(frame));
+        self.wait(place, frame, Use::InFrame(frame));
         handle
     }
 

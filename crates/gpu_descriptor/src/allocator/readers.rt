@@ -45,7 +45,7 @@ impl<P, S> DescriptorAllocator<P, S> {
 
     /// How many descriptors a new pool has at most, unless what is wanting needs more; `None` where
     /// that isn't bounded.
-    pub fn most_pool_descriptors(&self) -> Option<u64>
+    pub fn max_pool_descriptors(&self) -> Option<u64>
         ensures most { result ≡ self.now.most }
     {
         self.budget.most

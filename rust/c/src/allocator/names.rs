@@ -1,7 +1,7 @@
-//! The names of sets and layouts in C: how a handle of the renderer is in a `gd_set` and in a `gd_layout`.
+//! The names of sets and layouts in C: how a handle of the set manager is in a `gd_set` and in a `gd_layout`.
 
 use crate::abi::GdSet;
-use crate::descriptor_renderer::{LayoutHandle, SetHandle};
+use crate::descriptor_manager::{LayoutHandle, SetHandle};
 use crate::descriptor_table::SetName;
 use crate::gpu_descriptor::DescriptorSet;
 use core::mem::MaybeUninit;
@@ -17,13 +17,13 @@ pub fn name_of(handle: SetHandle) -> u64 {
 #[inline]
 fn handle_of(id: u64, name: u64) -> SetHandle {
     SetHandle {
-        renderer: id,
+        manager: id,
         place: name as u32,
         generation: (name >> 32) as u32,
     }
 }
 
-/// The renderer's handle of a layout with this name.
+/// The set manager's handle of a layout with this name.
 #[inline]
 pub fn layout_of(owner: u64, name: u64) -> LayoutHandle {
     let slot = handle_of(owner, name);
@@ -37,7 +37,7 @@ fn seal(handle: u64, name: u64) -> u64 {
     handle.wrapping_mul(0x9e37_79b9_7f4a_7c15) ^ name.wrapping_mul(0xc2b2_ae3d_27d4_eb4f)
 }
 
-/// A set of which one field was changed has the handle of another renderer, and so names no set. One of which
+/// A set of which one field was changed has the handle of another set manager, and so names no set. One of which
 /// several were has that but for a chance of 2^-64.
 impl SetName<DescriptorSet<u64>> for GdSet {
     #[inline]
@@ -51,7 +51,7 @@ impl SetName<DescriptorSet<u64>> for GdSet {
         GdSet {
             handle: raw,
             name,
-            owner: handle.renderer ^ seal(raw, name),
+            owner: handle.manager ^ seal(raw, name),
         }
     }
 }

@@ -2,7 +2,7 @@
 
 use super::{Allocator, layout_of};
 use crate::abi::{GdLayout, GdLayoutStatistics, GdStatistics, GdStatus};
-use crate::descriptor_renderer::LayoutHandle;
+use crate::descriptor_manager::LayoutHandle;
 use crate::statistics::{self, LayoutStatistics, Statistics};
 use core::fmt::{self, Write};
 
@@ -14,35 +14,35 @@ impl Allocator {
 
     fn numbers(&self) -> Statistics {
         let layouts = self.layouts().count() as u64;
-        statistics::of_renderer(&self.renderer, &self.renderer.device().pools, layouts)
+        statistics::of_set_manager(&self.manager, &self.manager.device().pools, layouts)
     }
 
     pub fn statistics(&self) -> GdStatistics {
         self.numbers().into()
     }
 
-    /// The renderer's handle of a layout, if it is one of this allocator.
+    /// The set manager's handle of a layout, if it is one of this allocator.
     fn known_handle(&self, layout: GdLayout) -> Result<LayoutHandle, GdStatus> {
         let handle = layout_of(layout.owner, layout.index);
-        let known = self.renderer.layout(handle);
+        let known = self.manager.layout(handle);
         known.map(|_| handle).ok_or(GdStatus::BAD_LAYOUT)
     }
 
     /// How many sets of a layout are kept.
     pub fn kept(&self, layout: GdLayout) -> Result<u64, GdStatus> {
         let handle = self.known_handle(layout)?;
-        Ok(self.renderer.kept_count(handle).into())
+        Ok(self.manager.kept_count(handle).into())
     }
 
     pub fn layout_statistics(&self, layout: GdLayout) -> Result<GdLayoutStatistics, GdStatus> {
         let handle = self.known_handle(layout)?;
-        Ok(statistics::of_layout(&self.renderer, handle).into())
+        Ok(statistics::of_layout(&self.manager, handle).into())
     }
 
     /// Writes the numbers as JSON.
     pub fn write_statistics(&self, text: &mut impl Write) -> fmt::Result {
-        let (renderer, numbers) = (&self.renderer, self.numbers());
-        statistics::write_renderer(text, renderer, &numbers, self.layouts(), |it| it.handle)
+        let (manager, numbers) = (&self.manager, self.numbers());
+        statistics::write_set_manager(text, manager, &numbers, self.layouts(), |it| it.handle)
     }
 }
 
@@ -59,7 +59,7 @@ impl From<Statistics> for GdStatistics {
             peak_pools: it.peak_pools,
             peak_pool_sets: it.peak_pool_sets,
             peak_pool_descriptors: it.peak_pool_descriptors,
-            most_pool_descriptors: it.most_pool_descriptors.unwrap_or(u64::MAX),
+            max_pool_descriptors: it.max_pool_descriptors.unwrap_or(u64::MAX),
             update_after_bind_capacity: it.update_after_bind_capacity.into(),
             update_after_bind_limit: it.update_after_bind_limit.into(),
         }

@@ -224,7 +224,7 @@ try_linking() {
   step "a header with another ABI$of" meets "$prefix" 30 's/^#define GD_ABI .*/#define GD_ABI 255u/'
   step "a header with one more kind$of" meets "$prefix" 30 's/GD_KINDS .. 14 ../GD_LATER, GD_KINDS/'
   step "a header with larger sets$of" meets "$prefix" 30 's/^    uint64_t owner;$/    uint64_t owner, later;/'
-  step "a header with one more function of the device$of" meets "$prefix" 30 's/^    gd_free_sets free_sets;/&void (*later)(void);/'
+  step "a header with one more function of the device$of" meets "$prefix" 30 's/^    gd_free_sets_fn free_sets;/&void (*later)(void);/'
   step "beside another library of Rust's$of" beside_another "$prefix"
   step "inside of a shared object$of" inside_another "$prefix"
   step "inside of one in C++$of" inside_in_cpp "$prefix"

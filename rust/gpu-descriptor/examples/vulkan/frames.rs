@@ -108,7 +108,7 @@ pub fn run(gpu: &Gpu, device: &Device, layouts: &[Layout]) {
     let sampler = create_sampler(gpu);
     let mut frames = VecDeque::new();
     for frame in 0..FRAMES {
-        // Here a renderer waits for the fence of the oldest frame.
+        // Here a set manager waits for the fence of the oldest frame.
         if frames.len() == IN_FLIGHT {
             let sets: Vec<Set> = frames.pop_front().unwrap();
             // SAFETY: the sets are this allocator's, and nothing reads them.

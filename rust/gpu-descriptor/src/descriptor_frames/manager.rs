@@ -55,17 +55,17 @@ impl<P, S> FrameManager<P, S> {
     }
 
     /// From now on a new pool has at most `most` descriptors, unless what is wanting needs more, as by
-    /// `DescriptorAllocator::set_most_pool_descriptors`.
-    pub fn set_most_pool_descriptors(&mut self, most: Option<u64>)
+    /// `DescriptorAllocator::set_max_pool_descriptors`.
+    pub fn set_max_pool_descriptors(&mut self, most: Option<u64>)
     {
-        self.allocator.set_most_pool_descriptors(most);
+        self.allocator.set_max_pool_descriptors(most);
     }
 
     /// How many descriptors a new pool has at most, unless what is wanting needs more; `None` if none
     /// is bounded.
-    pub fn most_pool_descriptors(&self) -> Option<u64>
+    pub fn max_pool_descriptors(&self) -> Option<u64>
     {
-        self.allocator.most_pool_descriptors()
+        self.allocator.max_pool_descriptors()
     }
 
     /// The allocator.

@@ -8,7 +8,7 @@ pub enum Use {
     Held,
 
     /// It has a handle until this frame ends, and waits for the frame.
-    Drawn(u64),
+    InFrame(u64),
 
     /// It waits for this frame.
     Waits(u64),
@@ -30,7 +30,7 @@ pub enum Use {
 #[derive(Clone, Copy)]
 pub enum State {
     Held,
-    Drawn,
+    InFrame,
     Waits,
     Kept,
     Going,
@@ -45,7 +45,7 @@ impl Use {
     {
         match self {
             Use::Held => State::Held,
-            Use::Drawn(_) => State::Drawn,
+            Use::InFrame(_) => State::InFrame,
             Use::Waits(_) => State::Waits,
             Use::Kept => State::Kept,
             Use::Going => State::Going,
@@ -59,7 +59,7 @@ impl Use {
     pub(crate) fn frame(self) -> u64
     {
         match self {
-            Use::Drawn(frame) | Use::Waits(frame) => frame,
+            Use::InFrame(frame) | Use::Waits(frame) => frame,
             Use::Held | Use::Kept | Use::Going | Use::Taken | Use::Vacant => 0,
         }
     }
@@ -70,7 +70,7 @@ impl Use {
     {
         match self {
             Use::Held => true,
-            Use::Drawn(drawn) => is_open && drawn == frame,
+            Use::InFrame(drawn) => is_open && drawn == frame,
             Use::Waits(_) | Use::Kept | Use::Going | Use::Taken | Use::Vacant => false,
         }
     }

@@ -50,7 +50,7 @@ impl<T> Entry<T> {
     {
         match self.state {
             State::Held => Use::Held,
-            State::Drawn => Use::Drawn(self.frame),
+            State::InFrame => Use::InFrame(self.frame),
             State::Waits => Use::Waits(self.frame),
             State::Kept => Use::Kept,
             State::Going => Use::Going,
@@ -64,7 +64,7 @@ impl<T> Entry<T> {
     fn set_use(&mut self, used: Use)
     {
         match used {
-            Use::Drawn(frame) | Use::Waits(frame) => self.frame = frame,
+            Use::InFrame(frame) | Use::Waits(frame) => self.frame = frame,
             Use::Held | Use::Kept | Use::Going | Use::Taken | Use::Vacant => {}
         }
         self.state = used.state();

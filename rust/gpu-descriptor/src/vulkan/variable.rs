@@ -11,7 +11,7 @@ use crate::{
 /// A layout, and for one with a binding of a variable count how many descriptors that has in each set.
 ///
 /// For [`count_bindings`](super::count_bindings) the binding has this count. A layout with several counts is as
-/// many layouts for an allocator, a manager and a renderer: each has its own pools, and its sets are kept for it
+/// many layouts for an allocator, a manager and a manager: each has its own pools, and its sets are kept for it
 /// alone.
 #[derive(Clone, Copy, Debug, Default, PartialEq, Eq, PartialOrd, Ord, Hash)]
 pub struct VariableLayout {
@@ -37,11 +37,11 @@ impl From<DescriptorSetLayout> for VariableLayout {
 /// `VK_EXT_descriptor_indexing` for those that have one.
 ///
 /// ```
-/// # use gpu_descriptor::renderer::{AddLayoutError, LayoutHandle, Renderer};
+/// # use gpu_descriptor::manager::{AddLayoutError, LayoutHandle, SetManager};
 /// # use gpu_descriptor::vulkan::{count_bindings, DescriptorPool, DescriptorSet, DescriptorSetLayout};
 /// # use gpu_descriptor::vulkan::{DescriptorType, VariableDevice, VariableLayout};
 /// # use gpu_descriptor::{DescriptorSetLayoutCreateFlags, SetLayout};
-/// # fn add(renderer: &mut Renderer<VariableLayout, DescriptorPool, DescriptorSet, VariableDevice>,
+/// # fn add(manager: &mut SetManager<VariableLayout, DescriptorPool, DescriptorSet, VariableDevice>,
 /// #        layout: DescriptorSetLayout) -> Result<LayoutHandle, Box<dyn std::error::Error>> {
 /// let textures = 1000; // of at most as many as the layout's binding has
 /// let counts = count_bindings([
@@ -50,7 +50,7 @@ impl From<DescriptorSetLayout> for VariableLayout {
 /// ])?;
 /// let layout = VariableLayout { layout, variable_count: Some(textures) };
 /// let flags = DescriptorSetLayoutCreateFlags::UPDATE_AFTER_BIND;
-/// let known = unsafe { renderer.add_layout(SetLayout { layout, counts, flags }) }?;
+/// let known = unsafe { manager.add_layout(SetLayout { layout, counts, flags }) }?;
 /// # Ok(known)
 /// # }
 /// ```

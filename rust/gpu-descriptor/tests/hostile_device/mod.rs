@@ -109,7 +109,7 @@ impl Device {
     }
 }
 
-const MOST_POOLS: usize = 10;
+const MAX_POOLS: usize = 10;
 
 /// What it panics with.
 pub const PANICKED: &str = "as the test wants it";
@@ -124,7 +124,7 @@ impl DescriptorDevice<String, u64, Set> for Device {
         self.call(Fault::PanicsAtCreate);
         let pool = self.number();
         self.pools.borrow_mut().insert(pool);
-        assert!(self.pools.borrow().len() < MOST_POOLS, "no test needs more");
+        assert!(self.pools.borrow().len() < MAX_POOLS, "no test needs more");
         Ok(pool)
     }
 

@@ -1,7 +1,7 @@
 //! What each `VkResult` becomes.
 
 use crate::driver::{Call, Driver, layouts};
-use gpu_descriptor::renderer::{RenderError, Renderer};
+use gpu_descriptor::manager::{RequestError, SetManager};
 use gpu_descriptor::vulkan::{DescriptorPool, DescriptorSet, DescriptorSetLayout};
 use gpu_descriptor::*;
 
@@ -118,22 +118,22 @@ fn request(driver: &Driver) -> AllocationError {
 #[test]
 fn a_lost_device() {
     let driver = Driver::new();
-    let mut renderer = Renderer::new(driver.device(), 0);
-    let layout = unsafe { renderer.add_layout(layout()) }.unwrap();
-    let held = renderer.create_set(layout).unwrap();
-    assert!(!renderer.device().is_lost());
+    let mut manager = SetManager::new(driver.device(), 0);
+    let layout = unsafe { manager.add_layout(layout()) }.unwrap();
+    let held = manager.allocate(layout).unwrap();
+    assert!(!manager.device().is_lost());
 
     driver.allocate_result.set(-4);
     driver.create_result.set(-4);
-    let refused = Err(RenderError::Allocation(AllocationError::OutOfHostMemory));
-    assert_eq!(renderer.create_set(layout), refused);
-    assert!(renderer.device().is_lost());
+    let refused = Err(RequestError::Allocation(AllocationError::OutOfHostMemory));
+    assert_eq!(manager.allocate(layout), refused);
+    assert!(manager.device().is_lost());
 
     driver.allocate_result.set(0);
     driver.create_result.set(0);
-    unsafe { renderer.free_sets(&[held]) }.unwrap();
+    unsafe { manager.free(&[held]) }.unwrap();
     // SAFETY: no set is in use.
-    let device = unsafe { renderer.shutdown() };
+    let device = unsafe { manager.shutdown() };
     assert!(device.is_lost());
     let calls = driver.take_calls();
     let is_destroyed = |it: &Call| matches!(it, Call::Destroy(..));

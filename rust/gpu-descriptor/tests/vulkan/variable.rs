@@ -1,7 +1,7 @@
 //! Layouts with a variable count: each set has its count, and no other layout has one.
 
 use crate::driver::{Call, Driver};
-use gpu_descriptor::renderer::{LayoutHandle, Renderer};
+use gpu_descriptor::manager::{LayoutHandle, SetManager};
 use gpu_descriptor::vulkan::{
     DescriptorPool, DescriptorSet, DescriptorSetLayout, DescriptorType, VariableDevice,
     VariableLayout, count_bindings,
@@ -10,10 +10,10 @@ use gpu_descriptor::*;
 
 const LAYOUT: DescriptorSetLayout = DescriptorSetLayout(7 << 33);
 
-type Owner = Renderer<VariableLayout, DescriptorPool, DescriptorSet, VariableDevice>;
+type Owner = SetManager<VariableLayout, DescriptorPool, DescriptorSet, VariableDevice>;
 
 /// A layout with a uniform buffer and so many images.
-fn add(renderer: &mut Owner, images: u32, variable_count: Option<u32>) -> LayoutHandle {
+fn add(manager: &mut Owner, images: u32, variable_count: Option<u32>) -> LayoutHandle {
     let counts = count_bindings([
         (DescriptorType::UNIFORM_BUFFER, 1),
         (DescriptorType::SAMPLED_IMAGE, images),
@@ -27,40 +27,40 @@ fn add(renderer: &mut Owner, images: u32, variable_count: Option<u32>) -> Layout
         flags: DescriptorSetLayoutCreateFlags::UPDATE_AFTER_BIND,
     };
     // SAFETY: the functions are the test's.
-    unsafe { renderer.add_layout(layout) }.unwrap()
+    unsafe { manager.add_layout(layout) }.unwrap()
 }
 
 #[test]
 fn sets_of_each_count() {
     let driver = Driver::new();
-    let mut renderer = Renderer::new(VariableDevice(driver.device()), 500_000);
-    let small = add(&mut renderer, 100, Some(100));
-    let large = add(&mut renderer, 60_000, Some(60_000));
-    let fixed = add(&mut renderer, 100, None);
-    let sets = renderer.create_sets(small, 40).unwrap();
+    let mut manager = SetManager::new(VariableDevice(driver.device()), 500_000);
+    let small = add(&mut manager, 100, Some(100));
+    let large = add(&mut manager, 60_000, Some(60_000));
+    let fixed = add(&mut manager, 100, None);
+    let sets = manager.allocate_many(small, 40).unwrap();
     assert_eq!(driver.variable_counts.take(), Some(vec![100; 40]));
     let [Call::Create(pool, _), Call::Allocate(_, layouts)] = &driver.take_calls()[..] else {
         panic!("a pool and a request");
     };
     assert_eq!(pool.sizes, [(2, 100 * pool.max_sets), (6, pool.max_sets)]);
     assert_eq!(layouts, &[LAYOUT.0; 40]);
-    let other = renderer.create_set(fixed).unwrap();
+    let other = manager.allocate(fixed).unwrap();
     assert_eq!(driver.variable_counts.take(), None);
     // Sets are kept for their count alone.
     // SAFETY: the device isn't in use.
-    unsafe { renderer.free_sets(&sets) }.unwrap();
+    unsafe { manager.free(&sets) }.unwrap();
     driver.take_calls();
-    let two = renderer.create_sets(large, 2).unwrap();
+    let two = manager.allocate_many(large, 2).unwrap();
     assert_eq!(driver.variable_counts.take(), Some(vec![60_000; 2]));
     assert_eq!(driver.take_calls().len(), 2);
-    let again = renderer.create_sets(small, 40).unwrap();
-    assert!(driver.take_calls().is_empty() && renderer.set(again[0]).is_some());
+    let again = manager.allocate_many(small, 40).unwrap();
+    assert!(driver.take_calls().is_empty() && manager.set(again[0]).is_some());
     for held in [&[other][..], &two, &again] {
         // SAFETY: as above.
-        unsafe { renderer.free_sets(held) }.unwrap();
+        unsafe { manager.free(held) }.unwrap();
     }
     // SAFETY: as above.
-    unsafe { renderer.shutdown() };
+    unsafe { manager.shutdown() };
 }
 
 /// A request of several layouts, which only a caller of the device makes.

@@ -1,6 +1,6 @@
 use Rattle.std.proofs.Common.{◌≡◌}
-use Rattle.descriptor_renderer.specs.Renderers.{pools_besides}
+use Rattle.descriptor_manager.specs.Managers.{pools_besides}
 use Rattle.descriptor_examples.proofs.game.play_frames.Given as goal
 
 abbrev pub invariant-loop-frame : goal.invariant-loop-frame
-invariant-loop-frame l = pools_besides l.renderer ≡ pools_besides l.initial.renderer
+invariant-loop-frame l = pools_besides l.manager ≡ pools_besides l.initial.manager

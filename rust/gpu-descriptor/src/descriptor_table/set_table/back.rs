@@ -44,7 +44,7 @@ impl<T> SetTable<T> {
         let slot = self.slots.at(place);
         match slot.used() {
             Use::Taken => slot.set.is_some(),
-            Use::Held | Use::Drawn(_) | Use::Waits(_) | Use::Kept | Use::Going | Use::Vacant =>
+            Use::Held | Use::InFrame(_) | Use::Waits(_) | Use::Kept | Use::Going | Use::Vacant =>
                 false,
         }
     }
@@ -90,7 +90,7 @@ impl<T> SetTable<T> {
         let slot = self.slots.at(place);
         match slot.used() {
             Use::Kept => slot.layout as usize + KEPT,
-            Use::Held | Use::Drawn(_) | Use::Waits(_) | Use::Going | Use::Taken | Use::Vacant =>
+            Use::Held | Use::InFrame(_) | Use::Waits(_) | Use::Going | Use::Taken | Use::Vacant =>
                 GOING,
         }
     }
@@ -132,7 +132,7 @@ impl<T> SetTable<T> {
                     return;
                 }
             }
-            Use::Drawn(_) | Use::Waits(_) | Use::Kept | Use::Going | Use::Taken | Use::Vacant =>
+            Use::InFrame(_) | Use::Waits(_) | Use::Kept | Use::Going | Use::Taken | Use::Vacant =>
                 return,
         }
         self.assign(place, Use::Taken);
@@ -149,18 +149,18 @@ impl<T> SetTable<T> {
 
     /// Takes a kept set of a list, if more than so many are kept.
     #[inline]
-    fn pick_above(&mut self, list: usize, most: u32) -> Option<usize>
+    fn pick_above(&mut self, list: usize, max: u32) -> Option<usize>
     {
-        if self.chain(list).count <= most {
+        if self.chain(list).count <= max {
             return None;
         }
         self.pick(list)
     }
 
     /// Lets kept sets of a list go, until no more than so many are left.
-    fn trim_list(&mut self, list: usize, most: u32)
+    fn trim_list(&mut self, list: usize, max: u32)
     {
-        while let Some(place) = self.pick_above(list, most) {
+        while let Some(place) = self.pick_above(list, max) {
             self.link(GOING, place, Use::Going);
         }
     }
@@ -172,10 +172,10 @@ impl<T> SetTable<T> {
     }
 
     /// Lets kept sets go, until no more than so many of each layout are left.
-    pub fn trim(&mut self, most: u32)
+    pub fn trim(&mut self, max: u32)
     {
         for list in KEPT..self.lists.len() {
-            self.trim_list(list, most);
+            self.trim_list(list, max);
         }
     }
 }

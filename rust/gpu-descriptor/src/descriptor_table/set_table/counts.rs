@@ -19,9 +19,9 @@ impl<T> SetTable<T> {
     }
 
     /// Keeps at most so many sets of a layout from now on. No more than that are kept when it is called.
-    pub fn set_keep(&mut self, most: u32)
+    pub fn set_max_kept(&mut self, max: u32)
     {
-        self.keep = most;
+        self.keep = max;
     }
 
     /// How many sets are kept. It goes over the layouts.

@@ -73,7 +73,7 @@ impl<T> SetTable<T> {
         head.chain.first = next;
         head.chain.count -= 1;
         Some(SetHandle {
-            renderer: self.number,
+            manager: self.number,
             place,
             generation,
         })

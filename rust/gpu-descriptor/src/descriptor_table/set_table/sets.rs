@@ -41,7 +41,7 @@ impl<T> SetTable<T> {
     fn renew(&mut self, place: usize, used: Use) -> SetHandle
     {
         SetHandle {
-            renderer: self.number,
+            manager: self.number,
             place: place as u32,
             generation: self.slots.renew(place, used),
         }
@@ -63,10 +63,10 @@ impl<T> SetTable<T> {
 
     /// The set at a place, which a call has, is one of a frame from now on.
     #[inline]
-    pub fn draw(&mut self, place: usize, frame: u64) -> SetHandle
+    pub fn hold_for_frame(&mut self, place: usize, frame: u64) -> SetHandle
     {
         let handle = self.renew(place, Use::Taken);
-        self.wait(place, frame, Use::Drawn(frame));
+        self.wait(place, frame, Use::InFrame(frame));
         handle
     }
 

@@ -18,7 +18,7 @@ impl<P, S> DescriptorAllocator<P, S> {
     /// refuses as fragmented or full is passed over. For the sets that are still wanting new pools are
     /// created. `new_pool_sets` says how many sets a new pool has; for a marked (update-after-bind)
     /// layout `cut_pool_sets` cuts this number to the room that the limit leaves. Then, for any layout,
-    /// `bounded_pool_sets` cuts it to the bound of `set_most_pool_descriptors`. A request for 0 sets
+    /// `bounded_pool_sets` cuts it to the bound of `set_max_pool_descriptors`. A request for 0 sets
     /// changes nothing and allocates nothing.
     ///
     /// If the request can't be met, a new pool that refused its sets is destroyed, and all sets that

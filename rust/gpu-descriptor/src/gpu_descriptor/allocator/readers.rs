@@ -35,7 +35,7 @@ impl<P, S> DescriptorAllocator<P, S> {
 
     /// How many descriptors a new pool has at most, unless what is wanting needs more; `None` where
     /// that isn't bounded.
-    pub fn most_pool_descriptors(&self) -> Option<u64>
+    pub fn max_pool_descriptors(&self) -> Option<u64>
     {
         self.budget.most
     }

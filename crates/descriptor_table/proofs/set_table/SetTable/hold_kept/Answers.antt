@@ -88,7 +88,7 @@ returns-clause-holds g c =
     let p = first g (goal.at.returns-clause-holds g c).Else-head-eq0 in (
       p.1,
       record {
-        is = (λ i. record { renderer = s.number; place = c.in_ok-head.head.now.chain.first; generation = c.renew-generation.ensures.generation i });
+        is = (λ i. record { manager = s.number; place = c.in_ok-head.head.now.chain.first; generation = c.renew-generation.ensures.generation i });
         slots = c.renew-generation.ensures.writes.slots;
       },
     )

@@ -19,7 +19,7 @@ loop-place-preserved g c =
     let inv = c.loop-place.invariant in
     let picks = c.in-Some.ensures.slots in
     let generations = generations_of c.args.self.now in
-    let most = c.args.self.now.keep in
+    let max = c.args.self.now.keep in
     let now = slots_of c.loop-place.self in
     let mid = slots_of c.pick_due.new.self in
     let new = slots_of c.settle.new.self in
@@ -28,12 +28,12 @@ loop-place-preserved g c =
     let out = due_not_listed c.args.frame (slot_at now p) picks.was in
     record {
       turning =
-          turn_step (is_due c.args.frame) (IsBack (used_for Going) generations most) (slots_of c.args.self.now) now new p
-          (used_for (next_use generations most mid p) (slot_at now p)) inv.turning picks.within picks.was
-          (settled_set generations most now mid new p picks.within out picks.slots is)
-          (settled_grows generations most now mid new p picks.within out picks.slots is)
-          (settled_not_due generations c.args.frame most now)
-          (settled_here generations most now mid new p picks.within out picks.slots is);
+          turn_step (is_due c.args.frame) (IsBack (used_for Going) generations max) (slots_of c.args.self.now) now new p
+          (used_for (next_use generations max mid p) (slot_at now p)) inv.turning picks.within picks.was
+          (settled_set generations max now mid new p picks.within out picks.slots is)
+          (settled_grows generations max now mid new p picks.within out picks.slots is)
+          (settled_not_due generations c.args.frame max now)
+          (settled_here generations max now mid new p picks.within out picks.slots is);
       stays = stays_more c.args.self.now c.loop-place.self c.settle.new.self inv.stays (stays_more c.loop-place.self c.pick_due.new.self c.settle.new.self c.in-Some.ensures.stays c.settle.ensures.changes.stays);
     }
 
@@ -41,16 +41,16 @@ pub loop-place-smaller : goal.loop-place-smaller
 loop-place-smaller g c =
     let picks = c.in-Some.ensures.slots in
     let generations = generations_of c.args.self.now in
-    let most = c.args.self.now.keep in
+    let max = c.args.self.now.keep in
     let now = slots_of c.loop-place.self in
     let mid = slots_of c.pick_due.new.self in
     let new = slots_of c.settle.new.self in
     let p = c.in-Some.place in
     let is = settled g (goal.at.loop-place-smaller g c).After-settle in
     let out = due_not_listed c.args.frame (slot_at now p) picks.was in
-    one_fewer (is_due c.args.frame) now new p (used_for (next_use generations most mid p) (slot_at now p)) picks.within
+    one_fewer (is_due c.args.frame) now new p (used_for (next_use generations max mid p) (slot_at now p)) picks.within
     picks.was
-    (settled_not_due generations c.args.frame most new (slot_at now p)
-    (used_for (next_use generations most mid p) (slot_at now p))
-    (settled_here generations most now mid new p picks.within out picks.slots is))
-    (settled_set generations most now mid new p picks.within out picks.slots is)
+    (settled_not_due generations c.args.frame max new (slot_at now p)
+    (used_for (next_use generations max mid p) (slot_at now p))
+    (settled_here generations max now mid new p picks.within out picks.slots is))
+    (settled_set generations max now mid new p picks.within out picks.slots is)

@@ -21,7 +21,7 @@ loop-list-preserved g c =
     record {
       turning = trim_more k two now new e.turns.slots old inv.turning;
       few = λ j two' lt. elim (same_or j k) [
-        | inl same ↦ subst (λ j. count (is_in j) new ≤ c.args.most) (sym same) e.few
+        | inl same ↦ subst (λ j. count (is_in j) new ≤ c.args.max) (sym same) e.few
         | inr ne ↦ (let a = trim_others k two now new e.turns.slots j two' ne in let b = inv.few j two' (omega arith) in omega arith)
       ];
       enough = λ j two' n le has. elim (same_or j k) [

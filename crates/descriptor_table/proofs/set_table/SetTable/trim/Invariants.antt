@@ -9,7 +9,7 @@ use Rattle.descriptor_table.proofs.set_table.SetTable.trim.Given as goal
 abbrev pub invariant-loop-list : goal.invariant-loop-list
 invariant-loop-list g l = record {
   turning : Turning is_kept (Becomes (used_for Going)) (slots_of l.fn.self) (slots_of l.self);
-  few : (k : ℕ) → 2 ≤ k → k < l.list → count (is_in k) (slots_of l.self) ≤ l.most;
-  enough : (k : ℕ) → 2 ≤ k → KeepsUpTo l.most (is_in k) (slots_of l.fn.self) (slots_of l.self);
+  few : (k : ℕ) → 2 ≤ k → k < l.list → count (is_in k) (slots_of l.self) ≤ l.max;
+  enough : (k : ℕ) → 2 ≤ k → KeepsUpTo l.max (is_in k) (slots_of l.fn.self) (slots_of l.self);
   stays : Stays l.fn.self l.self;
 }

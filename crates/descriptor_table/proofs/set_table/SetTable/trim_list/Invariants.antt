@@ -8,7 +8,7 @@ use Rattle.descriptor_table.proofs.set_table.SetTable.trim_list.Given as goal
 abbrev pub invariant-loop-place : goal.invariant-loop-place
 invariant-loop-place g l = record {
   turning : Turning (is_in l.list) (Becomes (used_for Going)) (slots_of l.fn.self) (slots_of l.self);
-  enough : KeepsUpTo l.most (is_in l.list) (slots_of l.fn.self) (slots_of l.self);
+  enough : KeepsUpTo l.max (is_in l.list) (slots_of l.fn.self) (slots_of l.self);
   stays : Stays l.fn.self l.self;
 }
 

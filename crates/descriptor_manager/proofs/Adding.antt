@@ -1,0 +1,80 @@
+-- A layout that comes into a slot and has a handle, and one that leaves: for `LayoutRegistry::add` and `remove`.
+use Rattle.std.proofs.lemmas.Grind.{common_steps}
+use Rattle.std.proofs.Common.{◌≡◌, ◌≢◌, ℕ, ◌+◌, ◌<◌, ◌⊎◌, Bool, true, false, List, [], ◌∷◌, set, slice_index_or, if◌then◌else◌, Option, None, Some, IsSome, inl, inr, refl, sym, ap, subst, ◌∙◌, arith}
+use Rattle.descriptor_table.specs.Sets.{AreHeldOnce, LoseNames, Names, is_held, sets_of}
+use Rattle.descriptor_table.specs.Slots.{is_live, slot_at}
+use Rattle.descriptor_table.specs.Tables.{Grows, Puts, Renews, place_at, renewed, vacated}
+use Rattle.descriptor_table.specs.declared.handle.SetHandle.{SetHandle}
+use Rattle.descriptor_table.specs.Slots.{Slot}
+use Rattle.descriptor_table.specs.declared.slot.Use.TheVariants.{Held}
+use Rattle.descriptor_table.proofs.Counting.{same_or}
+use Rattle.descriptor_table.proofs.Holding.{held_is}
+use Rattle.descriptor_table.proofs.Naming.{names_lost}
+use Rattle.descriptor_table.proofs.Listed.{other_slots, slot_set}
+use Rattle.descriptor_manager.proofs.Cleared.{same_clears}
+use Rattle.descriptor_manager.proofs.Growing.{grow_new}
+use Rattle.descriptor_manager.proofs.Handing.{named, new_fills}
+use Rattle.descriptor_manager.proofs.Owned.{same_some}
+
+one_more : (b c : Bool) (r g h : ℕ) → b ≡ false → c ≡ true → h ≡ g + 1 → g ≡ r + (if b then 1 else 0) → h ≡ r + (if c then 1 else 0)
+one_more x0 c r g h none some more was = grind (arith, common_steps)
+
+module _ {T : Type 0} (number p : ℕ) (x : T) (handle : SetHandle) (old mid new : List (Slot T)) (generations : ℕ → ℕ) (puts : Puts generations 0 x p old mid) (renews : Renews number p Held handle mid new) where
+  slot_here : slot_at new p ≡ renewed Held (slot_at mid p)
+  slot_here = ap (λ l. slot_at l p) renews.slots ∙ slot_set mid p (renewed Held (slot_at mid p)) puts.within
+
+  added_here : (slot_at new p).set ≡ Some x
+  added_here = ap (λ (s : Slot T). s.set) slot_here ∙ ap (λ (s : Slot T). s.set) puts.here
+
+  added_there : (n : ℕ) → n ≢ p → slot_at new n ≡ slot_at old n
+  added_there n ne = ap (λ l. slot_at l n) renews.slots ∙ other_slots mid p (renewed Held (slot_at mid p)) n ne ∙ puts.others n ne
+
+  -- no handle but the new one names something else
+  pub added_names : Names handle x (sets_of number 0 false old) (sets_of number 0 false new)
+  added_names =
+      let fills = new_fills (λ n y. y ≡ x) number generations 0 p Held handle x old mid new puts refl renews in
+      let is = named (λ n y. y ≡ x) number generations 0 p Held handle old new (record { mid = old; clears = λ q. same_clears (slot_at old q) (slot_at old q) refl; fills = fills }) in
+      let at : (slot_at new handle.place).set ≡ Some x = ap (λ (h : SetHandle). (slot_at new h.place).set) renews.is ∙ added_here in
+      subst (λ y. Names handle y (sets_of number 0 false old) (sets_of number 0 false new)) (same_some is.set x (sym is.here ∙ at)) (is.names 0 false refl)
+
+  -- each layout that is there was there before, or is the new one
+  pub added_only : (n : ℕ) (y : T) → (slot_at new n).set ≡ Some y → ((slot_at old n).set ≡ Some y) ⊎ (y ≡ x)
+  added_only n y is = elim (same_or n p) [
+    | inl e ↦ inr (same_some y x (sym is ∙ ap (λ q. (slot_at new q).set) e ∙ added_here))
+    | inr ne ↦ inl (ap (λ (s : Slot T). s.set) (sym (added_there n ne)) ∙ is)
+  ]
+
+  pub added_grows : Grows old new
+  added_grows = grow_new number generations 0 p x Held handle old mid new (λ s. refl) puts renews
+
+-- a layout that leaves its slot
+module _ {T : Type 0} (number : ℕ) (h : SetHandle) (old new : List (Slot T)) where
+  -- the list of the one handle has held sets, each once
+  only_held : is_held number old h ≡ true → AreHeldOnce number old (h ∷ [])
+  only_held held = record {
+    held = λ i d lt. at_first i d lt;
+    once = λ i j d lt less. absurd (omega arith);
+  }
+    where
+      at_first : (i : ℕ) (d : SetHandle) → i < 1 → is_held number old (slice_index_or (h ∷ []) i d) ≡ true
+      at_first x0 d lt = grind (arith, common_steps)
+
+  pub left_names : is_held number old h ≡ true → new ≡ set old h.place (vacated (slot_at old h.place)) → LoseNames (h ∷ []) (sets_of number 0 false old) (sets_of number 0 false new)
+  left_names held made =
+      let quiet : (i : ℕ) → i < 1 → _ = λ i lt. ap (λ (s : Slot T). is_live 0 false s.used) (here i lt) in
+      let generation : (i : ℕ) → i < 1 → _ = λ i lt. ap (λ (s : Slot T). s.generation) (here i lt) in
+      names_lost number 0 false (h ∷ []) old new (only_held held) quiet generation (λ p apart. ap (λ l. slot_at l p) made ∙ other_slots old h.place (vacated (slot_at old h.place)) p (λ e. apart 0 (omega arith) (sym e)))
+    where
+      here : (i : ℕ) → i < 1 → slot_at new (place_at (h ∷ []) i) ≡ vacated (slot_at old (place_at (h ∷ []) i))
+      here x0 lt = grind (arith, common_steps)
+
+  -- each layout that is left was there before
+  pub left_only : (r : Option T) → (IsSome r → is_held number old h ≡ true) → (IsSome r → new ≡ set old h.place (vacated (slot_at old h.place))) → (r ≡ None → new ≡ old) → (n : ℕ) (y : T) → (slot_at new n).set ≡ Some y → (slot_at old n).set ≡ Some y
+  left_only None held made none n y is = ap (λ l. (slot_at l n).set) (sym (none refl)) ∙ is
+  left_only (Some x) held made none n y is = elim (same_or n h.place) [
+    | inl e ↦ absurd (
+        let gone = ap (λ l. slot_at l h.place) (made refl) ∙ slot_set old h.place (vacated (slot_at old h.place)) (held_is number old h (held refl)).within in
+        let no : None ≡ Some y = sym (ap (λ (s : Slot T). s.set) gone) ∙ ap (λ q. (slot_at new q).set) (sym e) ∙ is in
+        cc)
+    | inr ne ↦ ap (λ (s : Slot T). s.set) (sym (ap (λ l. slot_at l n) (made refl) ∙ other_slots old h.place (vacated (slot_at old h.place)) n ne)) ∙ is
+  ]

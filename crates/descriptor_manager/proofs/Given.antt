@@ -1,0 +1,75 @@
+-- Sets that come into slots, or are taken out of a list.
+use Rattle.std.proofs.Common.{◌≡◌, ℕ, zero, suc, ◌+◌, Bool, true, IfSome, List, [], ◌∷◌, length, set, Option, None, Some, refl, ap, ◌∙◌, arith}
+use Rattle.gpu_descriptor_types.specs.declared.device.DescriptorDevice.{Ghosts}
+use Rattle.gpu_descriptor.specs.Caller.Sets.{item_of, items_of}
+use Rattle.gpu_descriptor.specs.Caller.States.{outstanding_of, state_of}
+use Rattle.gpu_descriptor.specs.Model.Agreement.{Item, count_of, outstanding}
+use Rattle.gpu_descriptor.specs.declared.set.DescriptorSet.{DescriptorSet}
+use Rattle.gpu_descriptor.proofs.callers.HeldSets.{count_parts}
+use Rattle.descriptor_table.specs.Sets.{joined, sets_in}
+use Rattle.descriptor_table.specs.Slots.{is_kept_of, slot_at}
+use Rattle.descriptor_table.specs.Tables.{Picks, PicksAny, Puts, Renews, renewed, used_for}
+use Rattle.descriptor_table.specs.declared.handle.SetHandle.{SetHandle}
+use Rattle.descriptor_table.specs.Slots.{Slot}
+use Rattle.descriptor_table.specs.declared.slot.Use.{Use}
+use Rattle.descriptor_table.specs.declared.slot.Use.TheVariants.{Held, Taken}
+use Rattle.descriptor_manager.specs.Stores.{coming_in, slots_in}
+use Rattle.descriptor_manager.specs.declared.store.Store.{Store}
+use Rattle.descriptor_table.proofs.Coming.{put_weigh}
+use Rattle.descriptor_table.proofs.Leaving.{tally, tally_length}
+
+module _ {S : Type 0} (name : S → ℕ) where
+  -- what an item weighs in a tally of sets: how often it is there
+  pub weight : Item → DescriptorSet S → ℕ
+  weight t x = count_of t (item_of name x ∷ [])
+
+  pub counts : (t : Item) (l : List (DescriptorSet S)) → count_of t (items_of name l) ≡ tally (weight t) l
+  unfolding weight
+  counts t [] = refl
+  counts t (x ∷ l) = count_parts name (x ∷ []) l t ∙ ap (λ n. count_of t (item_of name x ∷ []) + n) (counts t l)
+
+  -- a set came into a slot that had none
+  pub put_count : (generations : ℕ → ℕ) (layout p : ℕ) (x : DescriptorSet S) (old new : List (Slot (DescriptorSet S))) → Puts generations layout x p old new → (t : Item) → count_of t (items_of name (sets_in new)) ≡ count_of t (items_of name (sets_in old)) + count_of t (items_of name (x ∷ []))
+  put_count generations layout p x old new puts t =
+      let h = put_weigh (weight t) generations layout p x old new puts in
+      let a = counts t (sets_in old) in
+      let b = counts t (sets_in new) in
+      let c = counts t (x ∷ []) in
+      omega arith
+
+module _ {L P S D : Type 0} {d : Ghosts D L P S} (s : Store L P S D d) {l : List (DescriptorSet S)} (same : l ≡ sets_in (slots_in s)) where
+  -- with the sets that a store has its table is exact
+  pub exact_as : (t : Item) → outstanding (state_of d.meaning.pool_name s.allocator (d.ledger s.device)) t ≡ count_of t (items_of d.meaning.set_name l) + count_of t (items_of d.meaning.set_name (coming_in s))
+  exact_as t = (let count = ap (λ l. count_of t (items_of d.meaning.set_name l)) same in let is = s.exact t in omega arith)
+
+  pub accounted_as : outstanding_of s.allocator ≡ length l + length (coming_in s)
+  accounted_as = (let count = ap length same in let is = s.accounted in omega arith)
+
+module _ {T : Type 0} where
+  pub put_many : (generations : ℕ → ℕ) (layout p : ℕ) (x : T) (old new : List (Slot T)) → Puts generations layout x p old new → length (sets_in new) ≡ length (sets_in old) + 1
+  put_many generations layout p x old new puts =
+      let h = put_weigh (λ x. 1) generations layout p x old new puts in
+      let a = tally_length (sets_in old) in
+      let b = tally_length (sets_in new) in
+      omega arith
+
+  -- a slot changed, and its set is there
+  pub set_sets : (l : List (Slot T)) (p : ℕ) (s : Slot T) → s.set ≡ (slot_at l p).set → sets_in (set l p s) ≡ sets_in l
+  set_sets [] p s same = refl
+  set_sets (y ∷ l) zero s same = ap (λ o. joined o (sets_in l)) same
+  set_sets (y ∷ l) (suc p) s same = ap (joined y.set) (set_sets l p s same)
+
+  -- no set comes or leaves if a handle is given, or a slot is picked
+  pub renewed_sets : (number p : ℕ) (u : Use) (handle : SetHandle) (old new : List (Slot T)) → Renews number p u handle old new → sets_in new ≡ sets_in old
+  renewed_sets number p u handle old new renews = ap sets_in renews.slots ∙ set_sets old p (renewed u (slot_at old p)) refl
+
+  pub held_sets : (layout number : ℕ) (r : Option SetHandle) (old new : List (Slot T)) {X : Type 0} → IfSome r (λ h. (is_kept_of layout (slot_at old h.place) ≡ true) × Renews number h.place Held h old new) → (r ≡ None → (new ≡ old) × X) → sets_in new ≡ sets_in old
+  held_sets layout number None old new some none = ap sets_in (none refl).0
+  held_sets layout number (Some h) old new some none = renewed_sets number h.place Held h old new some.1
+
+  pub picked_sets : (test : Slot T → Bool) (p : ℕ) (old new : List (Slot T)) → Picks test p old new → sets_in new ≡ sets_in old
+  picked_sets test p old new picks = ap sets_in picks.slots ∙ set_sets old p (used_for Taken (slot_at old p)) refl
+
+  pub first_sets : (test : Slot T → Bool) (r : Option ℕ) (old new : List (Slot T)) → PicksAny test r old new → sets_in new ≡ sets_in old
+  first_sets test None old new picks = ap sets_in picks.slots
+  first_sets test (Some p) old new picks = picked_sets test p old new picks

@@ -1,0 +1,279 @@
+-- Sets that are held, one after another: for `Store::hold_next`, `hold_last`, `hold_kept`, `hold_coming` and `create_each`.
+-- The slots are `old` before the handles `a` are given, `mid` between, and `new` after the handles `b`; `x` and `y` say so of `a` and `b`.
+-- Handles are written into a list `now`, of which the first are given: those before the place `n`.
+use Rattle.std.proofs.lemmas.Grind.{common_steps}
+use Rattle.std.proofs.Common.{◌≡◌, ◌≢◌, ℕ, ◌+◌, ◌-◌, ◌<◌, ◌⊎◌, ◌&&◌, ◌||◌, Bool, true, false, List, [], ◌∷◌, ◌++◌, length, get_or, Some, is_some, IsSome, inl, inr, refl, sym, ap, subst, ◌∙◌, add-one, arith, set, take}
+use Rattle.std.proofs.lemmas.Bool.{cases_lt, false≢true}
+use Rattle.std.proofs.Math.Seq.{take-length, take-suc-set}
+use Rattle.std.proofs.lemmas.List.{get_or-append-add, get_or-set_other, get_or-set_same, get_or_append_left, length-append}
+use Rattle.gpu_descriptor_types.specs.declared.device.DescriptorDevice.{Ghosts}
+use Rattle.gpu_descriptor.specs.declared.set.DescriptorSet.{DescriptorSet}
+use Rattle.descriptor_table.specs.Slots.{is_kept_of, is_live, slot_at, waits_for}
+use Rattle.descriptor_table.specs.Sets.{NameEach, find, is_given, sets_of}
+use Rattle.descriptor_table.specs.Tables.{came_under, current, holds, is_held_use, place_at}
+use Rattle.descriptor_table.specs.declared.handle.SetHandle.{SetHandle}
+use Rattle.descriptor_table.specs.Slots.{Slot}
+use Rattle.descriptor_table.specs.declared.slot.Use.{Use}
+use Rattle.descriptor_table.specs.declared.slot.Use.TheVariants.{Held}
+use Rattle.descriptor_table.proofs.Chains.{and_true}
+use Rattle.descriptor_table.proofs.Holding.{named_or}
+use Rattle.descriptor_manager.specs.Stores.{HoldEach, NoneComes, SetsCome, KeepsStore, current_in, is_free, number_of, slots_in}
+use Rattle.descriptor_manager.specs.declared.store.Store.{Store}
+use Rattle.descriptor_manager.proofs.Arriving.{Arrives, arrives_then, clears_arrives, same_arrives, used_placed}
+use Rattle.descriptor_manager.proofs.Cleared.{Clears}
+use Rattle.descriptor_manager.proofs.Handing.{Fills, some_of}
+use Rattle.descriptor_manager.proofs.Naming.{free_is, free_kept, given_apart, given_clear, given_never, given_next, kept_as, next_of, seen_apart, seen_clear, seen_free, seen_next}
+
+held_use : (u : Use) → is_held_use u ≡ true → u ≡ Held
+held_use u e = grind (arith, common_steps)
+
+-- a place of two lists is one of the first, or of the second
+spot : (a b : List SetHandle) (i : ℕ) → i < length (a ++ b) → ((i < length a) × (place_at (a ++ b) i ≡ place_at a i)) ⊎ ((k : ℕ) × (k < length b) × (i ≡ length a + k) × (place_at (a ++ b) i ≡ place_at b k))
+spot a b i lt =
+    let none : SetHandle = record { manager = 0; place = 0; generation = 0 } in
+    elim (cases_lt i (length a)) [
+      | inl less ↦ inl (less, ap (λ (h : SetHandle). h.place) (get_or_append_left a b none i less))
+      | inr le ↦
+          let long = length-append a b in
+          let is : i ≡ length a + (i - length a) = omega arith in
+          inr (i - length a, omega arith, is, ap (place_at (a ++ b)) is ∙ ap (λ (h : SetHandle). h.place) (get_or-append-add a b (i - length a) none))
+    ]
+
+-- a handle that is written leaves the others where they were
+place_other : (now : List SetHandle) (n : ℕ) (handle : SetHandle) (i : ℕ) → i ≢ n → place_at (set now n handle) i ≡ place_at now i
+place_other now n handle i ne = ap (λ (h : SetHandle). h.place) (get_or-set_other now n i handle (record { manager = 0; place = 0; generation = 0 }) ne)
+
+place_here : (now : List SetHandle) (n : ℕ) (handle : SetHandle) → n < length now → place_at (set now n handle) n ≡ handle.place
+place_here now n handle lt = ap (λ (h : SetHandle). h.place) (get_or-set_same now n handle (record { manager = 0; place = 0; generation = 0 }) lt)
+
+module _ {T : Type 0} where
+  held_is : (s : Slot T) → holds s ≡ true → (s.used ≡ Held) × (is_some s.set ≡ true)
+  held_is s e = (let both = and_true (is_held_use s.used) (is_some s.set) e in (held_use s.used both.0, both.1))
+
+  held_not_free : (s : Slot T) → holds s ≡ true → is_free s ≡ true → ⊥
+  held_not_free s held free = elim (free_is s free) [
+    | inl none ↦ (false≢true (sym (ap is_some none) ∙ (held_is s held).1))
+    | inr kept ↦ (false≢true (ap is_held_use (sym kept ∙ (held_is s held).0)))
+  ]
+
+  pub hold_none : (number : ℕ) (layout : ℕ × ℕ) (old : List (Slot T)) → HoldEach number layout [] old old
+  hold_none number layout old = record {
+    apart = λ i j lt less. absurd (omega arith);
+    was = λ i lt. absurd (omega arith);
+    is = λ i e lt. absurd (omega arith);
+    generation = λ i lt. absurd (omega arith);
+    of_layout = λ i lt. absurd (omega arith);
+    held = λ i lt. absurd (omega arith);
+    rest = λ p none. refl;
+  }
+
+  -- a set that got a handle is held by it
+  pub hold_one : (comes : ℕ → T → Type 0) (number : ℕ) (generations : ℕ → ℕ) (layout p : ℕ) (handle : SetHandle) (old new : List (Slot T)) → Fills comes number generations layout p Held handle old new → HoldEach number (current generations layout) (handle ∷ []) old new
+  hold_one comes number generations layout p handle old new f = record {
+    apart = λ i j lt less. absurd (omega arith);
+    was = λ i lt. subst (λ q. is_free (slot_at old q) ≡ true) (sym (at i lt)) f.free;
+    is = is_next;
+    generation = λ i lt. subst (λ q. (slot_at new q).generation ≡ (slot_at old q).generation + 1) (sym (at i lt)) f.generation;
+    of_layout = λ i lt. subst (λ q. came_under (slot_at new q) ≡ current generations layout) (sym (at i lt)) f.of_layout;
+    held = λ i lt. subst (λ q. holds (slot_at new q) ≡ true) (sym (at i lt)) (ap (λ u. is_held_use u && is_some (slot_at new p).set) f.used ∙ ap is_some f.here);
+    rest = λ q none. f.others q (λ e. none 0 (omega arith) (at 0 (omega arith) ∙ sym e));
+  }
+    where
+      at : (i : ℕ) → i < length (handle ∷ []) → place_at (handle ∷ []) i ≡ p
+      at x0 lt = grind (arith, common_steps)
+
+      is_next : (i : ℕ) (e : SetHandle) → i < length (handle ∷ []) → get_or (handle ∷ []) i e ≡ next_of number (place_at (handle ∷ []) i) (slot_at old (place_at (handle ∷ []) i))
+      is_next x0 e lt = grind (arith, common_steps)
+
+  -- a set that is held by its handle is there
+  pub held_full : (number : ℕ) (layout : ℕ × ℕ) (handle : SetHandle) (old new : List (Slot T)) → HoldEach number layout (handle ∷ []) old new → is_some (slot_at new handle.place).set ≡ true
+  held_full number layout handle old new x = (held_is (slot_at new handle.place) (x.held 0 (omega arith))).1
+
+  module _ (number : ℕ) (layout : ℕ × ℕ) (a b : List SetHandle) (old mid new : List (Slot T)) (x : HoldEach number layout a old mid) (y : HoldEach number layout b mid new) where
+    -- no handle of `b` has a place of `a`: the set there is held by then, and so it is not free
+    apart_places : (i k : ℕ) → i < length a → k < length b → place_at a i ≢ place_at b k
+    apart_places i k lt less e = held_not_free (slot_at mid (place_at b k)) (subst (λ q. holds (slot_at mid q) ≡ true) e (x.held i lt)) (y.was k less)
+
+    -- the later places are as they were before
+    later : (k : ℕ) → k < length b → slot_at mid (place_at b k) ≡ slot_at old (place_at b k)
+    later k less = x.rest (place_at b k) (λ i lt. apart_places i k lt less)
+
+    -- the first places stay as they are
+    first : (i : ℕ) → i < length a → slot_at new (place_at a i) ≡ slot_at mid (place_at a i)
+    first i lt = y.rest (place_at a i) (λ k less e. apart_places i k lt less (sym e))
+
+    -- no two of all these handles have one place
+    join_apart : (i j : ℕ) → i < j → j < length (a ++ b) → place_at (a ++ b) i ≢ place_at (a ++ b) j
+    join_apart i j lt less e = elim (spot a b i (omega arith)) [
+      | inl u ↦ elim (spot a b j less) [
+        | inl v ↦ x.apart i j lt v.0 (sym u.1 ∙ e ∙ v.1)
+        | inr v ↦ apart_places i v.0 u.0 v.1 (sym u.1 ∙ e ∙ v.3)
+      ]
+      | inr u ↦ elim (spot a b j less) [
+        | inl v ↦ (let is = u.2 in let few = v.0 in absurd (omega arith))
+        | inr v ↦ (let is = u.2 in let then = v.2 in y.apart u.0 v.0 (omega arith) v.1 (sym u.3 ∙ e ∙ v.3))
+      ]
+    ]
+
+    -- sets that are held by `a`, and then sets that are held by `b`, are held by the handles of both lists
+    pub joined : HoldEach number layout (a ++ b) old new
+    joined = record {
+      apart = join_apart;
+      was = λ i lt. elim (spot a b i lt) [
+        | inl u ↦ subst (λ q. is_free (slot_at old q) ≡ true) (sym u.1) (x.was i u.0)
+        | inr u ↦ subst (λ q. is_free (slot_at old q) ≡ true) (sym u.3) (ap is_free (sym (later u.0 u.1)) ∙ y.was u.0 u.1)
+      ];
+      is = λ i e lt. elim (spot a b i lt) [
+        | inl u ↦ get_or_append_left a b e i u.0 ∙ x.is i e u.0 ∙ ap (λ q. next_of number q (slot_at old q)) (sym u.1)
+        | inr u ↦ ap (λ j. get_or (a ++ b) j e) u.2 ∙ get_or-append-add a b u.0 e ∙ y.is u.0 e u.1 ∙ ap (next_of number (place_at b u.0)) (later u.0 u.1) ∙ ap (λ q. next_of number q (slot_at old q)) (sym u.3)
+      ];
+      generation = λ i lt. elim (spot a b i lt) [
+        | inl u ↦ subst (λ q. (slot_at new q).generation ≡ (slot_at old q).generation + 1) (sym u.1) (ap (λ (s : Slot T). s.generation) (first i u.0) ∙ x.generation i u.0)
+        | inr u ↦ subst (λ q. (slot_at new q).generation ≡ (slot_at old q).generation + 1) (sym u.3) (y.generation u.0 u.1 ∙ ap (λ (s : Slot T). s.generation + 1) (later u.0 u.1))
+      ];
+      of_layout = λ i lt. elim (spot a b i lt) [
+        | inl u ↦ subst (λ q. came_under (slot_at new q) ≡ layout) (sym u.1) (ap came_under (first i u.0) ∙ x.of_layout i u.0)
+        | inr u ↦ subst (λ q. came_under (slot_at new q) ≡ layout) (sym u.3) (y.of_layout u.0 u.1)
+      ];
+      held = λ i lt. elim (spot a b i lt) [
+        | inl u ↦ subst (λ q. holds (slot_at new q) ≡ true) (sym u.1) (ap holds (first i u.0) ∙ x.held i u.0)
+        | inr u ↦ subst (λ q. holds (slot_at new q) ≡ true) (sym u.3) (y.held u.0 u.1)
+      ];
+      rest = λ p none.
+          y.rest p (λ k less e. none (length a + k) (let long = length-append a b in omega arith) (ap (λ (h : SetHandle). h.place) (get_or-append-add a b k (record { manager = 0; place = 0; generation = 0 })) ∙ e))
+          ∙ x.rest p (λ i lt e. none i (let long = length-append a b in omega arith) (ap (λ (h : SetHandle). h.place) (get_or_append_left a b (record { manager = 0; place = 0; generation = 0 }) i lt) ∙ e));
+    }
+
+  -- the sets of the given handles were kept, and so was that of one more
+  pub were_kept :
+      (number : ℕ) (under : ℕ × ℕ) (layout n : ℕ) (now : List SetHandle) (handle : SetHandle) (old mid : List (Slot T)) → n < length now
+      → HoldEach number under (take n now) old mid → ((i : ℕ) → i < n → is_kept_of layout (slot_at old (place_at now i)) ≡ true)
+      → is_kept_of layout (slot_at mid handle.place) ≡ true
+      → (i : ℕ) → i < n + 1 → is_kept_of layout (slot_at old (place_at (set now n handle) i)) ≡ true
+  were_kept number under layout n now handle old mid within x each last i lt = elim (cases_lt i n) [
+    | inl less ↦ subst (λ p. is_kept_of layout (slot_at old p) ≡ true) (sym (place_other now n handle i (λ e. omega arith))) (each i less)
+    | inr le ↦ subst (λ j. is_kept_of layout (slot_at old (place_at (set now n handle) j)) ≡ true) (omega arith) (subst (λ p. is_kept_of layout (slot_at old p) ≡ true) (sym (place_here now n handle within)) before)
+  ]
+    where
+      before : is_kept_of layout (slot_at old handle.place) ≡ true
+      before = elim (named_or (length (take n now)) (place_at (take n now)) handle.place) [
+        | inl found ↦ absurd (held_not_free (slot_at mid handle.place) (subst (λ q. holds (slot_at mid q) ≡ true) found.2 (x.held found.0 found.1)) (free_kept (slot_at mid handle.place) (kept_as layout (slot_at mid handle.place) last).2))
+        | inr none ↦ ap (is_kept_of layout) (sym (x.rest handle.place none)) ∙ last
+      ]
+
+  -- all handles of the list are given
+  pub held_all : (number : ℕ) (under : ℕ × ℕ) (n : ℕ) (now : List SetHandle) (old new : List (Slot T)) → n ≡ length now → HoldEach number under (take n now) old new → HoldEach number under now old new
+  held_all number under n now old new is x = subst (λ l. HoldEach number under l old new) (ap (λ n. take n now) is ∙ take-length now) x
+
+  -- kept sets may have left their slots before the first set was held
+  module _ (number : ℕ) (layout : ℕ × ℕ) (handles : List SetHandle) (old mid new : List (Slot T)) (clear : (q : ℕ) → Clears (slot_at old q) (slot_at mid q)) (x : HoldEach number layout handles mid new) where
+    -- each set was there, or came
+    pub holds_arrives : (comes : ℕ → T → Type 0) → ((p : ℕ) (t : T) → (slot_at new p).set ≡ Some t → (((slot_at mid p).set ≡ Some t) × (came_under (slot_at new p) ≡ came_under (slot_at mid p))) ⊎ comes (slot_at new p).layout t) → (q : ℕ) → Arrives comes (slot_at old q) (slot_at new q)
+    holds_arrives comes sets q = arrives_then comes (slot_at old q) (slot_at mid q) (slot_at new q) (clears_arrives comes (slot_at old q) (slot_at mid q) (clear q)) (elim (named_or (length handles) (place_at handles) q) [
+      | inl found ↦
+          let held = held_is (slot_at new q) (subst (λ q. holds (slot_at new q) ≡ true) found.2 (x.held found.0 found.1)) in
+          let full = some_of (slot_at new q).set held.1 in
+          record {
+            set = sets q;
+            placed = λ was. used_placed (slot_at new q) full.0 full.1 (ap (λ u. is_held_use u || waits_for (λ w. true) u) held.0);
+          }
+      | inr none ↦ same_arrives comes (slot_at mid q) (slot_at new q) (x.rest q none)
+    ])
+
+    -- a handle that is none of these names what it named
+    others_keep : (frame : ℕ) (opened : Bool) (other : SetHandle) → ((i : ℕ) (d : SetHandle) → i < length handles → get_or handles i d ≢ other) → (find number frame opened new other ≡ find number frame opened old other) × (is_given number new other ≡ is_given number old other)
+    others_keep frame opened other none = elim (named_or (length handles) (place_at handles) other.place) [
+      | inl found ↦
+          let m = slot_at mid other.place in
+          let n = slot_at new other.place in
+          let more = subst (λ q. (slot_at new q).generation ≡ (slot_at mid q).generation + 1) found.2 (x.generation found.0 found.1) in
+          let free = subst (λ q. is_free (slot_at mid q) ≡ true) found.2 (x.was found.0 found.1) in
+          let apart : other ≢ next_of number other.place m = λ e. none found.0 other found.1 (x.is found.0 other found.1 ∙ ap (λ q. next_of number q (slot_at mid q)) found.2 ∙ sym e) in (
+            seen_apart number frame opened m n other more apart ∙ sym (sym (seen_clear number frame opened (slot_at old other.place) m other (clear other.place)) ∙ seen_free number frame opened m other free),
+            given_apart number m n other more apart ∙ given_clear number (slot_at old other.place) m other (clear other.place),
+          )
+      | inr far ↦
+          let c = subst (Clears (slot_at old other.place)) (sym (x.rest other.place far)) (clear other.place) in
+          (seen_clear number frame opened (slot_at old other.place) (slot_at new other.place) other c, given_clear number (slot_at old other.place) (slot_at new other.place) other c)
+    ]
+
+    -- each of the handles names a set
+    names_set : (frame : ℕ) (opened : Bool) (i : ℕ) (d : SetHandle) → i < length handles → IsSome (find number frame opened new (get_or handles i d))
+    names_set frame opened i d lt =
+        let q = place_at handles i in
+        let n = slot_at new q in
+        let held = held_is n (x.held i lt) in
+        subst (λ h. IsSome (find number frame opened new h)) (sym (x.is i d lt)) (subst IsSome (sym (seen_next number frame opened q (slot_at mid q) n (x.generation i lt) (ap (is_live frame opened) held.0))) held.1)
+
+    -- none of them was ever given before, and all others name what they named
+    pub are_named : (frame : ℕ) (opened : Bool) → NameEach handles (sets_of number frame opened old) (sets_of number frame opened new)
+    are_named frame opened = record {
+      never = λ i d lt. subst (λ h. is_given number old h ≡ false) (sym (x.is i d lt)) (let q = place_at handles i in sym (given_clear number (slot_at old q) (slot_at mid q) (next_of number q (slot_at mid q)) (clear q)) ∙ given_never number q (slot_at mid q));
+      once = λ i j d lt less e. x.apart i j lt less (ap (λ (h : SetHandle). h.place) (sym (x.is i d (omega arith)) ∙ e ∙ x.is j d less));
+      given = λ i d lt. subst (λ h. is_given number new h ≡ true) (sym (x.is i d lt)) (let q = place_at handles i in given_next number q (slot_at mid q) (slot_at new q) (x.generation i lt));
+      named = names_set frame opened;
+      others = others_keep frame opened;
+    }
+
+module _ {S : Type 0} where
+  -- sets that came in two steps
+  pub sets_then : (comes : ℕ → DescriptorSet S → Type 0) (old mid new : List (Slot (DescriptorSet S))) → SetsCome comes old mid → SetsCome comes mid new → SetsCome comes old new
+  sets_then comes old mid new a b p x e = elim (b p x e) [
+    | inl stays ↦ elim (a p x stays.0) [
+      | inl was ↦ inl (was.0, stays.1 ∙ was.1)
+      | inr came ↦ inr (subst (λ l. comes l.0 x) (sym stays.1) came)
+    ]
+    | inr came ↦ inr came
+  ]
+
+  -- sets that are where they were, before others came
+  pub kept_then : (comes : ℕ → DescriptorSet S → Type 0) (old mid new : List (Slot (DescriptorSet S))) → SetsCome NoneComes old mid → SetsCome comes mid new → SetsCome comes old new
+  kept_then comes old mid new a b = sets_then comes old mid new (λ p x e. elim (a p x e) [
+    | inl was ↦ inl was
+    | inr none ↦ absurd none
+  ]) b
+
+module _ {L P S D : Type 0} {d : Ghosts D L P S} where
+  pub store_same : (s : Store L P S D d) → KeepsStore s s
+  store_same s = record { number = refl; lists = refl; generations = refl; limit = refl; bound = refl; besides = refl; keeps = refl }
+
+  pub stays_then : (old mid new : Store L P S D d) → KeepsStore old mid → KeepsStore mid new → KeepsStore old new
+  stays_then old mid new a b = record {
+    number = b.number ∙ a.number;
+    lists = b.lists ∙ a.lists;
+    generations = b.generations ∙ a.generations;
+    limit = b.limit ∙ a.limit;
+    bound = b.bound ∙ a.bound;
+    besides = b.besides ∙ a.besides;
+    keeps = b.keeps ∙ a.keeps;
+  }
+
+  -- the number and the layouts are as they were
+  pub held_stays : (layout : ℕ) (handles : List SetHandle) (mid new : List (Slot (DescriptorSet S))) (old now : Store L P S D d) → KeepsStore old now → HoldEach (number_of now) (current_in layout now) handles mid new → HoldEach (number_of old) (current_in layout old) handles mid new
+  held_stays layout handles mid new old now stays holds = subst (λ generations. HoldEach (number_of old) (current generations layout) handles mid new) stays.generations (subst (λ number. HoldEach number (current_in layout now) handles mid new) stays.number holds)
+
+  -- one handle more is given
+  pub held_next :
+      (layout n : ℕ) (now : List SetHandle) (handle : SetHandle) (old mid new : Store L P S D d) → KeepsStore old mid → n < length now
+      → HoldEach (number_of old) (current_in layout old) (take n now) (slots_in old) (slots_in mid)
+      → HoldEach (number_of mid) (current_in layout mid) (handle ∷ []) (slots_in mid) (slots_in new)
+      → HoldEach (number_of old) (current_in layout old) (take (n + 1) (set now n handle)) (slots_in old) (slots_in new)
+  held_next layout n now handle old mid new stays within a b =
+      let under = current_in layout old in
+      let each = held_stays layout (handle ∷ []) (slots_in mid) (slots_in new) old mid stays b in
+      subst (λ l. HoldEach (number_of old) under l (slots_in old) (slots_in new)) (sym (take-suc-set now n handle within) ∙ ap (λ m. take m (set now n handle)) (sym (add-one n)))
+      (joined (number_of old) under (take n now) (handle ∷ []) (slots_in old) (slots_in mid) (slots_in new) a each)
+
+  -- none is given yet
+  pub held_start : (layout : ℕ) (old : Store L P S D d) → HoldEach (number_of old) (current_in layout old) [] (slots_in old) (slots_in old)
+  held_start layout old = hold_none (number_of old) (current_in layout old) (slots_in old)
+
+  -- kept sets have the first handles, and others the last ones
+  pub held_both :
+      (layout : ℕ) (first last : List SetHandle) (old mid new : Store L P S D d) → KeepsStore old mid
+      → HoldEach (number_of old) (current_in layout old) first (slots_in old) (slots_in mid)
+      → HoldEach (number_of mid) (current_in layout mid) last (slots_in mid) (slots_in new)
+      → HoldEach (number_of old) (current_in layout old) (first ++ last) (slots_in old) (slots_in new)
+  held_both layout first last old mid new stays a b =
+      joined (number_of old) (current_in layout old) first last (slots_in old) (slots_in mid) (slots_in new) a
+      (held_stays layout last (slots_in mid) (slots_in new) old mid stays b)

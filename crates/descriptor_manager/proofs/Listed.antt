@@ -1,0 +1,93 @@
+-- Held sets that come back by their handles: for `Store::wait_each`, where `took` says that a call has all of them, and `free_each`.
+use Rattle.std.proofs.Common.{arith, ◌≡◌, ◌≢◌, ℕ, ◌+◌, ◌<◌, ◌&&◌, Bool, true, false, List, get_or, length, is_some, inl, inr, refl, sym, ap, subst, ◌∙◌}
+use Rattle.std.proofs.lemmas.Bool.{true≢false}
+use Rattle.descriptor_table.specs.Sets.{AreHeldOnce, is_last, sets_in}
+use Rattle.descriptor_table.specs.Slots.{goes, slot_at}
+use Rattle.descriptor_table.specs.Tables.{AreAllTaken, IsBack, TookEach, Turns, Becomes, is_held_use, is_taken, place_at, used_for, vacated}
+use Rattle.descriptor_table.specs.declared.handle.SetHandle.{SetHandle}
+use Rattle.descriptor_table.specs.Slots.{Slot}
+use Rattle.descriptor_table.specs.declared.slot.Use.TheVariants.{Waits, Going}
+use Rattle.descriptor_table.proofs.Chains.{and_true}
+use Rattle.descriptor_table.proofs.Holding.{named_or}
+use Rattle.descriptor_table.proofs.Leaving.{same_sets}
+use Rattle.descriptor_table.specs.Tables.{TurnEach}
+use Rattle.descriptor_manager.proofs.Back.{given_kept, kept_stays}
+use Rattle.descriptor_manager.proofs.Following.{ArePlaced, none_goes, none_taken}
+
+module _ {T : Type 0} (handles : List SetHandle) (old now : List (Slot T)) (took : TookEach handles (length handles) old now) where
+  -- those that were taken are those of the handles
+  pub took_named : ArePlaced old → AreAllTaken handles now
+  took_named placed = record {
+    within = λ i lt. (let there = took.within i lt in let long = took.long in omega arith);
+    all = λ p e. elim (named_or (length handles) (place_at handles) p) [
+      | inl found ↦ found
+      | inr apart ↦ absurd (true≢false (sym e ∙ ap is_taken (took.rest p apart) ∙ none_taken old placed p))
+    ];
+  }
+
+  pub took_sets : sets_in now ≡ sets_in old
+  took_sets = same_sets old now took.long (λ p. elim (named_or (length handles) (place_at handles) p) [
+    | inl found ↦ subst (λ p. (slot_at now p).set ≡ (slot_at old p).set) found.2 (ap (λ (s : Slot T). s.set) (took.named found.0 found.1))
+    | inr apart ↦ ap (λ (s : Slot T). s.set) (took.rest p apart)
+  ])
+
+  -- none goes
+  took_none : ArePlaced old → (p : ℕ) → goes (slot_at now p) ≡ false
+  took_none placed p = elim (named_or (length handles) (place_at handles) p) [
+    | inl found ↦ subst (λ p. goes (slot_at now p) ≡ false) found.2 (ap goes (took.named found.0 found.1))
+    | inr apart ↦ ap goes (took.rest p apart) ∙ none_goes old placed p
+  ]
+
+  -- each set of a handle was taken
+  took_full : (number : ℕ) → AreHeldOnce number old handles → (i : ℕ) → i < length handles → is_taken (slot_at now (place_at handles i)) ≡ true
+  took_full number once i lt =
+      let z : SetHandle = record { manager = 0; place = 0; generation = 0 } in
+      let held = once.held i z lt in
+      ap is_taken (took.named i lt) ∙ full (slot_at old (place_at handles i)) _ held
+    where
+      full : (s : Slot T) (b : Bool) → (b && (is_held_use s.used && is_some s.set)) ≡ true → is_some s.set ≡ true
+      full s b e = (and_true (is_held_use s.used) (is_some s.set) (and_true b (is_held_use s.used && is_some s.set) e).1).1
+
+  -- all others were not
+  took_rest : ArePlaced old → (p : ℕ) → ((i : ℕ) → i < length handles → place_at handles i ≢ p) → is_taken (slot_at now p) ≡ false
+  took_rest placed p apart = ap is_taken (took.rest p apart) ∙ none_taken old placed p
+
+  -- those that wait are those of the handles
+  pub waited : (number frame : ℕ) (new : List (Slot T)) → AreHeldOnce number old handles → ArePlaced old → Turns is_taken (Becomes (used_for (Waits frame))) now new → TurnEach handles (Becomes (used_for (Waits frame))) old new
+  waited number frame new once placed turns = record {
+    long = turns.long ∙ took.long;
+    named = λ i lt. turns.here (place_at handles i) (took_full number once i lt) ∙ ap (used_for (Waits frame)) (took.named i lt);
+    rest = λ p apart. turns.rest p (took_rest placed p apart) ∙ took.rest p apart;
+  }
+
+module _ {T : Type 0} (handles : List SetHandle) (number : ℕ) (generations : ℕ → ℕ) (max : ℕ) (old mid : List (Slot T)) where
+  -- held sets that settled, if any did, are in their slots still
+  pub settled_each : (b : Bool) → (b ≡ true → TurnEach handles (IsBack (used_for Going) generations max) old mid) → (b ≡ false → mid ≡ old) → sets_in mid ≡ sets_in old
+  settled_each false settled none = ap sets_in (none refl)
+  settled_each true settled none = same_sets old mid (settled refl).long (λ p. elim (named_or (length handles) (place_at handles) p) [
+    | inl found ↦ subst (λ p. (slot_at mid p).set ≡ (slot_at old p).set) found.2 (elim ((settled refl).named found.0 found.1) [
+      | inl kept ↦ ap (λ (s : Slot T). s.set) kept.0
+      | inr going ↦ ap (λ (s : Slot T). s.set) going.0
+    ])
+    | inr apart ↦ ap (λ (s : Slot T). s.set) ((settled refl).rest p apart)
+  ])
+
+  -- those that went were given back
+  pub back_each : (new : List (Slot T)) → AreHeldOnce number old handles → TurnEach handles (IsBack (used_for Going) generations max) old mid → ArePlaced old → Turns goes (Becomes vacated) mid new → TurnEach handles (IsBack vacated generations max) old new
+  back_each new once settled placed gives = record {
+    long = gives.long ∙ settled.long;
+    named = λ i lt. (let p = place_at handles i in elim (settled.named i lt) [
+      | inl kept ↦ inl (gives.rest p (ap goes kept.0 ∙ kept_stays (slot_at old p)) ∙ kept.0, kept.1)
+      | inr going ↦ inr (
+        gives.here p (ap goes going.0 ∙ full i lt) ∙ ap vacated going.0,
+        λ may. (let a = going.1 may in let b = given_kept mid new gives ((slot_at old p).layout + 2) (omega arith) in omega arith),
+      )
+    ]);
+    rest = λ p apart. (let same = settled.rest p apart in gives.rest p (ap goes same ∙ none_goes old placed p) ∙ same);
+  }
+    where
+      full : (i : ℕ) → i < length handles → is_some (slot_at old (place_at handles i)).set ≡ true
+      full i lt =
+          let z : SetHandle = record { manager = 0; place = 0; generation = 0 } in
+          let s = slot_at old (place_at handles i) in
+          (and_true (is_held_use s.used) (is_some s.set) (and_true (is_last number old (get_or handles i z)) (is_held_use s.used && is_some s.set) (once.held i z lt)).1).1

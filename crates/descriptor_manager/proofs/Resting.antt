@@ -1,0 +1,45 @@
+-- How many sets there are if each is held, waits or is kept.
+use Rattle.std.proofs.lemmas.Grind.{common_steps}
+use Rattle.std.proofs.Common.{◌≡◌, ℕ, suc, ◌+◌, ◌&&◌, true, false, List, [], ◌∷◌, length, Option, None, Some, is_some, refl, ap, arith}
+use Rattle.std.proofs.lemmas.Bool.{and_right}
+use Rattle.descriptor_table.specs.Sets.{joined, sets_in}
+use Rattle.descriptor_table.specs.Slots.{in_list, slot_at, waits, waits_for}
+use Rattle.descriptor_table.specs.Tables.{count, holds, is_held_use, is_kept}
+use Rattle.descriptor_table.specs.Slots.{Slot}
+use Rattle.descriptor_table.specs.declared.slot.Use.{Use}
+use Rattle.descriptor_table.proofs.Counts.{bit}
+use Rattle.descriptor_manager.specs.Stores.{is_placed}
+use Rattle.descriptor_manager.proofs.Arriving.{placed_in}
+
+-- no set is kept where there is none
+none_kept : (u : Use) (l g : ℕ) → in_list (l + 2) u l g false ≡ false
+none_kept u l g = grind (arith, common_steps)
+
+-- a set is held, waits or is kept, and only one of these
+one_of : {T : Type 0} (x : T) (u : Use) (l g : ℕ) → placed_in u (Some x) l g ≡ true → 1 ≡ bit (is_held_use u && true) + (bit (waits_for (λ w. true) u && true) + bit (in_list (l + 2) u l g true))
+one_of x u l g e = grind (arith, common_steps)
+
+module _ {T : Type 0} where
+  -- a slot of a store at rest counts once if it has a set, by whichever of the three its set is
+  placed_bits : (s : Slot T) → is_placed s ≡ true → bit (is_some s.set) ≡ bit (holds s) + (bit (waits s) + bit (is_kept s))
+  placed_bits s e = by_set s.set e
+    where
+      by_set : (o : Option T) → placed_in s.used o s.layout s.generation ≡ true → bit (is_some o) ≡ bit (is_held_use s.used && is_some o) + (bit (waits_for (λ w. true) s.used && is_some o) + bit (in_list (s.layout + 2) s.used s.layout s.generation (is_some o)))
+      by_set None f =
+          let a = ap bit (and_right (is_held_use s.used) false refl) in
+          let b = ap bit (and_right (waits_for (λ w. true) s.used) false refl) in
+          let c = ap bit (none_kept s.used s.layout s.generation) in
+          omega arith
+      by_set (Some x) f = one_of x s.used s.layout s.generation f
+
+  joined_length : (o : Option T) (l : List T) → length (joined o l) ≡ bit (is_some o) + length l
+  joined_length x0 l = grind (arith, common_steps)
+
+  -- the sets are those that are held, those that wait, and those that are kept
+  pub placed_count : (slots : List (Slot T)) → ((p : ℕ) → is_placed (slot_at slots p) ≡ true) → length (sets_in slots) ≡ count holds slots + (count waits slots + count is_kept slots)
+  placed_count [] placed = refl
+  placed_count (s ∷ slots) placed =
+      let a = joined_length s.set (sets_in slots) in
+      let b = placed_bits s (placed 0) in
+      let h = placed_count slots (λ p. placed (suc p)) in
+      omega arith

@@ -1,0 +1,89 @@
+-- What handles name once sets came back, waited, or were given back: for `SetManager::frame_done`, `free`, `cleanup` and others.
+use Rattle.std.proofs.lemmas.Grind.{common_steps}
+use Rattle.std.proofs.Common.{◌≡◌, ℕ, ◌+◌, ◌<◌, ◌&&◌, nat_le, Bool, true, false, List, length, if◌then◌else◌, is_some, None, inl, inr, refl, sym, ap, ◌∙◌, arith}
+use Rattle.std.proofs.lemmas.List.{get_or_past}
+use Rattle.descriptor_table.specs.Sets.{AreHeldOnce, LoseNames, sets_of}
+use Rattle.descriptor_table.specs.Slots.{in_list, is_due, is_live, slot_at, waits_for}
+use Rattle.descriptor_table.specs.Tables.{Turns, aged, is_kept, place_at, vacated, MayBecome, IsBack, used_for, Becomes}
+use Rattle.descriptor_table.specs.declared.handle.SetHandle.{SetHandle}
+use Rattle.descriptor_table.specs.Slots.{Slot}
+use Rattle.descriptor_table.specs.declared.slot.Use.{Use}
+use Rattle.descriptor_table.specs.declared.slot.Use.TheVariants.{Waits}
+use Rattle.descriptor_table.proofs.Counting.{below_or}
+use Rattle.descriptor_table.proofs.Naming.{ShowsSame, names_kept, names_lost, shown}
+use Rattle.descriptor_manager.specs.Stores.{AreCleaned}
+use Rattle.descriptor_table.specs.Tables.{TurnEach}
+
+-- a kept set has no live handle
+kept_use : (u : Use) (k layout generation frame : ℕ) (full opened : Bool) → in_list (layout + 2) u layout generation full ≡ true → is_live frame opened u ≡ false
+kept_use u k layout generation frame full opened e = grind (arith, common_steps)
+
+-- neither has one that waits for a frame that isn't open
+due_use : (u : Use) (due frame : ℕ) (full opened : Bool) → (opened ≡ true → due < frame) → (waits_for (λ w. nat_le w due) u && full) ≡ true → is_live frame opened u ≡ false
+due_use u due frame full opened later e = grind (arith, common_steps)
+
+module _ {T : Type 0} (frame : ℕ) (opened : Bool) where
+  pub same_shown : (o n : Slot T) → n ≡ o → ShowsSame frame opened o n
+  same_shown o n e = record { generation = ap (λ (s : Slot T). s.generation) e; set = ap (shown frame opened) e }
+
+  -- a slot that had no live handle, and has none
+  pub quiet_shown : (o n : Slot T) → n.generation ≡ o.generation → is_live frame opened o.used ≡ false → is_live frame opened n.used ≡ false → ShowsSame frame opened o n
+  quiet_shown o n g was is = record {
+    generation = g;
+    set = ap (λ b. if b then n.set else None) is ∙ sym (ap (λ b. if b then o.set else None) was);
+  }
+
+  -- a set that came back has no live handle, whether it is kept or left
+  back_quiet : (generations : ℕ → ℕ) (max : ℕ) (new : List (Slot T)) (o n : Slot T) → IsBack vacated generations max new o n → (is_live frame opened n.used ≡ false) × (n.generation ≡ o.generation)
+  back_quiet generations max new o n back = elim back [
+    | inl kept ↦ (ap (λ (s : Slot T). is_live frame opened s.used) kept.0, ap (λ (s : Slot T). s.generation) kept.0)
+    | inr left ↦ (ap (λ (s : Slot T). is_live frame opened s.used) left.0, ap (λ (s : Slot T). s.generation) left.0)
+  ]
+
+  -- each slot shows what it showed, since those that turn do
+  pub turned : (test : Slot T → Bool) (becomes : List (Slot T) → Slot T → Slot T → Type 0) (old new : List (Slot T)) → Turns test becomes old new → ((o n : Slot T) → test o ≡ true → becomes new o n → ShowsSame frame opened o n) → (p : ℕ) → ShowsSame frame opened (slot_at old p) (slot_at new p)
+  turned test becomes old new turns shows p = by_test (test (slot_at old p)) refl
+    where
+      by_test : (b : Bool) → test (slot_at old p) ≡ b → ShowsSame frame opened (slot_at old p) (slot_at new p)
+      by_test true e = shows (slot_at old p) (slot_at new p) e (turns.here p e)
+      by_test false e = same_shown (slot_at old p) (slot_at new p) (turns.rest p e)
+
+  -- sets that came back leave the names of all others
+  pub back_names : (generations : ℕ → ℕ) (number due max : ℕ) (old new : List (Slot T)) → (opened ≡ true → due < frame) → Turns (is_due due) (IsBack vacated generations max) old new → sets_of number frame opened new ≡ sets_of number frame opened old
+  back_names generations number due max old new later turns = names_kept number frame opened old new (turned (is_due due) (IsBack vacated generations max) old new turns (λ o n e back.
+      let q = back_quiet generations max new o n back in
+      quiet_shown o n q.1 (due_use o.used due frame (is_some o.set) opened later e) q.0))
+
+  -- kept sets that left leave all names, and so does a cleanup, below
+  pub trim_names : (number : ℕ) (old new : List (Slot T)) → Turns is_kept (MayBecome vacated) old new → sets_of number frame opened new ≡ sets_of number frame opened old
+  trim_names number old new turns = names_kept number frame opened old new (turned is_kept (MayBecome vacated) old new turns (λ o n e leave. elim leave [
+    | inl same ↦ same_shown o n same
+    | inr left ↦ quiet_shown o n (ap (λ (s : Slot T). s.generation) left) (kept_use o.used 0 o.layout o.generation frame (is_some o.set) opened e) (ap (λ (s : Slot T). is_live frame opened s.used) left)
+  ]))
+
+  pub cleaned_names : (number : ℕ) (old new : List (Slot T)) → AreCleaned old new → sets_of number frame opened new ≡ sets_of number frame opened old
+  cleaned_names number old new cleaned = names_kept number frame opened old new (λ p. elim (below_or p (length old)) [
+    | inl within ↦ by_kept (slot_at old p) (slot_at new p) (is_kept (slot_at old p)) refl (cleaned.each p within)
+    | inr past ↦ same_shown (slot_at old p) (slot_at new p) (get_or_past new p _ (let long = cleaned.long in omega arith) ∙ sym (get_or_past old p _ past))
+  ])
+    where
+      by_kept : (o n : Slot T) (b : Bool) → is_kept o ≡ b → n ≡ (if is_kept o then vacated (aged o) else aged o) → ShowsSame frame opened o n
+      by_kept o n true e is =
+          let left : n ≡ vacated (aged o) = is ∙ ap (λ b. if b then vacated (aged o) else aged o) e in
+          quiet_shown o n (ap (λ (s : Slot T). s.generation) left) (kept_use o.used 0 o.layout o.generation frame (is_some o.set) opened e) (ap (λ (s : Slot T). is_live frame opened s.used) left)
+      by_kept o n false e is =
+          let old : n ≡ aged o = is ∙ ap (λ b. if b then vacated (aged o) else aged o) e in
+          record { generation = ap (λ (s : Slot T). s.generation) old; set = ap (shown frame opened) old }
+
+  -- freed sets, and those that wait, have no handle
+  pub freed_names :
+      (generations : ℕ → ℕ) (number max : ℕ) (handles : List SetHandle) (old new : List (Slot T))
+      → AreHeldOnce number old handles
+      → TurnEach handles (IsBack vacated generations max) old new
+      → LoseNames handles (sets_of number frame opened old) (sets_of number frame opened new)
+  freed_names generations number max handles old new once turns =
+      let quiet : (i : ℕ) → i < length handles → _ = λ i lt. back_quiet generations max new (slot_at old (place_at handles i)) (slot_at new (place_at handles i)) (turns.named i lt) in
+      names_lost number frame opened handles old new once (λ i lt. (quiet i lt).0) (λ i lt. (quiet i lt).1) turns.rest
+
+  pub waited_names : (number until : ℕ) (handles : List SetHandle) (old new : List (Slot T)) → AreHeldOnce number old handles → TurnEach handles (Becomes (used_for (Waits until))) old new → LoseNames handles (sets_of number frame opened old) (sets_of number frame opened new)
+  waited_names number until handles old new once waits = names_lost number frame opened handles old new once (λ i lt. ap (λ (s : Slot T). is_live frame opened s.used) (waits.named i lt)) (λ i lt. ap (λ (s : Slot T). s.generation) (waits.named i lt)) waits.rest

@@ -1,0 +1,68 @@
+use Rattle.std.proofs.Common.{◌≡◌, suc, length, inl, inr, refl, sym, ap, ◌∙◌, subst, arith}
+use Rattle.descriptor_table.specs.Tables.{Grows, lists_with}
+use Rattle.descriptor_manager.specs.LayoutRegistries.{layout_slots}
+use Rattle.descriptor_manager.specs.Own.{HasSetsOf}
+use Rattle.descriptor_manager.specs.Managers.{layouts_in}
+use Rattle.descriptor_manager.specs.Stores.{generations_in, lists_for}
+use Rattle.descriptor_manager.proofs.Owned.{lists_more, sets_as}
+use Rattle.descriptor_manager.proofs.manager.SetManager.add_layout.Goals.{After-reserve_layout, then-places, else-places}
+use Rattle.descriptor_manager.proofs.manager.SetManager.add_layout.Goals as goal
+
+-- the sets, once memory is reserved
+reserved : (g : _) (c : After-reserve_layout g) → HasSetsOf (layout_slots c.args.self.now.layouts) c.args.self.now.manager c.reserve_layout.new.self
+reserved g c =
+    let old = c.args.self.now in
+    let now = c.reserve_layout.ensures in
+    sets_as (layout_slots old.layouts) (layout_slots old.layouts) old.manager
+    old.store c.reserve_layout.new.self now.contents.slots now.stays.generations now.contents.coming now.stays.number (now.stays.lists ∙ old.sets.lists) (λ n known is. is) (λ counted. counted) old.sets
+
+pub invariant_of-self-clause-sets : goal.invariant_of-self-clause-sets
+invariant_of-self-clause-sets g c = reserved g (goal.at.invariant_of-self-clause-sets g c).After-reserve_layout
+
+pub invariant_of-self-in-Err-1 : goal.invariant_of-self-in-Err-1
+invariant_of-self-in-Err-1 g c =
+    let old = c.args.self.now in
+    record {
+      sets = subst (λ l. HasSetsOf l old.manager c.reserve_layout.new.self) (sym c.in-Err.ensures.none) (reserved g (goal.at.invariant_of-self-in-Err-1 g c).After-reserve_layout);
+      begun = old.begun;
+      numbers_layouts = c.in-Err.ensures.registry ∙ old.numbers_layouts;
+    }
+
+pub invariant_of-self-then-places-clause-sets : goal.invariant_of-self-then-places-clause-sets
+invariant_of-self-then-places-clause-sets g c =
+    let old = c.args.self.now in
+    let layouts = layout_slots old.layouts in
+    let more = c.if-places.true in
+    let was = c.places-places.ensures in
+    let is = c.places.ensures in
+    let long : suc (length layouts) ≡ length (layout_slots c.add.new.self) = elim c.in-Ok.ensures.one [
+      | inl same ↦ absurd (omega arith)
+      | inr one ↦ omega arith
+    ] in
+    let now = c.add_layout.ensures in
+    let sets = reserved g (goal.at.invariant_of-self-then-places-clause-sets g c).After-reserve_layout in
+    sets_as layouts (layout_slots c.add.new.self) old.manager
+    c.reserve_layout.new.self c.add_layout.new.self now.contents.slots now.settings.generations now.contents.coming now.settings.number
+    (now.settings.lists ∙ ap lists_with sets.lists ∙ lists_more (length layouts) ∙ ap lists_for long) c.in-Ok.ensures.stay (c.add.ensures.counted (generations_in c.add_layout.new.self)) sets
+
+pub invariant_of-self-else-places-clause-sets : goal.invariant_of-self-else-places-clause-sets
+invariant_of-self-else-places-clause-sets g c =
+    let old = c.args.self.now in
+    let layouts = layout_slots old.layouts in
+    let none = c.if-places.false in
+    let was = c.places-places.ensures in
+    let is = c.places.ensures in
+    let long : length layouts ≡ length (layout_slots c.add.new.self) = elim c.in-Ok.ensures.one [
+      | inl same ↦ sym same
+      | inr one ↦ absurd (omega arith)
+    ] in
+    let store = c.reserve_layout.new.self in
+    let sets = reserved g (goal.at.invariant_of-self-else-places-clause-sets g c).After-reserve_layout in
+    sets_as layouts (layout_slots c.add.new.self) old.manager
+    store store refl refl refl refl (sets.lists ∙ ap lists_for long) c.in-Ok.ensures.stay (c.add.ensures.counted (generations_in store)) sets
+
+pub returns-after-places-clause-grows : goal.returns-after-places-clause-grows
+returns-after-places-clause-grows g c = elim c.if-places.branch [
+  | then-places w ↦ subst (λ r. Grows (layouts_in c.args.self.now) (layouts_in r)) (sym w.self-is) c.in-Ok.ensures.grows
+  | else-places w ↦ subst (λ r. Grows (layouts_in c.args.self.now) (layouts_in r)) (sym w.self-is) c.in-Ok.ensures.grows
+]

@@ -1,0 +1,25 @@
+use Rattle.descriptor_manager.specs.LayoutRegistries.{layout_slots}
+use Rattle.descriptor_manager.specs.Stores.{NoneComes, slots_in}
+use Rattle.descriptor_manager.proofs.Owned.{sets_settle}
+use Rattle.descriptor_manager.proofs.Showing.{cleaned_names}
+use Rattle.descriptor_manager.proofs.Cleared.{none_left}
+use Rattle.descriptor_manager.proofs.Remaining.{cleaned_empty}
+use Rattle.descriptor_manager.proofs.manager.SetManager.cleanup.Goals as goal
+
+pub invariant_of-self-clause-sets : goal.invariant_of-self-clause-sets
+invariant_of-self-clause-sets g c =
+    sets_settle NoneComes (layout_slots c.args.self.now.layouts) c.args.self.now.manager c.args.self.now.store c.cleanup.new.self c.cleanup.ensures.settles
+    (λ n x none. absurd none) c.args.self.now.sets
+
+pub returns-clause-emptied : goal.returns-clause-emptied
+returns-clause-emptied g c = λ held waiting.
+    let old = c.args.self.now.store in
+    c.cleanup.ensures.emptied (cleaned_empty (slots_in old) (slots_in c.cleanup.new.self) c.args.self.now.sets.rest.placed c.cleanup.ensures.cleaned held waiting)
+
+pub returns-clause-none_kept : goal.returns-clause-none_kept
+returns-clause-none_kept g c = none_left (slots_in c.args.self.now.store) (slots_in c.cleanup.new.self) c.cleanup.ensures.cleaned
+
+pub returns-clause-names : goal.returns-clause-names
+returns-clause-names g c =
+    let old = c.args.self.now in
+    cleaned_names old.frame old.is_open old.manager (slots_in old.store) (slots_in c.cleanup.new.self) c.cleanup.ensures.cleaned

@@ -1,0 +1,25 @@
+use Rattle.std.proofs.Common.{false, ◌≡◌, ℕ, [], length, sym, ap, subst, ◌∙◌, arith}
+use Rattle.std.proofs.lemmas.Option.{none-some}
+use Rattle.descriptor_table.specs.Slots.{slot_at}
+use Rattle.descriptor_manager.specs.Own.{IsCounted}
+use Rattle.descriptor_manager.specs.Stores.{generations_in, lists_for}
+use Rattle.descriptor_manager.specs.LayoutRegistries.{layout_slots, registry_of}
+use Rattle.descriptor_manager.proofs.Owned.{found_none}
+use Rattle.descriptor_manager.proofs.manager.SetManager.new.Goals as goal
+
+pub invariant_of-result-clause-sets : goal.invariant_of-result-clause-sets
+invariant_of-result-clause-sets g c =
+    let none : layout_slots c.new-2.result ≡ [] = c.new-2.ensures.slots in
+    let store = c.new.ensures in
+    record {
+      rest = store.rest;
+      own = λ p n x full at. absurd (none-some x (sym (ap (λ l. (slot_at l p).set) store.slots) ∙ full));
+      counted = λ n. subst (λ l. IsCounted (generations_in c.new.result n) (slot_at l n)) (sym none) (let e = ap (λ (generations : ℕ → ℕ). generations n) store.settings.generations in (omega arith, omega arith));
+      lists = store.settings.lists ∙ ap (λ l. lists_for (length l)) (sym none);
+      number = store.settings.number;
+    }
+
+pub returns-clause-layouts : goal.returns-clause-layouts
+returns-clause-layouts g c handle =
+    let r = c.new-2.result in
+    found_none (registry_of r) 0 false (layout_slots r) handle.slot (ap (λ l. (slot_at l handle.slot.place).set) c.new-2.ensures.slots)

@@ -1,0 +1,108 @@
+use Rattle.std.proofs.Common.{[], ◌≡◌, ◌≢◌, ℕ, ◌+◌, ◌<◌, Some, is_some, length, refl, sym, ap, subst, ◌∙◌, arith}
+use Rattle.std.proofs.lemmas.List.{length-set}
+use Rattle.std.proofs.lemmas.List.Elements.{All-cons, All-nil}
+use Rattle.descriptor_table.specs.Slots.{is_kept_of, slot_at}
+use Rattle.descriptor_table.specs.Tables.{count, removed_at, vacated}
+use Rattle.descriptor_table.proofs.Listed.{other_slots, slot_set}
+use Rattle.descriptor_manager.specs.LayoutRegistries.{layout_slots, layouts_by}
+use Rattle.descriptor_manager.specs.Own.{AreCounted, AreOwn, HasSetsOf}
+use Rattle.descriptor_manager.specs.Stores.{generations_in, lists_for, side_of, slots_in}
+use Rattle.descriptor_manager.proofs.Owned.{layout_here, layout_listed, layout_within}
+use Rattle.descriptor_manager.proofs.Removing.{counted_removed, own_removed, removed_fits, removed_names, removed_none}
+use Rattle.descriptor_manager.proofs.manager.SetManager.remove_layout.Given.{Over}
+use Rattle.descriptor_manager.proofs.manager.SetManager.remove_layout.Goals as goal
+use Rattle.descriptor_manager.proofs.manager.SetManager.remove_layout.Goals.{After-place}
+
+-- the layout is there
+here : (g : Over) (c : After-place g) → (slot_at (layout_slots c.args.self.now.layouts) c.place.result).set ≡ Some c.in-Some.removed
+here g c = layout_here c.args.self.now.layouts c.args.layout c.in-Some.removed c.place.result c.place.ensures (sym c.in-Some.ensures.layout)
+
+-- and leaves its slot
+gone : (g : Over) (c : After-place g) → slot_at (layout_slots c.remove.new.self) c.place.result ≡ vacated (slot_at (layout_slots c.args.self.now.layouts) c.place.result)
+gone g c =
+    let layouts = layout_slots c.args.self.now.layouts in
+    let within = layout_within layouts c.place.result c.in-Some.removed (here g c) in
+    subst (λ p. slot_at (layout_slots c.remove.new.self) p ≡ vacated (slot_at layouts p)) (sym c.place.ensures) (
+    ap (λ l. slot_at l c.args.layout.slot.place) (c.in-Some.ensures.slots refl) ∙ slot_set layouts c.args.layout.slot.place (vacated (slot_at layouts c.args.layout.slot.place)) (let at = c.place.ensures in omega arith))
+
+others : (g : Over) (c : After-place g) (n : ℕ) → n ≢ c.place.result → slot_at (layout_slots c.remove.new.self) n ≡ slot_at (layout_slots c.args.self.now.layouts) n
+others g c n ne =
+    let layouts = layout_slots c.args.self.now.layouts in
+    let p = c.args.layout.slot.place in
+    ap (λ l. slot_at l n) (c.in-Some.ensures.slots refl) ∙ other_slots layouts p (vacated (slot_at layouts p)) n (λ e. ne (e ∙ sym c.place.ensures))
+
+pub remove_layout-requires-clause-layout : goal.remove_layout-requires-clause-layout
+remove_layout-requires-clause-layout g c =
+    let old = c.args.self.now in
+    subst (λ n. c.place.result + 2 < n) (sym old.sets.lists) (layout_listed (layout_slots old.layouts) c.place.result c.in-Some.removed (here g c))
+
+pub remove_layout-requires-clause-next : goal.remove_layout-requires-clause-next
+remove_layout-requires-clause-next g c =
+    let old = c.args.self.now in
+    removed_fits c.place.result (generations_in old.store) (layout_slots old.layouts) old.sets.counted (ap is_some (here g c))
+
+pub invariant_of-self-clause-sets : goal.invariant_of-self-clause-sets
+invariant_of-self-clause-sets g c =
+    let old = c.args.self.now in
+    let fewer = layout_slots c.remove.new.self in
+    let new = slots_in c.remove_layout.new.self in
+    let removes = c.remove_layout.ensures.removes in
+    let d = (goal.at.invariant_of-self-clause-sets g c).After-place in
+    let past :
+    (p : ℕ) → (slot_at new p).layout ≡ c.place.result
+    → (slot_at new p).layout_generation < removed_at c.place.result (generations_in old.store) c.place.result =
+    λ p at.
+    subst (λ (generations : ℕ → ℕ). (slot_at new p).layout_generation < generations c.place.result)
+    removes.generations (removes.past p at) in
+    let layouts = layout_slots old.layouts in
+    let p = c.args.layout.slot.place in
+    let long = ap length (c.in-Some.ensures.slots refl) ∙ length-set layouts p (vacated (slot_at layouts p)) in
+    let settles = c.remove_layout.ensures.settles in
+    record {
+      rest = settles.rest;
+      own = subst (λ generations. AreOwn g.D.DescriptorDevice.meaning generations fewer new) (sym removes.generations) (
+          own_removed g.D.DescriptorDevice.meaning c.place.result (generations_in old.store) (layout_slots old.layouts) fewer (others g d) (slots_in old.store) new removes.turns past old.sets.own);
+      counted = subst (λ generations. AreCounted generations fewer) (sym removes.generations) (
+          counted_removed c.place.result (generations_in old.store) layouts fewer old.sets.counted (ap is_some (here g d)) (gone g d) (others g d));
+      lists = settles.stays.lists ∙ old.sets.lists ∙ ap lists_for (sym long);
+      number = settles.stays.number ∙ old.sets.number;
+    }
+
+pub invariant_of-self-in-None-clause-sets : goal.invariant_of-self-in-None-clause-sets
+invariant_of-self-in-None-clause-sets g c = subst (λ l. HasSetsOf l c.args.self.now.manager c.args.self.now.store) (sym (c.in-None.ensures.none refl)) c.args.self.now.sets
+
+pub returns-in-Some-clause-none_kept : goal.returns-in-Some-clause-none_kept
+returns-in-Some-clause-none_kept g c =
+    let new = slots_in c.remove_layout.new.self in
+    subst (λ p. count (is_kept_of p) new ≡ 0) c.place.ensures (removed_none c.place.result (slots_in c.args.self.now.store) new c.remove_layout.ensures.removes.turns)
+
+pub returns-in-Some-clause-names : goal.returns-in-Some-clause-names
+returns-in-Some-clause-names g c =
+    let old = c.args.self.now in
+    removed_names c.place.result (slots_in old.store) (slots_in c.remove_layout.new.self) c.remove_layout.ensures.removes.turns old.manager old.frame old.is_open
+
+-- the handle lost its layout, and no other handle did
+pub returns-in-Some-clause-others : goal.returns-in-Some-clause-others
+returns-in-Some-clause-others g c = λ other ne.
+    let apart : c.args.layout.slot ≢ other.slot = λ same. ne (λ i. record { slot = sym same i }) in
+    (c.in-Some.ensures.names refl).others other.slot (All-cons (λ h. h ≢ other.slot) c.args.layout.slot [] apart (All-nil (λ h. h ≢ other.slot)))
+
+pub returns-in-Some-clause-rest : goal.returns-in-Some-clause-rest
+returns-in-Some-clause-rest g c =
+    let old = c.args.self.now in
+    let now = c.remove_layout.ensures.settles.stays in
+    let names = c.in-Some.ensures.names refl in
+    λ i. record {
+      number = old.manager;
+      layouts = λ h. (layouts_by c.remove.new.self).set h.slot;
+      given = λ h. names.given h.slot i;
+      frame = old.frame;
+      is_open = old.is_open;
+      slots = slots_in c.remove_layout.new.self;
+      generations = generations_in c.remove_layout.new.self;
+      keep = now.keeps i;
+      side = side_of c.remove_layout.new.self;
+      pools_besides = now.besides i;
+      limit = now.limit i;
+      bound = now.bound i;
+    }

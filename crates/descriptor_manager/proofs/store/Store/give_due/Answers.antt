@@ -1,0 +1,50 @@
+use Rattle.std.proofs.Common.{length, sym, ap, subst, refl, arith}
+use Rattle.gpu_descriptor.specs.Caller.Sets.{items_of}
+use Rattle.gpu_descriptor.specs.Model.Agreement.{count_of}
+use Rattle.descriptor_table.specs.Sets.{sets_in}
+use Rattle.descriptor_table.specs.Slots.{is_due}
+use Rattle.descriptor_table.specs.Tables.{Stays, Turns, Becomes, slots_of, vacated}
+use Rattle.descriptor_table.proofs.Leaving.{given_all, due_all, due_steps}
+use Rattle.descriptor_manager.proofs.Returned.{all_count, all_many, given_count}
+use Rattle.descriptor_manager.proofs.store.Store.give_due.Goals as goal
+
+pub free_from-requires-clause-outstanding : goal.free_from-requires-clause-outstanding
+free_from-requires-clause-outstanding g c xs t y i =
+    let all = given_count g.D.DescriptorDevice.meaning.set_name (is_due c.args.frame) xs _ t.table ((due_steps c.args.frame xs _ t refl y).0) i in
+    let was = c.args.self.now.exact i in
+    omega arith
+
+pub shape_of-self : goal.shape_of-self
+shape_of-self g c = let f = c.free_from.ensures.frees in sym (given_all (is_due c.args.frame) (λ s. refl) f.sets _ _ (due_all c.args.frame f.sets _ _ refl f.drained)).1
+
+pub invariant_of-self-clause-exact : goal.invariant_of-self-clause-exact
+invariant_of-self-clause-exact g c = λ i.
+    let name = g.D.DescriptorDevice.meaning.set_name in
+    let f = c.free_from.ensures.frees in
+    let all = all_count name (is_due c.args.frame) f.sets _ _ (due_all c.args.frame f.sets _ _ refl f.drained) i in
+    let back = f.returns.back.returned i in
+    let was = c.args.self.now.exact i in
+    let end = ap (λ t. count_of i (items_of name (sets_in (slots_of t)))) c.end.ensures in
+    omega arith
+
+pub invariant_of-self-clause-accounted : goal.invariant_of-self-clause-accounted
+invariant_of-self-clause-accounted g c =
+    let f = c.free_from.ensures.frees in
+    let all = all_many g.D.DescriptorDevice.meaning.set_name (is_due c.args.frame) f.sets _ _ (due_all c.args.frame f.sets _ _ refl f.drained) in
+    let back = f.returns.back.outstanding in
+    let was = c.args.self.now.accounted in
+    let end = ap (λ t. length (sets_in (slots_of t))) c.end.ensures in
+    omega arith
+
+pub returns : goal.returns
+returns g c =
+    let f = c.free_from.ensures.frees in
+    let keeps = c.free_from.ensures.keeps in
+    let all = given_all (is_due c.args.frame) (λ s. refl) f.sets _ _ (due_all c.args.frame f.sets _ _ refl f.drained) in
+    let settings = (subst (Stays c.args.self.now.table) (sym c.end.ensures) all.2).settings in
+    record {
+      back = record { sets = f.sets; returns = f.returns };
+      turns = subst (λ t. Turns (is_due c.args.frame) (Becomes vacated) (slots_of c.args.self.now.table) (slots_of t)) (sym c.end.ensures) all.0;
+      keeps = keeps;
+      stays = record { store = record { number = settings.number; lists = settings.lists; generations = settings.generations; limit = keeps.limit; bound = keeps.max; besides = keeps.others; keeps = settings.keep }; coming = refl };
+    }

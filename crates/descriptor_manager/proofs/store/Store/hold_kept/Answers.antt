@@ -1,0 +1,57 @@
+use Rattle.std.proofs.Common.{◌≡◌, ℕ, ◌+◌, ◌<◌, ◌∙◌, [], ◌∷◌, true, inl, refl, sym, subst, take, arith}
+use Rattle.std.proofs.lemmas.List.{length-set}
+use Rattle.descriptor_table.specs.Slots.{is_kept_of, slot_at}
+use Rattle.descriptor_table.specs.Tables.{place_at}
+use Rattle.descriptor_table.proofs.Names.{handles_long, handles_written}
+use Rattle.descriptor_manager.specs.Stores.{HoldEach, NoneComes, current_in, number_of, slots_in}
+use Rattle.descriptor_manager.proofs.Growing.{grow_more}
+use Rattle.descriptor_manager.proofs.Joining.{held_all, held_full, held_next, held_start, kept_then, stays_then, store_same, were_kept}
+use Rattle.descriptor_manager.proofs.store.Store.hold_kept.Goals as goal
+
+pub loop-index-init : goal.loop-index-init
+loop-index-init g c = record {
+  long = refl;
+  holds = held_start c.args.layout c.args.self.now;
+  were_kept = λ i lt. absurd (omega arith);
+  fewer = omega arith;
+  keeps = record { side = refl; sets = λ p x e. inl (e, refl); table = λ n room. room; grows = inl refl; stays = record { store = store_same c.args.self.now; coming = refl } };
+}
+
+pub loop-index-preserved : goal.loop-index-preserved
+loop-index-preserved g c =
+    let was = c.loop-index.invariant in
+    let now = c.hold_next-handle.ensures in
+    let i = c.loop-index.index in
+    let s = c.args.self.now in
+    let handle = c.hold_next-handle.result in
+    let handles = g.N.SetName.handles_of c.loop-index.names in
+    let written = handles_written g.N.SetName g.met.N.SetName.each c.loop-index.names i c.name_of.result handle c.name_of.ensures in
+    let all = handles_long g.N.SetName g.met.N.SetName.each c.loop-index.names in
+    let lt = c.loop-index-test.true in
+    let long = was.long in
+    record {
+      long = length-set c.loop-index.names i c.name_of.result ∙ was.long;
+      holds = subst (λ l. HoldEach (number_of s) (current_in c.args.layout s) (take (i + 1) l) (slots_in s) (slots_in c.hold_next-handle.new.self)) (sym written)
+          (held_next c.args.layout i handles handle s c.loop-index.self c.hold_next-handle.new.self was.keeps.stays.store (omega arith) was.holds now.holds);
+      were_kept = subst (λ l. (j : ℕ) → j < i + 1 → is_kept_of c.args.layout (slot_at (slots_in s) (place_at l j)) ≡ true) (sym written)
+          (were_kept (number_of s) (current_in c.args.layout s) c.args.layout i handles handle (slots_in s) (slots_in c.loop-index.self) (omega arith) was.holds was.were_kept now.was_kept);
+      fewer = (let a = was.fewer in let b = now.fewer in omega arith);
+      keeps = record {
+        side = now.keeps.side ∙ was.keeps.side;
+        sets = kept_then NoneComes (slots_in s) (slots_in c.loop-index.self) (slots_in c.hold_next-handle.new.self) was.keeps.sets now.keeps.sets;
+        table = λ n room. now.keeps.table n (was.keeps.table n room);
+        grows = grow_more (number_of c.loop-index.self) (current_in c.args.layout c.loop-index.self) (handle ∷ []) (slots_in s) (slots_in c.loop-index.self) (slots_in c.hold_next-handle.new.self) was.keeps.grows now.keeps.grows now.holds;
+        stays = record { store = stays_then s c.loop-index.self c.hold_next-handle.new.self was.keeps.stays.store now.keeps.stays.store; coming = now.keeps.stays.coming ∙ was.keeps.stays.coming };
+      };
+    }
+
+pub returns-clause-holds : goal.returns-clause-holds
+returns-clause-holds g c =
+    let was = c.loop-index.invariant in
+    let end = c.loop-index-test.false in
+    let long = was.long in
+    let all = handles_long g.N.SetName g.met.N.SetName.each c.loop-index.names in
+    held_all (number_of c.args.self.now) (current_in c.args.layout c.args.self.now) c.loop-index.index (g.N.SetName.handles_of c.loop-index.names) (slots_in c.args.self.now) (slots_in c.loop-index.self) (omega arith) was.holds
+
+pub name_of-requires : goal.name_of-requires
+name_of-requires g c = held_full (number_of c.loop-index.self) (current_in c.args.layout c.loop-index.self) c.hold_next-handle.result (slots_in c.loop-index.self) (slots_in c.hold_next-handle.new.self) c.hold_next-handle.ensures.holds

@@ -1,0 +1,93 @@
+use Rattle.std.proofs.Common.{◌≡◌, ◌+◌, ◌∙◌, [], ◌∷◌, length, slice_index_or, refl, ap, subst, arith, rules}
+use Rattle.std.specs.Prelude.{⊤}
+use Rattle.std.proofs.lemmas.List.{get_or_append_left, get_or_push, length-append, length-set}
+use Rattle.gpu_descriptor.specs.Caller.Sets.{items_of}
+use Rattle.gpu_descriptor.specs.Model.Agreement.{count_of}
+use Rattle.gpu_descriptor_types.specs.Meaning.{IsOfLayout}
+use Rattle.gpu_descriptor.proofs.callers.HeldSets.{count_parts}
+use Rattle.descriptor_table.specs.Sets.{sets_in}
+use Rattle.descriptor_table.specs.Slots.{slot_at}
+use Rattle.descriptor_table.specs.Tables.{HasRoom, Renews, renewed, slots_of}
+use Rattle.descriptor_table.specs.declared.slot.Use.TheVariants.{Held}
+use Rattle.descriptor_table.proofs.Renewing.{room_stays, usable_renewed}
+use Rattle.descriptor_manager.specs.Stores.{ComesOf, coming_in, generations_in, number_of, slots_in}
+use Rattle.descriptor_manager.proofs.Given.{put_count, put_many, renewed_sets}
+use Rattle.descriptor_manager.proofs.Growing.{grow_new}
+use Rattle.descriptor_manager.proofs.Handing.{fills_arrives, new_fills}
+use Rattle.descriptor_manager.proofs.Joining.{hold_one}
+use Rattle.descriptor_manager.proofs.store.Store.hold_last.Given.{Over}
+use Rattle.descriptor_manager.proofs.store.Store.hold_last.Goals as goal
+use Rattle.descriptor_manager.proofs.store.Store.hold_last.Goals.{After-hold}
+
+renews : (g : Over) (c : After-hold g) → Renews (number_of c.args.self.now) c.put-place.result Held c.hold.result (slots_of c.put-place.new.self) (slots_of c.hold.new.self)
+renews g c = subst (λ n. Renews n c.put-place.result Held c.hold.result (slots_of c.put-place.new.self) (slots_of c.hold.new.self)) c.put-place.ensures.settings.number c.hold.ensures.slots
+
+same_sets : (g : Over) (c : After-hold g) → sets_in (slots_of c.hold.new.self) ≡ sets_in (slots_of c.put-place.new.self)
+same_sets g c = renewed_sets (number_of c.args.self.now) c.put-place.result Held c.hold.result (slots_of c.put-place.new.self) (slots_of c.hold.new.self) (renews g c)
+
+fewer : (g : Over) (c : After-hold g) → length (coming_in c.args.self.now) ≡ length c.pop.new.self.items + 1
+fewer g c = ap length c.in-Some.ensures.items ∙ length-append c.pop.new.self.items (c.in-Some.set ∷ [])
+
+pub invariant_of-self-clause-exact : goal.invariant_of-self-clause-exact
+invariant_of-self-clause-exact g c = λ t.
+    let name = g.D.DescriptorDevice.meaning.set_name in
+    let same = ap (λ l. count_of t (items_of name l)) (same_sets g c) in
+    let more = put_count name (generations_in c.args.self.now) c.args.layout c.put-place.result c.in-Some.set (slots_in c.args.self.now) (slots_of c.put-place.new.self) c.put-place.ensures.puts t in
+    let coming = ap (λ l. count_of t (items_of name l)) c.in-Some.ensures.items in
+    let parts = count_parts name c.pop.new.self.items (c.in-Some.set ∷ []) t in
+    let was = c.args.self.now.exact t in
+    omega arith
+
+pub invariant_of-self-clause-accounted : goal.invariant_of-self-clause-accounted
+invariant_of-self-clause-accounted g c =
+    let same = ap length (same_sets g c) in
+    let more = put_many (generations_in c.args.self.now) c.args.layout c.put-place.result c.in-Some.set (slots_in c.args.self.now) (slots_of c.put-place.new.self) c.put-place.ensures.puts in
+    let coming = fewer g c in
+    let was = c.args.self.now.accounted in
+    omega arith
+
+pub returns-clause-holds : goal.returns-clause-holds
+returns-clause-holds g c =
+    let h = (goal.at.returns-clause-holds g c).After-hold in
+    let fills = new_fills (λ l x. ⊤) (number_of c.args.self.now) (generations_in c.args.self.now) c.args.layout c.put-place.result Held c.hold.result c.in-Some.set (slots_in c.args.self.now) (slots_of c.put-place.new.self) (slots_of c.hold.new.self) c.put-place.ensures.puts tt (renews g h) in
+    hold_one (λ l x. ⊤) (number_of c.args.self.now) (generations_in c.args.self.now) c.args.layout c.put-place.result c.hold.result (slots_in c.args.self.now) (slots_of c.hold.new.self) fills
+
+pub returns-clause-own : goal.returns-clause-own
+returns-clause-own g c = λ known own k d lt.
+    let more = fewer g (goal.at.returns-clause-own g c).After-hold in
+    let same = ap (λ l. slice_index_or l k d) c.in-Some.ensures.items ∙ get_or_append_left c.pop.new.self.items (c.in-Some.set ∷ []) d k lt in
+    subst (λ x. IsOfLayout g.D.DescriptorDevice.meaning known x.raw) same (own k d (omega arith))
+
+pub returns-clause-table : goal.returns-clause-table
+returns-clause-table g c =
+    let h = (goal.at.returns-clause-table g c).After-hold in
+    let r = renews g h in
+    let put = slots_of c.put-place.new.self in
+    let puts = c.put-place.ensures.puts in
+    let room = subst (λ n. HasRoom n c.args.self.now.table) (fewer g h) c.requires.can.table in
+    room_stays (length c.pop.new.self.items) c.put-place.new.self c.hold.new.self c.hold.ensures.stays
+    (ap length r.slots ∙ length-set put c.put-place.result (renewed Held (slot_at put c.put-place.result)))
+    (usable_renewed (number_of c.args.self.now) c.put-place.result Held c.hold.result put (slots_of c.hold.new.self) r
+    puts.within (ap (λ s. s.used) puts.here) refl)
+    (c.put-place.ensures.reserve (length c.pop.new.self.items) room)
+
+pub returns-clause-keeps : goal.returns-clause-keeps
+returns-clause-keeps g c =
+    let h = (goal.at.returns-clause-keeps g c).After-hold in
+    let old = c.args.self.now in
+    let put = slots_of c.put-place.new.self in
+    let puts = c.put-place.ensures.puts in
+    let x = c.in-Some.set in
+    record {
+      side = refl;
+      sets = λ known own.
+          let left = length c.pop.new.self.items in
+          let more = fewer g h in
+          let last = ap (λ l. slice_index_or l left x) c.in-Some.ensures.items ∙ get_or_push c.pop.new.self.items x x left refl in
+          let is = subst (λ x. IsOfLayout g.D.DescriptorDevice.meaning known x.raw) last (own left x (omega arith)) in
+          let comes = ComesOf g.D.DescriptorDevice.meaning known c.args.layout in
+          let fills = new_fills comes (number_of old) (generations_in old) c.args.layout c.put-place.result Held c.hold.result x (slots_in old) put (slots_of c.hold.new.self) puts (refl, is) (renews g h) in
+          λ q. (fills_arrives comes (number_of old) (generations_in old) c.args.layout c.put-place.result Held c.hold.result refl (slots_in old) (slots_of c.hold.new.self) fills q).set;
+      grows = grow_new (number_of old) (generations_in old) c.args.layout c.put-place.result x Held c.hold.result (slots_in old) put (slots_of c.hold.new.self) (λ s. refl) puts (renews g h);
+      stays = search rules;
+    }

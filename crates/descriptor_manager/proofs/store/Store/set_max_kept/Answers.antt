@@ -1,0 +1,63 @@
+use Rattle.std.proofs.Common.{◌≡◌, ◌+◌, ◌-◌, ◌∙◌, ap, subst, arith, rules}
+use Rattle.descriptor_table.specs.Sets.{sets_in}
+use Rattle.descriptor_table.specs.Slots.{goes, is_in, chains_in, nexts_in, slots_in}
+use Rattle.descriptor_table.specs.Tables.{Turns, Becomes, count, is_kept, slots_of, vacated, MayBecome}
+use Rattle.descriptor_table.proofs.Counts.{chain_count}
+use Rattle.descriptor_manager.proofs.Given.{accounted_as, exact_as}
+use Rattle.descriptor_manager.proofs.Back.{given_kept, left}
+use Rattle.descriptor_manager.proofs.Cleaned.{gone_sets}
+use Rattle.descriptor_manager.proofs.Following.{follow_turns, follows_left, none_goes}
+use Rattle.descriptor_manager.proofs.Settling.{settled}
+use Rattle.descriptor_manager.proofs.store.Store.set_max_kept.Given.{Over}
+use Rattle.descriptor_manager.proofs.store.Store.set_max_kept.Goals.{After-give, After-set_max_kept}
+use Rattle.descriptor_manager.proofs.store.Store.set_max_kept.Goals as goal
+
+pub set_max_kept-requires : goal.set_max_kept-requires
+set_max_kept-requires g c = λ k two.
+    let s = c.trim.new.self in
+    let few = c.trim.ensures.few (k - 2) in
+    let back : k - 2 + 2 ≡ k = omega arith in
+    let same = ap (λ j. count (is_in j) (slots_of s)) back in
+    let all = chain_count (slots_of s) (nexts_in s.slots) (chains_in s.lists.items) s.sound.linked k in
+    omega arith
+
+-- the sets are as they were
+same_sets : (g : _) (c : After-set_max_kept g) → sets_in (slots_of c.set_max_kept.new.self) ≡ sets_in (slots_of c.args.self.now.table)
+same_sets g c =
+    ap (λ v. sets_in (slots_in v)) c.set_max_kept.ensures.slots ∙ gone_sets is_kept (slots_of c.args.self.now.table) (slots_of c.trim.new.self) c.trim.ensures.turns.slots
+
+pub invariant_of-self-clause-exact : goal.invariant_of-self-clause-exact
+invariant_of-self-clause-exact g c = exact_as c.args.self.now (same_sets g (goal.at.invariant_of-self-clause-exact g c).After-set_max_kept)
+
+pub invariant_of-self-clause-accounted : goal.invariant_of-self-clause-accounted
+invariant_of-self-clause-accounted g c = accounted_as c.args.self.now (same_sets g (goal.at.invariant_of-self-clause-accounted g c).After-set_max_kept)
+
+-- those that were let go were given back
+gives : (g : Over) (c : After-give g) → Turns goes (Becomes vacated) (slots_of c.trim.new.self) (slots_of c.give.new.self.table)
+gives g c = subst (λ v. Turns goes (Becomes vacated) (slots_in v) (slots_of c.give.new.self.table)) c.set_max_kept.ensures.slots c.give.ensures.turns
+
+all : (g : Over) (c : After-give g) → Turns is_kept (MayBecome vacated) (slots_of c.args.self.now.table) (slots_of c.give.new.self.table)
+all g c =
+    let old = slots_of c.args.self.now.table in
+    left old (slots_of c.trim.new.self) (slots_of c.give.new.self.table) (none_goes old c.requires.rest.placed) c.trim.ensures.turns.slots (gives g c)
+
+pub returns-clause-trims : goal.returns-clause-trims
+returns-clause-trims g c = record { turns = all g c; back = c.give.ensures.back }
+
+pub returns-clause-few : goal.returns-clause-few
+returns-clause-few g c = λ layout.
+    let same = given_kept (slots_of c.trim.new.self) (slots_of c.give.new.self.table) (gives g c) (layout + 2) (omega arith) in
+    let few = c.trim.ensures.few layout in
+    omega arith
+
+pub returns-clause-as_many : goal.returns-clause-as_many
+returns-clause-as_many g c = λ layout n le has.
+    let same = given_kept (slots_of c.trim.new.self) (slots_of c.give.new.self.table) (gives g c) (layout + 2) (omega arith) in
+    let more = c.trim.ensures.as_many layout n le has in
+    omega arith
+
+pub returns-clause-settles : goal.returns-clause-settles
+returns-clause-settles g c =
+    let old = slots_of c.args.self.now.table in
+    let new = slots_of c.give.new.self.table in
+    settled c.args.self.now c.give.new.self (follow_turns is_kept (MayBecome vacated) old new (all g c) (follows_left new)) (c.give.ensures.stays.coming ∙ c.requires.rest.none_coming) c.requires.rest (search rules)

@@ -1,0 +1,31 @@
+-- The layouts of a registry, and which a handle names.
+use Rattle.std.specs.Prelude.{◌≡◌, ℕ, false, List, Option}
+use Rattle.gpu_descriptor_types.specs.declared.device.DescriptorDevice.{Ghosts}
+use Rattle.gpu_descriptor.specs.declared.layout.SetLayout.{SetLayout}
+use Rattle.descriptor_table.specs.Sets.{Sets, sets_of}
+use Rattle.descriptor_table.specs.Tables as tables
+use Rattle.descriptor_table.specs.Slots.{Slot}
+use Rattle.descriptor_manager.specs.declared.layout_registry.LayoutHandle.{LayoutHandle}
+use Rattle.descriptor_manager.specs.declared.layout_registry.LayoutRegistry.{LayoutRegistry}
+
+module _ {L P S D : Type 0} {d : Ghosts D L P S} where
+  -- the number that tells the registry from others
+  abbrev pub registry_of : LayoutRegistry L P S D d → ℕ
+  registry_of r = tables.number_of r.table
+
+  -- the slots of the layouts
+  abbrev pub layout_slots : LayoutRegistry L P S D d → List (Slot (SetLayout L))
+  layout_slots r = tables.slots_of r.table
+
+  -- the slots and the number are as they were
+  pub record KeepsLayouts (old new : LayoutRegistry L P S D d) : Type 0 where
+    pub slots : layout_slots new ≡ layout_slots old
+    pub registry : registry_of new ≡ registry_of old
+
+  -- the layouts by handle: each is held, in no frame
+  abbrev pub layouts_by : LayoutRegistry L P S D d → Sets (SetLayout L)
+  layouts_by r = sets_of (registry_of r) 0 false (layout_slots r)
+
+  -- the layout of a handle. None if another registry gave the handle, or the layout was removed
+  abbrev pub layout_at : LayoutRegistry L P S D d → LayoutHandle → Option (SetLayout L)
+  layout_at r h = (layouts_by r).set h.slot

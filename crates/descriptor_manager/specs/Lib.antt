@@ -1,0 +1,6 @@
+pub mod Errors
+pub mod Exact
+pub mod LayoutRegistries
+pub mod Own
+pub mod Managers
+pub mod Stores

@@ -1,0 +1,180 @@
+-- What a set manager has: layouts, frames, sets by handle, and the pools of its device.
+use Rattle.std.specs.Prelude.{◌≡◌, ℕ, ◌-◌, ◌<◌, Bool, List, length, Option, None, Some, min, slice_index_or, if◌then◌else◌, ◌≤◌, ◌↔◌, Result, OnOk, OnErr, IsErrOf}
+use Rattle.gpu_descriptor_types.specs.Ledger.{Ledger, Pool}
+use Rattle.gpu_descriptor_types.specs.Meaning.{IsOfLayout}
+use Rattle.gpu_descriptor_types.specs.Side.{Side}
+use Rattle.gpu_descriptor_types.specs.declared.device.DescriptorDevice.{Ghosts}
+use Rattle.gpu_descriptor.specs.Caller.Call.{layout_key}
+use Rattle.gpu_descriptor.specs.Caller.Values.{Allocations}
+use Rattle.gpu_descriptor.specs.Model.Books.{BucketOf, books_of}
+use Rattle.gpu_descriptor.specs.declared.layout.SetLayout.{SetLayout}
+use Rattle.gpu_descriptor.specs.declared.set.DescriptorSet.{DescriptorSet}
+use Rattle.descriptor_table.specs.Sets.{NameEach, Names, Sets, sets_of, AreHeldOnce, LoseNames}
+use Rattle.descriptor_table.specs.declared.handle.SetHandle.{SetHandle}
+use Rattle.descriptor_table.specs.Slots.{Slot}
+use Rattle.descriptor_manager.specs.LayoutRegistries.{layout_at, layout_slots, layouts_by}
+use Rattle.descriptor_manager.specs.Stores as stores
+use Rattle.descriptor_manager.specs.declared.layout_registry.LayoutHandle.{LayoutHandle}
+use Rattle.descriptor_manager.specs.declared.manager.SetManager.{SetManager}
+use Rattle.descriptor_table.specs.Tables.{used_for, Becomes, Grows, TurnEach}
+use Rattle.descriptor_table.specs.declared.slot.Use.TheVariants.{Waits}
+use Rattle.descriptor_manager.specs.declared.errors.RequestError.{RequestError}
+use Rattle.descriptor_manager.specs.declared.errors.RequestError.TheVariants.{NoFrame, NoLayout}
+use Rattle.descriptor_manager.specs.declared.errors.FreeError.{FreeError}
+use Rattle.descriptor_manager.specs.declared.errors.FreeError.TheVariants.{FrameAhead, NoSet}
+
+-- what a caller sees of a set manager
+pub record Rendering (L P S : Type 0) : Type 0 where
+  pub number : ℕ
+  -- the layouts by handle, and which handles were given for layouts
+  pub layouts : LayoutHandle → Option (SetLayout L)
+  pub given : LayoutHandle → Bool
+  pub frame : ℕ
+  pub is_open : Bool
+  -- the slots of its sets, each with its layout and what it is in use for
+  pub slots : List (Slot (DescriptorSet S))
+  -- how many layouts of each number were removed
+  pub generations : ℕ → ℕ
+  -- how many sets of a layout are kept at most
+  pub keep : ℕ
+  -- the allocator, and the ledger of the device
+  pub side : Side (Allocations P)
+  pub pools_besides : ℕ → Option Pool
+  pub limit : ℕ
+  -- how many descriptors a new pool has at most, unless what is wanting needs more
+  pub bound : Option ℕ
+
+-- a set manager over a device
+abbrev pub ManagerOver : {L P S D : Type 0} → Ghosts D L P S → Type 0
+ManagerOver {L} {P} {S} {D} d = SetManager L P S D d
+
+module _ {L P S D : Type 0} {d : Ghosts D L P S} where
+  -- the sets, the allocator and the device
+  abbrev pub store_of : ManagerOver d → stores.StoreOver d
+  store_of r = r.store
+
+  -- the number that its handles have, of sets and of layouts
+  abbrev pub number_of : ManagerOver d → ℕ
+  number_of r = r.manager
+
+  -- the slots of the layouts
+  abbrev pub layouts_in : ManagerOver d → List (Slot (SetLayout L))
+  layouts_in r = layout_slots r.layouts
+
+  -- the layout of a handle. None if the set manager did not give the handle, or the layout was removed
+  abbrev pub layout_of : ManagerOver d → LayoutHandle → Option (SetLayout L)
+  layout_of r = layout_at r.layouts
+
+  -- whether a handle was ever given for a layout
+  abbrev pub layout_given : ManagerOver d → LayoutHandle → Bool
+  layout_given r h = (layouts_by r.layouts).given h.slot
+
+  -- the frame that was opened or skipped last, 0 before the first
+  abbrev pub frame_of : ManagerOver d → ℕ
+  frame_of r = r.frame
+
+  -- whether a frame is open
+  abbrev pub is_open : ManagerOver d → Bool
+  is_open r = r.is_open
+
+  -- the slots of all sets
+  abbrev pub slots_of : ManagerOver d → List (Slot (DescriptorSet S))
+  slots_of r = stores.slots_in r.store
+
+  -- the sets by handle: those that are held, and those of the open frame
+  abbrev pub sets_by : ManagerOver d → Sets (DescriptorSet S)
+  sets_by r = sets_of r.manager r.frame r.is_open (slots_of r)
+
+  -- how many layouts of each number were removed
+  abbrev pub generations_of : ManagerOver d → ℕ → ℕ
+  generations_of r = stores.generations_in r.store
+
+  -- how many sets of a layout are kept
+  abbrev pub kept_of : LayoutHandle → ManagerOver d → ℕ
+  kept_of layout r = stores.kept_of layout.slot.place r.store
+
+  -- how many sets of a layout are kept at most
+  abbrev pub keep_of : ManagerOver d → ℕ
+  keep_of r = stores.keep_of r.store
+
+  -- the ledger of the device
+  abbrev pub ledger_in : ManagerOver d → Ledger
+  ledger_in r = d.ledger r.store.device
+
+  -- the live pools of the device that are none of the set manager's
+  abbrev pub pools_besides : ManagerOver d → ℕ → Option Pool
+  pools_besides r = stores.pools_besides r.store
+
+  -- the allocator, and the ledger of the device
+  abbrev pub side_of : ManagerOver d → Side (Allocations P)
+  side_of r = stores.side_of r.store
+
+  -- the limit on update-after-bind descriptors
+  abbrev pub limit_of : ManagerOver d → ℕ
+  limit_of r = stores.limit_of r.store
+
+  -- how many descriptors a new pool has at most, unless what is wanting needs more
+  abbrev pub bound_of : ManagerOver d → Option ℕ
+  bound_of r = stores.bound_of r.store
+
+  -- the last frame that the device can be done with, of those up to this one: the open frame is none of them
+  abbrev pub done_of : ℕ → ManagerOver d → ℕ
+  done_of frame r = if r.is_open then min frame (r.frame - 1) else frame
+
+  -- all that callers see of a manager: a clause says at once that it stays, but for the fields that the call may change
+  abbrev pub seen : ManagerOver d → Rendering L P S
+  seen r = record {
+    number = number_of r;
+    layouts = layout_of r;
+    given = layout_given r;
+    frame = frame_of r;
+    is_open = is_open r;
+    slots = slots_of r;
+    generations = generations_of r;
+    keep = keep_of r;
+    side = side_of r;
+    pools_besides = pools_besides r;
+    limit = limit_of r;
+    bound = bound_of r;
+  }
+
+  -- all that is seen stays, but for the slots of sets, and their pools
+  abbrev pub OnlySetsChange : ManagerOver d → ManagerOver d → Type 0
+  OnlySetsChange old new = seen new ≡ record (seen old) { slots = slots_of new; side = side_of new }
+
+  -- a set of the layout has the handle, which was never given; each other handle names what it named
+  pub record Comes (layout : L) (handle : SetHandle) (old new : ManagerOver d) : Type 0 where
+    pub set : DescriptorSet S
+    pub own : IsOfLayout d.meaning layout set.raw
+    pub names : Names handle set (sets_by old) (sets_by new)
+
+  -- sets of the layout have the handles, none of which was ever given; each other handle names what it named
+  pub record ComeEach (layout : L) (handles : List SetHandle) (old new : ManagerOver d) : Type 0 where
+    pub names : NameEach handles (sets_by old) (sets_by new)
+    pub own : (i : ℕ) (e : SetHandle) (x : DescriptorSet S) → i < length handles → (sets_by new).set (slice_index_or handles i e) ≡ Some x → IsOfLayout d.meaning layout x.raw
+
+  -- nothing but slots and pools changes: on an error each handle names what it named, and there are more slots only if each has a set, or had its last generation
+  pub record OnlySetsCome {R : Type 0} (result : Result R RequestError) (old new : ManagerOver d) : Type 0 where
+    pub stay : OnErr result (sets_by new ≡ sets_by old)
+    pub grows : Grows (slots_of old) (slots_of new)
+    pub rest : OnlySetsChange old new
+
+  -- no frame is needed. NoLayout comes exactly without the layout, and then nothing changed
+  pub record NeedsLayout {R : Type 0} (layout : LayoutHandle) (result : Result R RequestError) (old new : ManagerOver d) : Type 0 where
+    pub no_frame : ¬ (IsErrOf result NoFrame)
+    pub no_layout : (IsErrOf result NoLayout) ↔ (layout_of old layout ≡ None)
+    pub early : IsErrOf result NoLayout → seen new ≡ seen old
+
+  -- the sets wait for the frame, and their handles name nothing. Nothing changes if the frame is later than the last one, or else if a handle has no held set, or is there twice
+  pub record Destroys (handles : List SetHandle) (frame : ℕ) (result : Result Unit FreeError) (old new : ManagerOver d) : Type 0 where
+    pub waits : OnOk result (TurnEach handles (Becomes (used_for (Waits frame))) (slots_of old) (slots_of new))
+    pub names : OnOk result (LoseNames handles (sets_by old) (sets_by new))
+    pub once : OnOk result (AreHeldOnce (number_of old) (slots_of old) handles)
+    pub ahead : (IsErrOf result FrameAhead) ↔ (frame_of old < frame)
+    pub no_set : (IsErrOf result NoSet) ↔ ((frame ≤ frame_of old) × ¬ (AreHeldOnce (number_of old) (slots_of old) handles))
+    pub stay : OnErr result (slots_of new ≡ slots_of old)
+    pub rest : seen new ≡ record (seen old) { slots = slots_of new }
+
+  -- the pools for sets of layouts that have the key of this one
+  abbrev pub pools_for : L → ManagerOver d → BucketOf P
+  pools_for layout r = books_of (side_of r).value.table (layout_key d.meaning layout)

@@ -1,0 +1,147 @@
+//! Layouts under handles.
+ghost use Rattle.std.specs.Prelude.{◌≡◌, ◌+◌, ◌<◌, ◌⊎◌, ℕ, [], ◌∷◌, length, slice_set, IfErr, IfOk, IfSome};
+ghost use Rattle.std.specs.Prelude.{IsSome, None, OnErr, OnOk, Some};
+ghost use Rattle.std.specs.Option.{option_copied};
+ghost use Rattle.gpu_descriptor.specs.Caller.SetLayouts.{IsMeant};
+ghost use Rattle.descriptor_table.specs.Tables.{lists_of, slots_of};
+ghost use Rattle.descriptor_manager.specs.Own.{AreCounted, AreMeant};
+
+use descriptor_table::{SetHandle, SetTable, place_of};
+use gpu_descriptor::{DescriptorDevice, SetLayout};
+use std::alloc::{AllocError, AllocFailed, Global};
+use std::marker::PhantomData;
+
+/// The handle of a layout. Only the set manager that gave it has the layout. Once the layout is removed, it
+/// names none, and none later.
+#[must_use = "sets of the layout are asked for by its handle"]
+#[derive(Clone, Copy, Debug, PartialEq, Eq, Hash)]
+pub struct LayoutHandle {
+    pub(crate) slot: SetHandle,
+}
+
+impl LayoutHandle {
+    /// The number by which its sets are kept.
+    #[inline]
+    pub(crate) fn place(self) -> u32
+        ensures { result ≡ self.slot.place }
+    {
+        place_of(self.slot)
+    }
+}
+
+/// The layouts of a device, each under a handle. They are in a table as sets are, each held from the
+/// call that adds it to the one that removes it. There are at most `u32::MAX` at once.
+///
+/// A handle of another registry is refused by the number that the registry was made with: give
+/// each registry of a program a number of its own. Under equal numbers a handle of one registry
+/// may name a layout of the other.
+#[derive(Drop)]
+pub struct LayoutRegistry<L, P, S, D: DescriptorDevice<L, P, S>> {
+    table: SetTable<SetLayout<L>>,
+    device: PhantomData<(P, S, D)>,
+    ghost meant: { AreMeant D.meaning (slots_of table) },
+    ghost listed: { 0 < lists_of table → 2 < lists_of table },
+}
+
+impl<L, P, S, D: DescriptorDevice<L, P, S>> LayoutRegistry<L, P, S, D> {
+    ghost use Rattle.descriptor_table.specs.Sets.{LoseNames, Names};
+    ghost use Rattle.descriptor_table.specs.Slots.{slot_at};
+    ghost use Rattle.descriptor_table.specs.Tables.{Grows, HasRoom, vacated};
+    ghost use Rattle.descriptor_manager.specs.LayoutRegistries.{KeepsLayouts, layout_at, layout_slots, layouts_by};
+    ghost use Rattle.descriptor_manager.specs.LayoutRegistries.{registry_of};
+    ghost use Rattle.gpu_descriptor.specs.declared.layout.SetLayout.{SetLayout};
+
+    /// A registry without layouts, with the number that tells it from others. It allocates nothing.
+    pub fn new(alloc: Global, registry: u64) -> Self
+        ensures slots { layout_slots result ≡ [] }
+        ensures registry { registry_of result ≡ registry }
+    {
+        LayoutRegistry {
+            table: SetTable::new(alloc, registry),
+            device: PhantomData,
+        }
+    }
+
+    /// How many slots there are: as many as there were layouts at once, and those slots that gave their
+    /// last handle.
+    pub fn places(&self) -> usize
+        ensures { result ≡ length (layout_slots self.now) }
+    {
+        self.table.places()
+    }
+
+    /// Gives the table its lists, if it has none yet.
+    fn reserve_list(&mut self) -> Result<(), AllocError>
+        ensures lists { OnOk result (2 < lists_of self.new.table) }
+        ensures keeps { KeepsLayouts self.old self.new }
+    {
+        if self.table.has_layouts() {
+            return Ok(());
+        }
+        self.table.reserve_layout()?;
+        self.table.add_layout();
+        Ok(())
+    }
+
+    /// Reserves memory for one layout more.
+    fn reserve(&mut self) -> Result<(), AllocError>
+        ensures room { OnOk result (HasRoom 1 self.new.table) }
+        ensures lists { OnOk result (2 < lists_of self.new.table) }
+        ensures keeps { KeepsLayouts self.old self.new }
+    {
+        self.reserve_list()?;
+        self.table.reserve(1)
+    }
+
+    /// Adds a layout, in the slot that was vacated last, or else in a new one, and returns its handle. If
+    /// an allocation fails the layout is returned, and nothing changed.
+    pub fn add(&mut self, layout: SetLayout<L>) -> Result<LayoutHandle, AllocFailed<SetLayout<L>>>
+        requires meant { IsMeant D.meaning layout }
+        ensures names { IfOk result (λ handle. Names handle.slot layout (layouts_by self.old)
+            (layouts_by self.new)) }
+        ensures fresh { IfOk result (λ handle. layout_at self.old handle ≡ None) }
+        ensures counted { (generations : ℕ → ℕ) → AreCounted generations (layout_slots self.old)
+            → AreCounted generations (layout_slots self.new) }
+        ensures stay { (n : ℕ) (known : SetLayout L) → (slot_at (layout_slots self.old) n).set
+            ≡ Some known → (slot_at (layout_slots self.new) n).set ≡ Some known }
+        ensures grows { OnOk result (Grows (layout_slots self.old) (layout_slots self.new)) }
+        ensures one { OnOk result ((length (layout_slots self.new) ≡ length (layout_slots self.old))
+            ⊎ (length (layout_slots self.new) ≡ length (layout_slots self.old) + 1)) }
+        ensures none { OnErr result (layout_slots self.new ≡ layout_slots self.old) }
+        ensures back { IfErr result (λ failed. failed.value ≡ layout) }
+        ensures registry { registry_of self.new ≡ registry_of self.old }
+    {
+        if self.reserve().is_err() {
+            return Err(AllocFailed { value: layout });
+        }
+        // In their own table all layouts have one number.
+        let place = self.table.put(0, layout);
+        Ok(LayoutHandle {
+            slot: self.table.hold(place),
+        })
+    }
+
+    /// Removes a layout, and returns it. None if the handle names none, and then nothing changed. It
+    /// allocates nothing.
+    pub fn remove(&mut self, handle: LayoutHandle) -> Option<SetLayout<L>>
+        ensures layout { result ≡ layout_at self.old handle }
+        ensures meant { IfSome result (λ known. IsMeant D.meaning known) }
+        ensures names { IsSome result → LoseNames (handle.slot ∷ []) (layouts_by self.old)
+            (layouts_by self.new) }
+        ensures slots { IsSome result → layout_slots self.new ≡ slice_set (layout_slots self.old)
+            handle.slot.place (vacated (slot_at (layout_slots self.old) handle.slot.place)) }
+        ensures none { result ≡ None → layout_slots self.new ≡ layout_slots self.old }
+        ensures registry { registry_of self.new ≡ registry_of self.old }
+    {
+        self.table.remove(handle.slot)
+    }
+
+    /// The layout of a handle. None if another registry gave the handle, or the layout was removed.
+    #[inline]
+    pub fn get(&self, handle: LayoutHandle) -> Option<&SetLayout<L>>
+        ensures layout { option_copied result ≡ layout_at self.now handle }
+        ensures meant { IfSome result (λ layout. IsMeant D.meaning layout.now) }
+    {
+        self.table.get(handle.slot, 0, false)
+    }
+}

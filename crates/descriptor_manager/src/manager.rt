@@ -1,0 +1,307 @@
+//! The manager: layouts that are added as it runs, sets of a frame, and sets that are held.
+ghost use Rattle.std.specs.Prelude.{◌≡◌, ◌≢◌, ◌≤◌, ◌↔◌, []};
+ghost use Rattle.std.specs.Prelude.{IfErr, IfOk, IsErrOf, IsSome, None, OnErr, OnOk, Some, false, true};
+ghost use Rattle.std.specs.Option.{option_copied};
+ghost use Rattle.gpu_descriptor.specs.Caller.CleansUp.{TrimsPools};
+ghost use Rattle.gpu_descriptor.specs.Caller.SetLayouts.{IsMeant};
+ghost use Rattle.descriptor_table.specs.Slots.{is_kept_of, waits};
+ghost use Rattle.descriptor_table.specs.Tables.{Grows, KeepsUpTo, count, holds, is_kept};
+ghost use Rattle.descriptor_manager.specs.LayoutRegistries.{layout_slots, registry_of};
+ghost use Rattle.descriptor_manager.specs.Own.{HasSetsOf};
+ghost use Rattle.descriptor_manager.specs.Stores.{AreCleaned, Cleans, Removes, Trims};
+
+mod frames;
+mod pools;
+mod sets;
+
+use crate::errors::RequestError;
+use crate::layout_registry::{LayoutHandle, LayoutRegistry};
+use crate::store::Store;
+use gpu_descriptor::{DescriptorDevice, SetLayout};
+use std::alloc::{AllocFailed, Global};
+
+/// How many sets a set manager has.
+#[derive(Clone, Copy, Debug, PartialEq, Eq)]
+pub struct Counts {
+    /// Sets that are held.
+    pub held: u64,
+
+    /// Sets that wait for a frame, those of the open frame among them.
+    pub waiting: u64,
+
+    /// Sets that are kept.
+    pub kept: u64,
+}
+
+/// The descriptor sets of a set manager, over a device that it owns.
+///
+/// A frame is opened by `begin_frame`, takes any number of sets by `allocate_for_frame`, and is ended by
+/// `end_frame`. Its sets come back once `frame_done` is called with the frame or a later one; frames in
+/// between may be in flight. A set by `allocate` or `allocate_into` is held until it is freed at once
+/// by `free`, or destroyed by `free_after` or `free_after`: then it comes back at the next
+/// `frame_done` of the frame of its last use or a later one.
+///
+/// A set that comes back is kept, as long as no more of its layout are kept than `set_max_kept` says, at
+/// first all. Kept sets are handed out again before the device is asked for a new one. They have the
+/// contents that they had. `cleanup` gives them back, and `remove_layout` those of its layout. A request
+/// that the allocator refuses frees them too, and retries, unless it alone exceeds the limit. Only `allocate_for_frame`,
+/// `allocate`, `allocate_into` and `add_layout` allocate.
+///
+/// The raw set of a handle is borrowed, as the device is, to be written and bound. Do not allocate or
+/// free on the device in the meantime: only the set manager does.
+#[derive(Drop)]
+pub struct SetManager<L, P, S, D: DescriptorDevice<L, P, S>> {
+    layouts: LayoutRegistry<L, P, S, D>,
+
+    /// The number that tells the set manager's handles from those of others.
+    manager: u64,
+    frame: u64,
+    is_open: bool,
+
+    /// The last field, as the device in it is dropped last.
+    store: Store<L, P, S, D>,
+    ghost sets: { HasSetsOf (layout_slots layouts) manager store },
+    ghost begun: { is_open ≡ true → 1 ≤ frame },
+    ghost numbers_layouts: { registry_of layouts ≡ manager },
+}
+
+impl<L: Drop, P: Drop, S: Drop, D: DescriptorDevice<L, P, S>> SetManager<L, P, S, D> {
+    ghost use Rattle.gpu_descriptor.specs.declared.layout.SetLayout.{SetLayout};
+    ghost use Rattle.descriptor_manager.specs.declared.layout_registry.LayoutHandle.{LayoutHandle};
+    ghost use Rattle.descriptor_manager.specs.Managers.{OnlySetsChange, bound_of, frame_of, generations_of, is_open};
+    ghost use Rattle.descriptor_manager.specs.Managers.{kept_of, layout_given, layout_of};
+    ghost use Rattle.descriptor_manager.specs.Managers.{layouts_in, ledger_in, limit_of, keep_of};
+    ghost use Rattle.descriptor_manager.specs.Managers.{number_of, pools_besides, seen};
+    ghost use Rattle.descriptor_manager.specs.Managers.{sets_by, side_of, slots_of, store_of};
+
+    /// A set manager over a device, without layouts, sets and an open frame. It allocates nothing.
+    ///
+    /// `limit` is the driver's, on the update-after-bind descriptors of all pools. By `manager` its
+    /// handles are told from those of other managers: give each of a program a number of its own. A
+    /// new pool has at most 65,536 descriptors, unless what is wanting needs more:
+    /// `set_max_pool_descriptors` changes that.
+    pub fn new(alloc: Global, device: D, limit: u32, manager: u64) -> Self
+        ensures layouts { (handle : LayoutHandle) → layout_of result handle ≡ None }
+        ensures frame { frame_of result ≡ 0 }
+        ensures open { is_open result ≡ false }
+        ensures slots { slots_of result ≡ [] }
+        ensures keep { keep_of result ≡ u32.MAX }
+        ensures pools { pools_besides result ≡ (D.ledger device).pools }
+        ensures limit { limit_of result ≡ limit }
+        ensures bound { bound_of result ≡ Some 65536 }
+        ensures ledger { ledger_in result ≡ D.ledger device }
+        ensures number { number_of result ≡ manager }
+    {
+        SetManager {
+            store: Store::new(alloc, device, limit, manager),
+            layouts: LayoutRegistry::new(alloc, manager),
+            manager,
+            frame: 0,
+            is_open: false,
+        }
+    }
+
+    /// Adds a layout, and returns its handle, which was never given before. If an allocation fails, or if
+    /// there are `u32::MAX`, the layout is returned, and nothing changed.
+    pub fn add_layout(
+        &mut self,
+        layout: SetLayout<L>,
+    ) -> Result<LayoutHandle, AllocFailed<SetLayout<L>>>
+        requires { IsMeant D.meaning layout }
+        ensures added { IfOk result (λ handle. layout_of self.new handle ≡ Some layout) }
+        ensures never { IfOk result (λ handle. layout_given self.old handle ≡ false) }
+        ensures given { IfOk result (λ handle. layout_given self.new handle ≡ true) }
+        ensures fresh { IfOk result (λ handle. layout_of self.old handle ≡ None) }
+        ensures others { IfOk result (λ handle. (other : LayoutHandle) → other ≢ handle
+            → (layout_of self.new other ≡ layout_of self.old other)
+            × (layout_given self.new other ≡ layout_given self.old other)) }
+        ensures grows { Grows (layouts_in self.old) (layouts_in self.new) }
+        ensures stay { OnErr result (seen self.new ≡ seen self.old) }
+        ensures back { IfErr result (λ failed. failed.value ≡ layout) }
+        ensures rest { seen self.new ≡ record (seen self.old)
+            { layouts = layout_of self.new; given = layout_given self.new } }
+    {
+        if self.store.reserve_layout().is_err() {
+            return Err(AllocFailed { value: layout });
+        }
+        let places = self.layouts.places();
+        match self.layouts.add(layout) {
+            Ok(handle) => {
+                if self.layouts.places() > places {
+                    self.store.add_layout();
+                }
+                Ok(handle)
+            }
+            Err(failed) => Err(failed),
+        }
+    }
+
+    /// Removes a layout, and returns it. Its handle names none from now on, and none later. Its kept sets
+    /// are given back, and then the pools of its key that have no set are destroyed, as by the allocator's
+    /// `trim_layout`. Its other sets stay as they are, and aren't kept when they come back: a pool that they
+    /// leave empty may stay until `trim` or `cleanup`. It allocates nothing.
+    ///
+    /// It returns `NoLayout` if the handle names no layout, and then nothing changed.
+    pub fn remove_layout(&mut self, layout: LayoutHandle) -> Result<SetLayout<L>, RequestError>
+        ensures removed { IfOk result (λ known. layout_of self.old layout ≡ Some known) }
+        ensures gone { OnOk result (layout_of self.new layout ≡ None) }
+        ensures others { (other : LayoutHandle) → other ≢ layout → layout_of self.new other
+            ≡ layout_of self.old other }
+        ensures removes { IfOk result (λ known. Removes known.layout layout.slot.place
+            (store_of self.old) (store_of self.new)) }
+        ensures none_kept { OnOk result (kept_of layout self.new ≡ 0) }
+        ensures names { sets_by self.new ≡ sets_by self.old }
+        ensures no_layout { (IsErrOf result RequestError.NoLayout) ↔ (layout_of self.old layout ≡ None) }
+        ensures only { IfErr result (λ error. error ≡ RequestError.NoLayout) }
+        ensures stay { OnErr result (seen self.new ≡ seen self.old) }
+        ensures rest { seen self.new ≡ record (seen self.old) {
+          layouts = layout_of self.new;
+          slots = slots_of self.new;
+          generations = generations_of self.new;
+          side = side_of self.new;
+        } }
+    {
+        match self.layouts.remove(layout) {
+            Some(removed) => {
+                self.store.remove_layout(&removed, layout.place());
+                Ok(removed)
+            }
+            None => Err(RequestError::NoLayout),
+        }
+    }
+
+    /// Gives all kept sets back, and destroys all pools that then have no set, as the allocator's `trim`
+    /// does. Sets that are in use aren't kept when they come back. Call it between levels, or when memory
+    /// is short.
+    pub fn cleanup(&mut self)
+        ensures emptied { count holds (slots_of self.old) ≡ 0 → count waits (slots_of self.old) ≡ 0
+            → (ledger_in self.new).pools ≡ pools_besides self.old }
+        ensures none_kept { count is_kept (slots_of self.new) ≡ 0 }
+        ensures names { sets_by self.new ≡ sets_by self.old }
+        ensures cleaned { AreCleaned (slots_of self.old) (slots_of self.new) }
+        ensures cleans { Cleans (store_of self.old) (store_of self.new) }
+        ensures rest { OnlySetsChange self.old self.new }
+    {
+        self.store.cleanup();
+    }
+
+    /// Destroys all pools that have no set. Sets that are kept stay, and so do
+    /// their pools; `cleanup` gives them back first. It goes over every pool, and allocates nothing.
+    pub fn trim(&mut self)
+        ensures trims { TrimsPools D.meaning (side_of self.old) (side_of self.new) }
+        ensures rest { seen self.new ≡ record (seen self.old) { side = side_of self.new } }
+    {
+        self.store.trim();
+    }
+
+    /// Keeps at most so many sets of a layout from now on. Those above are given back.
+    pub fn set_max_kept(&mut self, max: u32)
+        ensures few { (layout : LayoutHandle) → kept_of layout self.new ≤ max }
+        ensures as_many { (layout : LayoutHandle) → KeepsUpTo max (is_kept_of layout.slot.place)
+            (slots_of self.old) (slots_of self.new) }
+        ensures names { sets_by self.new ≡ sets_by self.old }
+        ensures trims { Trims (store_of self.old) (store_of self.new) }
+        ensures rest { seen self.new ≡ record (seen self.old)
+            { slots = slots_of self.new; keep = max; side = side_of self.new } }
+    {
+        self.store.set_max_kept(max);
+    }
+
+    /// From now on a new pool has at most `max` descriptors, unless what is wanting needs more: it
+    /// holds no more sets than have so many descriptors, or than are wanting if these are more. With
+    /// `None` there is no such bound. Pools that exist stay.
+    pub fn set_max_pool_descriptors(&mut self, max: Option<u64>)
+        ensures ledger { ledger_in self.new ≡ ledger_in self.old }
+        ensures rest { seen self.new ≡ record (seen self.old)
+            { bound = max; side = side_of self.new } }
+    {
+        self.store.set_max_pool_descriptors(max);
+    }
+
+    /// How many descriptors a new pool has at most, unless what is wanting needs more; `None` if none
+    /// is bounded.
+    pub fn max_pool_descriptors(&self) -> Option<u64>
+        ensures { result ≡ bound_of self.now }
+    {
+        self.store.max_pool_descriptors()
+    }
+
+    /// The layout of a handle. None if it was removed, and under a handle of another set manager.
+    pub fn layout(&self, layout: LayoutHandle) -> Option<&SetLayout<L>>
+        ensures { option_copied result ≡ layout_of self.now layout }
+    {
+        self.layouts.get(layout)
+    }
+
+    /// The device, to write sets and to bind them.
+    pub fn device(&self) -> &D
+        ensures { D.ledger result.now ≡ ledger_in self.now }
+    {
+        self.store.device()
+    }
+
+    /// The number of the last frame that was opened, or skipped by `skip_to`; 0 before the first.
+    pub fn frame(&self) -> u64
+        ensures { result ≡ frame_of self.now }
+    {
+        self.frame
+    }
+
+    /// Whether a frame is open.
+    pub fn is_frame_open(&self) -> bool
+        ensures { result ≡ is_open self.now }
+    {
+        self.is_open
+    }
+
+    /// How many sets are held, how many wait, and how many are kept. It goes over the layouts.
+    pub fn counts(&self) -> Counts
+        ensures held { result.held ≡ count holds (slots_of self.now) }
+        ensures waiting { result.waiting ≡ count waits (slots_of self.now) }
+        ensures kept { result.kept ≡ count is_kept (slots_of self.now) }
+    {
+        Counts {
+            held: self.store.held(),
+            waiting: self.store.waiting(),
+            kept: self.store.kept(),
+        }
+    }
+
+    /// How many sets of a layout are kept. 0 if the layout was removed, and under a handle of another
+    /// set manager.
+    pub fn kept_count(&self, layout: LayoutHandle) -> u32
+        ensures kept { IsSome (layout_of self.now layout) → result ≡ kept_of layout self.now }
+        ensures none { layout_of self.now layout ≡ None → result ≡ 0 }
+        ensures few { result ≤ keep_of self.now }
+    {
+        match self.layouts.get(layout) {
+            Some(_) => self.store.kept_count(layout.place()),
+            None => 0,
+        }
+    }
+
+    /// Frees all sets, destroys all pools, and hands the device back. It can't be refused. The
+    /// device must be done with all work.
+    pub fn shutdown(mut self) -> D
+        ensures { (D.ledger result).pools ≡ pools_besides self }
+    {
+        self.free_all();
+        self.cleanup();
+        self.into_device()
+    }
+
+    /// Returns the device without any call of it: its pools stay there, with their sets. It is for a
+    /// device that was lost or that misbehaved. Otherwise use `shutdown`, which destroys the pools.
+    pub fn into_device(self) -> D
+        ensures { D.ledger result ≡ ledger_in self }
+    {
+        let SetManager {
+            layouts: _,
+            manager: _,
+            frame: _,
+            is_open: _,
+            store,
+        } = self;
+        store.into_device()
+    }
+}

@@ -1,0 +1,140 @@
+//! Frames, and the sets that are drawn with in one.
+ghost use Rattle.std.specs.Prelude.{◌≡◌, ℕ, ◌+◌, ◌<◌, ◌^◌, ◌↔◌, ◌⊎◌, max, Ok};
+ghost use Rattle.std.specs.Prelude.{IfErr, IfOk, IfSome, IsErrOf, IsOk, IsSome, None, OnErr, OnOk};
+ghost use Rattle.std.specs.Prelude.{false, true};
+ghost use Rattle.descriptor_table.specs.Slots.{is_due, slot_at};
+ghost use Rattle.descriptor_manager.specs.Stores.{ComeBack, HandlesKept, HandlesNew};
+ghost use Rattle.descriptor_manager.specs.Stores.{IsRefusedAtLast};
+
+use super::SetManager;
+use crate::errors::{BeginFrameError, RequestError};
+use crate::layout_registry::LayoutHandle;
+use descriptor_table::SetHandle;
+use gpu_descriptor::{AllocationError, DescriptorDevice};
+
+impl<L: Drop, P: Drop, S: Drop, D: DescriptorDevice<L, P, S>> SetManager<L, P, S, D> {
+    ghost use Rattle.gpu_descriptor.specs.declared.errors.AllocationError.{AllocationError};
+    ghost use Rattle.descriptor_table.specs.declared.handle.SetHandle.{SetHandle};
+    ghost use Rattle.descriptor_table.specs.declared.slot.Use.{Use};
+    ghost use Rattle.descriptor_manager.specs.Managers.{Comes, OnlySetsChange, OnlySetsCome, done_of, frame_of, is_open, kept_of};
+    ghost use Rattle.descriptor_manager.specs.Managers.{layout_of, seen, sets_by, slots_of};
+    ghost use Rattle.descriptor_manager.specs.Managers.{store_of};
+
+    /// Opens the next frame and returns its number. The first frame has number 1.
+    ///
+    /// It returns `FrameOpen` if a frame is open, and `NoMoreFrames` after frame `u64::MAX`. After
+    /// either error nothing has changed.
+    pub fn begin_frame(&mut self) -> Result<u64, BeginFrameError>
+        ensures next { IfOk result (λ frame. (frame ≡ frame_of self.old + 1)
+            × (frame_of self.new ≡ frame) × (is_open self.new ≡ true)) }
+        ensures frame_open { (IsErrOf result BeginFrameError.FrameOpen) ↔ (is_open self.old ≡ true) }
+        ensures no_more_frames { (IsErrOf result BeginFrameError.NoMoreFrames) ↔ ((is_open self.old
+            ≡ false) × (frame_of self.old ≡ u64.MAX)) }
+        ensures stays { OnErr result (self.new ≡ self.old) }
+        ensures rest { seen self.new ≡ record (seen self.old)
+            { frame = frame_of self.new; is_open = is_open self.new } }
+    {
+        if self.is_open {
+            return Err(BeginFrameError::FrameOpen);
+        }
+        if self.frame == u64::MAX {
+            return Err(BeginFrameError::NoMoreFrames);
+        }
+        self.frame += 1;
+        self.is_open = true;
+        Ok(self.frame)
+    }
+
+    /// Skips frames up to the one with this number: the next frame has a greater one. For a program
+    /// that counts its frames itself. Frames up to the last are skipped already.
+    ///
+    /// It returns `FrameOpen` if a frame is open, and then nothing has changed.
+    pub fn skip_to(&mut self, frame: u64) -> Result<(), BeginFrameError>
+        ensures skips { OnOk result (frame_of self.new ≡ max (frame_of self.old) frame) }
+        ensures frame_open { (IsErrOf result BeginFrameError.FrameOpen) ↔ (is_open self.old ≡ true) }
+        ensures only { IfErr result (λ error. error ≡ BeginFrameError.FrameOpen) }
+        ensures stays { OnErr result (self.new ≡ self.old) }
+        ensures rest { seen self.new ≡ record (seen self.old) { frame = frame_of self.new } }
+    {
+        if self.is_open {
+            return Err(BeginFrameError::FrameOpen);
+        }
+        self.frame = self.frame.max(frame);
+        Ok(())
+    }
+
+    /// A set of a layout for the open frame: the last one that was kept, or else a new one. Its handle
+    /// names it until the frame ends, and the set comes back once the device is done with the frame.
+    /// Without an open frame or the layout it returns `NoFrame` or `NoLayout`, and changes nothing.
+    ///
+    /// If the allocator refuses a new set while sets of any layout are kept, all kept sets are freed and
+    /// empty pools are destroyed, as by `cleanup`, and `allocate_for_frame` retries once. It does not, and kept sets
+    /// stay, in two cases: the set alone has more update-after-bind descriptors than the limit allows, or
+    /// an allocation for the table of sets failed before the allocator was asked.
+    #[inline]
+    pub fn allocate_for_frame(&mut self, layout: LayoutHandle) -> Result<SetHandle, RequestError>
+        ensures allocates { IfOk result (λ handle. IfSome (layout_of self.old layout) (λ known.
+            Comes known.layout handle self.old self.new)) }
+        ensures kept { is_open self.old ≡ true → IsSome (layout_of self.old layout)
+            → 0 < kept_of layout self.old → (handle : SetHandle) × (result ≡ Ok handle)
+            × HandlesKept layout.slot.place (Use.InFrame (frame_of self.old)) handle (store_of self.old)
+            (store_of self.new) }
+        ensures comes { kept_of layout self.old ≡ 0 → IfOk result (λ handle.
+            IfSome (layout_of self.old layout) (λ known. HandlesNew known.layout layout.slot.place
+            (Use.InFrame (frame_of self.old)) handle (store_of self.old) (store_of self.new))) }
+        ensures no_frame { (IsErrOf result RequestError.NoFrame) ↔ (is_open self.old ≡ false) }
+        ensures no_layout { (IsErrOf result RequestError.NoLayout) ↔ ((is_open self.old ≡ true)
+            × (layout_of self.old layout ≡ None)) }
+        ensures refused { (error : AllocationError) → IsErrOf result (RequestError.Allocation error)
+            → IfSome (layout_of self.old layout) (λ known. IsRefusedAtLast known.layout 1 1 error
+            (store_of self.old) (store_of self.new)) }
+        ensures sets { OnlySetsCome result self.old self.new }
+        ensures early { ((IsErrOf result RequestError.NoFrame) ⊎ (IsErrOf result
+            RequestError.NoLayout)) → seen self.new ≡ seen self.old }
+    {
+        if !self.is_open {
+            return Err(RequestError::NoFrame);
+        }
+        let Some(known) = self.layouts.get(layout) else {
+            return Err(RequestError::NoLayout);
+        };
+        match self.store.allocate_for_frame(known, layout.place(), self.frame) {
+            Ok(handle) => Ok(handle),
+            Err(error) => Err(RequestError::Allocation(error)),
+        }
+    }
+
+    /// Ends the frame: its handles name nothing from now on. It can't be refused.
+    pub fn end_frame(&mut self)
+        ensures { seen self.new ≡ record (seen self.old) { is_open = false } }
+    {
+        self.is_open = false;
+    }
+
+    /// The device is done with this frame and those before it, but not with an open one: the sets that
+    /// wait for them are kept, or go back to their pools. Whenever the oldest pools of their key have no
+    /// set left, these are destroyed, but never the key's last pool.
+    pub fn frame_done(&mut self, frame: u64)
+        ensures back { ComeBack (is_due (done_of frame self.old)) (store_of self.old)
+            (store_of self.new) }
+        ensures none_due { (p : ℕ) → is_due (done_of frame self.old) (slot_at (slots_of self.new) p)
+            ≡ false }
+        ensures names { sets_by self.new ≡ sets_by self.old }
+        ensures rest { OnlySetsChange self.old self.new }
+    {
+        let done = self.done(frame);
+        self.store.finish(done);
+    }
+
+    /// This frame, or the one before the open frame if that is earlier.
+    #[inline]
+    fn done(&self, frame: u64) -> u64
+        ensures { result ≡ done_of frame self.now }
+    {
+        if self.is_open {
+            frame.min(self.frame - 1)
+        } else {
+            frame
+        }
+    }
+}

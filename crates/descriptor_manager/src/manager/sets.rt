@@ -1,0 +1,173 @@
+//! Sets that are held until they are freed or destroyed.
+ghost use Rattle.std.specs.Prelude.{◌≡◌, ◌-◌, ◌<◌, ◌≤◌, ◌⊎◌, [], ◌∷◌, length};
+ghost use Rattle.std.specs.Prelude.{IfErr, IfOk, IfSome, IsErrOf, IsSome, None, OnErr, OnOk, Ok, false};
+ghost use Rattle.std.specs.Prelude.{IsOk, option_map};
+ghost use Rattle.std.specs.Option.{option_copied};
+ghost use Rattle.gpu_descriptor.specs.Caller.Sets.{raw_of};
+ghost use Rattle.descriptor_table.specs.Sets.{AreHeldOnce, LoseNames};
+ghost use Rattle.descriptor_manager.specs.Stores.{BringsAtLast, FreesAll, FreesEach, HandlesKept};
+ghost use Rattle.descriptor_manager.specs.Stores.{HandlesNew, HoldAtLast, IsRefusedAtLast};
+ghost use Rattle.descriptor_manager.specs.Stores.{current_in};
+
+use super::SetManager;
+use crate::errors::{FreeError, RequestError};
+use crate::layout_registry::LayoutHandle;
+use descriptor_table::{SetHandle, SetName};
+use gpu_descriptor::{AllocationError, DescriptorDevice, DescriptorSet};
+
+impl<L: Drop, P: Drop, S: Drop, D: DescriptorDevice<L, P, S>> SetManager<L, P, S, D> {
+    ghost use Rattle.gpu_descriptor.specs.declared.errors.AllocationError.{AllocationError};
+    ghost use Rattle.descriptor_table.specs.declared.handle.SetHandle.{SetHandle};
+    ghost use Rattle.descriptor_table.specs.declared.slot.Use.{Use};
+    ghost use Rattle.descriptor_manager.specs.Managers.{ComeEach, Comes, Destroys, NeedsLayout, OnlySetsChange, OnlySetsCome};
+    ghost use Rattle.descriptor_manager.specs.Managers.{kept_of, layout_of, number_of, seen, sets_by};
+    ghost use Rattle.descriptor_manager.specs.Managers.{side_of, slots_of, store_of};
+
+    /// Creates a set of a layout, which is held until it is freed or destroyed, in a frame or between
+    /// two: the last one that was kept, or else a new one, as `allocate_for_frame` does.
+    #[inline]
+    pub fn allocate(&mut self, layout: LayoutHandle) -> Result<SetHandle, RequestError>
+        ensures creates { IfOk result (λ handle. IfSome (layout_of self.old layout) (λ known.
+            Comes known.layout handle self.old self.new)) }
+        ensures kept { IsSome (layout_of self.old layout) → 0 < kept_of layout self.old
+            → (handle : SetHandle) × (result ≡ Ok handle) × HandlesKept layout.slot.place Use.Held handle
+            (store_of self.old) (store_of self.new) }
+        ensures comes { kept_of layout self.old ≡ 0 → IfOk result (λ handle.
+            IfSome (layout_of self.old layout) (λ known. HandlesNew known.layout layout.slot.place
+            Use.Held handle (store_of self.old) (store_of self.new))) }
+        ensures needs { NeedsLayout layout result self.old self.new }
+        ensures refused { (error : AllocationError) → IsErrOf result (RequestError.Allocation error)
+            → IfSome (layout_of self.old layout) (λ known. IsRefusedAtLast known.layout 1 1 error
+            (store_of self.old) (store_of self.new)) }
+        ensures sets { OnlySetsCome result self.old self.new }
+    {
+        let Some(known) = self.layouts.get(layout) else {
+            return Err(RequestError::NoLayout);
+        };
+        match self.store.allocate(known, layout.place()) {
+            Ok(handle) => Ok(handle),
+            Err(error) => Err(RequestError::Allocation(error)),
+        }
+    }
+
+    /// Creates a set of a layout for each place of `sets`, all or none, and writes their names there:
+    /// each is held until it is freed or destroyed. Kept sets come first; the others are new, in one
+    /// request. On an error `sets` stays as it was. It allocates only what the new sets need.
+    ///
+    /// If the allocator refuses the new sets while sets of any layout are kept, all kept sets are freed
+    /// and empty pools are destroyed, as by `cleanup`, and it retries once, for all. It does not, and kept
+    /// sets stay, if all of them alone have more update-after-bind descriptors than the limit allows, or if
+    /// an allocation of its own failed before the allocator was asked. More than `u32::MAX` sets are
+    /// `OutOfHostMemory`.
+    #[inline]
+    pub fn allocate_into<N: SetName<DescriptorSet<S>> + Drop>(
+        &mut self,
+        layout: LayoutHandle,
+        sets: &mut [N],
+    ) -> Result<(), RequestError>
+        ensures creates { OnOk result (IfSome (layout_of self.old layout) (λ known.
+            ComeEach known.layout (N.handles_of sets.new) self.old self.new
+            × HoldAtLast (number_of self.old) (current_in layout.slot.place (store_of self.old))
+            (N.handles_of sets.new) (slots_of self.old) (slots_of self.new))) }
+        ensures kept { length sets.old ≤ kept_of layout self.old → side_of self.new
+            ≡ side_of self.old }
+        ensures fits { IsSome (layout_of self.old layout) → length sets.old
+            ≤ kept_of layout self.old → IsOk result }
+        ensures comes { kept_of layout self.old < length sets.old → OnOk result (IfSome
+            (layout_of self.old layout) (λ known. BringsAtLast known.layout
+            (length sets.old - kept_of layout self.old) (length sets.old) (store_of self.old)
+            (store_of self.new))) }
+        ensures needs { NeedsLayout layout result self.old self.new }
+        ensures refused { (error : AllocationError) → IsErrOf result (RequestError.Allocation error)
+            → ((error ≡ AllocationError.OutOfHostMemory) × (4294967295 < length sets.old)
+            × (seen self.new ≡ seen self.old)) ⊎ IfSome (layout_of self.old layout) (λ known.
+            IsRefusedAtLast known.layout (length sets.old - kept_of layout self.old)
+            (length sets.old) error (store_of self.old) (store_of self.new)) }
+        ensures long { length sets.new ≡ length sets.old }
+        ensures handles { OnErr result (sets.new ≡ sets.old) }
+        ensures sets { OnlySetsCome result self.old self.new }
+    {
+        let Some(known) = self.layouts.get(layout) else {
+            return Err(RequestError::NoLayout);
+        };
+        if sets.len() > u32::MAX as usize {
+            return Err(RequestError::Allocation(AllocationError::OutOfHostMemory));
+        }
+        match self.store.allocate_each(known, layout.place(), sets) {
+            Ok(()) => Ok(()),
+            Err(error) => Err(RequestError::Allocation(error)),
+        }
+    }
+
+    /// Frees sets at once, all or none: they are kept, or go back to their pools, neighbours of one pool
+    /// in one call of the device. Their handles name nothing from now on. It allocates nothing. The
+    /// device must be done with the work that uses them.
+    ///
+    /// It returns `NoSet` if a handle names no set that the set manager holds, or is in the list
+    /// twice. Then nothing changed.
+    pub fn free<N: SetName<DescriptorSet<S>>>(
+        &mut self,
+        sets: &[N],
+    ) -> Result<(), FreeError>
+        ensures frees { OnOk result (FreesEach (N.handles_of sets.now) (store_of self.old)
+            (store_of self.new)) }
+        ensures names { OnOk result (LoseNames (N.handles_of sets.now) (sets_by self.old)
+            (sets_by self.new)) }
+        ensures once { OnOk result (AreHeldOnce (number_of self.old) (slots_of self.old)
+            (N.handles_of sets.now)) }
+        ensures no_set { IfErr result (λ e. (e ≡ FreeError.NoSet)
+            × ¬ (AreHeldOnce (number_of self.old) (slots_of self.old) (N.handles_of sets.now))) }
+        ensures stay { OnErr result (seen self.new ≡ seen self.old) }
+        ensures rest { OnlySetsChange self.old self.new }
+    {
+        if !self.store.free_each(sets) {
+            return Err(FreeError::NoSet);
+        }
+        Ok(())
+    }
+
+    /// Destroys sets that were last used in a frame, 0 if in none, all or none: they come back at the
+    /// next `frame_done` of that frame or a later one, and their handles name nothing from now on. It
+    /// allocates nothing.
+    ///
+    /// It returns `FrameAhead` if the frame is later than `frame()`, and otherwise `NoSet` if a handle
+    /// names no set that the set manager holds, or is in the list twice. Then nothing changed.
+    pub fn free_after<N: SetName<DescriptorSet<S>>>(
+        &mut self,
+        sets: &[N],
+        last_use: u64,
+    ) -> Result<(), FreeError>
+        ensures { Destroys (N.handles_of sets.now) last_use result self.old self.new }
+    {
+        if last_use > self.frame {
+            return Err(FreeError::FrameAhead);
+        }
+        if !self.store.wait_each(sets, last_use) {
+            return Err(FreeError::NoSet);
+        }
+        Ok(())
+    }
+
+    /// Gives all sets back to their pools at once: those that wait for a frame, those of the open frame,
+    /// which is ended, those that are held, and those that are kept. It allocates nothing. The device
+    /// must be done with the work that uses them.
+    pub fn free_all(&mut self)
+        ensures frees { FreesAll (store_of self.old) (store_of self.new) }
+        ensures gone { (handle : SetHandle) → (sets_by self.new).set handle ≡ None }
+        ensures given { (handle : SetHandle) → (sets_by self.new).given handle
+            ≡ (sets_by self.old).given handle }
+        ensures rest { seen self.new ≡ record (seen self.old)
+            { is_open = false; slots = slots_of self.new; side = side_of self.new } }
+    {
+        self.is_open = false;
+        self.store.free_all();
+    }
+
+    /// The raw set of a handle, to write and to bind: one that is held, or one of the open frame. None
+    /// under the handle of a set that was freed or destroyed, of another frame, and of another set manager.
+    pub fn set(&self, set: SetHandle) -> Option<&S>
+        ensures { option_copied result ≡ option_map raw_of ((sets_by self.now).set set) }
+    {
+        self.store.get(set, self.frame, self.is_open)
+    }
+}

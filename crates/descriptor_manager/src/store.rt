@@ -1,0 +1,224 @@
+//! The table of a set manager's sets over an allocator and a device.
+ghost use Rattle.std.specs.Prelude.{◌≡◌, ◌≤◌, ◌+◌, ◌<◌, ◌↔◌, [], length, IfErr, IsTrue, OnOk, Some, option_map};
+ghost use Rattle.std.specs.Option.{option_copied};
+ghost use Rattle.gpu_descriptor.specs.Caller.Flags as flags;
+ghost use Rattle.gpu_descriptor.specs.Caller.SetLayouts.{IsMeant};
+ghost use Rattle.gpu_descriptor.specs.Caller.Sets.{raw_of};
+ghost use Rattle.gpu_descriptor.specs.Caller.States.{Agrees, outstanding_of, state_of};
+ghost use Rattle.gpu_descriptor.proofs.callers.OneAgreement.{Agrees-prop};
+ghost use Rattle.descriptor_table.specs.Sets.{find, sets_in};
+ghost use Rattle.descriptor_table.specs.Slots.{generation_at, waits};
+ghost use Rattle.descriptor_table.specs.Tables.{HasListRoom, HasRoom, HasSettings, count, holds, is_kept, lists_with, settings_of, slots_of};
+ghost use Rattle.descriptor_manager.specs.Exact.{AreExactly};
+
+mod back;
+mod batch;
+mod take;
+
+use bitflags::Flags;
+use descriptor_table::{SetHandle, SetTable};
+use gpu_descriptor::{
+    AllocationError, DescriptorAllocator, DescriptorDevice, DescriptorSet,
+    DescriptorSetLayoutCreateFlags, SetLayout,
+};
+use std::alloc::{AllocError, Global};
+use std::marker::PhantomData;
+use std::vec::Vec;
+
+/// How many descriptors a new pool of a set manager has at most at first, unless what is wanting needs
+/// more.
+const MAX_POOL_DESCRIPTORS: u64 = 65_536;
+
+/// The sets of a set manager, an allocator and a device. What the allocator handed out is in the table.
+#[derive(Drop)]
+pub(crate) struct Store<L, P, S, D: DescriptorDevice<L, P, S>> {
+    allocator: DescriptorAllocator<P, S>,
+    table: SetTable<DescriptorSet<S>>,
+
+    /// Sets of a request before they are in the table, during a call.
+    coming: Vec<DescriptorSet<S>>,
+    layout: PhantomData<L>,
+
+    /// The last field, as it is dropped last.
+    device: D,
+    ghost agree: { Agrees D.meaning.pool_name allocator (D.ledger device) } by { Agrees-prop
+        D.meaning.pool_name allocator (D.ledger device) },
+    ghost exact: { AreExactly D.meaning.set_name (slots_of table) coming.items
+        (state_of D.meaning.pool_name allocator (D.ledger device)) },
+    ghost accounted: { outstanding_of allocator ≡ length (sets_in (slots_of table))
+        + length coming.items },
+}
+
+impl<L: Drop, P: Drop, S: Drop, D: DescriptorDevice<L, P, S>> Store<L, P, S, D> {
+    ghost use Rattle.descriptor_manager.specs.Stores.{IsAtRest, KeepsContents, KeepsStore, coming_in, kept_of, ledger_of};
+    ghost use Rattle.descriptor_manager.specs.Stores.{ExceedsLimitAlone, LacksRoom};
+    ghost use Rattle.descriptor_manager.specs.Stores.{bound_of, keep_of, limit_of, lists_in, number_of};
+    ghost use Rattle.descriptor_manager.specs.Stores.{pools_besides, side_of, slots_in};
+
+    /// No sets and no layouts, for the set manager of this number, over a new allocator with this limit on
+    /// update-after-bind descriptors, whose new pools are bounded. It allocates nothing.
+    pub(crate) fn new(alloc: Global, device: D, limit: u32, number: u64) -> Self
+        ensures slots { slots_in result ≡ [] }
+        ensures ledger { ledger_of result ≡ D.ledger device }
+        ensures besides { pools_besides result ≡ (D.ledger device).pools }
+        ensures limit { limit_of result ≡ limit }
+        ensures bound { bound_of result ≡ Some 65536 }
+        ensures settings { HasSettings (record {
+          number = number;
+          lists = 0;
+          generations = generation_at [];
+          keep = u32.MAX;
+        }) result.table }
+        ensures rest { IsAtRest result }
+    {
+        let mut allocator = DescriptorAllocator::new(alloc, limit);
+        allocator.set_max_pool_descriptors(Some(MAX_POOL_DESCRIPTORS));
+        Store {
+            device,
+            allocator,
+            table: SetTable::new(alloc, number),
+            coming: Vec::new(alloc),
+            layout: PhantomData,
+        }
+    }
+
+    /// Reserves memory for one layout more.
+    pub(crate) fn reserve_layout(&mut self) -> Result<(), AllocError>
+        ensures room { OnOk result (HasListRoom self.new.table) }
+        ensures contents { KeepsContents self.old self.new }
+        ensures stays { KeepsStore self.old self.new }
+    {
+        self.table.reserve_layout()
+    }
+
+    /// Adds a layout, over memory that was reserved.
+    pub(crate) fn add_layout(&mut self)
+        requires { HasListRoom self.old.table }
+        ensures settings { HasSettings (record (settings_of self.old.table)
+            { lists = lists_with (lists_in self.old) }) self.new.table }
+        ensures contents { KeepsContents self.old self.new }
+    {
+        self.table.add_layout();
+    }
+
+    /// Reserves memory in the table for so many sets more.
+    #[inline]
+    fn reserve(&mut self, many: u32) -> Result<(), AllocationError>
+        ensures room { OnOk result (HasRoom many self.new.table) }
+        ensures lacks { IfErr result (λ error. LacksRoom many error self.old self.new) }
+        ensures contents { KeepsContents self.old self.new }
+        ensures stays { KeepsStore self.old self.new }
+    {
+        if self.table.reserve(many).is_err() {
+            return Err(AllocationError::OutOfHostMemory);
+        }
+        Ok(())
+    }
+
+    /// Whether so many sets of a layout alone have more descriptors than the limit allows. A request for
+    /// them fails even if no other set is live.
+    fn exceeds_limit(&self, known: &SetLayout<L>, many: u32) -> bool
+        requires { IsMeant D.meaning known.now }
+        ensures { IsTrue result ↔ ExceedsLimitAlone known.now.layout many self.now }
+    {
+        let limit = self.allocator.update_after_bind_limit();
+        is_marked(known) && u128::from(many) * u128::from(known.counts.total()) > u128::from(limit)
+    }
+
+    /// From now on a new pool has at most `max` descriptors, unless what is wanting needs more. `None`
+    /// bounds none.
+    pub(crate) fn set_max_pool_descriptors(&mut self, max: Option<u64>)
+        ensures bound { bound_of self.new ≡ max }
+        ensures table { self.new.table ≡ self.old.table }
+        ensures ledger { ledger_of self.new ≡ ledger_of self.old }
+        ensures besides { pools_besides self.new ≡ pools_besides self.old }
+        ensures limit { limit_of self.new ≡ limit_of self.old }
+        ensures coming { coming_in self.new ≡ coming_in self.old }
+    {
+        self.allocator.set_max_pool_descriptors(max);
+    }
+
+    /// How many descriptors a new pool has at most, unless what is wanting needs more; `None` if none
+    /// is bounded.
+    pub(crate) fn max_pool_descriptors(&self) -> Option<u64>
+        ensures { result ≡ bound_of self.now }
+    {
+        self.allocator.max_pool_descriptors()
+    }
+
+    /// The raw set of a handle, in this frame if one is open.
+    #[inline]
+    pub(crate) fn get(&self, handle: SetHandle, frame: u64, is_open: bool) -> Option<&S>
+        ensures { option_copied result ≡ option_map raw_of (find (number_of self.now) frame is_open
+            (slots_in self.now) handle) }
+    {
+        let set = self.table.get(handle, frame, is_open)?;
+        Some(set.raw())
+    }
+
+    /// How many sets of a layout are kept.
+    pub(crate) fn kept_count(&self, layout: u32) -> u32
+        ensures count { result ≡ kept_of layout self.now }
+        ensures few { result ≤ keep_of self.now }
+    {
+        self.table.kept_count(layout)
+    }
+
+    /// How many sets are kept. It goes over the layouts.
+    pub(crate) fn kept(&self) -> u64
+        ensures { result ≡ count is_kept (slots_in self.now) }
+    {
+        self.table.kept_total()
+    }
+
+    /// How many sets wait for a frame.
+    pub(crate) fn waiting(&self) -> u64
+        ensures { result ≡ count waits (slots_in self.now) }
+    {
+        self.table.waiting_total()
+    }
+
+    /// How many sets are held.
+    pub(crate) fn held(&self) -> u64
+        requires { IsAtRest self.now }
+        ensures { result ≡ count holds (slots_in self.now) }
+    {
+        self.allocator.outstanding() - self.waiting() - self.kept()
+    }
+
+    /// The device.
+    pub(crate) fn device(&self) -> &D
+        ensures { D.ledger result.now ≡ ledger_of self.now }
+    {
+        &self.device
+    }
+
+    /// Returns the device without any call of it.
+    pub(crate) fn into_device(self) -> D
+        ensures { D.ledger result ≡ ledger_of self }
+    {
+        let Store {
+            device,
+            allocator: _,
+            table: _,
+            coming: _,
+            layout: _,
+        } = self;
+        device
+    }
+
+    /// The allocator, to be read.
+    pub(crate) fn allocator(&self) -> &DescriptorAllocator<P, S>
+        ensures { result.now ≡ (side_of self.now).value }
+    {
+        &self.allocator
+    }
+}
+
+/// Whether a layout is an update-after-bind one.
+pub(crate) fn is_marked<L>(layout: &SetLayout<L>) -> bool
+    ensures { result ≡ flags.is_marked layout.now.flags }
+{
+    let mark = DescriptorSetLayoutCreateFlags::UPDATE_AFTER_BIND;
+    layout.flags.contains(mark)
+}

@@ -1,0 +1,183 @@
+//! Sets that come back: they are kept, or go back to their pools.
+ghost use Rattle.std.specs.Prelude.{◌≡◌, ℕ, ◌<◌, ◌≤◌, ◌↔◌, length, false, IsFalse, IsTrue};
+ghost use Rattle.gpu_descriptor.specs.Caller.CleansUp.{TrimsPools};
+ghost use Rattle.gpu_descriptor.specs.Caller.SetLayouts.{IsMeant};
+
+use super::Store;
+use descriptor_table::{Due, Giving, SetName};
+use gpu_descriptor::{DescriptorDevice, DescriptorSet, SetLayout};
+
+impl<L: Drop, P: Drop, S: Drop, D: DescriptorDevice<L, P, S>> Store<L, P, S, D> {
+    ghost use Rattle.descriptor_table.specs.Sets.{AreHeldOnce, sets_in};
+    ghost use Rattle.descriptor_table.specs.Slots.{goes, is_due, is_kept_of, slot_at};
+    ghost use Rattle.descriptor_table.specs.Tables.{Becomes, KeepsUpTo, TurnEach, removed_at, used_for};
+    ghost use Rattle.descriptor_table.specs.declared.slot.Use.{Use};
+    ghost use Rattle.descriptor_manager.specs.Stores.{AreCleaned, Cleans, ComeBack, FreesAll, FreesEach};
+    ghost use Rattle.descriptor_manager.specs.Stores.{GivesBack, HasLayout, IsAtRest, NoneComes};
+    ghost use Rattle.descriptor_manager.specs.Stores.{Removes, Settles, SettlesTo, Trims};
+    ghost use Rattle.descriptor_manager.specs.Stores.{coming_in, generations_in, kept_of, ledger_of};
+    ghost use Rattle.descriptor_manager.specs.Stores.{keep_of, number_of, pools_besides, side_of, slots_in};
+
+    /// Frees the sets that were let go. In most frames there are none.
+    #[inline]
+    fn give(&mut self)
+        ensures { GivesBack goes self.old self.new }
+    {
+        if self.table.none_goes() {
+            // A proof has what the allocator's invariant says only by a reader.
+            prove!(self.allocator.update_after_bind_descriptors() <= u32::MAX);
+            prove!(self.allocator.update_after_bind_capacity() <= u32::MAX);
+            return;
+        }
+        self.give_each();
+    }
+
+    /// Frees the sets that were let go, run by run.
+    fn give_each(&mut self)
+        ensures { GivesBack goes self.old self.new }
+    {
+        let mut giving = Giving {
+            table: &mut self.table,
+        };
+        self.allocator.free_from(&mut self.device, &mut giving);
+        giving.end();
+    }
+
+    /// Frees the sets that wait for a frame up to this one.
+    fn give_due(&mut self, frame: u64)
+        ensures { GivesBack (is_due frame) self.old self.new }
+    {
+        let mut giving = Due {
+            table: &mut self.table,
+            frame,
+        };
+        self.allocator.free_from(&mut self.device, &mut giving);
+        giving.end();
+    }
+
+    /// Gives all kept sets back, and destroys all empty pools. Sets that are in use aren't kept later.
+    #[cold]
+    pub(crate) fn cleanup(&mut self)
+        requires rest { IsAtRest self.old }
+        ensures cleaned { AreCleaned (slots_in self.old) (slots_in self.new) }
+        ensures emptied { length (sets_in (slots_in self.new)) ≡ 0
+            → (ledger_of self.new).pools ≡ pools_besides self.old }
+        ensures cleans { Cleans self.old self.new }
+        ensures settles { Settles NoneComes self.old self.new }
+        ensures coming { coming_in self.new ≡ coming_in self.old }
+    {
+        self.table.age();
+        self.table.trim(0);
+        self.give();
+        self.allocator.trim(&mut self.device);
+    }
+
+    /// Destroys all empty pools. Sets that are kept stay.
+    pub(crate) fn trim(&mut self)
+        requires rest { IsAtRest self.old }
+        ensures trims { TrimsPools D.meaning (side_of self.old) (side_of self.new) }
+        ensures slots { slots_in self.new ≡ slots_in self.old }
+        ensures settles { Settles NoneComes self.old self.new }
+    {
+        self.allocator.trim(&mut self.device);
+    }
+
+    /// The sets that wait for a frame up to this one are kept, or go back to their pools.
+    pub(crate) fn finish(&mut self, frame: u64)
+        requires rest { IsAtRest self.old }
+        ensures back { ComeBack (is_due frame) self.old self.new }
+        ensures none_due { (p : ℕ) → is_due frame (slot_at (slots_in self.new) p) ≡ false }
+        ensures settles { Settles NoneComes self.old self.new }
+    {
+        if self.table.keep() == 0 {
+            self.give_due(frame);
+            return;
+        }
+        self.table.settle_due(frame);
+        self.give();
+    }
+
+    /// Frees the held sets of names at once: they are kept, or go back to their pools. If a name has
+    /// none, or is in the list twice, nothing changes, and it returns `false`.
+    pub(crate) fn free_each<N: SetName<DescriptorSet<S>>>(&mut self, names: &[N]) -> bool
+        requires rest { IsAtRest self.old }
+        ensures once { IsTrue result ↔ AreHeldOnce (number_of self.old) (slots_in self.old)
+            (N.handles_of names.now) }
+        ensures frees { IsTrue result → FreesEach (N.handles_of names.now) self.old self.new }
+        ensures none { IsFalse result → (slots_in self.new ≡ slots_in self.old)
+            × (side_of self.new ≡ side_of self.old) }
+        ensures settles { Settles NoneComes self.old self.new }
+    {
+        if !self.table.settle_held(names) {
+            return false;
+        }
+        self.give();
+        true
+    }
+
+    /// Lets the held sets of names wait for a frame. If a name has none, or is in the list twice,
+    /// nothing changes, and it returns `false`.
+    pub(crate) fn wait_each<N: SetName<DescriptorSet<S>>>(
+        &mut self,
+        names: &[N],
+        frame: u64,
+    ) -> bool
+        requires rest { IsAtRest self.old }
+        ensures once { IsTrue result ↔ AreHeldOnce (number_of self.old) (slots_in self.old)
+            (N.handles_of names.now) }
+        ensures waits { IsTrue result → TurnEach (N.handles_of names.now)
+            (Becomes (used_for (Use.Waits frame))) (slots_in self.old) (slots_in self.new) }
+        ensures none { IsFalse result → slots_in self.new ≡ slots_in self.old }
+        ensures side { side_of self.new ≡ side_of self.old }
+        ensures settles { Settles NoneComes self.old self.new }
+    {
+        if !self.table.take_each(names) {
+            return false;
+        }
+        self.table.wait_each(names, frame);
+        true
+    }
+
+    /// Keeps at most so many sets of a layout from now on. Those above are given back.
+    pub(crate) fn set_max_kept(&mut self, max: u32)
+        requires rest { IsAtRest self.old }
+        ensures trims { Trims self.old self.new }
+        ensures few { (layout : ℕ) → kept_of layout self.new ≤ max }
+        ensures as_many { (layout : ℕ) → KeepsUpTo max (is_kept_of layout) (slots_in self.old)
+            (slots_in self.new) }
+        ensures settles { SettlesTo (generations_in self.old) max NoneComes self.old self.new }
+    {
+        self.table.trim(max);
+        self.table.set_max_kept(max);
+        self.give();
+    }
+
+    /// Removes a layout: its kept sets are given back, and its other sets aren't kept when they come back,
+    /// not even once another layout has its number. Then the empty pools of its key are destroyed.
+    pub(crate) fn remove_layout(&mut self, known: &SetLayout<L>, layout: u32)
+        requires meant { IsMeant D.meaning known.now }
+        requires rest { IsAtRest self.old }
+        requires layout { HasLayout layout self.old }
+        requires next { generations_in self.old layout < 4294967295 }
+        ensures removes { Removes known.now.layout layout self.old self.new }
+        ensures settles { SettlesTo (removed_at layout (generations_in self.old)) (keep_of self.old)
+            NoneComes self.old self.new }
+    {
+        self.table.let_kept_go(layout);
+        self.table.remove_layout(layout);
+        self.give();
+        self.allocator.trim_layout(&mut self.device, known);
+    }
+
+    /// Gives all sets back: those that are held, those that wait for a frame, and those that are kept.
+    pub(crate) fn free_all(&mut self)
+        requires rest { IsAtRest self.old }
+        ensures frees { FreesAll self.old self.new }
+        ensures settles { Settles NoneComes self.old self.new }
+    {
+        self.table.let_waiting_go();
+        self.table.let_held_go();
+        self.table.trim(0);
+        self.give();
+    }
+}
