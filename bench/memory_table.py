@@ -113,12 +113,12 @@ def check_case(name, column, case, checks):
         check("pools at most", case["most"][0], 1)
     elif name == "limit":
         check("descriptors at most", case["most"][2], 500_000)
-        check("sets of the first layout, and of the second after all was given back", case["got"][::2], [500, 500])
+        check("sets of the first layout, and of the second after all was freed", case["got"][::2], [500, 500])
         check("sets of the second, beside kept ones", column == "crate" or case["got"][1] == 500, True)
 
 
 def print_cases(columns, checks):
-    print("\nworst cases, at most and once all that can be was given back\n"
+    print("\nworst cases, at most and once all that can be was freed\n"
           f"{'':10}{'pools':>14}{'their sets':>18}{'descriptors':>20}{'kB':>18}")
     for name, about in CASES.items():
         print(about)
@@ -141,7 +141,7 @@ def tool(name):
 
 
 def room_by_frame(rows):
-    """The sets that the pools have room for: the most in each frame, and what is left after the last one."""
+    """The sets that the pools have room for: the peak in each frame, and what is left after the last one."""
     most = {}
     for frame, _, sets, _ in rows:
         most[frame] = max(sets, most.get(frame, 0))

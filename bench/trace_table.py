@@ -168,14 +168,29 @@ def row_over_driver(columns, runs, *where):
 
 
 def print_rows(columns, row, unit, width):
-    """Of each trace the row as it is, and the one with layouts that stay."""
+    """Of each trace the row as it is, and the one with layouts that stay. Returns the cells by the row's name."""
+    rows = {}
     print(f"{unit} a set\n{'trace':16}{'sets':>8}" + "".join(f"{name:>{width}}" for name in columns))
     for name, trace in traces():
         for how in ((), ("stay",)):
             with written(trace) as file:
-                cells = "".join(row(name, trace, file, how))
+                cells = row(name, trace, file, how)
             stay = ", layouts stay" if how else ""
-            print(f"{name:16}{account_of(trace)['allocated']:8}{cells}{stay}", flush=True)
+            print(f"{name:16}{account_of(trace)['allocated']:8}{''.join(cells)}{stay}", flush=True)
+            rows[name + stay] = cells
+    return rows
+
+
+def page_checks(rows):
+    """Whether the page's table of instructions has these rows, within one per cent."""
+    with open(f"{HERE}/README.md", encoding="utf-8") as it:
+        lines = [line.split(" | ") for line in it.read().split("Instructions per set")[1].splitlines()]
+    page = {name.lower().replace(" ", ""): cells for name, _, *cells in (line for line in lines if len(line) > 2)}
+    for name, cells in rows.items():
+        there = page.get(name.lower().replace("_", ",", name.startswith("firefox")).replace("_", "").replace(" ", ""), [])
+        is_same = len(there) == len(cells) and all(
+            abs(float(one) - float(other)) <= float(other) / 100 for one, other in zip(there, cells))
+        yield f"{name}: the page's row", None if is_same else f"not {' | '.join(cell.strip() for cell in cells)}"
 
 
 def run(given):
@@ -189,7 +204,9 @@ def run(given):
         print_rows(columns, lambda *where: row_over_driver(columns, given.runs, *where), unit, 21)
     elif given.instructions:
         need("valgrind", "it counts the instructions")
-        print_rows(columns, each(instructions), "instructions", 10)
+        rows = print_rows(columns, each(instructions), "instructions", 10)
+        if given.check_page:
+            sys.exit(report(page_checks(rows)))
     else:
         time = each(lambda *where: nanoseconds(*where, given.runs))
         print_rows(columns, time, f"nanoseconds, lowest of {given.runs},", 10)

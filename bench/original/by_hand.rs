@@ -8,7 +8,7 @@ use std::time::{Duration, Instant};
 /// The place of the material's layout.
 const MATERIAL: usize = DRAWN_LAYOUTS as usize;
 
-/// A frame that was opened, and the sets that come back once the device is done with it, each with the
+/// A frame that was opened, and the sets that are freed once the device is done with it, each with the
 /// place of its layout.
 struct Frame<S> {
     number: u64,
@@ -26,7 +26,7 @@ struct SetManager<'a, B: Bench> {
     /// The frames that the device is not done with, in their order.
     frames: VecDeque<Frame<B::Set>>,
 
-    /// Whether sets that come back are kept, and the kept ones of each layout.
+    /// Whether sets that are freed are kept, and the kept ones of each layout.
     keeps: bool,
     kept: Vec<Vec<B::Set>>,
 }
@@ -71,7 +71,7 @@ impl<'a, B: Bench> SetManager<'a, B> {
         self.frame_done(number.saturating_sub(2));
     }
 
-    /// The device is done with this frame and those before it. Their sets come back in the order of their use.
+    /// The device is done with this frame and those before it. Their sets are freed in the order of their use.
     fn frame_done(&mut self, number: u64) {
         while let Some(frame) = self.frames.front_mut() {
             if frame.number > number {

@@ -9,7 +9,7 @@ use std::time::{Duration, Instant};
 /// How many sets a frame takes.
 const FRAME: u32 = 64;
 
-/// How many times the sets of a request are taken and given back.
+/// How many times the sets of a request are taken and freed.
 const ROUNDS: u32 = 100;
 
 /// How many requests are made while pools are full.

@@ -6,7 +6,7 @@
 #include <stdbool.h>
 #include <stdlib.h>
 
-// The next handle of a pool or a set, and a sum over what came back.
+// The next handle of a pool or a set, and a sum over what is returned.
 static uint64_t next_handle = 1, sum;
 
 static gd_status create_pool(void *user, const gd_pool_info *info, uint64_t *pool) {
@@ -28,7 +28,7 @@ static gd_status allocate_sets(void *user, uint64_t pool, uint32_t count, const 
     return GD_OK;
 }
 
-static void free(void *user, uint64_t pool, uint32_t count, const uint64_t *sets) {
+static void free_sets(void *user, uint64_t pool, uint32_t count, const uint64_t *sets) {
     (void)user;
     for (uint32_t place = 0; place < count; place++)
         sum += sets[place] ^ pool;
@@ -46,7 +46,7 @@ void c_create_with(const gd_device *device, uint32_t limit) {
 }
 
 void c_create(void) {
-    gd_device device = {NULL, create_pool, destroy_pool, allocate_sets, free};
+    gd_device device = {NULL, create_pool, destroy_pool, allocate_sets, free_sets};
     c_create_with(&device, UINT32_MAX);
 }
 

@@ -1,6 +1,6 @@
-//! A trace by hand, with a list of sets for each layout: what comes back is kept for the next request. A new
+//! A trace by hand, with a list of sets for each layout: what is freed is kept for the next request. A new
 //! set comes from the last pool of its layout: the first has 64 sets, and each further one twice as many as
-//! the one before. The sets of a layout that goes are freed, those that are out once they come back, and its
+//! the one before. The sets of a layout that goes are freed, those that are out once they are freed, and its
 //! pools are destroyed after the last. It checks no set that it gets.
 
 use crate::play::{Descriptors, Player};

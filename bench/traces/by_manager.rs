@@ -1,4 +1,4 @@
-//! A trace by the crate's set manager, which keeps the sets that come back.
+//! A trace by the crate's set manager, which keeps the sets that are freed.
 
 use crate::by_allocator::{layout_flags, total_count};
 use crate::gpu::Gpu;

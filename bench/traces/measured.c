@@ -82,13 +82,13 @@ static gd_status allocate_sets(void *user, uint64_t pool, uint32_t count, const 
     return GD_OK;
 }
 
-static void free(void *user, uint64_t pool, uint32_t count, const uint64_t *sets) {
+static void free_sets(void *user, uint64_t pool, uint32_t count, const uint64_t *sets) {
     (void)user, (void)pool, (void)count, (void)sets;
 }
 
 void c_create_with(const gd_device *device, uint32_t most_descriptors);
 
 void measured_create_in_c(void) {
-    gd_device device = {NULL, create_pool, destroy_pool, allocate_sets, free};
+    gd_device device = {NULL, create_pool, destroy_pool, allocate_sets, free_sets};
     c_create_with(&device, (uint32_t)limit);
 }

@@ -28,7 +28,7 @@ const LIMIT: u32 = 500_000;
 /// How many images a set has of which the limit leaves five hundred.
 const PART: u32 = 1_000;
 
-/// A player that gives back what it can.
+/// A player that frees what it can.
 pub trait Trim: Player<Measured> {
     fn trim(&mut self);
 }
@@ -160,7 +160,7 @@ impl<P: Trim> Case<P> {
         }
     }
 
-    /// What there is at most, once it has given back what it can, and once no set is out.
+    /// What there is at most, once it has freed what it can, and once no set is out.
     fn end(mut self) {
         self.player.trim();
         say("most", Measured::most(), self.most_bytes);

@@ -1,4 +1,4 @@
--- An allocator that owns its device: what it hands out, and the pools of its device.
+-- An allocator that owns its device: its live sets, and the pools of its device.
 use Rattle.std.specs.Prelude.{ℕ, Option}
 use Rattle.gpu_descriptor_types.specs.Ledger.{Pool}
 use Rattle.gpu_descriptor_types.specs.Side.{Side, side}

@@ -7,7 +7,7 @@ ghost use Rattle.gpu_descriptor.specs.Caller.States.{Agrees, state_of};
 
 use gpu_descriptor::{DescriptorAllocator, DescriptorDevice, DescriptorSet};
 
-/// Gives two batches back. All their sets together are out; none of them is afterwards.
+/// Frees two batches. Before, all their sets together are outstanding; after, none of them is.
 pub fn free_both<L, P, S: Drop, D: DescriptorDevice<L, P, S>>(
     allocator: &mut DescriptorAllocator<P, S>,
     device: &mut D,

@@ -19,7 +19,7 @@ pub struct Drawn<const MOST: u32> {
     pub answer: Result<(), AllocationError>,
 }
 
-/// Makes a device and an allocator, takes sets of one layout, and gives all back. The device has
+/// Makes a device and an allocator, allocates sets of one layout, and frees all. The device then has
 /// the pools that a new one has.
 pub fn render_one(alloc: Global) -> Drawn<1>
     ensures pools { (few_ledger result.device).pools ≡ empty_ledger.pools }

@@ -60,7 +60,7 @@ impl<const MOST: u32> DescriptorDevice<ScriptLayout, RawPool, RawSet> for FewPoo
 
         ensures few { OnOk result ((few_ledger self.old).counters.created < MOST) }
 
-        // Before it has created so many, only memory or names can be wanting.
+        // Before it has created this many, only memory or names can run out.
         ensures refused { (few_ledger self.old).counters.created < MOST
             → IfErr result (λ e. e ≡ CreatePoolError.OutOfHostMemory) }
     {

@@ -105,7 +105,7 @@ fn add(
     }
 }
 
-/// A layout of so many samplers.
+/// A layout of `sampler` samplers.
 fn layout_of(sampler: u32, mark: bool) -> SetLayout<ScriptLayout>
     ensures { IsMeant script_meaning result }
 {

@@ -1,4 +1,4 @@
-//! Sets of one layout, taken and given back, over any device.
+//! Sets of one layout, allocated and freed, over any device.
 ghost use Rattle.std.specs.Prelude.{◌≡◌};
 ghost use Rattle.gpu_descriptor_types.specs.Counts.{kinds};
 ghost use Rattle.gpu_descriptor.specs.Caller.Flags.{is_marked};
@@ -9,8 +9,8 @@ use gpu_descriptor::{
 };
 use std::alloc::Global;
 
-/// Makes an allocator, takes three sets of a layout, gives them back and cleans up. Whatever the
-/// device refuses, it is left with the pools that it had.
+/// Makes an allocator, allocates three sets of a layout, frees them and cleans up. Whatever the device
+/// refuses, it is left with the pools that it had.
 pub fn draw_once<L, P: Drop, S: Drop, D: DescriptorDevice<L, P, S>>(
     alloc: Global,
     device: &mut D,

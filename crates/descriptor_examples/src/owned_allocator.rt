@@ -66,7 +66,7 @@ impl<L, P: Drop, S: Drop, D: DescriptorDevice<L, P, S>> OwnedAllocator<L, P, S, 
         self.allocator.allocate_for(&mut self.device, layout, count)
     }
 
-    /// Gives sets back.
+    /// Frees sets.
     pub fn give_back(&mut self, sets: Vec<DescriptorSet<S>>)
         requires { AreOutstanding (items_of D.meaning.set_name sets.items) (state_in self.old) }
         ensures returned { AreOutBesides (items_of D.meaning.set_name sets.items)
@@ -86,7 +86,7 @@ impl<L, P: Drop, S: Drop, D: DescriptorDevice<L, P, S>> OwnedAllocator<L, P, S, 
         self.allocator.cleanup(&mut self.device);
     }
 
-    /// Takes sets, and gives them back.
+    /// Allocates sets, and frees them.
     pub fn round(&mut self, layout: &SetLayout<L>, count: u32) -> Result<(), AllocationError>
         requires { IsMeant D.meaning layout.now }
         ensures stay { KeepsOutstanding (state_in self.old) (state_in self.new) }

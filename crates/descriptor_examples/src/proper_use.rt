@@ -1,4 +1,4 @@
-//! Sets and pools as they are to be used: each while it is out, and each is freed once.
+//! Proper use of sets and pools: each set is used while it is live, and is freed once.
 ghost use Rattle.std.specs.Prelude.{◌≡◌};
 ghost use Rattle.gpu_descriptor.specs.Caller.States.{Agrees, outstanding_of};
 ghost use Rattle.descriptor_script.specs.Scripted.Raw.{pool_id};
@@ -11,7 +11,7 @@ use gpu_descriptor::{
     DescriptorPoolCreateFlags, DescriptorTotalCount,
 };
 
-/// Allocates a set, reads its name, and gives it back.
+/// Allocates a set, reads its name, and frees it.
 pub fn borrow_set(
     allocator: &mut DescriptorAllocator<RawPool, RawSet>,
     device: &mut LogDevice,
@@ -32,7 +32,7 @@ pub fn borrow_set(
     }
 }
 
-/// Allocates sets, and gives them back by an iterator that it keeps. Whether that is then at its
+/// Allocates sets, and frees them by an iterator that it keeps. Returns whether that is then at its
 /// end.
 pub fn borrow_sets(
     allocator: &mut DescriptorAllocator<RawPool, RawSet>,

@@ -1,4 +1,4 @@
-//! Sets of two layouts, taken and given back, over any device.
+//! Sets of two layouts, allocated and freed, over any device.
 ghost use Rattle.std.specs.Prelude.{◌≡◌};
 ghost use Rattle.gpu_descriptor.specs.Caller.Others.{others_of};
 ghost use Rattle.gpu_descriptor.specs.Caller.SetLayouts.{IsMeant};
@@ -7,8 +7,8 @@ ghost use Rattle.gpu_descriptor.specs.Caller.States.{Agrees, outstanding_of};
 use gpu_descriptor::{AllocationError, DescriptorAllocator, DescriptorDevice, SetLayout, laws};
 use std::alloc::Global;
 
-/// Makes an allocator, takes three sets of one layout and two of another, gives all back and cleans
-/// up. Whatever the device refuses, it is left with the pools that it had.
+/// Makes an allocator, allocates three sets of one layout and two of another, frees all and cleans up.
+/// Whatever the device refuses, it is left with the pools that it had.
 pub fn draw_once<L, P: Drop, S: Drop, D: DescriptorDevice<L, P, S>>(
     alloc: Global,
     device: &mut D,
@@ -26,7 +26,7 @@ pub fn draw_once<L, P: Drop, S: Drop, D: DescriptorDevice<L, P, S>>(
     answer
 }
 
-/// Takes three sets of one layout and two of another, and gives them back, the last ones first.
+/// Allocates three sets of one layout and two of another, and frees them, the last ones first.
 pub fn borrow_sets<L, P: Drop, S: Drop, D: DescriptorDevice<L, P, S>>(
     allocator: &mut DescriptorAllocator<P, S>,
     device: &mut D,

@@ -1,4 +1,4 @@
--- What a manager keeps: an allocator, the retired sets with their frames, and the greatest frame so far. The sets in use are the outstanding ones less the retired.
+-- What a frame manager keeps: an allocator, the retired sets with their frames, and the greatest frame so far. The sets in use are the outstanding ones less the retired.
 use Rattle.std.specs.Prelude.{◌≡◌, ℕ, ◌+◌, ◌-◌, ◌≤◌, List, [], length, IfOk, OnErr, Result}
 use Rattle.std.specs.VecDeque.{deque_capacity}
 use Rattle.gpu_descriptor_types.specs.Ledger.{Ledger}
@@ -34,7 +34,7 @@ module _ {P S : Type 0} where
   abbrev pub greatest_of : FrameManager P S → ℕ
   greatest_of m = m.greatest
 
-  -- for how many more sets of the list memory is reserved
+  -- for how many more retired sets memory is reserved
   abbrev pub reserve_of : FrameManager P S → ℕ
   reserve_of m = deque_capacity m.retired - length (retired_of m)
 
@@ -52,7 +52,7 @@ module _ {P S : Type 0} where
     state_in m l = state_of pool_name (allocator_of m) l
 
     module _ (set_name : S → ℕ) where
-      -- the retired sets together are outstanding
+      -- the retired sets together are outstanding. A record of one field, as AreInUse is, so that the search takes it as one fact
       pub record AreRetiredOut (m : FrameManager P S) (l : Ledger) : Type 0 where
         pub out : AreOutstanding (retired_items set_name m) (state_in m l)
 
@@ -69,7 +69,7 @@ module _ {P S : Type 0} where
         abbrev pub KeepsInUse : Type 0
         KeepsInUse = (t : Item) → in_use new after t ≡ in_use old before t
 
-        -- exactly these sets came into use
+        -- exactly these sets entered use
         abbrev pub BringsIntoUse : List Item → Type 0
         BringsIntoUse items = (t : Item) → in_use new after t ≡ in_use old before t + count_of t items
 
@@ -82,7 +82,7 @@ module _ {P S : Type 0} where
         pub retired : AreRetiredOut new l
         pub used : LeavesUse old new l l items
 
-  -- a manager without sets, whose allocator has this limit. With any device it may be used
+  -- a manager without sets, whose allocator has this limit. It may be used with any device
   pub record IsNewManager (max : ℕ) (m : FrameManager P S) : Type 0 where
     pub allocator : allocator_of m ≡ without_keys max
     pub list : retired_of m ≡ []
@@ -99,7 +99,7 @@ module _ {L P S : Type 0} (means : Meaning L P S) where
     pub greatest : greatest_of new.value ≡ greatest_of old.value
     pub outstanding : AreRetiredOut means.pool_name means.set_name old.value old.ledger → AreRetiredOut means.pool_name means.set_name new.value new.ledger
 
-  -- a request for so many sets of a layout. If the retired sets were outstanding, only the new sets come into use
+  -- a request for count sets of a layout. If the retired sets were outstanding, only the new sets enter use
   pub record HandsOutForUse (layout : L) (count : ℕ) (answer : Result (List (DescriptorSet S)) AllocationError) (old new : Side (FrameManager P S)) : Type 0 where
     pub hands_out : HandsOut means (layout_key means layout) count answer (allocator_side old) (allocator_side new)
     pub own : IfOk answer (AreOfLayout means layout)

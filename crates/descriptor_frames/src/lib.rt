@@ -1,7 +1,7 @@
-//! A manager of descriptor sets that are freed when a frame is done.
+//! A frame manager: descriptor sets that are freed when a frame is done.
 //!
-//! A set that the device's work may still read is retired with the frame of that work. When the
-//! frame is finished, the sets that were retired at it or before are freed.
+//! A set that the device's work may still read is retired with the frame of that work. When the frame is
+//! finished, the sets that were retired at it or before are freed.
 #![tactic(auto)]
 
 mod due;

@@ -1,4 +1,4 @@
-//! The manager: an allocator, and the sets that wait until the device is done with their frame.
+//! The frame manager: an allocator, and the sets that wait until the device is done with their frame.
 ghost use Rattle.std.specs.Prelude.{◌≡◌, ℕ, length};
 ghost use Rattle.gpu_descriptor_types.specs.Ledger.{Ledger};
 ghost use Rattle.gpu_descriptor.specs.Caller.States.{Agrees, outstanding_of};
@@ -16,14 +16,15 @@ use std::ops::Range;
 
 /// Allocates descriptor sets, and frees them when the frame that used them last is done.
 ///
-/// All calls that take a device are made with one. Dropping a manager is silent and destroys no
-/// pool of the device: retire or free all sets, finish their frames and call `cleanup` first.
+/// Every call takes the same device. Dropping a manager is silent and destroys no pool of the device:
+/// retire or free all sets, finish their frames and call `cleanup` first.
 #[derive(Debug, Drop)]
 pub struct FrameManager<P, S> {
     allocator: DescriptorAllocator<P, S>,
     retired: VecDeque<Retired<S>>,
 
-    /// The greatest frame at which a set was ever retired, and 0 before the first.
+    /// The greatest frame at which a set was ever retired, and 0 before the first. The list forgets it
+    /// when its sets are freed.
     greatest: u64,
     ghost ordered: { AreInOrder retired.items greatest },
 }
@@ -33,14 +34,14 @@ impl<P, S> FrameManager<P, S> {
     ghost use Rattle.descriptor_frames.specs.Frames.{reserve_of, retired_of};
 
     /// A manager without sets, whose allocator has this limit on update-after-bind descriptors. It
-    /// allocates nothing.
+    /// allocates no memory.
     pub fn new(alloc: Global, limit: u32) -> Self
         ensures { IsNewManager limit result }
     {
         FrameManager::with_ids(alloc, limit, 0..u64::MAX)
     }
 
-    /// The same as `new`, but the ids of its allocator's keys are taken from this range, as by
+    /// Same as `new`, but the ids of its allocator's keys are from this range. See
     /// `DescriptorAllocator::with_ids`.
     pub fn with_ids(alloc: Global, limit: u32, ids: Range<u64>) -> Self
         ensures { IsNewManager limit result }
@@ -74,7 +75,7 @@ impl<P, S> FrameManager<P, S> {
         self.greatest
     }
 
-    /// From now on a new pool has at most `most` descriptors, unless what is wanting needs more, as by
+    /// Sets the bound on the descriptors of a new pool. See
     /// `DescriptorAllocator::set_max_pool_descriptors`.
     pub fn set_max_pool_descriptors(&mut self, most: Option<u64>)
         ensures allocator { allocator_of self.new ≡ record (allocator_of self.old) { most = most } }
@@ -91,15 +92,14 @@ impl<P, S> FrameManager<P, S> {
         self.allocator.set_max_pool_descriptors(most);
     }
 
-    /// How many descriptors a new pool has at most, unless what is wanting needs more; `None` if none
-    /// is bounded.
+    /// The bound on the descriptors of a new pool, `None` without one.
     pub fn max_pool_descriptors(&self) -> Option<u64>
         ensures { result ≡ (allocator_of self.now).most }
     {
         self.allocator.max_pool_descriptors()
     }
 
-    /// The allocator.
+    /// The allocator, to read.
     pub fn allocator(&self) -> &DescriptorAllocator<P, S>
         ensures { result.now ≡ allocator_of self.now }
     {

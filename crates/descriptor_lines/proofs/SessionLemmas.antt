@@ -68,7 +68,7 @@ has_answer _ (Sets first many) old new before after step memory known small = ab
 has_answer _ BadLayout old new before after step memory known small = absurd step
 has_answer _ _ old new before after step memory known small = tt
 
--- a reply hands out no more sets than the command asks for
+-- a reply has no more sets than the command asks for
 pub given_as_asked : (command : Command) (reply : Reply) (old new : LineSession) (before after : Ledger) → Steps command reply old new before after → sets_given reply ≤ sets_asked command
 given_as_asked (Allocate layout count) (Sets first many) old new before after step = omega (arith, step.asked)
 given_as_asked _ (Sets first many) old new before after step = absurd step

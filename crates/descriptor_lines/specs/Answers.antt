@@ -8,7 +8,7 @@ use Rattle.descriptor_lines.specs.declared.words.fault.Fault.{Fault}
 use Rattle.descriptor_lines.specs.Fault.{words_of_fault}
 use Rattle.descriptor_lines.specs.Kinds.{kind_names}
 
--- so many bytes may be appended to the text without an allocation
+-- n bytes may be appended to the text without an allocation
 abbrev pub HasReserveFor : {Z : Type 0} → ℕ → String Z → Type 0
 HasReserveFor more text = length (string_bytes text) + more ≤ string_capacity text
 
@@ -53,7 +53,7 @@ abbrev pub device_answer : ℕ → ℕ → ℕ → ℕ → List ℕ
 device_answer created destroyed asked released =
     codes "device created " ++ decimal created ++ codes " destroyed " ++ decimal destroyed ++ codes " asked " ++ decimal asked ++ codes " released " ++ decimal released ++ 10 ∷ []
 
--- the line of `show` for the sets that are out, and the descriptors of those that are marked
+-- the line of `show` for the live sets, and the descriptors of those that are marked
 abbrev pub held_answer : ℕ → ℕ → List ℕ
 held_answer held marked = codes "held " ++ decimal held ++ codes " marked " ++ decimal marked ++ 10 ∷ []
 

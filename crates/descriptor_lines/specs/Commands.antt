@@ -7,7 +7,7 @@ use Rattle.descriptor_lines.specs.declared.command.Command.{Command}
 use Rattle.descriptor_lines.specs.declared.command.Command.TheVariants.{Limit, Layout, Alloc}
 use Rattle.descriptor_lines.specs.declared.layouts.LayoutTable.{LayoutTable}
 
--- the most sets of a line that asks for sets
+-- the greatest number of sets that a line asks for
 abbrev pub most_sets : ℕ
 most_sets = 1000000
 
@@ -18,7 +18,7 @@ IsRunnable layouts (Layout name layout) = layout_named layouts name.now ≡ None
 IsRunnable layouts (Alloc layout count) = layout < layout_count layouts
 IsRunnable layouts _ = Unit {0}
 
--- the session, with so many layouts, has the one that the command asks for
+-- a session with this many layouts has the one that the command asks for
 abbrev pub IsKnown : ℕ → session.Command → Type 0
 IsKnown layouts (step.Allocate layout count) = layout < layouts
 IsKnown layouts _ = Unit {0}

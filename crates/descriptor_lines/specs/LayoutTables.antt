@@ -22,7 +22,7 @@ listed entry = (string_bytes entry.0, entry.1.layout)
 abbrev pub has_key : List (List ℕ × Layout) → Layout → Bool
 has_key layouts layout = list_any (λ l. key_eq (key_of l.1) (key_of layout)) layouts
 
--- the most layouts that there may be
+-- the greatest number of layouts
 abbrev pub most_layouts : ℕ
 most_layouts = 1024
 

@@ -4,7 +4,7 @@ use Rattle.std.specs.Io.KnownBytes.{IsAtEnd, prepend_known}
 use Rattle.descriptor_lines.specs.declared.input.LineBuffer.{LineBuffer}
 use Rattle.descriptor_lines.specs.declared.input.Span.{Span}
 
--- the most read calls of a run
+-- the greatest number of read calls of a run
 abbrev pub most_reads : ℕ
 most_reads = 100000000
 

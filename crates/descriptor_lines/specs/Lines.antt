@@ -35,7 +35,7 @@ LosesLine None new = ⊤
 LosesLine (Some bytes) None = ⊥
 LosesLine (Some bytes) (Some rest) = (0 < length bytes) × (rest ≡ after_end bytes)
 
--- the most bytes of a line
+-- the greatest number of bytes of a line
 abbrev pub longest_line : ℕ
 longest_line = 4096
 

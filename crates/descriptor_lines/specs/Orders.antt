@@ -125,7 +125,7 @@ module _ (layouts : LayoutTable) where
           order ← order_in keyword words
           Ok (Some order)
 
--- the words of these commands may be so many that an allocation to read them fails
+-- the list of words of these commands may be so long that an allocation to read it fails
 abbrev pub HasList : Keyword → Type 0
 HasList keyword.Script = Unit {0}
 HasList keyword.Free = Unit {0}

@@ -24,7 +24,7 @@ pool_of (Some set) = set_pool set.raw
 abbrev pub pool_at : List (Option (DescriptorSet RawSet)) → ℕ → ℕ
 pool_at slots ticket = pool_of (set_at slots ticket)
 
--- so many tickets from the first up have sets
+-- count tickets from the first up have sets
 pub record AreHeld (session : LineSession) (first count : ℕ) : Type 0 where
   pub held : (ticket : ℕ) → first ≤ ticket → ticket < first + count → IsSome (set_at (sets_of session) ticket)
   pub fits : first + count < 2 ^ 64

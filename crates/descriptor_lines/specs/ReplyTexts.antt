@@ -16,22 +16,22 @@ use Rattle.descriptor_lines.specs.Replies.{pool_at}
 abbrev pub front_of : ℕ → List ℕ → ℕ
 front_of pool pools = prefix_len (λ next. next == pool) pools
 
--- the stretches that begin after this pool: one begins at each pool that is another than before, and is the longest front of its pool
+-- the runs that begin after this pool: one begins at each pool that is another than before, and is the longest front of its pool
 unfoldable pub stretches_behind : ℕ → List ℕ → List (ℕ × ℕ)
 stretches_behind pool [] = []
 stretches_behind pool (next ∷ rest) =
     if next == pool then stretches_behind pool rest else (next, suc (front_of next rest)) ∷ stretches_behind next rest
 
--- the longest stretches of neighbours that are one pool, each with the pool and its length
+-- the longest runs of one pool, each with the pool and its length
 unfoldable pub stretches : List ℕ → List (ℕ × ℕ)
 stretches [] = []
 stretches (pool ∷ rest) = (pool, suc (front_of pool rest)) ∷ stretches_behind pool rest
 
--- the text of a stretch
+-- the text of a run
 abbrev pub stretch_text : ℕ × ℕ → List ℕ
 stretch_text (pool, length) = codes " " ++ decimal pool ++ (codes "*" ++ decimal length)
 
--- the text of all stretches
+-- the text of all runs
 unfoldable pub stretches_text : List ℕ → List ℕ
 stretches_text pools = flat_map stretch_text (stretches pools)
 
@@ -48,11 +48,11 @@ abbrev pub freed_text : ℕ → List ℕ
 freed_text count = codes "freed " ++ decimal count ++ codes "\n"
 
 module _ (slots : List (Option (DescriptorSet RawSet))) where
-  -- the device pools of so many tickets from the first up
+  -- the device pools of the tickets from the first up
   abbrev pub pools_from : ℕ → ℕ → List ℕ
   pools_from first count = map (pool_at slots) (range_with_len first count)
 
-  -- the answer to a request for so many sets, which have the tickets from the first up
+  -- the answer to a request for this many sets, which have the tickets from the first up
   abbrev pub sets_text : ℕ → ℕ → List ℕ
   sets_text first zero = codes "sets none\n"
   sets_text first (suc more) =
@@ -73,11 +73,11 @@ abbrev pub sets_asked : Command → ℕ
 sets_asked (Allocate layout count) = count
 sets_asked _ = 0
 
--- how many sets a reply hands out
+-- how many sets a reply has
 abbrev pub sets_given : Reply → ℕ
 sets_given (Sets first count) = count
 sets_given _ = 0
 
--- the most bytes of an answer, if so many sets are handed out: a stretch of one set has at most 23
+-- the max of the bytes of an answer with this many sets: a run of one set has at most 23
 abbrev pub most_bytes : ℕ → ℕ
 most_bytes sets = 64 + 23 * sets

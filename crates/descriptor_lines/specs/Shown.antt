@@ -33,7 +33,7 @@ shown count = min count (2 ^ 64 - 1)
 abbrev pub calls_answer : Counters → List ℕ
 calls_answer n = device_answer (shown n.created) (shown n.destroyed) (shown n.asked) (shown n.released)
 
--- what `show` prints: the pools of each layout that is the first with its counts and mark, the calls that the device had, and the sets that are out
+-- what `show` prints: the pools of each layout that is the first with its counts and mark, the calls that the device had, and the live sets
 unfoldable pub show_answer : LineState → List ℕ
 show_answer p =
     let allocator = allocator_of p.session in

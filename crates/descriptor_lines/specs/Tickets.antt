@@ -24,7 +24,7 @@ tickets_of word = do
   last ← number_in greatest_u64 (sides word).1
   Ok (tickets_between first last)
 
--- the most tickets of a line
+-- the greatest number of tickets of a line
 abbrev pub most_tickets : ℕ
 most_tickets = 1000000
 

@@ -1,4 +1,4 @@
--- What a run of the program writes: the answers of the lines of its input, in order, up to the end or the line that stopped it.
+-- What a run of the program writes: the answers of the lines of its input, in order, up to the end or the line that stopped it. A relation, since at any line the device may refuse or an allocation fail.
 use Rattle.std.specs.Prelude.{◌≡◌, ◌⊎◌, ◌≤◌, ◌<◌, ◌+◌, ◌++◌, ◌∷◌, [], ℕ, List, Option, Err, IfSome, length}
 use Rattle.std.specs.Io.BufRead.{strip_last}
 use Rattle.std.specs.Io.KnownBytes.{Appends, IsAtEnd, Keeps}
@@ -88,6 +88,6 @@ pub record RunsLines (unread rest : Option (List ℕ)) (exit : Exit) (old new : 
   pub writes : WritesFromStart unread exit old new ledger script
   -- it is done only at the end of the input
   pub done : exit ≡ Done → IsAtEnd rest
-  -- whatever the reader, a bad line is named last, and for want of memory nothing is written
+  -- whatever the reader, a bad line is named last, and if memory runs out nothing is written
   pub bad_line : exit ≡ BadLine → EndsInFault old new
   pub no_memory : exit ≡ NoMemory → Keeps old new

@@ -112,7 +112,7 @@ pub fn device_answer(
     )
 }
 
-/// The line of `show` for the sets that are out, and the descriptors of those that are marked.
+/// The line of `show` for the live sets, and the descriptors of those that are marked.
 pub fn held_answer(answer: &mut String, held: u64, marked: u32) -> Result<(), AllocError>
     ensures { OnOk result (string_bytes answer.new ≡ string_bytes answer.old
         ++ says.held_answer held marked) }

@@ -49,13 +49,13 @@ pub enum Command<'a> {
         script: Vec<Answer>,
     },
 
-    /// Allocates so many sets of the layout at this place.
+    /// Allocates `count` sets of the layout at this place.
     Alloc {
         layout: usize,
         count: u32,
     },
 
-    /// Gives back the sets of these tickets.
+    /// Frees the sets of these tickets.
     Free {
         tickets: Vec<usize>,
     },

@@ -32,7 +32,7 @@ pub trait LineDevice: ScriptedMeaning {
     fn has_lost(&self) -> bool
         ensures { result ≡ lost self.now };
 
-    /// Gives up the words that are still to come, and begins with these.
+    /// Discards the unread words, and begins with these.
     fn load(&mut self, words: Vec<Answer>)
         ensures script { script self.new ≡ words.items }
         ensures ledger { Self.ledger self.new ≡ Self.ledger self.old };

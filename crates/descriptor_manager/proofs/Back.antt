@@ -1,4 +1,4 @@
--- Sets that come back: they are kept, or leave their slots.
+-- Sets that are freed: they are kept, or leave their slots.
 use Rattle.std.proofs.Common.{◌≡◌, ℕ, ◌+◌, ◌≤◌, ◌&&◌, nat_lt, ne_eqb, Bool, true, false, List, is_some, inl, inr, refl, sym, ap, ◌∙◌, arith}
 use Rattle.descriptor_table.specs.Sets.{sets_in}
 use Rattle.descriptor_table.specs.Slots.{goes, is_due, is_in, slot_at}
@@ -32,7 +32,7 @@ module _ {T : Type 0} where
   pub leaving_sets : (test : Slot T → Bool) (old new : List (Slot T)) → Turns test (Becomes (used_for Going)) old new → sets_in new ≡ sets_in old
   leaving_sets test old new t = turned_sets test (Becomes (used_for Going)) old new t (λ o n going. ap (λ (s : Slot T). s.set) going)
 
-  -- as many are kept when sets that go are given back
+  -- as many are kept when sets that go are returned
   pub given_kept : (mid new : List (Slot T)) → Turns goes (Becomes vacated) mid new → (k : ℕ) → 2 ≤ k → count (is_in k) new ≡ count (is_in k) mid
   given_kept mid new gives k two = count_same (is_in k) mid new gives.long (λ p. by_test p (goes (slot_at mid p)) refl)
     where
@@ -48,7 +48,7 @@ module _ {T : Type 0} where
   kept_stays s = ap (λ b. b && (nat_lt s.generation 4294967295 && is_some s.set)) (ne_eqb 1 (s.layout + 2) (λ e. omega arith))
 
   module _ (test : Slot T → Bool) (generations : ℕ → ℕ) (max : ℕ) (old mid new : List (Slot T)) (full : (s : Slot T) → test s ≡ true → is_some s.set ≡ true) where
-    -- sets settled, and those that went were given back
+    -- sets settled, and those that went were returned
     pub came_back : ((p : ℕ) → goes (slot_at old p) ≡ false) → Turns test (IsBack (used_for Going) generations max) old mid → Turns goes (Becomes vacated) mid new → Turns test (IsBack vacated generations max) old new
     came_back none settles gives = record {
       long = gives.long ∙ settles.long;
@@ -73,7 +73,7 @@ module _ {T : Type 0} where
         | inr gone ↦ ap (is_due frame) gone.0
       ]
 
-  -- kept sets that went were given back
+  -- kept sets that went were returned
   pub left : (old mid new : List (Slot T)) → ((p : ℕ) → goes (slot_at old p) ≡ false) → Turns is_kept (MayBecome (used_for Going)) old mid → Turns goes (Becomes vacated) mid new → Turns is_kept (MayBecome vacated) old new
   left old mid new none trims gives = record {
     long = gives.long ∙ trims.long;

@@ -30,14 +30,14 @@ module _ {T : Type 0} where
     | inr going ↦ ap (λ (s : Slot T). s.set) going
   ])
 
-  -- a cleanup in three steps: no set is kept later, the kept ones go, and those that go were given back
+  -- a cleanup in three steps: no set is kept later, the kept ones go, and those that go were returned
   pub cleaned : (old a b new : List (Slot T)) → ArePlaced old → AreAged old a → Turns is_kept (MayBecome (used_for Going)) a b → ((layout : ℕ) → count (is_in (layout + 2)) b ≤ 0) → Turns goes (Becomes vacated) b new → AreCleaned old new
   cleaned old a b new placed aged_all trims few gives = record {
     long = gives.long ∙ trims.long ∙ aged_all.long;
     each = λ p lt. by_test p lt (is_kept (slot_at old p)) refl;
   }
     where
-      -- a slot whose set isn't kept is aged; a kept one is aged, goes, and is given back
+      -- a slot whose set isn't kept is aged; a kept one is aged, goes, and is returned
       by_test : (p : ℕ) → p < length old → (c : Bool) → is_kept (slot_at old p) ≡ c → slot_at new p ≡ (if is_kept (slot_at old p) then vacated (aged (slot_at old p)) else aged (slot_at old p))
       by_test p lt false e =
           let here = aged_all.each p lt in

@@ -1,5 +1,5 @@
 -- All sets leave: the steps of `Store::free_all`. The slots are `a` at first, `b` once those that wait go, `c` once the held ones go,
--- `d` once the kept ones go, and `new` once all that go were given back. `one`, `two` and `three` are what the slot at a place is in
+-- `d` once the kept ones go, and `new` once all that go were returned. `one`, `two` and `three` are what the slot at a place is in
 -- `b`, `c` and `d`.
 use Rattle.std.proofs.lemmas.Grind.{common_steps}
 use Rattle.std.proofs.Common.{◌≡◌, ℕ, ◌+◌, ◌≤◌, ◌⊎◌, ◌&&◌, ◌||◌, not, Bool, true, false, if◌then◌else◌, List, Option, None, is_some, inl, inr, refl, sym, ap, ◌∙◌, arith}
@@ -51,7 +51,7 @@ pub record IsEmptied {T : Type 0} (o n : Slot T) : Type 0 where
 module _ {T : Type 0} (a b c d new : List (Slot T)) (placed : ArePlaced a) (wait : Turns waits (Becomes (used_for Going)) a b)
     (leave : Turns holds (Becomes (used_for Going)) b c) (trims : Turns is_kept (MayBecome (used_for Going)) c d)
     (few : (layout : ℕ) → count (is_in (layout + 2)) d ≤ 0) (gives : Turns goes (Becomes vacated) d new) where
-  -- a set that goes was given back
+  -- a set that goes was returned
   given : (p : ℕ) (s : Slot T) → is_some s.set ≡ true → slot_at d p ≡ used_for Going s → slot_at new p ≡ vacated s
   given p s full e = gives.here p (ap goes e ∙ full) ∙ ap vacated e
 

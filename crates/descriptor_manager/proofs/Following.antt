@@ -1,5 +1,5 @@
 -- Each kind of change of a slot follows what it was (`Follows`, in `Settling`): its set stays or leaves, and is at rest if it was.
--- For the calls of `Store` by which sets come back, wait, or go.
+-- For the calls of `Store` by which sets are freed, wait, or go.
 use Rattle.std.proofs.lemmas.Grind.{common_steps}
 use Rattle.std.proofs.Common.{◌≡◌, ◌≢◌, ℕ, ◌+◌, ◌<◌, ◌&&◌, ◌||◌, not, Bool, true, false, List, length, is_some, inl, inr, refl, ap, subst, ◌∙◌, arith}
 use Rattle.descriptor_table.specs.Slots.{goes, in_list, slot_at, waits_for}

@@ -1,4 +1,4 @@
--- Held sets that come back by their handles: for `Store::wait_each`, where `took` says that a call has all of them, and `free_each`.
+-- Held sets that are freed by their handles: for `Store::wait_each`, where `took` says that a call has all of them, and `free_each`.
 use Rattle.std.proofs.Common.{arith, ◌≡◌, ◌≢◌, ℕ, ◌+◌, ◌<◌, ◌&&◌, Bool, true, false, List, get_or, length, is_some, inl, inr, refl, sym, ap, subst, ◌∙◌}
 use Rattle.std.proofs.lemmas.Bool.{true≢false}
 use Rattle.descriptor_table.specs.Sets.{AreHeldOnce, is_last, sets_in}
@@ -72,7 +72,7 @@ module _ {T : Type 0} (handles : List SetHandle) (number : ℕ) (generations : �
     | inr apart ↦ ap (λ (s : Slot T). s.set) ((settled refl).rest p apart)
   ])
 
-  -- those that went were given back
+  -- those that went were returned
   pub back_each : (new : List (Slot T)) → AreHeldOnce number old handles → TurnEach handles (IsBack (used_for Going) generations max) old mid → ArePlaced old → Turns goes (Becomes vacated) mid new → TurnEach handles (IsBack vacated generations max) old new
   back_each new once settled placed gives = record {
     long = gives.long ∙ settled.long;

@@ -84,7 +84,7 @@ module _ {T : Type 0} where
       | inr ne ↦ inl ne
     ]
 
-    -- it names nothing in the next generation
+    -- it is invalid in the next generation
     pub seen_apart : (frame : ℕ) (opened : Bool) (o n : Slot T) (h : SetHandle) → n.generation ≡ o.generation + 1 → h ≢ next_of h.place o → seen frame opened n h ≡ None
     seen_apart frame opened o n h more apart = ap (λ b. if b && is_live frame opened n.used then n.set else None) (elim (apart_as o h apart) [
       | inl ne ↦ and_left (h.manager == number) (h.generation == n.generation) (ne_eqb h.manager number ne)

@@ -26,7 +26,7 @@ module _ {T : Type 0} (layout : ℕ) where
   pub left_sets : (old new : List (Slot T)) → Turns (is_kept_of layout) (Becomes (used_for Going)) old new → sets_in new ≡ sets_in old
   left_sets old new t = turned_sets (is_kept_of layout) (Becomes (used_for Going)) old new t (λ o n e. ap (λ (s : Slot T). s.set) e)
 
-  -- the kept sets of the layout were given back, and all other slots are as they were
+  -- the kept sets of the layout were returned to their pools, and all other slots are as they were
   pub removed_turns : (old mid new : List (Slot T)) → ArePlaced old → Turns (is_kept_of layout) (Becomes (used_for Going)) old mid → Turns goes (Becomes vacated) mid new → Turns (is_kept_of layout) (Becomes vacated) old new
   removed_turns old mid new placed lets gives = record {
     long = gives.long ∙ lets.long;
@@ -37,7 +37,7 @@ module _ {T : Type 0} (layout : ℕ) where
         gives.here p (ap goes going ∙ full) ∙ ap vacated going;
   }
 
-  -- a set that was given back leaves its slot's layout
+  -- a returned set leaves its slot's layout
   pub given_under : (mid new : List (Slot T)) → Turns goes (Becomes vacated) mid new → (p : ℕ) → came_under (slot_at new p) ≡ came_under (slot_at mid p)
   given_under mid new gives p = by_test (goes (slot_at mid p)) refl
     where

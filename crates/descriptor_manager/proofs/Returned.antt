@@ -1,4 +1,4 @@
--- Sets that were given back are counted, and what becomes of all if there are none.
+-- Returned sets are counted, and what becomes of all if there are none.
 use Rattle.std.proofs.Common.{◌≡◌, ℕ, ◌+◌, false, Bool, List, [], length, None, refl, sym, ap, ◌∙◌, arith}
 use Rattle.std.proofs.lemmas.Bool.{false≢true}
 use Rattle.std.specs.Borrow.{MutBor}
@@ -22,7 +22,7 @@ use Rattle.descriptor_table.proofs.Leaving.{given_weigh, tally_length}
 use Rattle.descriptor_manager.proofs.Given.{counts, weight}
 
 module _ {S : Type 0} (name : S → ℕ) where
-  -- what was given back, and what is left, is what there was
+  -- what was returned, and what is left, is what there was
   pub given_count :
       (test : Slot (DescriptorSet S) → Bool) (xs : List (DescriptorSet S)) (s u : MutBor (SetTable (DescriptorSet S)))
       → Yields (GivesFrom test) s xs u → (t : Item)
@@ -51,7 +51,7 @@ module _ {S : Type 0} (name : S → ℕ) (test : Slot (DescriptorSet S) → Bool
   pub all_many : length (sets_in (slots_of s.now)) ≡ length xs + length (sets_in (slots_of u.now))
   all_many = given_many name test xs s d.0 d.1 ∙ ap (λ l. length xs + length (sets_in l)) (sym d.2.gives.slots.slots)
 
--- no set is given back
+-- no set is returned
 pub returns_none : {L P S : Type 0} (means : Meaning L P S) (old : Allocations P) (before : Ledger) → Returns means [] (side old before) (side old before)
 returns_none means old before = record { back = gives_none means old before; keys = refl; looks_stay = refl; comparisons = omega arith; compared = omega arith }
 

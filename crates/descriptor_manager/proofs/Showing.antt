@@ -1,4 +1,4 @@
--- What handles name once sets came back, waited, or were given back: for `SetManager::frame_done`, `free`, `cleanup` and others.
+-- What handles name once sets were freed, waited, or were returned to their pools: for `SetManager::frame_done`, `free`, `cleanup` and others.
 use Rattle.std.proofs.lemmas.Grind.{common_steps}
 use Rattle.std.proofs.Common.{◌≡◌, ℕ, ◌+◌, ◌<◌, ◌&&◌, nat_le, Bool, true, false, List, length, if◌then◌else◌, is_some, None, inl, inr, refl, sym, ap, ◌∙◌, arith}
 use Rattle.std.proofs.lemmas.List.{get_or_past}
@@ -33,7 +33,7 @@ module _ {T : Type 0} (frame : ℕ) (opened : Bool) where
     set = ap (λ b. if b then n.set else None) is ∙ sym (ap (λ b. if b then o.set else None) was);
   }
 
-  -- a set that came back has no live handle, whether it is kept or left
+  -- a freed set has no live handle, whether it is kept or left
   back_quiet : (generations : ℕ → ℕ) (max : ℕ) (new : List (Slot T)) (o n : Slot T) → IsBack vacated generations max new o n → (is_live frame opened n.used ≡ false) × (n.generation ≡ o.generation)
   back_quiet generations max new o n back = elim back [
     | inl kept ↦ (ap (λ (s : Slot T). is_live frame opened s.used) kept.0, ap (λ (s : Slot T). s.generation) kept.0)
@@ -48,7 +48,7 @@ module _ {T : Type 0} (frame : ℕ) (opened : Bool) where
       by_test true e = shows (slot_at old p) (slot_at new p) e (turns.here p e)
       by_test false e = same_shown (slot_at old p) (slot_at new p) (turns.rest p e)
 
-  -- sets that came back leave the names of all others
+  -- sets that were freed leave the names of all others
   pub back_names : (generations : ℕ → ℕ) (number due max : ℕ) (old new : List (Slot T)) → (opened ≡ true → due < frame) → Turns (is_due due) (IsBack vacated generations max) old new → sets_of number frame opened new ≡ sets_of number frame opened old
   back_names generations number due max old new later turns = names_kept number frame opened old new (turned (is_due due) (IsBack vacated generations max) old new turns (λ o n e back.
       let q = back_quiet generations max new o n back in

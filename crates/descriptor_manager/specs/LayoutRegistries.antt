@@ -1,4 +1,4 @@
--- The layouts of a registry, and which a handle names.
+-- The layouts of a registry, and whose handles they have.
 use Rattle.std.specs.Prelude.{◌≡◌, ℕ, false, List, Option}
 use Rattle.gpu_descriptor_types.specs.declared.device.DescriptorDevice.{Ghosts}
 use Rattle.gpu_descriptor.specs.declared.layout.SetLayout.{SetLayout}
@@ -9,7 +9,7 @@ use Rattle.descriptor_manager.specs.declared.layout_registry.LayoutHandle.{Layou
 use Rattle.descriptor_manager.specs.declared.layout_registry.LayoutRegistry.{LayoutRegistry}
 
 module _ {L P S D : Type 0} {d : Ghosts D L P S} where
-  -- the number that tells the registry from others
+  -- the number that marks the registry's handles
   abbrev pub registry_of : LayoutRegistry L P S D d → ℕ
   registry_of r = tables.number_of r.table
 
@@ -26,6 +26,6 @@ module _ {L P S D : Type 0} {d : Ghosts D L P S} where
   abbrev pub layouts_by : LayoutRegistry L P S D d → Sets (SetLayout L)
   layouts_by r = sets_of (registry_of r) 0 false (layout_slots r)
 
-  -- the layout of a handle. None if another registry gave the handle, or the layout was removed
+  -- the layout of a handle; None if the layout was removed, or if the handle is another registry's
   abbrev pub layout_at : LayoutRegistry L P S D d → LayoutHandle → Option (SetLayout L)
   layout_at r h = (layouts_by r).set h.slot

@@ -35,13 +35,13 @@ pub record Rendering (L P S : Type 0) : Type 0 where
   pub slots : List (Slot (DescriptorSet S))
   -- how many layouts of each number were removed
   pub generations : ℕ → ℕ
-  -- how many sets of a layout are kept at most
+  -- the max of the kept sets of a layout
   pub keep : ℕ
   -- the allocator, and the ledger of the device
   pub side : Side (Allocations P)
   pub pools_besides : ℕ → Option Pool
   pub limit : ℕ
-  -- how many descriptors a new pool has at most, unless what is wanting needs more
+  -- the bound on the descriptors of a new pool, which only the sets still needed exceed
   pub bound : Option ℕ
 
 -- a set manager over a device
@@ -53,7 +53,7 @@ module _ {L P S D : Type 0} {d : Ghosts D L P S} where
   abbrev pub store_of : ManagerOver d → stores.StoreOver d
   store_of r = r.store
 
-  -- the number that its handles have, of sets and of layouts
+  -- the number that marks the handles of its sets and layouts
   abbrev pub number_of : ManagerOver d → ℕ
   number_of r = r.manager
 
@@ -61,7 +61,7 @@ module _ {L P S D : Type 0} {d : Ghosts D L P S} where
   abbrev pub layouts_in : ManagerOver d → List (Slot (SetLayout L))
   layouts_in r = layout_slots r.layouts
 
-  -- the layout of a handle. None if the set manager did not give the handle, or the layout was removed
+  -- the layout of a handle; None if the layout was removed, or if the handle is another set manager's
   abbrev pub layout_of : ManagerOver d → LayoutHandle → Option (SetLayout L)
   layout_of r = layout_at r.layouts
 
@@ -93,7 +93,7 @@ module _ {L P S D : Type 0} {d : Ghosts D L P S} where
   abbrev pub kept_of : LayoutHandle → ManagerOver d → ℕ
   kept_of layout r = stores.kept_of layout.slot.place r.store
 
-  -- how many sets of a layout are kept at most
+  -- the max of the kept sets of a layout
   abbrev pub keep_of : ManagerOver d → ℕ
   keep_of r = stores.keep_of r.store
 
@@ -101,7 +101,7 @@ module _ {L P S D : Type 0} {d : Ghosts D L P S} where
   abbrev pub ledger_in : ManagerOver d → Ledger
   ledger_in r = d.ledger r.store.device
 
-  -- the live pools of the device that are none of the set manager's
+  -- the live pools of the device that aren't the set manager's
   abbrev pub pools_besides : ManagerOver d → ℕ → Option Pool
   pools_besides r = stores.pools_besides r.store
 
@@ -113,15 +113,15 @@ module _ {L P S D : Type 0} {d : Ghosts D L P S} where
   abbrev pub limit_of : ManagerOver d → ℕ
   limit_of r = stores.limit_of r.store
 
-  -- how many descriptors a new pool has at most, unless what is wanting needs more
+  -- the bound on the descriptors of a new pool, which only the sets still needed exceed
   abbrev pub bound_of : ManagerOver d → Option ℕ
   bound_of r = stores.bound_of r.store
 
-  -- the last frame that the device can be done with, of those up to this one: the open frame is none of them
+  -- the last frame, of those up to this one, that the device can be done with: the open frame is not among them
   abbrev pub done_of : ℕ → ManagerOver d → ℕ
   done_of frame r = if r.is_open then min frame (r.frame - 1) else frame
 
-  -- all that callers see of a manager: a clause says at once that it stays, but for the fields that the call may change
+  -- all that callers see of a set manager. A clause says with it that all this stays, except the fields that the call may change: a clause for each field was 72 clauses more
   abbrev pub seen : ManagerOver d → Rendering L P S
   seen r = record {
     number = number_of r;
@@ -138,34 +138,34 @@ module _ {L P S D : Type 0} {d : Ghosts D L P S} where
     bound = bound_of r;
   }
 
-  -- all that is seen stays, but for the slots of sets, and their pools
+  -- all that is seen stays, except the slots of sets, and their pools
   abbrev pub OnlySetsChange : ManagerOver d → ManagerOver d → Type 0
   OnlySetsChange old new = seen new ≡ record (seen old) { slots = slots_of new; side = side_of new }
 
-  -- a set of the layout has the handle, which was never given; each other handle names what it named
+  -- a set of the layout has the handle, which was never given; each other handle has the set that it had
   pub record Comes (layout : L) (handle : SetHandle) (old new : ManagerOver d) : Type 0 where
     pub set : DescriptorSet S
     pub own : IsOfLayout d.meaning layout set.raw
     pub names : Names handle set (sets_by old) (sets_by new)
 
-  -- sets of the layout have the handles, none of which was ever given; each other handle names what it named
+  -- sets of the layout have the handles, none of which was ever given; each other handle has the set that it had
   pub record ComeEach (layout : L) (handles : List SetHandle) (old new : ManagerOver d) : Type 0 where
     pub names : NameEach handles (sets_by old) (sets_by new)
     pub own : (i : ℕ) (e : SetHandle) (x : DescriptorSet S) → i < length handles → (sets_by new).set (slice_index_or handles i e) ≡ Some x → IsOfLayout d.meaning layout x.raw
 
-  -- nothing but slots and pools changes: on an error each handle names what it named, and there are more slots only if each has a set, or had its last generation
+  -- only slots and pools change. On an error each handle has the set that it had, and there are more slots only if each has a set, or had its last generation
   pub record OnlySetsCome {R : Type 0} (result : Result R RequestError) (old new : ManagerOver d) : Type 0 where
     pub stay : OnErr result (sets_by new ≡ sets_by old)
     pub grows : Grows (slots_of old) (slots_of new)
     pub rest : OnlySetsChange old new
 
-  -- no frame is needed. NoLayout comes exactly without the layout, and then nothing changed
+  -- no frame is needed. The error is NoLayout exactly if the layout is missing, and then nothing changes
   pub record NeedsLayout {R : Type 0} (layout : LayoutHandle) (result : Result R RequestError) (old new : ManagerOver d) : Type 0 where
     pub no_frame : ¬ (IsErrOf result NoFrame)
     pub no_layout : (IsErrOf result NoLayout) ↔ (layout_of old layout ≡ None)
     pub early : IsErrOf result NoLayout → seen new ≡ seen old
 
-  -- the sets wait for the frame, and their handles name nothing. Nothing changes if the frame is later than the last one, or else if a handle has no held set, or is there twice
+  -- the sets wait for the frame, and their handles are invalid. Nothing changes if the frame is later than the last one, or if a handle has no held set or is there twice
   pub record Destroys (handles : List SetHandle) (frame : ℕ) (result : Result Unit FreeError) (old new : ManagerOver d) : Type 0 where
     pub waits : OnOk result (TurnEach handles (Becomes (used_for (Waits frame))) (slots_of old) (slots_of new))
     pub names : OnOk result (LoseNames handles (sets_by old) (sets_by new))
@@ -175,6 +175,6 @@ module _ {L P S D : Type 0} {d : Ghosts D L P S} where
     pub stay : OnErr result (slots_of new ≡ slots_of old)
     pub rest : seen new ≡ record (seen old) { slots = slots_of new }
 
-  -- the pools for sets of layouts that have the key of this one
+  -- the pools for sets of layouts with this one's key
   abbrev pub pools_for : L → ManagerOver d → BucketOf P
   pools_for layout r = books_of (side_of r).value.table (layout_key d.meaning layout)

@@ -1,4 +1,4 @@
--- The sets of a set manager are of the layouts that they were asked for by.
+-- Each set of a set manager is of the layout with which it was requested.
 use Rattle.std.specs.Prelude.{◌≡◌, ℕ, ◌+◌, ◌<◌, true, List, length, Some, is_some, if◌then◌else◌}
 use Rattle.gpu_descriptor_types.specs.Meaning.{IsOfLayout, Meaning}
 use Rattle.gpu_descriptor_types.specs.declared.device.DescriptorDevice.{Ghosts}
@@ -21,22 +21,22 @@ module _ {L P S : Type 0} (means : Meaning L P S) where
     pub there : is_some (slot_at layouts number).set ≡ true
     pub own : (known : SetLayout L) → (slot_at layouts number).set ≡ Some known → IsOfLayout means known.layout x.raw
 
-  -- the set in each slot is of the layout that it came under, if that was not removed
+  -- the set in each slot is of the layout with which it was requested, unless that was removed
   abbrev pub AreOwn : (ℕ → ℕ) → List (Slot (SetLayout L)) → List (Slot (DescriptorSet S)) → Type 0
   AreOwn generations layouts slots = (p n : ℕ) (x : DescriptorSet S) → (slot_at slots p).set ≡ Some x → came_under (slot_at slots p) ≡ current generations n → IsOwn layouts n x
 
--- as many handles were given for the slot as layouts left it, and one more for a layout that is there
+-- the slot gave a handle for each layout that left it, and one for a layout that is there
 abbrev pub IsCounted : {T : Type 0} → ℕ → Slot T → Type 0
 IsCounted removed s = (s.generation ≡ removed + (if is_some s.set then 1 else 0)) × (s.generation < 4294967296)
 
--- so it is for each number
+-- each number's slot is counted
 abbrev pub AreCounted : {T : Type 0} → (ℕ → ℕ) → List (Slot T) → Type 0
 AreCounted generations layouts = (n : ℕ) → IsCounted (generations n) (slot_at layouts n)
 
--- the sets of a store are at rest, and of these layouts. Their handles have this number
+-- the sets of a store are at rest, and are of these layouts. Their handles have this number
 pub record HasSetsOf {L P S D : Type 0} {d : Ghosts D L P S} (layouts : List (Slot (SetLayout L))) (manager : ℕ) (s : Store L P S D d) : Type 0 where
   pub rest : IsAtRest s
-  -- each set is of the layout that it came under, if that was not removed
+  -- each set is of the layout with which it was requested, unless that was removed
   pub own : AreOwn d.meaning (generations_in s) layouts (slots_in s)
   -- each layout's slot counts the handles that were given for it
   pub counted : AreCounted (generations_in s) layouts

@@ -1,4 +1,4 @@
--- What the store of a set manager has, the table of its sets and the allocator over a device, and what its calls do.
+-- What a set manager's store has (the table of its sets, and the allocator over a device), and what its calls do.
 use Rattle.std.specs.Prelude.{◌≡◌, ◌≢◌, ℕ, zero, suc, ◌+◌, ◌<◌, ◌⊎◌, ◌||◌, true, not, Bool, List, [], ◌∷◌, length, slice_index_or, if◌then◌else◌, is_some, Option, Result, Some, Ok, Err, None, IfOk, IfErr}
 use Rattle.gpu_descriptor_types.specs.Ledger.{Ledger, Pool}
 use Rattle.gpu_descriptor.specs.Caller.Others.{others_of}
@@ -32,23 +32,23 @@ use Rattle.descriptor_manager.specs.declared.store.Store.{Store}
 abbrev pub is_placed : {T : Type 0} → Slot T → Bool
 is_placed s = not (is_some s.set) || (holds s || (waits s || is_kept s))
 
--- all kept sets left their slots, and no set that is left is kept when it comes back
+-- all kept sets left their slots, and no set that is left is kept once it is freed
 pub record AreCleaned {T : Type 0} (old new : List (Slot T)) : Type 0 where
   pub long : length new ≡ length old
   pub each : (p : ℕ) → p < length old → slot_at new p ≡ (if is_kept (slot_at old p) then vacated (aged (slot_at old p)) else aged (slot_at old p))
 
--- a set has the handle, which was never given, and is in use for this; each other handle names what it named, in whatever frame
+-- a set has the handle, which was never given, and is in this use; each other handle has the set that it had, in every frame
 pub record IsNamed {T : Type 0} (number : ℕ) (under : ℕ × ℕ) (u : Use) (handle : SetHandle) (old new : List (Slot T)) : Type 0 where
   pub set : T
   pub of_layout : came_under (slot_at new handle.place) ≡ under
   pub here : (slot_at new handle.place).set ≡ Some set
   pub names : (frame : ℕ) (opened : Bool) → is_live frame opened u ≡ true → Names handle set (sets_of number frame opened old) (sets_of number frame opened new)
 
--- whether another set can come to the slot, or a kept one is in it
+-- whether the slot has no set and can get one, or has a kept one
 abbrev pub is_free : {T : Type 0} → Slot T → Bool
 is_free s = is_kept s || not (is_some s.set)
 
--- sets that were kept, or came, are held by the next handles of their slots, and all else is as it was
+-- sets that were kept or are new are held by the next handles of their slots, and all else is as it was
 pub record HoldEach {T : Type 0} (number : ℕ) (under : ℕ × ℕ) (handles : List SetHandle) (old new : List (Slot T)) : Type 0 where
   -- no two have one place
   pub apart : (i j : ℕ) → i < j → j < length handles → place_at handles i ≢ place_at handles j
@@ -61,7 +61,7 @@ pub record HoldEach {T : Type 0} (number : ℕ) (under : ℕ × ℕ) (handles : 
   pub held : (i : ℕ) → i < length handles → holds (slot_at new (place_at handles i)) ≡ true
   pub rest : (p : ℕ) → ((i : ℕ) → i < length handles → place_at handles i ≢ p) → slot_at new p ≡ slot_at old p
 
--- the sets of the handles were kept, or came, perhaps after all kept sets left their slots, if there were some; all else is as it was
+-- the sets of the handles were kept or are new, perhaps after all kept sets left their slots, if there were some; all else is as it was
 pub record HoldAtLast {T : Type 0} (number : ℕ) (under : ℕ × ℕ) (handles : List SetHandle) (old new : List (Slot T)) : Type 0 where
   pub mid : List (Slot T)
   pub cleared : (mid ≡ old) ⊎ ((0 < count is_kept old) × AreCleaned old mid)
@@ -69,15 +69,15 @@ pub record HoldAtLast {T : Type 0} (number : ℕ) (under : ℕ × ℕ) (handles 
   pub kept_first : (i : ℕ) → i < length handles → i < count (is_kept_of under.0) mid → is_kept_of under.0 (slot_at mid (place_at handles i)) ≡ true
   pub holds : HoldEach number under handles mid new
 
--- no set comes
+-- no set is new
 abbrev pub NoneComes : {S : Type 0} → ℕ → DescriptorSet S → Type 0
 NoneComes layout x = ⊥
 
--- only sets of this layout come
+-- each new set is of this layout
 abbrev pub ComesOf : {L P S : Type 0} → Meaning L P S → L → ℕ → ℕ → DescriptorSet S → Type 0
 ComesOf means known layout other x = (other ≡ layout) × IsOfLayout means known x.raw
 
--- sets were given back by one free_from, if there were any
+-- one free_from returned sets to their pools, if there were any
 pub record GaveBack {L P S : Type 0} (means : Meaning L P S) (old new : Side (Allocations P)) : Type 0 where
   pub sets : List (DescriptorSet S)
   pub returns : Returns means sets old new
@@ -87,7 +87,7 @@ module _ {S : Type 0} where
   abbrev pub SetsCome : (ℕ → DescriptorSet S → Type 0) → List (Slot (DescriptorSet S)) → List (Slot (DescriptorSet S)) → Type 0
   SetsCome comes old new = (p : ℕ) (x : DescriptorSet S) → (slot_at new p).set ≡ Some x → (((slot_at old p).set ≡ Some x) × (came_under (slot_at new p) ≡ came_under (slot_at old p))) ⊎ comes (slot_at new p).layout x
 
--- how many lists a table has for so many layouts
+-- how many lists a table with this many layouts has
 abbrev pub lists_for : ℕ → ℕ
 lists_for zero = 0
 lists_for (suc n) = n + 3
@@ -113,15 +113,15 @@ module _ {L P S D : Type 0} {d : Ghosts D L P S} where
   abbrev pub limit_of : StoreOver d → ℕ
   limit_of s = s.allocator.limit
 
-  -- how many descriptors a new pool has at most, unless what is wanting needs more
+  -- the bound on the descriptors of a new pool, which only the sets still needed exceed
   abbrev pub bound_of : StoreOver d → Option ℕ
-  bound_of s = s.allocator.max
+  bound_of s = s.allocator.most
 
-  -- the number that tells the handles of the table from those of others
+  -- the number that marks the handles of the table
   abbrev pub number_of : StoreOver d → ℕ
   number_of s = s.table.number
 
-  -- how many sets of a layout are kept at most
+  -- the max of the kept sets of a layout
   abbrev pub keep_of : StoreOver d → ℕ
   keep_of s = s.table.keep
 
@@ -141,11 +141,11 @@ module _ {L P S D : Type 0} {d : Ghosts D L P S} where
   abbrev pub HasLayout : ℕ → StoreOver d → Type 0
   HasLayout layout s = layout + 2 < lists_in s
 
-  -- the sets that a request has before they are in the table
+  -- the new sets of a request that are not in the table yet
   abbrev pub coming_in : StoreOver d → List (DescriptorSet S)
   coming_in s = s.coming.items
 
-  -- the live pools of the device that are none of the allocator's
+  -- the live pools of the device that aren't the allocator's
   abbrev pub pools_besides : StoreOver d → ℕ → Option Pool
   pools_besides s = others_of d.meaning.pool_name s.allocator (d.ledger s.device)
 
@@ -153,12 +153,12 @@ module _ {L P S D : Type 0} {d : Ghosts D L P S} where
   abbrev pub kept_of : ℕ → StoreOver d → ℕ
   kept_of layout s = count (is_kept_of layout) (slots_in s)
 
-  -- no set is on its way, and each is held, waits for a frame, or is kept
+  -- no set is on its way into the table, and each set is held, waits for a frame, or is kept
   pub record IsAtRest (s : StoreOver d) : Type 0 where
     pub none_coming : coming_in s ≡ []
     pub placed : (p : ℕ) → is_placed (slot_at (slots_in s) p) ≡ true
 
-  -- number, lists, limit and bound, and what is none of the allocator's are as they were. So many layouts of each number were removed, and so many sets of a layout are kept at most
+  -- number, lists, limit and bound are as they were, and so are the pools that aren't the allocator's. This many layouts of each number were removed, and at most `max` sets of a layout are kept
   pub record StoreStays (removed : ℕ → ℕ) (max : ℕ) (old new : StoreOver d) : Type 0 where
     pub number : number_of new ≡ number_of old
     pub lists : lists_in new ≡ lists_in old
@@ -172,72 +172,72 @@ module _ {L P S D : Type 0} {d : Ghosts D L P S} where
   abbrev pub KeepsStore : StoreOver d → StoreOver d → Type 0
   KeepsStore old new = StoreStays (generations_in old) (keep_of old) old new
 
-  -- all of these are as they were, and the same sets are on their way
+  -- the same, and the same sets are on their way into the table
   pub record KeepsComing (old new : StoreOver d) : Type 0 where
     pub store : KeepsStore old new
     pub coming : coming_in new ≡ coming_in old
 
-  -- the slots, the allocator and the ledger are as they were, and the same sets are on their way
+  -- the slots, the allocator and the ledger are as they were, and the same sets are on their way into the table
   pub record KeepsContents (old new : StoreOver d) : Type 0 where
     pub slots : slots_in new ≡ slots_in old
     pub side : side_of new ≡ side_of old
     pub coming : coming_in new ≡ coming_in old
 
-  -- each set was in its slot before, under its layout, or passes the test, and none is on its way
+  -- each set was in its slot before, under its layout, or passes the test; none is on its way into the table
   pub record SettlesTo (removed : ℕ → ℕ) (max : ℕ) (comes : ℕ → DescriptorSet S → Type 0) (old new : StoreOver d) : Type 0 where
     pub sets : SetsCome comes (slots_in old) (slots_in new)
     pub rest : IsAtRest new
     pub stays : StoreStays removed max old new
 
-  -- the same, with layouts and what may be kept as they were
+  -- the same, with layouts and the max of kept sets as they were
   abbrev pub Settles : (ℕ → DescriptorSet S → Type 0) → StoreOver d → StoreOver d → Type 0
   Settles comes old new = SettlesTo (generations_in old) (keep_of old) comes old new
 
-  -- sets of the layout, which has this number, may be asked for
+  -- sets of the layout, which has this number, may be requested
   pub record CanTake (known : SetLayout L) (number : ℕ) (s : StoreOver d) : Type 0 where
     pub meant : IsMeant d.meaning known
     pub layout : HasLayout number s
     pub rest : IsAtRest s
 
-  -- the sets that pass the test left their slots, and were given back by one free_from, if there were any
+  -- the sets that pass the test left their slots, and one free_from returned them to their pools, if there were any
   pub record GivesBack (test : Slot (DescriptorSet S) → Bool) (old new : StoreOver d) : Type 0 where
     pub back : GaveBack d.meaning (side_of old) (side_of new)
     pub turns : Turns test (Becomes vacated) (slots_in old) (slots_in new)
     pub keeps : Keeps d.meaning (side_of old) (side_of new)
     pub stays : KeepsComing old new
 
-  -- sets were given back, and then all empty pools went
+  -- sets returned to their pools, and then all empty pools were destroyed
   pub record Cleans (old new : StoreOver d) : Type 0 where
     pub sets : List (DescriptorSet S)
     pub mid : Side (Allocations P)
     pub returns : Returns d.meaning sets (side_of old) mid
     pub cleans : TrimsPools d.meaning mid (side_of new)
 
-  -- so many sets of the layout alone have more descriptors than the limit allows
+  -- `many` sets of the layout alone have more descriptors than the limit allows
   abbrev pub ExceedsLimitAlone : L → ℕ → StoreOver d → Type 0
   ExceedsLimitAlone known many s = limit_of s < set_descriptors (layout_key d.meaning known) many
 
-  -- the allocator refused so many sets, for which the table had room. All slots are as they were
+  -- the allocator refused `many` sets, for which the table had room. All slots are as they were
   pub record IsRefused (known : L) (many : ℕ) (error : AllocationError) (old new : StoreOver d) : Type 0 where
     pub slots : slots_in new ≡ slots_in old
     pub room : HasRoom many new.table
     pub hands_out : HandsOut d.meaning (layout_key d.meaning known) many (Err error) (side_of old) (side_of new)
 
-  -- the table had no room for so many sets, and an allocation for more slots failed. The allocator was not asked
+  -- the table had no room for `many` sets, and an allocation for more slots failed. The allocator was not asked
   pub record LacksRoom (many : ℕ) (error : AllocationError) (old new : StoreOver d) : Type 0 where
     pub out_of_memory : error ≡ OutOfHostMemory
     pub room : ¬ (HasRoom many old.table)
     pub full : count is_usable (slots_in old) < many
     pub contents : KeepsContents old new
 
-  -- so many sets were not had: the allocator refused them, or the table had no room
+  -- a request for `many` sets failed: the allocator refused them, or the table had no room
   abbrev pub IsUnmet : L → ℕ → AllocationError → StoreOver d → StoreOver d → Type 0
   IsUnmet known many error old new = IsRefused known many error old new ⊎ LacksRoom many error old new
 
-  -- the allocator refused the first of two requests while some sets were kept, and then all kept sets were given back, and all empty pools went
+  -- the allocator refused the first of two requests while some sets were kept. Then all kept sets returned to their pools, and all empty pools were destroyed
   pub record IsCleared (known : L) (first last : ℕ) (old new : StoreOver d) : Type 0 where
     pub some : 0 < count is_kept (slots_in old)
-    -- the limit allows as many sets as the second request has
+    -- the limit allows the sets of the second request
     pub fits : ¬ (ExceedsLimitAlone known last old)
     pub refused : StoreOver d
     pub error : AllocationError
@@ -245,28 +245,28 @@ module _ {L P S D : Type 0} {d : Ghosts D L P S} where
     pub cleaned : AreCleaned (slots_in refused) (slots_in new)
     pub cleans : Cleans refused new
 
-  -- so many sets were not had, or, after a cleanup, this many
+  -- the request for the first number of sets failed, or, after a cleanup, the one for the last
   pub record IsRefusedAtLast (known : L) (first last : ℕ) (error : AllocationError) (old new : StoreOver d) : Type 0 where
     -- no set is kept, unless the second request alone exceeds the limit, or the table had no room for the first
     pub none : (count is_kept (slots_in new) ≡ 0) ⊎ ExceedsLimitAlone known last old ⊎ LacksRoom first error old new
     pub why : IsUnmet known first error old new ⊎ ((mid : StoreOver d) × IsCleared known first last old mid × IsUnmet known last error mid new)
 
-  -- a set of the layout came from the allocator, and is at the place
+  -- the set at the place is a new one of the layout, from the allocator
   pub record Gets (known : L) (layout place : ℕ) (old new : StoreOver d) : Type 0 where
     pub set : DescriptorSet S
     pub puts : Puts (generations_in new) layout set place (slots_in old) (slots_in new)
     pub own : IsOfLayout d.meaning known set.raw
     pub hands_out : HandsOut d.meaning (layout_key d.meaning known) 1 (Ok (set ∷ [])) (side_of old) (side_of new)
 
-  -- a set came from the allocator, at once, or after all kept sets were given back
+  -- the allocator gave a new set, at once, or after all kept sets returned to their pools
   abbrev pub GetsAtLast : L → ℕ → ℕ → StoreOver d → StoreOver d → Type 0
   GetsAtLast known layout place old new = Gets known layout place old new ⊎ ((mid : StoreOver d) × IsCleared known 1 1 old mid × Gets known layout place mid new)
 
-  -- a new set has the handle, and is in use for this
+  -- a new set has the handle, and is in this use
   abbrev pub HandlesNew : L → ℕ → Use → SetHandle → StoreOver d → StoreOver d → Type 0
   HandlesNew known layout u handle old new = (mid : StoreOver d) × GetsAtLast known layout handle.place old mid × Renews (number_of old) handle.place u handle (slots_in mid) (slots_in new) × (side_of new ≡ side_of mid)
 
-  -- a kept set of the layout has the handle, and is in use for this. The device isn't called
+  -- a kept set of the layout has the handle, and is in this use. The device isn't called
   pub record HandlesKept (layout : ℕ) (u : Use) (handle : SetHandle) (old new : StoreOver d) : Type 0 where
     pub was : is_kept_of layout (slot_at (slots_in old) handle.place) ≡ true
     pub renews : Renews (number_of old) handle.place u handle (slots_in old) (slots_in new)
@@ -279,57 +279,57 @@ module _ {L P S D : Type 0} {d : Ghosts D L P S} where
     pub picks : Picks (is_kept_of layout) place (slots_in old) (slots_in new)
     pub side : side_of new ≡ side_of old
 
-  -- so many sets of the layout came from the allocator, and are on their way to their slots
+  -- the allocator gave `many` sets of the layout, which are on their way into the table
   pub record Asks (known : L) (many : ℕ) (old new : StoreOver d) : Type 0 where
     pub slots : slots_in new ≡ slots_in old
     pub own : AreOfLayout d.meaning known (coming_in new)
     pub hands_out : HandsOut d.meaning (layout_key d.meaning known) many (Ok (coming_in new)) (side_of old) (side_of new)
 
-  -- so many sets came from the allocator, at once, or, after all kept sets were given back, as many as all
+  -- the allocator gave the first number of sets at once, or the last after all kept sets returned to their pools
   abbrev pub AsksAtLast : L → ℕ → ℕ → StoreOver d → StoreOver d → Type 0
   AsksAtLast known first last old new = Asks known first old new ⊎ ((mid : StoreOver d) × IsCleared known first last old mid × Asks known last mid new)
 
-  -- so many sets came, and the device was not called after that
+  -- the same, and the device was not called after that
   abbrev pub BringsAtLast : L → ℕ → ℕ → StoreOver d → StoreOver d → Type 0
   BringsAtLast known first last old new = (mid : StoreOver d) × AsksAtLast known first last old mid × (side_of new ≡ side_of mid)
 
-  -- the sets that pass the test came back, and those that are not kept were given back by one free_from, if there were any
+  -- the sets that pass the test were freed: each is kept, or left its slot. One free_from returned those that aren't kept to their pools, if there were any
   pub record ComeBack (test : Slot (DescriptorSet S) → Bool) (old new : StoreOver d) : Type 0 where
     pub turns : Turns test (IsBack vacated (generations_in old) (keep_of old)) (slots_in old) (slots_in new)
     pub back : GaveBack d.meaning (side_of old) (side_of new)
 
-  -- the kept sets of the layout were given back by one free_from, if there were any, and all other slots are as they were. Then the empty pools of its key went
+  -- one free_from returned the kept sets of the layout to their pools, if there were any, and all other slots are as they were. Then the empty pools of its key were destroyed
   pub record Removes (known : L) (layout : ℕ) (old new : StoreOver d) : Type 0 where
     pub turns : Turns (is_kept_of layout) (Becomes vacated) (slots_in old) (slots_in new)
-    -- one layout more of the number was removed. Each set that is left under the number came under one of these, so it isn't kept when it comes back
+    -- one more layout of the number was removed. Each set that is left under the number is of one of these, so it isn't kept once it is freed
     pub generations : generations_in new ≡ removed_at layout (generations_in old)
     pub past : (p : ℕ) → (slot_at (slots_in new) p).layout ≡ layout → (slot_at (slots_in new) p).layout_generation < generations_in new layout
     pub mid : Side (Allocations P)
     pub back : GaveBack d.meaning (side_of old) mid
-    -- these, and those that are left, are those that there were
+    -- the sets that were there are the returned ones and those that are left
     pub gave : (t : Item) → count_of t (items_of d.meaning.set_name (sets_in (slots_in old))) ≡ count_of t (items_of d.meaning.set_name back.sets) + count_of t (items_of d.meaning.set_name (sets_in (slots_in new)))
     pub trims : TrimsKey d.meaning (layout_key d.meaning known) mid (side_of new)
 
-  -- the sets of the handles came back, and those that are not kept were given back by one free_from, if there were any
+  -- the sets of the handles were freed: each is kept, or left its slot. One free_from returned those that aren't kept to their pools, if there were any
   pub record FreesEach (handles : List SetHandle) (old new : StoreOver d) : Type 0 where
     pub turns : TurnEach handles (IsBack vacated (generations_in old) (keep_of old)) (slots_in old) (slots_in new)
     pub back : GaveBack d.meaning (side_of old) (side_of new)
 
-  -- kept sets were given back by one free_from, if there were any, and all else is as it was
+  -- one free_from returned kept sets to their pools, if there were any, and all else is as it was
   pub record Trims (old new : StoreOver d) : Type 0 where
     pub turns : Turns is_kept (MayBecome vacated) (slots_in old) (slots_in new)
     pub back : GaveBack d.meaning (side_of old) (side_of new)
 
-  -- all sets were given back by one free_from, if there were any, and no handle is given again
+  -- one free_from returned all sets to their pools, if there were any, and no handle is given again
   pub record FreesAll (old new : StoreOver d) : Type 0 where
     pub long : length (slots_in new) ≡ length (slots_in old)
     pub none : (p : ℕ) → (slot_at (slots_in new) p).set ≡ None
     pub given : (p : ℕ) → (slot_at (slots_in new) p).generation ≡ (slot_at (slots_in old) p).generation
-    -- each slot that had a set is vacant, and each other is in use as it was
+    -- each slot that had a set is vacant, and each other is in the use that it was in
     pub vacant : (p : ℕ) → (slot_at (slots_in new) p).used ≡ (if is_some (slot_at (slots_in old) p).set then Vacant else (slot_at (slots_in old) p).used)
     pub back : GaveBack d.meaning (side_of old) (side_of new)
 
-  -- a set of the layout has a handle, and is in use for this: one that was kept, or, if there was none, one that came. It is refused only if no set of the layout is kept
+  -- a set of the layout has a handle, and is in this use: a kept one, or, if there was none, a new one. It is refused only if no set of the layout is kept
   pub record TakesOne (known : L) (layout : ℕ) (u : Use) (result : Result SetHandle AllocationError) (old new : StoreOver d) : Type 0 where
     pub named : IfOk result (λ handle. IsNamed (number_of old) (current_in layout old) u handle (slots_in old) (slots_in new))
     pub kept : 0 < kept_of layout old → (handle : SetHandle) × (result ≡ Ok handle) × HandlesKept layout u handle old new
@@ -338,19 +338,19 @@ module _ {L P S D : Type 0} {d : Ghosts D L P S} where
     pub settles : Settles (ComesOf d.meaning known layout) old new
     pub grows : Grows (slots_in old) (slots_in new)
 
-  -- the sets that are on their way can be held, under the layout of this number
+  -- the table has room to hold the sets that are on their way, under the layout of this number
   pub record CanHold (number : ℕ) (s : StoreOver d) : Type 0 where
     pub layout : HasLayout number s
     pub table : HasRoom (length (coming_in s)) s.table
 
-  -- sets that were on their way are held: the device isn't called, and if all were of a layout, no others come
+  -- the sets that were on their way are held: the device isn't called, and if all were of a layout, only sets of it are new
   pub record HoldsComing (layout : ℕ) (old new : StoreOver d) : Type 0 where
     pub side : side_of new ≡ side_of old
     pub sets : (known : L) → AreOfLayout d.meaning known (coming_in old) → SetsCome (ComesOf d.meaning known layout) (slots_in old) (slots_in new)
     pub grows : Grows (slots_in old) (slots_in new)
     pub stays : KeepsStore old new
 
-  -- kept sets are held: the device isn't called, no set comes, and there is as much room as before
+  -- kept sets are held: the device isn't called, no set is new, and there is as much room as before
   pub record HoldsKept (old new : StoreOver d) : Type 0 where
     pub side : side_of new ≡ side_of old
     pub sets : SetsCome NoneComes (slots_in old) (slots_in new)

@@ -9,10 +9,10 @@ use std::fmt;
 /// Why no frame was opened or skipped.
 #[derive(Clone, Copy, Debug, PartialEq, Eq)]
 pub enum BeginFrameError {
-    /// A frame is open.
+    /// A frame is open already.
     FrameOpen,
 
-    /// The last frame had the greatest number that a `u64` has.
+    /// The last frame has the number `u64::MAX`.
     NoMoreFrames,
 }
 
@@ -31,17 +31,17 @@ impl fmt::Display for BeginFrameError {
 
 impl Error for BeginFrameError {}
 
-/// Why there is no set, or no layout was removed.
+/// Why no set was allocated, or no layout was removed.
 #[derive(Clone, Copy, Debug, PartialEq, Eq)]
 pub enum RequestError {
     /// No frame is open.
     NoFrame,
 
-    /// The handle names no layout of the set manager.
+    /// The handle is of no layout of the set manager.
     NoLayout,
 
-    /// The allocator refused, or an allocation failed, for the set manager's lists or for the handles,
-    /// which is `OutOfHostMemory`.
+    /// The allocator refused, or the set manager ran out of memory for its lists or for the handles
+    /// (`OutOfHostMemory`).
     Allocation(AllocationError),
 }
 
@@ -61,13 +61,13 @@ impl fmt::Display for RequestError {
 
 impl Error for RequestError {}
 
-/// Why no set was freed or destroyed.
+/// Why no set was freed.
 #[derive(Clone, Copy, Debug, PartialEq, Eq)]
 pub enum FreeError {
-    /// A handle names no set that the set manager holds, or is given twice.
+    /// A handle isn't that of a set that the set manager holds, or is given twice.
     NoSet,
 
-    /// The frame of the last use is still to come.
+    /// The frame of the last use has not been opened.
     FrameAhead,
 }
 

@@ -1,6 +1,6 @@
-//! The descriptor sets of a set manager, over a device that it owns: sets of a frame, which come back once
-//! the device is done with it, and sets that are held until they are freed or destroyed. What comes back
-//! is kept by its layout, and handed out again.
+//! A set manager: descriptor sets over a device that it owns. Sets of a frame are freed once the device
+//! is done with the frame; other sets live until they are freed. A freed set is kept and reused for its
+//! layout.
 #![tactic(auto)]
 
 mod errors;

@@ -1,4 +1,4 @@
-//! The manager: layouts that are added as it runs, sets of a frame, and sets that are held.
+//! The set manager: its layouts, and the calls that concern all its sets.
 ghost use Rattle.std.specs.Prelude.{◌≡◌, ◌≢◌, ◌≤◌, ◌↔◌, []};
 ghost use Rattle.std.specs.Prelude.{IfErr, IfOk, IsErrOf, IsSome, None, OnErr, OnOk, Some, false, true};
 ghost use Rattle.std.specs.Option.{option_copied};
@@ -20,45 +20,45 @@ use crate::store::Store;
 use gpu_descriptor::{DescriptorDevice, SetLayout};
 use std::alloc::{AllocFailed, Global};
 
-/// How many sets a set manager has.
+/// How many sets a set manager has, by what they are in use for.
 #[derive(Clone, Copy, Debug, PartialEq, Eq)]
 pub struct Counts {
-    /// Sets that are held.
+    /// Sets that are held: neither of a frame nor freed.
     pub held: u64,
 
-    /// Sets that wait for a frame, those of the open frame among them.
+    /// Sets that wait for a frame, those of the open frame included.
     pub waiting: u64,
 
-    /// Sets that are kept.
+    /// Freed sets that are kept for reuse.
     pub kept: u64,
 }
 
-/// The descriptor sets of a set manager, over a device that it owns.
+/// Allocates descriptor sets from a device that it owns, and reuses freed ones.
 ///
-/// A frame is opened by `begin_frame`, takes any number of sets by `allocate_for_frame`, and is ended by
-/// `end_frame`. Its sets come back once `frame_done` is called with the frame or a later one; frames in
-/// between may be in flight. A set by `allocate` or `allocate_into` is held until it is freed at once
-/// by `free`, or destroyed by `free_after` or `free_after`: then it comes back at the next
-/// `frame_done` of the frame of its last use or a later one.
+/// `begin_frame` opens a frame, `allocate_for_frame` allocates its sets, and `end_frame` ends it. Its
+/// sets are freed by `frame_done` with this frame or a later one; several frames may be in flight. A set
+/// from `allocate` or `allocate_into` is held until `free` frees it at once, or `free_after` has it
+/// freed by the `frame_done` of its last frame or a later one.
 ///
-/// A set that comes back is kept, as long as no more of its layout are kept than `set_max_kept` says, at
-/// first all. Kept sets are handed out again before the device is asked for a new one. They have the
-/// contents that they had. `cleanup` gives them back, and `remove_layout` those of its layout. A request
-/// that the allocator refuses frees them too, and retries, unless it alone exceeds the limit. Only `allocate_for_frame`,
-/// `allocate`, `allocate_into` and `add_layout` allocate.
+/// Freed sets are kept with their contents, up to `set_max_kept` sets of each layout (at first without a
+/// bound); the others return to their pools. Kept sets are reused before the device is asked for new ones.
+/// `cleanup` returns all of them to their pools, and `remove_layout` those of its layout. When the
+/// allocator refuses a request, the set manager returns all kept sets and retries once, unless the
+/// request alone exceeds the limit. Only `allocate_for_frame`, `allocate`, `allocate_into` and
+/// `add_layout` allocate memory.
 ///
-/// The raw set of a handle is borrowed, as the device is, to be written and bound. Do not allocate or
-/// free on the device in the meantime: only the set manager does.
+/// The device, and the raw set of a handle, are borrowed to write sets and to bind them. Don't allocate
+/// or free sets on the device yourself.
 #[derive(Drop)]
 pub struct SetManager<L, P, S, D: DescriptorDevice<L, P, S>> {
     layouts: LayoutRegistry<L, P, S, D>,
 
-    /// The number that tells the set manager's handles from those of others.
+    /// The number that marks this set manager's handles.
     manager: u64,
     frame: u64,
     is_open: bool,
 
-    /// The last field, as the device in it is dropped last.
+    /// The last field, since the device in it is dropped last.
     store: Store<L, P, S, D>,
     ghost sets: { HasSetsOf (layout_slots layouts) manager store },
     ghost begun: { is_open ≡ true → 1 ≤ frame },
@@ -74,12 +74,12 @@ impl<L: Drop, P: Drop, S: Drop, D: DescriptorDevice<L, P, S>> SetManager<L, P, S
     ghost use Rattle.descriptor_manager.specs.Managers.{number_of, pools_besides, seen};
     ghost use Rattle.descriptor_manager.specs.Managers.{sets_by, side_of, slots_of, store_of};
 
-    /// A set manager over a device, without layouts, sets and an open frame. It allocates nothing.
+    /// A set manager over a device, without layouts, sets or an open frame. It allocates no memory.
     ///
-    /// `limit` is the driver's, on the update-after-bind descriptors of all pools. By `manager` its
-    /// handles are told from those of other managers: give each of a program a number of its own. A
-    /// new pool has at most 65,536 descriptors, unless what is wanting needs more:
-    /// `set_max_pool_descriptors` changes that.
+    /// `limit` is the driver's limit on update-after-bind descriptors in all pools. `manager` marks the
+    /// handles, so that those of other set managers are refused: give each set manager of a program its
+    /// own number. A new pool has at most 65,536 descriptors, unless the sets still needed have more:
+    /// `set_max_pool_descriptors` changes this bound.
     pub fn new(alloc: Global, device: D, limit: u32, manager: u64) -> Self
         ensures layouts { (handle : LayoutHandle) → layout_of result handle ≡ None }
         ensures frame { frame_of result ≡ 0 }
@@ -101,8 +101,8 @@ impl<L: Drop, P: Drop, S: Drop, D: DescriptorDevice<L, P, S>> SetManager<L, P, S
         }
     }
 
-    /// Adds a layout, and returns its handle, which was never given before. If an allocation fails, or if
-    /// there are `u32::MAX`, the layout is returned, and nothing changed.
+    /// Adds a layout and returns its handle, which is never given again. If memory runs out, or if
+    /// `u32::MAX` layouts are there already, it returns the layout in the error, and nothing changes.
     pub fn add_layout(
         &mut self,
         layout: SetLayout<L>,
@@ -136,12 +136,12 @@ impl<L: Drop, P: Drop, S: Drop, D: DescriptorDevice<L, P, S>> SetManager<L, P, S
         }
     }
 
-    /// Removes a layout, and returns it. Its handle names none from now on, and none later. Its kept sets
-    /// are given back, and then the pools of its key that have no set are destroyed, as by the allocator's
-    /// `trim_layout`. Its other sets stay as they are, and aren't kept when they come back: a pool that they
-    /// leave empty may stay until `trim` or `cleanup`. It allocates nothing.
+    /// Removes a layout and returns it. Its handle is invalid from now on. The layout's kept sets return
+    /// to their pools, and then the empty pools of its key are destroyed, as by the allocator's
+    /// `trim_layout`. Its other sets stay, and aren't kept once they are freed: a pool that they leave empty
+    /// may stay until `trim` or `cleanup`. It allocates no memory.
     ///
-    /// It returns `NoLayout` if the handle names no layout, and then nothing changed.
+    /// It fails with `NoLayout` if the handle is invalid, and then nothing changes.
     pub fn remove_layout(&mut self, layout: LayoutHandle) -> Result<SetLayout<L>, RequestError>
         ensures removed { IfOk result (λ known. layout_of self.old layout ≡ Some known) }
         ensures gone { OnOk result (layout_of self.new layout ≡ None) }
@@ -170,9 +170,9 @@ impl<L: Drop, P: Drop, S: Drop, D: DescriptorDevice<L, P, S>> SetManager<L, P, S
         }
     }
 
-    /// Gives all kept sets back, and destroys all pools that then have no set, as the allocator's `trim`
-    /// does. Sets that are in use aren't kept when they come back. Call it between levels, or when memory
-    /// is short.
+    /// Returns all kept sets to their pools, and destroys each pool without sets, as the allocator's
+    /// `trim` does. Sets in use stay, and aren't kept once they are freed. Call it between levels, or
+    /// when memory is short.
     pub fn cleanup(&mut self)
         ensures emptied { count holds (slots_of self.old) ≡ 0 → count waits (slots_of self.old) ≡ 0
             → (ledger_in self.new).pools ≡ pools_besides self.old }
@@ -185,8 +185,8 @@ impl<L: Drop, P: Drop, S: Drop, D: DescriptorDevice<L, P, S>> SetManager<L, P, S
         self.store.cleanup();
     }
 
-    /// Destroys all pools that have no set. Sets that are kept stay, and so do
-    /// their pools; `cleanup` gives them back first. It goes over every pool, and allocates nothing.
+    /// Destroys each pool without sets. Kept sets stay, and so do their pools: `cleanup` returns them
+    /// first. It visits every pool and allocates no memory.
     pub fn trim(&mut self)
         ensures trims { TrimsPools D.meaning (side_of self.old) (side_of self.new) }
         ensures rest { seen self.new ≡ record (seen self.old) { side = side_of self.new } }
@@ -194,7 +194,7 @@ impl<L: Drop, P: Drop, S: Drop, D: DescriptorDevice<L, P, S>> SetManager<L, P, S
         self.store.trim();
     }
 
-    /// Keeps at most so many sets of a layout from now on. Those above are given back.
+    /// Sets how many freed sets of a layout are kept at most. Those above `max` return to their pools.
     pub fn set_max_kept(&mut self, max: u32)
         ensures few { (layout : LayoutHandle) → kept_of layout self.new ≤ max }
         ensures as_many { (layout : LayoutHandle) → KeepsUpTo max (is_kept_of layout.slot.place)
@@ -207,9 +207,8 @@ impl<L: Drop, P: Drop, S: Drop, D: DescriptorDevice<L, P, S>> SetManager<L, P, S
         self.store.set_max_kept(max);
     }
 
-    /// From now on a new pool has at most `max` descriptors, unless what is wanting needs more: it
-    /// holds no more sets than have so many descriptors, or than are wanting if these are more. With
-    /// `None` there is no such bound. Pools that exist stay.
+    /// Bounds a new pool to the sets that have at most `max` descriptors, or to the sets still needed if
+    /// these are more. `None` removes the bound. Existing pools stay as they are.
     pub fn set_max_pool_descriptors(&mut self, max: Option<u64>)
         ensures ledger { ledger_in self.new ≡ ledger_in self.old }
         ensures rest { seen self.new ≡ record (seen self.old)
@@ -218,15 +217,14 @@ impl<L: Drop, P: Drop, S: Drop, D: DescriptorDevice<L, P, S>> SetManager<L, P, S
         self.store.set_max_pool_descriptors(max);
     }
 
-    /// How many descriptors a new pool has at most, unless what is wanting needs more; `None` if none
-    /// is bounded.
+    /// The bound on the descriptors of a new pool, `None` without one. See `set_max_pool_descriptors`.
     pub fn max_pool_descriptors(&self) -> Option<u64>
         ensures { result ≡ bound_of self.now }
     {
         self.store.max_pool_descriptors()
     }
 
-    /// The layout of a handle. None if it was removed, and under a handle of another set manager.
+    /// The layout of a handle. `None` if it was removed, or if the handle is another set manager's.
     pub fn layout(&self, layout: LayoutHandle) -> Option<&SetLayout<L>>
         ensures { option_copied result ≡ layout_of self.now layout }
     {
@@ -254,7 +252,8 @@ impl<L: Drop, P: Drop, S: Drop, D: DescriptorDevice<L, P, S>> SetManager<L, P, S
         self.is_open
     }
 
-    /// How many sets are held, how many wait, and how many are kept. It goes over the layouts.
+    /// How many sets are held, wait for a frame, and are kept. It visits the layouts, and the frames
+    /// that sets wait for.
     pub fn counts(&self) -> Counts
         ensures held { result.held ≡ count holds (slots_of self.now) }
         ensures waiting { result.waiting ≡ count waits (slots_of self.now) }
@@ -267,8 +266,8 @@ impl<L: Drop, P: Drop, S: Drop, D: DescriptorDevice<L, P, S>> SetManager<L, P, S
         }
     }
 
-    /// How many sets of a layout are kept. 0 if the layout was removed, and under a handle of another
-    /// set manager.
+    /// How many sets of a layout are kept. 0 if the layout was removed, or if the handle is another set
+    /// manager's.
     pub fn kept_count(&self, layout: LayoutHandle) -> u32
         ensures kept { IsSome (layout_of self.now layout) → result ≡ kept_of layout self.now }
         ensures none { layout_of self.now layout ≡ None → result ≡ 0 }
@@ -280,8 +279,8 @@ impl<L: Drop, P: Drop, S: Drop, D: DescriptorDevice<L, P, S>> SetManager<L, P, S
         }
     }
 
-    /// Frees all sets, destroys all pools, and hands the device back. It can't be refused. The
-    /// device must be done with all work.
+    /// Frees all sets, destroys all pools, and returns the device. It can't fail. The device must be
+    /// done with all work.
     pub fn shutdown(mut self) -> D
         ensures { (D.ledger result).pools ≡ pools_besides self }
     {
@@ -290,8 +289,8 @@ impl<L: Drop, P: Drop, S: Drop, D: DescriptorDevice<L, P, S>> SetManager<L, P, S
         self.into_device()
     }
 
-    /// Returns the device without any call of it: its pools stay there, with their sets. It is for a
-    /// device that was lost or that misbehaved. Otherwise use `shutdown`, which destroys the pools.
+    /// Returns the device without a call to it: its pools stay, with their sets. It is for a device that
+    /// was lost or that misbehaved. Otherwise use `shutdown`, which destroys the pools.
     pub fn into_device(self) -> D
         ensures { D.ledger result ≡ ledger_in self }
     {

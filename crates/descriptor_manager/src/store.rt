@@ -1,4 +1,4 @@
-//! The table of a set manager's sets over an allocator and a device.
+//! A set manager's table of sets, its allocator and its device.
 ghost use Rattle.std.specs.Prelude.{◌≡◌, ◌≤◌, ◌+◌, ◌<◌, ◌↔◌, [], length, IfErr, IsTrue, OnOk, Some, option_map};
 ghost use Rattle.std.specs.Option.{option_copied};
 ghost use Rattle.gpu_descriptor.specs.Caller.Flags as flags;
@@ -25,21 +25,21 @@ use std::alloc::{AllocError, Global};
 use std::marker::PhantomData;
 use std::vec::Vec;
 
-/// How many descriptors a new pool of a set manager has at most at first, unless what is wanting needs
-/// more.
+/// The bound on the descriptors of a new pool that a set manager begins with.
 const MAX_POOL_DESCRIPTORS: u64 = 65_536;
 
-/// The sets of a set manager, an allocator and a device. What the allocator handed out is in the table.
+/// The sets of a set manager, an allocator and a device. Each set of the allocator is in the table.
 #[derive(Drop)]
 pub(crate) struct Store<L, P, S, D: DescriptorDevice<L, P, S>> {
     allocator: DescriptorAllocator<P, S>,
     table: SetTable<DescriptorSet<S>>,
 
-    /// Sets of a request before they are in the table, during a call.
+    /// The new sets of a request, until the call puts them into the table. The vector stays here, as
+    /// otherwise each `allocate_into` would allocate one.
     coming: Vec<DescriptorSet<S>>,
     layout: PhantomData<L>,
 
-    /// The last field, as it is dropped last.
+    /// The last field, since it is dropped last.
     device: D,
     ghost agree: { Agrees D.meaning.pool_name allocator (D.ledger device) } by { Agrees-prop
         D.meaning.pool_name allocator (D.ledger device) },
@@ -55,8 +55,8 @@ impl<L: Drop, P: Drop, S: Drop, D: DescriptorDevice<L, P, S>> Store<L, P, S, D> 
     ghost use Rattle.descriptor_manager.specs.Stores.{bound_of, keep_of, limit_of, lists_in, number_of};
     ghost use Rattle.descriptor_manager.specs.Stores.{pools_besides, side_of, slots_in};
 
-    /// No sets and no layouts, for the set manager of this number, over a new allocator with this limit on
-    /// update-after-bind descriptors, whose new pools are bounded. It allocates nothing.
+    /// A store without sets and layouts, for the set manager of this number. `limit` is the allocator's
+    /// limit on update-after-bind descriptors. New pools are bounded. It allocates no memory.
     pub(crate) fn new(alloc: Global, device: D, limit: u32, number: u64) -> Self
         ensures slots { slots_in result ≡ [] }
         ensures ledger { ledger_of result ≡ D.ledger device }
@@ -82,7 +82,7 @@ impl<L: Drop, P: Drop, S: Drop, D: DescriptorDevice<L, P, S>> Store<L, P, S, D> 
         }
     }
 
-    /// Reserves memory for one layout more.
+    /// Reserves memory for one more layout.
     pub(crate) fn reserve_layout(&mut self) -> Result<(), AllocError>
         ensures room { OnOk result (HasListRoom self.new.table) }
         ensures contents { KeepsContents self.old self.new }
@@ -91,7 +91,7 @@ impl<L: Drop, P: Drop, S: Drop, D: DescriptorDevice<L, P, S>> Store<L, P, S, D> 
         self.table.reserve_layout()
     }
 
-    /// Adds a layout, over memory that was reserved.
+    /// Adds a layout into reserved memory.
     pub(crate) fn add_layout(&mut self)
         requires { HasListRoom self.old.table }
         ensures settings { HasSettings (record (settings_of self.old.table)
@@ -101,7 +101,7 @@ impl<L: Drop, P: Drop, S: Drop, D: DescriptorDevice<L, P, S>> Store<L, P, S, D> 
         self.table.add_layout();
     }
 
-    /// Reserves memory in the table for so many sets more.
+    /// Reserves memory in the table for `many` more sets.
     #[inline]
     fn reserve(&mut self, many: u32) -> Result<(), AllocationError>
         ensures room { OnOk result (HasRoom many self.new.table) }
@@ -115,8 +115,8 @@ impl<L: Drop, P: Drop, S: Drop, D: DescriptorDevice<L, P, S>> Store<L, P, S, D> 
         Ok(())
     }
 
-    /// Whether so many sets of a layout alone have more descriptors than the limit allows. A request for
-    /// them fails even if no other set is live.
+    /// Whether `many` sets of a layout alone exceed the limit on update-after-bind descriptors. A
+    /// request for them fails even if no other set is live.
     fn exceeds_limit(&self, known: &SetLayout<L>, many: u32) -> bool
         requires { IsMeant D.meaning known.now }
         ensures { IsTrue result ↔ ExceedsLimitAlone known.now.layout many self.now }
@@ -125,8 +125,8 @@ impl<L: Drop, P: Drop, S: Drop, D: DescriptorDevice<L, P, S>> Store<L, P, S, D> 
         is_marked(known) && u128::from(many) * u128::from(known.counts.total()) > u128::from(limit)
     }
 
-    /// From now on a new pool has at most `max` descriptors, unless what is wanting needs more. `None`
-    /// bounds none.
+    /// Bounds a new pool to `max` descriptors, unless the sets still needed have more. `None` removes
+    /// the bound.
     pub(crate) fn set_max_pool_descriptors(&mut self, max: Option<u64>)
         ensures bound { bound_of self.new ≡ max }
         ensures table { self.new.table ≡ self.old.table }
@@ -138,15 +138,14 @@ impl<L: Drop, P: Drop, S: Drop, D: DescriptorDevice<L, P, S>> Store<L, P, S, D> 
         self.allocator.set_max_pool_descriptors(max);
     }
 
-    /// How many descriptors a new pool has at most, unless what is wanting needs more; `None` if none
-    /// is bounded.
+    /// The bound on the descriptors of a new pool, `None` without one.
     pub(crate) fn max_pool_descriptors(&self) -> Option<u64>
         ensures { result ≡ bound_of self.now }
     {
         self.allocator.max_pool_descriptors()
     }
 
-    /// The raw set of a handle, in this frame if one is open.
+    /// The raw set of a handle, while `frame` is the open frame if `is_open`.
     #[inline]
     pub(crate) fn get(&self, handle: SetHandle, frame: u64, is_open: bool) -> Option<&S>
         ensures { option_copied result ≡ option_map raw_of (find (number_of self.now) frame is_open
@@ -164,14 +163,14 @@ impl<L: Drop, P: Drop, S: Drop, D: DescriptorDevice<L, P, S>> Store<L, P, S, D> 
         self.table.kept_count(layout)
     }
 
-    /// How many sets are kept. It goes over the layouts.
+    /// How many sets are kept. It visits the layouts.
     pub(crate) fn kept(&self) -> u64
         ensures { result ≡ count is_kept (slots_in self.now) }
     {
         self.table.kept_total()
     }
 
-    /// How many sets wait for a frame.
+    /// How many sets wait for a frame. It visits these frames.
     pub(crate) fn waiting(&self) -> u64
         ensures { result ≡ count waits (slots_in self.now) }
     {
@@ -186,14 +185,13 @@ impl<L: Drop, P: Drop, S: Drop, D: DescriptorDevice<L, P, S>> Store<L, P, S, D> 
         self.allocator.outstanding() - self.waiting() - self.kept()
     }
 
-    /// The device.
     pub(crate) fn device(&self) -> &D
         ensures { D.ledger result.now ≡ ledger_of self.now }
     {
         &self.device
     }
 
-    /// Returns the device without any call of it.
+    /// Returns the device without a call to it.
     pub(crate) fn into_device(self) -> D
         ensures { D.ledger result ≡ ledger_of self }
     {
@@ -207,7 +205,7 @@ impl<L: Drop, P: Drop, S: Drop, D: DescriptorDevice<L, P, S>> Store<L, P, S, D> 
         device
     }
 
-    /// The allocator, to be read.
+    /// The allocator, to read.
     pub(crate) fn allocator(&self) -> &DescriptorAllocator<P, S>
         ensures { result.now ≡ (side_of self.now).value }
     {
@@ -215,7 +213,7 @@ impl<L: Drop, P: Drop, S: Drop, D: DescriptorDevice<L, P, S>> Store<L, P, S, D> 
     }
 }
 
-/// Whether a layout is an update-after-bind one.
+/// Whether a layout is for update-after-bind.
 pub(crate) fn is_marked<L>(layout: &SetLayout<L>) -> bool
     ensures { result ≡ flags.is_marked layout.now.flags }
 {

@@ -25,7 +25,7 @@ pub enum Answer {
 }
 
 impl Answer {
-    /// The error of a create that isn't granted at this word. At `Ok` names or memory are wanting.
+    /// The error of a create that isn't granted at this word. At `Ok` names or memory have run out.
     pub(crate) fn create_error(self) -> CreatePoolError
         ensures { result ≡ create_error_of self }
     {
@@ -36,7 +36,7 @@ impl Answer {
         }
     }
 
-    /// The error of an alloc that isn't granted at this word. At `Ok` names or memory are wanting.
+    /// The error of an alloc that isn't granted at this word. At `Ok` names or memory have run out.
     pub(crate) fn alloc_error(self) -> DeviceAllocationError
         ensures { result ≡ alloc_error_of self }
     {

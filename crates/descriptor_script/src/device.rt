@@ -27,9 +27,9 @@ use std::vec::Vec;
 
 /// A device that answers by a script.
 ///
-/// Each call that creates a pool or allocates sets reads one word. It is granted only at `Ok`, and
-/// at any other word refused as that says. At `Ok` it is refused as out of host memory if names or
-/// memory are wanting. After the end of the script each word is `Ok`.
+/// Each call that creates a pool or allocates sets reads one word. It is granted only at `Ok`, and is
+/// refused at any other word with the error that this names. At `Ok` it is refused as out of host
+/// memory if names or memory have run out. After the end of the script each word is `Ok`.
 ///
 /// Pools and sets are named from 0 up, and no name is given twice. The greatest is
 /// 18446744073709551614.
@@ -62,7 +62,7 @@ impl ScriptedDevice {
         }
     }
 
-    /// Gives up the words that are still to come, and begins with this script.
+    /// Discards the unread words, and begins with this script.
     pub fn load(&mut self, script: Vec<Answer>)
         ensures script { script_of self.new ≡ script.items }
         ensures ledger { ledger_of self.new ≡ ledger_of self.old }
@@ -145,7 +145,7 @@ impl DescriptorDevice<ScriptLayout, RawPool, RawSet> for ScriptedDevice {
         requires { HasNoSets (pool_id pool) (ledger_of self.old) }
         ensures ledger { ledger_of self.new ≡ after_destroy (pool_id pool) (ledger_of self.old) }
 
-        // The device's own, besides the trait's: no word is read, and no name is given.
+        // The device's own, in addition to the trait's: no word is read, and no name is given.
         ensures reads { ReadsNone self.old self.new }
     {
         self.pools.destroy(pool.id);
@@ -204,7 +204,7 @@ impl DescriptorDevice<ScriptLayout, RawPool, RawSet> for ScriptedDevice {
         ensures released { Releases I.next_gives set_id (pool_id pool.old) sets.old sets.new
             (ledger_of self.old) (ledger_of self.new) }
 
-        // The device's own, besides the trait's: no word is read, and no name is given.
+        // The device's own, in addition to the trait's: no word is read, and no name is given.
         ensures reads { ReadsNone self.old self.new }
     {
         self.release(pool, sets);

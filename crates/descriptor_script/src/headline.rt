@@ -1,7 +1,7 @@
-//! The headline: for every device that keeps its interface, however it refuses, and every list of
-//! calls that keep their conditions, the allocator's pools hold exactly the sets handed out and not
-//! returned, batched frees, with one device call per run, leave what freeing one by one leaves,
-//! marked descriptors never pass the limit, and a request fails only for a named cause.
+//! The headline, for every device that keeps its interface, however it refuses, and every list of calls
+//! that keep their conditions: the allocator's pools have exactly the sets that were allocated and not
+//! freed; freeing a batch, with one device call per run, has the same effect as freeing its sets one by
+//! one; marked descriptors never exceed the limit; and a request fails only for a named cause.
 ghost use Rattle.std.specs.Prelude.{◌≡◌, IfOk, OnErr};
 ghost use Rattle.gpu_descriptor_types.specs.Side.{side};
 ghost use Rattle.descriptor_script.specs.Sessions.Headline.{KeepsAll};

@@ -11,10 +11,10 @@ pub enum Call {
     /// A pool was created.
     Create { pool: u64 },
 
-    /// So many sets were allocated from a pool.
+    /// Sets were allocated from a pool.
     Alloc { pool: u64, sets: u32 },
 
-    /// So many sets of a pool were released.
+    /// Sets of a pool were freed.
     Release { pool: u64, sets: usize },
 
     /// A pool was destroyed.
@@ -44,7 +44,7 @@ impl Log {
         }
     }
 
-    /// Reserves memory for so many calls more.
+    /// Reserves memory for `more` more calls.
     pub(crate) fn reserve(&mut self, more: usize) -> Result<(), AllocError>
         ensures reserve { OnOk result (HasLogReserve more self.new) }
         ensures calls { self.new.calls.items ≡ self.old.calls.items }
@@ -56,7 +56,7 @@ impl Log {
         }
     }
 
-    /// Puts a call that owes so many others.
+    /// Puts a call that owes `owes` others.
     pub(crate) fn put(&mut self, call: Call, owes: usize)
         requires { HasLogReserve (owes + 1) self.old }
         ensures calls { self.new.calls.items ≡ self.old.calls.items ++ call ∷ [] }
@@ -66,7 +66,7 @@ impl Log {
         self.owed += owes;
     }
 
-    /// Puts a call in the place of so many that were owed. A device whose conditions are kept owes a
+    /// Puts a call in the place of `count` owed ones. A device whose conditions are kept owes a
     /// call for each live pool and each live set, so none is left out.
     pub(crate) fn settle(&mut self, call: Call, count: usize) {
         if count > 0 && count <= self.owed {

@@ -1,4 +1,5 @@
 //! Whether a list of tickets can be freed: a walk over the list, with a mark for each ticket.
+//! It comes before any set moves, and memory for the marks was reserved with the tickets.
 ghost use Rattle.std.specs.Prelude.{◌≡◌, ◌↔◌, IsTrue, is_some, length};
 ghost use Rattle.descriptor_script.specs.Inner.Marks.{AreClear, AreOnlyAt};
 ghost use Rattle.descriptor_script.specs.Sessions.Tickets.{AreHeldOnce, set_at};

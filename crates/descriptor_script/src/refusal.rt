@@ -6,11 +6,11 @@ use crate::answer::Answer;
 use std::alloc::{AllocError, Global};
 use std::vec::{self, Vec};
 
-/// The script of a device that answers so at one of its calls: so many words `Ok`, and then
-/// `answer`. After it each word is `Ok` again. `place` counts from 0 the calls that create a pool
-/// or allocate sets.
+/// The script of a device that gives `answer` at one of its calls: `place` words `Ok`, and then
+/// `answer`. After it each word is `Ok` again. `place` counts from 0 the calls that create a pool or
+/// allocate sets.
 ///
-/// An error is want of memory, as for a script that is longer than a vector can be.
+/// It fails if memory runs out, as for a script that is longer than a vector can be.
 pub fn refuse_at(alloc: Global, place: usize, answer: Answer) -> Result<Vec<Answer>, AllocError>
     ensures { IfOk result (λ script. script.items ≡ refusing_at place answer) }
 {

@@ -19,10 +19,10 @@ use gpu_descriptor::{
 use std::alloc::Global;
 use std::vec::Vec;
 
-/// Runs commands on an allocator, and keeps the sets that are out.
+/// Runs commands on an allocator, and holds the live sets.
 ///
-/// Each set has a ticket. Tickets begin at 0, and none is used again: a session keeps a slot for
-/// each ticket that it ever gave. All steps of a session are made with one device.
+/// Each set has a ticket. Tickets begin at 0, and none is reused: a session keeps a slot for each
+/// ticket that it ever gave. All steps of a session are made with one device.
 #[derive(Debug, Drop)]
 pub struct Session<L, P, S> {
     pub(crate) allocator: DescriptorAllocator<P, S>,
@@ -37,7 +37,7 @@ impl<L, P, S> Session<L, P, S> {
     ghost use Rattle.descriptor_script.specs.Sessions.Session.{allocator_of, layouts_of, sets_of};
 
     /// A session without layouts and sets, whose allocator has this limit on update-after-bind
-    /// descriptors, and agrees with every device. It allocates nothing.
+    /// descriptors, and agrees with every device. It allocates no memory.
     pub fn new(alloc: Global, max: u32) -> Self
         ensures allocator { allocator_of result ≡ without_keys max }
         ensures agree { (name : P → ℕ) (ledger : Ledger)

@@ -29,7 +29,7 @@ pub(crate) struct Slots<S> {
 impl<S> Slots<S> {
     ghost use Rattle.descriptor_script.specs.Inner.Slots.{HasSpareSlots, slots_of};
 
-    /// No ticket was given. It allocates nothing.
+    /// No ticket was given. It allocates no memory.
     pub(crate) fn new(alloc: Global) -> Self
         ensures { slots_of result ≡ [] }
     {
@@ -65,7 +65,7 @@ impl<S> Slots<S> {
         self.sets.len()
     }
 
-    /// Reserves memory for so many tickets.
+    /// Reserves memory for `count` tickets.
     pub(crate) fn reserve(&mut self, count: u32) -> Result<(), AllocError>
         ensures reserve { OnOk result (HasSpareSlots count self.new) }
         ensures some { OnErr result (0 < count) }

@@ -44,7 +44,7 @@ module _ {T : Type 0} (weight : T → ℕ) where
       let b = ap (λ l. tally weight (sets_in l)) g.slots in
       omega arith
 
-  -- what was given back, and what is left, weigh what there was
+  -- what was returned, and what is left, weigh what there was
   pub given_weigh : (test : Slot T → Bool) (xs : List T) (s t : MutBor (SetTable T)) → Yields (GivesFrom test) s xs t → tally weight (sets_in (slots_of s.now)) ≡ tally weight xs + tally weight (sets_in (slots_of t.now))
   given_weigh test [] s t y = ap (λ (u : MutBor (SetTable T)). tally weight (sets_in (slots_of u.now))) y ∙ sym (zero-add (tally weight (sets_in (slots_of t.now))))
   given_weigh test (x ∷ xs) s t y =

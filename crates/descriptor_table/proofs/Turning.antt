@@ -1,6 +1,6 @@
 -- Slots that pass a test are changed, one after another, as in the loops of `SetTable`: `settle_due`, `wait_each`, `trim` and others.
 -- `old` are the slots before a loop, `now` those before a step of it, `new` those after; `Turning` is the loop's invariant, and `Turns`
--- what it leaves at its end. A set that comes back *settles*: it is kept, or goes. `o` is a slot before that, `n` the same slot after.
+-- what it leaves at its end. A set that is freed *settles*: it is kept, or goes. `o` is a slot before that, `n` the same slot after.
 use Rattle.std.proofs.lemmas.Grind.{common_steps}
 use Rattle.std.proofs.Common.{◌≡◌, ◌≢◌, ℕ, zero, suc, ◌+◌, ◌<◌, ◌≤◌, ◌⊎◌, ◌&&◌, nat_lt, Bool, true, false, if◌then◌else◌, List, [], ◌∷◌, length, set, Option, Some, None, ne_eqb, is_some, inl, inr, refl, sym, ap, subst, ◌∙◌, arith, nat_le}
 use Rattle.std.proofs.lemmas.List.{length-set, set-set}
@@ -151,7 +151,7 @@ module _ {T : Type 0} where
     waiting = two.waiting ∙ one.waiting;
   }
 
-  -- with settings as they were, a set comes back to the same use
+  -- with settings as they were, a freed set comes to the same use
   pub same_next : (a b : SetTable T) → KeepsSettings a b → (slots : List (Slot T)) (p : ℕ) → next_use (generations_of b) (keep_of b) slots p ≡ next_use (generations_of a) (keep_of a) slots p
   same_next a b same slots p = ap (λ m. next_use (generations_of b) m slots p) same.keep ∙ ap (λ generations. next_use generations (keep_of a) slots p) same.generations
 

@@ -6,7 +6,7 @@ abbrev pub times : ℕ → List ℕ → ℕ
 times p [] = 0
 times p (q ∷ l) = if p == q then times p l + 1 else times p l
 
--- so many places from the first on, each of which tells the next
+-- n places from the first on: each next one is what the list has at the place before
 abbrev pub walk : ℕ → List ℕ → ℕ → List ℕ
 walk zero next first = []
 walk (suc n) next first = first ∷ walk n next (slice_index next first)

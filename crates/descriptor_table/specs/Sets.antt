@@ -13,9 +13,9 @@ joined (Some set) sets = set ∷ sets
 abbrev pub AreOnce : List SetHandle → Type 0
 AreOnce handles = (i j : ℕ) (d : SetHandle) → i < j → j < length handles → slice_index_or handles i d ≢ slice_index_or handles j d
 
--- the sets by handle
+-- the sets by handle, and which handles were given
 pub record Sets (T : Type 0) : Type 0 where
-  -- the set that a handle names
+  -- the set of a handle
   pub set : SetHandle → Option T
   -- whether a handle was ever given
   pub given : SetHandle → Bool
@@ -31,7 +31,7 @@ module _ {T : Type 0} where
     abbrev pub is_last : Slots T → SetHandle → Bool
     is_last slots h = (h.manager == number) && (h.generation == (slot_at slots h.place).generation)
 
-    -- the set that a handle names, in this frame if one is open
+    -- the set of a handle, while this frame is the open one if one is open
     abbrev pub find : ℕ → Bool → Slots T → SetHandle → Option T
     find frame opened slots h = if is_last slots h && is_live frame opened (slot_at slots h.place).used then (slot_at slots h.place).set else None
 
@@ -43,11 +43,11 @@ module _ {T : Type 0} where
     abbrev pub is_held : Slots T → SetHandle → Bool
     is_held slots h = is_last slots h && holds (slot_at slots h.place)
 
-    -- the sets by handle, in this frame if one is open
+    -- the sets by handle, while this frame is the open one if one is open
     abbrev pub sets_of : ℕ → Bool → Slots T → Sets T
     sets_of frame opened slots = record { set = find frame opened slots; given = is_given slots }
 
-  -- the handle, which was never given, names the set, and each other handle names what it named
+  -- the handle, which was never given, has the set, and each other handle has what it had
   pub record Names (handle : SetHandle) (x : T) (old new : Sets T) : Type 0 where
     pub never : old.given handle ≡ false
     pub given : new.given handle ≡ true
@@ -55,7 +55,7 @@ module _ {T : Type 0} where
     pub named : new.set handle ≡ Some x
     pub others : (other : SetHandle) → other ≢ handle → new.set other ≡ old.set other
 
-  -- the handles, none of which was ever given, name sets, and each other handle names what it named
+  -- the handles, none of which was ever given, have sets, and each other handle has what it had
   pub record NameEach (handles : List SetHandle) (old new : Sets T) : Type 0 where
     pub never : All (λ h. old.given h ≡ false) handles
     pub once : AreOnce handles
@@ -63,7 +63,7 @@ module _ {T : Type 0} where
     pub named : All (λ h. IsSome (new.set h)) handles
     pub others : (other : SetHandle) → All (λ h. h ≢ other) handles → (new.set other ≡ old.set other) × (new.given other ≡ old.given other)
 
-  -- the handles name nothing, and each other handle names what it named
+  -- the handles have no set any more, and each other handle has what it had
   pub record LoseNames (handles : List SetHandle) (old new : Sets T) : Type 0 where
     pub gone : All (λ h. new.set h ≡ None) handles
     pub others : (other : SetHandle) → All (λ h. h ≢ other) handles → new.set other ≡ old.set other

@@ -16,10 +16,10 @@ pub record Slot (T : Type 0) : Type 0 where
   -- how many handles were given for it
   pub generation : ℕ
   pub layout : ℕ
-  -- how many layouts had the number before that of the set
+  -- how many layouts had this number before the set's layout
   pub layout_generation : ℕ
   pub used : Use
-  -- whether the set isn't kept when it comes back: it was there at the last cleanup
+  -- whether the set isn't kept once it is freed: it was there at the last cleanup
   pub leaves : Bool
   pub set : Option T
 
@@ -43,7 +43,7 @@ use_of frame state.Going = Going
 use_of frame state.Taken = Taken
 use_of frame state.Vacant = Vacant
 
--- whether the handle of such a set names it, in this frame if one is open
+-- whether the handle of a set in this use is valid, while this frame is the open one if one is open
 abbrev pub is_live : ℕ → Bool → Use → Bool
 is_live frame opened Held = true
 is_live frame opened (InFrame drawn) = opened && (drawn == frame)
@@ -62,13 +62,13 @@ waits_for test (InFrame frame) = test frame
 waits_for test (Waits frame) = test frame
 waits_for test _ = false
 
--- the frame that a set in such a use waits for, or 0
+-- the frame that a set in this use waits for, or 0
 abbrev pub frame_of : Use → ℕ
 frame_of (InFrame frame) = frame
 frame_of (Waits frame) = frame
 frame_of _ = 0
 
--- a set in such a use is in no list, and waits for no frame
+-- a set in this use is in no list, and waits for no frame
 abbrev pub IsNowhere : Use → Type 0
 IsNowhere Held = ⊤
 IsNowhere Taken = ⊤
@@ -78,7 +78,7 @@ IsNowhere _ = ⊥
 abbrev pub chain_at : List Chain → ℕ → Chain
 chain_at chains k = slice_index_or chains k (record { first = 0; count = 0 })
 
--- how many layouts of the number were removed, of what a table has for its lists
+-- how many layouts of the number were removed, by a table's generations of its lists
 abbrev pub generation_at : List ℕ → ℕ → ℕ
 generation_at generations layout = slice_index_or generations (layout + 2) 0
 
@@ -89,13 +89,13 @@ chains_in lists = map (λ h. h.chain) lists
 abbrev pub generations_in : List ListHead → List ℕ
 generations_in lists = map (λ h. h.generation) lists
 
--- a table's vectors fit each other: so many slots there are, and the queue has memory for so many places
+-- the sizes of a table's vectors fit: this is the number of slots, and that of places for which the queue has memory
 pub record AreSized (slots places : ℕ) : Type 0 where
   pub few : slots < 4294967296
   -- one for each slot, so that a set can wait without an allocation
   pub room : slots ≤ places
 
--- at most so many sets of a layout are kept
+-- at most `max` sets of a layout are kept
 abbrev pub AreFew : ℕ → List Chain → Type 0
 AreFew max chains = (k : ℕ) → 2 ≤ k → (chain_at chains k).count ≤ max
 
@@ -104,7 +104,7 @@ abbrev pub Slots : Type 0 → Type 0
 Slots T = List (Slot T)
 
 module _ {T : Type 0} where
-  -- the slot past the end, in which no set ever was
+  -- the slot past the end, which never had a set
   abbrev pub no_slot : Slot T
   no_slot = record { generation = 0; layout = 0; layout_generation = 0; used = Taken; leaves = false; set = None }
 
@@ -112,15 +112,15 @@ module _ {T : Type 0} where
   abbrev pub slot_at : Slots T → ℕ → Slot T
   slot_at slots place = slice_index_or slots place no_slot
 
-  -- a set that a call has, in a slot of this generation
+  -- a set that a call has taken, in a slot of this generation
   abbrev pub taken_slot : ℕ → ℕ → ℕ → T → Slot T
   taken_slot generation layout layout_generation set = record { generation = generation; layout = layout; layout_generation = layout_generation; used = Taken; leaves = false; set = Some set }
 
-  -- the slot with a set, which a call has
+  -- the slot with this set, which a call has taken
   abbrev pub filled : ℕ → ℕ → T → Slot T → Slot T
   filled layout layout_generation set s = taken_slot s.generation layout layout_generation set
 
-  -- what an entry says of its slot
+  -- the slot that an entry stands for. Contracts see slots, so how an entry packs one is proved in the file of SlotList alone
   abbrev pub slot_of : Entry T → Slot T
   slot_of e = record { generation = e.generation; layout = e.layout; layout_generation = e.layout_generation; used = use_of e.frame e.state; leaves = e.leaves; set = e.set }
 
@@ -136,7 +136,7 @@ module _ {T : Type 0} where
   abbrev pub space_in : SlotList T → ℕ
   space_in l = vec_capacity l.entries
 
-  -- one slot became this
+  -- the slot at a place became this
   pub record Writes (p : ℕ) (becomes : Slot T → Slot T) (old new : SlotList T) : Type 0 where
     pub slots : slots_in new ≡ slice_set (slots_in old) p (becomes (slot_at (slots_in old) p))
     pub space : space_in new ≡ space_in old
@@ -145,7 +145,7 @@ module _ {T : Type 0} where
   abbrev pub is_in : ℕ → Slot T → Bool
   is_in k s = in_list k s.used s.layout s.generation (is_some s.set)
 
-  -- whether a slot has a set that goes back to its pool
+  -- whether a slot has a set that returns to its pool
   abbrev pub goes : Slot T → Bool
   goes = is_in 1
 
@@ -157,11 +157,11 @@ module _ {T : Type 0} where
   abbrev pub waits : Slot T → Bool
   waits s = waits_for (λ frame. true) s.used && is_some s.set
 
-  -- whether a slot has a set that waits for a frame up to this one
+  -- whether a slot has a set that waits for this frame or an earlier one
   abbrev pub is_due : ℕ → Slot T → Bool
   is_due f s = waits_for (λ frame. nat_le frame f) s.used && is_some s.set
 
-  -- the list has the place of each slot that passes the test once, and no other
+  -- the list has the place of each slot that passes the test, once, and no other
   abbrev pub Lists : (Slot T → Bool) → Slots T → List ℕ → Type 0
   Lists test slots places = (p : ℕ) → times p places ≡ (if test (slot_at slots p) then 1 else 0)
 
@@ -175,7 +175,7 @@ module _ {T : Type 0} where
     -- along it no set waits for an earlier frame than the one before it
     pub rises : IsNonDecreasingBy (λ p. frame_of (slot_at slots p).used) places
 
-  -- the list of a slot's layout is there. Its set came under this layout, or under one that had the number before, and a kept one under this one
+  -- the list of a slot's layout is there. Its set is of this layout, or of one that had the number before; a kept one is of this layout
   pub record IsListed (lists : ℕ) (generations : ℕ → ℕ) (s : Slot T) : Type 0 where
     pub there : s.layout + 2 < lists
     pub before : s.layout_generation ≤ generations s.layout
@@ -185,7 +185,7 @@ module _ {T : Type 0} where
   abbrev pub HasLists : Slots T → ℕ → (ℕ → ℕ) → Type 0
   HasLists slots lists generations = (p : ℕ) → p < length slots → IsListed lists generations (slot_at slots p)
 
-  -- what a table says of its slots and its lists
+  -- slots, lists and queue of a table agree
   pub record AreSound (l : SlotList T) (chains : List Chain) (generations waiting : List ℕ) (room keep : ℕ) : Type 0 where
     pub sized : AreSized (length (slots_in l)) room
     pub linked : AreLinked (slots_in l) (nexts_in l) chains

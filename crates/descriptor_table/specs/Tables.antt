@@ -1,4 +1,4 @@
--- What becomes of the slots of a table.
+-- How calls change the slots of a table.
 use Rattle.std.specs.Prelude.{◌≡◌, ◌≢◌, ℕ, zero, suc, ◌+◌, ◌-◌, ◌<◌, ◌≤◌, ◌⊎◌, ◌==◌, ◌&&◌, nat_lt, Bool, true, false, not, List, [], ◌∷◌, length, slice_index_or, slice_set, vec_capacity, is_some, if◌then◌else◌, Option, Some, None, MatchOption}
 use Rattle.std.specs.VecDeque.{deque_capacity}
 use Rattle.descriptor_table.specs.Slots.{Slot, Slots, chains_in, generations_in, nexts_in, slots_in, space_in, taken_slot, chain_at, frame_of, generation_at, is_in, is_kept_of, slot_at, waits}
@@ -7,26 +7,26 @@ use Rattle.descriptor_table.specs.declared.set_table.SetTable.{SetTable}
 use Rattle.descriptor_table.specs.declared.slot.Use.{Use}
 use Rattle.descriptor_table.specs.declared.slot.Use.TheVariants.{Held, Kept, Going, Taken, Vacant}
 
--- whether a set in such a use is one that a call has
+-- whether a set in this use is one that a call has taken
 abbrev pub is_taken_use : Use → Bool
 is_taken_use Taken = true
 is_taken_use _ = false
 
--- whether a set in such a use is held
+-- whether a set in this use is held
 abbrev pub is_held_use : Use → Bool
 is_held_use Held = true
 is_held_use _ = false
 
--- the list of a set in such a use, of a layout, if it is kept or goes
+-- the list of a set in this use, of a layout, if it is kept or goes
 abbrev pub list_for : Use → ℕ → ℕ
 list_for Kept layout = layout + 2
 list_for _ layout = 1
 
--- the place of the handle at a place of a list
+-- the place of the i-th handle
 abbrev pub place_at : List SetHandle → ℕ → ℕ
 place_at handles i = (slice_index_or handles i (record { manager = 0; place = 0; generation = 0 })).place
 
--- how many layouts of each number were removed, after one more was
+-- how many layouts of each number were removed, after one more of this number was
 abbrev pub removed_at : ℕ → (ℕ → ℕ) → ℕ → ℕ
 removed_at layout generations n = if n == layout then generations n + 1 else generations n
 
@@ -34,12 +34,12 @@ removed_at layout generations n = if n == layout then generations n + 1 else gen
 abbrev pub current : (ℕ → ℕ) → ℕ → ℕ × ℕ
 current generations layout = (layout, generations layout)
 
--- how many lists there are with one layout more: the first comes with those that are of no layout
+-- how many lists there are with one more layout: the lists of no layout are added with the first
 abbrev pub lists_with : ℕ → ℕ
 lists_with zero = 3
 lists_with (suc n) = suc n + 1
 
--- what a table has besides slots: the number of its set manager, how many lists there are, how many layouts of each number were removed, and how many sets of a layout are kept at most
+-- what a table has in addition to slots: the set manager's number, how many lists there are, how many layouts of each number were removed, and the max of the kept sets of a layout
 pub record Settings : Type 0 where
   pub number : ℕ
   pub lists : ℕ
@@ -47,19 +47,19 @@ pub record Settings : Type 0 where
   pub keep : ℕ
 
 module _ {T : Type 0} where
-  -- whether another set can come to a slot
+  -- whether a slot can get a set
   abbrev pub is_usable : Slot T → Bool
   is_usable s = is_in 0 s
 
-  -- the slot, in use for this
+  -- the slot in this use
   abbrev pub used_for : Use → Slot T → Slot T
   used_for u s = record s { used = u }
 
-  -- one slot became this
+  -- the slot at the place became this
   abbrev pub At : ℕ → (Slot T → Slot T) → Slots T → Slots T → Type 0
   At p becomes old new = new ≡ slice_set old p (becomes (slot_at old p))
 
-  -- one slot became this if it passed the test
+  -- the slot at the place became this if it passed the test
   abbrev pub AtIf : (Slot T → Bool) → ℕ → (Slot T → Slot T) → Slots T → Slots T → Type 0
   AtIf test p becomes old new = new ≡ (if test (slot_at old p) then slice_set old p (becomes (slot_at old p)) else old)
 
@@ -72,15 +72,15 @@ module _ {T : Type 0} where
   abbrev pub slots_of : SetTable T → Slots T
   slots_of t = slots_in t.slots
 
-  -- how many lists a table has: of slots without a set, of sets that go, and of kept ones by layout
+  -- how many lists a table has: of slots without a set, of sets that go, and of kept ones for each layout
   abbrev pub lists_of : SetTable T → ℕ
   lists_of t = length (chains_in t.lists.items)
 
-  -- the number of the set manager, which its handles have
+  -- the number that marks the set manager's handles
   abbrev pub number_of : SetTable T → ℕ
   number_of t = t.number
 
-  -- how many sets of a layout are kept at most
+  -- the max of the kept sets of a layout
   abbrev pub keep_of : SetTable T → ℕ
   keep_of t = t.keep
 
@@ -92,7 +92,7 @@ module _ {T : Type 0} where
   abbrev pub count_of : ℕ → SetTable T → ℕ
   count_of k t = (chain_at (chains_in t.lists.items) k).count
 
-  -- what a table has besides slots and memory
+  -- the settings of a table
   abbrev pub settings_of : SetTable T → Settings
   settings_of t = record { number = number_of t; lists = lists_of t; generations = generations_of t; keep = keep_of t }
 
@@ -128,85 +128,85 @@ module _ {T : Type 0} where
     pub slots : becomes (slots_of old) (slots_of new)
     pub stays : Stays old new
 
-  -- there is memory for a layout more
+  -- there is memory for one more layout
   abbrev pub HasListRoom : SetTable T → Type 0
   HasListRoom t = lists_of t + 3 ≤ vec_capacity t.lists
 
-  -- there is memory for so many slots more
+  -- there is memory for n more slots
   pub record HasPlaces (n : ℕ) (t : SetTable T) : Type 0 where
     pub few : length (slots_of t) + n < 4294967296
     pub slots : length (slots_of t) + n ≤ space_in t.slots
     pub waiting : length (slots_of t) + n ≤ deque_capacity t.waiting
 
-  -- how many slots another set can come to
+  -- how many slots can get a set
   abbrev pub usable_of : SetTable T → ℕ
   usable_of t = count is_usable (slots_of t)
 
-  -- so many sets more can be put without an allocation: the first into slots that there are
+  -- n more sets can be put without an allocation, into slots that are there first
   abbrev pub HasRoom : ℕ → SetTable T → Type 0
   HasRoom n t = HasPlaces (n - usable_of t) t
 
-  -- a call has the slot
+  -- a call has taken the slot
   pub record IsTaken (p : ℕ) (slots : Slots T) : Type 0 where
     pub within : p < length slots
     pub taken : (slot_at slots p).used ≡ Taken
 
-  -- a call has the slot, and a set is in it
+  -- a call has taken the slot, and a set is in it
   pub record HasTaken (p : ℕ) (slots : Slots T) : Type 0 where
     pub taken : IsTaken p slots
     pub full : is_some (slot_at slots p).set ≡ true
 
-  -- a call has the slot, which can have another handle
+  -- a call has taken the slot, which can give another handle
   pub record CanRenew (p : ℕ) (slots : Slots T) : Type 0 where
     pub taken : IsTaken p slots
     pub next : (slot_at slots p).generation < 4294967295
 
-  -- a call has a set, which waits for the frame if it is in use for this
+  -- a call has taken a set, which waits for the frame in this use
   pub record CanWait (f p : ℕ) (u : Use) (slots : Slots T) : Type 0 where
     pub taken : HasTaken p slots
     pub goes : waits (used_for u (slot_at slots p)) ≡ true
     pub frame : frame_of u ≡ f
 
-  -- the slot was in the list, or had its set wait, and left
+  -- the slot passed the test, and left its list
   pub record Picks (test : Slot T → Bool) (p : ℕ) (old new : Slots T) : Type 0 where
     pub was : test (slot_at old p) ≡ true
     pub within : p < length old
     pub slots : At p (used_for Taken) old new
 
-  -- no slot passes the test, and nothing changed
+  -- no slot passes the test, and nothing changes
   pub record PicksNone (test : Slot T → Bool) (old new : Slots T) : Type 0 where
     pub none : (p : ℕ) → test (slot_at old p) ≡ false
     pub slots : new ≡ old
 
-  -- a slot that passes the test left, or there is none
+  -- a slot that passes the test left its list, or there is none
   abbrev pub PicksAny : (Slot T → Bool) → Option ℕ → Slots T → Slots T → Type 0
   PicksAny test result old new = MatchOption result (PicksNone test old new) (λ p. Picks test p old new)
 
-  -- whether a call has a set
+  -- whether a call has taken a set
   abbrev pub is_taken : Slot T → Bool
   is_taken s = is_taken_use s.used && is_some s.set
 
-  -- the layout that a set came under
+  -- the layout of a set: its number, and how many had the number before
   abbrev pub came_under : Slot T → ℕ × ℕ
   came_under s = (s.layout, s.layout_generation)
 
-  -- whether the layout that a set came under has its number still
+  -- whether the layout of a set has not been removed
   abbrev pub is_current : (ℕ → ℕ) → Slot T → Bool
   is_current generations s = s.layout_generation == generations s.layout
 
-  -- whether a set may be kept: it came after the last cleanup, its place has a generation left, and its layout was not removed
+  -- whether a set may be kept: it is newer than the last cleanup, its place has a generation left, and its layout was not removed
   abbrev pub stays : (ℕ → ℕ) → Slot T → Bool
   stays generations s = (not s.leaves && nat_lt s.generation 4294967295) && is_current generations s
 
-  -- whether a set is kept, if at most so many of its layout are
+  -- whether a set is kept, if at most `max` of its layout are
   abbrev pub may_stay : (ℕ → ℕ) → ℕ → Slots T → Slot T → Bool
   may_stay generations max slots s = stays generations s && nat_lt (count (is_kept_of s.layout) slots) max
 
-  -- what a set that comes back is in use for
+  -- the next use of a set that is freed
   abbrev pub next_use : (ℕ → ℕ) → ℕ → Slots T → ℕ → Use
   next_use generations max slots p = if may_stay generations max slots (slot_at slots p) then Kept else Going
 
-  -- a set that came back is kept, or its slot became this: that of a set that may be kept only if as many are kept as may be
+  -- a set that was freed is kept, or its slot became this: that of a set that may be kept only if `max` sets of its layout are kept
   abbrev pub IsBack : (Slot T → Slot T) → (ℕ → ℕ) → ℕ → Slots T → Slot T → Slot T → Type 0
   IsBack gone generations max new o n = ((n ≡ used_for Kept o) × (stays generations o ≡ true)) ⊎ ((n ≡ gone o) × (stays generations o ≡ true → max ≤ count (is_kept_of o.layout) new))
 
@@ -218,7 +218,7 @@ module _ {T : Type 0} where
   abbrev pub MayBecome : (Slot T → Slot T) → Slots T → Slot T → Slot T → Type 0
   MayBecome into new o n = (n ≡ o) ⊎ (n ≡ into o)
 
-  -- each slot that passes the test became what the relation says, in the new slots. All others are as they were
+  -- each slot that passes the test became what the relation says, given the new slots. All others are as they were
   pub record Turns (test : Slot T → Bool) (becomes : Slots T → Slot T → Slot T → Type 0) (old new : Slots T) : Type 0 where
     pub long : length new ≡ length old
     pub rest : (p : ℕ) → test (slot_at old p) ≡ false → slot_at new p ≡ slot_at old p
@@ -232,15 +232,15 @@ module _ {T : Type 0} where
   abbrev pub is_kept : Slot T → Bool
   is_kept s = is_kept_of s.layout s
 
-  -- a kept set left the list, in which more than so many were, or none did, since no more are in it
+  -- a kept set left the list if more than `max` were in it; else nothing changes
   abbrev pub PicksAbove : ℕ → ℕ → Option ℕ → Slots T → Slots T → Type 0
   PicksAbove k max result old new = MatchOption result ((count (is_in k) old ≤ max) × (new ≡ old)) (λ p. (max < count (is_in k) old) × Picks (is_in k) p old new)
 
-  -- so many of the slots that pass the test pass it still, or all
+  -- of the slots that pass the test `max` still pass it, or all
   abbrev pub KeepsUpTo : ℕ → (Slot T → Bool) → Slots T → Slots T → Type 0
   KeepsUpTo max test old new = (n : ℕ) → n ≤ max → n ≤ count test old → n ≤ count test new
 
-  -- the slot, whose set isn't kept when it comes back
+  -- the slot, whose set isn't kept once it is freed
   abbrev pub aged : Slot T → Slot T
   aged s = record s { leaves = true }
 
@@ -248,7 +248,7 @@ module _ {T : Type 0} where
   abbrev pub AreAllUsed : Slots T → Type 0
   AreAllUsed slots = (p : ℕ) → is_usable (slot_at slots p) ≡ false
 
-  -- a set of the layout came into a slot that had none, and has no handle there yet
+  -- a set of the layout is in a slot that had none, and has no handle there yet
   pub record Puts (generations : ℕ → ℕ) (layout : ℕ) (set : T) (p : ℕ) (old new : Slots T) : Type 0 where
     pub empty : (slot_at old p).set ≡ None
     pub within : p < length new
@@ -258,7 +258,7 @@ module _ {T : Type 0} where
     -- the table grows only if each slot has a set, or had its last generation
     pub grows : (length new ≡ length old) ⊎ ((length new ≡ length old + 1) × AreAllUsed old)
 
-  -- a set of the layout came into the table at the place, and took room for one
+  -- a set of the layout is in the table at the place, and used up room for one
   pub record PutsInto (layout : ℕ) (set : T) (place : ℕ) (old new : SetTable T) : Type 0 where
     pub puts : Puts (generations_of old) layout set place (slots_of old) (slots_of new)
     pub reserve : (n : ℕ) → HasRoom (n + 1) old → HasRoom n new
@@ -268,11 +268,11 @@ module _ {T : Type 0} where
   abbrev pub Grows : Slots T → Slots T → Type 0
   Grows old new = (length new ≡ length old) ⊎ AreAllUsed new
 
-  -- a slot in its next generation, in use for this
+  -- the slot in its next generation and in this use
   abbrev pub renewed : Use → Slot T → Slot T
   renewed u s = record s { generation = s.generation + 1; used = u }
 
-  -- the set at a place has the handle, the next one of the place, and is in use for this
+  -- the set at a place has the handle, the next one of the place, and is in this use
   pub record Renews (number p : ℕ) (u : Use) (handle : SetHandle) (old new : Slots T) : Type 0 where
     pub is : handle ≡ record { manager = number; place = p; generation = (slot_at old p).generation + 1 }
     pub slots : At p (renewed u) old new
@@ -293,7 +293,7 @@ module _ {T : Type 0} where
   abbrev pub GivesAny : (Slot T → Bool) → Option T → Slots T → Slots T → Type 0
   GivesAny test result old new = MatchOption result (PicksNone test old new) (λ x. Gives test x old new)
 
-  -- the held sets of the first handles were taken, and all else is as it was
+  -- the held sets of the first n handles were taken, and all else is as it was
   pub record TookEach (handles : List SetHandle) (n : ℕ) (old new : Slots T) : Type 0 where
     pub long : length new ≡ length old
     pub held : (i : ℕ) → i < n → (slot_at old (place_at handles i)).used ≡ Held
@@ -301,18 +301,18 @@ module _ {T : Type 0} where
     pub named : (i : ℕ) → i < n → slot_at new (place_at handles i) ≡ used_for Taken (slot_at old (place_at handles i))
     pub rest : (p : ℕ) → ((i : ℕ) → i < n → place_at handles i ≢ p) → slot_at new p ≡ slot_at old p
 
-  -- the slots of the handles became what the relation says, in the new slots. All others are as they were
+  -- the slots of the handles became what the relation says, given the new slots. All others are as they were
   pub record TurnEach (handles : List SetHandle) (becomes : Slots T → Slot T → Slot T → Type 0) (old new : Slots T) : Type 0 where
     pub long : length new ≡ length old
     pub named : (i : ℕ) → i < length handles → becomes new (slot_at old (place_at handles i)) (slot_at new (place_at handles i))
     pub rest : (p : ℕ) → ((i : ℕ) → i < length handles → place_at handles i ≢ p) → slot_at new p ≡ slot_at old p
 
-  -- the handles have places, and each set that a call has is at one of these
+  -- the handles have places, and each set that a call has taken is at one of these
   pub record AreAllTaken (handles : List SetHandle) (slots : Slots T) : Type 0 where
     pub within : (i : ℕ) → i < length handles → place_at handles i < length slots
     pub all : (p : ℕ) → is_taken (slot_at slots p) ≡ true → (i : ℕ) × (i < length handles) × (place_at handles i ≡ p)
 
-  -- no set that is there is kept when it comes back
+  -- no set that is there is kept once it is freed
   pub record AreAged (old new : Slots T) : Type 0 where
     pub long : length new ≡ length old
     pub each : (p : ℕ) → p < length old → slot_at new p ≡ aged (slot_at old p)
@@ -326,24 +326,24 @@ module _ {T : Type 0} where
     pub chains : chains_in new.lists.items ≡ chains_in old.lists.items
     pub next : nexts_in new.slots ≡ nexts_in old.slots
 
-  -- a slot came first into a list, and the other lists are as they were
+  -- a slot was put first into a list, and the other lists are as they were
   pub record Pushes (k p : ℕ) (old new : SetTable T) : Type 0 where
     pub there : k < length (chains_in old.lists.items)
     pub chains : chains_in new.lists.items ≡ slice_set (chains_in old.lists.items) k (record { first = p; count = (chain_at (chains_in old.lists.items) k).count + 1 })
     pub next : nexts_in new.slots ≡ slice_set (nexts_in old.slots) p (chain_at (chains_in old.lists.items) k).first
 
-  -- the slot that was first left a list, and the other lists are as they were
+  -- the first slot of a list left it, and the other lists are as they were
   pub record Pops (k p : ℕ) (old new : SetTable T) : Type 0 where
     pub first : (chain_at (chains_in old.lists.items) k).first ≡ p
     pub chains : chains_in new.lists.items ≡ slice_set (chains_in old.lists.items) k (record { first = slice_index_or (nexts_in old.slots) p 0; count = (chain_at (chains_in old.lists.items) k).count - 1 })
     pub next : nexts_in new.slots ≡ nexts_in old.slots
 
-  -- the set of a slot came first into the list of those that are kept, or of those that go
+  -- the set of a slot was put first into the list of the kept, or of those that go
   pub record JoinsList (p : ℕ) (old new : SetTable T) : Type 0 where
     pub listed : is_in (list_of (slot_at (slots_of new) p)) (slot_at (slots_of new) p) ≡ true
     pub pushes : Pushes (list_of (slot_at (slots_of new) p)) p old new
 
-  -- a held set did so
+  -- a held set was put first into such a list
   pub record SettlesOne (p : ℕ) (old new : SetTable T) : Type 0 where
     pub within : p < length (slots_of old)
     pub held : (slot_at (slots_of old) p).used ≡ Held
@@ -351,7 +351,7 @@ module _ {T : Type 0} where
     pub turns : At p (used_for new_use) (slots_of old) (slots_of new)
     pub joins : JoinsList p old new
 
-  -- the sets of the first handles did so, one after another
+  -- the sets of the first handles were, one after another
   abbrev pub SettleEach : List SetHandle → ℕ → SetTable T → SetTable T → Type 0
   SettleEach handles zero old new = (slots_of new ≡ slots_of old) × KeepsLists old new
   SettleEach handles (suc n) old new = (mid : SetTable T) × SettleEach handles n old mid × SettlesOne (place_at handles n) mid new

@@ -1,11 +1,11 @@
-//! Sets that go back to their pools.
+//! Sets that return to their pools.
 ghost use Rattle.std.specs.Prelude.{◌≡◌};
 ghost use Rattle.std.specs.Iterator.{at_most};
 ghost use Rattle.descriptor_table.specs.Giving.{GivesDue, GivesNext, sets_left};
 
 use crate::set_table::SetTable;
 
-/// Takes the sets that were let go out of their slots, up to the last.
+/// Takes the sets that go out of their slots, one by one, until none is left.
 #[derive(Drop)]
 pub struct Giving<'a, T> {
     pub table: &'a mut SetTable<T>,
@@ -31,7 +31,8 @@ impl<T> Giving<'_, T> {
     {}
 }
 
-/// Takes the sets that wait for a frame up to this one out of their slots, up to the last.
+/// Takes the sets that wait for `frame` or an earlier one out of their slots, one by one, until none is
+/// left.
 #[derive(Drop)]
 pub struct Due<'a, T> {
     pub table: &'a mut SetTable<T>,

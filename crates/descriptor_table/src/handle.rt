@@ -3,20 +3,20 @@ ghost use Rattle.std.specs.Prelude.{◌≡◌, List, map};
 ghost use Rattle.std.proofs.Common.{sym};
 ghost use Rattle.std.proofs.lemmas.List.{map-id};
 
-/// A set of a manager: one that is held until it is freed or destroyed, or one of a frame. Only the
-/// set manager that gave it has the set, and it names no other set later.
+/// The handle of a set, which is valid only for the set manager that gave it: until the set is freed, or
+/// until its frame ends. It never becomes the handle of another set.
 #[must_use = "a set is reached only by its handle"]
 #[derive(Clone, Copy, Debug, PartialEq, Eq, Hash)]
 pub struct SetHandle {
     pub(crate) manager: u64,
     pub(crate) place: u32,
 
-    /// How many handles were given for the place, with this one. So it is never 0.
+    /// How many handles were given for the place, with this one; never 0.
     pub(crate) generation: u32,
 }
 
 impl SetHandle {
-    /// It names no set of any set manager.
+    /// A handle that is invalid for every set manager.
     pub const NONE: Self = SetHandle {
         manager: u64::MAX,
         place: u32::MAX,
@@ -32,7 +32,7 @@ pub fn place_of(handle: SetHandle) -> u32
     handle.place
 }
 
-/// What a caller names a set of type `T` by: its handle, perhaps with something of the set.
+/// The type by which a caller names a set of type `T`: its handle, perhaps with data of the set.
 pub trait SetName<T> {
     ghost use Rattle.descriptor_table.specs.declared.handle.SetHandle.{SetHandle};
 
@@ -46,8 +46,8 @@ pub trait SetName<T> {
     fn handle(&self) -> SetHandle
         ensures { result ≡ handle_of self.now };
 
-    /// The name of a set under a handle. There is a set: with an `Option` no test for it is left in a loop
-    /// over sets.
+    /// The name of a set under a handle. `set` is never `None`: an `Option` leaves no test for it in a
+    /// loop over sets.
     fn of(handle: SetHandle, set: Option<&T>) -> Self
         ensures { handle_of result ≡ handle };
 

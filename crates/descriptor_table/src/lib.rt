@@ -1,5 +1,5 @@
-//! The table of a set manager's descriptor sets: each is in a slot, where it stays while it is used again
-//! and again.
+//! The table of a set manager's descriptor sets. Each set has a slot, and stays there while it is
+//! reused.
 #![tactic(auto)]
 
 mod giving;

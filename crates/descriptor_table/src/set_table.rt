@@ -1,4 +1,4 @@
-//! The table of a set manager's sets: each is in a slot, where it stays while it is used again and again.
+//! The table of a set manager's sets. Each set has a slot, and stays there while it is reused.
 ghost use Rattle.std.specs.Prelude.{◌≡◌, ◌+◌, ◌<◌, [], length, IsOk, OnErr, OnOk};
 ghost use Rattle.std.specs.Option.{option_copied};
 ghost use Rattle.std.specs.VecDeque.{deque_capacity};
@@ -19,32 +19,32 @@ use std::alloc::{AllocError, Global};
 use std::collections::VecDeque;
 use std::vec::Vec;
 
-/// How many slots there may be.
+/// The max of the number of slots.
 const MOST: u64 = u32::MAX as u64;
 
 /// The list of the slots without a set.
 pub(crate) const VACANT: usize = 0;
 
-/// The list of the sets that go back to their pools.
+/// The list of the sets that return to their pools.
 pub(crate) const GOING: usize = 1;
 
 /// The list of the kept sets of the first layout.
 pub(crate) const KEPT: usize = 2;
 
-/// The sets, each in a slot.
+/// A set manager's sets, each in a slot.
 #[derive(Drop)]
 pub struct SetTable<T> {
-    /// The number of the set manager, which tells its handles from those of others.
+    /// The number that marks the set manager's handles.
     pub(crate) number: u64,
     pub(crate) slots: SlotList<T>,
 
-    /// The lists, but for those of sets that wait.
+    /// The lists, except those of sets that wait.
     pub(crate) lists: Vec<ListHead>,
 
-    /// The places of the sets that wait for a frame, by rising frames.
+    /// The places of the sets that wait for a frame, by rising frame.
     pub(crate) waiting: VecDeque<u32>,
 
-    /// How many sets of a layout are kept at most.
+    /// The max of the kept sets of a layout.
     pub(crate) keep: u32,
     ghost sound: { AreSound slots (chains_in lists.items) (generations_in lists.items) waiting.items
         (deque_capacity waiting) keep },
@@ -55,7 +55,7 @@ impl<T> SetTable<T> {
     ghost use Rattle.descriptor_table.specs.Tables.{HasPlaces, HasRoom, HasSettings, OnlyMemory};
     ghost use Rattle.descriptor_table.specs.Tables.{number_of, slots_of, usable_of};
 
-    /// No sets, and no layouts. It allocates nothing.
+    /// A table without sets and layouts. It allocates no memory.
     pub fn new(alloc: Global, number: u64) -> Self
         ensures slots { slots_of result ≡ [] }
         ensures settings { HasSettings (record {
@@ -74,7 +74,7 @@ impl<T> SetTable<T> {
         }
     }
 
-    /// The set of a handle, in this frame if one is open.
+    /// The set of a handle, while `frame` is the open frame if `is_open`.
     #[inline]
     pub fn get(&self, handle: SetHandle, frame: u64, is_open: bool) -> Option<&T>
         ensures { option_copied result ≡ find (number_of self.now) frame is_open (slots_of self.now)
@@ -111,8 +111,8 @@ impl<T> SetTable<T> {
         }
     }
 
-    /// Reserves memory for so many sets more, so that nothing else allocates. Slots without a set need
-    /// none.
+    /// Reserves memory for `additional` more sets: slots without a set, and new slots for the others.
+    /// Adding these sets then allocates no memory.
     #[inline]
     pub fn reserve(&mut self, additional: u32) -> Result<(), AllocError>
         ensures room { OnOk result (HasRoom additional self.new) }
@@ -127,7 +127,7 @@ impl<T> SetTable<T> {
         self.reserve_slots(additional - vacant)
     }
 
-    /// Reserves memory for so many slots more.
+    /// Reserves memory for `additional` more slots.
     fn reserve_slots(&mut self, additional: u32) -> Result<(), AllocError>
         ensures room { OnOk result (HasPlaces additional self.new) }
         ensures fits { HasPlaces additional self.old → IsOk result }

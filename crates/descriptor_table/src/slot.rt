@@ -5,7 +5,7 @@ ghost use Rattle.descriptor_table.specs.Slots.{frame_of, is_live, state_of};
 /// What a set is in use for.
 #[derive(Clone, Copy)]
 pub enum Use {
-    /// It has a handle until it is freed or destroyed.
+    /// It has a handle until it is freed.
     Held,
 
     /// It has a handle until this frame ends, and waits for the frame.
@@ -14,20 +14,20 @@ pub enum Use {
     /// It waits for this frame.
     Waits(u64),
 
-    /// It is out of use, until it is handed out again.
+    /// It is freed, and is kept for reuse.
     Kept,
 
-    /// It goes back to its pool.
+    /// It returns to its pool.
     Going,
 
-    /// A call has it.
+    /// A call has taken it, until it puts it to another use.
     Taken,
 
     /// There is no set.
     Vacant,
 }
 
-/// What a set is in use for, without the frame.
+/// A set's use without its frame.
 #[derive(Clone, Copy)]
 pub enum State {
     Held,
@@ -40,7 +40,7 @@ pub enum State {
 }
 
 impl Use {
-    /// It without its frame.
+    /// This use without its frame.
     #[inline]
     pub(crate) fn state(self) -> State
         ensures { result ≡ state_of self }
@@ -56,7 +56,7 @@ impl Use {
         }
     }
 
-    /// The frame that such a set waits for. It is 0 if it waits for none.
+    /// The frame that a set in this use waits for, or 0.
     #[inline]
     pub(crate) fn frame(self) -> u64
         ensures { result ≡ frame_of self }
@@ -67,7 +67,7 @@ impl Use {
         }
     }
 
-    /// Whether the handle of such a set names it, in this frame if one is open.
+    /// Whether the handle of a set in this use is valid, while `frame` is the open frame if `is_open`.
     #[inline]
     pub fn is_live(self, frame: u64, is_open: bool) -> bool
         ensures { result ≡ is_live frame is_open self }
@@ -80,19 +80,19 @@ impl Use {
     }
 }
 
-/// A list of slots, each of which tells the next.
+/// A linked list of slots.
 #[derive(Clone, Copy)]
 pub struct Chain {
     pub(crate) first: u32,
     pub(crate) count: u32,
 }
 
-/// One of a table's lists, but for those of sets that wait.
+/// One of a table's lists, except those of sets that wait.
 #[derive(Clone, Copy)]
 pub struct ListHead {
     pub(crate) chain: Chain,
 
-    /// How many layouts of its number were removed. A set that came under one of these isn't kept when
-    /// it comes back.
+    /// How many layouts of this list's number were removed. A set of one of these isn't kept once it is
+    /// freed.
     pub(crate) generation: u32,
 }

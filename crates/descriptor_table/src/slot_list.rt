@@ -1,4 +1,4 @@
-//! The slots of a table, each with the next one of the list that it is in.
+//! The slots of a table, each with the next slot of its list.
 ghost use Rattle.std.specs.Prelude.{◌≡◌, ◌+◌, ◌<◌, ◌≤◌, [], ◌∷◌, ◌++◌, length, slice_index_or, slice_set};
 ghost use Rattle.std.specs.Prelude.{IfSome, IsOk, OnOk, None};
 
@@ -14,17 +14,18 @@ pub struct Entry<T> {
     pub(crate) generation: u32,
     pub(crate) layout: u32,
 
-    /// How many layouts had the number before that of the set.
+    /// How many layouts had this number before the set's layout.
     pub(crate) layout_generation: u32,
 
-    /// The next slot of the list that this one is in.
+    /// The next slot of this slot's list. A slot is in one list at a time, so a set is kept without an
+    /// allocation.
     pub(crate) next: u32,
 
     /// The frame, if the state has one.
     pub(crate) frame: u64,
     pub(crate) state: State,
 
-    /// Whether the set isn't kept when it comes back: it was there at the last cleanup.
+    /// Whether the set isn't kept once it is freed: it was there at the last cleanup.
     pub(crate) leaves: bool,
     pub(crate) set: Option<T>,
 }
@@ -33,7 +34,7 @@ impl<T> Entry<T> {
     ghost use Rattle.descriptor_table.specs.Slots.{slot_of, taken_slot};
     ghost use Rattle.descriptor_table.specs.Tables.{used_for};
 
-    /// A slot with a set that a call has.
+    /// A slot with a set that a call has taken.
     #[inline]
     pub(crate) fn new(generation: u32, layout: u32, layout_generation: u32, set: T) -> Self
         ensures slot { slot_of result ≡ taken_slot generation layout layout_generation set }
@@ -67,7 +68,7 @@ impl<T> Entry<T> {
         }
     }
 
-    /// The set is in use for this from now on.
+    /// Changes what the set is in use for.
     #[inline]
     fn set_use(&mut self, used: Use)
         ensures slot { slot_of self.new ≡ used_for used (slot_of self.old) }
@@ -92,7 +93,7 @@ impl<T> SlotList<T> {
     ghost use Rattle.descriptor_table.specs.Slots.{taken_slot};
     ghost use Rattle.descriptor_table.specs.Tables.{aged, renewed, used_for};
 
-    /// No slots. It allocates nothing.
+    /// A list without slots. It allocates no memory.
     pub(crate) fn new(alloc: Global) -> Self
         ensures { slots_in result ≡ [] }
     {
@@ -109,7 +110,7 @@ impl<T> SlotList<T> {
         self.entries.len()
     }
 
-    /// Reserves memory for so many slots more.
+    /// Reserves memory for `additional` more slots.
     pub(crate) fn reserve(&mut self, additional: usize) -> Result<(), AllocError>
         ensures room { OnOk result (length (slots_in self.old) + additional ≤ space_in self.new) }
         ensures fits { length (slots_in self.old) + additional ≤ space_in self.old → IsOk result }
@@ -139,7 +140,7 @@ impl<T> SlotList<T> {
         &self.entries[place]
     }
 
-    /// The set of a slot is in use for this from now on.
+    /// Changes what the set of a slot is in use for.
     #[inline]
     pub(crate) fn set_use(&mut self, place: usize, used: Use)
         requires { place < length (slots_in self.old) }
@@ -149,7 +150,7 @@ impl<T> SlotList<T> {
         self.entries[place].set_use(used);
     }
 
-    /// The same, for the first slot of a list, after which this one comes.
+    /// Changes the use of a slot's set, and makes `next` the slot that follows in its list.
     #[inline]
     pub(crate) fn link(&mut self, place: usize, next: u32, used: Use)
         requires { place < length (slots_in self.old) }
@@ -161,7 +162,7 @@ impl<T> SlotList<T> {
         entry.set_use(used);
     }
 
-    /// The same, under the next handle of the slot, whose generation rises. Returns it.
+    /// Changes the use of a slot's set, raises the slot's generation, and returns it.
     #[inline]
     pub(crate) fn renew(&mut self, place: usize, used: Use) -> u32
         requires within { place < length (slots_in self.old) }
@@ -176,7 +177,7 @@ impl<T> SlotList<T> {
         entry.generation
     }
 
-    /// The set of a slot isn't kept when it comes back.
+    /// The set of a slot isn't kept once it is freed.
     #[inline]
     pub(crate) fn age(&mut self, place: usize)
         requires { place < length (slots_in self.old) }
@@ -223,7 +224,7 @@ impl<T> SlotList<T> {
         }
     }
 
-    /// Puts a set into a new slot, over memory that was reserved.
+    /// Puts a set into a new slot, in reserved memory.
     #[inline]
     pub(crate) fn push(&mut self, layout: u32, layout_generation: u32, set: T)
         requires { length (slots_in self.old) < space_in self.old }

@@ -47,17 +47,17 @@ abbrev pub line_end : {R E : Type 0} → (E → Answer) → Result R E → List 
 line_end answer_of (Ok done) = codes "\n"
 line_end answer_of (Err error) = codes ", refused: " ++ word_of_answer (answer_of error) ++ codes "\n"
 
--- a pool of so many sets was to be created, with these flags and these counts in all
+-- a pool of this many sets was to be created, with these flags and these counts in all
 abbrev pub create_line : ℕ → ℕ → List ℕ → Result RawPool CreatePoolError → List ℕ
 create_line sets flags counts answer =
     codes "create " ++ new_name answer ++ codes ": " ++ decimal sets ++ codes " sets" ++ release_part flags ++ mark_part (bit_and flags 2 == 2) ++ counts_part counts ++ line_end answer_of_create answer
 
--- so many sets of one layout were asked of a pool, with this mark and these counts each
+-- this many sets of one layout were asked of a pool, with this mark and these counts each
 abbrev pub alloc_line : ℕ → ℕ → Bool → List ℕ → Result Unit DeviceAllocationError → List ℕ
 alloc_line pool sets mark counts answer =
     codes "alloc " ++ decimal pool ++ codes ": " ++ decimal sets ++ mark_part mark ++ counts_part counts ++ line_end answer_of_alloc answer
 
--- so many sets of a pool were freed
+-- this many sets of a pool were freed
 abbrev pub release_line : ℕ → ℕ → List ℕ
 release_line pool sets = codes "release " ++ decimal pool ++ codes ": " ++ decimal sets ++ codes "\n"
 

@@ -56,7 +56,7 @@ pub fn alloc_line(
     alloc_end(text, answer)
 }
 
-/// That sets went back to a pool.
+/// That sets of a pool were freed.
 pub fn release_line(text: &mut String, pool: u64, sets: usize) -> Result<(), AllocError>
     ensures { OnOk result (string_bytes text.new ≡ string_bytes text.old
         ++ says.release_line pool sets) }

@@ -69,7 +69,7 @@ impl<W: Write> Traced<W> {
         }
     }
 
-    /// Writes that so many sets went back to a pool.
+    /// Writes that `sets` sets of a pool were freed.
     fn write_release(&mut self, pool: u64, sets: usize)
         ensures device { self.new.device ≡ self.old.device }
         ensures written { WritesDown W.contents self.old self.new (says.release_line pool sets) }
@@ -210,7 +210,7 @@ impl<W: Write> LineDevice for Traced<W> {
         ensures ledger { ledger_of self.new.device ≡ ledger_of self.old.device }
         ensures script { script_of self.new.device ≡ script_of self.old.device }
 
-        // The device's own, besides the trait's: the line is written down before its calls.
+        // The device's own, in addition to the trait's: the line is written down before its calls.
         ensures written { WritesDown W.contents self.old self.new (says.input_line line.now) }
     {
         let is_written = !self.has_lost
@@ -230,7 +230,7 @@ impl<W: Write> LineDevice for Traced<W> {
         ensures script { script_of self.new.device ≡ words.items }
         ensures ledger { ledger_of self.new.device ≡ ledger_of self.old.device }
 
-        // The device's own, besides the trait's: names and output stay.
+        // The device's own, in addition to the trait's: names and output stay.
         ensures names { names_given self.new.device ≡ names_given self.old.device }
         ensures output { self.new.output ≡ self.old.output }
         ensures lost { self.new.has_lost ≡ self.old.has_lost }

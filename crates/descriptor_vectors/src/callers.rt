@@ -26,7 +26,7 @@ fn one_layout_is_drawn(rt: HostRuntime) -> Result<(), Fail> {
 }
 
 /// Each of the five frames has a material and four sets, the first three the water too. Two of three
-/// pools go between the levels, and come again.
+/// pools go between the levels, and are created again.
 #[test]
 fn game_draws_five_frames(rt: HostRuntime) {
     let played = play(rt.alloc(), Vec::new(rt.alloc()), 5000);

@@ -1,5 +1,5 @@
 //! A session's list of commands, and its visits to a device, with ample memory: that each succeeds, and
-//! that a visit leaves nothing, so that the session may come again. No clause says that memory is there.
+//! that a visit leaves nothing, so that the session may be visited again. No clause says that memory is there.
 ghost use Rattle.std.specs.Prelude.{OnOk};
 ghost use Rattle.gpu_descriptor_types.specs.Side.{side};
 ghost use Rattle.gpu_descriptor.specs.Caller.States.{state_of};

@@ -1,4 +1,4 @@
--- What public clauses say beside the model: the allocator's value and its state, the call, sets, layouts, frees, flags, errors, views.
+-- What public clauses say in addition to the model: the allocator's value and its state, the call, sets, layouts, frees, flags, errors, views.
 pub mod Call
 pub mod Causes
 pub mod CleansUp

@@ -1,4 +1,4 @@
--- What the code's own contracts say, and by which rows an allocator's value is read off its table.
+-- What the code's own contracts say, and by which rows an allocator's value is read from its table.
 pub mod Buckets
 pub mod Grow
 pub mod Ids

@@ -1,4 +1,4 @@
-//! The allocator: a table from keys to their pools.
+//! The allocator: a table that maps keys to their pools.
 ghost use Rattle.std.specs.Prelude.{◌≡◌, ℕ};
 ghost use Rattle.gpu_descriptor_types.specs.Ledger.{Ledger};
 ghost use Rattle.gpu_descriptor.specs.Caller.States.{Agrees};
@@ -20,18 +20,17 @@ use std::ops::Range;
 
 /// Allocates descriptor sets for any layout.
 ///
-/// All calls of one allocator that take a device are made with the same one, and nobody else uses
-/// the pools that it created there.
+/// Every call takes the same device, and nobody else uses the pools that the allocator created there.
 ///
-/// Dropping it is silent and destroys no pool of the device: free all sets and call `cleanup`
-/// first. `outstanding` returns how many sets are still out.
+/// Dropping it is silent and destroys no pool of the device: free all sets and call `cleanup` first.
+/// `outstanding` says how many sets are still live.
 #[derive(Debug, Drop)]
 pub struct DescriptorAllocator<P, S> {
     alloc: Global,
     table: KeyTable<P>,
     max_update_after_bind_descriptors_in_all_pools: u32,
 
-    /// How many descriptors the outstanding sets of marked layouts have.
+    /// How many descriptors the live sets of marked layouts have.
     update_after_bind_descriptors: u32,
     outstanding: u64,
     budget: Budget,
@@ -57,6 +56,8 @@ impl<P, S> Model for DescriptorAllocator<P, S> {
       comparisons = a.comparisons.count;
     } };
 
+    // The totals are the sums over the table, so no reader walks it. The marked load is within the limit,
+    // so a marked layout without descriptors passes the test, as in the original crate.
     ghost invariant = { λ a. IsCounted a.max_update_after_bind_descriptors_in_all_pools
         a.update_after_bind_descriptors a.budget.room a.outstanding a.table.buckets.entries };
 }
@@ -74,12 +75,13 @@ impl<P, S> DescriptorAllocator<P, S> {
         )
     }
 
-    /// An allocator without keys, under a limit on the update-after-bind descriptors of all
-    /// outstanding sets, and of all pools for such sets. It allocates nothing.
+    /// An allocator without keys. `max_update_after_bind_descriptors_in_all_pools` limits the
+    /// descriptors of all live update-after-bind sets, and of all pools for such sets. It allocates no
+    /// memory.
     ///
-    /// The ids of its keys are taken from this range. Each set bears the id of its key, so sets of
-    /// allocators whose ranges are disjoint can be told apart. A request for a new key for which no
-    /// id is left is refused as out of host memory.
+    /// Its keys get their ids from this range. Each set bears the id of its key, so sets of allocators
+    /// with disjoint ranges can be told apart. When no id is left, a request for a new key fails with
+    /// `OutOfHostMemory`.
     pub fn with_ids(
         alloc: Global,
         max_update_after_bind_descriptors_in_all_pools: u32,
@@ -104,9 +106,8 @@ impl<P, S> DescriptorAllocator<P, S> {
         }
     }
 
-    /// From now on a new pool has at most `most` descriptors, unless what is wanting needs more: it
-    /// holds no more sets than have so many descriptors, or than are wanting if these are more. At
-    /// first, and with `None`, there is no such bound. Pools that exist stay.
+    /// Bounds a new pool to the sets that have at most `most` descriptors, or to the sets still needed
+    /// if these are more. `None`, as at first, removes the bound. Existing pools stay as they are.
     pub fn set_max_pool_descriptors(&mut self, most: Option<u64>)
         ensures value { self.new ≡ record self.old { most = most } }
         ensures agree { (name : P → ℕ) (ledger : Ledger) → Agrees name self.old ledger

@@ -21,21 +21,22 @@ mod trim;
 
 use std::collections::VecDeque;
 
-/// A pool, and what the books say of it.
+/// A pool, and its books.
 #[derive(Debug, Drop)]
 pub(crate) struct DescriptorPool<P> {
     pub(crate) raw: P,
 
-    /// Its number, which is greater than that of each older pool of its key.
+    /// Its number, greater than that of each older pool of its key.
     pub(crate) number: u64,
 
-    /// Number of sets that the pool was created for.
+    /// Number of sets that the pool was created for. After a refusal, `allocated` and `available` don't
+    /// add up to it.
     pub(crate) capacity: u32,
 
     /// Number of sets allocated from the pool.
     pub(crate) allocated: u32,
 
-    /// Number of places that are known to be free.
+    /// Number of free places that are known.
     pub(crate) available: u32,
 }
 
@@ -50,10 +51,10 @@ pub(crate) struct DescriptorBucket<P> {
 
     pub(crate) pools: VecDeque<DescriptorPool<P>>,
 
-    /// The ordinals of the pools with known free places, rising. There is capacity for those of all
-    /// pools. The newest pool's ordinal is its number, and each older one's is one less than that of
-    /// the pool after it: so it stays while pools go from the front and come at the back, and tells
-    /// the place.
+    /// The ordinals of the pools with known free places, rising, with capacity for those of all pools.
+    /// The newest pool's ordinal is its number; each older pool's is one less than that of the next
+    /// newer. A pool keeps its ordinal while pools leave at the front and are added at the back, and its
+    /// place follows from the ordinal.
     pub(crate) listed: VecDeque<u64>,
 
     /// Number of sets allocated from these pools.
@@ -105,7 +106,7 @@ fn first_ordinal_of<P>(pools: &VecDeque<DescriptorPool<P>>) -> u64
     next_number_of(pools) - pools.len() as u64
 }
 
-/// Whether a number and so many more would exceed 64 bits.
+/// Whether `number + count` would exceed 64 bits.
 pub(crate) fn would_exceed_64_bits(number: u64, count: u32) -> bool
     ensures { result ≡ nat_lt greatest_u64 (number + count) }
 {

@@ -3,15 +3,15 @@ ghost use Rattle.std.specs.Prelude.{⊤, [], ◌∷◌, codes};
 
 use bitflags::{Flag, Flags, bitflag_items};
 
-/// Flags of a layout, joined by `|`.
+/// Flags of a layout, combined by `|`.
 #[derive(Clone, Copy, Debug, PartialEq, Eq, Hash)]
 pub struct DescriptorSetLayoutCreateFlags(u32);
 
 bitflag_items! {
     impl DescriptorSetLayoutCreateFlags: u32 {
         /// Sets of this layout are allocated from pools with
-        /// `DescriptorPoolCreateFlags::UPDATE_AFTER_BIND`. Pass it if the layout was created with it,
-        /// and only then.
+        /// `DescriptorPoolCreateFlags::UPDATE_AFTER_BIND`. Pass it if, and only if, the layout was
+        /// created with it.
         const UPDATE_AFTER_BIND = 0x2;
     }
 }

@@ -1,4 +1,4 @@
-//! The keys under which pools are kept.
+//! The keys to which pools belong.
 ghost use Rattle.std.specs.Prelude.{◌≡◌, ◌<◌, ◌^◌, IsTrue};
 ghost use Rattle.gpu_descriptor_types.specs.Counts.{kinds};
 ghost use Rattle.gpu_descriptor.specs.Caller.Flags.{is_marked};
@@ -9,15 +9,15 @@ use crate::flags::DescriptorSetLayoutCreateFlags;
 use bitflags::Flags;
 use gpu_descriptor_types::DescriptorTotalCount;
 
-/// The counts of a layout, and whether it is marked as update-after-bind. Layouts of one key share
-/// pools.
+/// The counts of a layout, and whether it is marked as update-after-bind. Layouts with the same key
+/// share pools.
 #[derive(Clone, Copy, Debug, PartialEq, Eq, Hash)]
 pub(crate) struct BucketKey {
     pub(crate) counts: DescriptorTotalCount,
     pub(crate) marked: bool,
 }
 
-/// Whether two numbers are these. They are compared as one number of 64 bits.
+/// Whether two pairs of numbers are equal. Each is compared as one number of 64 bits.
 #[inline]
 fn are_same(low: u32, high: u32, other_low: u32, other_high: u32) -> bool
     ensures { IsTrue result → (low ≡ other_low) × (high ≡ other_high) }
@@ -26,7 +26,7 @@ fn are_same(low: u32, high: u32, other_low: u32, other_high: u32) -> bool
         == u64::from(other_low) + u64::from(other_high) * 4294967296
 }
 
-/// Whether counts are these. The `==` of `DescriptorTotalCount` reads them one by one.
+/// Whether two values have equal counts. The `==` of `DescriptorTotalCount` reads them one by one.
 #[inline]
 fn are_same_counts(a: &DescriptorTotalCount, b: &DescriptorTotalCount) -> bool
     ensures { IsTrue result → kinds a.now ≡ kinds b.now }
@@ -81,7 +81,7 @@ impl BucketKey {
         }
     }
 
-    /// Whether it is this key, in fewer instructions than `==`.
+    /// Whether two keys are equal, in fewer instructions than `==`.
     #[inline]
     pub(crate) fn is(&self, other: &BucketKey) -> bool
         ensures { IsTrue result → key_of self.now ≡ key_of other.now }
@@ -97,7 +97,7 @@ impl BucketKey {
         if self.marked { self.counts.total() } else { 0 }
     }
 
-    /// How many descriptors so many sets of the key have, if it is marked; else 0.
+    /// How many descriptors `sets` sets of the key have, if it is marked; else 0.
     #[inline]
     pub(crate) fn marked_descriptors_of_sets(&self, sets: u64) -> u64
         requires { set_descriptors (key_of self.now) sets < 2 ^ 64 }
@@ -106,8 +106,8 @@ impl BucketKey {
         sets * self.marked_descriptors_of_set()
     }
 
-    /// How many descriptors a pool of so many sets has, if the key is marked; else 0. A pool for
-    /// sets without descriptors has one.
+    /// How many descriptors a pool of `sets` sets has, if the key is marked; else 0. A pool for sets
+    /// without descriptors has one.
     #[inline]
     pub(crate) fn marked_descriptors_of_pool(&self, sets: u32) -> u32
         requires { pool_descriptors (key_of self.now) sets < 2 ^ 32 }

@@ -1,5 +1,5 @@
-//! The keys of an allocator, each with its pools, and the place of a key. A place is tried before it
-//! is used, so nothing rests on the hint.
+//! The keys of an allocator, each with its pools, and the search for a key. The hint may be wrong: a
+//! place is checked before it is used.
 ghost use Rattle.std.specs.Prelude.{◌≡◌, ◌+◌, ◌<◌, ◌^◌, ◌++◌, ℕ, IsTrue, MatchOption, None, Some, map};
 ghost use Rattle.std.specs.Prelude.{[], ◌∷◌, slice_get, true};
 ghost use Rattle.std.specs.List.{IsDistinct, IsDistinct-prop};
@@ -27,18 +27,18 @@ use std::alloc::Global;
 use std::collections::VecDeque;
 use std::ops::Range;
 
-/// The keys in the order in which they came, each with its pools.
+/// The keys in the order in which they were added, each with its pools.
 #[derive(Debug, Drop)]
 pub(crate) struct KeyTable<P> {
     pub(crate) buckets: IndexMap<BucketKey, DescriptorBucket<P>>,
 
-    /// The id of the next key. It never goes back, so no two keys ever share one.
+    /// The id of the next key. It never decreases, so no two keys ever share an id.
     pub(crate) next_id: u64,
 
-    /// No key gets this id, or one above it.
+    /// The end of the range of ids.
     pub(crate) end_id: u64,
 
-    /// The place of the key that was found last, which is a hint.
+    /// A hint: the place of the key that was found last.
     pub(crate) last: usize,
     ghost rising: { rises (stored_ids buckets.entries ++ next_id ∷ []) ≡ true },
     ghost distinct: { IsDistinct key_eq (stored_keys buckets.entries) } by { IsDistinct-prop key_eq
@@ -46,7 +46,7 @@ pub(crate) struct KeyTable<P> {
 }
 
 impl<P> KeyTable<P> {
-    /// A table without keys, which takes its ids from this range.
+    /// A table without keys, which takes its ids from this range. It allocates no memory.
     pub(crate) fn new(alloc: Global, ids: Range<u64>) -> Self
         ensures { result.buckets.entries ≡ [] }
     {
@@ -58,9 +58,9 @@ impl<P> KeyTable<P> {
         }
     }
 
-    /// The place of a key. It is hashed only if it is at none of three places: the one that was found last,
-    /// the one after it, and the first. These serve keys that are used in the order in which they first
-    /// came, again and again.
+    /// The place of a key. It is hashed only if it is at none of three places: that of the key found
+    /// last, the next one, and the first. These serve a program that uses its keys again and again in
+    /// the order in which they were added.
     #[inline]
     pub(crate) fn place_of_key(&self, key: &BucketKey) -> Option<usize>
         ensures place { MatchOption result
@@ -81,8 +81,8 @@ impl<P> KeyTable<P> {
         self.buckets.get_index_of(key)
     }
 
-    /// The place of the key with an id. If none of the three hints is right it is found by halves, since
-    /// the ids rise along the table.
+    /// The place of the key with an id. If none of the three hints is right it is found by binary
+    /// search, since ids rise along the table.
     #[inline]
     pub(crate) fn place_of_id(&self, id: u64) -> usize
         requires there { (i : ℕ) × (slice_get (stored_ids self.now.buckets.entries) i ≡ Some id) }
@@ -98,6 +98,7 @@ impl<P> KeyTable<P> {
         if self.has_id(0, id) {
             return 0;
         }
+        // A freed set has no counts to hash, and a map from ids would have to be updated as keys go.
         self.buckets.partition_point(|_key: &BucketKey, bucket: &DescriptorBucket<P>| bucket.id
             < id)
     }
@@ -126,7 +127,7 @@ impl<P> KeyTable<P> {
 }
 
 impl<P: Drop> KeyTable<P> {
-    /// Takes sets of a key. If the key is absent, it is appended, unless the outer result is an error.
+    /// Takes sets of a key. An absent key is appended, unless the outer result is an error.
     #[inline]
     pub(crate) fn serve<'k, L, S, D: DescriptorDevice<L, P, S>, K: SetPlaces<S>>(
         &mut self,

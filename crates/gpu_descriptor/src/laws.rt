@@ -1,6 +1,5 @@
-//! Laws of giving sets back and of cleaning up, over the books of an allocator and the ledger of a
-//! device, and of the types, which their derives keep. The functions do nothing: their contracts
-//! are the laws.
+//! Laws of freeing and cleaning up, over the books of an allocator and the ledger of a device, and laws
+//! of the types that their derives keep. The functions do nothing: their contracts are the laws.
 ghost use Rattle.std.specs.Prelude.{◌≡◌, ◌↔◌, ℕ, Bool, [], IsTrue, List, None, Some, false};
 ghost use Rattle.std.specs.Prelude.{slice_get, slice_index};
 ghost use Rattle.std.specs.Prelude.{flat_map, length, sum, true, ◌++◌, ◌+◌, ◌<◌, ◌≤◌, ◌⊎◌};
@@ -37,7 +36,7 @@ use crate::flags::DescriptorSetLayoutCreateFlags;
 use crate::view::PoolView;
 use std::hash::Hash;
 
-/// Sets that are freed in parts, and in any order, leave what they leave at once.
+/// Freeing sets in parts, in any order, has the same effect as freeing them at once.
 pub fn release_parts()
     ensures parts { (m n : List Item) (s : State) → Agree s → AreOutstanding (m ++ n) s → released n
         (released m s) ≡ released (m ++ n) s }
@@ -50,7 +49,7 @@ pub fn release_parts()
         → released m s ≡ released n s }
     ensures none { (s : State) → released [] s ≡ s }
 
-    // As many pools go in two parts as at once.
+    // Two parts destroy as many pools as one call for all.
     ensures pools_gone { (keys : List Key) (m n : List Item) (s : State) → Agree s → AreOutstanding
         (m ++ n) s → pools_gone keys m s + pools_gone keys n (released m s)
         ≡ pools_gone keys (m ++ n) s }
@@ -60,13 +59,13 @@ pub fn release_parts()
     ensures outstanding { (m : List Item) (s : State) → Agree s → AreOutstanding m s → (t : Item)
         → outstanding (released m s) t + count_of t m ≡ outstanding s t }
 
-    // Keys of which no set is freed keep their pools as they are.
+    // Keys without a freed set keep their pools as they are.
     ensures other_keys { (m : List Item) (s : State) → Agree s → (k : Key) → list_any
         (λ t. key_eq t.key k) m ≡ false → IsUntouched k s (released m s) }
 {}
 
-/// Cleaning up what was cleaned up, and trimming what was trimmed, changes nothing and destroys no
-/// pool. With nothing outstanding no pool of the books is left, there or in the ledger.
+/// Cleaning up again, or trimming again, changes nothing and destroys no pool. If no set is outstanding,
+/// no pool of the books is left, in the books or in the ledger.
 pub fn clean_again()
     ensures again { (everywhere : Bool) (s t u : State) → LosesEmpty everywhere s t → LosesEmpty
         everywhere t u → u ≡ t }
@@ -88,32 +87,34 @@ pub fn clean_again()
 {}
 
 /// If the pools of others are the same, by their names (`others_of`), each of them stays as it is and
-/// doesn't come into the books; and no pool is lost: a live pool that isn't in the books afterwards
-/// was another's before, and is as it was. So an allocator that has no pools, is used, and is cleaned
-/// up once all its sets are free leaves the ledger's pools exactly as they were. A new allocator has
-/// no pools; neither has one whose requests were refused before a pool came.
+/// doesn't enter the books. No pool is lost: a live pool that isn't in the books afterwards was
+/// another's before, and is as it was. So an allocator that has no pools, is used, and is cleaned up
+/// once all its sets are free leaves the ledger's pools exactly as they were. A new allocator has no
+/// pools, and so has one whose requests were all refused before a pool was created.
 pub fn no_pool_is_lost<P>()
     ensures others { (name : P → ℕ) (a b : Allocations P) (l m : Ledger) → others_of name b m
         ≡ others_of name a l → KeepsForeign (state_of name a l) (state_of name b m) }
+
+    // In reverse, since no test decides whether books, a function over all keys, name a pool.
     ensures lost { (name : P → ℕ) (a b : Allocations P) (l m : Ledger) → others_of name b m
         ≡ others_of name a l → KeepsForeign (state_of name b m) (state_of name a l) }
 
-    // At a cleanup empty pools go from the fronts alone: not everywhere, as at a trim.
+    // A cleanup destroys empty pools only at the fronts; a trim, everywhere.
     ensures restores { (s t u : State) → HasNoPools s → KeepsForeign s t → KeepsForeign t s → Agree t
         → ((i : Item) → outstanding t i ≡ 0) → LosesEmpty false t u → u.ledger ≡ s.ledger }
     ensures one_or_other { (name : P → ℕ) (a : Allocations P) (l : Ledger) → HasDistinctKeys
         (table_of name a) → (pool : ℕ) → IsNamed (state_of name a l) pool ⊎ IsForeign
         (state_of name a l) pool }
 
-    // All pools are others' where the allocator has no pools, as where it has no keys.
+    // If the allocator has no pools, or no keys, all pools are others'.
     ensures all_others { (name : P → ℕ) (a : Allocations P) (l : Ledger) → a.table ≡ [] → others_of
         name a l ≡ l.pools }
     ensures no_pools { (name : P → ℕ) (a : Allocations P) (l : Ledger) → HasNoPools
         (state_of name a l) → others_of name a l ≡ l.pools }
 {}
 
-/// Only a trim leaves gaps between the numbers of a key's pools. Without gaps a pool's place tells its
-/// number, and a release takes no comparison to find its pool by number.
+/// Only a trim leaves gaps between the numbers of a key's pools. Without gaps a pool's number gives its
+/// place, and a release finds its pool without a comparison.
 pub fn only_a_trim_leaves_gaps()
     ensures begins { (s : State) → HasNoPools s → HasNoGaps s }
     ensures requests { (c : Call) → Agree c.old → Allocates c → HasNoGaps c.old → HasNoGaps c.new }
@@ -132,19 +133,19 @@ pub fn books_alone()
         → ((k : Key) → books_of t k ≡ books_of u k) → sum_over f t ≡ sum_over f u }
 {}
 
-/// That books and ledger agree has one proof at most, so a struct that owns an allocator and its
-/// device can keep it as a ghost field, with `Agrees-prop` of `proofs.callers.OneAgreement` after
-/// `by`. Every list that spells a pool's live sets has as many sets as the books say.
+/// There is at most one proof that books and ledger agree, so a struct that owns an allocator and its
+/// device can keep it as a ghost field, with `Agrees-prop` of `proofs.callers.OneAgreement` after `by`.
+/// Every list that spells a pool's live sets has as many sets as the books say.
 pub fn agreement_is_one()
     ensures one { (s : State) → IsProp (Agree s) }
     ensures listed { (k : Key) (pool : Pool) (e : Entry) → IsAsBooked k pool e
         → (sets : List LiveSet) → Spells sets pool.live → length sets ≡ e.allocated }
 {}
 
-/// Where no key has two rows, the sets, the marked descriptors and the descriptors of marked keys'
-/// pools that an allocator's rows add up to are those of its books. Its books are its rows with
-/// the device's names for the pools, so readers say how many pools a key's books have, and what
-/// these say of each.
+/// If no key has two rows, an allocator's rows and its books add up to the same numbers of sets, of
+/// marked descriptors, and of descriptors of marked keys' pools. Its books are its rows with the
+/// device's names for the pools, so readers say how many pools a key's books have, and what these say of
+/// each.
 pub fn rows_add_up<P>()
     ensures out { (name : P → ℕ) (a : Allocations P) (l : Ledger) → HasDistinctKeys
         (table_of name a) → AddsUp sets_out (state_of name a l).books (outstanding_of a) }
@@ -156,9 +157,9 @@ pub fn rows_add_up<P>()
         ≡ named_bucket name (books_of a.table k) }
 {}
 
-/// Where books and ledger agree, the descriptors that count towards the limit for a marked key's
-/// pool are those that the device created it with. So they add up to what it created all pools of
-/// marked keys with, and no more descriptors of marked sets are out.
+/// If books and ledger agree, the descriptors that count towards the limit for a marked key's pool are
+/// those that the device created it with. So they add up to what it created all pools of marked keys
+/// with, and marked sets that are outstanding have no more.
 pub fn pools_have_their_load()
     ensures each { (s : State) (k : Key) (i : ℕ) (e : Entry) (pool : Pool) → Agree s → length
         k.counts ≡ 14 → k.marked ≡ true → slice_get (s.books k).pools i ≡ Some e → s.ledger e.pool
@@ -170,9 +171,9 @@ pub fn pools_have_their_load()
         marked → AddsUp bucket_load s.books pools → marked ≤ pools }
 {}
 
-/// Where books and ledger agree, as many sets are allocated by the books as are outstanding: a list
-/// has each set as often as it is outstanding, and each such list has so many. The marked load is
-/// the sum of the descriptors of its marked sets.
+/// If books and ledger agree, the number of sets that the books have as allocated is that of the
+/// outstanding sets: a list has each set as often as it is outstanding, and each such list has this
+/// length. The marked load is the sum of the descriptors of its marked sets.
 pub fn out_is_outstanding()
     ensures size { (s : State) (n : ℕ) → Agree s → AddsUp sets_out s.books n → ∥
         ((items : List Item) × (length items ≡ n)
@@ -185,27 +186,27 @@ pub fn out_is_outstanding()
         → marked_descriptors items ≡ n }
 {}
 
-/// Pools of the device that are none of the allocator's may come, go and change between its calls:
-/// books and ledger agree as before, and the same sets are outstanding.
+/// Between the allocator's calls, pools of the device that aren't the allocator's may be created,
+/// destroyed and changed: books and ledger agree as before, and the same sets are outstanding.
 pub fn others_are_free()
     ensures agrees { (s t : State) → ((k : Key) → IsUntouched k s t) → Agree s → Agree t }
     ensures outstanding { (s t : State) → ((k : Key) → IsUntouched k s t) → (i : Item) → outstanding
         t i ≡ outstanding s i }
 {}
 
-/// Of sets that are outstanding those of one key have one id.
+/// Outstanding sets of one key have one id.
 pub fn a_key_has_one_id()
     ensures one_id { (s : State) (t u : Item) → 0 < outstanding s t → 0 < outstanding s u → t.key
         ≡ u.key → t.id ≡ u.id }
 {}
 
-/// Keys and items are equal exactly where the tests by which they are counted say so.
+/// Keys and items are equal exactly if the tests by which they are counted say so.
 pub fn items_are_their_parts()
     ensures keys { (k l : Key) → IsTrue (key_eq k l) ↔ (k ≡ l) }
     ensures items { (s t : Item) → IsTrue (item_eq s t) ↔ (s ≡ t) }
 {}
 
-/// Flags of a layout are equal exactly where their bits are, and equal flags hash alike. A clone
+/// Flags of a layout are equal exactly if their bits are, and equal flags have equal hashes. A clone
 /// always succeeds, and is equal.
 pub fn flags_are_their_bits()
     ensures equal { (a b : LayoutFlags) → IsTrue (⟦<DescriptorSetLayoutCreateFlags as PartialEq>⟧.eq
@@ -219,16 +220,15 @@ pub fn flags_are_their_bits()
         ≡ ⟦<DescriptorSetLayoutCreateFlags as Hash>⟧.hash_input b }
 {}
 
-/// Errors of a request are equal exactly where they are the same case. A clone always succeeds, and
-/// is equal.
+/// Errors of a request are equal exactly if they are the same case. A clone always succeeds, and is
+/// equal.
 pub fn errors_are_their_cases()
     ensures equal { (a b : Error) → IsTrue (⟦<AllocationError as PartialEq>⟧.eq a b) ↔ (a ≡ b) }
     ensures clone { (a b : Error) → ⟦<AllocationError as Clone>⟧.is_clone a b → b ≡ a }
     ensures clone_succeeds { (a : Error) → ⟦<AllocationError as Clone>⟧.is_infallible a }
 {}
 
-/// Views of pools are equal exactly where their three numbers are. A clone always succeeds, and is
-/// equal.
+/// Views of pools are equal exactly if their three numbers are. A clone always succeeds, and is equal.
 pub fn views_are_their_numbers()
     ensures equal { (a b : View) → IsTrue (⟦<PoolView as PartialEq>⟧.eq a b)
         ↔ ((a.number ≡ b.number) × (a.allocated ≡ b.allocated) × (a.available ≡ b.available)) }

@@ -1,4 +1,4 @@
-//! A layout, with what a request of its sets takes beside it.
+//! A layout, with the counts and flags that a request for its sets needs.
 ghost use Rattle.std.specs.Prelude.{◌≡◌};
 ghost use Rattle.gpu_descriptor_types.specs.Counts.{kinds};
 ghost use Rattle.gpu_descriptor.specs.Caller.Flags.{is_marked};
@@ -8,7 +8,7 @@ use crate::flags::DescriptorSetLayoutCreateFlags;
 use crate::key::BucketKey;
 use gpu_descriptor_types::DescriptorTotalCount;
 
-/// A layout of a device, with the counts and the flags that it was made with.
+/// A layout of a device, with the counts and flags that it was created with.
 #[derive(Debug, Drop)]
 pub struct SetLayout<L> {
     pub layout: L,

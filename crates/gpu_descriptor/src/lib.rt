@@ -1,5 +1,5 @@
-//! A descriptor set allocator for Vulkan-like APIs: sets go out by layout from pools of a device, and
-//! each goes back to its own pool.
+//! A descriptor set allocator for Vulkan-like APIs. It allocates sets by layout from pools of a device,
+//! and frees each to its own pool.
 #![tactic(auto)]
 
 mod allocator;

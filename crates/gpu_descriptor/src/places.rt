@@ -1,4 +1,4 @@
-//! What a request puts its sets into.
+//! Where a request puts its sets.
 ghost use Rattle.std.specs.Prelude.{◌≡◌, ◌+◌, ◌-◌, ◌<◌, ◌≤◌, ◌∷◌, ◌++◌, [], List, ℕ};
 ghost use Rattle.std.specs.Prelude.{length, take, drop, IsOk, OnOk, ◌==◌, None};
 ghost use Rattle.std.specs.Prelude.{vec_len, vec_capacity};
@@ -17,7 +17,8 @@ use gpu_descriptor_types::DescriptorDevice;
 use std::alloc::AllocError;
 use std::vec::Vec;
 
-/// A list of sets, to which a request appends its sets.
+/// A list of sets, to which a request appends its sets. By it `allocate_into` and `allocate_one` share
+/// the path of `allocate`.
 pub(crate) trait SetPlaces<S> {
     /// The sets, in order, and how many more fit.
     ghost items: { Self → List (DescriptorSet S) };
@@ -28,7 +29,7 @@ pub(crate) trait SetPlaces<S> {
     fn count(&self) -> usize
         ensures { result ≡ length (items self.now) };
 
-    /// Makes room for so many more sets. It succeeds, and allocates nothing, if they fit already.
+    /// Makes room for `count` more sets. If they fit already, it succeeds and allocates no memory.
     fn make_room(&mut self, count: u32) -> Result<(), AllocError>
         ensures items { items self.new ≡ items self.old }
         ensures more { places self.old ≤ places self.new }
@@ -41,7 +42,7 @@ pub(crate) trait SetPlaces<S> {
         ensures items { items self.new ≡ items self.old ++ set ∷ [] }
         ensures places { places self.new + 1 ≡ places self.old };
 
-    /// Frees the sets after the first ones, as `free` does.
+    /// Frees all but the `first` first sets, as `free` does.
     fn free_after<L, P, D: DescriptorDevice<L, P, S>>(
         &mut self,
         first: usize,
@@ -70,7 +71,7 @@ impl<S: Drop> SetPlaces<S> for Vec<DescriptorSet<S>> {
         self.len()
     }
 
-    /// A vector without memory gets as much as is asked for, and no more.
+    /// A vector without memory gets room for `count` sets, and no more.
     #[inline]
     fn make_room(&mut self, count: u32) -> Result<(), AllocError> {
         if self.capacity() == 0 {

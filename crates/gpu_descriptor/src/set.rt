@@ -1,4 +1,4 @@
-//! Sets that were handed out.
+//! The allocator's live sets.
 ghost use Rattle.std.specs.Prelude.{◌≡◌, ◌&&◌, nat_le, nat_lt};
 ghost use Rattle.std.specs.Borrow.{sem};
 ghost use Rattle.gpu_descriptor.specs.Caller.SetLends.{LendsRaw};
@@ -8,8 +8,8 @@ ghost use Rattle.gpu_descriptor.specs.Caller.Sets.{id_of, raw_of};
 use crate::set_key::SetKey;
 use std::ops::Range;
 
-/// A descriptor set from the allocator. It stays outstanding until it is given to `free`, also
-/// if it is dropped.
+/// A descriptor set from the allocator. It stays live until it is given to `free`, even if it is
+/// dropped.
 #[must_use = "it stays allocated until it is freed"]
 #[derive(Debug, Drop)]
 pub struct DescriptorSet<S> {
@@ -38,7 +38,7 @@ impl<S> DescriptorSet<S> {
     ///
     /// # Safety
     ///
-    /// The raw set must not be replaced by another: `free` would give that one back to the device.
+    /// Don't replace the raw set by another: `free` would free that one on the device.
     #[must_use]
     pub fn raw_mut(&mut self) -> &mut S
         ensures* writes_back { sem 𝓛 (LendsRaw S.row self.entry result) }
@@ -47,8 +47,8 @@ impl<S> DescriptorSet<S> {
         &mut self.raw
     }
 
-    /// Whether the id of its key is in this range. All sets of an allocator that was made with these
-    /// ids have theirs there.
+    /// Whether the id of its key is in this range, as for all sets of an allocator that was made with
+    /// these ids.
     #[must_use]
     pub fn has_id_in(&self, ids: &Range<u64>) -> bool
         ensures { result ≡ (nat_le ids.now.start (id_of self.now) && nat_lt (id_of self.now)
@@ -57,7 +57,7 @@ impl<S> DescriptorSet<S> {
         ids.start <= self.id && self.id < ids.end
     }
 
-    /// Whether it lies under the key with this id in the pool with this number.
+    /// Whether it is from the pool with this number, under the key with this id.
     #[tactic(auto, unfolding(crate::specs::Inner::RunSteps::at_place))]
     pub(crate) fn is_at(&self, id: u64, number: u64) -> bool
         ensures { result ≡ at_place id number self.now }

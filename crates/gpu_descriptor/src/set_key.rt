@@ -1,4 +1,4 @@
-//! The key of a set that was handed out, for contracts.
+//! The key of a live set, for contracts.
 ghost use Rattle.std.specs.Prelude.{◌≡◌};
 ghost use Rattle.std.specs.Borrow.{ftrue};
 ghost use Rattle.gpu_descriptor.specs.Model.Books.{Key};
@@ -6,7 +6,7 @@ ghost use Rattle.gpu_descriptor.specs.Model.Books.{Key};
 use crate::key::BucketKey;
 use std::marker::Model;
 
-/// The key under which a set went out, for contracts. It has no bytes.
+/// The key under which a set was allocated, for contracts. It has no bytes.
 #[derive(Debug, Drop)]
 pub(crate) struct SetKey {
     pub(crate) ghost is: { Key },
@@ -19,6 +19,7 @@ impl Model for SetKey {
 impl SetKey {
     ghost use Rattle.gpu_descriptor.specs.Inner.KeyOf.{key_of};
 
+    // Its proof is by hand, since no body can write ghost data.
     pub(crate) fn of(_key: &BucketKey) -> SetKey
         ensures { result.is ≡ key_of _key.now }
     {

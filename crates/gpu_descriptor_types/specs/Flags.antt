@@ -6,7 +6,7 @@ use Rattle.gpu_descriptor_types.specs.declared.flags.DescriptorPoolCreateFlags.{
 abbrev pub bits : DescriptorPoolCreateFlags → ℕ
 bits flags = flags.0
 
--- the bit of a pool whose sets may be freed singly
+-- the bit of a pool whose sets may be freed one at a time
 abbrev pub free_descriptor_set : ℕ
 free_descriptor_set = 1
 
@@ -14,7 +14,7 @@ free_descriptor_set = 1
 abbrev pub update_after_bind : ℕ
 update_after_bind = 2
 
--- those of a pool whose sets are freed singly, for sets of marked layouts or of others
+-- the flags of a pool whose sets are freed one at a time, for sets of marked layouts or of others
 abbrev pub pool_flags : Bool → ℕ
 pool_flags marked = if marked then free_descriptor_set + update_after_bind else free_descriptor_set
 

@@ -1,4 +1,4 @@
--- One layout, a number of times.
+-- The same layout for each set of a request.
 use Rattle.std.specs.Prelude.{ℕ, List, replicate}
 use Rattle.std.specs.Borrow.{Bor}
 use Rattle.gpu_descriptor_types.specs.declared.layouts.Layouts.{Layouts}
@@ -8,10 +8,10 @@ module _ {L : Type 0} where
   abbrev pub layout : Layouts L → L
   layout layouts = layouts.layout.now
 
-  -- how often it is still to come
+  -- how many are left
   abbrev pub left : Layouts L → ℕ
   left layouts = layouts.left
 
-  -- the references that are still to come
+  -- the references that are left
   abbrev pub to_come : Layouts L → List (Bor L)
   to_come layouts = replicate layouts.left layouts.layout

@@ -1,5 +1,4 @@
--- What a device owes: its live pools with their live sets, and how often each thing was done. What
--- each call requires of the ledger, and what it leaves.
+-- What a device owes: its live pools with their live sets, and how often each thing was done. What each call requires of the ledger, and what it leaves.
 use Rattle.std.specs.Prelude.{◌≡◌, ℕ, ◌+◌, ◌-◌, ◌*◌, ◌≤◌, List, ◌++◌, map, length, Bool, IsTrue, Option, Some, None, nat_eq, slice_index, sum_by, IfSome, All}
 use Rattle.std.specs.Map.{update}
 use Rattle.std.specs.Option.{option_map}
@@ -16,6 +15,7 @@ use Rattle.gpu_descriptor_types.specs.Multiset.{LiveSet, times, Spells, AreIn}
 pub record Pool : Type 0 where
   pub counts : List ℕ
   pub capacity : ℕ
+  -- their bits, so that the ledger doesn't depend on the type of flags
   pub flags : ℕ
   pub refusals : ℕ
   pub live : LiveSet → ℕ
@@ -57,7 +57,7 @@ after_create counts capacity flags name l = record {
   counters = record l.counters { created = l.counters.created + 1 };
 }
 
--- the counters after a create that was refused so
+-- the counters after a create that was refused with this error
 abbrev pub create_refused : CreatePoolError → Counters → Counters
 create_refused OutOfDeviceMemory n = record n { device_memory = n.device_memory + 1 }
 create_refused OutOfHostMemory n = record n { host_memory = n.host_memory + 1 }
@@ -85,21 +85,21 @@ after_alloc name sets l = record {
   counters = record l.counters { asked = l.counters.asked + 1 };
 }
 
--- the counters after an alloc that was refused so
+-- the counters after an alloc that was refused with this error
 abbrev pub alloc_refused : DeviceAllocationError → Counters → Counters
 alloc_refused alloc_error.OutOfDeviceMemory n = record n { asked = n.asked + 1; device_memory = n.device_memory + 1 }
 alloc_refused alloc_error.OutOfHostMemory n = record n { asked = n.asked + 1; host_memory = n.host_memory + 1 }
 alloc_refused alloc_error.FragmentedPool n = record n { asked = n.asked + 1; pool_refused = n.pool_refused + 1 }
 alloc_refused alloc_error.OutOfPoolMemory n = record n { asked = n.asked + 1; pool_refused = n.pool_refused + 1 }
 
--- how much such a refusal adds to those of the pool
+-- what a refusal with this error adds to those of the pool
 abbrev pub pool_refusals : DeviceAllocationError → ℕ
 pool_refusals alloc_error.OutOfDeviceMemory = 0
 pool_refusals alloc_error.OutOfHostMemory = 0
 pool_refusals alloc_error.FragmentedPool = 1
 pool_refusals alloc_error.OutOfPoolMemory = 1
 
--- the pool of this name was asked and refused, which counts among its refusals if it was as fragmented or full
+-- the pool of this name was asked and refused, which counts among its refusals if it was fragmented or full
 abbrev pub after_no_alloc : ℕ → DeviceAllocationError → Ledger → Ledger
 after_no_alloc name e l = record {
   pools = on_pool name (λ pool. record pool { refusals = pool.refusals + pool_refusals e }) l.pools;
@@ -127,12 +127,12 @@ pub record CanGive (name n : ℕ) (counts : List ℕ) (mark : Bool) (l : Ledger)
   pub is_live : l.pools name ≡ Some pool
   -- for sets of a marked layout the pool has the flag
   pub marked : IsTrue mark → IsUpdateAfterBind pool.flags
-  -- whatever list spells the live sets; if none does, nothing is required
+  -- for every list that spells the live sets; if there is none, nothing is required. No device therefore has to prove that its sets are finitely many
   pub places : (sets : List LiveSet) → Spells sets pool.live → length sets + n ≤ pool.capacity
   -- the pool has the descriptors of each kind that these and n more sets have
   pub each_kind : (sets : List LiveSet) → Spells sets pool.live → (k : ℕ) → sum_by (λ s. slice_index s.counts k) sets + n * slice_index counts k ≤ slice_index pool.counts k
 
--- the next item may be asked for, up to the end, which comes
+-- the iterator may be asked for the next item, up to its end, which it reaches
 abbrev pub CanDrain : {I : Type 0} → (I → Type 0) → (I → Count) → I → Type 0
 CanDrain can left i = can i × IsFinite (left i)
 
@@ -167,7 +167,7 @@ module _ {K S X : Type 0} (sink : Sink K S X) where
     pub many : length sets ≡ n
     -- each was made with the layout
     pub own : All (IsOfLayout means layout) sets
-    -- they come after what the sink had, it keeps further sets in the same way, and has room for as many fewer
+    -- they are after what the sink had. It keeps further sets in the same way, and has room for as many fewer
     pub kept : sink.kept new ≡ sink.kept old ++ map (sink.kept_as old) sets
     pub alike : sink.kept_as new ≡ sink.kept_as old
     pub room : sink.room new + n ≡ sink.room old
@@ -180,7 +180,7 @@ module _ {K S X : Type 0} (sink : Sink K S X) where
     pub room : sink.room new ≡ sink.room old
     pub ledger : after ≡ after_no_alloc name e before
 
--- the iterator gave its items, up to its end, and these have left the pool
+-- the iterator yielded its items, up to its end, and these have left the pool
 pub record Releases {I S : Type 0} (steps : I → Option S → I → Type 0) (set_name : S → ℕ) (name : ℕ) (old new : I) (before after : Ledger) : Type 0 where
   pub items : List S
   pub drained : YieldsThen steps old items None new

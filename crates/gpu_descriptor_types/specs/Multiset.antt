@@ -19,7 +19,7 @@ times sets x = count_by (λ y. set_eq y x) sets
 abbrev pub Spells : List LiveSet → (LiveSet → ℕ) → Type 0
 Spells sets live = (x : LiveSet) → times sets x ≡ live x
 
--- how many sets are live in all: as many as a list has that spells them
+-- how many sets are live in all: the length of a list that spells them
 abbrev pub HasSize : (LiveSet → ℕ) → ℕ → Type 0
 HasSize live n = (sets : List LiveSet) × (length sets ≡ n) × Spells sets live
 

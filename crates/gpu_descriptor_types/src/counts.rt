@@ -8,8 +8,8 @@ ghost use Rattle.gpu_descriptor_types.specs.Counts.{kinds};
 
 use std::hash::{Hash, Hasher};
 
-/// How many descriptors there are of each of the fourteen kinds: of one set of a layout, or of all
-/// sets of a pool together.
+/// How many descriptors of each of the fourteen kinds a set of a layout has, or all sets of a pool
+/// together.
 #[derive(Clone, Copy, Debug, PartialEq, Eq, Default)]
 pub struct DescriptorTotalCount {
     /// Samplers alone.
@@ -36,10 +36,10 @@ pub struct DescriptorTotalCount {
     /// Buffers that shaders read and write.
     pub storage_buffer: u32,
 
-    /// Uniform buffers of which the offset is given when the set is bound.
+    /// Uniform buffers whose offset is given when the set is bound.
     pub uniform_buffer_dynamic: u32,
 
-    /// Storage buffers of which the offset is given when the set is bound.
+    /// Storage buffers whose offset is given when the set is bound.
     pub storage_buffer_dynamic: u32,
 
     /// Attachments of a render pass that its shaders read.
@@ -48,7 +48,7 @@ pub struct DescriptorTotalCount {
     /// Acceleration structures, for ray tracing.
     pub acceleration_structure: u32,
 
-    /// Bytes of inline uniform blocks, whose data lie in the set itself.
+    /// Bytes of inline uniform blocks, whose data are in the set itself.
     pub inline_uniform_block_bytes: u32,
 
     /// Inline uniform blocks.
@@ -57,7 +57,7 @@ pub struct DescriptorTotalCount {
 
 impl DescriptorTotalCount {
     /// How many descriptors there are of all kinds together, at most 60129542130. Bytes of inline
-    /// uniform blocks count as descriptors. The limit is compared with this number.
+    /// uniform blocks count as descriptors. This number is compared with the limit.
     #[must_use]
     pub fn total(&self) -> u64
         ensures sum { result ≡ sum (kinds self.now) }
@@ -89,8 +89,8 @@ impl DescriptorTotalCount {
         ]
     }
 
-    /// Sets the count of one kind, by its place in the order of the fields. It returns whether there
-    /// is such a kind; past the fourteenth nothing changes.
+    /// Sets the count of one kind, by its place in the order of the fields. It returns whether there is
+    /// such a kind; `place` 14 and above change nothing.
     pub fn set_kind(&mut self, place: usize, count: u32) -> bool
         ensures kinds { kinds self.new ≡ slice_set (kinds self.old) place count }
         ensures known { result ≡ nat_lt place 14 }
@@ -132,7 +132,7 @@ fn joined(low: u64, high: u64) -> u128
     u128::from(low) + u128::from(high) * 18446744073709551616
 }
 
-/// Four counts at a time: the hasher of the tables multiplies once for each 16 bytes of a write.
+/// Four counts at a time: the tables' hasher multiplies once for each 16 bytes of a write.
 impl Hash for DescriptorTotalCount {
     ghost hash_input = { λ c. fed.u128 (c.sampler + c.combined_image_sampler * 2 ^ 32 +
         (c.sampled_image + c.storage_image * 2 ^ 32) * 2 ^ 64) ++ fed.u128

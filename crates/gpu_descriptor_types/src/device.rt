@@ -17,17 +17,17 @@ use crate::sink::SetSink;
 
 /// A device with layouts `L`, raw pools `P` and raw sets `S`.
 ///
-/// Each call that returns a `Result` may refuse whenever it likes.
+/// Each call that returns a `Result` may refuse at any time.
 pub trait DescriptorDevice<L, P, S> {
     /// What its values mean: the names of pools, sets and layouts, the counts and marks of layouts,
     /// and the layout of a set.
     ghost meaning: { Meaning L P S };
 
-    /// Its live pools, and what was done. Each call states by one equation what it leaves, so what that
-    /// doesn't name stays.
+    /// Its live pools, and how often each thing was done. Each call states in one equation what it
+    /// changes; the rest stays.
     ghost ledger: { Self → Ledger };
 
-    /// Creates a pool of at most `max_sets` sets, which together have at most these counts.
+    /// Creates a pool for at most `max_sets` sets, which together have at most these counts.
     fn create_descriptor_pool(
         &mut self,
         counts: &DescriptorTotalCount,
@@ -40,18 +40,20 @@ pub trait DescriptorDevice<L, P, S> {
             (bits flags) (meaning.pool_name pool) (ledger self.old)) }
         ensures err { IfErr result (λ e. ledger self.new ≡ after_no_create e (ledger self.old)) };
 
-    /// Destroys a pool without live sets. It can't be refused.
+    /// Destroys a pool without live sets. It can't fail.
     fn destroy_descriptor_pool(&mut self, pool: P)
         requires { HasNoSets (meaning.pool_name pool) (ledger self.old) }
         ensures { ledger self.new ≡ after_destroy (meaning.pool_name pool) (ledger self.old) };
 
-    /// Allocates a set for each layout and puts them into `sets`, all of them or none.
+    /// Allocates a set for each layout and puts them into `sets`, all or none.
     fn alloc_descriptor_sets<K: SetSink<S>>(
         &mut self,
         pool: &mut P,
         layouts: Layouts<'_, L>,
         sets: &mut K,
     ) -> Result<(), DeviceAllocationError>
+        // An impl has to repeat these clauses: the language hands none on to a method that takes
+        // `Layouts` by value.
         requires fits { CanPut K.sink (meaning.pool_name pool.old) (left layouts) (meaning.counts (layout
             layouts)) (meaning.mark (layout layouts)) sets.old (ledger self.old) }
         ensures name { meaning.pool_name pool.new ≡ meaning.pool_name pool.old }
@@ -60,9 +62,12 @@ pub trait DescriptorDevice<L, P, S> {
         ensures err { IfErr result (λ e. PutsNone K.sink (meaning.pool_name pool.old) e sets.old
             sets.new (ledger self.old) (ledger self.new)) };
 
-    /// Releases the sets that the iterator gives, up to its end. It can't be refused.
+    /// Frees the sets that the iterator yields, up to its end. It can't fail.
     fn dealloc_descriptor_sets<I: Iterator<Item = S>>(&mut self, pool: &mut P, sets: &mut I)
         requires ends { CanDrain I.can_next I.remaining sets.old }
+
+        // Of every list that the iterator may yield, the empty one too: an iterator of which nothing is
+        // known needs no further condition.
         requires live { HoldsAlong I.next_gives sets.old (λ xs. AreLive (meaning.pool_name pool.old)
             (map meaning.set_name xs) (ledger self.old)) }
         ensures name { meaning.pool_name pool.new ≡ meaning.pool_name pool.old }

@@ -1,5 +1,5 @@
-//! Laws of the types, which their derives and impls keep. The functions do nothing: their contracts
-//! are the laws.
+//! Laws of the types, which their derives and impls keep. The functions do nothing: their contracts are
+//! the laws.
 ghost use Rattle.std.specs.Prelude.{◌≡◌, ◌↔◌, IsTrue};
 ghost use Rattle.gpu_descriptor_types.specs.Counts.{kinds, no_counts};
 ghost use Rattle.gpu_descriptor_types.specs.Flags.{bits};
@@ -13,7 +13,7 @@ use crate::errors::{CreatePoolError, DeviceAllocationError};
 use crate::flags::DescriptorPoolCreateFlags;
 use std::hash::Hash;
 
-/// Counts are equal exactly where the fourteen are, and equal counts hash alike. A clone always
+/// Counts are equal exactly if the fourteen are, and equal counts have equal hashes. A clone always
 /// succeeds, and is equal.
 pub fn counts_are_their_kinds()
     ensures equal { (a b : Counts) → IsTrue (⟦<DescriptorTotalCount as PartialEq>⟧.eq a b)
@@ -26,7 +26,7 @@ pub fn counts_are_their_kinds()
         ≡ no_counts }
 {}
 
-/// Flags of a pool are equal exactly where their bits are. A clone always succeeds, and is equal.
+/// Flags of a pool are equal exactly if their bits are. A clone always succeeds, and is equal.
 pub fn flags_are_their_bits()
     ensures equal { (a b : PoolFlags) → IsTrue (⟦<DescriptorPoolCreateFlags as PartialEq>⟧.eq a b)
         ↔ (bits a ≡ bits b) }
@@ -36,7 +36,7 @@ pub fn flags_are_their_bits()
         a }
 {}
 
-/// Errors are equal exactly where they are the same case. A clone always succeeds, and is equal.
+/// Errors are equal exactly if they are the same case. A clone always succeeds, and is equal.
 pub fn errors_are_their_cases()
     ensures create_equal { (a b : CreateError) → IsTrue (⟦<CreatePoolError as PartialEq>⟧.eq a b)
         ↔ (a ≡ b) }

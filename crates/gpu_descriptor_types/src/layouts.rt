@@ -3,7 +3,7 @@ ghost use Rattle.std.specs.Prelude.{◌≡◌};
 ghost use Rattle.std.specs.Iterator.{YieldsFirst, item_count};
 ghost use Rattle.gpu_descriptor_types.specs.Layouts.{layout as layout_of, left as left_of, to_come};
 
-/// Gives the same layout a number of times: one for each set that is to be allocated.
+/// An iterator that yields the same layout for each set of a request.
 #[derive(Debug, Drop)]
 pub struct Layouts<'a, L> {
     layout: &'a L,
@@ -29,7 +29,7 @@ impl<'a, L> Layouts<'a, L> {
         self.layout
     }
 
-    /// How many are still to come.
+    /// How many are left.
     pub fn len(&self) -> u32
         ensures { result ≡ left_of self.now }
     {

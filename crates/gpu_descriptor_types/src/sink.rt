@@ -2,13 +2,13 @@
 ghost use Rattle.std.specs.Prelude.{◌≡◌, ◌+◌, ◌<◌, [], ◌∷◌, ◌++◌};
 ghost use Rattle.gpu_descriptor_types.specs.Ledger.{Sink};
 
-/// Takes sets, as long as some more fit.
+/// Takes sets, as long as more fit.
 pub trait SetSink<S> {
     /// What a sink keeps of a set.
     type Kept;
 
-    /// What it shows: what is kept of the sets that were put, in order, what would be kept of a
-    /// set, and how many more fit.
+    /// The sets that were put, in order, as the sink keeps them; what it would keep of a set; and how
+    /// many more fit.
     ghost sink: { Sink Self S Self.Kept };
 
     /// How many more sets fit.
@@ -17,8 +17,8 @@ pub trait SetSink<S> {
 
     /// Appends a set.
     fn put(&mut self, set: S)
-        // A device returns the borrowed sink in a state of which its caller knows what these clauses
-        // say. So they say the whole of it: what is kept of each set, and that this stays.
+        // Of the borrowed sink that a device returns, its caller knows only what these clauses say. So
+        // they say all: what is kept of each set, and that this stays.
         requires { 0 < sink.room self.old }
         ensures kept { sink.kept self.new ≡ sink.kept self.old ++ sink.kept_as self.old set ∷ [] }
         ensures alike { sink.kept_as self.new ≡ sink.kept_as self.old }

@@ -15,6 +15,7 @@ impl Model for Tally {
     ghost also_owns = { λ _. ftrue };
 }
 
+// Its functions have proofs by hand, since no body can write ghost data.
 impl Tally {
     pub fn zero() -> Tally
         ensures { result.count ≡ 0 }

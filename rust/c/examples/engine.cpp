@@ -1,9 +1,10 @@
-// An engine over the owners of gpu_descriptor.hpp, on the first Vulkan device: three frames in flight, four threads
-// that record, sets of materials, of draws and of all textures, levels that are streamed, layouts that are replaced.
-// Only begin_frame and frame_done say when a set is freed; no owner is told.
+// An engine over the owners of gpu_descriptor.hpp, on the first Vulkan device: three frames in flight, four
+// threads that record, sets of materials, of draws and of all textures, levels that are streamed, layouts
+// that are replaced. Only begin_frame and frame_done determine when a set is freed; no owner is told.
 //
-// The draws are dispatches, whose results are compared with what they must be. If the Khronos validation layer is
-// installed, it writes its messages to the standard output. The exit code is 3 if there is no driver or no device.
+// Draws are dispatches, whose results are compared with what they must be. If the Khronos validation layer is
+// installed, it writes its messages to the standard output. The exit code is 3 if there is no driver or no
+// device.
 #include "engine_shader.h"
 #include "gpu_descriptor.hpp"
 #include "gpu_descriptor_vulkan.h"
@@ -289,7 +290,7 @@ engine::engine() {
     gdv_device vulkan;
     require(gdv_load(&vulkan, gpu_.device, nullptr, vkGetDeviceProcAddr), "gdv_load");
     require(gdv_create(&vulkan, gpu_.limit, allocator_.put()), "gdv_create");
-    if (gpu_.has_layer) // it sees each set anew
+    if (gpu_.has_layer) // it sees each set again
         require(allocator_.set_max_kept(0), "keep");
     for (slot &it : slots_) {
         auto fence = info_of<VkFenceCreateInfo>(VK_STRUCTURE_TYPE_FENCE_CREATE_INFO);

@@ -1,4 +1,4 @@
-// Owners of sets over a device that only counts: the end of their scope lets sets wait for the current frame, and
+// Owners of sets over a device that only counts: when their scope ends, sets wait for the current frame, and
 // freed ones are kept. It checks the counts and prints them.
 #include "gpu_descriptor.hpp"
 
@@ -51,7 +51,7 @@ uint64_t outstanding(const gd::allocator &allocator) {
     return sets;
 }
 
-// One frame: sets of its own, which come back after it, and a material, whose last use it may be.
+// One frame: its own sets, which are freed after it, and a material that may be used in it for the last time.
 void draw(const gd::allocator &allocator, gd_layout layout, const gd::set &material, uint64_t number) {
     gd::frame frame(allocator, number);
     gd_set scratch[2];

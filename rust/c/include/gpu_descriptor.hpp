@@ -10,26 +10,26 @@
  *     gd::set set;
  *     allocator.allocate(layout, set);             // set.vk() is the VkDescriptorSet
  *     gd::frame frame(allocator, number);
- *     gd_set drawn;
- *     frame.allocate(layout, drawn);               // gd::vk_handle(drawn); the end of `frame` frees it after `number`
+ *     gd_set raw;
+ *     frame.allocate(layout, raw);                 // gd::vk_handle(raw); the end of `frame` frees it after `number`
  *     allocator.frame_done(number - 2);            // once the device is done with that frame
  *
- * What can fail is [[nodiscard]]; its statuses are left out above.
+ * Calls that can fail are [[nodiscard]]; the example leaves their statuses out.
  *
- * Owners are moved and not copied. The end of a gd::set or gd::sets, and new ones in its place, frees them after the
+ * Owners are moved and not copied. When a gd::set or gd::sets ends or gets new sets, its old ones are freed after the
  * frame that is current then (begin_frame), or after that of used_in. Without a begin_frame they wait for
  * frame_done(UINT64_MAX), when the device is idle, or until the allocator ends. free() frees at once what the device
  * no longer uses. The end of a gd::layout removes it. The end of a gd::allocator frees all of its sets, which the
- * device must no longer use, and destroys it; an owner that lives longer does nothing at its end. A gd::allocator
- * ends before vkDestroyDevice.
+ * device must no longer use, and destroys it; an owner that lives longer does nothing at its end. End a gd::allocator
+ * before vkDestroyDevice.
  *
- * If a set of a gd::sets or gd::frame was freed elsewhere, what ends it frees the others, and is GD_BAD_SET; the
- * owner is empty then. After any other failure it has all that weren't freed.
+ * If a set of a gd::sets or gd::frame was freed elsewhere, the call that ends the owner frees the others and returns
+ * GD_BAD_SET; then the owner is empty. After any other failure it has all that weren't freed.
  *
- * A destructor has no status. It waits for other threads' calls. If no call waits (GD_EXTERNALLY_SYNCHRONIZED, or a
- * library without std) and one of another thread runs, the sets stay outstanding until gd_free_all, the layout
- * stays, and the allocator isn't destroyed: so keep the lock that orders your calls while owners end. The same
- * happens in a function that the allocator calls: no owner may end there.
+ * A destructor has no status. It waits for other threads' calls. If calls don't wait (GD_EXTERNALLY_SYNCHRONIZED, or a
+ * library without std) and one of another thread runs, the sets stay live until gd_free_all, the layout stays, and the
+ * allocator isn't destroyed: so hold the lock that orders your calls while owners end. The same happens in a function
+ * that the allocator calls: no owner may end there.
  */
 #ifndef GPU_DESCRIPTOR_HPP
 #define GPU_DESCRIPTOR_HPP
@@ -41,14 +41,14 @@
 #include <new>
 #include <utility>
 
-/* VkDescriptorSet is a pointer to it, or a number: as Vulkan's header has it, which isn't included. */
+/* VkDescriptorSet is a pointer to this or a number, as in Vulkan's header, which isn't included. */
 struct VkDescriptorSet_T;
 
 namespace gd {
 
 /* The ABI's number, so that two shared objects over headers of two ABIs don't share a function. */
-inline namespace abi_3 {
-static_assert(GD_ABI == 3u, "the namespace has the number of the ABI");
+inline namespace abi_4 {
+static_assert(GD_ABI == 4u, "the namespace has the number of the ABI");
 
 /* The VkDescriptorSet of a set. Its name isn't vk, which is the namespace of vulkan.hpp. */
 #if defined(VK_USE_64_BIT_PTR_DEFINES) ? (VK_USE_64_BIT_PTR_DEFINES == 1) : (UINTPTR_MAX == UINT64_MAX)
@@ -73,8 +73,8 @@ struct set_range {
 };
 
 /*
- * Frees `count` sets by `call`. If one of them was freed elsewhere, they are freed one by one, and it is GD_BAD_SET.
- * After any other failure `count` is how many are left.
+ * Frees `count` sets by `call`. If one of them was freed elsewhere, they are freed one by one, and the status
+ * is GD_BAD_SET. After any other failure `count` is how many are left.
  */
 template <class Call> gd_status free_all_of(const gd_set *raw, uint32_t &count, Call call) noexcept {
     if (count == 0)
@@ -90,10 +90,11 @@ template <class Call> gd_status free_all_of(const gd_set *raw, uint32_t &count, 
     return status;
 }
 
-/* The frame after which an owner frees its sets: the current one, or another that it was given. */
+/* The frame after which an owner frees its sets: the current one, or the one of used_in. */
 class last_use {
   public:
-    /* The last use of the sets is in this frame, whichever is current at their end. The highest one counts. */
+    /* The sets were last used in this frame, whichever frame is current when they are freed. The highest one
+     * counts. */
     void used_in(uint64_t frame) noexcept {
         frame_ = is_used_ && frame_ > frame ? frame_ : frame;
         is_used_ = true;
@@ -112,7 +113,7 @@ class last_use {
 class set : public last_use {
   public:
     set() = default;
-    /* Takes the ownership of a set that gd_allocate returned, also one of many. */
+    /* Takes ownership of a set that gd_allocate returned, alone or with others. */
     set(gd_allocator allocator, gd_set raw) noexcept : allocator_(allocator), raw_(raw) {}
     set(const set &) = delete;
     set &operator=(const set &) = delete;
@@ -154,7 +155,7 @@ class set : public last_use {
         return reset();
     }
 
-    /* Gives up the ownership. */
+    /* Gives up ownership. */
     gd_set release() noexcept { return std::exchange(raw_, gd_set{}); }
 
   private:
@@ -190,7 +191,7 @@ class sets : public last_use {
     const gd_set *begin() const noexcept { return raw_.get(); }
     const gd_set *end() const noexcept { return raw_.get() + count_; }
 
-    /* As those of gd::set. */
+    /* Same as those of gd::set. */
     [[nodiscard]] gd_status reset() noexcept {
         return finish([this](const gd_set *raw, uint32_t count) noexcept {
             return free_when_done(allocator_, raw, count);
@@ -206,7 +207,7 @@ class sets : public last_use {
         return reset();
     }
 
-    /* gd_allocate. If it fails, nothing changed. */
+    /* gd_allocate. If it fails, nothing changes. */
     [[nodiscard]] gd_status allocate(gd_allocator allocator, gd_layout of, uint32_t count) noexcept {
         sets made;
         made.raw_.reset(new (std::nothrow) gd_set[count]);
@@ -245,11 +246,12 @@ class sets : public last_use {
 
 class allocator;
 
-/* One layout, or none. Its end removes it: before the driver's layout is destroyed, which is yours. */
+/* One layout, or none. Its end removes it. The driver's layout is yours: destroy it after that. */
 class layout {
   public:
     layout() = default;
-    /* Takes the ownership of a layout of gd_add_layout. Only one owner may have it, however often it was added. */
+    /* Takes ownership of a layout of gd_add_layout. Only one owner may have it, even if it was added more
+     * than once. */
     layout(gd_allocator allocator, gd_layout raw) noexcept : allocator_(allocator), raw_(raw) {}
     layout(const layout &) = delete;
     layout &operator=(const layout &) = delete;
@@ -268,7 +270,7 @@ class layout {
     operator gd_layout() const noexcept { return raw_; }
     explicit operator bool() const noexcept { return raw_.owner != 0; }
 
-    /* Removes what is here; then a function that adds a layout to this allocator writes it here. */
+    /* Removes the layout that is here, and returns where a function may write one that it adds to this allocator. */
     inline gd_layout *put(const allocator &of) noexcept;
 
     /* gd_remove_layout: sets of it stay valid until they are freed. It keeps the layout if that fails. */
@@ -281,7 +283,7 @@ class layout {
         return status;
     }
 
-    /* Gives up the ownership. */
+    /* Gives up ownership. */
     gd_layout release() noexcept { return std::exchange(raw_, gd_layout{}); }
 
   private:
@@ -310,7 +312,7 @@ class allocator {
     gd_allocator raw() const noexcept { return raw_; }
     explicit operator bool() const noexcept { return raw_.id != 0; }
 
-    /* Destroys what is here; then a function that creates an allocator writes it here. */
+    /* Destroys the allocator that is here, and returns where a function may write one that it creates. */
     gd_allocator *put() noexcept {
         (void)destroy();
         return &raw_;
@@ -372,7 +374,7 @@ class allocator {
         return status;
     }
 
-    /* Gives up the ownership. */
+    /* Gives up ownership. */
     gd_allocator release() noexcept { return std::exchange(raw_, gd_allocator{}); }
 
   private:
@@ -386,8 +388,7 @@ inline gd_layout *layout::put(const allocator &of) noexcept {
 }
 
 /*
- * The sets that are drawn in one frame. Its end, and the begin of another one, frees them all after the frame,
- * by one call.
+ * The sets of one frame. Its end, or begin(), frees them all after the frame, by one call.
  */
 class frame {
   public:
@@ -435,10 +436,10 @@ class frame {
         });
     }
 
-    /* Gives up the ownership of its sets. */
+    /* Gives up ownership of its sets. */
     void release() noexcept { count_ = 0; }
 
-    /* Ends this frame, and begins another one in its memory, unless sets are left: then it is still this one. */
+    /* Ends this frame, and begins another one in its memory. If sets are left, it stays this frame. */
     [[nodiscard]] gd_status begin(uint64_t number) noexcept {
         const gd_status status = end();
         if (count_ == 0)
@@ -506,7 +507,7 @@ template <uint32_t Refill = GD_CACHE_REFILL> class cache {
     gd_set places_[2 * Refill];
 };
 
-} // namespace abi_3
+} // namespace abi_4
 } // namespace gd
 
 #endif

@@ -8,16 +8,16 @@
  *     gd_cache_free(&cache, &set, 1);
  *     gd_cache_flush(&cache);
  *
- * It takes sets from the allocator and gives them back, many by one call, so that threads seldom wait for each other.
+ * It allocates and frees many sets by one call on the allocator, so that threads seldom wait for each other.
  * Only one thread at a time may use a cache; its calls may be GD_BUSY where those of the allocator are.
  *
- * Sets in a cache are outstanding: their pools stay, and gd_destroy is GD_OUTSTANDING. So flush all caches before
- * gd_cleanup, gd_remove_layout, gd_free_all and gd_destroy. Sets that wait for a frame don't go through a cache: free
- * them by gd_free_after, those of a frame and thread in one call.
+ * Sets in a cache are live: their pools stay, and gd_destroy is GD_OUTSTANDING. So flush all caches before
+ * gd_cleanup, gd_remove_layout, gd_free_all and gd_destroy. A set that has to wait for a frame doesn't go into
+ * a cache: free it by gd_free_after, all sets of a frame and thread in one call.
  *
- * The allocator checks sets as it gets them back, and not before. So a set that is freed twice into caches, or into
- * one of another layout, may be allocated twice. With GD_CACHE_CHECKED, for a debug build, a set that is in the cache
- * already is GD_BAD_SET; that takes time for each set in the cache.
+ * The allocator checks sets only when the cache frees them. So a set that is freed twice into caches, or into
+ * one of another layout, may be allocated twice. With GD_CACHE_CHECKED, for a debug build, a set that is in the
+ * cache already is GD_BAD_SET; that takes time for each set in the cache.
  */
 #ifndef GPU_DESCRIPTOR_CACHE_H
 #define GPU_DESCRIPTOR_CACHE_H
@@ -26,10 +26,10 @@
 
 #include <string.h>
 
-/* How many sets a cache takes and gives back by one call, if you have no other number. */
+/* A usual number of sets that a cache allocates or frees by one call. */
 #define GD_CACHE_REFILL 64u
 
-/* The fields are the header's, but you may read 'count': how many sets are in it. */
+/* A cache. The fields are the header's, but you may read 'count': how many sets are in it. */
 typedef struct gd_cache {
     gd_allocator allocator;
     gd_layout layout;
@@ -39,10 +39,10 @@ typedef struct gd_cache {
 } gd_cache;
 
 /*
- * Begins a cache without sets. 'places' is an array of yours with 2 * 'refill' elements, which is in use until the
- * cache is flushed.
+ * Begins a cache without sets. 'places' is an array of yours with 2 * 'refill' elements, which is in use until
+ * the cache is flushed. 'refill' is how many sets it allocates or frees by one call.
  *
- * GD_NULL_POINTER; GD_BAD_COUNTS if 'refill' is 0, or has more than 31 bits.
+ * GD_NULL_POINTER; GD_BAD_COUNTS if 'refill' is 0 or exceeds 31 bits.
  */
 GD_INLINE gd_status gd_cache_init(gd_cache *cache, gd_allocator allocator, gd_layout layout, gd_set *places,
                                   uint32_t refill) {
@@ -58,7 +58,7 @@ GD_INLINE gd_status gd_cache_init(gd_cache *cache, gd_allocator allocator, gd_la
     return GD_OK;
 }
 
-/* Takes so many sets out of the cache, which has them. */
+/* Takes 'count' sets, which are in the cache, out of it. */
 GD_INLINE void gd_cache_take(gd_cache *cache, uint32_t count, gd_set *sets) {
     cache->count -= count;
     for (uint32_t at = 0; at < count; at++)
@@ -66,8 +66,8 @@ GD_INLINE void gd_cache_take(gd_cache *cache, uint32_t count, gd_set *sets) {
 }
 
 /*
- * Fills an empty cache by one call. If that is refused for memory, the limit or the device, it asks for half as many,
- * and so on down to 'missing'.
+ * Fills an empty cache by one call. If that is refused for memory, the limit or the device, it asks for half as
+ * many, and so on down to 'missing'.
  */
 GD_INLINE gd_status gd_cache_fill(gd_cache *cache, uint32_t missing) {
     uint32_t count = cache->refill;
@@ -82,9 +82,10 @@ GD_INLINE gd_status gd_cache_fill(gd_cache *cache, uint32_t missing) {
 }
 
 /*
- * Allocates sets, all or none: those in the cache first. If they don't suffice, it is refilled by one gd_allocate, of
- * fewer sets if so many are refused; of as many as a refill or more it allocates those that are missing alone. If it
- * fails, 'sets' is zeroed, and the cache has what it had. A refusal frees kept sets as that of gd_allocate does.
+ * Allocates sets, all or none: those in the cache first. For the missing ones it refills the cache by one
+ * gd_allocate, of fewer sets if 'refill' sets are refused; if at least 'refill' are missing, it allocates just
+ * these. If it fails, 'sets' is zeroed, and the cache has what it had. A refusal frees kept sets, as in
+ * gd_allocate.
  *
  * The statuses of gd_allocate.
  */
@@ -111,12 +112,12 @@ GD_INLINE gd_status gd_cache_allocate(gd_cache *cache, uint32_t count, gd_set *s
     return status;
 }
 
-/* The id of the allocator of a set, which its three fields have together, as the library made them. */
+/* The id of a set's allocator, which the library encoded in the set's three fields. */
 GD_INLINE uint64_t gd_cache_id_of(const gd_set *set) {
     return set->owner ^ set->handle * UINT64_C(0x9e3779b97f4a7c15) ^ set->name * UINT64_C(0xc2b2ae3d27d4eb4f);
 }
 
-/* Whether a set may be put into the cache: it is of the allocator, and not there. */
+/* Whether a set may be put into the cache: it is of the allocator, and not in the cache yet. */
 GD_INLINE int gd_cache_may_have(const gd_cache *cache, const gd_set *sets, uint32_t at) {
 #ifdef GD_CACHE_CHECKED
     for (uint32_t other = 0; other < cache->count; other++)
@@ -130,12 +131,13 @@ GD_INLINE int gd_cache_may_have(const gd_cache *cache, const gd_set *sets, uint3
 }
 
 /*
- * Frees sets of the cache's layout into the cache, all or none, from whichever cache or gd_allocate they came. The
- * device must no longer use them. If it has no room, a refill goes back to the allocator by one gd_free; of as many
- * as a refill or more 'sets' themselves. If that is refused, the cache has what it had, and 'sets' are still yours.
+ * Frees sets of the cache's layout into the cache, all or none, even if they were allocated from another cache
+ * or by gd_allocate. The device must no longer use them. If the cache has no room, it first frees 'refill' of
+ * its sets by one gd_free; if 'sets' has at least 'refill' sets, it frees these by gd_free instead. If that is
+ * refused, the cache has what it had, and 'sets' are still yours.
  *
- * GD_BAD_SET also if a set is of another allocator. If a set of the cache itself was freed elsewhere, all calls
- * that need room are GD_BAD_SET, until gd_cache_flush. The statuses of gd_free.
+ * The statuses of gd_free. It is GD_BAD_SET too if a set is of another allocator. If a set of the cache itself
+ * was freed elsewhere, all calls that need room are GD_BAD_SET until gd_cache_flush.
  */
 GD_INLINE gd_status gd_cache_free(gd_cache *cache, const gd_set *sets, uint32_t count) {
     if (!cache || (!sets && count > 0))
@@ -158,7 +160,7 @@ GD_INLINE gd_status gd_cache_free(gd_cache *cache, const gd_set *sets, uint32_t 
 }
 
 /*
- * Gives all sets of the cache back by one gd_free. If one of them was freed elsewhere, it is GD_BAD_SET, the others
+ * Frees all sets of the cache by one gd_free. If one of them was freed elsewhere, it is GD_BAD_SET, the others
  * are freed, and the cache is empty. After any other failure it has all that weren't freed.
  *
  * The statuses of gd_free.

@@ -2,7 +2,7 @@
  * gpu_descriptor_vulkan.h: the device of gpu_descriptor.h for a VkDevice. Header only, for C11 and
  * C++17.
  *
- *     gdv_device vulkan;                                  // is copied
+ *     gdv_device vulkan;                                  // gdv_create copies it
  *     gdv_init(&vulkan, device, NULL);
  *     gdv_create(&vulkan, limit, &allocator);
  *     gdv_add_layout(allocator, layout, &layout_info, &known);
@@ -11,14 +11,13 @@
  *     gd_free(allocator, sets, 2);                        // or gd_free_after and gd_frame_done
  *     gd_destroy(allocator);                              // before vkDestroyDevice
  *
- * All else is gpu_descriptor.h. Vulkan's own rules on threads hold as well: nobody else may use the
- * pools, which are known to the library alone.
+ * For all other calls see gpu_descriptor.h. Vulkan's own rules on threads hold as well: nobody else may use
+ * the pools, which only the library knows.
  *
  * With VK_NO_PROTOTYPES gdv_init takes the functions by their names from where it is called, as volk has them,
- * and is GD_NULL_POINTER if one of them is NULL.
- * gdv_load asks vkGetDeviceProcAddr for them.
+ * and is GD_NULL_POINTER if one of them is NULL. gdv_load asks vkGetDeviceProcAddr for them.
  *
- * The header allocates nothing: the arrays of a call are the library's.
+ * The header allocates no memory: the arrays of a call are the library's.
  */
 #ifndef GPU_DESCRIPTOR_VULKAN_H
 #define GPU_DESCRIPTOR_VULKAN_H
@@ -56,8 +55,8 @@ typedef struct gdv_device {
 
 /*
  * The status for a result of the driver. VK_ERROR_OUT_OF_POOL_MEMORY, VK_ERROR_FRAGMENTED_POOL and
- * VK_ERROR_FRAGMENTATION of an existing pool end no request: the next pool is asked. An error that has no
- * status, as VK_ERROR_UNKNOWN, is GD_BAD_RESULT.
+ * VK_ERROR_FRAGMENTATION of an existing pool don't end a request: the next pool is asked. An error without a
+ * status, such as VK_ERROR_UNKNOWN, is GD_BAD_RESULT.
  */
 GD_INLINE gd_status gdv_reason(VkResult result) {
     switch (result) {
@@ -80,8 +79,8 @@ GD_INLINE gd_status gdv_reason(VkResult result) {
 }
 
 /*
- * The result for a status of gpu_descriptor.h, as vkAllocateDescriptorSets may return it, or as the driver
- * returned it (VK_ERROR_DEVICE_LOST). Mistakes, such as GD_BAD_SET, are VK_ERROR_UNKNOWN.
+ * The result for a status of gpu_descriptor.h: one that vkAllocateDescriptorSets may return, or what the driver
+ * returned (VK_ERROR_DEVICE_LOST). Mistakes, such as GD_BAD_SET, are VK_ERROR_UNKNOWN.
  */
 GD_INLINE VkResult gdv_result(gd_status status) {
     switch (status) {
@@ -114,7 +113,7 @@ GD_INLINE VkResult gdv_result(gd_status status) {
 #define GDV_NUMBER(handle) ((uint64_t)(uintptr_t)(handle))
 #endif
 
-/* Casts, as either language has them. */
+/* Casts of each language. */
 #ifdef __cplusplus
 #define GDV_CAST(type, value) (static_cast<type>(value))
 #else
@@ -146,9 +145,9 @@ GD_INLINE uint32_t gdv_kind(VkDescriptorType type) {
 }
 
 /*
- * What a driver is asked for. Bytes of an inline uniform block are a multiple of 4, and a driver may round those of
- * a block, or of a set, up to a multiple of 16 without having allowed for it: SwiftShader's pool then holds fewer
- * sets than it was made for. So it is asked for 12 bytes more for each block.
+ * What a driver is asked for. A block's bytes are a multiple of 4, but a driver may round those of a block, or
+ * of a set, up to a multiple of 16 without having allowed for it: SwiftShader's pool then has fewer sets than
+ * it was created for. So it is asked for 12 more bytes for each block.
  */
 GD_INLINE uint32_t gdv_pool_size(const gd_pool_info *pool_info, uint32_t kind) {
     const uint32_t padding = 12, count = pool_info->counts[kind];
@@ -231,14 +230,14 @@ GD_INLINE gd_status gdv_allocate_variable_sets(void *user, uint64_t pool, uint32
 GD_INLINE void gdv_free_sets(void *user, uint64_t pool, uint32_t count,
                                  const uint64_t *sets) GD_NOEXCEPT {
     const gdv_device *it = GDV_CAST(const gdv_device *, user);
-    /* It returns VK_SUCCESS, always. */
+    /* It always returns VK_SUCCESS. */
     (void)it->free_sets(it->device, GDV_HANDLE(VkDescriptorPool, pool), count,
                         GDV_CAST(const VkDescriptorSet *, GDV_CAST(const void *, sets)));
 }
 
 /* ---- your calls ---- */
 
-/* Whether it is there with all functions. */
+/* Whether the device is there with all its functions. */
 GD_INLINE gd_status gdv_check(const gdv_device *vulkan) {
     return vulkan && vulkan->create_pool && vulkan->destroy_pool && vulkan->allocate_sets && vulkan->free_sets
                ? GD_OK
@@ -262,7 +261,8 @@ GD_INLINE gd_status gdv_set(gdv_device *vulkan, VkDevice device, const VkAllocat
     return gdv_check(vulkan);
 }
 
-/* The same with the functions that have Vulkan's names where it is called: volk's are NULL until it loaded them. */
+/* Same as gdv_set, with the functions of Vulkan's names at the place of the call: volk's are NULL until it
+ * loaded them. */
 #ifdef VK_NO_PROTOTYPES
 #define gdv_init(vulkan, device, callbacks)                                                              \
     gdv_set(vulkan, device, callbacks, vkCreateDescriptorPool, vkDestroyDescriptorPool,                  \
@@ -281,7 +281,7 @@ GD_INLINE gd_status gdv_init(gdv_device *vulkan, VkDevice device,
 #define GDV_FUNCTION(name, load, device) ((PFN_##name)load(device, #name))
 #endif
 
-/* The same with the functions that vkGetDeviceProcAddr gives, which is 'load'. */
+/* Same as gdv_set, with the functions that 'load' returns, which is vkGetDeviceProcAddr. */
 GD_INLINE gd_status gdv_load(gdv_device *vulkan, VkDevice device,
                                  const VkAllocationCallbacks *callbacks, PFN_vkGetDeviceProcAddr load) {
     if (!load)
@@ -306,7 +306,7 @@ GD_INLINE gd_device gdv_functions(gdv_device *vulkan) {
     return device;
 }
 
-/* What an allocator has inside: a copy of a gdv_device and of its callbacks. */
+/* What an allocator stores: a copy of a gdv_device and of its callbacks. */
 typedef struct gdv_copy {
     gdv_device vulkan;
     VkAllocationCallbacks callbacks;
@@ -332,12 +332,12 @@ GD_INLINE void gdv_destroy_pool_inside(void *user, uint64_t pool) GD_NOEXCEPT {
 }
 
 /*
- * Creates an allocator for a VkDevice. 'limit' is the device's maxUpdateAfterBindDescriptorsInAllPools, or its
- * part of that (gd_create_with_copy); without update-after-bind layouts it doesn't matter. The bytes that a driver
- * is asked for beyond those of inline uniform blocks don't count against it. 'flags' are those of
+ * Creates an allocator for a VkDevice. 'limit' is the device's maxUpdateAfterBindDescriptorsInAllPools, or this
+ * allocator's part of it (see gd_create_with_copy); without update-after-bind layouts it doesn't matter. The
+ * padding of inline uniform blocks (gdv_pool_size) doesn't count against it. 'flags' are those of
  * gd_create_with_flags. 'vulkan' and its callbacks are copied.
  *
- * GD_NULL_POINTER, also if a function of 'vulkan' is NULL; GD_BAD_FLAGS, GD_OUT_OF_HOST_MEMORY,
+ * GD_NULL_POINTER, even if only a function of 'vulkan' is NULL; GD_BAD_FLAGS, GD_OUT_OF_HOST_MEMORY,
  * GD_BAD_VERSION.
  */
 GD_INLINE gd_status gdv_create_with_flags(const gdv_device *vulkan, uint32_t limit, uint32_t flags,
@@ -363,12 +363,12 @@ GD_INLINE gd_status gdv_create_with_flags(const gdv_device *vulkan, uint32_t lim
     return gd_allocator_set_allocate_variable_sets(*allocator, gdv_allocate_variable_sets); /* nobody else has it yet */
 }
 
-/* The same without flags. */
+/* Same as gdv_create_with_flags with 'flags' 0. */
 GD_INLINE gd_status gdv_create(const gdv_device *vulkan, uint32_t limit, gd_allocator *allocator) {
     return gdv_create_with_flags(vulkan, limit, 0, allocator);
 }
 
-/* The place of the binding that has a variable count; UINT32_MAX if none has. */
+/* The index of the binding that has a variable count; UINT32_MAX if none has. */
 GD_INLINE uint32_t gdv_variable_binding(const VkDescriptorSetLayoutCreateInfo *info) {
     const VkBaseInStructure *next = GDV_CAST(const VkBaseInStructure *, info->pNext);
     for (; next; next = next->pNext) {
@@ -383,7 +383,8 @@ GD_INLINE uint32_t gdv_variable_binding(const VkDescriptorSetLayoutCreateInfo *i
     return UINT32_MAX;
 }
 
-/* Counts a layout of which a binding, or none with UINT32_MAX, has 'variable_count' descriptors. */
+/* Counts a layout whose binding of this index has 'variable_count' descriptors. UINT32_MAX stands for no
+ * binding. */
 GD_INLINE gd_status gdv_count_bindings(const VkDescriptorSetLayoutCreateInfo *info, uint32_t variable_binding,
                                        uint32_t variable_count, uint32_t counts[GD_KINDS], uint32_t *flags) {
     memset(counts, 0, GD_KINDS * sizeof *counts);
@@ -408,13 +409,13 @@ GD_INLINE gd_status gdv_count_bindings(const VkDescriptorSetLayoutCreateInfo *in
 /*
  * Counts the descriptors of one set of a layout: 'counts' and 'flags' for gd_add_layout.
  *
- * A sampler with YCbCr conversion may need several descriptors
- * (VkSamplerYcbcrConversionImageFormatProperties): then add to the counts and call gd_add_layout.
+ * A sampler with YCbCr conversion may need several descriptors (VkSamplerYcbcrConversionImageFormatProperties):
+ * then add to the counts and call gd_add_layout.
  *
- * GD_BAD_COUNTS for a type that has no kind, a count past 32 bits, a binding with a variable count, and
- * other flags than update-after-bind: push descriptors, descriptor buffers, host-only layouts. A mutable type has no
- * kind, since its sets come only from pools with descriptors of VK_DESCRIPTOR_TYPE_MUTABLE_EXT, whatever counts of
- * other types they have.
+ * GD_BAD_COUNTS for a type that has no kind, a count above 32 bits, a binding with a variable count, and flags
+ * other than update-after-bind: push descriptors, descriptor buffers, host-only layouts. A mutable type has no
+ * kind, since its sets need pools with descriptors of VK_DESCRIPTOR_TYPE_MUTABLE_EXT, whatever counts of other
+ * types they have.
  */
 GD_INLINE gd_status gdv_count(const VkDescriptorSetLayoutCreateInfo *info,
                                   uint32_t counts[GD_KINDS], uint32_t *flags) {
@@ -423,9 +424,9 @@ GD_INLINE gd_status gdv_count(const VkDescriptorSetLayoutCreateInfo *info,
 }
 
 /*
- * The same for sets with so many descriptors in the binding with a variable count.
+ * Same as gdv_count, for sets with 'variable_count' descriptors in the binding with a variable count.
  *
- * GD_BAD_COUNTS also if no binding has a variable count, or if that has fewer descriptors.
+ * GD_BAD_COUNTS too if no binding has a variable count, or if that has fewer descriptors.
  */
 GD_INLINE gd_status gdv_count_variable(const VkDescriptorSetLayoutCreateInfo *info, uint32_t variable_count,
                                        uint32_t counts[GD_KINDS], uint32_t *flags) {
@@ -451,9 +452,9 @@ GD_INLINE gd_status gdv_add_layout(gd_allocator allocator, VkDescriptorSetLayout
 }
 
 /*
- * Adds a layout with a variable count: gdv_count_variable and gd_add_variable_layout, with the statuses of both. Each
- * set of it has 'variable_count' descriptors in that binding, and costs no more. A layout may be added with several
- * counts, which are layouts of their own: remove each before you destroy it.
+ * Adds a layout with a variable count: gdv_count_variable and gd_add_variable_layout, with the statuses of
+ * both. Each of its sets has 'variable_count' descriptors in that binding, and costs no more. A layout may be
+ * added with several counts, which are layouts of their own: remove each before you destroy it.
  */
 GD_INLINE gd_status gdv_add_variable_layout(gd_allocator allocator, VkDescriptorSetLayout layout,
                                             const VkDescriptorSetLayoutCreateInfo *info, uint32_t variable_count,

@@ -1,4 +1,4 @@
-// What the layer knows of a device: its layouts, pools and sets, and what they took.
+// What the layer stores of a device: its layouts, pools and sets, and what they took.
 #ifndef GPU_DESCRIPTOR_LAYER_DEVICE_HPP
 #define GPU_DESCRIPTOR_LAYER_DEVICE_HPP
 

@@ -1,5 +1,4 @@
-// What the loader asks: instances, devices, and the functions that the layer has in place of
-// others.
+// What the loader asks: instances, devices, and the functions that the layer replaces.
 #include "device.hpp"
 
 #include <atomic>

@@ -1,5 +1,4 @@
-// Sets: each is the library's, or of the program's own pool if the library doesn't serve its
-// request.
+// Sets: each is the library's, or of the program's own pool if the library doesn't support its request.
 #include "device.hpp"
 
 #include <vector>

@@ -4,10 +4,10 @@ use crate::slot::GdAllocator;
 use core::ffi::{CStr, c_void};
 
 /// `GD_ABI`, which names the shared library, too.
-pub const ABI: u64 = 3;
+pub const ABI: u64 = 4;
 
 /// `GD_ABI_FINGERPRINT`.
-pub const HEADER: u64 = (size_of::<GdLayoutStatistics>() as u64) << 56
+pub const FINGERPRINT: u64 = (size_of::<GdLayoutStatistics>() as u64) << 56
     | ABI << 48
     | (size_of::<GdStatistics>() as u64) << 40
     | (size_of::<GdDevice>() as u64) << 32

@@ -1,8 +1,8 @@
-//! An allocator: a set manager over the host's device.
+//! An allocator for C: a set manager over the host's device.
 //!
-//! Sets, their names and their frames are the set manager's, of which it is proved that a name leads to one
-//! set, that a set is freed once, and that a name leads to one layout. What is added here is the form that
-//! they have in C, and that a layout is known by the host's handle.
+//! The set manager handles sets, their names and their frames. It is proved that a name belongs to one set,
+//! that a set is freed once, and that a name belongs to one layout. This module adds the form that they have
+//! in C, and finds a layout by the host's handle.
 
 use crate::abi::{AllocateVariableSets, GdLayout, GdSet, GdStatus};
 use crate::descriptor_manager::{FreeError, LayoutHandle, RequestError, SetManager};
@@ -32,11 +32,11 @@ pub struct Allocator {
     /// The layouts, by the host's handles.
     known: Known,
 
-    /// The host's current frame. Before the first it is one that no device is done with.
+    /// The host's current frame. Before the first frame it is one that no device is done with.
     frame: u64,
 }
 
-/// The host's handle of a known layout, by its name.
+/// Returns the host's handle of a known layout by its name.
 fn by_name(id: u64, manager: &HostManager) -> impl Fn(u64) -> u64 {
     move |name| {
         let it = manager.layout(layout_of(id, name));
@@ -45,7 +45,7 @@ fn by_name(id: u64, manager: &HostManager) -> impl Fn(u64) -> u64 {
 }
 
 impl Allocator {
-    /// It allocates nothing.
+    /// An allocator without layouts and sets. It allocates no memory.
     pub fn new(id: u64, device: HostDevice, limit: u32) -> Self {
         let mut manager = SetManager::new(Global, device, limit, id);
         // The host counts its frames itself: each may be the last use of a set.
@@ -60,7 +60,7 @@ impl Allocator {
         }
     }
 
-    /// How many sets are outstanding: those that wait included, and those that are kept not.
+    /// How many sets are live: those that wait included, kept ones not.
     pub fn outstanding(&self) -> u64 {
         self.held as u64 + self.waiting()
     }
@@ -75,18 +75,18 @@ impl Allocator {
         self.manager.device().pools.count()
     }
 
-    /// Layouts of variable counts may be added from now on.
+    /// Sets the function that allocates sets of variable counts: from now on layouts with these may be added.
     pub fn set_allocate_variable_sets(&mut self, function: AllocateVariableSets) {
         let device = self.manager.device();
         device.allocate_variable_sets.set(Some(function));
     }
 
-    /// Calls this function for each pool that is created from now on.
+    /// Sets the function that is called for each new pool.
     pub fn set_pool_created(&mut self, function: Option<OnPoolCreated>) {
         self.manager.device().on_pool_created.set(function);
     }
 
-    /// Adds a layout. A known one with the same counts and flags keeps its index.
+    /// Adds a layout. One that was added before, with the same counts and flags, keeps its index.
     pub fn add_layout(
         &mut self,
         handle: HostLayout,
@@ -140,7 +140,7 @@ impl Allocator {
         Ok(name_of(slot))
     }
 
-    /// Removes a layout. It allocates nothing.
+    /// Removes a layout. It allocates no memory.
     pub fn remove_layout(&mut self, layout: GdLayout) -> GdStatus {
         let handle = layout_of(layout.owner, layout.index);
         let Ok(removed) = self.manager.remove_layout(handle) else {
@@ -152,7 +152,7 @@ impl Allocator {
         GdStatus::OK
     }
 
-    /// Allocates a set for each place of `sets`, and writes it there, or none.
+    /// Allocates a set for each place of `sets`, all or none, and writes it there.
     #[inline]
     pub fn allocate(&mut self, layout: GdLayout, sets: &mut [MaybeUninit<GdSet>]) -> GdStatus {
         self.manager.device().cause.set(GdStatus::OK);
@@ -166,7 +166,7 @@ impl Allocator {
         }
     }
 
-    /// The status of a request that was refused.
+    /// The status of a refused request.
     fn status_of(&self, error: RequestError) -> GdStatus {
         let cause = self.manager.device().cause.get();
         if cause != GdStatus::OK {
@@ -188,7 +188,7 @@ impl Allocator {
         self.held
     }
 
-    /// The status of a call by which all of these sets were let go, or none.
+    /// The status of a call that frees all of these sets, or lets them wait, or fails. Adjusts the held count.
     #[inline]
     fn let_go(&mut self, sets: &[GdSet], result: Result<(), FreeError>) -> GdStatus {
         if result.is_err() {
@@ -198,58 +198,57 @@ impl Allocator {
         GdStatus::OK
     }
 
-    /// Frees sets. It allocates nothing.
+    /// Frees sets. It allocates no memory.
     #[inline]
     pub fn free(&mut self, sets: &[GdSet]) -> GdStatus {
         let result = self.manager.free(sets);
         self.let_go(sets, result)
     }
 
-    /// Frees all sets, those that wait and those that are kept too. It allocates nothing.
+    /// Frees all sets, waiting and kept ones too. It allocates no memory.
     pub fn free_all(&mut self) {
         self.manager.free_all();
         self.held = 0;
     }
 
-    /// Lets sets wait for the end of a frame. It allocates nothing.
+    /// Frees sets once a frame is done. It allocates no memory.
     pub fn free_after(&mut self, sets: &[GdSet], frame: u64) -> GdStatus {
         let result = self.manager.free_after(sets, frame);
         self.let_go(sets, result)
     }
 
-    /// The current frame from now on.
+    /// Makes this frame the current one.
     pub fn begin_frame(&mut self, frame: u64) {
         self.frame = frame;
     }
 
-    /// Lets sets wait for the end of the current frame. It allocates nothing.
+    /// Frees sets once the current frame is done. It allocates no memory.
     pub fn free_after_current(&mut self, sets: &[GdSet]) -> GdStatus {
         self.free_after(sets, self.frame)
     }
 
-    /// Keeps or frees the sets that wait for this frame or an earlier one. It allocates nothing.
+    /// Keeps or frees the sets that wait for this frame or an earlier one. It allocates no memory.
     pub fn frame_done(&mut self, frame: u64) {
         self.manager.frame_done(frame);
     }
 
-    /// Keeps at most so many sets of a layout from now on. It allocates nothing.
+    /// Sets how many sets of a layout are kept at most. It allocates no memory.
     pub fn set_max_kept(&mut self, max: u32) {
         self.manager.set_max_kept(max);
     }
 
-    /// Bounds the descriptors of new pools from now on, but not if it is the greatest number. It allocates
-    /// nothing.
+    /// Bounds the descriptors of new pools; `u64::MAX` removes the bound. It allocates no memory.
     pub fn set_max_pool_descriptors(&mut self, max: u64) {
         let max = (max < u64::MAX).then_some(max);
         self.manager.set_max_pool_descriptors(max);
     }
 
-    /// Frees kept sets, and destroys empty pools. It allocates nothing.
+    /// Frees kept sets, and destroys empty pools. It allocates no memory.
     pub fn cleanup(&mut self) {
         self.manager.cleanup();
     }
 
-    /// Destroys all pools without sets. It allocates nothing.
+    /// Destroys all pools without sets. It allocates no memory.
     pub fn trim(&mut self) {
         self.manager.trim();
     }

@@ -23,17 +23,17 @@ pub struct HostLayout {
     pub variable: Option<u32>,
 }
 
-/// A pool of the host, and what it may have.
+/// A pool of the host, and what it can have.
 pub struct HostPool {
     handle: u64,
     size: PoolSize,
 }
 
-/// A `gd_device` of which no function is `NULL`.
+/// A `gd_device` without `NULL` functions.
 pub struct Host {
     user: *mut c_void,
 
-    /// What `user` leads to, if it is copied.
+    /// What `user` points to, if it is copied.
     #[allow(dead_code)]
     copied: Vec<u64>,
     create_pool: CreatePool,
@@ -46,7 +46,7 @@ pub struct Host {
 unsafe impl Send for Host {}
 
 impl Host {
-    /// `None` if a function is `NULL`. It allocates nothing.
+    /// `None` if a function is `NULL`. It allocates no memory.
     pub fn new(device: &GdDevice) -> Option<Self> {
         Some(Host {
             user: device.user,
@@ -62,11 +62,11 @@ impl Host {
         self.user.is_null()
     }
 
-    /// Copies so many bytes that `user` leads to, aligned as 64 bits are.
+    /// Copies `size` bytes that `user` points to. The copy is aligned as 64 bits are.
     ///
     /// # Safety
     ///
-    /// There are so many bytes.
+    /// `user` points to `size` bytes.
     pub unsafe fn copy_user(&mut self, size: usize) -> Result<(), AllocError> {
         let words = size.div_ceil(size_of::<u64>());
         self.copied
@@ -83,8 +83,8 @@ impl Host {
 
 /// A host, and memory for the handles of a call.
 ///
-/// A call has at most as many sets as the largest pool. So the memory is reserved before a pool is
-/// created, and no later call of the pool allocates.
+/// A call has at most the sets of the largest pool. This memory is reserved before a pool is created, so no
+/// later call of the pool allocates.
 pub struct HostDevice {
     host: Host,
 
@@ -99,22 +99,22 @@ pub struct HostDevice {
     layout: u64,
     filled: usize,
 
-    /// The host's function for sets of variable counts, once it gave one, and the counts of a call.
+    /// The host's function for sets of variable counts, if it was set, and the counts of a call.
     pub allocate_variable_sets: Cell<Option<AllocateVariableSets>>,
     variables: Vec<u32>,
 
-    /// The host's function for new pools, if it gave one.
+    /// The host's function for new pools, if it was set.
     pub on_pool_created: Cell<Option<OnPoolCreated>>,
 
     pub pools: PoolCounts,
 
-    /// Why a request was refused, if that is no reason of the allocator's: `DEVICE_LOST`, or `BAD_RESULT` for
-    /// an unknown status; else `OK`. It is refused as if an allocation of the host had failed.
+    /// Why a request was refused, if the allocator has no error for it: `DEVICE_LOST`, or `BAD_RESULT` for an
+    /// unknown status; else `OK`. The request is refused as if memory of the host had run out.
     pub cause: Cell<GdStatus>,
 }
 
 impl HostDevice {
-    /// It allocates nothing.
+    /// A device over a host. It allocates no memory.
     pub fn new(host: Host, lock: &'static Lock) -> Self {
         HostDevice {
             host,
@@ -131,13 +131,13 @@ impl HostDevice {
         }
     }
 
-    /// Calls a function of the host's.
+    /// Calls a function of the host.
     #[inline]
     fn call<R>(&self, function: impl FnOnce(&Host) -> R) -> R {
         self.lock.as_owner(|| function(&self.host))
     }
 
-    /// Reserves memory for the handles of so many sets.
+    /// Reserves memory for the handles of `sets` sets.
     #[inline]
     fn reserve(&mut self, sets: usize) -> Result<(), AllocError> {
         if sets <= self.layouts.len() {
@@ -147,7 +147,7 @@ impl HostDevice {
         }
     }
 
-    /// The layouts grow last: `reserve` goes by them.
+    /// The layouts grow last, since `reserve` checks only these.
     #[cold]
     fn grow(&mut self, sets: usize) -> Result<(), AllocError> {
         for list in [&mut self.handles, &mut self.layouts] {
@@ -170,7 +170,7 @@ impl HostDevice {
             self.layouts[self.filled..count].fill(layout);
             self.filled = count;
         }
-        // Most requests are of one set, for which a call of `memset` is slower.
+        // Most requests are for one set, for which a call of `memset` is slower.
         match &mut self.handles[..count] {
             [handle] => *handle = 0,
             handles => handles.fill(0),
@@ -184,7 +184,7 @@ impl HostDevice {
         self.call(|it| unsafe { (it.allocate_sets)(it.user, pool, count, layouts, handles) })
     }
 
-    /// The same with a variable count for each set.
+    /// Same as `ask`, with a variable count for each set.
     #[cold]
     fn ask_variable(&mut self, pool: u64, count: u32, variable: u32) -> GdStatus {
         let function = self.allocate_variable_sets.get();
@@ -207,7 +207,7 @@ impl HostDevice {
         }
     }
 
-    /// Sets the cause to a status that is no reason of the allocator's. A lost device stays lost.
+    /// Sets the cause to a status for which the allocator has no error. A lost device stays lost.
     #[cold]
     fn set_cause(&self, status: GdStatus) {
         if status == GdStatus::DEVICE_LOST {
@@ -221,7 +221,7 @@ impl HostDevice {
     fn free_first(&mut self, pool: u64, count: usize) {
         if count > 0 {
             let (count, handles) = (count as u32, self.handles.as_ptr());
-            // SAFETY: the pointer leads to so many handles, which are sets of this pool.
+            // SAFETY: the pointer leads to `count` handles, which are sets of this pool.
             self.call(|it| unsafe { (it.free_sets)(it.user, pool, count, handles) });
         }
     }
@@ -308,8 +308,8 @@ impl DescriptorDevice<HostLayout, HostPool, u64> for HostDevice {
         }
     }
 
-    /// Frees the sets in one call: there are no more than the pool has, for which memory is reserved.
-    /// If there were more, it would take several calls.
+    /// Frees the sets in one call: there are no more than the pool has, for which memory is reserved. If
+    /// there were more, it would take several calls.
     fn dealloc_descriptor_sets<I: Iterator<Item = u64>>(
         &mut self,
         pool: &mut HostPool,

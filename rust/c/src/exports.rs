@@ -1,12 +1,12 @@
 //! The functions of `gpu_descriptor.h`.
 //!
-//! The `unsafe` of this file is the reading and writing of the host's pointers. Each of them is as the
-//! header says: valid, as long as its count, and not in use elsewhere.
+//! This file is `unsafe` only where it reads and writes the host's pointers. Each is as the header says:
+//! valid, as long as its count, and not in use elsewhere.
 #![allow(clippy::missing_safety_doc)]
 
 use crate::abi::{
-    AllocateVariableSets, EXTERNALLY_SYNCHRONIZED, GdDevice, GdLayout, GdLayoutStatistics, GdSet,
-    GdStatistics, GdStatus, HEADER, PoolCreated,
+    AllocateVariableSets, EXTERNALLY_SYNCHRONIZED, FINGERPRINT, GdDevice, GdLayout,
+    GdLayoutStatistics, GdSet, GdStatistics, GdStatus, PoolCreated,
 };
 use crate::allocator::Allocator;
 use crate::device::{Host, HostDevice, HostLayout};
@@ -16,11 +16,11 @@ use core::ffi::{c_char, c_void};
 use core::mem::MaybeUninit;
 use core::slice;
 
-/// Zeroes an array of the host's, so that a request that failed leaves no set there.
+/// Zeroes an array of the host, so that a failed request leaves no set there.
 ///
 /// # Safety
 ///
-/// It is `NULL` or has so many elements.
+/// It is `NULL` or has `count` elements.
 unsafe fn zero(sets: *mut GdSet, count: u32) {
     if !sets.is_null() {
         for at in 0..count as usize {
@@ -34,7 +34,7 @@ unsafe fn zero(sets: *mut GdSet, count: u32) {
 ///
 /// # Safety
 ///
-/// It has so many elements, which nobody writes as long as it is used.
+/// It has `count` elements, which nobody writes while it is used.
 unsafe fn array<'a>(sets: *const GdSet, count: u32) -> &'a [GdSet] {
     if count == 0 {
         return &[];
@@ -43,11 +43,11 @@ unsafe fn array<'a>(sets: *const GdSet, count: u32) -> &'a [GdSet] {
     unsafe { slice::from_raw_parts(sets, count as usize) }
 }
 
-/// Passes the host's array to a call. One that is longer than all sets that are held isn't read.
+/// Passes the host's array to a call. It isn't read if it is longer than the number of held sets.
 ///
 /// # Safety
 ///
-/// As that of `array`, and of `slot::enter`.
+/// Same as `array` and `slot::enter`.
 #[inline]
 unsafe fn release(
     allocator: GdAllocator,
@@ -66,11 +66,11 @@ unsafe fn release(
     unsafe { slot::enter(allocator, call) }
 }
 
-/// The host's array, of which the elements may never have been written.
+/// The host's array, whose elements may never have been written.
 ///
 /// # Safety
 ///
-/// There is memory for so many elements, which nobody else uses as long as it is used.
+/// There is memory for `count` elements, which nobody else uses while it is used.
 unsafe fn places<'a>(sets: *mut GdSet, count: u32) -> &'a mut [MaybeUninit<GdSet>] {
     if count == 0 {
         return &mut [];
@@ -79,7 +79,7 @@ unsafe fn places<'a>(sets: *mut GdSet, count: u32) -> &'a mut [MaybeUninit<GdSet
     unsafe { slice::from_raw_parts_mut(sets.cast(), count as usize) }
 }
 
-/// Whether a pointer to so many elements is one that the header forbids.
+/// Whether a pointer to `count` elements is one that the header forbids.
 fn is_missing(sets: *const GdSet, count: u32) -> bool {
     sets.is_null() && count > 0
 }
@@ -99,7 +99,7 @@ unsafe fn run(allocator: GdAllocator, call: impl FnOnce(&mut Allocator)) -> GdSt
     }
 }
 
-/// Makes a call, and writes its answer to a place of the host's.
+/// Makes a call, and writes its answer to a place of the host.
 ///
 /// # Safety
 ///
@@ -147,14 +147,14 @@ pub extern "C" fn gd_status_name(status: GdStatus) -> *const c_char {
 
 #[unsafe(no_mangle)]
 pub unsafe extern "C" fn gd_create_checked(
-    header: u64,
+    fingerprint: u64,
     device: *const GdDevice,
     user_size: usize,
     limit: u32,
     flags: u32,
     allocator: *mut GdAllocator,
 ) -> GdStatus {
-    if header != HEADER {
+    if fingerprint != FINGERPRINT {
         return GdStatus::BAD_VERSION;
     }
     if allocator.is_null() {
@@ -445,7 +445,7 @@ pub unsafe extern "C" fn gd_get_layout_statistics(
     unsafe { ask(allocator, statistics, |it| it.layout_statistics(layout)) }
 }
 
-/// A buffer of the host's, and how long the text would be that was written to it.
+/// A buffer of the host, and the length of the whole text that was written to it.
 struct Text {
     start: *mut u8,
     room: usize,

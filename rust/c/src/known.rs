@@ -1,23 +1,23 @@
 //! The names of the known layouts, found by the host's handles.
 //!
-//! Open addressing with steps of one: at most half of the cells are used, and a removal moves names back, so
-//! that nothing is left of it. No name is 0. Which layout a name has is the set manager's to say, so nothing but
-//! time rests on the place of a name.
+//! Open addressing with linear probing: at most half of the cells are used, and a removal moves names back,
+//! so that it leaves no trace. No name is 0. The set manager says which layout a name has, so only time
+//! depends on the place of a name.
 
 use crate::kit::alloc::{AllocError, Global};
 use crate::kit::vec::Vec;
 
-/// How many cells there are at first.
+/// The number of cells at first.
 const FEWEST: usize = 16;
 
 pub struct Known {
-    /// As many as a power of two, or none; each with a name, or 0.
+    /// The cells, each with a name or 0. Their number is a power of two, or 0.
     cells: Vec<u64>,
     count: usize,
 }
 
 impl Known {
-    /// It allocates nothing.
+    /// A table without names. It allocates no memory.
     pub fn new() -> Self {
         Known {
             cells: Vec::new(Global),
@@ -25,18 +25,18 @@ impl Known {
         }
     }
 
-    /// The cells go round. There are some.
+    /// Wraps around at the last cell. There are cells.
     fn wrapped(&self, at: usize) -> usize {
         at & (self.cells.len() - 1)
     }
 
-    /// Where the names of a handle begin. There are cells.
+    /// Where the search for a handle's names begins. There are cells.
     fn home(&self, handle: u64) -> usize {
         let bits = self.cells.len().trailing_zeros();
         (handle.wrapping_mul(0x9e37_79b9_7f4a_7c15) >> (64 - bits)) as usize
     }
 
-    /// The first cell from a handle's home on for which this is true. There is one.
+    /// The first cell from a handle's home on for which `is_found` is true. There is one.
     fn first(&self, handle: u64, is_found: impl Fn(u64) -> bool) -> usize {
         let mut at = self.home(handle);
         while !is_found(self.cells[at]) {
@@ -45,7 +45,7 @@ impl Known {
         at
     }
 
-    /// The first name from a handle's home on for which this is true.
+    /// The first name from a handle's home on for which `is_same` is true.
     pub fn find(&self, handle: u64, is_same: impl Fn(u64) -> bool) -> Option<u64> {
         if self.count == 0 {
             return None;
@@ -54,7 +54,7 @@ impl Known {
         Some(self.cells[at]).filter(|name| *name != 0)
     }
 
-    /// Makes room for one more name. On an error nothing changed.
+    /// Makes room for one more name. An error changes nothing.
     pub fn reserve(&mut self, handle_of: impl Fn(u64) -> u64) -> Result<(), AllocError> {
         if self.count < self.cells.len() / 2 {
             return Ok(());
@@ -80,20 +80,20 @@ impl Known {
         self.cells.iter().copied().filter(|name| *name != 0)
     }
 
-    /// Puts a name in. There is room.
+    /// Inserts a name. There is room.
     pub fn put(&mut self, handle: u64, name: u64) {
         self.enter(handle, name);
         self.count += 1;
     }
 
-    /// Takes a name out that was put in under this handle.
+    /// Removes a name that was inserted under this handle.
     pub fn remove(&mut self, handle: u64, name: u64, handle_of: impl Fn(u64) -> u64) {
         let at = self.first(handle, |it| it == name);
         self.close(at, handle_of);
         self.count -= 1;
     }
 
-    /// Moves names back over a cell, up to the next that is free.
+    /// Moves names back over a cell, up to the next free one.
     fn close(&mut self, mut hole: usize, handle_of: impl Fn(u64) -> u64) {
         let mut at = self.wrapped(hole + 1);
         while self.cells[at] != 0 {
@@ -114,9 +114,10 @@ mod tests {
     use super::*;
     use std::collections::BTreeMap;
 
-    /// Random steps beside a map. Handles are few, so many have one home, and many have several names.
+    /// Compares with a map at random steps. Handles are few, so many have the same home, and many have
+    /// several names.
     #[test]
-    fn names_beside_a_map() {
+    fn names_against_a_map() {
         let (mut known, mut names) = (Known::new(), BTreeMap::new());
         let mut random = 7u64;
         let mut below = |end: u64| {

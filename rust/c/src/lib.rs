@@ -1,10 +1,10 @@
 //! The C interface of the allocator. `include/gpu_descriptor.h` states what each function does.
 //!
-//! Generated from proved sources are the modules `gpu_descriptor_types`, `gpu_descriptor`,
-//! `descriptor_table` and `descriptor_manager`, which are the files of rust/gpu-descriptor, as are the
-//! `kit` that they use and `statistics`. By hand are `device`, which calls the host's functions, `allocator`, a
-//! set manager over it, `known`, which finds its layouts, `slot`, through which each call goes in its turn
-//! (`lock`), and `exports`.
+//! The modules `gpu_descriptor_types`, `gpu_descriptor`, `descriptor_table` and `descriptor_manager` are
+//! generated from proved sources. They are files of rust/gpu-descriptor, and so are the `kit` that they use
+//! and `statistics`. Written by hand are `device`, which calls the host's functions; `allocator`, a set
+//! manager over it; `known`, which finds its layouts; `slot`, through which each call takes its turn
+//! (`lock`); and `exports`.
 #![cfg_attr(not(any(feature = "std", test)), no_std)]
 #![deny(unsafe_code)]
 
@@ -44,7 +44,7 @@ mod known;
 mod lock;
 #[allow(unsafe_code)]
 mod pool_created;
-// Tests have an allocator and a panic handler of std.
+// Tests use the allocator and the panic handler of std.
 #[cfg(not(any(feature = "std", test)))]
 #[allow(unsafe_code)]
 mod memory;

@@ -1,20 +1,22 @@
-//! The lock of a slot: it is held by one call at a time.
+//! The lock of a slot: one call at a time holds it.
 //!
-//! With std a call may wait for its turn: then it sleeps. Without std there is nothing to sleep by.
+//! With std a call may wait for its turn, and sleeps while it does. Without std no call waits, since nothing
+//! can sleep.
 //!
-//! A call must not wait for one of its own thread, which would be for ever. While a call has the lock, its thread
-//! can make another one only from a function of the host's, as the header forbids signal handlers. So the thread is
-//! stored around these functions alone, as the owner. Whoever finds the lock held compares itself with the owner:
+//! A call must not wait for one of its own thread: that would deadlock. While a call has the lock, its thread
+//! can make another one only from a function of the host, since the header forbids signal handlers. So the
+//! thread is stored as the owner while such a function runs. A call that finds the lock held compares its
+//! thread with the owner:
 //!
-//! - A thread that is in such a function stored itself. Only who has the lock stores, and it still has it, so it
-//!   loads itself, and is turned away.
-//! - A thread that is in none stored 0 after itself, if it ever stored itself. It never loads what was there before
-//!   its own last store, so it loads that 0, or what another thread stored later, and waits.
+//! - A thread that is in such a function stored itself. Only the thread that has the lock stores, and it
+//!   still has it, so it loads itself, and is refused.
+//! - A thread that is in none stored 0 after itself, if it ever stored itself. It never loads what was there
+//!   before its own last store, so it loads that 0, or what another thread stored later, and waits.
 //!
-//! All threads see the stores to one place in one order, with `Relaxed` too, and more isn't needed. A new thread may
-//! have the number of one that ended, but begins after all stores of that one. Each lock has an owner of its own, so
-//! a function may call another allocator, whose functions may call both. A function that is left by longjmp leaves
-//! the lock held, and its thread the owner, as the header says.
+//! All threads see the stores to one place in one order, even with `Relaxed`, and nothing more is needed. A
+//! new thread may have the number of one that ended, but begins after all stores of that one. Each lock has
+//! its own owner, so a function may call another allocator, whose functions may call both. If a function is
+//! left by longjmp, the lock stays held and its thread stays the owner, as the header says.
 
 use core::hint::spin_loop;
 #[cfg(feature = "std")]
@@ -35,21 +37,21 @@ pub struct Lock {
     waits: bool,
     state: AtomicU32,
 
-    /// The thread whose call holds it, while that is in a function of the host's, and else 0.
+    /// The thread whose call holds it, while that is in a function of the host; else 0.
     #[cfg(feature = "std")]
     owner: AtomicUsize,
 
-    /// Held from the look at the state until the sleep, so that no wake is missed.
+    /// Held from the check of the state until the sleep, so that no wake is missed.
     #[cfg(feature = "std")]
     look: Mutex<()>,
     #[cfg(feature = "std")]
     wake: Condvar,
 }
 
-/// A lock that is held, until the end of this value.
+/// A lock that is held while this value lives.
 pub struct Held<'a>(&'a Lock);
 
-/// The thread is the owner, until the end of this value.
+/// The thread is the owner while this value lives.
 #[cfg(feature = "std")]
 struct Owner<'a>(&'a Lock);
 
@@ -81,7 +83,7 @@ impl Lock {
         self.waits
     }
 
-    /// `None` if it is held.
+    /// Takes the lock. `None` if it is held.
     #[inline]
     fn try_hold(&self) -> Option<Held<'_>> {
         let state = &self.state;
@@ -101,13 +103,15 @@ impl Lock {
         }
     }
 
-    /// Waits until it is free. `None` if this thread is in `as_owner`; or if it is held, and no call waits.
+    /// Waits until it is free. `None` if this thread is in `as_owner`, or if the lock is held and calls don't
+    /// wait.
     #[inline]
     pub fn hold(&self) -> Option<Held<'_>> {
         self.try_hold().or_else(|| self.wait())
     }
 
-    /// Runs a function of the host's, in a call that holds the lock: if it makes another call, that is turned away.
+    /// Runs a function of the host, in a call that holds the lock. A call that it makes on the same lock is
+    /// refused.
     #[inline]
     pub fn as_owner<R>(&self, function: impl FnOnce() -> R) -> R {
         #[cfg(feature = "std")]
@@ -137,7 +141,7 @@ impl Lock {
         Some(Held(self))
     }
 
-    /// Wakes one that sleeps.
+    /// Wakes one sleeping thread.
     #[cfg(feature = "std")]
     #[cold]
     fn wake_one(&self) {
@@ -158,7 +162,7 @@ impl<'a> Owner<'a> {
 
 #[cfg(feature = "std")]
 impl Drop for Owner<'_> {
-    /// Else this thread might take the next call of another one for its own.
+    /// Clears the owner: otherwise this thread might take another thread's next call for its own.
     #[inline]
     fn drop(&mut self) {
         self.0.owner.store(0, Ordering::Relaxed);

@@ -1,4 +1,4 @@
-//! What std has otherwise: memory, which is the C library's, and the end of a panic, which aborts.
+//! For a library without std: memory from the C library, and a panic handler that aborts.
 
 use core::alloc::{GlobalAlloc, Layout};
 use core::ffi::c_void;
@@ -28,12 +28,12 @@ unsafe impl GlobalAlloc for CLibrary {
     }
 
     unsafe fn dealloc(&self, block: *mut u8, _: Layout) {
-        // SAFETY: it came from `alloc` or `realloc`.
+        // SAFETY: it is from `alloc` or `realloc`.
         unsafe { free(block.cast()) }
     }
 
     unsafe fn realloc(&self, block: *mut u8, _: Layout, size: usize) -> *mut u8 {
-        // SAFETY: it came from `alloc` or `realloc`, and its alignment is the same.
+        // SAFETY: it is from `alloc` or `realloc`, and its alignment is the same.
         unsafe { realloc(block.cast(), size).cast() }
     }
 }

@@ -1,8 +1,8 @@
-//! The slot of an allocator, through which one call goes at a time.
+//! The slot of an allocator, which one call at a time enters.
 //!
-//! A slot is never freed. Once its allocator is destroyed a later one gets it. So a call through a
+//! A slot is never freed. When its allocator is destroyed, a later one reuses it. So a call through a
 //! `gd_allocator` whose allocator is destroyed reads a slot that exists, and sees by the id that it has
-//! another allocator or none. No id comes twice.
+//! another allocator or none. No id is given twice.
 
 use crate::abi::GdStatus;
 use crate::allocator::Allocator;
@@ -28,21 +28,21 @@ impl GdAllocator {
 }
 
 pub struct Slot {
-    /// The allocator's; 0 if there is none.
+    /// The allocator's id; 0 if there is none.
     id: AtomicU64,
 
-    /// Held by the call that is under way, which may use `allocator`.
+    /// Held by the running call, which may use `allocator`.
     lock: Lock,
 
-    /// None if there is none, or if a call panicked, so that nobody knows its state.
+    /// `None` if there is none, or if a call panicked, so that its state is unknown.
     allocator: UnsafeCell<Option<Allocator>>,
 
-    /// The next free slot. Whoever locked the free slots may use it.
+    /// The next free slot, for the thread that locked the free slots.
     next: UnsafeCell<Option<&'static Slot>>,
 }
 
-// SAFETY: each cell is used only by whoever holds `lock` or locked the free slots, and an allocator may move to
-// another thread.
+// SAFETY: each cell is used only by the thread that holds `lock` or locked the free slots, and an allocator
+// may move to another thread.
 unsafe impl Sync for Slot where Allocator: Send {}
 
 /// The slots without an allocator.
@@ -51,7 +51,7 @@ struct FreeSlots {
     first: UnsafeCell<Option<&'static Slot>>,
 }
 
-// SAFETY: `first` is used only by whoever holds `lock`.
+// SAFETY: `first` is used only by the thread that holds `lock`.
 unsafe impl Sync for FreeSlots {}
 
 static LAST_ID: AtomicU64 = AtomicU64::new(0);
@@ -104,7 +104,8 @@ fn new_slot(waits: bool) -> Result<&'static Slot, AllocError> {
     Ok(&slots.leak()[0])
 }
 
-/// Creates an allocator, which gets its id and its lock. If it waits, so do its calls for those of other threads.
+/// Creates an allocator, and gives it its id and its lock. `waits` says whether its calls wait for those of
+/// other threads.
 pub fn create(
     waits: bool,
     allocator: impl FnOnce(u64, &'static Lock) -> Allocator,
@@ -115,7 +116,7 @@ pub fn create(
         None => new_slot(waits)?,
     };
     let id = LAST_ID.fetch_add(1, Ordering::Relaxed) + 1;
-    // A call through an older id may just be finding out that it is too late.
+    // A call through an older id may just be checking that id.
     let _held = slot.lock.spin();
     // SAFETY: the lock is held.
     unsafe { *slot.allocator.get() = Some(allocator(id, &slot.lock)) };
@@ -123,7 +124,7 @@ pub fn create(
     Ok(GdAllocator { slot, id })
 }
 
-/// Begins a call: the slot, of which the lock is held.
+/// Begins a call, and returns the slot with its lock held.
 ///
 /// # Safety
 ///
@@ -139,7 +140,7 @@ unsafe fn begin(allocator: GdAllocator) -> Result<(&'static Slot, Held<'static>)
         return Err(GdStatus::BAD_ALLOCATOR);
     }
     let held = slot.lock.hold().ok_or(GdStatus::BUSY)?;
-    // In between the allocator may have been destroyed.
+    // The allocator may have been destroyed in the meantime.
     if slot.id.load(Ordering::Relaxed) != allocator.id {
         return Err(GdStatus::BAD_ALLOCATOR);
     }
@@ -167,7 +168,7 @@ fn catch(call: impl FnOnce() -> GdStatus) -> Option<GdStatus> {
     Some(call())
 }
 
-/// Makes a call on an allocator, in its turn or if no other is under way. No panic leaves it.
+/// Makes a call on an allocator, in its turn or if no other one runs. No panic leaves it.
 ///
 /// # Safety
 ///
@@ -188,7 +189,7 @@ pub unsafe fn enter(
         return GdStatus::INTERNAL_ERROR;
     };
     catch(|| call(allocator)).unwrap_or_else(|| {
-        // Nothing of it is used again, nor dropped.
+        // Nothing of it is used again or dropped.
         core::mem::forget(cell.take());
         GdStatus::INTERNAL_ERROR
     })
@@ -208,7 +209,7 @@ pub unsafe fn destroy(
         enter(allocator, |it| {
             let status = call(it);
             if status == GdStatus::OK {
-                // The lock is still held, so no call gets in after this one.
+                // The lock is still held, so no call enters after this one.
                 (*allocator.slot).id.store(0, Ordering::Relaxed);
             }
             status

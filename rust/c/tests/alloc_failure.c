@@ -1,7 +1,7 @@
-// Allocation-failure injection: a run of calls in which the n-th allocation of the library fails, for each
-// n. The call returns GD_OUT_OF_HOST_MEMORY and changes nothing: counts and the driver's sets are as
-// before, and the same call succeeds when it is made again. The same with kept sets: while there are
-// some, the call may succeed all the same. A layout that isn't there is that mistake also without memory.
+// Makes the n-th allocation of the library fail, for each n, in a run of calls. The call returns
+// GD_OUT_OF_HOST_MEMORY and changes nothing: counts and the driver's sets are as before, and the same call
+// succeeds at the next try. The same with kept sets: with these the call may succeed at once. A layout that
+// isn't there is that mistake even without memory.
 #include "gpu_descriptor.h"
 #include "host.h"
 #include "memory.h"

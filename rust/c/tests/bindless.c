@@ -1,5 +1,6 @@
-// A bindless program on a Vulkan driver, under the validation layer, which must say nothing: sets of one layout with
-// a variable count, of several counts, are written and read by a shader, freed, kept and read again.
+// A bindless program on a Vulkan driver, under the validation layer, which must report nothing: sets of one
+// layout with a variable count, of several counts, are written and read by a shader, freed, kept and read
+// again.
 //
 // The exit code is 3 if there is no layer, no driver, or none with variable counts.
 #include "bindless_shader.h"

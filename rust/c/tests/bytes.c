@@ -1,5 +1,5 @@
-// The library's memory for a set, at some numbers of sets, as the C library counts it; and what is left after all
-// were freed and after gd_cleanup. It decides nothing.
+// The library's memory for a set, at some numbers of sets, as the C library counts it; and what is left after
+// all were freed and after gd_cleanup. It only prints, and never fails.
 #include "gpu_descriptor.h"
 #include "host.h"
 #include <malloc.h>
@@ -36,7 +36,7 @@ static uint64_t bytes(void) {
     return info.uordblks + info.hblkhd;
 }
 
-// Prints what so many sets take, allocated one by one or by one request.
+// Prints what `count` sets take, allocated one by one or by one request.
 static void measure(uint32_t count, bool is_one_request) {
     gd_device device = {NULL, create_pool, destroy_pool, allocate_sets, free_sets};
     gd_allocator allocator;

@@ -1,7 +1,7 @@
-// Caches of gpu_descriptor_cache.h: what they ask of an allocator and give back, what they do when it refuses, and
+// Caches of gpu_descriptor_cache.h: what they allocate and free, what they do when the allocator refuses, and
 // threads that have caches over one allocator and free each other's sets: at the end nothing is lost.
 //
-// usage: caches [busy] ; with `busy` the library is one in which no call waits
+// usage: caches [busy] ; with `busy` the library is one in which calls don't wait
 #define _POSIX_C_SOURCE 200809L
 #define GD_CACHE_CHECKED
 #include "gpu_descriptor_cache.h"
@@ -11,7 +11,7 @@
 #include <stdatomic.h>
 #include <string.h>
 
-// Threads at once, turns of each, the most sets of a request, and those that one thread leaves for another.
+// Threads at once, turns of each, the max of the sets of a request, and those that one thread leaves for another.
 enum { THREADS = 4, TURNS = 4000, MOST = 20, LEFT = 32 };
 
 // Not atomic: the allocator lets one call in at a time. `most_sets` is how many there may be.
@@ -91,7 +91,7 @@ static void pass_wrong_arguments(void) {
     CHECK(gd_cache_allocate(&cache, 1, &set) == GD_BAD_ALLOCATOR && cache.count == 0);
 }
 
-// Sets are taken and given back `refill` at a time.
+// Sets are allocated and freed `refill` at a time.
 static void refill_and_give_back(uint32_t refill) {
     gd_set places[2 * GD_CACHE_REFILL], sets[3 * GD_CACHE_REFILL];
     const uint32_t all = 3 * refill;
@@ -115,7 +115,7 @@ static void refill_and_give_back(uint32_t refill) {
     end();
 }
 
-// Where so many aren't granted fewer are, down to those that are missing; then it is refused, and nothing is lost.
+// If a refill is refused, fewer sets are requested, down to the missing ones; then it fails, and nothing is lost.
 static void ask_for_fewer(void) {
     gd_set places[2 * GD_CACHE_REFILL], sets[GD_CACHE_REFILL];
     begin();

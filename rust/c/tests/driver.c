@@ -5,7 +5,7 @@
 #include <string.h>
 
 // Some have the same counts, and share pools if both are update-after-bind or neither is. Some have no
-// descriptors. Of one a set has so many that a pool holds 21.
+// descriptors. A set of one has as many descriptors as make a pool hold 21 sets.
 const struct driver_layout driver_layouts[DRIVER_LAYOUTS] = {
     {"plain uniform_buffer=1 storage_image=2",
      false,

@@ -1,6 +1,6 @@
-// A driver in memory, which refuses at random and checks each call. A pool that is asked must be
-// alive, take such sets, and have room for them by number and by kind. A set goes back once, to its
-// own pool. A pool goes once, without sets. The limit is kept.
+// A driver in memory, which refuses at random and checks each call. A pool that is asked must exist, be for
+// such sets, and have room for them by number and by kind. A set is freed once, from its own pool. A pool is
+// destroyed once, without sets. The limit is kept.
 #ifndef DRIVER_H
 #define DRIVER_H
 #include "gpu_descriptor.h"
@@ -24,7 +24,7 @@ struct driver {
     uint64_t limit;          // on the descriptors of pools for marked layouts
     uint64_t created, destroyed, asked, released, refused;
     uint64_t sets;           // alive
-    gd_statistics numbers;   // of the pools that are alive, and of the most that were
+    gd_statistics numbers;   // of the pools that are alive, and of their peak
 };
 
 extern struct driver driver;

@@ -1,4 +1,5 @@
-// What can fail, dropped by a cast. tools/rust-c takes the casts away one by one: each line is an error then.
+// Statuses of calls that can fail, dropped by a cast. tools/rust-c removes the casts one by one: then each
+// line is an error.
 #include "gpu_descriptor.hpp"
 
 void drop(gd::allocator &allocator, gd::set &set, gd::sets &sets, gd::frame &frame, gd::layout &layout, gd_set *raw);

@@ -1,8 +1,8 @@
 // A target of libFuzzer: the bytes choose calls on two allocators and what the driver returns. The driver
 // checks each of its calls, and after each call of the library counts and statuses are as they have to be.
 //
-// Sets are freed that are held, that were freed before, and that are made of parts of others. The library
-// keeps none of those that come back, or some, or all.
+// It frees sets that are held, that were freed before, and that are made of parts of others. The library
+// keeps none of the freed ones, or some, or all.
 #include "gpu_descriptor.h"
 #include "host.h"
 #include <string.h>

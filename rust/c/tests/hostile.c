@@ -1,7 +1,6 @@
-// A device that gives any handles, also one twice or 0, and returns any status; and a caller that passes
-// sets and layouts made up of parts of others, to two allocators over the same device. No call
-// breaks the library, each status is one that the header names, and the counts stay right. KEEP is how
-// many sets are kept, at first all.
+// A device that returns any handles, even one twice or 0, and any status; and a caller that passes sets and
+// layouts made of parts of others, to two allocators over the same device. No call breaks the library, each
+// status is one that the header has, and the counts stay right. KEEP is how many sets are kept, at first all.
 //
 // usage: hostile OPERATIONS SEED [KEEP]
 #include "gpu_descriptor.h"

@@ -1,10 +1,9 @@
-// A long run in little room. Requests of a few sets and frees of any sets, of which about a
-// thousand are out at most, until so many sets were allocated. Layouts come and go, three at once. The
-// driver refuses few calls, and gives the handles of freed sets and destroyed pools again, as real
-// drivers do.
+// A long run in little memory: requests for a few sets and frees of any sets, with at most about a thousand
+// live, until SETS sets were allocated. Layouts are added and removed, three at once. The driver refuses few
+// calls, and reuses the handles of freed sets and destroyed pools, as real drivers do.
 //
-// The resident size is printed at ten points. At the last one it may be little more than at the
-// first. No name comes twice, and names have few places. KEEP is how many sets are kept, at first all.
+// The resident size is printed at ten points. At the last one it may be little more than at the first. No
+// name is given twice, and names have few places. KEEP is how many sets are kept, at first all.
 //
 // usage: hours SETS SEED [KEEP]
 #include "gpu_descriptor.h"
@@ -29,7 +28,7 @@ struct given {
     uint32_t sets; // of a pool: how many are alive
 };
 
-// Handles of one kind, of which those that are free are given again.
+// Handles of one kind. Free ones are reused.
 struct handles {
     struct given given[HANDLES + 1];
     uint32_t freed[HANDLES];
@@ -140,7 +139,7 @@ static uint32_t allocate(uint32_t count) {
     return count;
 }
 
-// Gives some of the held sets back, in random order.
+// Frees some of the held sets, in random order.
 static void free_some(uint32_t count) {
     gd_set back[MAX_SETS] = {{0, 0, 0}};
     for (uint32_t place = 0; place < count; place++) {
@@ -183,7 +182,7 @@ static void add_layout(uint32_t layout) {
                         &layouts[layout]) == GD_OK);
 }
 
-// Removes a layout, of which sets may be out, and adds another in its place.
+// Removes a layout, which may have live sets, and adds another in its place.
 static void replace_layout(void) {
     uint32_t layout = random_below(LAYOUTS);
     CHECK(gd_remove_layout(allocator, layouts[layout]) == GD_OK);
@@ -207,7 +206,7 @@ static void close_all(void) {
     CHECK(gd_destroy(allocator) == GD_OK);
 }
 
-// Mostly asks until a thousand sets are out, then mostly gives back until few are.
+// Mostly allocates until a thousand sets are live, then mostly frees until few are.
 static void act(void) {
     static bool fills;
     uint32_t lot = 1 + random_below(MAX_SETS);

@@ -1,7 +1,7 @@
-// Refuses memory to the library, and counts its blocks. A host is linked with --wrap for malloc,
-// calloc, realloc, posix_memalign, aligned_alloc and free, which are all that Rust's std calls. The
-// host and its driver take memory from the same functions, so each call of the library is in
-// LIBRARY, and the driver's functions pause it.
+// Refuses memory to the library, and counts its blocks. A host is linked with --wrap for malloc, calloc,
+// realloc, posix_memalign, aligned_alloc and free, the only ones that Rust's std calls. The host and its
+// driver use the same functions, so each call of the library is wrapped in LIBRARY, and the driver's
+// functions pause it.
 #ifndef MEMORY_H
 #define MEMORY_H
 #include "gpu_descriptor.h"

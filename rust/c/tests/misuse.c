@@ -1,5 +1,5 @@
-// Each misuse by the program, or by its device, that can be seen is a status, and changes nothing. All is
-// done twice: all sets are kept, and none is.
+// Each misuse by the program, or by its device, that the library can detect returns a status and changes
+// nothing. Everything is done twice: with all sets kept, and with none.
 #include "gpu_descriptor.h"
 #include "host.h"
 #include <string.h>
@@ -138,7 +138,7 @@ static void create(const gd_device *device, uint32_t limit, gd_allocator *alloca
     CHECK(gd_allocator_set_max_kept(*allocator, keep) == GD_OK);
 }
 
-// The device and the allocator have so many sets, of which none is kept, and pools.
+// The device and the allocator have this many sets, none of them kept, and pools.
 static void expect(struct world *world, gd_allocator allocator, uint64_t sets, uint64_t pools) {
     uint64_t said = UNTOUCHED;
     CHECK(world->sets == sets && world->pools == pools);
@@ -335,7 +335,7 @@ static void pass_wrong_sets(void) {
     CHECK(gd_destroy(other) == GD_OK && world.pools == 0);
 }
 
-// A layout that was removed is none, also once its place has another, which is known by another index.
+// A removed layout is invalid, even after its place has another, which has another index.
 static void remove_layouts(void) {
     struct world world = {0};
     gd_device device = device_of(&world);
@@ -413,7 +413,7 @@ static void return_unknown_statuses(void) {
             world.used = 0;
             memset(sets, 1, sizeof sets);
             CHECK(gd_allocate(allocator, layout, 200, sets) == GD_BAD_RESULT);
-            // The request ends at that call, and gives back what it had.
+            // The request ends at that call, and frees what it had.
             CHECK(world.used == at + 1 && world.sets == 0);
             for (uint32_t place = 0; place < 200; place++)
                 CHECK(sets[place].handle == 0 && sets[place].owner == 0);
@@ -537,7 +537,7 @@ static void bound_pools(void) {
     CHECK(world.pools == 0 && world.sets == 0);
 }
 
-// Sets of a layout are kept, and come again under other names. They aren't outstanding.
+// Sets of a layout are kept, and reused under other names. Kept sets aren't outstanding.
 static void keep_some(void) {
     struct world world = {0};
     gd_device device = device_of(&world);
@@ -562,7 +562,7 @@ static void keep_some(void) {
     }
     CHECK(gd_free(allocator, sets, 10) == GD_OK && gd_allocator_set_max_kept(allocator, 7) == GD_OK && world.sets == 7);
     CHECK(gd_allocate(allocator, layouts[1], 2, sets) == GD_OK && world.sets == 9); // of another layout
-    // A refusal: what is kept goes, and it is asked for once more.
+    // A refusal: the kept sets are freed, and the request is retried once.
     world.results[0] = GD_OUT_OF_DEVICE_MEMORY;
     world.result_count = 1;
     CHECK(gd_allocate(allocator, layouts[0], 8, sets + 2) == GD_OK && world.sets == 10);
@@ -589,7 +589,7 @@ static void keep_some(void) {
 }
 
 // An unknown status, and then what is kept is freed and the request met. A later refusal has its own
-// status, also if the driver isn't asked for it.
+// status, even if the driver isn't asked for it.
 static void return_unknown_statuses_while_sets_are_kept(void) {
     struct world world = {0};
     gd_device device = device_of(&world);

@@ -324,7 +324,7 @@ void free_batches_that_were_used() {
     CHECK(gd_frame_done(it.allocator.raw(), 9) == GD_OK && it.device.sets == 0);
 }
 
-// The sets of a frame wait for it once it ends, begins anew, or is assigned over.
+// The sets of a frame wait for it once it ends, begins again, or is assigned over.
 void draw_frames() {
     room it;
     gd_set drawn[40];
@@ -367,13 +367,13 @@ void grow_frames() {
         CHECK(frame.size() == 100);
         gd::frame moved = std::move(frame);
         CHECK(frame.allocate(it.layout, drawn) == GD_OK && frame.size() == 1); // NOLINT
-        // A frame has no memory for so many, and nothing is written to no array.
+        // A frame has no memory for this many sets, and nothing is written to a null array.
         CHECK(frame.allocate(it.layout, UINT32_MAX, nullptr) == GD_OUT_OF_HOST_MEMORY && frame.size() == 1);
     }
     CHECK(it.waiting() == 101 && gd_frame_done(it.allocator.raw(), 3) == GD_OK && it.device.sets == 0);
 }
 
-// A cache gives its sets back at its end.
+// A cache frees its sets at its end.
 void own_caches() {
     room it;
     gd_set drawn[3];

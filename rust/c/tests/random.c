@@ -1,14 +1,14 @@
 // Random requests over a driver that fails at random and checks each call (driver.h).
 //
-// The host writes its requests as a program for the line program (rust/line-program/LINES.md), and the output that it
-// expects of it. The line program has the same allocator over a scripted device, so the two agree in the
-// pool of each set, in each failure, and in the number of calls. The host counts the sets that it got, in
-// the order in which the driver allocated them, and writes these numbers as tickets. Sets that wait for a
-// frame are freed in the program at the end of their frame, in the order in which the driver frees them.
+// The host writes its requests as a program for the line program (docs/LINES.md), and the output that it
+// expects. The line program has the same allocator over a scripted device, so the two agree in the pool of
+// each set, in each failure, and in the number of calls. The host counts the sets that it got, in the order
+// in which the driver allocated them, and writes these numbers as tickets. In the program, sets that wait for
+// a frame are freed at the end of their frame, in the order in which the driver frees them.
 //
-// Without a program to write, the driver also returns unknown statuses. With failing allocations, one in
-// so many, the program is worth nothing. gd_free, gd_frame_done, gd_allocator_set_max_kept and gd_cleanup never allocate.
-// KEEP is how many sets are kept. If that isn't 0 the line program knows nothing of it, and the host
+// Without a program to write, the driver also returns unknown statuses. If one in some number of allocations
+// fails, the program is of no use. gd_free, gd_frame_done, gd_allocator_set_max_kept and gd_cleanup never
+// allocate. KEEP is how many sets are kept. If that isn't 0 the line program doesn't know of it, and the host
 // changes the number now and then.
 //
 // usage: random OPERATIONS SEED LIMIT DRIVER_REFUSES_ONE_IN MEMORY_REFUSED_ONE_IN KEEP [PROGRAM EXPECTED]
@@ -24,7 +24,7 @@ enum { MAX_SETS = 1600, MAX_FREED = 400, MAX_HELD = 20000 };
 
 static const uint64_t UNTOUCHED = 0x756e746f75636864;
 
-// A set that was handed out, at the place that is its ticket.
+// An allocated set, at the place that is its ticket.
 struct given {
     gd_set set;
     uint32_t layout;
@@ -90,7 +90,7 @@ static const char *word_of(uint32_t why) {
 
 // ---- requests ----
 
-// Writes the tickets of a request, and the pool of each stretch of its sets.
+// Writes the tickets of a request, and the pool of each run of its sets.
 static void write_sets(uint32_t count) {
     fprintf(expected, "sets %zu-%zu:", given_count, given_count + count - 1);
     for (uint32_t from = 0, to = 0; from < count; from = to) {
@@ -222,7 +222,7 @@ static void allocate(void) {
 
 // ---- giving back ----
 
-// Gives sets back. It asks for no memory.
+// Frees sets. It allocates no memory.
 static gd_status free_now(const gd_set *sets, uint32_t count) {
     uint64_t requests_before = memory_requests;
     driver_forget();
@@ -241,8 +241,8 @@ static void write_free(const size_t *tickets, size_t count) {
     fprintf(expected, "freed %zu\n", count);
 }
 
-// These sets went back, neighbours of one pool in one call. Then the tickets are in the order in which they
-// went. Those that are kept don't go.
+// The driver freed these sets, one call per run; not those that are kept. Then the tickets are in the order
+// in which it freed them.
 static void check_freed(size_t *tickets, size_t count) {
     size_t runs = 0;
     if (keep > 0) {
@@ -271,7 +271,7 @@ static size_t runs_of(const size_t *tickets, size_t count) {
     return runs;
 }
 
-// Some tickets leave the list of those that are held: neighbours, or any.
+// Takes some tickets from the list of held ones: consecutive or any.
 static uint32_t draw(size_t *tickets, uint32_t most) {
     uint32_t count = 1 + random_below(one_in(10) ? most : 8);
     if (count > held_count)
@@ -373,8 +373,8 @@ static void end_frame(uint64_t done) {
     memmove(waiting, waiting + count, waiting_count * sizeof *waiting);
 }
 
-// Gives two sets back of which one isn't held any more, or one set twice, or one under another
-// handle. None may go. The place of the freed one is mostly used again.
+// Frees two sets, one of which isn't held any more, or one set twice, or one under another
+// handle. None may be freed. The place of the freed one is usually reused.
 static void free_wrongly(void) {
     if (held_count == 0 || given_count < 2)
         return;
@@ -519,7 +519,7 @@ static void act(void) {
     CHECK(is_number_of_sets(held_count + waiting_count));
 }
 
-// Frees all, looks once more, and destroys the allocator: no memory is left but that of its slot.
+// Frees all, checks the counts again, and destroys the allocator: no memory is left but that of its slot.
 static void close_all(void) {
     gd_allocator old = allocator;
     if (driver.invalid_one_in > 0) { // the line program has no such command

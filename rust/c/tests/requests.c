@@ -1,6 +1,6 @@
 // What the header says of layouts that are added again, of a limit of 0, of how many calls of the driver a
-// request and a free take, of what 'user' points to, of handles and counts that take all of their bits, and of names
-// for new pools.
+// request and a free take, of what 'user' points to, of handles and counts that take all of their bits, and
+// of names for new pools.
 #include "gpu_descriptor.h"
 #include "host.h"
 #include <string.h>
@@ -69,8 +69,8 @@ static gd_layout added(gd_allocator allocator, uint64_t handle, uint32_t count, 
     return layout;
 }
 
-// A layout that is known, by handle, counts and flags, has the same index again. With other counts or flags, or
-// another handle, it is another one, also if a driver gives a handle twice.
+// A layout that was added before, with the same handle, counts and flags, gets the same index again. With other
+// counts or flags, or another handle, it is another one, even if a driver gives a handle twice.
 static void add_layouts_again(void) {
     enum { COUNT = 5 };
     gd_allocator allocator = created(100);
@@ -136,7 +136,7 @@ static void allocate_many_at_once(void) {
     CHECK(gd_destroy(allocator) == GD_OK && pools == 0);
 }
 
-// Of a handle all bits come back.
+// All bits of a handle are returned.
 static void pass_whole_handles(void) {
     gd_allocator allocator = created(0);
     for (uint32_t bit = 0; bit < 64; bit++) {
@@ -164,7 +164,7 @@ static void count_past_31_bits(void) {
     CHECK(gd_free_all(marked) == GD_OK && gd_destroy(marked) == GD_OK && gd_destroy(allocator) == GD_OK);
 }
 
-// So many sets that aren't there, of which none is read.
+// A count of sets that aren't there; none of them is read.
 static void pass_2_to_the_31_sets(void) {
     static const uint32_t COUNTS[] = {UINT32_C(1) << 31, UINT32_MAX};
     gd_allocator allocator = created(0);

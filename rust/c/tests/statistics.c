@@ -1,5 +1,5 @@
-// Numbers of an allocator and of its layouts, and its JSON, byte by byte and into buffers of each length. What is
-// expected is worked out by hand from the rule for the size of a pool.
+// The numbers of an allocator and of its layouts, and its JSON, byte by byte and into buffers of each length.
+// What is expected is worked out by hand from the rule for the size of a pool.
 #include "gpu_descriptor.h"
 #include "host.h"
 #include <string.h>
@@ -202,7 +202,7 @@ static void share_pools(void) {
     CHECK(gd_free_all(allocator) == GD_OK && gd_destroy(allocator) == GD_OK);
 }
 
-// A pool that refused counts as full, until a set of it goes back.
+// A pool that refused counts as full, until a set of it is freed by the driver.
 static void count_after_a_refusal(void) {
     gd_allocator allocator;
     gd_set sets[3];

@@ -1,9 +1,9 @@
 // Two calls wait while a slow one runs, and take hardly any processor time. Then threads call one allocator
-// without a lock: each call waits for its turn, and nothing is lost. Mostly all sets are kept. Then allocators
-// are created and destroyed while threads use those that there were. All that is done again with allocators
-// that don't wait: each call succeeds or returns GD_BUSY.
+// without a lock: each call waits for its turn, and nothing is lost. Usually all sets are kept. Then
+// allocators are created and destroyed while threads use the existing ones. All that is done again with
+// allocators whose calls don't wait: each call succeeds or returns GD_BUSY.
 //
-// usage: threads [busy] ; with `busy` the library is one in which no call waits
+// usage: threads [busy] ; with `busy` the library is one in which calls don't wait
 #define _POSIX_C_SOURCE 200809L
 #include "gpu_descriptor.h"
 #include "host.h"

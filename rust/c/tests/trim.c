@@ -1,5 +1,5 @@
-// A spike of sets, after which few stay: gd_trim and gd_cleanup leave their pools alone. gd_remove_layout leaves no
-// empty pool of the layout's counts.
+// A spike of sets, after which few are left: gd_trim and gd_cleanup leave only the pools of these. gd_remove_layout
+// leaves no empty pool of the layout's counts.
 #include "gpu_descriptor.h"
 #include "host.h"
 
@@ -60,14 +60,14 @@ static void try_spike(gd_status (*leave)(gd_allocator), uint32_t keep) {
     CHECK(most > 190);
     free_the_spike(allocator);
     CHECK(leave(allocator) == GD_OK && pools == 3);
-    // Each set goes back to its own pool, of which others are gone, and a new set finds room.
+    // Each set is freed to its own pool, while other pools are gone, and a new set finds room.
     CHECK(gd_allocate(allocator, layout, 1, sets + 1) == GD_OK && pools == 3);
     gd_set left[4] = {sets[SPIKE / 2], sets[1], sets[0], sets[SPIKE - 1]};
     CHECK(gd_free(allocator, left, 4) == GD_OK);
     CHECK(gd_cleanup(allocator) == GD_OK && pools == 0 && gd_destroy(allocator) == GD_OK);
 }
 
-// What is kept stays at a trim, and a cleanup gives it back.
+// Kept sets stay at a trim, and a cleanup frees them.
 static void try_kept(void) {
     gd_allocator allocator;
     gd_layout layout;

@@ -1,13 +1,12 @@
-// Random requests on a Vulkan driver through gpu_descriptor_vulkan.h, under the validation layer,
-// which must say nothing.
+// Random requests on a Vulkan driver through gpu_descriptor_vulkan.h, under the validation layer, which must
+// report nothing.
 //
-// Sets are freed at once, or when a frame is done. One of the header's calls in twelve returns an
-// error and doesn't reach the driver, since a driver in software never fails. The header's and the
-// library's memory is refused as well, once in fifty, and once in four while an allocator is opened,
-// which a new one is every few hundred operations. A free asks for no memory. On a device of 1.3 there
-// are marked layouts and inline uniform blocks; on one of 1.0 there are none, and there the layer
-// reports a pool that is asked for more than it has left. KEEP is how many sets are kept, at first
-// all.
+// Sets are freed at once, or when a frame is done. One of the header's calls in twelve returns an error and
+// doesn't reach the driver, since a driver in software never fails. One in fifty of the header's and the
+// library's allocations fails too, and one in four while an allocator is created, which happens every few
+// hundred operations. A free allocates no memory. On a device of 1.3 there are marked layouts and inline
+// uniform blocks; on one of 1.0 there are none, and the layer reports a pool that is asked for more than it
+// has left. KEEP is how many sets are kept, at first all.
 //
 // The exit code is 3 if there is no layer or no driver.
 //
@@ -316,7 +315,7 @@ static void allocate(void) {
     }
 }
 
-// Gives sets back, for which no memory is asked.
+// Frees sets, which allocates no memory.
 static gd_status free_now(const gd_set *sets, uint32_t count) {
     uint64_t requests_before = memory_requests;
     gd_status status = LIBRARY(gd_free(allocator, sets, count));
@@ -356,8 +355,8 @@ static uint32_t draw(gd_set *sets) {
     return count;
 }
 
-// Gives sets back. They can't be given back again, nor can one that was freed before, whose place
-// may be used again.
+// Frees sets. They can't be freed again, nor can one that was freed before, whose place
+// may be reused.
 static void free_some(void) {
     gd_set sets[MAX_FREED] = {{0, 0, 0}};
     uint32_t count = draw(sets);
@@ -396,7 +395,7 @@ static void end_frame(void) {
     waiting = 0;
 }
 
-// More is asked for in two thirds of a round, and more goes back in the rest.
+// Mostly allocates in two thirds of a round, and mostly frees in the rest.
 static void act(void) {
     uint32_t dice = random_below(100), asks = operation % ROUND < 2 * ROUND / 3 ? 85 : 30;
     if (dice < asks)

@@ -1,6 +1,6 @@
-// gpu_descriptor_vulkan.h over functions of its own, so that no driver is needed: what the header makes of
-// results and statuses, a device that is lost, what a pool with inline uniform blocks is created from, which flags
-// and counts a layout may have, and a request of thousands of sets.
+// gpu_descriptor_vulkan.h over functions of its own, so that no driver is needed: how the header converts
+// results and statuses, a device that is lost, what a pool with inline uniform blocks is created from, which
+// flags and counts a layout may have, and a request for thousands of sets.
 #include "gpu_descriptor_vulkan.h"
 #include "host.h"
 
@@ -100,7 +100,7 @@ static gdv_device functions(void) {
     return vulkan;
 }
 
-// Each error keeps its cause, and comes back as one that vkAllocateDescriptorSets may return.
+// Each error keeps its cause, and becomes one that vkAllocateDescriptorSets may return.
 static void check_mappings(void) {
     static const struct {
         VkResult result;
@@ -125,7 +125,7 @@ static void check_mappings(void) {
         CHECK(gdv_result(status) == VK_ERROR_UNKNOWN);
 }
 
-// A layout of which a pool has few sets, so that a request takes several pools.
+// A layout with few sets in a pool, so that a request takes several pools.
 static gd_layout large_layout(gd_allocator allocator) {
     uint32_t counts[GD_KINDS] = {[GD_SAMPLER] = 100000000};
     gd_layout layout;
@@ -181,7 +181,7 @@ static void lose_the_device_late(void) {
     CHECK(gd_destroy(allocator) == GD_OK && pools == 0);
 }
 
-// The bytes that a driver is asked for, for so many bytes and bindings of a pool.
+// The bytes that a driver is asked for, for this many bytes and bindings of a pool.
 static uint32_t bytes_asked(uint32_t bytes, uint32_t bindings) {
     gdv_device vulkan = functions();
     gd_pool_info info = {.max_sets = 1, .flags = GD_FREE_DESCRIPTOR_SET, .counts = {[GD_SAMPLER] = 1}};
@@ -250,7 +250,7 @@ static void allocate_many(void) {
     CHECK(gd_free_all(allocator) == GD_OK && gd_destroy(allocator) == GD_OK && sets_alive == 0 && pools == 0);
 }
 
-// A layout of a uniform buffer and sampled images, so many or fewer in each set.
+// A layout of a uniform buffer and at most MAX_IMAGES sampled images in each set.
 enum { MAX_IMAGES = 100000 };
 
 static VkDescriptorSetLayoutBinding image_bindings[2] = {

@@ -1,8 +1,8 @@
-// Owners over gpu_descriptor_vulkan.h, over functions of its own: a set manager that is moved, the types of
+// Owners over gpu_descriptor_vulkan.h, over functions of its own: an allocator that is moved, the types of
 // Vulkan, two threads that share an allocator, and the functions of a device by their names and by
 // vkGetDeviceProcAddr. There are no prototypes, but pointers with their names, as volk has them.
 //
-// usage: vulkan_owners [busy] ; with `busy` the library is one in which no call waits
+// usage: vulkan_owners [busy] ; with `busy` the library is one in which calls don't wait
 #define VK_NO_PROTOTYPES
 #include <vulkan/vulkan.h>
 
@@ -235,6 +235,6 @@ int main(int words, char **) {
     move_a_set_manager();
     share_an_allocator(words < 2);
     take_functions();
-    std::printf("a manager is moved, and threads share an allocator\n");
+    std::printf("an allocator is moved, and threads share an allocator\n");
     return 0;
 }

@@ -5,11 +5,12 @@ use gpu_descriptor::*;
 use std::cell::{Cell, RefCell};
 use std::collections::HashMap;
 
-/// How few pools there may be, so that some draws find no memory; and how many frames are in flight.
+/// The max of the number of pools, so that some requests run out of memory; and the number of frames in
+/// flight.
 const MAX_POOLS: usize = 4;
 const IN_FLIGHT: u64 = 3;
 
-/// A device in main memory. Its pools and raw sets are numbers, which it never gives twice.
+/// A device in main memory. Its pools and raw sets are numbers, each given once.
 #[derive(Default)]
 struct Gpu {
     /// The pools, the pool of each set, the sets that each frame in flight reads, and the last number.
@@ -78,11 +79,11 @@ type Sets<'a> = SetManager<u32, u32, u32, &'a Gpu>;
 
 fn finish(manager: &mut Sets, frame: u64) {
     manager.device().wait(frame);
-    // SAFETY: the fence of the frame was waited for, and no material is used past its last frame.
+    // SAFETY: the fence of the frame was waited for, and no material is used after its last frame.
     unsafe { manager.frame_done(frame) };
 }
 
-/// Draws a set. Without memory the frames in flight are waited for, and it is tried once more.
+/// Allocates a set for the frame. When memory runs out, it waits for the frames in flight and retries once.
 fn draw(manager: &mut Sets, layout: LayoutHandle) -> Result<u32, RequestError> {
     let handle = match manager.allocate_for_frame(layout) {
         Err(RequestError::Allocation(AllocationError::OutOfDeviceMemory)) => {

@@ -5,13 +5,13 @@ use crate::{AllocationError, DescriptorDevice};
 use core::ops::DerefMut;
 use std_alloc::vec::Vec;
 
-/// Sets of one layout for one thread, over a set manager that threads share behind a lock of yours. It takes
-/// `refill` sets from the set manager by one call and gives as many back by one, so that threads seldom wait.
+/// Sets of one layout for one thread, over a set manager that threads share behind your lock. One call
+/// allocates `refill` sets from the set manager, and one call frees as many, so that threads seldom wait.
 ///
-/// Each set comes with its raw one, which takes no lock to read. To the set manager the sets of a cache are
-/// held: their pools stay, and a cache that is dropped leaves them to it. Therefore [`flush`](Self::flush) each
-/// cache before a `cleanup` or `remove_layout`. Sets that wait for a frame don't go through a cache: pass those of a
-/// thread and frame to one `free_after`.
+/// Each set has its raw one next to it, so no lock is needed to read that. For the set manager the sets of a
+/// cache are held: their pools stay, and dropping a cache frees none. So [`flush`](Self::flush) each cache
+/// before a `cleanup` or `remove_layout`. A set that has to wait for a frame doesn't go into a cache: pass those
+/// of a thread and frame to one `free_after`.
 ///
 /// ```
 /// # use gpu_descriptor::manager::{LayoutHandle, SetManager, SetCache};
@@ -32,14 +32,14 @@ pub struct SetCache<S> {
     layout: LayoutHandle,
     refill: usize,
 
-    /// At most twice `refill`, and so many `handles`, for calls of the set manager.
+    /// At most twice `refill` sets, and as many `handles` for calls of the set manager.
     sets: Vec<(SetHandle, S)>,
     handles: Vec<SetHandle>,
 }
 
 impl<S: Copy> SetCache<S> {
-    /// A cache without sets. It allocates the memory for all that it may have, twice `refill`, which is at
-    /// least 1.
+    /// A cache without sets. It allocates the memory for all sets that it may have, twice `refill`, which
+    /// is taken as at least 1.
     ///
     /// # Errors
     ///
@@ -66,12 +66,12 @@ impl<S: Copy> SetCache<S> {
         self.sets.len()
     }
 
-    /// A set of the cache. An empty one takes the lock and is refilled; if the set manager refuses so many, by
-    /// half as many, and so on.
+    /// Takes a set from the cache. An empty cache takes the lock and is refilled; if the set manager
+    /// refuses `refill` sets, it asks for half as many, and so on.
     ///
     /// # Errors
     ///
-    /// Same as [`SetManager::allocate`]: not even one set was granted.
+    /// Same as [`SetManager::allocate`]: not even one set could be allocated.
     #[inline]
     pub fn allocate<L, P, D: DescriptorDevice<L, P, S>, G>(
         &mut self,
@@ -105,13 +105,13 @@ impl<S: Copy> SetCache<S> {
         Ok(read(first))
     }
 
-    /// Puts a set of the cache's layout into the cache, from whichever cache it came. A full one takes the lock
-    /// and first gives `refill` sets back. The set manager checks a set only then.
+    /// Puts a set of the cache's layout into the cache, even if it was taken from another cache. A full
+    /// cache takes the lock and first frees `refill` sets. Only then does the set manager check the sets.
     ///
     /// # Errors
     ///
-    /// `NoSet`: a set of the cache was freed elsewhere, so that none could be given back. The set is still
-    /// yours, and [`flush`](Self::flush) mends the cache.
+    /// `NoSet`: a set of the cache was freed elsewhere, so that none could be freed. The set is still
+    /// yours, and [`flush`](Self::flush) repairs the cache.
     ///
     /// # Safety
     ///
@@ -126,14 +126,14 @@ impl<S: Copy> SetCache<S> {
         G: DerefMut<Target = SetManager<L, P, S, D>>,
     {
         if self.sets.len() == self.handles.len() {
-            // SAFETY: the caller's, when the sets came.
+            // SAFETY: the caller's, when the sets were passed.
             unsafe { self.give_back(self.refill, &mut lock()) }?;
         }
         self.sets.push(set);
         Ok(())
     }
 
-    /// Gives all sets back to the set manager.
+    /// Frees all sets of the cache.
     ///
     /// # Errors
     ///
@@ -149,13 +149,13 @@ impl<S: Copy> SetCache<S> {
         // SAFETY: the caller's.
         let answer = unsafe { self.give_back(self.sets.len(), manager) };
         for (handle, _) in self.sets.drain(..) {
-            // SAFETY: the caller's. One that was freed elsewhere is named by no handle.
+            // SAFETY: the caller's. The handle of a set that was freed elsewhere is invalid.
             let _ = unsafe { manager.free(&[handle]) };
         }
         answer
     }
 
-    /// Gives the last sets back by one call, or none.
+    /// Frees the last `count` sets by one call, or none.
     ///
     /// # Safety
     ///

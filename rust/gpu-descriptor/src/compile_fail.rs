@@ -1,5 +1,5 @@
-//! What must not compile. Beside each text stands one that differs in a word or two and compiles, so the
-//! first fails for no other reason.
+//! What must not compile. Each text has a twin that differs in a word or two and compiles, so the first
+//! fails for no other reason.
 //!
 //! A set that is dropped unnoticed, of an allocator:
 //!
@@ -27,7 +27,7 @@
 //! # }
 //! ```
 //!
-//! And of a manager: its handle.
+//! The handle of a set manager's set that is dropped unnoticed:
 //!
 //! ```compile_fail
 //! #![deny(unused_must_use)]
@@ -75,13 +75,13 @@
 //! # type Sets = SetManager<u64, u64, u64, Device>;
 //! # fn f(manager: &mut Sets, layout: LayoutHandle) -> Result<(), RequestError> {
 //! let _set = manager.allocate(layout)?;
-//! let _drawn = manager.allocate_for_frame(layout)?;
+//! let _frame_set = manager.allocate_for_frame(layout)?;
 //! let _count = manager.outstanding();
 //! # Ok(())
 //! # }
 //! ```
 //!
-//! An allocator, a manager or a set manager in another thread, if its pools or sets can't go there:
+//! An allocator or a frame manager in another thread, if its pools or sets can't be sent there:
 //!
 //! ```compile_fail
 //! # use gpu_descriptor::{DescriptorAllocator, frames::FrameManager};
@@ -127,7 +127,7 @@
 //! }
 //! ```
 //!
-//! A device of its own beside a borrowed one, which is a device already (E0119):
+//! A device for a reference to a type that is a device already (E0119):
 //!
 //! ```compile_fail
 //! # use gpu_descriptor::*;

@@ -6,7 +6,7 @@ use crate::{
     CreatePoolError, DescriptorPoolCreateFlags, DescriptorTotalCount, DeviceAllocationError,
 };
 
-/// A pool, and what it may have.
+/// A pool, and what it can have.
 #[derive(Debug)]
 pub(crate) struct CountedPool<P> {
     raw: P,

@@ -6,82 +6,21 @@ use crate::{
 };
 use core::marker::PhantomData;
 
-/// Abstract device that can create pools and allocate sets from them.
+/// A device that can create pools and allocate sets from them.
 ///
-/// The allocator asks for pools of at least one set, which are not without descriptors, and always with
+/// The allocator asks for pools of at least one set and one descriptor, always with
 /// [`FREE_DESCRIPTOR_SET`](DescriptorPoolCreateFlags::FREE_DESCRIPTOR_SET). It never asks a pool for more
 /// sets or descriptors than the pool has left. If an existing pool returns `FragmentedPool` or
 /// `OutOfPoolMemory`, the next pool is asked. A new pool that returns one of them is destroyed and ends the
-/// request with `Fragmentation`, and every other error ends the request. A result of the driver that has no
-/// name here is best returned as `OutOfHostMemory`; a panic poisons the allocator.
+/// request with `Fragmentation`; every other error ends the request. Return any other result of the driver
+/// as `OutOfHostMemory`. A panic poisons the allocator.
 ///
-/// A device may hold a lock or a `RefCell` borrow while it reads `layouts` and extends `sets`, since
-/// neither runs code of a device or of a caller. Reading the sets of a release may: in a call of `free`
-/// it reads the iterator that the caller passed. Therefore the caller's iterator must not take a lock or a borrow
-/// that the device holds in `dealloc_descriptor_sets`.
-///
-/// A device of one's own, and an allocator over it:
-///
-/// ```
-/// use gpu_descriptor::{
-///     CreatePoolError, DescriptorAllocator, DescriptorDevice, DescriptorPoolCreateFlags,
-///     DescriptorSetLayoutCreateFlags, DescriptorTotalCount, DeviceAllocationError,
-/// };
-/// # use std::cell::Cell;
-///
-/// /// A device that only numbers its pools and sets.
-/// struct Device(Cell<u64>);
-/// # impl Device {
-/// #     fn next(&self) -> u64 {
-/// #         self.0.set(self.0.get() + 1);
-/// #         self.0.get()
-/// #     }
-/// # }
-///
-/// impl DescriptorDevice<u64, u64, u64> for Device {
-///     unsafe fn create_descriptor_pool(
-///         &self,
-///         _counts: &DescriptorTotalCount,
-///         _max_sets: u32,
-///         _flags: DescriptorPoolCreateFlags,
-///     ) -> Result<u64, CreatePoolError> {
-///         Ok(self.next())
-///     }
-///
-///     unsafe fn destroy_descriptor_pool(&self, _pool: u64) {}
-///
-///     unsafe fn alloc_descriptor_sets<'a>(
-///         &self,
-///         _pool: &mut u64,
-///         layouts: impl ExactSizeIterator<Item = &'a u64>,
-///         sets: &mut impl Extend<u64>,
-///     ) -> Result<(), DeviceAllocationError> {
-///         sets.extend(layouts.map(|_| self.next()));
-///         Ok(())
-///     }
-///
-///     unsafe fn dealloc_descriptor_sets(&self, _pool: &mut u64, sets: impl Iterator<Item = u64>) {
-///         sets.for_each(drop);
-///     }
-/// }
-///
-/// # fn main() -> Result<(), Box<dyn std::error::Error>> {
-/// let device = Device(Cell::new(0));
-/// let layout = 7;
-/// let flags = DescriptorSetLayoutCreateFlags::empty();
-/// let counts = DescriptorTotalCount { uniform_buffer: 1, ..Default::default() };
-///
-/// let limit = 500_000; // maxUpdateAfterBindDescriptorsInAllPools of the driver
-/// let mut allocator = DescriptorAllocator::new(limit);
-/// let sets = unsafe { allocator.allocate(&device, &layout, flags, &counts, 3) }?;
-/// assert_eq!(*sets[0].raw(), 2);
-/// unsafe { allocator.free(&device, sets) };
-/// unsafe { allocator.cleanup(&device) };
-/// # Ok(())
-/// # }
-/// ```
+/// A device may hold a lock or a `RefCell` borrow while it reads `layouts` and extends `sets`: neither runs
+/// code of a device or of a caller. But `dealloc_descriptor_sets` may run the caller's code: in a call of
+/// `free` its `sets` read the iterator that the caller passed. So the caller's iterator must not take a
+/// lock or a borrow that the device holds there.
 pub trait DescriptorDevice<L, P, S> {
-    /// Creates a pool for at most `max_sets` sets, which have at most these descriptors altogether.
+    /// Creates a pool for at most `max_sets` sets, which together have at most these descriptors.
     ///
     /// # Safety
     ///
@@ -227,11 +166,11 @@ impl<L, P, S, D: DescriptorDevice<L, P, S>> inner::DescriptorDevice<L, P, S> for
     }
 }
 
-/// A sink that takes as many sets as were asked for and no more.
+/// A sink that takes the sets that were requested, and no more.
 struct Puts<'a, K, S> {
     sink: &'a mut K,
 
-    /// How much room is left once all sets came.
+    /// How much room is left after all sets were put.
     floor: usize,
     set: PhantomData<S>,
 }

@@ -1,4 +1,4 @@
-//! A manager of descriptor sets that are freed once the frame that used them last is done.
+//! A frame manager: descriptor sets that are freed once the frame that used them last is done.
 //!
 //! A set that the device's work may still read is retired with the frame of that work. When the frame
 //! is finished, the sets that were retired at it or before are freed.
@@ -39,11 +39,16 @@ use std_alloc::vec::Vec;
 
 /// Allocates descriptor sets, and frees them when the frame that used them last is done.
 ///
-/// Each call that needs the device borrows it, and it has to be the same each time. `retire`
-/// and `retire_all` make no call of the device, and are safe: the sets are freed by `finish`, whose
-/// caller promises that the device is done with them.
+/// Each call that needs the device borrows it, and it has to be the same each time. `retire` and
+/// `retire_all` make no device call and are safe: `finish` frees the sets, and its caller promises that the
+/// device is done with them.
 ///
-/// If a device or an iterator of sets panics in a call, the manager is [poisoned](crate#after-a-panic).
+/// # Panics
+///
+/// If a device or an iterator of sets panics in a call, or a device breaks its contract, the manager is
+/// poisoned: from then on every call that changes something panics, except `reserve`, `retire` and
+/// `retire_all`. While the thread unwinds, `finish`, `free`, `cleanup` and `trim` do nothing instead;
+/// without std they panic even then, which ends the program. See [After a panic](crate#after-a-panic).
 ///
 /// A drop destroys no pools: see [At a drop](crate#at-a-drop).
 #[derive(Debug)]
@@ -53,7 +58,7 @@ pub struct FrameManager<P, S> {
 }
 
 impl<P, S> FrameManager<P, S> {
-    /// A manager without sets. It allocates nothing. The limit is that of
+    /// A manager without sets. It allocates no memory. The limit is that of
     /// [`DescriptorAllocator::new`](crate::DescriptorAllocator::new).
     #[must_use]
     pub fn new(max_update_after_bind_descriptors_in_all_pools: u32) -> Self {
@@ -68,7 +73,7 @@ impl<P, S> FrameManager<P, S> {
         }
     }
 
-    /// Allocates sets, as [`DescriptorAllocator::allocate`](crate::DescriptorAllocator::allocate) does.
+    /// Allocates sets. See [`DescriptorAllocator::allocate`](crate::DescriptorAllocator::allocate).
     ///
     /// # Safety
     ///
@@ -97,17 +102,13 @@ impl<P, S> FrameManager<P, S> {
         Ok(sets.0)
     }
 
-    /// Allocates sets of a layout that is kept with its flags and counts.
+    /// Same as `allocate`, for a layout that is stored with its flags and counts.
     ///
     /// # Safety
     ///
-    /// Same as `allocate`, for what `layout` keeps.
+    /// Same as `allocate`, for what `layout` has.
     ///
     /// # Errors
-    ///
-    /// Same as `allocate`.
-    ///
-    /// # Panics
     ///
     /// Same as `allocate`.
     pub unsafe fn allocate_for<L, D: DescriptorDevice<L, P, S>>(
@@ -123,20 +124,14 @@ impl<P, S> FrameManager<P, S> {
         Ok(sets.0)
     }
 
-    /// Allocates sets of a layout that is kept with its flags and counts, and appends them to a vector.
-    ///
-    /// The vector grows only if it has no capacity for `count` more. On an error it has the sets that it
-    /// had. If the device panics, these are dropped too.
+    /// Same as `allocate_for`, but appends the sets to a vector. It grows only if it has no capacity for
+    /// `count` more. On an error it has the sets that it had. If the device panics, these are dropped too.
     ///
     /// # Safety
     ///
-    /// Same as `allocate`, for what `layout` keeps.
+    /// Same as `allocate`, for what `layout` has.
     ///
     /// # Errors
-    ///
-    /// Same as `allocate`.
-    ///
-    /// # Panics
     ///
     /// Same as `allocate`.
     pub unsafe fn allocate_into<L, D: DescriptorDevice<L, P, S>>(
@@ -155,18 +150,14 @@ impl<P, S> FrameManager<P, S> {
         })
     }
 
-    /// Allocates one set of a layout that is kept with its flags and counts, and returns it without a
+    /// Allocates one set of a layout that is stored with its flags and counts, and returns it without a
     /// vector.
     ///
     /// # Safety
     ///
-    /// Same as `allocate`, for what `layout` keeps.
+    /// Same as `allocate`, for what `layout` has.
     ///
     /// # Errors
-    ///
-    /// Same as `allocate`.
-    ///
-    /// # Panics
     ///
     /// Same as `allocate`.
     pub unsafe fn allocate_one<L, D: DescriptorDevice<L, P, S>>(
@@ -182,7 +173,7 @@ impl<P, S> FrameManager<P, S> {
     ///
     /// # Errors
     ///
-    /// `OutOfHostMemory`, and nothing changed.
+    /// `OutOfHostMemory`. Nothing changes.
     pub fn reserve(&mut self, additional: usize) -> Result<(), AllocationError> {
         let reserved = self.inner.get_mut().reserve(additional);
         reserved.map_err(|_| AllocationError::OutOfHostMemory)
@@ -192,8 +183,9 @@ impl<P, S> FrameManager<P, S> {
     ///
     /// # Errors
     ///
-    /// The error has the set, and nothing changed. `FrameBack`: the frame is less than the greatest at
-    /// which a set was ever retired.
+    /// `FrameBack`: the frame is less than the greatest at which a set was ever retired. `Memory`: an
+    /// allocation failed. `Foreign`: the set is another allocator's. The error has the set, and nothing
+    /// changes.
     pub fn retire(
         &mut self,
         frame: u64,
@@ -203,12 +195,11 @@ impl<P, S> FrameManager<P, S> {
         Ok(self.inner.get_mut().retire(frame, set)?)
     }
 
-    /// Retires sets, in their order: all, or none.
+    /// Retires sets, in their order, all or none.
     ///
     /// # Errors
     ///
-    /// The error has the vector, and nothing changed. The errors are those of `retire`; `FrameBack` is
-    /// returned for an empty vector too.
+    /// Same as `retire`, but the error has the vector. `FrameBack` is returned for an empty vector too.
     pub fn retire_all(
         &mut self,
         frame: u64,
@@ -232,7 +223,7 @@ impl<P, S> FrameManager<P, S> {
         Ok(())
     }
 
-    /// The set, if it came from this manager.
+    /// The set, if it is this manager's.
     fn own(
         &self,
         set: DescriptorSet<S>,
@@ -245,30 +236,29 @@ impl<P, S> FrameManager<P, S> {
     }
 
     /// Frees all sets that were retired at this frame or before, and destroys pools as
-    /// [`DescriptorAllocator::free`](crate::DescriptorAllocator::free) does. It allocates nothing and
-    /// can't be refused.
+    /// [`DescriptorAllocator::free`](crate::DescriptorAllocator::free) does. It allocates no memory and
+    /// can't fail.
     ///
-    /// The time is linear in the number of sets that are freed. If there are none it makes no call of
-    /// the device.
+    /// The time is linear in the number of sets that are freed. If there are none it makes no device call.
     ///
     /// # Safety
     ///
     /// * Every call of this manager gets the same device.
     /// * No command buffer into which a set was bound that was retired at this frame or before is pending,
     ///   or is submitted again before it is recorded again.
-    /// * The retired sets came from this manager. `retire` returns any other set if the process
-    ///   creates fewer than 2^24 allocators and managers.
+    /// * The retired sets are this manager's. `retire` returns any other set if the process creates fewer
+    ///   than 2^24 allocators and managers.
     /// * No raw set was replaced through `raw_mut`.
     ///
     /// # Panics
     ///
-    /// If the device left sets in the iterator that it was given, and if [poisoned](crate#after-a-panic).
+    /// The device left sets in the iterator that it was given, which poisons the manager.
     pub unsafe fn finish<L, D: DescriptorDevice<L, P, S>>(&mut self, device: &D, frame: u64) {
         let device = &mut Adapter { device };
         self.inner.call_in_drop(|inner| inner.finish(device, frame));
     }
 
-    /// Frees at once sets that no frame uses any more. The retired sets stay.
+    /// Frees sets at once that no frame uses any more. The retired sets stay.
     ///
     /// # Safety
     ///
@@ -289,49 +279,35 @@ impl<P, S> FrameManager<P, S> {
         own.refuse_foreign();
     }
 
-    /// Destroys the oldest pools of each [key](crate), up to the first that has a set,
-    /// retired or not. It allocates nothing. An empty pool after that one stays; [`trim`](Self::trim)
-    /// destroys it.
+    /// Destroys the oldest pools of each [key](crate), up to the first that has a set, retired or not. It
+    /// allocates no memory. An empty pool after that one stays; [`trim`](Self::trim) destroys it.
     ///
     /// # Safety
     ///
     /// Every call of this manager gets the same device.
-    ///
-    /// # Panics
-    ///
-    /// If [poisoned](crate#after-a-panic).
     pub unsafe fn cleanup<L>(&mut self, device: &impl DescriptorDevice<L, P, S>) {
         let device = &mut Adapter { device };
         self.inner.call_in_drop(|inner| inner.cleanup(device));
     }
 
-    /// Destroys all pools that have no set, retired or not, wherever they are. It goes over every pool,
-    /// and allocates nothing.
+    /// Destroys all pools that have no set, retired or not, wherever they are. It visits every pool and
+    /// allocates no memory.
     ///
     /// # Safety
     ///
     /// Every call of this manager gets the same device.
-    ///
-    /// # Panics
-    ///
-    /// If [poisoned](crate#after-a-panic).
     pub unsafe fn trim<L>(&mut self, device: &impl DescriptorDevice<L, P, S>) {
         let device = &mut Adapter { device };
         self.inner.call_in_drop(|inner| inner.trim(device));
     }
 
-    /// Bounds the descriptors of each new pool from now on, as
-    /// [`DescriptorAllocator::set_max_pool_descriptors`](crate::DescriptorAllocator::set_max_pool_descriptors)
-    /// does. At first it is `None`, as in gpu-descriptor 0.3.2.
-    ///
-    /// # Panics
-    ///
-    /// If [poisoned](crate#after-a-panic).
+    /// Bounds the descriptors of each new pool. At first it is `None`, as in gpu-descriptor 0.3.2. See
+    /// [`DescriptorAllocator::set_max_pool_descriptors`](crate::DescriptorAllocator::set_max_pool_descriptors).
     pub fn set_max_pool_descriptors(&mut self, max: Option<u64>) {
         self.inner.call(|inner| inner.set_max_pool_descriptors(max));
     }
 
-    /// How many descriptors a new pool has at most, unless more are needed at once.
+    /// The bound on the descriptors of a new pool, `None` without one.
     #[must_use]
     pub fn max_pool_descriptors(&self) -> Option<u64> {
         self.inner.get().max_pool_descriptors()
@@ -343,13 +319,14 @@ impl<P, S> FrameManager<P, S> {
         self.inner.get().outstanding()
     }
 
-    /// How much of the limit is in use: the descriptors of all pools for update-after-bind layouts.
+    /// How much of the limit is in use: the number of descriptors of the pools for update-after-bind
+    /// layouts.
     #[must_use]
     pub fn update_after_bind_capacity(&self) -> u32 {
         self.inner.get().allocator().update_after_bind_capacity()
     }
 
-    /// The limit on these descriptors, which `new` was given.
+    /// The limit on update-after-bind descriptors that `new` was given.
     #[must_use]
     pub fn update_after_bind_limit(&self) -> u32 {
         self.inner.get().allocator().update_after_bind_limit()
@@ -362,7 +339,7 @@ impl<P, S> FrameManager<P, S> {
         allocator.pool_count(counts, update_after_bind)
     }
 
-    /// The books of a pool, same as [`DescriptorAllocator::pool`](crate::DescriptorAllocator::pool).
+    /// The books of a pool. See [`DescriptorAllocator::pool`](crate::DescriptorAllocator::pool).
     #[must_use]
     pub fn pool(
         &self,
@@ -411,7 +388,7 @@ pub enum RetireError<T> {
     /// An allocation for the list of retired sets failed.
     Memory(T),
 
-    /// A set came from another allocator.
+    /// A set is another allocator's.
     Foreign(T),
 }
 

@@ -37,8 +37,8 @@ impl Ids {
     }
 }
 
-/// The sets of an iterator up to the first one of another allocator, which is kept: it is dropped once
-/// the call is over, so a panic of its `Drop` poisons nothing.
+/// The sets of an iterator up to the first one of another allocator. That one is stored and dropped after
+/// the call, so a panic of its `Drop` poisons nothing.
 pub(crate) struct Own<'a, S, I> {
     sets: I,
     ids: &'a Ids,
@@ -46,7 +46,7 @@ pub(crate) struct Own<'a, S, I> {
 }
 
 impl<S, I> Own<'_, S, I> {
-    /// Panics if it ended at a set of another allocator, unless the thread panics already.
+    /// Panics if the iterator ended at a set of another allocator, unless the thread panics already.
     pub(crate) fn refuse_foreign(self) {
         if let Some(foreign) = self.foreign {
             drop(foreign);

@@ -1,4 +1,4 @@
-//! What a container of the shim has after an insert that found no memory: what it had.
+//! A container of the shim has what it had after an insert that failed for lack of memory.
 
 #[path = "../tests/refuses/mod.rs"]
 mod refuses;
@@ -7,7 +7,7 @@ use crate::kit::alloc::Global;
 use crate::kit::{collections::VecDeque, indexmap::IndexMap};
 use refuses::with_refused;
 
-/// Inserts numbers from 0 up until one is refused for memory: which one, and the error.
+/// Inserts numbers from 0 up until one fails for lack of memory: which one, and the error.
 fn fill<E: std::fmt::Debug>(mut insert: impl FnMut(u32) -> Result<(), E>) -> (u32, E) {
     insert(0).unwrap();
     let mut refused = |item| with_refused(0, || insert(item)).0.err();

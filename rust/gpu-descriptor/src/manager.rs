@@ -1,8 +1,8 @@
-//! All descriptor sets of a set manager under handles: sets of a frame, which are freed once the device is
-//! done with the frame, and sets that live until they are freed or destroyed. Freed sets are kept for reuse.
+//! A set manager, which owns a device and its descriptor sets. Sets of a frame are freed once the device is
+//! done with the frame; other sets are held until they are freed. Freed sets are reused.
 //!
-//! A frame loop over a device of one's own. A material is replaced while frames that read it are in
-//! flight, so its set is freed once they are done.
+//! The example is a frame loop over a device of its own. A material is replaced while frames that read it
+//! are in flight, so its set is freed once they are done.
 //!
 //! ```
 //! use gpu_descriptor::manager::{Counts, SetManager};
@@ -55,7 +55,7 @@
 //! # fn main() -> Result<(), Box<dyn std::error::Error>> {
 //! const IN_FLIGHT: u64 = 2;
 //! let limit = 500_000; // maxUpdateAfterBindDescriptorsInAllPools of the driver
-//! let mut set manager = SetManager::new(Gpu::default(), limit);
+//! let mut manager = SetManager::new(Gpu::default(), limit);
 //! let counts = DescriptorTotalCount { uniform_buffer: 1, ..Default::default() };
 //! let flags = DescriptorSetLayoutCreateFlags::empty();
 //! let layout = unsafe { manager.add_layout(SetLayout { layout: 7, counts, flags }) }?;
@@ -75,9 +75,9 @@
 //!     manager.free_after(&[old], frame)?;
 //!     assert_eq!(manager.set(old), None);
 //! }
-//! // Of each of the last two frames a frame set and a material wait.
+//! // The frame set and the material of each of the last two frames wait.
 //! assert_eq!(manager.counts(), Counts { held: 3, waiting: 4, kept: 0 });
-//! // The device made no other sets: each later frame freed two, and reused them.
+//! // The device allocated no other sets: from the third frame on, each frame reuses two freed ones.
 //! assert_eq!(manager.device().sets.get(), 7);
 //!
 //! // .. the device is idle ..
@@ -104,76 +104,82 @@ pub use crate::descriptor_manager::{
     BeginFrameError, Counts, FreeError, LayoutHandle, RequestError, SetHandle,
 };
 
-/// Each set manager has a number, which distinguishes its handles from those of others.
-static RENDERERS: AtomicU32 = AtomicU32::new(0);
+/// The number of set managers that were made. Each takes one, which marks its handles.
+static MANAGERS: AtomicU32 = AtomicU32::new(0);
 
-/// The descriptor sets of a set manager, over a device that it owns. `&D` is a device too.
+/// Allocates descriptor sets from a device that it owns, and reuses freed ones. `&D` is a device too.
 ///
-/// `begin_frame` opens a frame, `allocate_for_frame` allocates its sets, and `end_frame` ends it. Its sets are freed by the
-/// `frame_done` of the frame or a later one; frames in between may be in flight. A set of `allocate`,
-/// `allocate_many` or `allocate_into` lives until `free` frees it at once, or `free_after` or
-/// `free_after` lets it wait: then the next `frame_done` of the frame of its last use or a later one frees it.
-/// Memory to free a set is reserved when it is allocated, so only `add_layout`, `allocate_for_frame`, `allocate`,
-/// `allocate_many` and `allocate_into` allocate. No handle is given twice, although memory follows the peak
-/// number of sets.
+/// `begin_frame` opens a frame, `allocate_for_frame` allocates its sets, and `end_frame` ends it. Its sets
+/// are freed by the `frame_done` of this frame or a later one; several frames may be in flight. A set from
+/// `allocate`, `allocate_many` or `allocate_into` is held until `free` frees it at once, or `free_after`
+/// has it freed by the `frame_done` of its last frame or a later one.
+///
+/// Only `add_layout`, `allocate_for_frame`, `allocate`, `allocate_many` and `allocate_into` allocate
+/// memory: what freeing a set needs is reserved before the set is allocated. Memory follows the peak of the
+/// number of sets, yet no handle is ever given twice.
 ///
 /// # Kept sets
 ///
-/// A freed set is kept, up to as many of its layout as [`set_max_kept`](Self::set_max_kept) says, at first all;
-/// otherwise the device frees it. `allocate_for_frame`, `allocate`, `allocate_many` and `allocate_into` reuse kept sets of
-/// the layout, under new handles, before they ask the device for new ones. In a frame loop the device
-/// therefore soon allocates and frees no set.
+/// Freed sets are kept, up to [`set_max_kept`](Self::set_max_kept) sets of each layout (at first without a
+/// bound); the device frees the others. Calls that allocate reuse kept sets of the layout, under new handles,
+/// before they ask the device for new ones. In a frame loop the device therefore soon allocates and frees no
+/// set.
 ///
 /// A kept set has the descriptors that were written to it last, and what they refer to may be destroyed by
-/// now. Write each set before you bind it. A validation layer reports a new set that is bound without being
-/// written, but not a kept one: call `set_max_kept(0)` in a debug build, which keeps none.
+/// now. So write each set that you get before you bind it. A validation layer reports a new set that is
+/// bound without being written, but can't report a reused one. So call `set_max_kept(0)` in a debug build:
+/// then no set is kept, and the layer reports each that isn't written.
 ///
-/// The device frees the kept sets at a `cleanup`, `free_all` or `shutdown`, those of a layout at its
-/// `remove_layout`, and all if a new set is refused. They stay if the request alone exceeds the limit: see
-/// [`allocate_for_frame`](Self::allocate_for_frame).
+/// The device frees all kept sets in `cleanup`, `free_all` and `shutdown`, those of a layout in
+/// `remove_layout`, and all when it refuses a new set. They stay if the request alone exceeds the limit:
+/// see [`allocate_for_frame`](Self::allocate_for_frame).
 ///
 /// # Which calls are unsafe
 ///
-/// A wrong device can't be given, and neither can a set that isn't out: handles are checked. What is
-/// left are promises of which only the caller knows:
+/// The device is the set manager's own, and handles are checked, so a wrong device or a set that isn't live
+/// can't be passed. Unsafe calls make promises of which only the caller knows:
 ///
 /// * `add_layout`: the layout is what it is said to be, as long as the set manager has it;
 /// * `frame_done`: the device is done with these frames;
 /// * `free`: the device is done with these sets;
-/// * `free_all` and `shutdown`: the device is done with all of them.
+/// * `free_all` and `shutdown`: the device is done with all sets.
 ///
-/// `free_after` and `free_after` are safe, as no set is freed by them. The promise of `frame_done` is
-/// also about the last use that they are given.
+/// `free_after` is safe, since it frees no set itself. The promise of `frame_done` also covers the last
+/// uses that were passed to `free_after`.
 ///
 /// # Panics
 ///
-/// If the device panics in a call, or does what it may not (see
-/// [`DescriptorAllocator::allocate`](crate::DescriptorAllocator::allocate)), the set manager is
-/// [poisoned](crate#after-a-panic).
+/// If the device panics in a call, or breaks its contract (see
+/// [`DescriptorAllocator::allocate`](crate::DescriptorAllocator::allocate)), the set manager is poisoned.
+/// Then every later call that changes something panics; readers and [`into_device`](Self::into_device)
+/// still work. While the thread unwinds, `end_frame`, `frame_done`, `free`, `free_after`, `free_all`,
+/// `cleanup` and `trim` do nothing instead (`free` and `free_after` return `Ok`), and `shutdown` is
+/// `into_device`. Without std they panic even then, which ends the program. See [After a
+/// panic](crate#after-a-panic).
 ///
 /// A drop without `shutdown` destroys no pools: see [At a drop](crate#at-a-drop). The raw layouts, pools
 /// and sets are dropped before the device.
 pub struct SetManager<L, P, S, D: DescriptorDevice<L, P, S>> {
     inner: Guarded<inner::SetManager<L, CountedPool<P>, S, Owned<D>>>,
 
-    /// The number in its handles, and by the place of a layout the generation of its last handle, also if the
-    /// layout was removed: so all layouts can be listed.
+    /// The number that marks its handles; and, for each place of a layout, the generation of its last
+    /// handle, even if the layout was removed. With these all layouts can be listed.
     number: u64,
     generations: Vec<u32>,
 }
 
 impl<L, P, S, D: DescriptorDevice<L, P, S>> SetManager<L, P, S, D> {
-    /// A set manager over a device, without layouts, sets and an open frame. It allocates nothing. The limit
-    /// is that of [`DescriptorAllocator::new`](crate::DescriptorAllocator::new). Other than with a
-    /// `DescriptorAllocator`, a new pool has at most 65,536 descriptors, unless more are needed at once:
-    /// [`set_max_pool_descriptors`](Self::set_max_pool_descriptors) changes that.
+    /// A set manager over a device, without layouts, sets or an open frame. It allocates no memory. The
+    /// limit is that of [`DescriptorAllocator::new`](crate::DescriptorAllocator::new). Unlike with a
+    /// `DescriptorAllocator`, a new pool has at most 65,536 descriptors, unless the sets still needed have
+    /// more: see [`set_max_pool_descriptors`](Self::set_max_pool_descriptors).
     ///
     /// # Panics
     ///
-    /// If 2^32 - 1 were made before in this process: no number is left.
+    /// The process has made 2^32 - 1 set managers before, so no number is left.
     #[must_use]
     pub fn new(device: D, max_update_after_bind_descriptors_in_all_pools: u32) -> Self {
-        let number = RENDERERS.fetch_update(Ordering::Relaxed, Ordering::Relaxed, |number| {
+        let number = MANAGERS.fetch_update(Ordering::Relaxed, Ordering::Relaxed, |number| {
             number.checked_add(1)
         });
         let number = number.expect("no number is left for a manager").into();
@@ -193,7 +199,8 @@ impl<L, P, S, D: DescriptorDevice<L, P, S>> SetManager<L, P, S, D> {
         }
     }
 
-    /// Adds a layout, and returns its handle. Destroy it yourself after `remove_layout` or `shutdown`.
+    /// Adds a layout, and returns its handle. The layout stays yours: destroy it after `remove_layout` or
+    /// `shutdown`.
     ///
     /// # Errors
     ///
@@ -225,51 +232,53 @@ impl<L, P, S, D: DescriptorDevice<L, P, S>> SetManager<L, P, S, D> {
         })
     }
 
-    /// Removes a layout, and returns it. Its handle names none from now on, and none later. Its kept sets
-    /// are freed, and then the pools of its [key](crate) that have no set are destroyed. Its other sets stay,
-    /// and aren't kept once they are freed: a pool that they leave empty may stay until `trim` or `cleanup`.
-    /// Other layouts of the key lose empty pools, and keep their kept sets. It allocates no memory. The time is
-    /// linear in the number of its kept sets and of the pools of its key.
+    /// Removes a layout, and returns it. Its handle is invalid from now on. Its kept sets are freed, and then
+    /// the pools of its [key](crate) that have no set are destroyed. Its other sets stay, and aren't kept once
+    /// they are freed: a pool that they leave empty may stay until `trim` or `cleanup`. Other layouts of the
+    /// key lose empty pools, and keep their kept sets. It allocates no memory. The time is linear in the number
+    /// of its kept sets and of the pools of its key.
     ///
     /// # Errors
     ///
-    /// `NoLayout`: the handle names no layout. Then nothing changed.
+    /// `NoLayout`: the handle is invalid. Nothing changes.
     pub fn remove_layout(&mut self, layout: LayoutHandle) -> Result<SetLayout<L>, RequestError> {
         self.inner.call(|inner| inner.remove_layout(layout))
     }
 
-    /// Opens the next frame, and returns its number: they count from 1.
+    /// Opens the next frame, and returns its number. The first frame has number 1.
     ///
     /// # Errors
     ///
-    /// A frame is open, or there were as many as a `u64` can count.
+    /// `FrameOpen`: a frame is open. `NoMoreFrames`: the last frame has the number `u64::MAX`.
     pub fn begin_frame(&mut self) -> Result<u64, BeginFrameError> {
         self.inner.call(|inner| inner.begin_frame())
     }
 
-    /// Skips frames: the next one has a greater number than this. Frames up to the last are skipped
-    /// already. It is for a program that counts its frames itself.
+    /// Skips frames up to `frame`, so that the next one has a greater number. It is for a program that
+    /// counts its frames itself. It does nothing if `frame` isn't after the last frame.
     ///
     /// # Errors
     ///
-    /// A frame is open. Then nothing changed.
+    /// `FrameOpen`: a frame is open. Nothing changes.
     pub fn skip_to(&mut self, frame: u64) -> Result<(), BeginFrameError> {
         self.inner.call(|inner| inner.skip_to(frame))
     }
 
-    /// Allocates a set of a layout for the open frame: the last one that was kept, or else a new one. The
-    /// handle is valid until the frame ends, and the `frame_done` of the frame frees the set.
+    /// Allocates a set of a layout for the open frame: the set of the layout that was kept last, or else a
+    /// new one. The handle is valid until the frame ends, and the set is freed by the `frame_done` of the
+    /// frame.
     ///
-    /// If a new set is refused while sets of any layout are kept, all kept sets are freed and empty pools
-    /// are destroyed, as by [`cleanup`](Self::cleanup), and `allocate_for_frame` retries once. It does not, and kept sets
-    /// stay, if the set alone has more update-after-bind descriptors than the limit allows, or if an
-    /// allocation for the set manager's own table fails.
+    /// If the device or the limit refuses a new set while sets of any layout are kept, all kept sets are
+    /// freed and empty pools are destroyed, as by [`cleanup`](Self::cleanup), and it retries once. It fails
+    /// without that, and kept sets stay, if the set alone has more update-after-bind descriptors than the
+    /// limit allows, or if an allocation for the set manager's own table fails.
     ///
     /// # Errors
     ///
-    /// No frame is open, the handle names no layout, or the request was refused. The set manager has the
-    /// sets in use that it had. If it was refused, free sets or memory, call `cleanup` and ask again, but
-    /// not for ever: [`DescriptorAllocator::allocate`](crate::DescriptorAllocator::allocate) has the causes.
+    /// `NoFrame`: no frame is open. `NoLayout`: the layout's handle is invalid. `Allocation`: the request
+    /// was refused; then free sets or memory, call `cleanup` and retry, but not without end:
+    /// [`DescriptorAllocator::allocate`](crate::DescriptorAllocator::allocate) has the causes. On each
+    /// error the set manager has the live sets that it had.
     #[inline]
     pub fn allocate_for_frame(&mut self, layout: LayoutHandle) -> Result<SetHandle, RequestError> {
         self.inner.call(|inner| inner.allocate_for_frame(layout))
@@ -277,93 +286,77 @@ impl<L, P, S, D: DescriptorDevice<L, P, S>> SetManager<L, P, S, D> {
 
     /// Ends the frame, if one is open: its sets wait for the device, and their handles are invalid from now
     /// on.
-    ///
-    /// # Panics
-    ///
-    /// If [poisoned](crate#after-a-panic).
     pub fn end_frame(&mut self) {
         self.inner.call_in_drop(|inner| inner.end_frame());
     }
 
-    /// States that the device is done with this frame and those before it. Frees the sets that wait for these
-    /// frames: they are kept, or the device frees them, and then pools are destroyed as by
-    /// [`DescriptorAllocator::free`](crate::DescriptorAllocator::free). It allocates nothing.
+    /// States that the device is done with this frame and those before it. The sets that wait for these
+    /// frames are kept or freed, and then pools are destroyed as by
+    /// [`DescriptorAllocator::free`](crate::DescriptorAllocator::free). It allocates no memory.
     ///
-    /// The device is never done with an open frame, also with `u64::MAX`: its sets, and those destroyed
-    /// with it as their last use, need another call, after its `end_frame`. So do sets of later frames.
+    /// The device is never done with an open frame, even if `frame` is `u64::MAX`: its sets, and those
+    /// whose last use it is, need another call after its `end_frame`. So do sets of later frames.
     ///
     /// # Safety
     ///
-    /// * No pending command buffer refers to a set of a frame up to this one, nor to a set that was
-    ///   destroyed with a last use up to this one.
-    /// * All command buffers where one of them is referenced move to invalid state.
-    ///
-    /// # Panics
-    ///
-    /// If [poisoned](crate#after-a-panic).
+    /// * No pending command buffer refers to a set of a frame up to this one, nor to a set that was passed
+    ///   to `free_after` with a last use up to this one.
+    /// * All command buffers that refer to one of these sets become invalid.
     pub unsafe fn frame_done(&mut self, frame: u64) {
         self.inner.call_in_drop(|inner| inner.frame_done(frame));
     }
 
     /// Frees all kept sets, and destroys all pools that then have no set, wherever they are. Call it
-    /// between levels, or when memory is short. The sets that are live now aren't kept when they are freed, so
-    /// that their pools become empty. Sets that are allocated later are kept again.
-    ///
-    /// # Panics
-    ///
-    /// If [poisoned](crate#after-a-panic).
+    /// between levels, or when memory is short. Sets that are live now aren't kept once they are freed, so
+    /// that their pools become empty. Later sets are kept again.
     pub fn cleanup(&mut self) {
         self.inner.call_in_drop(|inner| inner.cleanup());
     }
 
-    /// Destroys all pools that have no set, wherever they are. Kept sets stay, and so do their pools;
-    /// [`cleanup`](Self::cleanup) frees those first. It goes over every pool, and allocates nothing.
-    ///
-    /// # Panics
-    ///
-    /// If [poisoned](crate#after-a-panic).
+    /// Destroys all pools that have no set, wherever they are. Kept sets stay, and so do their pools:
+    /// [`cleanup`](Self::cleanup) frees those first. It visits every pool and allocates no memory.
     pub fn trim(&mut self) {
         self.inner.call_in_drop(|inner| inner.trim());
     }
 
-    /// From now on keeps at most `max` sets of each layout; the device frees those above. At first it
-    /// is `u32::MAX`, and 0 keeps none. It allocates nothing. See [Kept sets](Self#kept-sets).
+    /// Sets how many freed sets of each layout are kept at most; the device frees those above. At first it
+    /// is `u32::MAX`; 0 keeps none. It allocates no memory. See [Kept sets](Self#kept-sets).
     pub fn set_max_kept(&mut self, max: u32) {
         self.inner.call(|inner| inner.set_max_kept(max));
     }
 
-    /// Bounds the descriptors of each new pool from now on, as
-    /// [`DescriptorAllocator::set_max_pool_descriptors`](crate::DescriptorAllocator::set_max_pool_descriptors)
-    /// does. At first it is `Some(65_536)`. Pools that exist stay.
+    /// Bounds the descriptors of each new pool. At first it is `Some(65_536)`. Existing pools stay as they
+    /// are. See
+    /// [`DescriptorAllocator::set_max_pool_descriptors`](crate::DescriptorAllocator::set_max_pool_descriptors).
     pub fn set_max_pool_descriptors(&mut self, max: Option<u64>) {
         self.inner.call(|inner| inner.set_max_pool_descriptors(max));
     }
 
-    /// How many descriptors a new pool has at most, unless more are needed at once.
+    /// The bound on the descriptors of a new pool, `None` without one.
     #[must_use]
     pub fn max_pool_descriptors(&self) -> Option<u64> {
         self.inner.get().max_pool_descriptors()
     }
 
-    /// Creates a set of a layout, which is held until it is freed or destroyed, in a frame or between
-    /// two: the last one that was kept, or else a new one, as [`allocate_for_frame`](Self::allocate_for_frame) does.
+    /// Allocates a set of a layout, which is held until it is freed. A frame may be open or not. It takes
+    /// the set of the layout that was kept last, or else a new one: see
+    /// [`allocate_for_frame`](Self::allocate_for_frame).
     ///
     /// # Errors
     ///
-    /// The handle names no layout, or the request was refused (see [`allocate_for_frame`](Self::allocate_for_frame)). The set manager
-    /// has the sets in use that it had. It is never `NoFrame`.
+    /// Same as [`allocate_for_frame`](Self::allocate_for_frame), but never `NoFrame`.
     #[inline]
     pub fn allocate(&mut self, layout: LayoutHandle) -> Result<SetHandle, RequestError> {
         self.inner.call(|inner| inner.allocate(layout))
     }
 
-    /// Creates `count` sets of a layout, all or none, as [`allocate_into`](Self::allocate_into) does,
-    /// and returns their handles in a new vector.
+    /// Allocates `count` sets of a layout, all or none, and returns their handles in a new vector. See
+    /// [`allocate_into`](Self::allocate_into).
     ///
     /// # Errors
     ///
-    /// Same as [`allocate`](Self::allocate). `OutOfHostMemory` if the vector can't be allocated; then
-    /// nothing changed.
+    /// Same as [`allocate`](Self::allocate), and `OutOfHostMemory` if the vector can't be allocated; then
+    /// nothing changes.
     pub fn allocate_many(
         &mut self,
         layout: LayoutHandle,
@@ -381,14 +374,14 @@ impl<L, P, S, D: DescriptorDevice<L, P, S>> SetManager<L, P, S, D> {
         Ok(sets)
     }
 
-    /// Creates a set of a layout for each place of `sets`, all or none, and writes their handles there. Each
-    /// is held until it is freed or destroyed. Kept sets come first; the others are new, in one request.
-    /// With kept sets alone it allocates nothing.
+    /// Allocates a set of a layout for each place of `sets`, all or none, and writes their handles there. Each
+    /// is held until it is freed. Kept sets are taken first; the others are new, from one request. With kept
+    /// sets alone it allocates no memory.
     ///
-    /// If the new sets are refused while sets of any layout are kept, all kept sets are freed and empty
-    /// pools are destroyed, as by [`cleanup`](Self::cleanup), and it retries once, for all. It does not, and
-    /// kept sets stay, if all of them alone have more update-after-bind descriptors than the limit allows, or
-    /// if an allocation for the set manager's own table fails.
+    /// If the new sets are refused while sets of any layout are kept, all kept sets are freed and empty pools
+    /// are destroyed, as by [`cleanup`](Self::cleanup), and it retries once, for all sets. It fails without
+    /// that, and kept sets stay, if all these sets alone have more update-after-bind descriptors than the limit
+    /// allows, or if an allocation for the set manager's own table fails.
     ///
     /// ```
     /// # use gpu_descriptor::manager::{LayoutHandle, RequestError, SetManager, SetHandle};
@@ -403,8 +396,8 @@ impl<L, P, S, D: DescriptorDevice<L, P, S>> SetManager<L, P, S, D> {
     ///
     /// # Errors
     ///
-    /// Same as [`allocate`](Self::allocate), and `OutOfHostMemory` for more than `u32::MAX` sets. Then
-    /// `sets` is as it was.
+    /// Same as [`allocate`](Self::allocate), and `OutOfHostMemory` for more than `u32::MAX` sets. On an error
+    /// `sets` stays as it was.
     #[inline]
     pub fn allocate_into(
         &mut self,
@@ -414,42 +407,33 @@ impl<L, P, S, D: DescriptorDevice<L, P, S>> SetManager<L, P, S, D> {
         self.inner.call(|inner| inner.allocate_into(layout, sets))
     }
 
-    /// Frees sets at once, all or none: they are kept, or the device frees them, neighbours of one pool in
-    /// one call, and then pools are destroyed as by
-    /// [`DescriptorAllocator::free`](crate::DescriptorAllocator::free). Their handles are invalid from now
-    /// on. It allocates nothing.
+    /// Frees sets at once, all or none: each is kept, or the device frees it, with one device call per run
+    /// of consecutive sets from one pool. Then pools are destroyed as by
+    /// [`DescriptorAllocator::free`](crate::DescriptorAllocator::free). The handles are invalid from now
+    /// on. It allocates no memory.
     ///
     /// # Errors
     ///
-    /// `NoSet`: a handle names no set that is held, or is in the list twice. Then nothing changed.
+    /// `NoSet`: a handle isn't that of a held set, or is in the list twice. Nothing changes.
     ///
     /// # Safety
     ///
     /// * No pending command buffer refers to one of the sets.
-    /// * All command buffers where one of them is referenced move to invalid state.
-    ///
-    /// # Panics
-    ///
-    /// If [poisoned](crate#after-a-panic).
+    /// * All command buffers that refer to one of them become invalid.
     #[inline]
     pub unsafe fn free(&mut self, sets: &[SetHandle]) -> Result<(), FreeError> {
         let answer = self.inner.call_in_drop(|inner| inner.free(sets));
         answer.unwrap_or(Ok(()))
     }
 
-    /// Destroys all sets of the list, or none, which were last used in a frame (0 if in none). The next
-    /// `frame_done` of that frame or a later one frees them, and their handles are invalid from now on. It
-    /// allocates nothing. The time is constant for each if no set waits for a later frame; else the places of
-    /// these, 4 bytes each, move.
+    /// Frees sets after the frame of their last use, all or none; `last_use` is 0 if no frame used them.
+    /// They are freed by the next `frame_done` with that frame or a later one. Their handles are invalid
+    /// from now on. It allocates no memory.
     ///
     /// # Errors
     ///
-    /// `FrameAhead`: the frame is later than `frame()`. `NoSet`: a handle names no set that is held, or
-    /// is in the list twice. Then nothing changed.
-    ///
-    /// # Panics
-    ///
-    /// If [poisoned](crate#after-a-panic).
+    /// `FrameAhead`: `last_use` is later than `frame()`. `NoSet`: a handle isn't that of a held set, or is
+    /// in the list twice. Nothing changes.
     pub fn free_after(&mut self, sets: &[SetHandle], last_use: u64) -> Result<(), FreeError> {
         let answer = self
             .inner
@@ -457,30 +441,26 @@ impl<L, P, S, D: DescriptorDevice<L, P, S>> SetManager<L, P, S, D> {
         answer.unwrap_or(Ok(()))
     }
 
-    /// Frees all sets at once: those that wait for their frame, those of the open frame, which is ended,
-    /// those that are held, and those that are kept. It keeps none, and allocates nothing.
+    /// Frees all sets at once: those that are held, those that wait for their frame, those that are kept,
+    /// and those of the open frame, which is ended. It keeps none, and allocates no memory.
     ///
     /// # Safety
     ///
     /// * No pending command buffer refers to a set of the set manager.
-    /// * All command buffers where one of them is referenced move to invalid state.
-    ///
-    /// # Panics
-    ///
-    /// If [poisoned](crate#after-a-panic).
+    /// * All command buffers that refer to one of them become invalid.
     pub unsafe fn free_all(&mut self) {
         self.inner.call_in_drop(|inner| inner.free_all());
     }
 
-    /// The raw set of a set that is held or of the open frame, to write and to bind. `None` under the
-    /// handle of a set that was freed or destroyed, of another frame, and of another set manager.
+    /// The raw set of a handle, to write and to bind: a held set, or one of the open frame. `None` if the
+    /// set was freed, is of another frame, or is another set manager's.
     #[inline]
     #[must_use]
     pub fn set(&self, set: SetHandle) -> Option<&S> {
         self.inner.get().set(set)
     }
 
-    /// The layout of a handle. `None` if it was removed, and under a handle of another set manager.
+    /// The layout of a handle. `None` if it was removed, or if the handle is another set manager's.
     #[must_use]
     pub fn layout(&self, layout: LayoutHandle) -> Option<&SetLayout<L>> {
         self.inner.get().layout(layout)
@@ -504,22 +484,22 @@ impl<L, P, S, D: DescriptorDevice<L, P, S>> SetManager<L, P, S, D> {
         self.inner.get().is_frame_open()
     }
 
-    /// Whether a call panicked: see [After a panic](crate#after-a-panic). Then `shutdown` panics too, and
-    /// `into_device` returns the device.
+    /// Whether a call panicked, so that `shutdown` panics too, and `into_device` returns the device. See
+    /// [After a panic](crate#after-a-panic).
     #[must_use]
     pub fn is_poisoned(&self) -> bool {
         self.inner.is_poisoned()
     }
 
-    /// How many sets are held, how many wait for a frame, those of the open frame among them, and how many
-    /// are kept. The time is linear in the number of layouts.
+    /// How many sets are held, wait for a frame (those of the open frame included), and are kept. The time
+    /// is linear in the number of layouts, and of frames that sets wait for.
     #[must_use]
     pub fn counts(&self) -> Counts {
         self.inner.get().counts()
     }
 
-    /// How many sets of a layout are kept; 0 if the layout was removed, and under a handle of another
-    /// set manager.
+    /// How many sets of a layout are kept; 0 if the layout was removed, or if the handle is another set
+    /// manager's.
     #[must_use]
     pub fn kept_count(&self, layout: LayoutHandle) -> u32 {
         self.inner.get().kept_count(layout)
@@ -532,57 +512,54 @@ impl<L, P, S, D: DescriptorDevice<L, P, S>> SetManager<L, P, S, D> {
         counts.held + counts.waiting
     }
 
-    /// How much of the limit is in use: the descriptors of all pools for update-after-bind layouts.
+    /// How much of the limit is in use: the number of descriptors of the pools for update-after-bind
+    /// layouts.
     #[must_use]
     pub fn update_after_bind_capacity(&self) -> u32 {
         self.inner.get().update_after_bind_capacity()
     }
 
-    /// The limit on these descriptors, which `new` was given.
+    /// The limit on update-after-bind descriptors that `new` was given.
     #[must_use]
     pub fn update_after_bind_limit(&self) -> u32 {
         self.inner.get().update_after_bind_limit()
     }
 
     /// How many pools there are for sets of a layout. Layouts with the same counts and flags share pools. 0
-    /// if the layout was removed, and under a handle of another set manager.
+    /// if the layout was removed, or if the handle is another set manager's.
     #[must_use]
     pub fn pool_count(&self, layout: LayoutHandle) -> usize {
         self.inner.get().pool_count(layout)
     }
 
-    /// The books of the pool at this place among those of [`pool_count`](Self::pool_count), oldest first;
-    /// `None` past the last. Sets that are kept are allocated from their pools.
+    /// The books of the pool at this index among those of [`pool_count`](Self::pool_count), oldest first;
+    /// `None` past the last. Kept sets count as allocated from their pools.
     #[must_use]
     pub fn pool(&self, layout: LayoutHandle, index: usize) -> Option<PoolView> {
         self.inner.get().pool(layout, index)
     }
 
-    /// Hands the device back without a call of it. Pools and sets stay with the device, and nobody
-    /// destroys them. It is for a device that is lost, and for a poisoned set manager.
+    /// Returns the device without a call to it. Pools and sets stay with the device, and nobody destroys
+    /// them. It is for a device that is lost, and for a poisoned set manager.
     pub fn into_device(self) -> D {
         let Counted { device, pools } = self.inner.into_inner().into_device();
         core::mem::forget(pools);
         device.device
     }
 
-    /// Frees all sets, kept ones too, destroys all pools, and hands the device back. It allocates nothing
-    /// and can't be refused.
+    /// Frees all sets, kept ones too, destroys all pools, and returns the device. It allocates no memory
+    /// and can't fail. If the set manager is poisoned it panics, and its pools stay with the device: use
+    /// [`into_device`](Self::into_device) then.
     ///
     /// # Safety
     ///
     /// * No pending command buffer refers to a set of the set manager.
-    /// * All command buffers where one of them is referenced move to invalid state.
-    ///
-    /// # Panics
-    ///
-    /// If [poisoned](crate#after-a-panic): the pools stay with the device, which
-    /// [`into_device`](Self::into_device) still returns. While the thread unwinds, the call is `into_device`.
+    /// * All command buffers that refer to one of them become invalid.
     pub unsafe fn shutdown(self) -> D {
         if !self.inner.is_poisoned() {
             return self.inner.into_inner().shutdown().device.device;
         }
-        // The pools aren't dropped, which without std is a panic too.
+        // The pools aren't dropped: without std that would panic too.
         let device = self.into_device();
         if !is_panicking() {
             refuse();
@@ -602,7 +579,7 @@ impl<L, P, S, D: DescriptorDevice<L, P, S>> fmt::Debug for SetManager<L, P, S, D
     }
 }
 
-/// The device of a set manager, and the pools that it has for it.
+/// The device of a set manager, and the counts of its pools.
 type Owned<D> = Counted<Adapter<D>, Pools>;
 
 struct Pools(PoolCounts);
@@ -621,7 +598,7 @@ impl Drop for Pools {
     }
 }
 
-/// An allocation for a layout failed; it returns the layout.
+/// An allocation for a layout failed. The error has the layout.
 pub struct AddLayoutError<L>(SetLayout<L>);
 
 impl<L> AddLayoutError<L> {

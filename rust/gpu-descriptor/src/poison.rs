@@ -1,12 +1,12 @@
-//! What holds after a panic, as the docs of the crate say under *After a panic*. Nothing unwinds in the
-//! language of the proofs, so they don't speak of it.
+//! What holds after a panic, as the crate's docs say under *After a panic*. The language of the proofs has
+//! no unwinding, so the proofs don't cover it.
 
 /// A value that is poisoned if a call of it panics. Each access says what it does after that.
 #[derive(Debug)]
 pub(crate) struct Guarded<T> {
     value: T,
 
-    /// Set while a call is under way. A panic leaves it set.
+    /// Set while a call runs. A panic leaves it set.
     is_poisoned: bool,
 }
 
@@ -30,8 +30,8 @@ impl<T> Guarded<T> {
         result
     }
 
-    /// Makes a call that a `Drop` may make. It is `call`, but makes none if an earlier one panicked and the
-    /// thread still unwinds: a panic would abort the program.
+    /// Same as `call`, for a call that a `Drop` may make: if an earlier call panicked and the thread still
+    /// unwinds, it makes none, since a panic would abort the program.
     #[inline]
     pub(crate) fn call_in_drop<R>(&mut self, call: impl FnOnce(&mut T) -> R) -> Option<R> {
         if self.is_poisoned && is_panicking() {
@@ -44,13 +44,13 @@ impl<T> Guarded<T> {
         self.is_poisoned
     }
 
-    /// To read, also after a panic.
+    /// The value, to read, even after a panic.
     #[inline]
     pub(crate) fn get(&self) -> &T {
         &self.value
     }
 
-    /// To retire sets, also after a panic: no device sees that.
+    /// The value, to retire sets, even after a panic: the device isn't involved.
     #[inline]
     pub(crate) fn get_mut(&mut self) -> &mut T {
         &mut self.value
@@ -77,8 +77,8 @@ pub(crate) fn is_panicking() -> bool {
     false
 }
 
-/// Warns at a drop that something was not freed, unless the thread panics: a line on standard
-/// error, and a panic without the feature `std`, as in gpu-descriptor 0.3.2.
+/// Warns at a drop that something was not freed, unless the thread panics: a line on standard error, or a
+/// panic without the feature `std`, as in gpu-descriptor 0.3.2.
 pub(crate) fn warn(what: &str) {
     if is_panicking() {
         return;
@@ -89,7 +89,7 @@ pub(crate) fn warn(what: &str) {
     panic!("{what}");
 }
 
-/// `eprintln!` would panic where standard error is full or closed.
+/// `eprintln!` would panic if standard error is full or closed.
 #[cfg(feature = "std")]
 fn write_line(what: &str) {
     use std::io::Write;

@@ -5,17 +5,18 @@ use crate::gpu_descriptor::{DescriptorSetLayoutCreateFlags, PoolView, SetLayout}
 use crate::gpu_descriptor_types::DescriptorDevice;
 use core::fmt::{self, Write};
 
-/// Numbers of a set manager. A pool's sets and descriptors are those that it may have.
+/// The numbers of a set manager's sets, layouts and pools. A pool's sets and descriptors are those that it
+/// can have.
 #[derive(Clone, Copy, Debug, Default, PartialEq, Eq)]
 #[non_exhaustive]
 pub struct Statistics {
-    /// Sets that are out, those that wait for a frame included.
+    /// Live sets, those that wait for a frame included.
     pub outstanding: u64,
 
     /// Sets that wait for a frame.
     pub waiting: u64,
 
-    /// Sets that are kept, of all layouts.
+    /// Kept sets of all layouts.
     pub kept: u64,
 
     /// Layouts that were added and not removed.
@@ -24,10 +25,10 @@ pub struct Statistics {
     /// Pools that exist.
     pub pools: u64,
 
-    /// The sets of these pools.
+    /// The sets that these pools can have.
     pub pool_sets: u64,
 
-    /// The descriptors of these pools, of all kinds together.
+    /// The descriptors that these pools can have, of all kinds together.
     pub pool_descriptors: u64,
 
     /// The peak of `pools` so far.
@@ -39,7 +40,7 @@ pub struct Statistics {
     /// The peak of `pool_descriptors` so far.
     pub peak_pool_descriptors: u64,
 
-    /// The bound on the descriptors of a new pool, if there is one.
+    /// The bound on the descriptors of a new pool, `None` without one.
     pub max_pool_descriptors: Option<u64>,
 
     /// Descriptors of the pools for update-after-bind layouts: how much of the limit is in use.
@@ -49,32 +50,32 @@ pub struct Statistics {
     pub update_after_bind_limit: u32,
 }
 
-/// Numbers of a layout. All layouts with the same counts and flags share pools, so all but `kept` are of sets
-/// of all of these layouts, and of those that were removed.
+/// The numbers of a layout. Layouts with the same counts and flags share pools, so each number except
+/// `kept` covers the sets of all these layouts, and of those that were removed.
 #[derive(Clone, Copy, Debug, Default, PartialEq, Eq)]
 #[non_exhaustive]
 pub struct LayoutStatistics {
-    /// Sets that are kept, of this layout alone.
+    /// Kept sets of this layout alone.
     pub kept: u64,
 
     /// Pools that exist.
     pub pools: u64,
 
-    /// Sets of these pools that are out or kept.
+    /// Sets of these pools that are live or kept.
     pub pool_sets_used: u64,
 
     /// Sets that these pools can still give. A pool that refused counts as full until a set of it is freed.
     pub pool_sets_free: u64,
 }
 
-/// What one pool may have.
+/// How many sets and descriptors one pool can have.
 #[derive(Clone, Copy, Debug)]
 pub(crate) struct PoolSize {
     pub(crate) sets: u32,
     pub(crate) descriptors: u64,
 }
 
-/// How many pools there are, and what they may have together.
+/// How many pools there are, and how many sets and descriptors they can have together.
 #[derive(Clone, Copy, Debug, Default)]
 struct Pools {
     count: u64,
@@ -135,7 +136,7 @@ impl PoolCounts {
     }
 }
 
-/// The numbers of a set manager with so many layouts, whose device has these pools.
+/// The numbers of a set manager with `layouts` layouts, whose device has these pools.
 pub(crate) fn of_set_manager<L, P, S, D: DescriptorDevice<L, P, S>>(
     manager: &SetManager<L, P, S, D>,
     pools: &PoolCounts,
@@ -154,7 +155,7 @@ pub(crate) fn of_set_manager<L, P, S, D: DescriptorDevice<L, P, S>>(
     }
 }
 
-/// The numbers of a layout of a set manager. It goes over the layout's pools.
+/// The numbers of a layout of a set manager. It visits the layout's pools.
 pub(crate) fn of_layout<L, P, S, D: DescriptorDevice<L, P, S>>(
     manager: &SetManager<L, P, S, D>,
     layout: LayoutHandle,
@@ -194,7 +195,8 @@ const KINDS: [&str; 14] = [
     "inline_uniform_block_bindings",
 ];
 
-/// Writes a set manager's numbers as JSON, with these layouts, whose handles of the driver `handle_of` returns.
+/// Writes a set manager's numbers as JSON, with these layouts. `handle_of` returns a layout's handle in the
+/// driver.
 pub(crate) fn write_set_manager<L, P, S, D: DescriptorDevice<L, P, S>>(
     text: &mut impl Write,
     manager: &SetManager<L, P, S, D>,
@@ -244,8 +246,8 @@ fn write_numbers(text: &mut impl Write, numbers: &Statistics) -> fmt::Result {
     text.write_str(", \"layouts\": [")
 }
 
-/// Writes a layout with this handle of the driver's. A handle has 64 bits, and a number of JSON may have
-/// fewer, so it is a text.
+/// Writes a layout with this handle of the driver's. It is written as a text: a handle has 64 bits, and a
+/// number of JSON may have fewer.
 fn write_layout<L>(
     text: &mut impl Write,
     handle: u64,

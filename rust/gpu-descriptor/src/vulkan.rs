@@ -1,9 +1,9 @@
 //! A device over the functions of Vulkan.
 //!
 //! [`Device`] implements [`DescriptorDevice`](crate::DescriptorDevice) over four functions of Vulkan
-//! and a handle of a `VkDevice`. It depends on no binding: whoever has a loader passes its functions.
+//! and a handle of a `VkDevice`. It depends on no binding: pass the functions of your loader.
 //! [`DescriptorAllocator`](crate::DescriptorAllocator), [`FrameManager`](crate::frames::FrameManager) and
-//! [`SetManager`](crate::manager::SetManager) take it as any other device.
+//! [`SetManager`](crate::manager::SetManager) take it like any other device.
 //!
 //! The [crate's root](crate#over-vulkan-with-ash) has the device, a layout and a set over ash.
 //!
@@ -19,13 +19,13 @@
 //! any other | `OutOfHostMemory` | `OutOfHostMemory`
 //!
 //! Vulkan lists no other result for these calls, but a driver may return `VK_ERROR_UNKNOWN`, and some
-//! return `VK_ERROR_DEVICE_LOST`, which [`Device::is_lost`] remembers. `OutOfHostMemory` ends the request at
-//! once, and no further pool is asked. `vkFreeDescriptorSets` has no error.
+//! return `VK_ERROR_DEVICE_LOST`, after which [`Device::is_lost`] is true. `OutOfHostMemory` ends the request
+//! at once, and no other pool is asked. `vkFreeDescriptorSets` has no error.
 //!
 //! # Variable counts, and mutable types
 //!
 //! [`Device`] passes no `VkDescriptorSetVariableDescriptorCountAllocateInfo`; [`VariableDevice`] does, for layouts with
-//! a count. Layouts with a mutable type aren't served: their sets come only from pools with descriptors of
+//! a count. Layouts with a mutable type aren't supported: their sets need pools with descriptors of
 //! `VK_DESCRIPTOR_TYPE_MUTABLE_EXT`, for which [`DescriptorTotalCount`](crate::DescriptorTotalCount) has no count.
 
 mod count;

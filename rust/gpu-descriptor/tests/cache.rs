@@ -1,11 +1,11 @@
-//! Caches of sets over a manager: what they take and give back, what they do if it refuses, and threads.
+//! Caches of sets over a set manager: what they allocate and free, what they do if it refuses, and threads.
 
 use gpu_descriptor::manager::{FreeError, LayoutHandle, RequestError, SetCache, SetManager};
 use gpu_descriptor::*;
 use std::cell::Cell;
 use std::sync::Mutex;
 
-/// A device that numbers its sets, and has at most so many.
+/// A device that numbers its sets, and has at most `most`.
 struct Device {
     last: Cell<u64>,
     sets: Cell<usize>,
@@ -84,7 +84,7 @@ fn end(shared: Shared) {
 }
 
 #[test]
-fn refills_and_gives_back() {
+fn refills_and_frees() {
     let (shared, layout) = manager(usize::MAX);
     let lock = || shared.lock().unwrap();
     let mut cache = SetCache::new(layout, 4).unwrap();
@@ -117,7 +117,7 @@ fn refills_and_gives_back() {
     end(shared);
 }
 
-/// If so many are refused fewer are asked for, down to one.
+/// If a refill is refused, fewer sets are requested, down to one.
 #[test]
 fn asks_for_fewer() {
     let (shared, layout) = manager(11);
@@ -142,7 +142,7 @@ fn asks_for_fewer() {
     end(shared);
 }
 
-/// A set that was freed elsewhere is refused with those beside it, until the cache is flushed.
+/// A set that was freed elsewhere is refused, and so are the others of its call, until the cache is flushed.
 #[test]
 fn a_set_that_was_freed_elsewhere() {
     let (shared, layout) = manager(usize::MAX);

@@ -178,7 +178,7 @@ impl Bench {
         Ok(())
     }
 
-    /// Frees the sets of these tickets by one call, if all of them are out.
+    /// Frees the sets of these tickets by one call, if all of them are live.
     fn free(&mut self, tickets: &[usize]) -> bool {
         if tickets.iter().any(|it| self.sets[*it].is_none()) {
             return false;
@@ -200,7 +200,7 @@ impl Bench {
         unsafe { self.allocator.cleanup(&self.device) };
     }
 
-    /// The tickets of the sets that are out.
+    /// The tickets of the live sets.
     fn held(&self) -> Vec<usize> {
         let tickets = 0..self.sets.len();
         tickets.filter(|it| self.sets[*it].is_some()).collect()
@@ -221,13 +221,13 @@ impl Bench {
         self.device.calls.take()
     }
 
-    /// The names of the sets by their tickets, but of those that went back.
+    /// The names of the sets by their tickets, without the freed ones.
     fn names(&self) -> Vec<Option<u64>> {
         let name = |set: &DescriptorSet<Raw>| set.raw().0;
         self.sets.iter().map(|it| it.as_ref().map(name)).collect()
     }
 
-    /// Gives all back, the last ticket first, and sees that nothing is left.
+    /// Frees all, the last ticket first, and checks that nothing is left.
     fn end(mut self, layouts: &[Layout]) {
         let tickets: Vec<usize> = self.held().into_iter().rev().collect();
         assert!(self.free(&tickets));
@@ -240,8 +240,8 @@ impl Bench {
 
 // ---- the order of calls, and of sets ----
 
-/// A set comes of each of two keys, the first key's goes back, is cleaned up and comes once more, and
-/// then both go back and are cleaned up.
+/// A set of each of two keys is allocated. The first key's set is freed, cleaned up and allocated again, and
+/// then both are freed and cleaned up.
 #[test]
 fn cleanup_goes_through_keys_in_their_order() {
     let (first, second) = (plain(2), plain(1));
@@ -308,7 +308,7 @@ fn however(
 
 /// Two full pools. The newer one stays, as the last of its key, and the older one is destroyed.
 #[test]
-fn newer_pool_first_however_it_comes_back() {
+fn newer_pool_first_however_it_opens_again() {
     let tickets: Vec<usize> = (64..128).chain(0..64).collect();
     let calls = [
         Create(0),
@@ -324,7 +324,7 @@ fn newer_pool_first_however_it_comes_back() {
 
 /// Two pools of two sets: a list that goes from one to the other takes a call for each set.
 #[test]
-fn pools_in_turn_however_they_come_back() {
+fn pools_in_turn_however_they_open_again() {
     let calls = [
         Create(0),
         Alloc(0, 2),
@@ -364,7 +364,7 @@ fn sets_of_a_large_answer_stand_as_they_came() {
 
 /// Pools of this layout hold two sets. The seventh word is that of the third pool.
 #[test]
-fn sets_of_a_refused_request_go_back_as_they_came() {
+fn sets_of_a_refused_request_are_freed_in_their_order() {
     let layout = plain(2147483647);
     let mut bench = Bench::new(0, refuse_at(6, Answer::Device));
     bench.take(layout, 4).unwrap();
@@ -486,7 +486,7 @@ const PLANS: [Plan; 4] = [
         existing: &[2],
     },
     // Three pools have known free places: 1, 1 and 65. The last request takes them all and a new pool,
-    // so that a rollback goes over old pools.
+    // so that a rollback visits old pools.
     Plan {
         asks: &[
             Sets(0, 64),
@@ -511,7 +511,7 @@ const PLANS: [Plan; 4] = [
         calls: 13,
         existing: &[2, 9, 10],
     },
-    // Marked and plain sets in turn: a rollback goes over an old or a new pool of one key, beside pools of
+    // Marked and plain sets in turn: a rollback visits an old or a new pool of one key, among pools of
     // the others.
     Plan {
         asks: &[
@@ -527,7 +527,7 @@ const PLANS: [Plan; 4] = [
     },
 ];
 
-/// The errors of the plan's requests. Sets that a refused request did not give don't go back.
+/// The errors of the plan's requests. Sets that a refused request didn't allocate aren't freed.
 fn refused_of(bench: &mut Bench, plan: &Plan) -> Vec<AllocationError> {
     let mut refused = Vec::new();
     for ask in plan.asks {
@@ -576,7 +576,7 @@ fn pool_that_is_passed_over_shows_no_free_place() {
 
 /// Three hundred keys, pools with one set each, and lists of hundreds of sets.
 #[test]
-fn memory_is_found_beside_hundreds() {
+fn memory_is_found_among_hundreds() {
     let mut layouts: Vec<Layout> = (1..=300).map(plain).collect();
     layouts.push(plain(u32::MAX));
     let mut bench = Bench::new(0, []);

@@ -59,7 +59,7 @@ fn a_new_pool_that_refuses_is_destroyed() {
 
 /// The original counts the first set of a run to the run before, and refuses marked sets for good.
 #[test]
-fn marked_and_plain_sets_go_back_in_one_call() {
+fn marked_and_plain_sets_are_freed_in_one_call() {
     for marked_first in [false, true] {
         // The marked sets of a round use the whole limit, so a wrong count refuses those of the next.
         let (device, mut allocator) = (Gpu::new(), Allocator::new(64 * 5));
@@ -79,7 +79,7 @@ fn marked_and_plain_sets_go_back_in_one_call() {
     }
 }
 
-/// In the original the limit is on the sets that are out, and a driver refuses the pools.
+/// In the original the limit is on the live sets, and a driver refuses the pools.
 #[test]
 fn pools_of_marked_sets_keep_to_the_limit() {
     let (device, mut allocator) = (Gpu::new(), Allocator::new(100));
@@ -221,7 +221,7 @@ fn counts_by_kind() {
     assert!(counts.to_array().into_iter().eq(1..=14));
 }
 
-/// The original warns once for each key with sets that are out.
+/// The original warns once for each key with live sets.
 #[cfg(feature = "std")]
 #[test]
 fn a_drop_warns_once() {

@@ -6,7 +6,7 @@ use gpu_descriptor::*;
 
 include!("numbers/device.rs");
 
-/// What a drop says of sets that are out, and of a set manager's pools that exist.
+/// What a drop says of live sets, and of a set manager's pools that exist.
 const SETS: &str = "Descriptor sets were not deallocated";
 const POOLS: &str = "Descriptor pools were not destroyed";
 
@@ -26,14 +26,14 @@ type Allocator = DescriptorAllocator<u64, u64>;
 type Manager = FrameManager<u64, u64>;
 type Sets = SetManager<u64, u64, u64, Device>;
 
-/// An allocator of which one set is out.
+/// An allocator with one live set.
 fn allocator() -> (Allocator, Device, DescriptorSet<u64>) {
     let (mut allocator, device) = (Allocator::new(0), Device::default());
     let set = unsafe { allocator.allocate_one(&device, &layout()) }.unwrap();
     (allocator, device, set)
 }
 
-/// A frame_manager of which one set is out.
+/// A frame manager with one live set.
 fn frame_manager() -> (Manager, Device, DescriptorSet<u64>) {
     let (mut frame_manager, device) = (Manager::new(0), Device::default());
     let set = unsafe { frame_manager.allocate_one(&device, &layout()) }.unwrap();
@@ -223,7 +223,7 @@ mod order {
         assert_eq!(noted.pop(), Some("device"));
         noted.sort();
         assert_eq!(noted, ["layout", "pool", "set", "set", "set", "set"]);
-        // The device that is handed back isn't dropped.
+        // The device that is returned isn't dropped.
         for shuts_down in [false, true] {
             let manager = manager(&log);
             let gpu = match shuts_down {

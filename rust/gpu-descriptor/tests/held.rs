@@ -11,7 +11,7 @@ include!("numbers/device.rs");
 /// A power of two: the lists have doubled so far, and are full.
 const SETS: usize = 1 << 16;
 
-/// The memory for so many held sets, a set, beside that of a set manager with a layout.
+/// The memory for held sets, for each set, without that of a set manager with a layout.
 fn bytes_of_a_set(is_one_request: bool) -> usize {
     let counts = DescriptorTotalCount {
         sampler: 1,
@@ -39,7 +39,7 @@ fn bytes_of_a_set(is_one_request: bool) -> usize {
     taken / SETS
 }
 
-/// README says 80 to 160 bytes. One large request grows the lists to what it needs.
+/// README says 68 to 136 bytes. One large request grows the lists to what it needs.
 #[test]
 fn memory_of_a_held_set() {
     assert_eq!((bytes_of_a_set(false), bytes_of_a_set(true)), (68, 92));

@@ -1,5 +1,5 @@
-//! Devices and iterators that do what they may not, or panic. No set is handed out twice and none goes
-//! to a wrong pool; what is lost stands at each test. Without std a drop with sets out panics, which
+//! Devices and iterators that do what they may not, or panic. No set is allocated twice and none is freed
+//! to a wrong pool; what is lost stands at each test. Without std a drop with live sets panics, which
 //! ends the program in a panic.
 #![cfg(feature = "std")]
 
@@ -7,7 +7,6 @@ mod hostile_device;
 
 use gpu_descriptor::*;
 use hostile_device::{Device, Fault, PANICKED, PANICS, Set};
-use std::cell::Cell;
 use std::collections::BTreeSet;
 use std::panic::{AssertUnwindSafe, catch_unwind, resume_unwind};
 
@@ -149,7 +148,7 @@ fn panics_of_a_device() {
     }
 }
 
-/// Takes sets of three keys, of several pools, and gives them back in turns.
+/// Allocates sets of three keys, from several pools, and frees them in turns.
 fn run_program(allocator: &mut Allocator, device: &Device) {
     let mut held: Sets = Vec::new();
     for sampler in [1, u32::MAX / 2, 7, u32::MAX / 2] {
@@ -179,46 +178,11 @@ fn a_panic_at_each_call() {
     }
 }
 
-/// A request that is refused gives its sets back. A device that panics then has kept them.
+/// A request that is refused frees its sets. A device that panics then has kept them.
 #[test]
 fn a_panic_in_a_rollback() {
-    /// The device, and how many pools were asked for: the third is refused, and from then on a free panics.
-    struct Refusing(Device, Cell<u32>);
-
-    impl DescriptorDevice<String, u64, Set> for Refusing {
-        unsafe fn create_descriptor_pool(
-            &self,
-            counts: &DescriptorTotalCount,
-            max_sets: u32,
-            flags: DescriptorPoolCreateFlags,
-        ) -> Result<u64, CreatePoolError> {
-            if self.1.replace(self.1.get() + 1) == 2 {
-                self.0.fault.set(Fault::PanicsAtFree);
-                return Err(CreatePoolError::OutOfDeviceMemory);
-            }
-            unsafe { self.0.create_descriptor_pool(counts, max_sets, flags) }
-        }
-
-        unsafe fn destroy_descriptor_pool(&self, pool: u64) {
-            unsafe { self.0.destroy_descriptor_pool(pool) }
-        }
-
-        unsafe fn alloc_descriptor_sets<'a>(
-            &self,
-            pool: &mut u64,
-            layouts: impl ExactSizeIterator<Item = &'a String>,
-            sets: &mut impl Extend<Set>,
-        ) -> Result<(), DeviceAllocationError> {
-            unsafe { self.0.alloc_descriptor_sets(pool, layouts, sets) }
-        }
-
-        unsafe fn dealloc_descriptor_sets(&self, pool: &mut u64, sets: impl Iterator<Item = Set>) {
-            unsafe { self.0.dealloc_descriptor_sets(pool, sets) }
-        }
-    }
-
-    let device = Refusing(Device::new(), Cell::new(0));
-    let mut allocator = Allocator::new(0);
+    let (device, mut allocator) = (Device::new(), Allocator::new(0));
+    device.fault.set(Fault::PanicsAfterTwoPools);
     let counts = DescriptorTotalCount {
         // Two sets go to a pool.
         sampler: u32::MAX / 2,
@@ -228,8 +192,8 @@ fn a_panic_in_a_rollback() {
     let take = || unsafe { allocator.allocate(&device, &String::new(), flags, &counts, 6) };
     assert_eq!(panic_of(take), PANICKED);
     // Two pools gave two sets each. All four are dropped, and stay with the device.
-    assert_eq!((device.0.alive(), device.0.granted.borrow().len()), (0, 4));
-    assert_broken(&mut allocator, &device.0, Vec::new());
+    assert_eq!((device.alive(), device.granted.borrow().len()), (0, 4));
+    assert_broken(&mut allocator, &device, Vec::new());
 }
 
 /// What the vector had is dropped too.
@@ -326,7 +290,7 @@ fn a_set_of_another_allocator() {
                 false => unsafe { allocator.free(&device, std::mem::take(&mut sets)) },
             });
             assert_eq!(why, "Set must be allocated from this allocator");
-            // Those before it went back, and the allocator goes on.
+            // Those before it were freed, and the allocator still works.
             assert_eq!(
                 (device.released(), sets.len()),
                 (place, if is_lent { 5 - place } else { 0 })
@@ -400,7 +364,7 @@ fn a_foreign_set_that_panics_at_its_drop() {
     assert_eq!(allocator.pool_count(&layout(false).counts, false), 0);
 }
 
-/// Gives back and cleans up when it is dropped, as the devices of programs do.
+/// Frees its sets and cleans up when it is dropped, as the devices of programs do.
 struct Owner<'a>(Allocator, &'a Device, Sets);
 
 impl<'a> Owner<'a> {
@@ -418,7 +382,7 @@ impl Drop for Owner<'_> {
     }
 }
 
-/// After a panic of the device nothing goes back, and the program isn't ended.
+/// After a panic of the device nothing is freed, and the program isn't ended.
 #[test]
 fn a_drop_in_a_panic_of_a_device() {
     for fault in PANICS {
@@ -436,7 +400,7 @@ fn a_drop_in_a_panic_of_a_device() {
     }
 }
 
-/// Where the panic has nothing to do with the allocator, all goes back.
+/// If the panic has nothing to do with the allocator, all is freed.
 #[test]
 fn a_drop_in_another_panic() {
     let device = Device::new();

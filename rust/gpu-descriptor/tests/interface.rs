@@ -168,7 +168,7 @@ fn calls_of_an_allocator() {
 
 /// An option, an array, a part of a vector, a closure, and an iterator that is lent.
 #[test]
-fn sets_go_back_by_any_iterator() {
+fn sets_are_freed_by_any_iterator() {
     let device = Device::default();
     let mut allocator = DescriptorAllocator::new(0);
     assert!(take(&mut allocator, &device, 0).is_empty());
@@ -211,7 +211,7 @@ fn an_iterator_that_goes_on_after_its_end() {
 }
 
 #[test]
-fn places_come_back() {
+fn places_are_reused() {
     let device = Device::default();
     let mut allocator = DescriptorAllocator::new(0);
     // A pool has 64 places at first.
@@ -472,7 +472,7 @@ fn bounds() {
     is_not!(Clone: DescriptorSet<u32>, Allocator<u32, u32>);
 }
 
-/// Drops an allocator of which sets are out, or none, and perhaps in a panic.
+/// Drops an allocator with live sets, or without any, and perhaps in a panic.
 fn drop_allocator(how: &str) {
     let device = Device::default();
     let mut allocator = DescriptorAllocator::new(0);

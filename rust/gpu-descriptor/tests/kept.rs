@@ -1,7 +1,7 @@
-//! What a `SetManager` keeps: sets that come back are handed out again. First by hand, each case of it, then
-//! at random beside a plain model, a list of all sets with what each is in use for.
+//! What a `SetManager` keeps: freed sets are reused. First each case by hand, then at random, compared with a
+//! simple model, a list of all sets with what each is in use for.
 //!
-//! `STEPS=1000000 cargo test --release --test kept` runs so many steps with each `keep`.
+//! `STEPS=1000000 cargo test --release --test kept` runs this number of steps with each `keep`.
 
 mod refuses;
 
@@ -19,7 +19,7 @@ const KEEPS: [u32; 4] = [0, 1, 7, u32::MAX];
 const LIMIT: u32 = 400;
 
 /// The layouts: the first two have the same key, of the third two sets go to a pool, and the last is
-/// marked, with so many descriptors a set.
+/// marked, with the last number of descriptors a set.
 const LAYOUTS: usize = 4;
 const MARKED: usize = 3;
 const DESCRIPTORS: u32 = 5;
@@ -73,7 +73,7 @@ impl Gpu {
         self.pools.borrow().is_empty() && self.live() == 0
     }
 
-    /// Refuses so many calls for pools and sets, after so many.
+    /// Refuses `count` calls for pools and sets, after `after` others.
     fn refuse(&self, count: u64, after: u64, reason: usize) {
         self.refuses.set(count);
         self.after.set(after);
@@ -240,7 +240,7 @@ fn counts(held: u64, waiting: u64, kept: u64) -> Counts {
 
 /// The first handles of a request for many have the kept sets, and the others new ones.
 #[test]
-fn kept_sets_come_first() {
+fn kept_sets_are_first() {
     let gpu = Gpu::default();
     let (mut it, layouts) = manager(&gpu, u32::MAX);
     let sets = it.allocate_many(layouts[0], 3).unwrap();
@@ -418,7 +418,7 @@ fn a_refused_list_frees_no_set() {
         for wrong in [Some(SetHandle::NONE), Some(freed[0]), Some(frame_set), None] {
             for at in 0..=sets.len() {
                 let mut list = sets.clone();
-                // Or a set of the list once more.
+                // Or a set of the list again.
                 list.insert(at, wrong.unwrap_or(sets[(at + 3) % sets.len()]));
                 // SAFETY: the device isn't in use.
                 let answer = unsafe { it.free(&list) };
@@ -506,7 +506,7 @@ fn as_many_are_kept_as_are_to_be() {
 
 /// The kept sets of a layout are a stack.
 #[test]
-fn the_last_one_that_was_kept_comes_first() {
+fn the_set_kept_last_is_first() {
     let gpu = Gpu::default();
     let (mut it, layouts) = manager(&gpu, 2);
     let sets = it.allocate_many(layouts[0], 3).unwrap();
@@ -514,7 +514,7 @@ fn the_last_one_that_was_kept_comes_first() {
     for set in &sets {
         free(&mut it, &[*set]);
     }
-    // Two were kept, so the third went back.
+    // Two were kept, so the device freed the third.
     assert!(!gpu.is_live(raws[2]));
     for expected in [raws[1], raws[0]] {
         let set = it.allocate(layouts[0]).unwrap();
@@ -525,7 +525,7 @@ fn the_last_one_that_was_kept_comes_first() {
 
 /// Also not if the layouts share pools.
 #[test]
-fn a_kept_set_of_another_layout_is_not_handed_out() {
+fn a_kept_set_of_another_layout_is_not_reused() {
     for (own, other) in [(0, 1), (1, 0), (0, 2), (3, 1)] {
         let gpu = Gpu::default();
         let (mut it, layouts) = manager(&gpu, u32::MAX);
@@ -549,7 +549,7 @@ fn a_kept_set_of_another_layout_is_not_handed_out() {
 }
 
 #[test]
-fn an_old_handle_finds_nothing_after_its_set_was_handed_out_again() {
+fn an_old_handle_finds_nothing_after_its_set_was_reused() {
     let gpu = Gpu::default();
     let (mut it, layouts) = manager(&gpu, u32::MAX);
     let mut old = Vec::new();
@@ -579,7 +579,7 @@ fn an_old_handle_finds_nothing_after_its_set_was_handed_out_again() {
     shutdown(it);
 }
 
-/// A refusal while sets are kept gives these back, lets empty pools go, and asks once more.
+/// A refusal while sets are kept frees these, destroys empty pools, and retries once.
 #[test]
 fn a_refusal_while_sets_are_kept() {
     let reasons = [
@@ -650,7 +650,7 @@ fn a_batch_that_is_refused_while_sets_are_kept() {
 
     gpu.refuse(1, 0, 0);
     let seven = it.allocate_many(layouts[0], 7).unwrap();
-    // The five went back, and all seven are new.
+    // The device freed the five, and all seven are new.
     assert_eq!((gpu.made.get(), gpu.live()), (5 + 7, 7));
     assert_eq!(it.counts(), counts(7, 0, 0));
     free(&mut it, &seven);
@@ -782,7 +782,7 @@ fn the_open_frame_is_not_done() {
             done(&mut it, say);
             assert_eq!(it.counts(), counts(0, 3, 0));
         }
-        // The second set alone comes back, whatever is said.
+        // Only the second set is freed, whatever is said.
         let kept = u64::from(keep.min(1));
         for say in [frame, u64::MAX, frame - 1] {
             done(&mut it, say);
@@ -799,7 +799,7 @@ fn the_open_frame_is_not_done() {
     }
 }
 
-/// The sets that are out at a cleanup aren't kept when they come back, so pools become empty.
+/// Sets that are live at a cleanup aren't kept once they are freed, so pools become empty.
 #[test]
 fn a_cleanup_while_sets_are_out() {
     let gpu = Gpu::default();
@@ -822,7 +822,7 @@ fn a_cleanup_while_sets_are_out() {
     assert_eq!((it.counts(), gpu.live()), (counts(2, 0, 0), 2));
     free(&mut it, &[later]);
     assert_eq!((it.counts(), gpu.live()), (counts(1, 0, 1), 2));
-    // A set that is kept and comes again is a new one.
+    // A kept set that is reused counts as a new one.
     let later = it.allocate(layouts[0]).unwrap();
     free(&mut it, &[later, sets[3]]);
     assert_eq!((it.counts(), gpu.live()), (counts(0, 0, 1), 1));
@@ -833,7 +833,7 @@ fn a_cleanup_while_sets_are_out() {
 
 /// A trim leaves kept sets and their pools, and takes each pool that has none, wherever it stands.
 #[test]
-fn a_trim_beside_kept_sets() {
+fn a_trim_with_kept_sets() {
     let gpu = Gpu::default();
     let (mut it, layouts) = manager(&gpu, 4);
     let sets: Vec<SetHandle> = (0..2000)
@@ -864,7 +864,7 @@ fn fewer_are_kept_from_now_on() {
     }
     for keep in [9, 4, 6, 1, 0] {
         it.set_max_kept(keep);
-        // What is freed with 4 doesn't come back with 6.
+        // What is freed with 4 isn't freed again with 6.
         let kept = keep.min(4 + 5 * u32::from(keep == 9));
         assert!(layouts.iter().all(|at| it.kept_count(*at) == kept));
         assert_eq!(gpu.live(), 4 * kept as usize);
@@ -931,7 +931,7 @@ struct Known {
     leaves: bool,
 }
 
-/// A set manager beside the list of its sets.
+/// A set manager and the list of its sets.
 struct Model<'a> {
     gpu: &'a Gpu,
     it: Sets<'a>,
@@ -939,11 +939,11 @@ struct Model<'a> {
     keep: u32,
     sets: Vec<Known>,
 
-    /// Handles that name nothing any longer, and all that came, so that none comes twice.
+    /// Handles that are invalid by now, and all that were given, so that none is given twice.
     old: Vec<SetHandle>,
     seen: HashSet<SetHandle>,
 
-    /// How many requests were refused, and how many sets came again.
+    /// How many requests were refused, and how many sets were reused.
     refusals: usize,
     again: usize,
 }
@@ -984,7 +984,7 @@ impl Model<'_> {
         false
     }
 
-    /// The sets for which it holds have come back. Which of a layout are kept isn't said, only how many.
+    /// The sets that pass the test are freed. It says how many of a layout are kept, but not which.
     fn come_back(&mut self, is_it: impl Fn(&Known) -> bool) {
         let mut room: [usize; LAYOUTS] =
             std::array::from_fn(|at| (self.keep as usize).saturating_sub(self.kept(at)));
@@ -1055,7 +1055,7 @@ impl Model<'_> {
                 assert!(gone == 0 || gone == all_kept.len());
                 let mut first = kept.min(many);
                 if gone > 0 {
-                    // The device refused, or the limit before it was asked. So no set comes again.
+                    // The device refused, or the limit before it was asked. So no set is reused.
                     assert!(was_refused || layout == MARKED);
                     self.clean();
                     first = 0;
@@ -1206,7 +1206,7 @@ impl Random {
         ((self.0 >> 33) % end as u64) as usize
     }
 
-    /// Some of the handles, at most so many, in any order.
+    /// At most `most` of the handles, in any order.
     fn some(&mut self, mut handles: Vec<SetHandle>, most: usize) -> Vec<SetHandle> {
         let count = self.below(most.min(handles.len()) + 1);
         (0..count)
@@ -1280,7 +1280,7 @@ fn step(model: &mut Model, random: &mut Random, changes_keep: bool) {
     }
 }
 
-/// Runs so many steps. Returns how many requests were refused, and how many sets came again.
+/// Runs `steps` steps. Returns how many requests were refused, and how many sets were reused.
 fn run(keep: u32, changes_keep: bool, steps: usize) -> (usize, usize) {
     let gpu = Gpu::default();
     let (it, layouts) = manager(&gpu, keep);
@@ -1323,7 +1323,7 @@ fn run(keep: u32, changes_keep: bool, steps: usize) -> (usize, usize) {
 
 /// Random steps with each `keep`, and with one that changes. Enough requests have to be refused.
 #[test]
-fn beside_a_model() {
+fn against_a_model() {
     let steps = std::env::var("STEPS").map_or(20_000, |it| it.parse().unwrap());
     for keep in KEEPS {
         let (refusals, again) = run(keep, false, steps);

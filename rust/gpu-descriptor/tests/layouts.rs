@@ -1,5 +1,5 @@
 //! Layouts of a `SetManager` that are removed: what their handles name, what becomes of their sets, and that
-//! memory follows the most layouts at once.
+//! memory follows the peak of layouts.
 
 mod gpu;
 mod refuses;
@@ -36,7 +36,7 @@ fn shutdown(gpu: &Gpu, it: Sets) {
     assert!(gpu.is_empty());
 }
 
-/// Each call with a handle that names no layout is refused as with one of another set manager.
+/// Each call with the handle is refused, as with one of another set manager.
 fn is_unknown(it: &mut Sets, handle: LayoutHandle) {
     assert!(it.layout(handle).is_none());
     assert_eq!(it.kept_count(handle), 0);
@@ -49,7 +49,7 @@ fn is_unknown(it: &mut Sets, handle: LayoutHandle) {
 }
 
 #[test]
-fn a_removed_handle_names_nothing() {
+fn a_removed_handle_is_invalid() {
     let (gpu, other_gpu) = (Gpu::new(), Gpu::new());
     let (mut it, mut other) = (
         SetManager::new(&gpu, 10_000),
@@ -91,7 +91,7 @@ fn sets_of_a_removed_layout() {
     let new = add(&mut it, 0);
     let raws: Vec<_> = held[1..].iter().map(|set| *it.set(*set).unwrap()).collect();
     assert!(it.set(drawn).is_some());
-    // None is kept for the layout that has the slot now, however it comes back.
+    // None is kept for the layout that has the slot now, however it is freed.
     it.end_frame();
     it.free_after(&[held[1]], 1).unwrap();
     // SAFETY: no frame in flight reads one.
@@ -112,7 +112,7 @@ fn sets_of_a_removed_layout() {
 }
 
 #[test]
-fn memory_follows_the_most_layouts_at_once() {
+fn memory_follows_the_peak_of_layouts() {
     let gpu = Gpu::new();
     let mut it = SetManager::new(&gpu, 10_000);
     let mut live: Vec<_> = (0..30).map(|number| add(&mut it, number % 3)).collect();
@@ -177,7 +177,7 @@ fn a_removed_layout_beside_one_of_its_key() {
     assert_eq!(remove(&mut it, first), Ok(0));
     assert_eq!((it.pool_count(second), it.pool_count(other)), (1, 1));
     assert_eq!((it.kept_count(second), gpu.live_sets()), (1, 1));
-    // Its set comes again without a call, and stays when the layout goes. The pool that it leaves stays too.
+    // Its set is reused without a call, and stays when the layout goes. The pool that it leaves stays too.
     let calls = gpu.calls.get();
     let held = it.allocate(second).unwrap();
     assert_eq!(gpu.calls.get(), calls);

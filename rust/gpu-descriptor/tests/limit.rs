@@ -139,7 +139,7 @@ fn pools_of_a_manager() {
         (None, None)
     );
     unsafe { it.free(&device, sets) };
-    // One set of 64 is out.
+    // One set of 64 is live.
     let (mut it, layout) = (FrameManager::new(1000), self::layout());
     let set = unsafe { it.allocate_one(&device, &layout) }.unwrap();
     assert_eq!(it.update_after_bind_capacity(), 64);

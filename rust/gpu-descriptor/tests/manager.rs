@@ -1,4 +1,4 @@
-//! `SetManager` beside a list of what it has to have: each call of the device and each growth of memory is
+//! `SetManager` compared with a list of what it has to have: each call of the device and each growth of memory is
 //! refused in turn; handles that are stale, foreign or doubled; batches, all or none; panics. What it
 //! keeps is only counted here: kept.rs has a model of that.
 
@@ -29,7 +29,7 @@ struct Stage<'a> {
     held: Vec<(SetHandle, Set)>,
     retired: Vec<(u64, Set)>,
 
-    /// Handles that name nothing any longer.
+    /// Handles that are invalid by now.
     old_draws: Vec<SetHandle>,
     old_sets: Vec<SetHandle>,
 
@@ -194,7 +194,7 @@ impl<'a> Stage<'a> {
         self.held.push((handle, raw));
     }
 
-    /// The handles of so many held sets from a place on, which are then no longer held.
+    /// The handles of `count` held sets from a place on, which are then no longer held.
     fn take(&mut self, from: usize, count: usize) -> Vec<(SetHandle, Set)> {
         let taken: Vec<_> = self.held.drain(from..from + count).collect();
         self.old_sets.extend(taken.iter().map(|it| it.0));
@@ -254,7 +254,7 @@ impl<'a> Stage<'a> {
 
     fn done(&mut self, frame: u64) {
         self.gpu.wait(frame);
-        // SAFETY: the device sees to it that no frame in flight reads a set that goes back.
+        // SAFETY: the device checks that no frame in flight reads a set that is freed.
         without_memory(|| unsafe { self.manager.frame_done(frame) });
         // An open frame isn't done.
         let is_open = u64::from(self.manager.is_frame_open());
@@ -310,7 +310,7 @@ fn scene(gpu: &Gpu, keep: u32) -> (Vec<AllocationError>, u64) {
     refusals
 }
 
-/// A refusal that comes while sets are kept isn't the end: they are freed, and it is asked once more.
+/// A refusal while sets are kept isn't the end: they are freed, and it retries once.
 #[test]
 fn the_device_refuses_each_call() {
     for keep in KEEPS {
@@ -339,7 +339,7 @@ fn the_device_refuses_each_call() {
     }
 }
 
-/// A growth that is refused costs one call, or none if sets are kept: then it is asked once more.
+/// A growth that is refused costs one call, or none if sets are kept: then it retries once.
 #[test]
 fn each_growth_is_refused() {
     for keep in KEEPS {
@@ -359,9 +359,9 @@ fn each_growth_is_refused() {
     }
 }
 
-/// Memory for a slot is taken before the device is asked, so if it is wanting no set goes back.
+/// Memory for a slot is taken before the device is asked, so if it is missing no set is freed.
 #[test]
-fn want_of_memory_gives_no_set_back() {
+fn out_of_memory_frees_no_set() {
     for number in 0.. {
         refuse(number);
         let gpu = Gpu::new();
@@ -437,7 +437,7 @@ fn by_chance() {
     assert!(refusals > 1000);
 }
 
-/// A handle of a set that was destroyed, or drawn in an older frame, names nothing.
+/// The handle of a set that was freed, or of an older frame, is invalid.
 #[test]
 fn stale_handles() {
     let gpu = Gpu::new();
@@ -453,7 +453,7 @@ fn stale_handles() {
     assert_eq!(stage.manager.set(old), None);
     let answer = stage.manager.free_after(&[old], 0);
     assert_eq!(answer, Err(FreeError::NoSet));
-    // A frame set of an older frame, whose set comes again.
+    // A frame set of an older frame, whose set is reused.
     stage.begin();
     stage.allocate_for_frame(0);
     let (frame_set, raw) = stage.drawn[0];
@@ -474,7 +474,7 @@ fn stale_handles() {
     stage.shutdown();
 }
 
-/// Handles of another set manager name nothing.
+/// Handles of another set manager are invalid.
 #[test]
 fn foreign_handles() {
     let (gpu, other_gpu) = (Gpu::new(), Gpu::new());
@@ -563,7 +563,7 @@ fn wrong_handles_in_a_batch() {
 
 /// A request for many sets that is refused leaves none.
 #[test]
-fn a_batch_comes_whole_or_not_at_all() {
+fn a_batch_is_all_or_none() {
     let gpu = Gpu::new();
     let mut stage = Stage::new(&gpu);
     // Five update-after-bind descriptors a set, of 10,000.
@@ -606,7 +606,7 @@ fn a_batch_allocates_its_handles_alone() {
     }
 }
 
-/// Slots are used again under other handles, so memory follows the most sets that there were.
+/// Slots are used again under other handles, so memory follows the peak of sets.
 #[test]
 fn slots_are_used_again() {
     for keep in KEEPS {
@@ -644,7 +644,7 @@ fn slots_are_used_again() {
 
 /// The places of sets that are gone are free for sets of other layouts.
 #[test]
-fn memory_follows_the_most_sets_of_all_layouts() {
+fn memory_follows_the_peak_of_sets() {
     for keep in KEEPS {
         let gpu = Gpu::new();
         let mut stage = Stage::with_keep(&gpu, keep);
@@ -766,7 +766,7 @@ fn frames_out_of_turn() {
     // The frame_set, one that is held, and two that wait.
     assert_eq!(stage.live(), 4);
     stage.done(u64::MAX);
-    // The one with last use 0 came back.
+    // The one with last use 0 was freed.
     assert_eq!((stage.drawn.len(), stage.retired.len()), (1, 1));
     stage.done(1);
     assert_eq!(stage.live(), 3);
@@ -798,7 +798,7 @@ fn frames_out_of_turn() {
 
 /// A set that is destroyed in a frame in flight isn't freed before that frame is done.
 #[test]
-fn destroyed_in_flight() {
+fn freed_in_flight() {
     let gpu = Gpu::new();
     let mut stage = Stage::with_keep(&gpu, 0);
     stage.create(0);
@@ -827,7 +827,7 @@ fn destroyed_in_flight() {
         gpu.submit(1, [raw].into_iter());
         stage.end();
         stage.destroy(0, 1);
-        // It isn't handed out again, as the device would see.
+        // It isn't reused, as the device would see.
         stage.create(0);
         assert!(gpu.is_live(raw));
         stage.done(1);
@@ -836,7 +836,7 @@ fn destroyed_in_flight() {
     }
 }
 
-/// A set whose last use is before that of sets which wait already goes back with its own frame.
+/// A set with an earlier last use than sets that wait already is freed with its own frame.
 #[test]
 fn retired_late() {
     let gpu = Gpu::new();
@@ -925,7 +925,7 @@ fn is_sent<T: Send>(it: T) -> T {
     it
 }
 
-/// A set manager that owns its device goes to another thread, and gives the device back.
+/// A set manager that owns its device moves to another thread, and returns the device.
 #[test]
 fn owns_a_device() {
     let mut manager = is_sent(SetManager::new(Gpu::new(), 0));

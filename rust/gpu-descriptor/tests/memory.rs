@@ -91,7 +91,7 @@ fn refuse_each(before: &[Request], last: Request, at_start: u64, others: u64) {
     give_back(allocator, &device, held);
 }
 
-/// Gives all sets back, every fifth one first, and cleans up: without memory.
+/// Frees all sets, every fifth one first, and cleans up: without memory.
 fn give_back(mut allocator: Allocator, device: &Gpu, held: Vec<Set>) {
     assert_eq!(device.live_sets(), held.len());
     let in_places = held.into_iter().enumerate();
@@ -232,7 +232,7 @@ fn a_vector_keeps_what_it_had() {
     give_back(allocator, &device, held);
 }
 
-/// Of the keys that stay, the order is made anew.
+/// The order of the remaining keys is made again.
 #[test]
 fn cleanup_takes_no_memory_where_keys_stay() {
     let (device, mut allocator) = (Gpu::new(), Allocator::new(0));

@@ -73,7 +73,7 @@ fn layout() -> SetLayout<String> {
 
 /// What the calls are made of: a thing that owns sets, its device, and what the calls take.
 trait Stage: Sized {
-    /// One set is out when a call panics.
+    /// One set is live when a call panics.
     fn poisoned() -> Self;
 
     fn device(&self) -> &Device;

@@ -1,4 +1,5 @@
-//! The numbers of a `SetManager` beside those that the device counts, and their JSON, byte by byte. What is expected of the JSON is worked out by hand from the rule for the size of a pool.
+//! The numbers of a `SetManager` compared with those that the device counts, and their JSON, byte by
+//! byte. The expected JSON is worked out by hand from the rule for the size of a pool.
 
 mod gpu;
 mod refuses;

@@ -103,7 +103,7 @@ fn layouts_in_their_order_and_their_oldest_pools_first() {
     free(&mut allocator, &gpu, stay);
 }
 
-/// An allocator of three layouts, and its sets that are out.
+/// An allocator of three layouts, and its live sets.
 struct Trial<'a> {
     gpu: &'a Gpu,
     allocator: Allocator,

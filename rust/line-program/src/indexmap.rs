@@ -78,7 +78,7 @@ impl<K: Eq + Hash, V> IndexMap<K, V> {
             .map(|place| &mut self.entries[place].1)
     }
 
-    /// A new key goes last; a key that is there gets the value, and the old one comes back.
+    /// A new key goes last; a key that is there gets the value, and the old one is returned.
     pub fn insert(&mut self, key: K, value: V) -> Result<Option<V>, AllocFailed<(K, V)>> {
         if let Some(old) = self.get_mut(&key) {
             return Ok(Some(replace(old, value)));

@@ -18,7 +18,7 @@ use std::vec::Vec;
 impl<P: Drop, S: Drop> FrameManager<P, S> {
     ghost use Rattle.descriptor_frames.specs.Frames.{HandsOutForUse, allocator_of};
 
-    /// Allocates sets, as `DescriptorAllocator::allocate` does. The retired sets stay.
+    /// Allocates sets. Same as `DescriptorAllocator::allocate`; retired sets stay.
     pub fn allocate<L, D: DescriptorDevice<L, P, S>>(
         &mut self,
         device: &mut D,
@@ -38,7 +38,7 @@ impl<P: Drop, S: Drop> FrameManager<P, S> {
             .allocate(device, layout, flags, layout_descriptor_count, count)
     }
 
-    /// Allocates sets, as `DescriptorAllocator::allocate_for` does. The retired sets stay.
+    /// Allocates sets. Same as `DescriptorAllocator::allocate_for`; retired sets stay.
     pub fn allocate_for<L, D: DescriptorDevice<L, P, S>>(
         &mut self,
         device: &mut D,
@@ -54,7 +54,7 @@ impl<P: Drop, S: Drop> FrameManager<P, S> {
         self.allocator.allocate_for(device, layout, count)
     }
 
-    /// Appends sets to a vector, as `DescriptorAllocator::allocate_into` does. The retired sets stay.
+    /// Appends sets to a vector. Same as `DescriptorAllocator::allocate_into`; retired sets stay.
     pub fn allocate_into<L, D: DescriptorDevice<L, P, S>>(
         &mut self,
         device: &mut D,
@@ -75,7 +75,7 @@ impl<P: Drop, S: Drop> FrameManager<P, S> {
         self.allocator.allocate_into(device, layout, count, sets)
     }
 
-    /// Allocates one set, as `DescriptorAllocator::allocate_one` does. The retired sets stay.
+    /// Allocates one set. Same as `DescriptorAllocator::allocate_one`; retired sets stay.
     pub fn allocate_one<L, D: DescriptorDevice<L, P, S>>(
         &mut self,
         device: &mut D,

@@ -21,9 +21,9 @@ impl<P, S> FrameManager<P, S> {
     ghost use Rattle.descriptor_frames.specs.Frames.{KeepsInUse, due_sets, greatest_of, retired_of};
     ghost use Rattle.descriptor_frames.specs.Frames.{reserve_of};
 
-    /// Frees at once the sets in use that the iterator yields up to its end, as
-    /// `DescriptorAllocator::free_from` does. It allocates nothing. The retired sets stay. Nothing
-    /// that uses one of the sets may have been submitted, or the device must be done with it.
+    /// Frees the sets in use that the iterator yields up to its end, at once. Same as
+    /// `DescriptorAllocator::free_from`; retired sets stay. It allocates no memory. Nothing that uses
+    /// one of the sets may have been submitted, or the device must be done with it.
     pub fn free_from<L, D: DescriptorDevice<L, P, S>, I: Iterator<Item = DescriptorSet<S>>>(
         &mut self,
         device: &mut D,
@@ -45,11 +45,11 @@ impl<P, S> FrameManager<P, S> {
         self.allocator.free_from(device, sets);
     }
 
-    /// Frees all sets that were retired at this frame or before, those of earlier frames first.
-    /// It allocates nothing and can't fail. The device must be done with the work of these frames.
+    /// Frees all sets that were retired at this frame or before, those of earlier frames first. It
+    /// allocates no memory and can't fail. The device must be done with the work of these frames.
     ///
-    /// It takes about as many steps as sets are freed; the others are not moved. With none it makes
-    /// no call of the device and changes nothing.
+    /// The number of steps is about that of the freed sets; the others are not moved. Without any it
+    /// makes no device call and changes nothing.
     pub fn finish<L, D: DescriptorDevice<L, P, S>>(&mut self, device: &mut D, frame: u64)
         requires agree { Agrees D.meaning.pool_name (allocator_of self.old) (D.ledger device.old) }
         requires retired { AreRetiredOut D.meaning.pool_name D.meaning.set_name self.old
@@ -73,6 +73,7 @@ impl<P, S> FrameManager<P, S> {
         ensures in_use { KeepsInUse D.meaning.pool_name D.meaning.set_name self.old self.new
             (D.ledger device.old) (D.ledger device.new) }
     {
+        // An iterator that borrows the list, since splitting it would move the other sets, or allocate.
         let mut due = Due {
             retired: &mut self.retired,
             frame,
@@ -86,9 +87,8 @@ impl<P, S: Drop> FrameManager<P, S> {
     ghost use Rattle.descriptor_frames.specs.Frames.{AreInUse, KeepsRetired, LeavesUse};
     ghost use Rattle.descriptor_frames.specs.Frames.{allocator_of};
 
-    /// Frees sets in use at once, as `DescriptorAllocator::free_all` does. The retired sets
-    /// stay. Nothing that uses one of the sets may have been submitted, or the device must be done
-    /// with it.
+    /// Frees sets in use at once. Same as `DescriptorAllocator::free_all`; retired sets stay. Nothing
+    /// that uses one of the sets may have been submitted, or the device must be done with it.
     pub fn free_all<L, D: DescriptorDevice<L, P, S>>(
         &mut self,
         device: &mut D,
@@ -113,7 +113,7 @@ impl<P, S: Drop> FrameManager<P, S> {
 impl<P: Drop, S> FrameManager<P, S> {
     ghost use Rattle.descriptor_frames.specs.Frames.{KeepsInUse, KeepsRetired, allocator_of};
 
-    /// Destroys pools without sets, as `DescriptorAllocator::cleanup` does. A pool of a retired set
+    /// Destroys pools without sets. Same as `DescriptorAllocator::cleanup`. A pool of a retired set
     /// stays.
     pub fn cleanup<L, D: DescriptorDevice<L, P, S>>(&mut self, device: &mut D)
         requires agree { Agrees D.meaning.pool_name (allocator_of self.old) (D.ledger device.old) }
@@ -127,7 +127,7 @@ impl<P: Drop, S> FrameManager<P, S> {
         self.allocator.cleanup(device);
     }
 
-    /// Destroys all pools without sets, as `DescriptorAllocator::trim` does. A pool of a retired set
+    /// Destroys all pools without sets. Same as `DescriptorAllocator::trim`. A pool of a retired set
     /// stays.
     pub fn trim<L, D: DescriptorDevice<L, P, S>>(&mut self, device: &mut D)
         requires agree { Agrees D.meaning.pool_name (allocator_of self.old) (D.ledger device.old) }

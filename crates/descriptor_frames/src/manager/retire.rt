@@ -1,4 +1,4 @@
-//! Retiring sets, over memory that may be reserved before.
+//! Retiring sets, into memory that may be reserved before.
 ghost use Rattle.std.specs.Prelude.{◌≡◌, ℕ, ◌+◌, ◌<◌, ◌≤◌, ◌↔◌, [], ◌∷◌, ◌++◌, IfErr, IsErrOf};
 ghost use Rattle.std.specs.Prelude.{IsOk, OnErr, OnOk};
 ghost use Rattle.gpu_descriptor_types.specs.Ledger.{Ledger};
@@ -17,8 +17,8 @@ impl<P, S> FrameManager<P, S> {
     ghost use Rattle.descriptor_frames.specs.Frames.{allocator_of, greatest_of, retired_of};
     ghost use Rattle.descriptor_frames.specs.Frames.{reserve_of};
 
-    /// Reserves memory for so many more retired sets: the next ones are retired without want of
-    /// memory.
+    /// Reserves memory for `additional` more retired sets: the next ones are retired without an
+    /// allocation.
     pub fn reserve(&mut self, additional: usize) -> Result<(), AllocError>
         ensures reserve { OnOk result (additional ≤ reserve_of self.new) }
         ensures full { OnErr result (reserve_of self.old < additional) }
@@ -32,15 +32,16 @@ impl<P, S> FrameManager<P, S> {
 
     /// Retires a set: it is freed when this frame or a later one is finished.
     ///
-    /// Frames must not fall: `FrameBack` if the frame is below the greatest at which a set was
-    /// ever retired, also if all these have been freed since. `Memory` if an allocation for one more
-    /// fails. Either returns the set, and nothing changed.
+    /// Frames must not fall: it fails with `FrameBack` if the frame is below the greatest at which a set
+    /// was ever retired, even if all these sets have been freed since; and with `Memory` if an
+    /// allocation for one more fails. Either returns the set, and nothing changes.
     pub fn retire(&mut self, frame: u64, set: DescriptorSet<S>) -> Result<(), RetireError<S>>
         ensures last { OnOk result (retired_of self.new
             ≡ retired_of self.old ++ at_frame frame set ∷ []) }
         ensures greatest { OnOk result (greatest_of self.new ≡ frame) }
 
-        // On any device: a set that was in use is so once less, and the retired ones are still out.
+        // On any device: a set that was in use is so once less, and the retired ones are still
+        // outstanding.
         ensures in_use { OnOk result ((pool_name : P → ℕ) (set_name : S → ℕ) (l : Ledger)
             → AreRetiredOut pool_name set_name self.old l
             → AreInUse pool_name set_name (item_of set_name set ∷ []) self.old l
@@ -66,7 +67,7 @@ impl<P, S> FrameManager<P, S> {
         Ok(())
     }
 
-    /// Puts a set last in the list, over memory that was reserved.
+    /// Puts a set last in the list, in reserved memory.
     pub(super) fn put(&mut self, frame: u64, set: DescriptorSet<S>)
         requires rising { greatest_of self.old ≤ frame }
         requires reserve { 0 < reserve_of self.old }

@@ -1,4 +1,4 @@
-//! Frames, and the sets that are drawn with in one.
+//! Frames and their sets.
 ghost use Rattle.std.specs.Prelude.{◌≡◌, ℕ, ◌+◌, ◌<◌, ◌^◌, ◌↔◌, ◌⊎◌, max, Ok};
 ghost use Rattle.std.specs.Prelude.{IfErr, IfOk, IfSome, IsErrOf, IsOk, IsSome, None, OnErr, OnOk};
 ghost use Rattle.std.specs.Prelude.{false, true};
@@ -22,8 +22,8 @@ impl<L: Drop, P: Drop, S: Drop, D: DescriptorDevice<L, P, S>> SetManager<L, P, S
 
     /// Opens the next frame and returns its number. The first frame has number 1.
     ///
-    /// It returns `FrameOpen` if a frame is open, and `NoMoreFrames` after frame `u64::MAX`. After
-    /// either error nothing has changed.
+    /// It fails with `FrameOpen` if a frame is open, and with `NoMoreFrames` after frame `u64::MAX`. An
+    /// error changes nothing.
     pub fn begin_frame(&mut self) -> Result<u64, BeginFrameError>
         ensures next { IfOk result (λ frame. (frame ≡ frame_of self.old + 1)
             × (frame_of self.new ≡ frame) × (is_open self.new ≡ true)) }
@@ -45,10 +45,10 @@ impl<L: Drop, P: Drop, S: Drop, D: DescriptorDevice<L, P, S>> SetManager<L, P, S
         Ok(self.frame)
     }
 
-    /// Skips frames up to the one with this number: the next frame has a greater one. For a program
-    /// that counts its frames itself. Frames up to the last are skipped already.
+    /// Skips frames up to `frame`, so that the next one has a greater number. It is for a program that
+    /// counts its frames itself. It does nothing if `frame` isn't after the last frame.
     ///
-    /// It returns `FrameOpen` if a frame is open, and then nothing has changed.
+    /// It fails with `FrameOpen` if a frame is open, and then nothing changes.
     pub fn skip_to(&mut self, frame: u64) -> Result<(), BeginFrameError>
         ensures skips { OnOk result (frame_of self.new ≡ max (frame_of self.old) frame) }
         ensures frame_open { (IsErrOf result BeginFrameError.FrameOpen) ↔ (is_open self.old ≡ true) }
@@ -63,14 +63,16 @@ impl<L: Drop, P: Drop, S: Drop, D: DescriptorDevice<L, P, S>> SetManager<L, P, S
         Ok(())
     }
 
-    /// A set of a layout for the open frame: the last one that was kept, or else a new one. Its handle
-    /// names it until the frame ends, and the set comes back once the device is done with the frame.
-    /// Without an open frame or the layout it returns `NoFrame` or `NoLayout`, and changes nothing.
+    /// Allocates a set of a layout for the open frame: the set of the layout that was kept last, or else
+    /// a new one. Its handle is valid until the frame ends. The set is freed once the device is done
+    /// with the frame.
     ///
-    /// If the allocator refuses a new set while sets of any layout are kept, all kept sets are freed and
-    /// empty pools are destroyed, as by `cleanup`, and `allocate_for_frame` retries once. It does not, and kept sets
-    /// stay, in two cases: the set alone has more update-after-bind descriptors than the limit allows, or
-    /// an allocation for the table of sets failed before the allocator was asked.
+    /// It fails with `NoFrame` without an open frame, and with `NoLayout` if the layout's handle is
+    /// invalid; both change nothing. If the allocator refuses a new set while sets of any layout are
+    /// kept, it frees all kept sets and destroys empty pools, as `cleanup` does, and retries once. It
+    /// fails without that, and kept sets stay, in two cases: the set alone has more update-after-bind
+    /// descriptors than the limit allows, or memory for the table of sets ran out before the allocator
+    /// was asked.
     #[inline]
     pub fn allocate_for_frame(&mut self, layout: LayoutHandle) -> Result<SetHandle, RequestError>
         ensures allocates { IfOk result (λ handle. IfSome (layout_of self.old layout) (λ known.
@@ -104,16 +106,16 @@ impl<L: Drop, P: Drop, S: Drop, D: DescriptorDevice<L, P, S>> SetManager<L, P, S
         }
     }
 
-    /// Ends the frame: its handles name nothing from now on. It can't be refused.
+    /// Ends the open frame: the handles of its sets are invalid from now on. It can't fail.
     pub fn end_frame(&mut self)
         ensures { seen self.new ≡ record (seen self.old) { is_open = false } }
     {
         self.is_open = false;
     }
 
-    /// The device is done with this frame and those before it, but not with an open one: the sets that
-    /// wait for them are kept, or go back to their pools. Whenever the oldest pools of their key have no
-    /// set left, these are destroyed, but never the key's last pool.
+    /// The device is done with this frame and those before it, but not with an open one. The sets that
+    /// wait for these frames are kept, or return to their pools. Whenever the oldest pools of a returned
+    /// set's key have no sets left, they are destroyed, except the key's last pool.
     pub fn frame_done(&mut self, frame: u64)
         ensures back { ComeBack (is_due (done_of frame self.old)) (store_of self.old)
             (store_of self.new) }
@@ -126,7 +128,8 @@ impl<L: Drop, P: Drop, S: Drop, D: DescriptorDevice<L, P, S>> SetManager<L, P, S
         self.store.finish(done);
     }
 
-    /// This frame, or the one before the open frame if that is earlier.
+    /// The last frame that the device can be done with: `frame`, or the one before the open frame if that
+    /// is earlier.
     #[inline]
     fn done(&self, frame: u64) -> u64
         ensures { result ≡ done_of frame self.now }

@@ -1,4 +1,4 @@
-//! What a set manager shows of its pools. Nothing here allocates.
+//! What a set manager shows of its pools. Nothing here allocates memory.
 ghost use Rattle.std.specs.Prelude.{◌≡◌, ◌≤◌, length, IfSome, None};
 ghost use Rattle.gpu_descriptor.specs.Caller.States.{pool_load_of};
 ghost use Rattle.gpu_descriptor.specs.Caller.Views.{view_in};
@@ -11,8 +11,8 @@ use gpu_descriptor::{DescriptorDevice, PoolView};
 impl<L: Drop, P: Drop, S: Drop, D: DescriptorDevice<L, P, S>> SetManager<L, P, S, D> {
     ghost use Rattle.descriptor_manager.specs.Managers.{layout_of, limit_of, pools_for, side_of};
 
-    /// How many descriptors the pools of update-after-bind layouts have, as they were created; a
-    /// pool for sets without descriptors counts as one. So much of the limit is used.
+    /// How much of the limit is in use: the number of descriptors with which the pools for
+    /// update-after-bind layouts were created. A pool for sets without descriptors counts as one.
     pub fn update_after_bind_capacity(&self) -> u32
         ensures sum { result ≡ pool_load_of (side_of self.now).value }
         ensures within { result ≤ limit_of self.now }
@@ -20,15 +20,15 @@ impl<L: Drop, P: Drop, S: Drop, D: DescriptorDevice<L, P, S>> SetManager<L, P, S
         self.store.allocator().update_after_bind_capacity()
     }
 
-    /// The limit that the set manager was made with.
+    /// The limit on update-after-bind descriptors that the set manager was made with.
     pub fn update_after_bind_limit(&self) -> u32
         ensures { result ≡ limit_of self.now }
     {
         self.store.allocator().update_after_bind_limit()
     }
 
-    /// How many pools there are for sets of a layout, and of each other with the same counts and the
-    /// same mark. 0 if the layout was removed, and under a handle of another set manager.
+    /// How many pools there are for sets of a layout, and of every other layout with the same counts and
+    /// mark. 0 if the layout was removed, or if the handle is another set manager's.
     pub fn pool_count(&self, layout: LayoutHandle) -> usize
         ensures count { IfSome (layout_of self.now layout) (λ known. result
             ≡ length (pools_for known.layout self.now).pools) }
@@ -43,8 +43,8 @@ impl<L: Drop, P: Drop, S: Drop, D: DescriptorDevice<L, P, S>> SetManager<L, P, S
         }
     }
 
-    /// The books of the pool at this place among those of `pool_count`, oldest first; `None` past the
-    /// last.
+    /// The books of the pool at this index among those that `pool_count` counts, oldest first; `None`
+    /// past the last.
     pub fn pool(&self, layout: LayoutHandle, index: usize) -> Option<PoolView>
         ensures view { IfSome (layout_of self.now layout) (λ known. result
             ≡ view_in (pools_for known.layout self.now) index) }

@@ -1,4 +1,4 @@
-//! Sets that are held until they are freed or destroyed.
+//! Sets that are held until they are freed.
 ghost use Rattle.std.specs.Prelude.{◌≡◌, ◌-◌, ◌<◌, ◌≤◌, ◌⊎◌, [], ◌∷◌, length};
 ghost use Rattle.std.specs.Prelude.{IfErr, IfOk, IfSome, IsErrOf, IsSome, None, OnErr, OnOk, Ok, false};
 ghost use Rattle.std.specs.Prelude.{IsOk, option_map};
@@ -23,8 +23,9 @@ impl<L: Drop, P: Drop, S: Drop, D: DescriptorDevice<L, P, S>> SetManager<L, P, S
     ghost use Rattle.descriptor_manager.specs.Managers.{kept_of, layout_of, number_of, seen, sets_by};
     ghost use Rattle.descriptor_manager.specs.Managers.{side_of, slots_of, store_of};
 
-    /// Creates a set of a layout, which is held until it is freed or destroyed, in a frame or between
-    /// two: the last one that was kept, or else a new one, as `allocate_for_frame` does.
+    /// Allocates a set of a layout, which is held until it is freed. A frame may be open or not. It
+    /// takes the set of the layout that was kept last, or else a new one, and fails as
+    /// `allocate_for_frame` does.
     #[inline]
     pub fn allocate(&mut self, layout: LayoutHandle) -> Result<SetHandle, RequestError>
         ensures creates { IfOk result (λ handle. IfSome (layout_of self.old layout) (λ known.
@@ -50,15 +51,15 @@ impl<L: Drop, P: Drop, S: Drop, D: DescriptorDevice<L, P, S>> SetManager<L, P, S
         }
     }
 
-    /// Creates a set of a layout for each place of `sets`, all or none, and writes their names there:
-    /// each is held until it is freed or destroyed. Kept sets come first; the others are new, in one
-    /// request. On an error `sets` stays as it was. It allocates only what the new sets need.
+    /// Allocates a set of a layout for each place of `sets`, all or none, and writes their names there.
+    /// Each is held until it is freed. Kept sets are taken first; the others are new, from one request.
+    /// On an error `sets` stays as it was. It allocates memory only for the new sets.
     ///
-    /// If the allocator refuses the new sets while sets of any layout are kept, all kept sets are freed
-    /// and empty pools are destroyed, as by `cleanup`, and it retries once, for all. It does not, and kept
-    /// sets stay, if all of them alone have more update-after-bind descriptors than the limit allows, or if
-    /// an allocation of its own failed before the allocator was asked. More than `u32::MAX` sets are
-    /// `OutOfHostMemory`.
+    /// If the allocator refuses the new sets while sets of any layout are kept, it frees all kept sets
+    /// and destroys empty pools, as `cleanup` does, and retries once, for all sets. It fails without
+    /// that, and kept sets stay, in two cases: all these sets alone have more update-after-bind
+    /// descriptors than the limit allows, or its own memory ran out before the allocator was asked. More
+    /// than `u32::MAX` sets are `OutOfHostMemory`.
     #[inline]
     pub fn allocate_into<N: SetName<DescriptorSet<S>> + Drop>(
         &mut self,
@@ -99,12 +100,12 @@ impl<L: Drop, P: Drop, S: Drop, D: DescriptorDevice<L, P, S>> SetManager<L, P, S
         }
     }
 
-    /// Frees sets at once, all or none: they are kept, or go back to their pools, neighbours of one pool
-    /// in one call of the device. Their handles name nothing from now on. It allocates nothing. The
-    /// device must be done with the work that uses them.
+    /// Frees sets at once, all or none: each is kept, or returns to its pool, with one device call per
+    /// run of consecutive sets from one pool. Their handles are invalid from now on. It allocates no
+    /// memory. The device must be done with the work that uses the sets.
     ///
-    /// It returns `NoSet` if a handle names no set that the set manager holds, or is in the list
-    /// twice. Then nothing changed.
+    /// It fails with `NoSet` if a handle isn't that of a held set, or is in the list twice. Then nothing
+    /// changes.
     pub fn free<N: SetName<DescriptorSet<S>>>(
         &mut self,
         sets: &[N],
@@ -126,12 +127,12 @@ impl<L: Drop, P: Drop, S: Drop, D: DescriptorDevice<L, P, S>> SetManager<L, P, S
         Ok(())
     }
 
-    /// Destroys sets that were last used in a frame, 0 if in none, all or none: they come back at the
-    /// next `frame_done` of that frame or a later one, and their handles name nothing from now on. It
-    /// allocates nothing.
+    /// Frees sets after the frame of their last use, all or none; 0 stands for no frame. The sets are
+    /// freed by the next `frame_done` with that frame or a later one. Their handles are invalid from now
+    /// on. It allocates no memory.
     ///
-    /// It returns `FrameAhead` if the frame is later than `frame()`, and otherwise `NoSet` if a handle
-    /// names no set that the set manager holds, or is in the list twice. Then nothing changed.
+    /// It fails with `FrameAhead` if `last_use` is later than `frame()`, and else with `NoSet` if a
+    /// handle isn't that of a held set, or is in the list twice. Then nothing changes.
     pub fn free_after<N: SetName<DescriptorSet<S>>>(
         &mut self,
         sets: &[N],
@@ -148,9 +149,9 @@ impl<L: Drop, P: Drop, S: Drop, D: DescriptorDevice<L, P, S>> SetManager<L, P, S
         Ok(())
     }
 
-    /// Gives all sets back to their pools at once: those that wait for a frame, those of the open frame,
-    /// which is ended, those that are held, and those that are kept. It allocates nothing. The device
-    /// must be done with the work that uses them.
+    /// Returns all sets to their pools at once: those that are held, those that wait for a frame, those
+    /// that are kept, and those of the open frame, which is ended. It allocates no memory. The device
+    /// must be done with the work that uses the sets.
     pub fn free_all(&mut self)
         ensures frees { FreesAll (store_of self.old) (store_of self.new) }
         ensures gone { (handle : SetHandle) → (sets_by self.new).set handle ≡ None }
@@ -163,8 +164,8 @@ impl<L: Drop, P: Drop, S: Drop, D: DescriptorDevice<L, P, S>> SetManager<L, P, S
         self.store.free_all();
     }
 
-    /// The raw set of a handle, to write and to bind: one that is held, or one of the open frame. None
-    /// under the handle of a set that was freed or destroyed, of another frame, and of another set manager.
+    /// The raw set of a handle, to write and to bind: a held set, or one of the open frame. `None` if
+    /// the set was freed, is of another frame, or is another set manager's.
     pub fn set(&self, set: SetHandle) -> Option<&S>
         ensures { option_copied result ≡ option_map raw_of ((sets_by self.now).set set) }
     {

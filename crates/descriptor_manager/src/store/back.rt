@@ -1,4 +1,4 @@
-//! Sets that come back: they are kept, or go back to their pools.
+//! Sets that are freed: each is kept, or returns to its pool.
 ghost use Rattle.std.specs.Prelude.{◌≡◌, ℕ, ◌<◌, ◌≤◌, ◌↔◌, length, false, IsFalse, IsTrue};
 ghost use Rattle.gpu_descriptor.specs.Caller.CleansUp.{TrimsPools};
 ghost use Rattle.gpu_descriptor.specs.Caller.SetLayouts.{IsMeant};
@@ -18,13 +18,13 @@ impl<L: Drop, P: Drop, S: Drop, D: DescriptorDevice<L, P, S>> Store<L, P, S, D> 
     ghost use Rattle.descriptor_manager.specs.Stores.{coming_in, generations_in, kept_of, ledger_of};
     ghost use Rattle.descriptor_manager.specs.Stores.{keep_of, number_of, pools_besides, side_of, slots_in};
 
-    /// Frees the sets that were let go. In most frames there are none.
+    /// Returns the sets on the table's list of those that go. In most frames it is empty.
     #[inline]
     fn give(&mut self)
         ensures { GivesBack goes self.old self.new }
     {
         if self.table.none_goes() {
-            // A proof has what the allocator's invariant says only by a reader.
+            // A proof knows the allocator's invariant only from what its readers promise.
             prove!(self.allocator.update_after_bind_descriptors() <= u32::MAX);
             prove!(self.allocator.update_after_bind_capacity() <= u32::MAX);
             return;
@@ -32,7 +32,7 @@ impl<L: Drop, P: Drop, S: Drop, D: DescriptorDevice<L, P, S>> Store<L, P, S, D> 
         self.give_each();
     }
 
-    /// Frees the sets that were let go, run by run.
+    /// Returns the sets on the table's list of those that go, run by run.
     fn give_each(&mut self)
         ensures { GivesBack goes self.old self.new }
     {
@@ -43,7 +43,7 @@ impl<L: Drop, P: Drop, S: Drop, D: DescriptorDevice<L, P, S>> Store<L, P, S, D> 
         giving.end();
     }
 
-    /// Frees the sets that wait for a frame up to this one.
+    /// Returns the sets that wait for `frame` or an earlier one to their pools.
     fn give_due(&mut self, frame: u64)
         ensures { GivesBack (is_due frame) self.old self.new }
     {
@@ -55,7 +55,8 @@ impl<L: Drop, P: Drop, S: Drop, D: DescriptorDevice<L, P, S>> Store<L, P, S, D> 
         giving.end();
     }
 
-    /// Gives all kept sets back, and destroys all empty pools. Sets that are in use aren't kept later.
+    /// Returns all kept sets to their pools, and destroys all empty pools. Sets in use aren't kept
+    /// later.
     #[cold]
     pub(crate) fn cleanup(&mut self)
         requires rest { IsAtRest self.old }
@@ -72,7 +73,7 @@ impl<L: Drop, P: Drop, S: Drop, D: DescriptorDevice<L, P, S>> Store<L, P, S, D> 
         self.allocator.trim(&mut self.device);
     }
 
-    /// Destroys all empty pools. Sets that are kept stay.
+    /// Destroys all empty pools. Kept sets stay.
     pub(crate) fn trim(&mut self)
         requires rest { IsAtRest self.old }
         ensures trims { TrimsPools D.meaning (side_of self.old) (side_of self.new) }
@@ -82,7 +83,7 @@ impl<L: Drop, P: Drop, S: Drop, D: DescriptorDevice<L, P, S>> Store<L, P, S, D> 
         self.allocator.trim(&mut self.device);
     }
 
-    /// The sets that wait for a frame up to this one are kept, or go back to their pools.
+    /// Frees the sets that wait for `frame` or an earlier one: each is kept, or returns to its pool.
     pub(crate) fn finish(&mut self, frame: u64)
         requires rest { IsAtRest self.old }
         ensures back { ComeBack (is_due frame) self.old self.new }
@@ -97,8 +98,8 @@ impl<L: Drop, P: Drop, S: Drop, D: DescriptorDevice<L, P, S>> Store<L, P, S, D> 
         self.give();
     }
 
-    /// Frees the held sets of names at once: they are kept, or go back to their pools. If a name has
-    /// none, or is in the list twice, nothing changes, and it returns `false`.
+    /// Frees the held sets of `names` at once: each is kept, or returns to its pool. If a name has no
+    /// held set, or is in the list twice, it changes nothing and returns `false`.
     pub(crate) fn free_each<N: SetName<DescriptorSet<S>>>(&mut self, names: &[N]) -> bool
         requires rest { IsAtRest self.old }
         ensures once { IsTrue result ↔ AreHeldOnce (number_of self.old) (slots_in self.old)
@@ -115,8 +116,8 @@ impl<L: Drop, P: Drop, S: Drop, D: DescriptorDevice<L, P, S>> Store<L, P, S, D> 
         true
     }
 
-    /// Lets the held sets of names wait for a frame. If a name has none, or is in the list twice,
-    /// nothing changes, and it returns `false`.
+    /// Lets the held sets of `names` wait for a frame. If a name has no held set, or is in the list
+    /// twice, it changes nothing and returns `false`.
     pub(crate) fn wait_each<N: SetName<DescriptorSet<S>>>(
         &mut self,
         names: &[N],
@@ -138,7 +139,7 @@ impl<L: Drop, P: Drop, S: Drop, D: DescriptorDevice<L, P, S>> Store<L, P, S, D> 
         true
     }
 
-    /// Keeps at most so many sets of a layout from now on. Those above are given back.
+    /// Sets how many sets of a layout are kept at most. Those above `max` return to their pools.
     pub(crate) fn set_max_kept(&mut self, max: u32)
         requires rest { IsAtRest self.old }
         ensures trims { Trims self.old self.new }
@@ -152,8 +153,8 @@ impl<L: Drop, P: Drop, S: Drop, D: DescriptorDevice<L, P, S>> Store<L, P, S, D> 
         self.give();
     }
 
-    /// Removes a layout: its kept sets are given back, and its other sets aren't kept when they come back,
-    /// not even once another layout has its number. Then the empty pools of its key are destroyed.
+    /// Removes a layout: its kept sets return to their pools, and its other sets aren't kept once they
+    /// are freed, not even when another layout has its number. Then the empty pools of its key are destroyed.
     pub(crate) fn remove_layout(&mut self, known: &SetLayout<L>, layout: u32)
         requires meant { IsMeant D.meaning known.now }
         requires rest { IsAtRest self.old }
@@ -169,7 +170,8 @@ impl<L: Drop, P: Drop, S: Drop, D: DescriptorDevice<L, P, S>> Store<L, P, S, D> 
         self.allocator.trim_layout(&mut self.device, known);
     }
 
-    /// Gives all sets back: those that are held, those that wait for a frame, and those that are kept.
+    /// Returns all sets to their pools: those that are held, those that wait for a frame, and those that
+    /// are kept.
     pub(crate) fn free_all(&mut self)
         requires rest { IsAtRest self.old }
         ensures frees { FreesAll self.old self.new }

@@ -18,7 +18,7 @@ impl<L: Drop, P: Drop, S: Drop, D: DescriptorDevice<L, P, S>> Store<L, P, S, D> 
     ghost use Rattle.descriptor_manager.specs.Stores.{Settles, coming_in, current_in, kept_of, number_of};
     ghost use Rattle.descriptor_manager.specs.Stores.{side_of, slots_in};
 
-    /// Asks the allocator for so many sets of a layout, for which the table has room.
+    /// Asks the allocator for `many` sets of a layout. The table has room for them.
     fn ask_for(&mut self, known: &SetLayout<L>, many: u32) -> Result<(), AllocationError>
         requires meant { IsMeant D.meaning known.now }
         requires none { coming_in self.old ≡ [] }
@@ -34,9 +34,9 @@ impl<L: Drop, P: Drop, S: Drop, D: DescriptorDevice<L, P, S>> Store<L, P, S, D> 
             .allocate_into(&mut self.device, known, many, &mut self.coming)
     }
 
-    /// Asks for the sets that a request for so many needs in addition to the kept ones. If the allocator
-    /// refuses them while sets are kept, these are freed, empty pools are destroyed, and it retries once,
-    /// for all. It does not if all of them alone exceed the limit.
+    /// Asks the allocator for those of `many` sets for which no set is kept. If it refuses them while
+    /// sets are kept, all kept sets return to their pools, empty pools are destroyed, and it retries
+    /// once, for all sets. It doesn't if all of them alone exceed the limit.
     fn bring(&mut self, known: &SetLayout<L>, layout: u32, many: u32) -> Result<(), AllocationError>
         requires { CanTake known.now layout self.old }
         ensures kept { many ≤ kept_of layout self.old → (result ≡ Ok tt) × (self.new ≡ self.old) }
@@ -99,7 +99,7 @@ impl<L: Drop, P: Drop, S: Drop, D: DescriptorDevice<L, P, S>> Store<L, P, S, D> 
         }
     }
 
-    /// Holds one of the sets that are on their way.
+    /// Holds one of the new sets in `coming`.
     #[inline]
     fn hold_last(&mut self, layout: u32) -> SetHandle
         requires some { 0 < length (coming_in self.old) }
@@ -121,7 +121,7 @@ impl<L: Drop, P: Drop, S: Drop, D: DescriptorDevice<L, P, S>> Store<L, P, S, D> 
         }
     }
 
-    /// Holds the sets that are on their way, and writes their names.
+    /// Holds the new sets in `coming`, and writes their names.
     fn hold_coming<N: SetName<DescriptorSet<S>> + Drop>(&mut self, layout: u32, names: &mut [N])
         requires can { CanHold layout self.old }
         requires as_many { length names.old ≡ length (coming_in self.old) }

@@ -13,8 +13,8 @@ impl<L: Drop, P: Drop, S: Drop, D: DescriptorDevice<L, P, S>> Store<L, P, S, D> 
     ghost use Rattle.descriptor_manager.specs.Stores.{IsRefused, IsRefusedAtLast, KeepsComing};
     ghost use Rattle.descriptor_manager.specs.Stores.{TakesKept, TakesOne, kept_of};
 
-    /// Asks the allocator for a set of a layout, and puts it into the table, over memory that was
-    /// reserved. Returns its place.
+    /// Asks the allocator for a set of a layout, puts it into the table's reserved memory, and returns
+    /// its place.
     #[inline]
     fn ask(&mut self, known: &SetLayout<L>, layout: u32) -> Result<usize, AllocationError>
         requires meant { IsMeant D.meaning known.now }
@@ -32,8 +32,8 @@ impl<L: Drop, P: Drop, S: Drop, D: DescriptorDevice<L, P, S>> Store<L, P, S, D> 
     }
 
     /// Takes a new set of a layout, and returns its place. If the allocator refuses it while sets are
-    /// kept, they are freed, empty pools are destroyed, and it retries once. It does not if the set alone
-    /// exceeds the limit.
+    /// kept, all kept sets return to their pools, empty pools are destroyed, and it retries once. It
+    /// doesn't if the set alone exceeds the limit.
     fn take_new(&mut self, known: &SetLayout<L>, layout: u32) -> Result<usize, AllocationError>
         requires { CanTake known.now layout self.old }
         ensures gets { IfOk result (λ place. GetsAtLast known.now.layout layout place self.old
@@ -56,10 +56,10 @@ impl<L: Drop, P: Drop, S: Drop, D: DescriptorDevice<L, P, S>> Store<L, P, S, D> 
         }
     }
 
-    /// Takes a set of a layout: the last one that was kept, or else a new one. Returns its place. An
-    /// error is one of `DescriptorAllocator::allocate_one`, or `OutOfHostMemory` if an allocation for more
-    /// slots fails. After it no set of any layout is kept, unless the set alone exceeds the limit, or that
-    /// allocation failed.
+    /// Takes a set of a layout, the last one that was kept or else a new one, and returns its place. An
+    /// error is one of `DescriptorAllocator::allocate_one`, or `OutOfHostMemory` if memory for more
+    /// slots runs out. After an error no set of any layout is kept, unless the set alone exceeds the
+    /// limit or memory for slots ran out.
     #[inline]
     fn take(&mut self, known: &SetLayout<L>, layout: u32) -> Result<usize, AllocationError>
         requires { CanTake known.now layout self.old }
@@ -79,7 +79,7 @@ impl<L: Drop, P: Drop, S: Drop, D: DescriptorDevice<L, P, S>> Store<L, P, S, D> 
         }
     }
 
-    /// Takes a set of a layout, the last one that was kept, or else a new one, for a frame.
+    /// Takes a set of a layout for a frame: the last one that was kept, or else a new one.
     #[inline]
     pub(crate) fn allocate_for_frame(
         &mut self,
@@ -94,7 +94,7 @@ impl<L: Drop, P: Drop, S: Drop, D: DescriptorDevice<L, P, S>> Store<L, P, S, D> 
         Ok(self.table.hold_for_frame(place, frame))
     }
 
-    /// Takes a set of a layout, the last one that was kept, or else a new one, which is held.
+    /// Takes a set of a layout and holds it: the last one that was kept, or else a new one.
     #[inline]
     pub(crate) fn allocate(
         &mut self,

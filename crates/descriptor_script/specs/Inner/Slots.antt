@@ -8,7 +8,7 @@ module _ {S : Type 0} where
   abbrev pub slots_of : Slots S → List (Option (DescriptorSet S))
   slots_of s = s.sets.items
 
-  -- so many tickets can be given without an allocation
+  -- n tickets can be given without an allocation
   pub record HasSpareSlots (n : ℕ) (s : Slots S) : Type 0 where
     pub sets : vec_len s.sets + n ≤ vec_capacity s.sets
     pub listed : vec_len s.listed + n ≤ vec_capacity s.listed

@@ -17,7 +17,7 @@ abbrev pub rest_words : List Answer → List Answer
 rest_words [] = []
 rest_words (word ∷ words) = words
 
--- a script that refuses once: so many words Ok, and then this one
+-- a script that refuses once: n words Ok, and then this one
 abbrev pub refusing_at : ℕ → Answer → List Answer
 refusing_at place answer = replicate place Ok ++ answer ∷ []
 

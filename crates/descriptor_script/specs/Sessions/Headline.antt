@@ -54,7 +54,7 @@ module _ {L P S : Type 0} (means : Meaning L P S) where
       pub at : slice_get (layouts_of old.value) layout ≡ Some known
       -- it was for some sets
       pub some : 0 < count
-      -- the error has one of its causes. How many sets were out before, and how many descriptors of marked ones, is read off the held sets
+      -- the error has one of its causes. The number of outstanding sets before, and that of the descriptors of marked ones, is read from the held sets
       pub cause : IsBecause means (layout_key means known.layout) count (length (held_items old)) (marked_descriptors (held_items old)) (allocator_on old) (allocator_on new) error
       pub sets : sets_of new.value ≡ sets_of old.value
 
@@ -71,7 +71,7 @@ module _ {L P S : Type 0} (means : Meaning L P S) where
     -- books and pools are left as by freeing the sets one by one, in whatever order
     pub one_by_one : (order : List Item) → ((t : Item) → count_of t order ≡ count_of t (items_of means.set_name given)) → state_on means new ≡ freed_each order (state_on means old)
 
-  -- what is held is what the replies handed out, less what was freed, and a request fails only for a named cause
+  -- what is held is what the replies gave, less what was freed, and a request fails only for a named cause
   abbrev pub HoldsWhatIsOut : OfStep L P S
   HoldsWhatIsOut (Allocate layout count) (Sets first many) old new = IsMet layout count old new first many
   HoldsWhatIsOut (Allocate layout count) (Refused error) old new = IsRefused layout count old new error
@@ -88,7 +88,7 @@ module _ {L P S : Type 0} (means : Meaning L P S) where
     pub exactly : (t : Item) → outstanding (state_on means new) t ≡ count_of t (held_items new)
     -- and nothing else: the live sets of each pool in the books are the held sets that lie in it, and have the counts of its key
     pub nothing_else : (k : Key) (i : ℕ) (e : Entry) (x : LiveSet) → slice_get ((state_on means new).books k).pools i ≡ Some e → (0 < live_in new.ledger.pools e.pool x → x.counts ≡ k.counts) × (live_in new.ledger.pools e.pool x ≡ count_by (λ t. lies_in (state_on means new).books e.pool t && set_eq (set_of t) x) (held_items new))
-    -- and these are the sets that were handed out and not returned
+    -- and these are the sets that were allocated and not freed
     pub handed_out : HoldsWhatIsOut command reply old new
     -- neither the held marked sets nor the marked pools have more descriptors than the limit, which stays
     pub sets_within : marked_descriptors (held_items new) ≤ (allocator_of new.value).limit

@@ -44,7 +44,7 @@ module _ {L P S : Type 0} (means : Meaning L P S) where
   pub record IsReady (s : Side (Session L P S)) : Type 0 where
     -- books and ledger agree
     pub agree : Agrees means.pool_name (allocator_of s.value) s.ledger
-    -- the held sets are exactly the outstanding ones
+    -- the held sets are exactly the outstanding ones. This is no ghost field, since it is read off the ledger, and a session keeps no device
     pub held : AreAllHeld means.set_name (sets_of s.value) (state_on s)
     -- the layouts have the counts and the marks that the device gives to them
     pub meant : All (IsMeant means) (layouts_of s.value)

@@ -9,7 +9,7 @@ use Rattle.descriptor_script.specs.declared.command.Reply.{Reply}
 use Rattle.descriptor_script.specs.declared.session.Session.{Session}
 
 module _ {L P S : Type 0} where
-  -- the commands were done in order, each with the reply at its place: there are states from the first to the last, and at each step from one to the next the promise is kept
+  -- the commands were done in order, each with the reply at its place: there are states from the first to the last, and at each step from one to the next the promise is kept. Asked of all possible states, and not of those of the run, a promise would be true of any code
   abbrev pub Runs : OfStep L P S → List Command → List Reply → Side (Session L P S) → Side (Session L P S) → Type 0
   Runs promise [] [] old new = new ≡ old
   Runs promise (command ∷ commands) (reply ∷ replies) old new =

@@ -72,7 +72,7 @@ module _ {L P S : Type 0} (means : Meaning L P S) where
       -- the held sets stay
       pub sets : sets_of new.value ≡ sets_of old.value
 
-    -- what a request for so many sets of the layout at a place may reply. A request for none is not refused for memory
+    -- what a request for count sets of the layout at a place may reply. A request for none is not refused for memory
     abbrev pub AllocatesTo : Reply → Type 0
     AllocatesTo (Sets first many) = HoldsAnswer first many
     AllocatesTo (Refused error) = Refuses error

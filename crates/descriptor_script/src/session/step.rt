@@ -66,7 +66,7 @@ impl<L, P: Drop, S: Drop> Session<L, P, S> {
         }
     }
 
-    /// Gives back the sets of these tickets.
+    /// Frees the sets of these tickets.
     fn free<D: DescriptorDevice<L, P, S>>(&mut self, device: &mut D, tickets: &[usize]) -> Reply
         requires ready { IsReady D.meaning (side self.old (D.ledger device.old)) }
         ensures step { FreesTo D.meaning tickets.now (side self.old (D.ledger device.old))

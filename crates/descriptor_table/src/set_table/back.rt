@@ -1,4 +1,5 @@
-//! Sets that come back: they are kept, or go back to their pools.
+//! Sets that are freed: each is kept, or goes. A set that goes joins the list of those that return to
+//! their pools.
 ghost use Rattle.std.specs.Prelude.{◌≡◌, ◌↔◌, ◌+◌, ◌<◌, ◌≤◌, ℕ, true, false, IsFalse, IsTrue, length};
 
 use super::{GOING, KEPT, SetTable};
@@ -16,7 +17,7 @@ impl<T> SetTable<T> {
     ghost use Rattle.descriptor_table.specs.Tables.{list_of, lists_of, may_stay, next_use, number_of};
     ghost use Rattle.descriptor_table.specs.Tables.{slots_of, used_for};
 
-    /// Whether a set that comes back may be kept.
+    /// Whether a set that is freed may be kept.
     #[inline]
     fn may_stay(&self, place: usize) -> bool
         requires { place < length (slots_of self.now) }
@@ -30,7 +31,7 @@ impl<T> SetTable<T> {
             && self.kept_count(slot.layout) < self.keep
     }
 
-    /// Keeps a set that a call has, or lets it go.
+    /// Keeps a set that a call has taken, or lets it go.
     #[inline(always)]
     fn settle(&mut self, place: usize)
         requires { HasTaken place (slots_of self.old) }
@@ -46,7 +47,7 @@ impl<T> SetTable<T> {
         self.link(GOING, place, Use::Going);
     }
 
-    /// The sets that wait for a frame up to this one are kept or go.
+    /// Frees the sets that wait for `frame` or an earlier one: each is kept, or goes.
     pub fn settle_due(&mut self, frame: u64)
         ensures { Changes (Turns (is_due frame) (IsBack (used_for Use.Going)
             (generations_of self.old) (keep_of self.old))) self.old self.new }
@@ -56,7 +57,7 @@ impl<T> SetTable<T> {
         }
     }
 
-    /// Whether a call has the set of a slot.
+    /// Whether a call has taken the set of a slot.
     #[inline]
     fn has_taken(&self, place: usize) -> bool
         requires { place < length (slots_of self.now) }
@@ -70,8 +71,8 @@ impl<T> SetTable<T> {
         }
     }
 
-    /// Frees the held sets of names, all or none: each is kept, or goes. If a name has no held set,
-    /// or is in the list twice, no set is freed, and it returns `false`.
+    /// Frees the held sets of `names`, all or none: each is kept, or goes. If a name has no held set, or
+    /// is in the list twice, it frees none and returns `false`.
     pub fn settle_held<N: SetName<T>>(&mut self, names: &[N]) -> bool
         ensures once { IsTrue result ↔ AreHeldOnce (number_of self.old) (slots_of self.old)
             (N.handles_of names.now) }
@@ -92,7 +93,8 @@ impl<T> SetTable<T> {
         true
     }
 
-    /// The sets of the first names, each of which came first into its list, are held as before.
+    /// Holds the sets of the first `count` names again. Each was put first into its list, in the order
+    /// of the names.
     #[cold]
     fn unsettle<N: SetName<T>>(&mut self, names: &[N], count: usize)
         requires few { count ≤ length names.now }
@@ -106,7 +108,7 @@ impl<T> SetTable<T> {
         }
     }
 
-    /// The set of a slot, which is the first of its list, is held again.
+    /// Holds the set of a slot again, which is the first of its list.
     fn hold_again(&mut self, place: usize)
         requires listed { is_in (list_of (slot_at (slots_of self.old) place))
             (slot_at (slots_of self.old) place) ≡ true }
@@ -122,7 +124,7 @@ impl<T> SetTable<T> {
         }
     }
 
-    /// The list of a slot's set that is kept or goes.
+    /// The list of a slot's set, which is kept or goes.
     fn list_of(&self, place: usize) -> usize
         requires { place < length (slots_of self.now) }
         ensures { result ≡ list_of (slot_at (slots_of self.now) place) }
@@ -135,7 +137,7 @@ impl<T> SetTable<T> {
         }
     }
 
-    /// The set of a slot waits for a frame, if a call has it.
+    /// Lets the set of a slot wait for a frame, if a call has taken it.
     #[inline]
     fn wait_taken(&mut self, place: usize, frame: u64)
         requires { place < length (slots_of self.old) }
@@ -147,7 +149,7 @@ impl<T> SetTable<T> {
         self.wait(place, frame, Use::Waits(frame));
     }
 
-    /// The sets of names, which were taken, wait for a frame. There are no others that were taken.
+    /// Lets the sets of `names` wait for a frame. Just these sets were taken.
     pub fn wait_each<N: SetName<T>>(&mut self, names: &[N], frame: u64)
         requires taken { AreAllTaken (N.handles_of names.now) (slots_of self.old) }
         ensures { Changes (Turns is_taken (Becomes (used_for (Use.Waits frame)))) self.old
@@ -196,7 +198,7 @@ impl<T> SetTable<T> {
         }
     }
 
-    /// Takes a kept set of a list, if more than so many are kept.
+    /// Takes a kept set of a list, if more than `max` are kept.
     #[inline]
     fn pick_above(&mut self, list: usize, max: u32) -> Option<usize>
         ensures { Changes (PicksAbove list max result) self.old self.new }
@@ -207,7 +209,7 @@ impl<T> SetTable<T> {
         self.pick(list)
     }
 
-    /// Lets kept sets of a list go, until no more than so many are left.
+    /// Lets kept sets of a list go, until at most `max` are left.
     fn trim_list(&mut self, list: usize, max: u32)
         requires list { 2 ≤ list }
         requires within { list < lists_of self.old }
@@ -230,7 +232,7 @@ impl<T> SetTable<T> {
         self.trim_list(layout as usize + KEPT, 0);
     }
 
-    /// Lets kept sets go, until no more than so many of each layout are left.
+    /// Lets kept sets go, until at most `max` of each layout are left.
     pub fn trim(&mut self, max: u32)
         ensures turns { Changes (Turns is_kept (MayBecome (used_for Use.Going))) self.old self.new }
         ensures few { (layout : ℕ) → count (is_kept_of layout) (slots_of self.new) ≤ max }

@@ -1,4 +1,4 @@
-//! How many slots there are, how many sets in each use, and how many of a layout are kept at most.
+//! How many slots there are, how many sets are in each use, and how many of a layout are kept at most.
 ghost use Rattle.std.specs.Prelude.{◌≡◌, ◌≤◌, ℕ, length};
 
 use super::{KEPT, SetTable};
@@ -24,7 +24,8 @@ impl<T> SetTable<T> {
         self.keep
     }
 
-    /// Keeps at most so many sets of a layout from now on. No more than that are kept when it is called.
+    /// Sets how many sets of a layout are kept at most. When it is called, no more than `max` of any
+    /// are.
     pub fn set_max_kept(&mut self, max: u32)
         requires { (k : ℕ) → 2 ≤ k → (chain_at (chains_in self.old.lists.items) k).count ≤ max }
         ensures { OnlySettings (record (settings_of self.old) { keep = max }) self.old self.new }
@@ -32,7 +33,7 @@ impl<T> SetTable<T> {
         self.keep = max;
     }
 
-    /// How many sets are kept. It goes over the layouts.
+    /// How many sets are kept. It visits the layouts.
     pub fn kept_total(&self) -> u64
         ensures { result ≡ count is_kept (slots_of self.now) }
     {

@@ -12,7 +12,7 @@ impl<T> SetTable<T> {
     ghost use Rattle.descriptor_table.specs.Tables.{At, Changes, KeepsLists, Stays, TookEach, number_of};
     ghost use Rattle.descriptor_table.specs.Tables.{slots_of, used_for};
 
-    /// The set of a slot that is in no list is in use for something else, and in none then.
+    /// Changes the use of a slot's set, which is in no list before and after.
     #[inline]
     pub(super) fn assign(&mut self, place: usize, used: Use)
         requires within { place < length (slots_of self.old) }
@@ -24,7 +24,8 @@ impl<T> SetTable<T> {
         self.slots.set_use(place, used);
     }
 
-    /// Takes the held sets of names. If a name has none, or is in the list twice, no set is taken.
+    /// Takes the held sets of `names`, all or none. If a name has no held set, or is in the list twice,
+    /// it takes none and returns `false`.
     pub fn take_each<N: SetName<T>>(&mut self, names: &[N]) -> bool
         ensures once { IsTrue result ↔ AreHeldOnce (number_of self.old) (slots_of self.old)
             (N.handles_of names.now) }
@@ -44,7 +45,7 @@ impl<T> SetTable<T> {
         true
     }
 
-    /// The sets of the first names, which were taken, are held as before.
+    /// Holds the sets of the first `count` names again, which were taken.
     #[cold]
     fn put_back<N: SetName<T>>(&mut self, names: &[N], count: usize)
         requires few { count ≤ length names.now }

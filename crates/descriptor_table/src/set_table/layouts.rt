@@ -1,4 +1,4 @@
-//! Layouts that are added and removed, and sets that get old.
+//! Layouts that are added and removed, and sets that age.
 ghost use Rattle.std.specs.Prelude.{◌≡◌, ◌↔◌, ◌+◌, ◌<◌, ℕ, false, IsOk, IsTrue, OnOk, length};
 ghost use Rattle.std.specs.Prelude.{vec_capacity};
 
@@ -20,7 +20,7 @@ impl<T> SetTable<T> {
         self.lists.len() > 0
     }
 
-    /// Reserves memory for one layout more.
+    /// Reserves memory for one more layout.
     pub fn reserve_layout(&mut self) -> Result<(), AllocError>
         ensures room { OnOk result (HasListRoom self.new) }
         ensures fits { HasListRoom self.old → IsOk result }
@@ -29,7 +29,7 @@ impl<T> SetTable<T> {
         self.lists.reserve(KEPT + 1)
     }
 
-    /// Adds a list without slots, over memory that was reserved.
+    /// Adds a list without slots, in reserved memory.
     fn add_list(&mut self)
         requires { lists_of self.old < vec_capacity self.old.lists }
         ensures only { OnlySettings (record (settings_of self.old)
@@ -42,7 +42,7 @@ impl<T> SetTable<T> {
         });
     }
 
-    /// Adds a layout, over memory that was reserved.
+    /// Adds a layout, in reserved memory.
     pub fn add_layout(&mut self)
         requires room { HasListRoom self.old }
         ensures { OnlySettings (record (settings_of self.old)
@@ -57,7 +57,7 @@ impl<T> SetTable<T> {
         self.add_list();
     }
 
-    /// The set of a slot isn't kept when it comes back.
+    /// The set of a slot isn't kept once it is freed.
     #[inline]
     fn age_at(&mut self, place: usize)
         requires { place < length (slots_of self.old) }
@@ -66,7 +66,7 @@ impl<T> SetTable<T> {
         self.slots.age(place);
     }
 
-    /// The sets that there are aren't kept when they come back.
+    /// All sets that there are aren't kept once they are freed.
     pub fn age(&mut self)
         ensures { Changes AreAged self.old self.new }
     {
@@ -75,8 +75,8 @@ impl<T> SetTable<T> {
         }
     }
 
-    /// Removes a layout, of which no set is kept. Its sets aren't kept when they come back, not even once
-    /// another layout has its number.
+    /// Removes a layout that has no kept set. Its other sets aren't kept once they are freed, not even
+    /// when another layout has its number.
     pub fn remove_layout(&mut self, layout: u32)
         requires layout { layout + 2 < lists_of self.old }
         requires none_kept { (p : ℕ) → is_kept_of layout (slot_at (slots_of self.old) p) ≡ false }

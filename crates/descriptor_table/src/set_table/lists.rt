@@ -1,4 +1,4 @@
-//! The lists of slots without a set, of sets that go back, and of kept sets.
+//! The lists of slots without a set, of sets that go back to their pools, and of kept sets.
 ghost use Rattle.std.specs.Prelude.{◌≡◌, ◌+◌, ◌<◌, ◌≤◌, IfSome, IsTrue, None, true, false, ℕ};
 
 use super::{GOING, KEPT, SetTable};
@@ -11,7 +11,7 @@ impl<T> SetTable<T> {
     ghost use Rattle.descriptor_table.specs.Tables.{generations_of, is_kept, lists_of};
     ghost use Rattle.descriptor_table.specs.Tables.{keep_of, number_of, slots_of, used_for};
 
-    /// A list by its number. One that there isn't has no slots.
+    /// A list by its number; an empty one if there is no such list.
     #[inline]
     pub(super) fn chain(&self, list: usize) -> Chain
         ensures { result ≡ chain_at (chains_in self.now.lists.items) list }
@@ -33,7 +33,7 @@ impl<T> SetTable<T> {
         }
     }
 
-    /// Takes the first slot of a list out of it.
+    /// Takes the first slot out of a list.
     #[inline]
     pub(super) fn pick(&mut self, list: usize) -> Option<usize>
         ensures picks { Changes (PicksAny (is_in list) result) self.old self.new }

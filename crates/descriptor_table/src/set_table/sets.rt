@@ -1,4 +1,4 @@
-//! Sets that come into slots, get handles, and leave.
+//! Sets that are put into slots, get handles, and leave.
 ghost use Rattle.std.specs.Prelude.{◌≡◌, ◌+◌, ◌<◌, true, false, is_some, IsSome, None, Some};
 
 use super::{GOING, SetTable, VACANT};
@@ -13,7 +13,7 @@ impl<T> SetTable<T> {
     ghost use Rattle.descriptor_table.specs.Tables.{generations_of, lists_of, number_of};
     ghost use Rattle.descriptor_table.specs.Tables.{slots_of, used_for, vacated};
 
-    /// Puts a set into a slot, over memory that was reserved. Returns its place.
+    /// Puts a set into a slot, in reserved memory, and returns its place.
     #[inline]
     pub fn put(&mut self, layout: u32, set: T) -> usize
         requires room { HasRoom 1 self.old }
@@ -54,7 +54,7 @@ impl<T> SetTable<T> {
         place
     }
 
-    /// The set at a place is in use for this from now on, under the next handle of its slot, whose
+    /// Changes what the set at a place is in use for, and returns its next handle, for which the slot's
     /// generation rises.
     #[inline]
     fn renew(&mut self, place: usize, used: Use) -> SetHandle
@@ -69,7 +69,7 @@ impl<T> SetTable<T> {
         }
     }
 
-    /// The set at a place, which a call has, is held from now on.
+    /// Holds the set at a place, which a call has taken.
     #[inline]
     pub fn hold(&mut self, place: usize) -> SetHandle
         requires { CanRenew place (slots_of self.old) }
@@ -79,7 +79,7 @@ impl<T> SetTable<T> {
         self.renew(place, Use::Held)
     }
 
-    /// The name of the set that has a handle.
+    /// The name of the set of a handle.
     #[inline]
     pub fn name_of<N: SetName<T>>(&self, handle: SetHandle) -> N
         requires { is_some (slot_at (slots_of self.now) handle.place).set ≡ true }
@@ -88,7 +88,7 @@ impl<T> SetTable<T> {
         N::of(handle, self.slots.at(handle.place as usize).set.as_ref())
     }
 
-    /// The set at a place, which a call has, is one of a frame from now on.
+    /// Makes the set at a place, which a call has taken, one of a frame.
     #[inline]
     pub fn hold_for_frame(&mut self, place: usize, frame: u64) -> SetHandle
         requires taken { HasTaken place (slots_of self.old) }
@@ -111,7 +111,8 @@ impl<T> SetTable<T> {
         self.slots.take_set(place)
     }
 
-    /// A slot whose set was taken out is vacant, and is used again unless it had its last generation.
+    /// Leaves a slot vacant whose set was taken out. The slot is reused, unless it had its last
+    /// generation.
     #[inline]
     fn vacate(&mut self, place: usize)
         requires taken { IsTaken place (slots_of self.old) }
@@ -125,7 +126,7 @@ impl<T> SetTable<T> {
         }
     }
 
-    /// Takes the set out of a slot that a call has, and leaves the slot vacant.
+    /// Takes the set out of a slot that a call has taken, and leaves the slot vacant.
     #[inline]
     fn take_out(&mut self, place: usize) -> Option<T>
         requires taken { IsTaken place (slots_of self.old) }
@@ -138,7 +139,7 @@ impl<T> SetTable<T> {
         Some(set)
     }
 
-    /// Takes a set that was let go out of its slot.
+    /// Takes a set that goes back to its pool out of its slot.
     #[inline]
     pub(crate) fn take_going(&mut self) -> Option<T>
         ensures { Changes (GivesAny goes result) self.old self.new }
@@ -147,7 +148,7 @@ impl<T> SetTable<T> {
         self.take_out(place)
     }
 
-    /// Takes a set that waits for a frame up to this one out of its slot.
+    /// Takes a set that waits for `frame` or an earlier one out of its slot.
     #[inline]
     pub(crate) fn take_due(&mut self, frame: u64) -> Option<T>
         ensures { Changes (GivesAny (is_due frame) result) self.old self.new }

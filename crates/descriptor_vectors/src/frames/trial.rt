@@ -96,7 +96,7 @@ impl Trial {
 /// What is done at a trial, or seen there.
 #[derive(Clone, Copy)]
 pub enum FrameAct<'a> {
-    /// The first of the sets in use is retired at this frame, or comes back under this name.
+    /// The first of the sets in use is retired at this frame, or is returned under this name.
     Retire(u64, Option<u64>),
     /// All sets in use go back at once.
     FreeAll,

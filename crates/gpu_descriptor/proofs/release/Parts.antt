@@ -1,6 +1,6 @@
 -- Giving back in two parts is giving back at once.
 -- For `laws::release_parts`, and for `free_from`, which frees run by run. The parts are m and n; first and second say whether they
--- name a key, f and g how many sets they give back to a pool. `quiet`: a part that doesn't name the key gives its pools nothing.
+-- name a key, f and g how many sets they free in a pool. `quiet`: a part that doesn't name the key gives its pools nothing.
 use Rattle.gpu_descriptor.proofs.Common.{common_steps, ◌≡◌, ℕ, suc, ◌+◌, ◌<◌, Bool, true, false, ◌&&◌, ◌||◌, ◌==◌, List, [], ◌∷◌, ◌++◌, map, take, drop, slice_get, Option, Some, None, option_map, refl, sym, ap, ◌∙◌, arith, take-add, if◌then◌else◌, fun_ext, list_any, true≢false}
 use Rattle.gpu_descriptor.proofs.Common.{false_from_ne_true, take-map, set_of, State, Item, item_eq, count_of, AreOutstanding, Agree, Key, key_eq, Entry, Bucket, Pool, LiveSet, set_eq, count_by-append, count_by_alike, count_by_none, any_from, list_any-append, bucket_but_front, lies_in}
 use Rattle.gpu_descriptor.proofs.Common.{entry_less, bucket_less, pool_less, spent_front, without_front, in_front, released}

@@ -49,7 +49,7 @@ none_back s =
 pub rest_outstanding : (m n : List Item) (s : State) → Agree s → AreOutstanding (m ++ n) s → AreOutstanding m s × AreOutstanding n (released m s)
 rest_outstanding m n s agree out = grind (arith, count_by-append, takes)
 
--- lists that are given back one after another leave what all of them leave at once
+-- lists that are freed one after another leave what all of them leave at once
 pub each : (ms : List (List Item)) (s : State) → Agree s → AreOutstanding (flat_map (λ m. m) ms) s → released_each ms s ≡ released (flat_map (λ m. m) ms) s
 each [] s agree out = sym (none_back s)
 each (m ∷ ms) s agree out =

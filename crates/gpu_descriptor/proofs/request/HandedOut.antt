@@ -1,4 +1,4 @@
--- All that is promised of a request, from what it took: kept, given back, declined, or for no sets.
+-- All that is promised of a request, from what it took: kept, freed, declined, or for no sets.
 -- For `fill`: each lemma makes a whole record of its contract, field by field.
 use Rattle.gpu_descriptor.proofs.Common.{◌≡◌, ◌≤◌, is_some, ℕ, ◌+◌, ◌<◌, List, Result, Ok, Err, sym, ap, ◌∙◌, arith, side, Meaning, Ledger, Counters, AllocationError, DescriptorSet, Stop, Agree, outstanding, HasDistinctKeys, Key, Allocations, run_digits}
 use Rattle.gpu_descriptor.proofs.Common.{granted, items_in, stop_error, call_of, Returns, with_key, items_of, Agrees, marked_load_of, outstanding_of, pool_load_of, state_of, table_of, IsDeclined, Takes, none-some, true≢false}

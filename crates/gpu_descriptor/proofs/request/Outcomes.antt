@@ -1,4 +1,4 @@
--- A request that took sets is as the definitions say: kept whole, or given back.
+-- A request that took sets is as the definitions say: kept whole, or freed.
 -- For `fill`, by request.HandedOut. Between old, before and new, after it took sets (Takes); if it stopped they went back, which left
 -- last and final. `taken_` is of what it took, `kept_` of a request that was met, `back_` of one whose sets went back.
 use Rattle.gpu_descriptor.proofs.Common.{common_steps, fun_ext, ◌≡◌, ℕ, ◌+◌, ◌-◌, ◌<◌, Some, is_some, true, List, [], ◌∷◌, length, arith, Result, Ok, Err, OnOk, refl, sym, ap, ◌∙◌, subst, length-map, side, Meaning, Ledger, no_rise, AllocationError, DescriptorSet, Stop, State, Item, Agree}
@@ -65,7 +65,7 @@ module _ {L P S : Type 0} {means : Meaning L P S} {k : Key} {count : ℕ} {sets 
   pub taken_out : AreOutBesides items s (state_of means.pool_name new after)
   taken_out u = ap (λ (w : State). outstanding w u) state ∙ added_outstanding s agree had.keeps had.own had.owns u
 
-  -- so they may be given back
+  -- so they may be freed
   pub taken_given : AreOutstanding items (state_of means.pool_name new after)
   taken_given u = (let e = taken_out u in omega arith)
 

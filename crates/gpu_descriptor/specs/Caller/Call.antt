@@ -1,4 +1,4 @@
--- A request to an allocator over a device, in the words of the books.
+-- A request to an allocator over a device, in terms of the books.
 use Rattle.std.specs.Prelude.{ℕ, List, Result, Ok, Err}
 use Rattle.gpu_descriptor_types.specs.Meaning.{Meaning}
 use Rattle.gpu_descriptor_types.specs.Side.{Side}
@@ -15,7 +15,7 @@ map_ok f (Ok x) = Ok (f x)
 map_ok f (Err e) = Err e
 
 module _ {L P S : Type 0} (means : Meaning L P S) where
-  -- a request of so many sets of a key, and what it left
+  -- a request for count sets of a key, and what it left
   abbrev pub call_of : Key → ℕ → Side (Allocations P) → Side (Allocations P) → Result (List Item) AllocationError → Call
   call_of k count old new answer = record {
     key = k;

@@ -13,26 +13,26 @@ use Rattle.gpu_descriptor.specs.Caller.Values.{Allocations}
 
 -- what a trim leaves if everywhere is true, and else what a cleanup leaves
 pub record Sweeps (everywhere : Bool) {L P S : Type 0} (means : Meaning L P S) (old new : Side (Allocations P)) : Type 0 where
-  -- each key lost its empty pools, or for a cleanup those at its front, the last pool too
+  -- each key lost its empty pools, or for a cleanup those at its front, even the last pool
   pub cleaned : LosesEmpty everywhere (state_of means.pool_name old.value old.ledger) (state_of means.pool_name new.value new.ledger)
-  -- as many pools more are destroyed as went, and all other counters stay
+  -- the counter of destroyed pools rises by their number, and all other counters stay
   pub destroyed : new.ledger.counters ≡ more_destroyed (pools_lost everywhere (keys_of old.value) (state_of means.pool_name old.value old.ledger)) old.ledger.counters
-  -- those that still have pools, in their order
+  -- the keys that still have pools, in their order
   pub keys : keys_of new.value ≡ keys_with_pools (state_of means.pool_name new.value new.ledger) (keys_of old.value)
   -- the same sets are outstanding as before
   pub outstanding_stay : KeepsOutstanding (state_of means.pool_name old.value old.ledger) (state_of means.pool_name new.value new.ledger)
   -- their number and the marked load stay
   pub totals_stay : (outstanding_of new.value ≡ outstanding_of old.value) × (marked_load_of new.value ≡ marked_load_of old.value)
-  -- with no set out, the device has only the pools of others left
+  -- if no set was outstanding, the device has only the pools of others left
   pub emptied : outstanding_of old.value ≡ 0 → new.ledger.pools ≡ others_of means.pool_name old.value old.ledger
   -- no pool is looked at, and nothing is compared
   pub counts_stay : (new.value.looks ≡ old.value.looks) × (new.value.comparisons ≡ old.value.comparisons)
 
--- the empty pools at the front of each key go
+-- the empty pools at the front of each key are destroyed
 abbrev pub CleansUp : {L P S : Type 0} → Meaning L P S → (old new : Side (Allocations P)) → Type 0
 CleansUp means old new = Sweeps false means old new
 
--- all empty pools go
+-- all empty pools are destroyed
 abbrev pub TrimsPools : {L P S : Type 0} → Meaning L P S → (old new : Side (Allocations P)) → Type 0
 TrimsPools means old new = Sweeps true means old new
 

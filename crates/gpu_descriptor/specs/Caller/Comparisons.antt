@@ -1,10 +1,10 @@
--- How many comparisons freeing a list of sets may take: the binary digits of how many pools are open, and those of how many there are if their numbers have gaps.
+-- How many comparisons freeing a list of sets may take: the binary digits of the number of open pools, and those of the number of all pools if their numbers have gaps.
 use Rattle.std.specs.Prelude.{ℕ, zero, suc, ◌/◌, ◌+◌, ◌==◌, ◌&&◌, nat_lt, if◌then◌else◌, List, [], ◌∷◌, ◌++◌, count_by, length, slice_index}
 use Rattle.gpu_descriptor.specs.Model.Books.{Bucket, key_eq, number_after, numbers_of}
 use Rattle.gpu_descriptor.specs.Model.Agreement.{State, Item}
 use Rattle.gpu_descriptor.specs.Model.Release.{released}
 
--- counted by halving, at most so often: 0 has none, and a number one more than its half
+-- counted by halving, at most `n` times: 0 has none, and a number has one more than its half
 abbrev pub digits_within : ℕ → ℕ → ℕ
 digits_within zero n = 0
 digits_within (suc most) zero = 0
@@ -14,15 +14,15 @@ digits_within (suc most) (suc n) = suc (digits_within most (suc n / 2))
 abbrev pub binary_digits : ℕ → ℕ
 binary_digits n = digits_within n n
 
--- the binary digits of how many numbers there are, if they have gaps: some number between the first and the last is missing
+-- the binary digits of the length of the list, if it has gaps: some number between the first and the last is missing. Any gap counts, since the bound doesn't ask where in the list the pool is
 abbrev pub gap_digits : List ℕ → ℕ
 gap_digits numbers = if nat_lt (slice_index numbers 0 + length numbers) (number_after numbers) then binary_digits (length numbers) else 0
 
--- how many pools of a key are open: have known free places
+-- how many pools of a key are open, which means that they have known free places
 abbrev pub open_pools : Bucket → ℕ
 open_pools b = count_by (λ e. nat_lt 0 e.available) b.pools
 
--- of the release of one run: the binary digits of the number of the key's open pools, and those of the number of all its pools if their numbers have gaps
+-- for the release of one run: the binary digits of the number of the key's open pools, and those of the number of all its pools if their numbers have gaps
 abbrev pub search_digits : Bucket → ℕ
 search_digits b = binary_digits (open_pools b) + gap_digits (numbers_of b.pools)
 

@@ -14,9 +14,9 @@ pub record Keeps {L P S : Type 0} (means : Meaning L P S) (old new : Side (Alloc
   pub limit : new.value.limit ≡ old.value.limit
   -- so does the bound on the descriptors of a new pool
   pub most : new.value.most ≡ old.value.most
-  -- the descriptors of the marked sets that are out are within the limit
+  -- the descriptors of the outstanding marked sets are within the limit
   pub load : marked_load_of new.value ≤ new.value.limit
-  -- and so are the descriptors of all pools of marked keys
+  -- the descriptors of all pools of marked keys are within the limit
   pub pool_load : pool_load_of new.value ≤ new.value.limit
-  -- the live pools of others are the same: none of theirs is touched, and no pool is lost
+  -- the live pools of others are the same: none of these is touched, and no pool is lost
   pub others : others_of means.pool_name new.value new.ledger ≡ others_of means.pool_name old.value old.ledger

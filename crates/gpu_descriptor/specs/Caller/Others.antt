@@ -1,4 +1,4 @@
--- The live pools of the device that are none of the allocator's.
+-- The live pools of the device that aren't the allocator's.
 use Rattle.std.specs.Prelude.{ℕ, Bool, ◌==◌, if◌then◌else◌, List, Option, None}
 use Rattle.std.specs.List.{list_any}
 use Rattle.gpu_descriptor_types.specs.Ledger.{Pool, Ledger}
@@ -10,6 +10,6 @@ use Rattle.gpu_descriptor.specs.Caller.Values.{Allocations}
 abbrev pub is_named : List (Key × Bucket) → ℕ → Bool
 is_named table pool = list_any (λ row. list_any (λ e. e.pool == pool) (books_of table row.0).pools) table
 
--- the live pools that are none of the allocator's, by name
+-- the live pools that aren't the allocator's, by name. A function, so that one equation says of a call that they stay, and a caller chains these without a proof file
 unfoldable pub others_of : {P : Type 0} → (P → ℕ) → Allocations P → Ledger → ℕ → Option Pool
 others_of name a l pool = if is_named (table_of name a) pool then None else l.pools pool

@@ -1,4 +1,4 @@
--- Lists that others joined.
+-- Lists to which sets were appended.
 use Rattle.std.specs.Prelude.{List, drop, length}
 
 -- what the new list has after the old one

@@ -1,4 +1,4 @@
--- Sets that were handed out, as the code has them and as the books see them.
+-- Sets of the allocator, as the code has them and as the books see them.
 use Rattle.std.specs.Prelude.{ℕ, List, map, drop, All}
 use Rattle.gpu_descriptor_types.specs.Meaning.{Meaning, IsOfLayout}
 use Rattle.gpu_descriptor.specs.declared.set.DescriptorSet.{DescriptorSet}
@@ -17,7 +17,7 @@ module _ {S : Type 0} where
   abbrev pub item_of : (S → ℕ) → DescriptorSet S → Item
   item_of name x = record { key = x.key.is; id = x.id; number = x.number; name = name x.raw }
 
-  -- and a list of sets
+  -- the sets as the books see them
   abbrev pub items_of : (S → ℕ) → List (DescriptorSet S) → List Item
   items_of name xs = map (item_of name) xs
 
@@ -25,6 +25,6 @@ module _ {S : Type 0} where
   abbrev pub AreOfLayout : {L P : Type 0} → Meaning L P S → L → List (DescriptorSet S) → Type 0
   AreOfLayout means layout xs = All (λ x. IsOfLayout means layout x.raw) xs
 
-  -- if a list was made with the layout from a place on, so it was with what was appended
+  -- if a list was made with the layout from a place on, then with what was appended it still is
   abbrev pub PutsOfLayout : {L P : Type 0} → Meaning L P S → L → List (DescriptorSet S) → List (DescriptorSet S) → Type 0
   PutsOfLayout means layout old new = (first : ℕ) → AreOfLayout means layout (drop first old) → AreOfLayout means layout (drop first new)

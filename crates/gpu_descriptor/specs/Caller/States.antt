@@ -11,11 +11,11 @@ module _ {P : Type 0} (name : P → ℕ) where
   abbrev pub named : EntryOf P → Entry
   named e = record { number = e.number; pool = name e.pool; capacity = e.capacity; allocated = e.allocated; available = e.available }
 
-  -- and a bucket with its pools named so
+  -- a bucket in the books, with the device's names for its pools
   abbrev pub named_bucket : BucketOf P → Bucket
   named_bucket b = record { id = b.id; pools = map named b.pools }
 
-  -- and a row of the table
+  -- a row of the table, with the device's names for its pools
   abbrev pub named_row : Key × BucketOf P → Key × Bucket
   named_row r = (r.0, named_bucket r.1)
 
@@ -27,22 +27,23 @@ module _ {P : Type 0} (name : P → ℕ) where
   abbrev pub state_of : Allocations P → Ledger → State
   state_of a l = record { books = books_of (table_of a); ledger = l.pools }
 
-  -- no key has two rows, and books and ledger agree
+  -- no key has two rows, and books and ledger agree. Value and ledger are two arguments: with one for both, the search for callers' proofs reached its limits
   pub record Agrees (a : Allocations P) (l : Ledger) : Type 0 where
+    -- a ghost field says it too, but a caller learns an invariant only from clauses
     pub rows : HasDistinctKeys (table_of a)
-    -- what the books say of their pools, the device has
+    -- the device has what the books say of their pools
     pub books : Agree (state_of a l)
 
 module _ {P : Type 0} where
-  -- the keys of an allocator, in the order in which they came
+  -- the keys of an allocator, in the order in which they were added
   abbrev pub keys_of : Allocations P → List Key
   keys_of a = map (λ r. r.0) a.table
 
-  -- how many sets are out
+  -- how many sets are outstanding
   abbrev pub outstanding_of : Allocations P → ℕ
   outstanding_of a = sum_over sets_out a.table
 
-  -- how many descriptors the marked sets have that are out
+  -- how many descriptors the outstanding marked sets have
   abbrev pub marked_load_of : Allocations P → ℕ
   marked_load_of a = sum_over descriptors_out a.table
 

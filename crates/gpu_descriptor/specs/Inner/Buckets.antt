@@ -1,4 +1,4 @@
--- One key's pools over a ledger: how they are in it, and what pools that are destroyed leave of both.
+-- One key's pools over a ledger: how they are in it, and what destroying pools leaves of both.
 use Rattle.std.specs.Prelude.{Bool, not, ◌==◌, ◌≡◌, ℕ, if◌then◌else◌, List, length, slice_get, Option, None, Some}
 use Rattle.gpu_descriptor_types.specs.Ledger.{Pool, Ledger}
 use Rattle.gpu_descriptor.specs.declared.bucket.DescriptorBucket.{DescriptorBucket}
@@ -20,7 +20,7 @@ pub record AreBookedIn (k : Key) (pools : ℕ → Option Pool) (entries : List E
   pub distinct : (i j : ℕ) (d e : Entry) → slice_get entries i ≡ Some d → slice_get entries j ≡ Some e → d.pool ≡ e.pool → i ≡ j
   pub each : (i : ℕ) (e : Entry) → slice_get entries i ≡ Some e → IsBookedIn k pools e
 
--- the bucket without the empty pools of the front that may be destroyed, if so many pools are to stay
+-- the bucket without the empty pools at the front that may be destroyed, if `keep` pools are to stay
 abbrev pub bucket_but_front : ℕ → Bucket → Bucket
 bucket_but_front keep b = without_front (front_but keep b) b
 

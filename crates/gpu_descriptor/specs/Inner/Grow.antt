@@ -1,4 +1,4 @@
--- What one new pool adds, why a request stops, and what it has taken then.
+-- What one new pool adds, why a request stops, and what it has taken by then.
 use Rattle.std.specs.Prelude.{◌≡◌, ℕ, ◌+◌, false, nat_eq, min, List, [], ◌∷◌, ◌++◌, length, Option, Some, None, Result, Ok, Err}
 use Rattle.std.specs.Map.{update}
 use Rattle.gpu_descriptor_types.specs.Ledger.{Ledger, live_sets, on_pool, fresh, no_rise}
@@ -13,7 +13,7 @@ use Rattle.gpu_descriptor.specs.Model.FreshPools.{Fresh, fresh_entry, IsNextSize
 use Rattle.gpu_descriptor.specs.Model.Grants.{Grant, pool_with}
 use Rattle.gpu_descriptor.specs.Inner.Walk.{HasTaken, IsRefused}
 
--- a new pool was created and gave what it has of so many sets. It took of the room what it has
+-- a new pool was created, used up room for its descriptors, and gave the sets still needed or as many as it has
 pub record IsGrown (most : Option ℕ) (k : Key) (room room_left total wanted : ℕ) (names : List ℕ) (old new : List Entry) (before after : Ledger) : Type 0 where
   pub pool : Fresh
   -- it has the size of the key's next pool at that moment
@@ -29,7 +29,7 @@ pub record IsGrown (most : Option ℕ) (k : Key) (room room_left total wanted : 
   pub pools : after.pools ≡ on_pool pool.pool (pool_with (live_sets k.counts names) false) (update nat_eq before.pools pool.pool (Some (fresh (pool_counts k.counts pool.size) pool.size (flags_of k))))
   pub counters : after.counters ≡ risen (record no_rise { created = 1; asked = 1 }) before.counters
 
--- what was taken of a key's pools: all that was asked for, or what had come when the request stopped
+-- what was taken of a key's pools: all that was requested, or what had been taken when the request stopped
 abbrev pub IsTaken : Result (Unit {0}) Stop → Option ℕ → Key → (room n : ℕ) → List Item → (old new : Bucket) → (before after : Ledger) → Type 0
 IsTaken (Ok done) most k room n items old new before after = (g : Grant) × HasTaken k n g items old new before after × (g.skipped ≡ 0) × IsFreshList most k room (allocated_in (all_shared g.refused n old.pools)) (rest g.refused n old.pools) g.fresh
 IsTaken (Err why) most k room n items old new before after = (g : Grant) × (between : Ledger) × HasTaken k n g items old new before between × StopsAt why most k room n g old.pools × IsRefused why between after

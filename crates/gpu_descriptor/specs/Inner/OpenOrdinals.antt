@@ -1,4 +1,4 @@
--- Which pools of a key are open, have known free places; and their ordinals.
+-- Which pools of a key are open, which means that they have known free places; and their ordinals.
 use Rattle.gpu_descriptor.specs.Model.Books.{number_after}
 use Rattle.std.specs.Prelude.{◌≡◌, ◌-◌, ◌≤◌, ◌<◌, ℕ, zero, suc, List, [], ◌∷◌, map, length, insert}
 use Rattle.std.specs.List.Sorted.{IsPartitionPoint}
@@ -14,7 +14,7 @@ open_ordinals first (suc n ∷ free) = first ∷ open_ordinals (suc first) free
 abbrev pub stored_numbers : {P : Type 0} → List (DescriptorPool P) → List ℕ
 stored_numbers pools = map (λ p. p.number) pools
 
--- the ordinal of the first pool: so that the last pool's ordinal is its number
+-- the ordinal of the first pool, by which the last pool's ordinal is its number
 abbrev pub first_ordinal : {P : Type 0} → List (DescriptorPool P) → ℕ
 first_ordinal pools = number_after (stored_numbers pools) - length pools
 
@@ -22,7 +22,7 @@ first_ordinal pools = number_after (stored_numbers pools) - length pools
 abbrev pub free_in : {P : Type 0} → List (DescriptorPool P) → List ℕ
 free_in pools = map (λ p. p.available) pools
 
--- a number came in at its place: after those below it
+-- a number was inserted at its place: after those below it
 pub record IsEntered (number : ℕ) (old new : List ℕ) : Type 0 where
   pub place : ℕ
   pub within : place ≤ length old

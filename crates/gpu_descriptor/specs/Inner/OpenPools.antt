@@ -12,7 +12,7 @@ use Rattle.gpu_descriptor.specs.declared.bucket.open_pools.OpenPools.{OpenPools}
 use Rattle.gpu_descriptor.specs.contracts.bucket.DescriptorPool as pool
 use Rattle.gpu_descriptor.specs.contracts.bucket.open_pools.OpenPools as open_pools
 
--- looks rose as often as pools were asked
+-- looks rise by the number of pools that were asked
 abbrev pub CountsLooks : ℕ → ℕ → Ledger → Ledger → Type 0
 CountsLooks old new before after = new + before.counters.asked ≡ old + after.counters.asked
 
@@ -33,10 +33,10 @@ module _ {P : Type 0} where
   abbrev pub newest_place : OpenPools P → ℕ
   newest_place v = slice_index v.listed.now.items (length v.listed.now.items - 1) - v.offset
 
-  -- the view after a pool was looked at and left so
+  -- the view after a pool was looked at and left as it was
   abbrev pub looked_at : OpenPools P → ℕ → DescriptorPool P → OpenPools P
   looked_at v place p = record v { pools = record v.pools { now = deque_with_item v.pools.now place p }; looks = record v.looks { now = record { count = v.looks.now.count + 1 } } }
 
--- the newest pool is lent, if there is one; the view ends with it as it was left, and one look more
+-- the newest pool is lent, if there is one; the view ends with it as it was left, and with one more look
 abbrev pub LendsNewest : (P : RattleType) → MutBor (OpenPools P.Denot) → ℕ → Option (MutBor (DescriptorPool P.Denot)) → Fml
 LendsNewest P v place r = LendsIf (open_pools.the_row (record { mir = named 1; lft = [] }) (record { mir = named 2; lft = [] }) (record { mir = named 3; lft = [] }) P) (pool.the_row P) v r (looked_at v.now place) v.now

@@ -1,4 +1,4 @@
--- How one run is freed: at its key's pools, and at the allocator.
+-- How one run is freed: from its key's pools, and by the allocator.
 use Rattle.std.specs.Prelude.{◌≡◌, ◌+◌, ℕ, List, ◌∷◌, length, Option, ◌≤◌, map, set, slice_get, Some}
 use Rattle.gpu_descriptor_types.specs.Ledger.{Ledger, Pool, after_release, live_sets}
 use Rattle.gpu_descriptor.specs.declared.set.DescriptorSet.{DescriptorSet}
@@ -17,7 +17,7 @@ pub record IsTakenAt (k : Key) (number : ℕ) (names : List ℕ) (b : Bucket) (p
   pub entry : Entry
   -- the pool of the number has this entry
   pub at : entry_at b number ≡ Some entry
-  -- so many sets are allocated from it
+  -- at least as many sets are allocated from it
   pub fits : length names ≤ entry.allocated
   -- each set is live in it, at least as often as its name is in the list
   pub live : (x : LiveSet) → times (live_sets k.counts names) x ≤ live_in pools entry.pool x
@@ -26,7 +26,7 @@ pub record IsTakenAt (k : Key) (number : ℕ) (names : List ℕ) (b : Bucket) (p
 abbrev pub bucket_back : Bucket → ℕ → ℕ → Entry → Bucket
 bucket_back b place n e = record b { pools = set b.pools place (entry_less n e) }
 
--- sets of these names are freed: the entry of their pool has as many fewer, and the ledger's pool lacks them
+-- sets of these names are freed: the entry of their pool has as many fewer, and the ledger's pool doesn't have them
 pub record Releases (k : Key) (number : ℕ) (names : List ℕ) (old : Bucket) (before : Ledger) (new : Bucket) (after : Ledger) : Type 0 where
   pub place : ℕ
   pub entry : Entry
@@ -36,7 +36,7 @@ pub record Releases (k : Key) (number : ℕ) (names : List ℕ) (old : Bucket) (
   pub books : new ≡ bucket_back old place (length names) entry
   pub ledger : after ≡ after_release entry.pool (live_sets k.counts names) before
 
--- the number of comparisons stayed, or rose by so many at most
+-- the number of comparisons stays, or rises by at most `most`
 pub record Compares (most old new : ℕ) : Type 0 where
   pub rises : old ≤ new
   pub few : new ≤ old + most
@@ -45,11 +45,11 @@ pub record Compares (most old new : ℕ) : Type 0 where
 abbrev pub names_of : {S : Type 0} → (S → ℕ) → List (DescriptorSet S) → List ℕ
 names_of name xs = map (λ x. name x.raw) xs
 
--- one run came, from first to before the set ahead, and was freed by the allocator
+-- the iterator gave one run, from first to before the set ahead, and the allocator freed it
 pub record FreesRun {L P S T : Type 0} (steps : T → Option (DescriptorSet S) → T → Type 0) (means : Meaning L P S) (first : DescriptorSet S) (given : T) (ahead : Option (DescriptorSet S)) (left : T) (old new : Side (Allocations P)) : Type 0 where
   -- the sets after first
   pub sets : List (DescriptorSet S)
-  -- the iterator gave these, all of the run's key and pool, and then a set that isn't, or its end
+  -- the iterator gave these, all of the run's key and pool, and then its end or a set from elsewhere
   pub came : EndsRun steps (lies_at first.key.is first.number) given sets ahead left
   -- the run was freed, in one call
   pub back : GivesBack means (first ∷ sets) 1 old new

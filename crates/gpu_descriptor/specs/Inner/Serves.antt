@@ -24,7 +24,7 @@ use Rattle.gpu_descriptor.specs.Inner.Stored.{books_in, row_of, stored_keys}
 use Rattle.gpu_descriptor.specs.Inner.Grow.{IsTaken}
 
 module _ {L P S : Type 0} (means : Meaning L P S) where
-  -- sets of a layout were appended to a list, and so many of them are left to come
+  -- sets of a layout were appended to a list, and `left` of them are still needed
   pub record Appends (layout : L) (count left : ℕ) (old new : List (DescriptorSet S)) : Type 0 where
     -- what was in the list stays, in front
     pub front : new ≡ old ++ appended old new
@@ -33,9 +33,9 @@ module _ {L P S : Type 0} (means : Meaning L P S) where
     pub rest : length (appended old new) + left ≡ count
 
   module _ (most : Option ℕ) (k : Key) (room count : ℕ) (sets : List (DescriptorSet S)) (ended : Result (Unit {0}) Stop) where
-    -- a request had these sets of a bucket
+    -- a request took these sets of a bucket
     pub record IsServed (old new : Bucket) (before after : Ledger) : Type 0 where
-      -- the numbers of so many new pools would keep 64 bits
+      -- with the numbers of count new pools, 64 bits are kept
       pub numbers : next_number old + count ≤ greatest_u64
       pub few : length sets ≤ count
       pub all : OnOk ended (length sets ≡ count)
@@ -46,13 +46,13 @@ module _ {L P S : Type 0} (means : Meaning L P S) where
       pub bucket : Bucket
       -- what the key's bucket gave
       pub served : IsServed (books_in means.pool_name old k) bucket before after
-      -- the bucket of the key is another, and all other keys' are the same
+      -- the key has another bucket, and all other keys have the same
       pub books : (l : Key) → books_in means.pool_name new l ≡ (if key_eq k l then bucket else books_in means.pool_name old l)
-      -- as many sets more are out as came, and the marked load rises by their descriptors
+      -- the number of outstanding sets rises by the sets taken, and the marked load by their descriptors
       pub out : sum_over sets_out new ≡ sum_over sets_out old + length sets
       pub load : sum_over descriptors_out new ≡ sum_over descriptors_out old + set_descriptors k (length sets)
 
-  -- a request within the limit and 64 bits had these sets of an allocator
+  -- a request within the limit and 64 bits took these sets of an allocator
   pub record Takes (k : Key) (count : ℕ) (sets : List (DescriptorSet S)) (ended : Result (Unit {0}) Stop) (old new : Side (Allocations P)) : Type 0 where
     -- if the key is marked, the marked load with all sets of the request is within the limit
     pub within : k.marked ≡ true → count * sum k.counts + marked_load_of old.value ≤ old.value.limit
@@ -60,11 +60,11 @@ module _ {L P S : Type 0} (means : Meaning L P S) where
     -- what the table gave, with the room that the limit left
     pub serves : ServesKey old.value.most k (old.value.limit - pool_load_of old.value) count sets ended old.value.table new.value.table old.ledger new.ledger
 
--- a request ended before the walk
+-- a request ended before the walk over the pools
 abbrev pub IsDeclined : Call → Type 0
 IsDeclined c = (outcome : Allocates c) × (taken_by outcome ≡ None)
 
--- nothing was taken: an allocation failed, or the numbers of the key's pools would pass 64 bits
+-- nothing was taken: an allocation failed, or the numbers of the key's pools would exceed 64 bits
 abbrev pub IsUnserved : (count next : ℕ) → AllocationError → Type 0
 IsUnserved count next e = ((e ≡ OutOfHostMemory) × (next + count ≤ greatest_u64)) ⊎ ((e ≡ Fragmentation) × (greatest_u64 < next + count))
 
@@ -85,7 +85,7 @@ module _ {L P S : Type 0} (means : Meaning L P S) where
     pub entries : OnErr result (new ≡ old)
     pub budget : OnErr result (is ≡ was)
     pub ledger : OnErr result (after ≡ before)
-    -- what new pools of a marked key have is taken of the room
+    -- new pools of a marked key use up room for their descriptors
     pub room : is.room + sum_over bucket_load (map row_of new) ≡ was.room + sum_over bucket_load (map row_of old)
     -- the bound stays, and each call that asks a pool is a look
     pub most : is.most ≡ was.most

@@ -1,4 +1,4 @@
--- A set out of the raw one.
+-- A set made of a raw one.
 use Rattle.std.specs.Prelude.{ℕ}
 use Rattle.gpu_descriptor.specs.declared.set.DescriptorSet.{DescriptorSet}
 use Rattle.gpu_descriptor.specs.Model.Books.{Key}

@@ -1,4 +1,4 @@
--- The table of keys, as the code has it: how its pools, buckets and rows are read off it, and its totals.
+-- The table of keys, as the code has it: how its pools, buckets and rows are read from it, and its totals.
 use Rattle.std.specs.Prelude.{◌≡◌, ℕ, ◌+◌, ◌≤◌, Bool, nat_lt, List, map, sum_by}
 use Rattle.gpu_descriptor.specs.declared.key.BucketKey.{BucketKey}
 use Rattle.gpu_descriptor.specs.declared.bucket.DescriptorPool.{DescriptorPool}
@@ -9,15 +9,15 @@ use Rattle.gpu_descriptor.specs.Caller.States.{named, named_row}
 use Rattle.gpu_descriptor.specs.Inner.KeyOf.{key_of}
 
 module _ {P : Type 0} where
-  -- what callers see of a stored pool: its entry, with the raw pool in the place of the name
+  -- what callers see of a stored pool: its entry, with the raw pool in place of the name
   abbrev pub kept_of : DescriptorPool P → EntryOf P
   kept_of p = record { number = p.number; pool = p.raw; capacity = p.capacity; allocated = p.allocated; available = p.available }
 
-  -- and of a stored bucket: the key's id and its pools
+  -- what callers see of a stored bucket: the key's id and its pools
   abbrev pub kept_in : DescriptorBucket P → BucketOf P
   kept_in b = record { id = b.id; pools = map kept_of b.pools.items }
 
-  -- the row of the table that an entry of the map is: the allocator's value is read off the map by it
+  -- the row of the table that an entry of the map stands for: the allocator's value is read from the map by it
   abbrev pub row_of : BucketKey × DescriptorBucket P → Key × BucketOf P
   row_of r = (key_of r.0, kept_in r.1)
 
@@ -41,7 +41,7 @@ module _ {P : Type 0} where
     pub is_room : room + sum_over bucket_load (map row_of table) ≡ limit
     pub is_out : out ≡ sum_over sets_out (map row_of table)
 
-  -- the same, closed: so the search of a caller that drops an allocator does not go through its sums
+  -- the same, closed: the search of a caller that drops an allocator doesn't go through its sums
   unfoldable pub IsCounted : (limit marked room out : ℕ) → List (BucketKey × DescriptorBucket P) → Type 0
   IsCounted limit marked room out table = IsConsistent limit marked room out table
 
@@ -50,7 +50,7 @@ module _ {P : Type 0} where
     abbrev pub entry_of : DescriptorPool P → Entry
     entry_of p = named name (kept_of p)
 
-    -- the bucket of the books that a stored bucket is, with its pools named so
+    -- a stored bucket in the books, with the device's names for its pools
     abbrev pub bucket_of : DescriptorBucket P → Bucket
     bucket_of b = record { id = b.id; pools = map entry_of b.pools.items }
 

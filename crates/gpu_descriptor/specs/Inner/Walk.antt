@@ -1,4 +1,4 @@
--- How a request walks over a key's pools, in the words of the books.
+-- How a request walks over a key's pools, in terms of the books.
 use Rattle.std.specs.Prelude.{if◌then◌else◌, ◌≡◌, ℕ, ◌+◌, ◌-◌, ◌&&◌, ◌⊎◌, Bool, true, false, nat_lt, min, List, [], length, Option, None}
 use Rattle.gpu_descriptor_types.specs.Ledger.{Ledger, Pool, live_sets, on_pool, pool_refusals, no_rise}
 use Rattle.gpu_descriptor.specs.declared.bucket.stop.Stop.{Stop}
@@ -12,18 +12,18 @@ use Rattle.gpu_descriptor.specs.Model.Cleanup.{are_named}
 use Rattle.gpu_descriptor.specs.Model.Grants.{Grant, IsGrantOf, items_in, bucket_with, ledger_with, pool_with}
 use Rattle.gpu_descriptor.specs.Model.Outcomes.{risen, grant_rise, stop_rise}
 
--- a pool was asked for what it has of so many sets, or skipped if it has no places or none are wanted
+-- a pool was asked for the sets still needed, or for as many as it has; or skipped, if it has no places or none is needed
 pub record IsAsked (k : Key) (wanted : ℕ) (names : List ℕ) (old new : Entry) (before after : Ledger) : Type 0 where
   -- whether it refused as fragmented or full, which only a pool that was asked does
   pub refused : Bool
   pub refusing : refused ≡ true → nat_lt 0 old.available && nat_lt 0 wanted ≡ true
-  -- as many sets came as it has and as are wanting, or none
+  -- it gave the sets that it has or that are needed, if these are fewer, or none
   pub many : length names ≡ min (if refused then 0 else old.available) wanted
   pub entry : new ≡ record old { allocated = old.allocated + length names; available = (if refused then 0 else old.available) - length names }
   pub pools : after.pools ≡ on_pool old.pool (pool_with (live_sets k.counts names) refused) before.pools
   pub counters : after.counters ≡ risen (record no_rise { asked = if nat_lt 0 old.available && nat_lt 0 wanted then 1 else 0; pool_refused = if refused then 1 else 0 }) before.counters
 
--- no set came, for this reason, and the ledger's pools are as before
+-- no set was taken, for this reason, and the ledger's pools are as before
 pub record IsRefused (why : Stop) (before after : Ledger) : Type 0 where
   pub pools : after.pools ≡ before.pools
   pub counters : after.counters ≡ risen (stop_rise why) before.counters
@@ -34,7 +34,7 @@ pub record IsNoMemory (wanted : ℕ) (e : Entry) (error : DeviceAllocationError)
   pub memory : pool_refusals error ≡ 0
   pub refused : IsRefused (stop.ExistingPoolWithoutMemory error) before after
 
--- items came to a key's pools: these are in the ledger as the books say again, and exactly the items are live besides
+-- items came to a key's pools: these are in the ledger as the books say again, and exactly the items are live in addition
 pub record Adds (k : Key) (items : List Item) (old new : Bucket) (before after : ℕ → Option Pool) : Type 0 where
   pub booked : AreBookedIn k after new.pools
   pub rising : rises (numbers_of new.pools) ≡ true
@@ -44,9 +44,9 @@ pub record Adds (k : Key) (items : List Item) (old new : Bucket) (before after :
   pub comes : (pool : ℕ) → are_named new.pools pool ≡ true → (are_named old.pools pool ≡ true) ⊎ (before pool ≡ None)
   pub others : (pool : ℕ) → are_named new.pools pool ≡ false → after pool ≡ before pool
 
--- a request of n sets took so much of a key's pools, and these sets came
+-- a request of n sets took this grant of a key's pools, and got these sets
 pub record HasTaken (k : Key) (n : ℕ) (g : Grant) (items : List Item) (old new : Bucket) (before after : Ledger) : Type 0 where
-  -- so much could be taken of the bucket and the ledger before, and what is after follows from it
+  -- this grant could be taken of the bucket and the ledger before, and what is after follows from it
   pub grant : IsGrantOf n old before.pools g
   pub came : items_in k g.id g.parts ≡ items
   pub bucket : new ≡ bucket_with n g old
@@ -54,11 +54,11 @@ pub record HasTaken (k : Key) (n : ℕ) (g : Grant) (items : List Item) (old new
   pub counters : after.counters ≡ risen (grant_rise n g old.pools) before.counters
   pub keeps : Adds k items old new before.pools after.pools
 
--- all existing pools were asked, and so many sets are still wanting
+-- all existing pools were asked, and this many sets are still needed
 pub record IsWalked (k : Key) (n wanting : ℕ) (items : List Item) (old new : Bucket) (before after : Ledger) : Type 0 where
   pub grant : Grant
   pub all : grant.skipped ≡ 0
   pub no_fresh : grant.fresh ≡ []
-  -- what the shares leave to come
+  -- the sets that the shares leave to be needed
   pub wants : wanting ≡ rest grant.refused n old.pools
   pub taken : HasTaken k n grant items old new before after

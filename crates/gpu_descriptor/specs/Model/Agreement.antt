@@ -7,26 +7,26 @@ use Rattle.gpu_descriptor_types.specs.Flags.{pool_flags}
 use Rattle.gpu_descriptor_types.specs.PoolSize.{greatest_pool_size, pool_counts}
 use Rattle.gpu_descriptor.specs.Model.Books.{Key, key_eq, Entry, Bucket, entry_at, no_pools, number_after, numbers_of, rises}
 
--- the books by key, and the ledger's pools by name: of the ledger no counters
+-- the books by key, and the ledger's pools by name, without the ledger's counters
 pub record State : Type 0 where
   pub books : Key → Bucket
   pub ledger : ℕ → Option Pool
 
--- no key has a pool. A key that came may have an id
+-- no key has a pool. A key without pools may have an id
 abbrev pub HasNoPools : State → Type 0
 HasNoPools s = (k : Key) → (s.books k).pools ≡ []
 
--- the books are as if no key ever came
+-- the books are as if no key was ever added
 abbrev pub HasNoKeys : State → Type 0
 HasNoKeys s = (k : Key) → s.books k ≡ no_pools
 
--- the numbers of each key's pools have no gap: the next number is that of the first pool and as many more as there are pools
+-- the numbers of each key's pools have no gap: the next number is that of the first pool plus the number of pools
 abbrev pub HasNoGaps : State → Type 0
 HasNoGaps s = (k : Key) → let numbers = numbers_of (s.books k).pools in number_after numbers ≤ slice_index numbers 0 + length numbers
 
--- ---- sets that were handed out
+-- ---- allocated sets
 
--- a set that was handed out: its key and the id of that, the number of its pool, and its name
+-- an allocated set: its key and the key's id, the number of its pool, and its name
 pub record Item : Type 0 where
   pub key : Key
   pub id : ℕ
@@ -53,7 +53,7 @@ live_in ledger pool x = option_map_or (λ p. p.live x) (ledger pool) 0
 abbrev pub live_at : (ℕ → Option Pool) → Bucket → Item → ℕ
 live_at ledger b t = option_map_or (λ e. live_in ledger e.pool (set_of t)) (entry_at b t.number) 0
 
--- how often a set is outstanding: as often as it is live there, if its id is that of its key
+-- how often a set is outstanding: as often as it is live in its pool, if its id is that of its key. The id is tested here, so that agreement, releases, cleanups and callers need not speak of it
 abbrev pub outstanding : State → Item → ℕ
 outstanding s t = if (s.books t.key).id == t.id then live_at s.ledger (s.books t.key) t else 0
 
@@ -74,11 +74,11 @@ pub record IsAsBooked (k : Key) (pool : Pool) (e : Entry) : Type 0 where
   pub at_least : 1 ≤ pool.capacity
   pub small : pool.capacity ≤ greatest_pool_size
   pub capacity : e.capacity ≡ pool.capacity
-  -- it was created with the counts of so many sets of the key
+  -- it was created with the counts of this many sets of the key
   pub counts : pool.counts ≡ pool_counts k.counts pool.capacity
   -- each live set has the key's counts
   pub sets : (x : LiveSet) → 0 < pool.live x → x.counts ≡ k.counts
-  -- so many sets are live. Only that there is a list: so there is one proof at most that books and ledger agree
+  -- this many sets are live. It says only that there is a list, so that there is at most one proof that books and ledger agree
   pub allocated : ∥ HasSize pool.live e.allocated ∥₁
   -- what is allocated and what is known to be free is within the capacity, and all of it if the pool never refused
   pub fits : e.allocated + e.available ≤ pool.capacity

@@ -16,7 +16,7 @@ key_eq k l = pointwise nat_eq k.counts l.counts && beq k.marked l.marked
 -- a pool in the books: its number among those of its key, its capacity in sets, how many sets are allocated, how many free places are known
 pub record EntryOf (X : Type 0) : Type 0 where
   pub number : ℕ
-  -- its name, or the raw pool itself
+  -- its name, or the raw pool itself: with a parameter, sums and look-ups are defined once for both
   pub pool : X
   pub capacity : ℕ
   pub allocated : ℕ
@@ -31,7 +31,7 @@ pub record BucketOf (X : Type 0) : Type 0 where
 abbrev pub Entry : Type 0
 Entry = EntryOf ℕ
 
--- a key's pools, named so
+-- a key's pools, with the device's names
 abbrev pub Bucket : Type 0
 Bucket = BucketOf ℕ
 
@@ -62,11 +62,11 @@ module _ {X : Type 0} where
 -- ---- the books of all keys, and a table that keeps them in some order
 
 module _ {X : Type 0} where
-  -- what a key has that never came
+  -- the bucket of a key that was never added
   abbrev pub no_pools : BucketOf X
   no_pools = record { id = 0; pools = [] }
 
-  -- the books that a table keeps: of a key the first row. If no key has two, the order of the rows says nothing
+  -- the books that a table keeps: the first row of a key. If no key has two, the order of the rows doesn't matter
   abbrev pub books_of : List (Key × BucketOf X) → Key → BucketOf X
   books_of [] k = no_pools
   books_of (row ∷ table) k = if key_eq row.0 k then row.1 else books_of table k
@@ -80,7 +80,7 @@ module _ {X : Type 0} where
   abbrev pub sum_over : (Key → BucketOf X → ℕ) → List (Key × BucketOf X) → ℕ
   sum_over f table = sum_by (λ row. f row.0 row.1) table
 
--- f of each key's bucket adds up to n over all keys. A table has each key that has pools
+-- f of each key's bucket adds up to n over all keys: by a table that keeps the books, since a function over all keys has no sum. The table has each key that has pools
 pub record AddsUp (f : Key → Bucket → ℕ) (books : Key → Bucket) (n : ℕ) : Type 0 where
   pub table : List (Key × Bucket)
   -- no key has two rows, so the sum over the rows is one over all keys

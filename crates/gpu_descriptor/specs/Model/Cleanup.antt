@@ -9,9 +9,9 @@ use Rattle.gpu_descriptor.specs.Model.Release.{is_empty}
 abbrev pub are_named : List Entry → ℕ → Bool
 are_named pools pool = list_any (λ e. e.pool == pool) pools
 
--- everywhere is true for a trim: all empty pools go. For a cleanup it is false: those at the front go, the last pool too
+-- everywhere is true for a trim, which destroys all empty pools, and false for a cleanup, which destroys those at the front, even the last pool
 module _ (everywhere : Bool) where
-  -- which of a key's pools go
+  -- which of a key's pools are destroyed
   abbrev pub gone_of : List Entry → List Entry
   gone_of pools = if everywhere then filter is_empty pools else take (prefix_len is_empty pools) pools
 
@@ -19,12 +19,12 @@ module _ (everywhere : Bool) where
   abbrev pub left_of : List Entry → List Entry
   left_of pools = if everywhere then filter (λ e. nat_lt 0 e.allocated) pools else drop (prefix_len is_empty pools) pools
 
--- the bucket with these of its pools. Without one it is as one that never came
+-- the bucket with these of its pools. Without pools it is that of a key that was never added
 abbrev pub with_pools : Bucket → List Entry → Bucket
 with_pools b [] = no_pools
 with_pools b (e ∷ pools) = record b { pools = e ∷ pools }
 
--- each key keeps its other pools. A pool that goes is gone from the ledger, and every other stays
+-- each key keeps its other pools. A destroyed pool isn't in the ledger, and every other stays. A relation, so that no function searches all keys; that there is one result is the clause one_result of laws::clean_again
 pub record LosesEmpty (everywhere : Bool) (old new : State) : Type 0 where
   pub books : (k : Key) → new.books k ≡ with_pools (old.books k) (left_of everywhere (old.books k).pools)
   pub gone : (k : Key) (pool : ℕ) → are_named (gone_of everywhere (old.books k).pools) pool ≡ true → new.ledger pool ≡ None

@@ -17,7 +17,7 @@ pub record Fresh : Type 0 where
 abbrev pub given_by : List Fresh → ℕ
 given_by pools = sum_by (λ f. f.given) pools
 
--- how many sets a key's next pool holds: as many as a new pool; if the key is marked, no more than there is room for; and for each key no more than the bound on the descriptors of a new pool leaves, unless more are wanting
+-- how many sets a key's next pool holds: as many as a new pool; if the key is marked, no more than there is room for; and for each key no more than the bound on the descriptors of a new pool leaves, unless more are needed
 pub record IsNextSize (most : Option ℕ) (k : Key) (room total wanted size : ℕ) : Type 0 where
   -- how many sets it would hold, without room and bound
   pub whole : ℕ
@@ -40,20 +40,20 @@ abbrev pub AreFull : List Fresh → Type 0
 AreFull [] = Unit {0}
 AreFull (f ∷ pools) = (f.given ≡ f.size) × AreFull pools
 
--- no name was live, and no two are the same
+-- no name was live, and no two are the same. It is said here of all new pools of a request, since the device interface says it of a single create only
 abbrev pub AreNew : (ℕ → Option Pool) → List Fresh → Type 0
 AreNew ledger [] = Unit {0}
 AreNew ledger (f ∷ pools) = (ledger f.pool ≡ None) × (list_any (λ h. h.pool == f.pool) pools ≡ false) × AreNew ledger pools
 
 module _ (most : Option ℕ) (k : Key) (room total wanted : ℕ) where
-  -- new pools that gave all they have, and sets are still wanting
+  -- new pools that gave all their sets, while more sets are needed
   pub record IsFreshPrefix (pools : List Fresh) : Type 0 where
     -- each was created in its size, gave all sets that it holds, and together they gave too few
     pub sized : AreSized most k room total wanted pools
     pub full : AreFull pools
     pub short : given_by pools < wanted
 
-  -- new pools that gave all that was wanting: none, or a prefix and one more that has the rest
+  -- new pools that gave all the sets that were needed: none, or a prefix and one more that gave the rest
   pub data IsFreshList (pools : List Fresh) : Type 0 where
     none : wanted ≡ 0 → pools ≡ [] → IsFreshList pools
     some : (prefix : List Fresh) (last : Fresh) → pools ≡ prefix ++ last ∷ [] → IsFreshPrefix prefix → AreSized most k room total wanted pools → last.given ≤ last.size → given_by pools ≡ wanted → IsFreshList pools
@@ -63,7 +63,7 @@ abbrev pub fresh_portions : ℕ → List Fresh → List Portion
 fresh_portions number [] = []
 fresh_portions number (f ∷ pools) = record { number = number; pool = f.pool; given = f.given } ∷ fresh_portions (number + 1) pools
 
--- the entry of a new pool that has the number
+-- the entry of a new pool with this number
 abbrev pub fresh_entry : ℕ → Fresh → Entry
 fresh_entry number f = record { number = number; pool = f.pool; capacity = f.size; allocated = f.given; available = f.size - f.given }
 

@@ -8,7 +8,7 @@ use Rattle.gpu_descriptor.specs.Model.Agreement.{State, Item, flags_of}
 use Rattle.gpu_descriptor.specs.Model.Shares.{all_shared, Portion, OnlyAskedRefuse, portions_of}
 use Rattle.gpu_descriptor.specs.Model.FreshPools.{Fresh, fresh_entries, AreNew, fresh_portions}
 
--- sets that came from one pool
+-- the sets that one pool gave
 pub record Part : Type 0 where
   pub number : ℕ
   pub pool : ℕ
@@ -18,7 +18,7 @@ pub record Part : Type 0 where
 abbrev pub portion_of : Part → Portion
 portion_of p = record { number = p.number; pool = p.pool; given = length p.names }
 
--- what a request took: how many of the oldest pools gave nothing because it stopped, which pools refused, the new pools, and the sets as they came
+-- what a request took: how many of the oldest pools gave nothing because it stopped, which pools refused, the new pools, and the sets in their order
 pub record Grant : Type 0 where
   -- the id of the key from then on
   pub id : ℕ
@@ -29,9 +29,9 @@ pub record Grant : Type 0 where
   pub fresh : List Fresh
   pub parts : List Part
 
--- n sets could be taken so of a key's pools: only asked pools refuse, the sets come in order, and the new pools' names are new
+-- n sets could be taken of a key's pools in this way: only asked pools refuse, the sets are in order, and the new pools' names are new
 pub record IsGrantOf (n : ℕ) (b : Bucket) (ledger : ℕ → Option Pool) (g : Grant) : Type 0 where
-  -- a key that has pools keeps its id
+  -- a key that has pools keeps its id. Which id a new key gets is left open, since the books would otherwise carry the counter of ids
   pub id : 0 < length b.pools → g.id ≡ b.id
   -- only a pool that was asked refused
   pub refusing : OnlyAskedRefuse g.refused n (drop g.skipped b.pools)
@@ -48,11 +48,11 @@ items_at k id number names = map (λ name. record { key = k; id = id; number = n
 abbrev pub items_in : Key → ℕ → List Part → List Item
 items_in k id parts = flat_map (λ p. items_at k id p.number p.names) parts
 
--- the names of the sets that came from a pool
+-- the names of the sets that a pool gave
 abbrev pub came : List Part → ℕ → List ℕ
 came parts pool = flat_map (λ p. if p.pool == pool then p.names else []) parts
 
--- the pools of the key: the oldest left alone, the others with their shares given, the new ones last
+-- the pools of the key: the oldest unchanged, the others after they gave their shares, the new ones last
 abbrev pub bucket_with : ℕ → Grant → Bucket → Bucket
 bucket_with n g b = record b { id = g.id; pools = take g.skipped b.pools ++ all_shared g.refused n (drop g.skipped b.pools) ++ fresh_entries (next_number b) g.fresh }
 
@@ -61,11 +61,11 @@ abbrev pub fresh_or : Key → List Fresh → ℕ → Option Pool → Option Pool
 fresh_or k [] name old = old
 fresh_or k (f ∷ pools) name old = if f.pool == name then Some (fresh (pool_counts k.counts f.size) f.size (flags_of k)) else fresh_or k pools name old
 
--- the pool with more sets, and with one refusal more if it refused
+-- the pool with more sets, and with one more refusal if it refused
 abbrev pub pool_with : List LiveSet → Bool → Pool → Pool
 pool_with sets refused p = record p { live = λ x. p.live x + times sets x; refusals = if refused then p.refusals + 1 else p.refusals }
 
--- the ledger's pools and the new ones, each with the sets that came from it, and with its refusal if it refused
+-- the ledger's pools and the new ones, each with the sets that it gave, and with its refusal if it refused
 abbrev pub ledger_with : Key → Grant → (ℕ → Option Pool) → ℕ → Option Pool
 ledger_with k g ledger name = option_map (pool_with (live_sets k.counts (came g.parts name)) (g.refused name)) (fresh_or k g.fresh name (ledger name))
 

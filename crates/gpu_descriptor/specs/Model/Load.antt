@@ -1,27 +1,27 @@
--- What is out in all keys: sets, and descriptors of marked sets. What the pools of marked keys have.
+-- What is outstanding in all keys: sets, and descriptors of marked sets. What the pools of marked keys have.
 use Rattle.std.specs.Option.{option_map_or}
 use Rattle.gpu_descriptor_types.specs.Ledger.{Pool}
 use Rattle.std.specs.Prelude.{ℕ, ◌*◌, max, if◌then◌else◌, List, Option, sum, sum_by}
 use Rattle.gpu_descriptor.specs.Model.Books.{Key, EntryOf, BucketOf, Bucket}
 
--- how many descriptors so many sets of a key have, if it is marked
+-- how many descriptors this many sets of a key have, if it is marked
 abbrev pub set_descriptors : Key → ℕ → ℕ
 set_descriptors k sets = if k.marked then sets * sum k.counts else 0
 
--- the descriptors of a pool of so many sets of a key, if it is marked. Without descriptors it has one
+-- the descriptors of a pool of this many sets of a key, if it is marked. Without descriptors it has one
 abbrev pub pool_descriptors : Key → ℕ → ℕ
 pool_descriptors k sets = if k.marked then max 1 (sets * sum k.counts) else 0
 
 module _ {X : Type 0} where
-  -- how many sets are out of these pools
+  -- how many sets are allocated from these pools
   abbrev pub allocated_in : List (EntryOf X) → ℕ
   allocated_in pools = sum_by (λ e. e.allocated) pools
 
-  -- what a key with its bucket adds to the three sums over all keys. To the outstanding sets: how many are out of its pools
+  -- what a key with its bucket adds to the three sums over all keys. To the outstanding sets: the number of sets that are allocated from its pools
   abbrev pub sets_out : Key → BucketOf X → ℕ
   sets_out k b = allocated_in b.pools
 
-  -- to the marked load: how many descriptors these sets have, if the key is marked
+  -- to the marked load: the descriptors of these sets, if the key is marked
   abbrev pub descriptors_out : Key → BucketOf X → ℕ
   descriptors_out k b = set_descriptors k (allocated_in b.pools)
 

@@ -47,7 +47,7 @@ risen by n = record {
   pool_refused = n.pool_refused + by.pool_refused;
 }
 
--- by asking the existing pools, and by new ones
+-- the rise by asking the existing pools, and by new ones
 abbrev pub grant_rise : ℕ → Grant → List Entry → Counters
 grant_rise n g pools = let asked = drop g.skipped pools in record no_rise {
   created = length g.fresh;
@@ -55,21 +55,21 @@ grant_rise n g pools = let asked = drop g.skipped pools in record no_rise {
   pool_refused = refused_count g.refused asked;
 }
 
--- by freeing the sets of a request
+-- the rise by freeing the sets of a request
 abbrev pub rollback_rise : List Item → Key → State → Counters
 rollback_rise items k t = record no_rise { released = runs items; destroyed = pools_gone (k ∷ []) items t }
 
 -- ---- the call
 
--- a request of so many sets of a key, and what holds before and after it
+-- a request for count sets of a key, and what holds before and after it
 pub record Call : Type 0 where
   pub key : Key
   pub count : ℕ
-  -- the most descriptors that the marked sets which are out may have, and the most that the pools of marked keys may have
+  -- the limit on the descriptors of the outstanding marked sets, and on those of the pools of marked keys
   pub limit : ℕ
-  -- how many descriptors a new pool has at most, unless what is wanting needs more
+  -- the bound on the descriptors of a new pool, which only the sets still needed exceed
   pub most : Option ℕ
-  -- before it: how many sets were out, the marked load, and the pool load
+  -- before it: the number of outstanding sets, the marked load, and the pool load
   pub out : ℕ
   pub load : ℕ
   pub pooled : ℕ
@@ -100,7 +100,7 @@ stop_rise stop.NoMemoryForPool = no_rise
 stop_rise (stop.PoolNotCreated e) = create_refused e no_rise
 stop_rise (stop.NewPoolRefused e) = let asked = alloc_refused e no_rise in record asked { created = 1; destroyed = 1 }
 
--- what a request of n sets took of these pools ends at one that was asked and returned a memory error. The newer ones were asked before it, if they had places
+-- what a request for n sets took of these pools ends at one that was asked and returned a memory error. The newer ones were asked before it, if they had places
 pub record EndsAtPool (n : ℕ) (pools : List Entry) (error : DeviceAllocationError) (g : Grant) : Type 0 where
   pub older : List Entry
   pub pool : Entry
@@ -114,12 +114,12 @@ pub record EndsAtPool (n : ℕ) (pools : List Entry) (error : DeviceAllocationEr
   pub asked : is_asked g.refused n newer pool ≡ true
   pub memory : pool_refusals error ≡ 0
 
--- no new pool came: for want of room exactly if not even one of one set fits
+-- no new pool was created: for lack of room exactly if not even a pool for one set fits
 abbrev pub StopsAtNew : Stop → Key → ℕ → Type 0
 StopsAtNew (stop.ExistingPoolWithoutMemory e) k room = ⊥
 StopsAtNew why k room = (why ≡ stop.NoRoomUnderLimit) ↔ (room < pool_descriptors k 1)
 
--- what had been taken then: of the existing pools, or of all these and a prefix of new ones
+-- what had been taken by then: of the existing pools, or of all these and a prefix of new ones
 abbrev pub StopsAt : Stop → Option ℕ → Key → (room n : ℕ) → Grant → List Entry → Type 0
 StopsAt (stop.ExistingPoolWithoutMemory e) most k room n g old = EndsAtPool n old e g
 StopsAt why most k room n g old = (g.skipped ≡ 0) × IsFreshPrefix most k room (allocated_in (all_shared g.refused n old)) (rest g.refused n old) g.fresh × StopsAtNew why k (room_after k room g.fresh)
@@ -127,15 +127,15 @@ StopsAt why most k room n g old = (g.skipped ≡ 0) × IsFreshPrefix most k room
 -- ---- the outcomes
 
 module _ (c : Call) where
-  -- what the request could take so
+  -- what the request could take in this way
   abbrev pub IsGrant : Grant → Type 0
   IsGrant g = IsGrantOf c.count (c.old.books c.key) c.old.ledger g
 
-  -- how many sets are wanting after the existing pools
+  -- how many sets are needed after the existing pools
   abbrev pub wanting : Grant → ℕ
   wanting g = rest g.refused c.count (c.old.books c.key).pools
 
-  -- how many sets are out of the key's pools then, with what they gave of this request
+  -- how many sets are allocated from the key's pools then, with what they gave of this request
   abbrev pub out_then : Grant → ℕ
   out_then g = allocated_in (all_shared g.refused c.count (c.old.books c.key).pools)
 
@@ -144,16 +144,16 @@ module _ (c : Call) where
     pub state : c.new ≡ c.old
     pub counters : c.after ≡ c.before
 
-  -- the key is marked, and the marked load would pass the limit with the sets of the request
+  -- the key is marked, and the marked load with the sets of the request would exceed the limit
   pub record IsAboveLimit : Type 0 where
     pub marked : c.key.marked ≡ true
     pub above : c.limit < c.count * sum c.key.counts + c.load
 
-  -- the marked load would keep the limit, or the key is plain
+  -- the marked load would keep the limit, or the key is not marked
   abbrev pub IsWithinLimit : Type 0
   IsWithinLimit = c.key.marked ≡ true → c.count * sum c.key.counts + c.load ≤ c.limit
 
-  -- pool numbers, or the number of sets that are out, would pass 64 bits
+  -- pool numbers, or the number of outstanding sets, would exceed 64 bits
   abbrev pub IsPastBound : Type 0
   IsPastBound = (greatest_u64 < next_number (c.old.books c.key) + c.count) ⊎ (greatest_u64 < c.out + c.count)
 
@@ -164,7 +164,7 @@ module _ (c : Call) where
     pub numbers : next_number (c.old.books c.key) + c.count ≤ greatest_u64
     pub sets : c.out + c.count ≤ greatest_u64
 
-  -- all sets were had
+  -- all sets were allocated
   pub record IsDone : Type 0 where
     pub grant : Grant
     pub taken : IsGrant grant
@@ -174,7 +174,7 @@ module _ (c : Call) where
     pub state : c.new ≡ granted c.key c.count grant c.old
     pub counters : c.after ≡ risen (grant_rise c.count grant (c.old.books c.key).pools) c.before
 
-  -- a request stopped when it had taken so much: the sets are freed
+  -- a request stopped when it had taken this grant: the sets are freed
   pub record IsBack (grant : Grant) (why : Stop) : Type 0 where
     pub taken : IsGrant grant
     pub answer : c.answer ≡ Err (stop_error why)
@@ -197,7 +197,7 @@ module _ (c : Call) where
     done : Proceeds → IsDone → Allocates
     stopped : Proceeds → IsStopped → Allocates
 
--- what a request took, if it came to the walk
+-- what a request took, if it reached the walk
 abbrev pub taken_by : {c : Call} → Allocates c → Option Grant
 taken_by (done goes is) = Some is.grant
 taken_by (stopped goes is) = Some is.grant

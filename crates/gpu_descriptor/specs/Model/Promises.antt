@@ -1,4 +1,4 @@
--- What a caller may read off a request without its outcomes.
+-- What a caller may conclude of a request without its outcomes.
 use Rattle.gpu_descriptor.specs.Model.Grants.{Grant}
 use Rattle.gpu_descriptor.specs.Model.FreshPools.{Fresh}
 use Rattle.std.specs.Prelude.{◌≡◌, ℕ, ◌+◌, ◌-◌, ◌*◌, ◌<◌, List, [], ◌∷◌, length, slice_get, take, sum_by, All, Some, OnOk, false}
@@ -8,7 +8,7 @@ use Rattle.gpu_descriptor.specs.Model.Agreement.{State, Item, count_of, outstand
 use Rattle.gpu_descriptor.specs.Model.Outcomes.{Call, taken_by, out_then, wanting, Allocates}
 use Rattle.gpu_descriptor.specs.Model.Shares.{offer, all_shared}
 
--- exactly these sets are outstanding besides those before
+-- exactly these sets are outstanding in addition to those before
 abbrev pub AreOutBesides : List Item → State → State → Type 0
 AreOutBesides items old new = (t : Item) → outstanding new t ≡ outstanding old t + count_of t items
 
@@ -20,21 +20,21 @@ KeepsOutstanding old new = (t : Item) → outstanding new t ≡ outstanding old 
 abbrev pub AreOfKey : Key → List Item → Type 0
 AreOfKey k items = (t : Item) → 0 < count_of t items → t.key ≡ k
 
--- new pools in order. At the first, out sets of the key are out, and wanted are wanting. Each comes only if some are wanting, and has fewer sets than twice the start size of its moment
+-- new pools in order. Before the first, `out` sets of the key are outstanding, and `wanted` are needed. Each is created only if some are needed, and has fewer sets than twice the start size at that time
 abbrev pub AreBelowTwice : (out wanted : ℕ) → List Fresh → Type 0
 AreBelowTwice out wanted [] = Unit {0}
 AreBelowTwice out wanted (f ∷ later) = (0 < wanted) × (f.size < 2 * start_size out wanted) × AreBelowTwice (out + f.given) (wanted - f.given) later
 
 module _ (c : Call) where
-  -- the existing pools fall short: those that refused aside, they have fewer known free places than are wanted. A new pool that refused was destroyed at once: few counts it, below_twice does not
+  -- the existing pools fall short: those that didn't refuse have fewer known free places than are needed. A new pool that refused was destroyed at once: few counts it, below_twice does not
   pub record IsShort (g : Grant) : Type 0 where
     pub short : sum_by (offer g.refused) (c.old.books c.key).pools < c.count
-    -- so they have no known free place left when the first new one comes
+    -- therefore they have no known free place left when the first new one is created
     pub used_up : All (λ e. e.available ≡ 0) (all_shared g.refused c.count (c.old.books c.key).pools)
-    -- and if the request was met, no pool of the key but the newest has one
+    -- if the request succeeded, no pool of the key but the newest has a known free place
     pub filled : OnOk c.answer (let pools = (c.new.books c.key).pools in All (λ e. e.available ≡ 0) (take (length pools - 1) pools))
     pub below_twice : AreBelowTwice (out_then c g) (wanting c g) g.fresh
-    -- at most as many new pools as what is wanting divided by the floor of a pool's size, rounded up
+    -- the number of new pools is at most that of the sets needed divided by the floor of a pool's size, rounded up
     pub few : let floor = pool_size_floor c.key.counts in (c.after.created - c.before.created) * floor < wanting c g + floor
 
 -- a pool is created only if the key's existing pools fall short

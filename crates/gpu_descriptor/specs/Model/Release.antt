@@ -1,4 +1,4 @@
--- What freeing sets leaves of books and ledger: each pool loses its part, and then empty pools of the front are destroyed.
+-- The effect of freeing sets on books and ledger: each pool loses its part, and then empty pools at the front are destroyed.
 use Rattle.std.specs.Prelude.{sum_by, ◌∷◌, ℕ, ◌+◌, ◌-◌, Bool, false, ◌==◌, ◌&&◌, if◌then◌else◌, min, List, [], length, map, drop, take, count_by, None, option_map}
 use Rattle.std.specs.Option.{option_map_or}
 use Rattle.std.specs.List.{list_any, prefix_len}
@@ -7,7 +7,7 @@ use Rattle.gpu_descriptor_types.specs.Multiset.{LiveSet, set_eq}
 use Rattle.gpu_descriptor.specs.Model.Books.{Key, key_eq, Entry, Bucket, entry_at}
 use Rattle.gpu_descriptor.specs.Model.Agreement.{State, Item, set_of}
 
--- whether a set lies in a pool
+-- whether a set is from a pool
 abbrev pub lies_in : (Key → Bucket) → ℕ → Item → Bool
 lies_in books pool t = option_map_or (λ e. e.pool == pool) (entry_at (books t.key) t.number) false
 
@@ -15,11 +15,11 @@ lies_in books pool t = option_map_or (λ e. e.pool == pool) (entry_at (books t.k
 abbrev pub entry_less : ℕ → Entry → Entry
 entry_less n e = record e { allocated = e.allocated - n; available = e.available + n }
 
--- the bucket after as many sets are freed as back says of each pool
+-- the bucket after back n sets of each pool n are freed
 abbrev pub bucket_less : (ℕ → ℕ) → Bucket → Bucket
 bucket_less back b = record b { pools = map (λ e. entry_less (back e.pool) e) b.pools }
 
--- the pool after as many of each set are freed
+-- the pool after this many of each set are freed
 abbrev pub pool_less : (LiveSet → ℕ) → Pool → Pool
 pool_less back p = record p { live = λ x. p.live x - back x }
 
@@ -38,7 +38,7 @@ is_empty e = e.allocated == 0
 abbrev pub empty_front : Bucket → ℕ
 empty_front b = prefix_len is_empty b.pools
 
--- as many of them as may be destroyed, if so many pools are to stay
+-- how many of them may be destroyed, if `keep` pools are to stay
 abbrev pub front_but : ℕ → Bucket → ℕ
 front_but keep b = min (empty_front b) (length b.pools - keep)
 
@@ -54,18 +54,18 @@ without_front n b = record b { pools = drop n b.pools }
 abbrev pub in_front : ℕ → Bucket → ℕ → Bool
 in_front n b pool = list_any (λ e. e.pool == pool) (take n b.pools)
 
--- the keys of the list lose their spent fronts, in the books and in the ledger
+-- the empty fronts of the keys of the list are destroyed, in the books and in the ledger
 abbrev pub fronts_gone : List Item → State → State
 fronts_gone m s = record {
   books = λ k. let b = s.books k in if list_any (λ t. key_eq t.key k) m then without_front (spent_front b) b else b;
   ledger = λ pool. if list_any (λ t. let b = s.books t.key in in_front (spent_front b) b pool) m then None else s.ledger pool;
 }
 
--- what freeing the sets of the list leaves
+-- the effect of freeing the sets of the list
 abbrev pub released : List Item → State → State
 released m s = fronts_gone m (given_back m s)
 
--- what freeing lists one after another leaves
+-- the effect of freeing lists one after another
 abbrev pub released_each : List (List Item) → State → State
 released_each [] s = s
 released_each (m ∷ ms) s = released_each ms (released m s)
@@ -78,10 +78,10 @@ singly m = map (λ t. t ∷ []) m
 abbrev pub pools_gone : List Key → List Item → State → ℕ
 pools_gone keys m s = sum_by (λ k. if list_any (λ t. key_eq t.key k) m then spent_front ((given_back m s).books k) else 0) keys
 
--- the counters after so many release calls more
+-- the counters after n more release calls
 abbrev pub more_released : ℕ → Counters → Counters
 more_released n c = record c { released = c.released + n }
 
--- the counters after so many destroyed pools more
+-- the counters after n more destroyed pools
 abbrev pub more_destroyed : ℕ → Counters → Counters
 more_destroyed n c = record c { destroyed = c.destroyed + n }

@@ -1,4 +1,4 @@
--- The runs of a list of sets: its longest stretches of neighbours that lie in one pool.
+-- The runs of a list of sets: each is a longest part whose consecutive sets are from one pool.
 use Rattle.std.specs.Prelude.{ℕ, ◌+◌, ◌==◌, ◌&&◌, if◌then◌else◌, List, [], ◌∷◌}
 use Rattle.gpu_descriptor.specs.Model.Books.{key_eq}
 use Rattle.gpu_descriptor.specs.Model.Agreement.{Item}

@@ -1,9 +1,8 @@
--- What each pool of a key gives of a request, in the end. refused says of a pool's name whether it refused.
--- The pools of a list are oldest first, so the newer ones come later.
+-- What each pool of a key gives a request in all. refused says of a pool's name whether it refused. The pools of a list are oldest first. A share is a closed form: counting down from pool to pool would be the code's loop again.
 use Rattle.std.specs.Prelude.{◌≡◌, ℕ, ◌+◌, ◌-◌, Bool, true, false, ◌==◌, ◌&&◌, ◌||◌, nat_lt, if◌then◌else◌, min, List, [], ◌∷◌, ◌++◌, sum_by}
 use Rattle.gpu_descriptor.specs.Model.Books.{Entry}
 
--- what comes from one pool: how many sets, and the pool by number and name
+-- what one pool gives: how many sets, and the pool by number and name
 pub record Portion : Type 0 where
   pub number : ℕ
   pub pool : ℕ
@@ -19,11 +18,11 @@ module _ (refused : ℕ → Bool) where
   refused_count pools = sum_by (λ e. if refused e.pool then 1 else 0) pools
 
   module _ (n : ℕ) where
-    -- what is wanting of n sets after these pools
+    -- how many of n sets are needed after these pools
     abbrev pub rest : List Entry → ℕ
     rest pools = n - sum_by offer pools
 
-    -- a pool is asked if it has places, and sets are wanting after the newer ones
+    -- a pool is asked if it has places, and sets are needed after the newer ones
     abbrev pub is_asked : List Entry → Entry → Bool
     is_asked newer e = nat_lt 0 e.available && nat_lt 0 (rest newer)
 
@@ -31,7 +30,7 @@ module _ (refused : ℕ → Bool) where
     abbrev pub share : List Entry → Entry → ℕ
     share newer e = min (offer e) (rest newer)
 
-    -- its entry after that
+    -- its entry after it gave its share
     abbrev pub shared : List Entry → Entry → Entry
     shared newer e = let given = share newer e in record e { allocated = e.allocated + given; available = offer e - given }
 

@@ -1,4 +1,4 @@
-//! Handing sets out, whole or not at all.
+//! Allocating sets, all or none.
 ghost use Rattle.std.specs.Prelude.{◌≡◌, IfOk};
 ghost use Rattle.gpu_descriptor_types.specs.Counts.{kinds};
 ghost use Rattle.gpu_descriptor_types.specs.Side.{side};
@@ -18,34 +18,33 @@ use gpu_descriptor_types::{DescriptorDevice, DescriptorTotalCount};
 use std::vec::Vec;
 
 impl<P: Drop, S: Drop> DescriptorAllocator<P, S> {
-    /// Allocates `count` sets of a layout, and hands them out in the order in which they came from
-    /// the device.
+    /// Allocates `count` sets of a layout, and returns them in the order in which the device gave them.
+    /// A request for 0 sets changes nothing and allocates no memory.
     ///
     /// The existing pools of the layout's key are asked first, from the newest to the oldest, each at
-    /// most once, and each for at most as many sets as it is known to have places for. A pool that
-    /// refuses as fragmented or full is passed over. For the sets that are still wanting new pools are
-    /// created. `new_pool_sets` says how many sets a new pool has; for a marked (update-after-bind)
-    /// layout `cut_pool_sets` cuts this number to the room that the limit leaves. Then, for any layout,
-    /// `bounded_pool_sets` cuts it to the bound of `set_max_pool_descriptors`. A request for 0 sets
-    /// changes nothing and allocates nothing.
+    /// most once, and each for at most the number of free places that it is known to have. A pool that
+    /// refuses as fragmented or full is skipped. New pools are created for the sets still needed.
+    /// `new_pool_sets` says how many sets a new pool has; for a marked (update-after-bind) layout
+    /// `cut_pool_sets` cuts this number to the room that the limit leaves. Then, for any layout,
+    /// `bounded_pool_sets` cuts it to the bound of `set_max_pool_descriptors`.
     ///
-    /// If the request can't be met, a new pool that refused its sets is destroyed, and all sets that
-    /// the request took are freed, in the order in which they came: neighbours of one pool by one
-    /// call of the device. As sets are freed, the oldest pools of the key are destroyed up to the first
-    /// that has a set, but never the key's last pool. The errors:
+    /// On an error a new pool that refused its sets is destroyed, and all sets that the request took are
+    /// freed, in the order in which they were allocated, with one device call per run of consecutive
+    /// sets from one pool. As sets are freed, the oldest pools of the key are destroyed up to the first
+    /// that has a set, except the key's last pool. The errors:
     ///
     /// - `Fragmentation`: the sets of a marked layout would exceed the limit; or the limit leaves no
-    ///   room for a new pool of a marked layout; or the number of sets that are out, or that of the
-    ///   key's next pool, would exceed 64 bits with `count` added to it; or the device refused with
-    ///   this error to create a pool; or a new pool refused its sets as fragmented or full;
-    /// - `OutOfDeviceMemory`: the device returned it, at an existing or a new pool;
+    ///   room for a new pool of a marked layout; or `count` added to the number of live sets, or to the
+    ///   number of the key's next pool, would exceed 64 bits; or the device refused with this error to
+    ///   create a pool; or a new pool refused its sets as fragmented or full;
+    /// - `OutOfDeviceMemory`: the device returned it, for an existing or a new pool;
     /// - `OutOfHostMemory`: the device returned it; or an allocation failed, for the result or for the
     ///   books of a key or a pool; or no id is left for a new key.
     ///
-    /// `flags` and `layout_descriptor_count` must be those of the layout, and `device` must be the one
-    /// of all other calls. In the original crate the number of descriptors that is compared with the
-    /// limit is computed in 32 bits, and here it is exact. There the limit counts only the sets that
-    /// are out, and here it also counts the pools.
+    /// `flags` and `layout_descriptor_count` must be those of the layout, and `device` the one of all
+    /// other calls. The original crate computes the number of descriptors that it compares with the
+    /// limit in 32 bits; here it is exact. Its limit counts only the live sets; here it also counts the
+    /// pools.
     pub fn allocate<L, D: DescriptorDevice<L, P, S>>(
         &mut self,
         device: &mut D,
@@ -54,6 +53,8 @@ impl<P: Drop, S: Drop> DescriptorAllocator<P, S> {
         layout_descriptor_count: &DescriptorTotalCount,
         count: u32,
     ) -> Result<Vec<DescriptorSet<S>>, AllocationError>
+        // `Drop`, since a rollback drops what is left of a vector's iterator, whose type doesn't show that
+        // it is empty, and the books of an absent key may be dropped. `free` hands all to the device.
         requires counts { kinds layout_descriptor_count.now ≡ D.meaning.counts layout.now }
         requires mark { is_marked flags ≡ D.meaning.mark layout.now }
         requires agree { Agrees D.meaning.pool_name self.old (D.ledger device.old) }

@@ -1,4 +1,4 @@
-//! Handing out sets of a layout that is kept with its counts and flags.
+//! Allocating sets of a layout that is stored with its counts and flags.
 ghost use Rattle.std.specs.Prelude.{[], ◌∷◌, IfOk};
 ghost use Rattle.gpu_descriptor_types.specs.Meaning.{IsOfLayout};
 ghost use Rattle.gpu_descriptor_types.specs.Side.{side};
@@ -18,7 +18,7 @@ use std::mem::replace;
 use std::vec::Vec;
 
 impl<P: Drop, S: Drop> DescriptorAllocator<P, S> {
-    /// The same as `allocate`, for a layout that is kept with its counts and flags.
+    /// Same as `allocate`, for a layout that is stored with its counts and flags.
     pub fn allocate_for<L, D: DescriptorDevice<L, P, S>>(
         &mut self,
         device: &mut D,
@@ -40,7 +40,7 @@ impl<P: Drop, S: Drop> DescriptorAllocator<P, S> {
         Ok(sets)
     }
 
-    /// The same as `allocate_for`, but the sets are appended to a vector. It grows only if it has no
+    /// Same as `allocate_for`, but the sets are appended to a vector. It grows only if it has no
     /// capacity for `count` more. If that allocation fails, the call returns `OutOfHostMemory` before
     /// the device is asked. On an error the vector has the sets that it had.
     pub fn allocate_into<L, D: DescriptorDevice<L, P, S>>(
@@ -66,7 +66,7 @@ impl<P: Drop, S: Drop> DescriptorAllocator<P, S> {
         answer
     }
 
-    /// Allocates one set of a layout, as `allocate_for` does, and returns it without a vector.
+    /// Same as `allocate_for` with a count of 1, but returns the set without a vector.
     pub fn allocate_one<L, D: DescriptorDevice<L, P, S>>(
         &mut self,
         device: &mut D,

@@ -1,4 +1,4 @@
-//! Cleaning up and trimming: empty pools are destroyed.
+//! Cleaning up and trimming, which destroy empty pools.
 ghost use Rattle.std.specs.Prelude.{◌≡◌};
 ghost use Rattle.gpu_descriptor_types.specs.Side.{side};
 ghost use Rattle.gpu_descriptor.specs.Inner.Buckets.{has_pools};
@@ -15,11 +15,11 @@ use crate::layout::SetLayout;
 use gpu_descriptor_types::DescriptorDevice;
 
 impl<P: Drop, S> DescriptorAllocator<P, S> {
-    /// Destroys the oldest pools of each key up to the first that has a set, the last pool too, and
-    /// forgets the keys that then have none. It allocates nothing and can't fail.
+    /// Destroys the oldest pools of each key up to the first that has a set, even the key's last pool,
+    /// and removes the keys that then have none. It allocates no memory and can't fail.
     ///
-    /// The keys are gone through in the order in which they came. A key that was forgotten numbers
-    /// its pools from 0 again. `device` must be that of all other calls.
+    /// It visits the keys in the order in which they were added. A removed key that is used again
+    /// numbers its pools from 0. `device` must be that of all other calls.
     pub fn cleanup<L, D: DescriptorDevice<L, P, S>>(&mut self, device: &mut D)
         requires agree { Agrees D.meaning.pool_name self.old (D.ledger device.old) }
         ensures cleans_up { CleansUp D.meaning (side self.old (D.ledger device.old))
@@ -30,11 +30,11 @@ impl<P: Drop, S> DescriptorAllocator<P, S> {
         self.sweep(device, false);
     }
 
-    /// Destroys all pools that have no set, wherever they are, and forgets the keys that then have
-    /// none. It allocates nothing and can't fail.
+    /// Destroys all pools that have no set, wherever they are, and removes the keys that then have none.
+    /// It allocates no memory and can't fail.
     ///
-    /// It goes over every pool, where `cleanup` stops at the first of a key that has a set. The
-    /// original has no such call. `device` must be that of all other calls.
+    /// It visits every pool, whereas `cleanup` stops at a key's first pool that has a set. The original
+    /// has no such call. `device` must be that of all other calls.
     pub fn trim<L, D: DescriptorDevice<L, P, S>>(&mut self, device: &mut D)
         requires agree { Agrees D.meaning.pool_name self.old (D.ledger device.old) }
         ensures trims { TrimsPools D.meaning (side self.old (D.ledger device.old))
@@ -45,7 +45,7 @@ impl<P: Drop, S> DescriptorAllocator<P, S> {
         self.sweep(device, true);
     }
 
-    /// Destroys the empty pools everywhere, or at the front of each key.
+    /// Destroys the empty pools everywhere, or only at the front of each key.
     fn sweep<L, D: DescriptorDevice<L, P, S>>(&mut self, device: &mut D, everywhere: bool)
         requires agree { Agrees D.meaning.pool_name self.old (D.ledger device.old) }
         ensures sweeps { Sweeps everywhere D.meaning (side self.old (D.ledger device.old))

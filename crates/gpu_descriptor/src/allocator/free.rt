@@ -1,4 +1,4 @@
-//! Giving sets back.
+//! Freeing sets.
 ghost use Rattle.std.specs.Prelude.{◌≡◌, ◌<◌, ◌∷◌, OnSome};
 ghost use Rattle.std.specs.Iterator.{HoldsAlong, IsFiniteIterable, IsNearerEnd};
 ghost use Rattle.gpu_descriptor_types.specs.Ledger.{CanDrain};
@@ -17,7 +17,7 @@ use gpu_descriptor_types::DescriptorDevice;
 use std::vec::Vec;
 
 impl<P, S> DescriptorAllocator<P, S> {
-    /// Frees sets, as `free_from` does.
+    /// Same as `free_from`.
     pub fn free<L, D: DescriptorDevice<L, P, S>, I: IntoIterator<Item = DescriptorSet<S>>>(
         &mut self,
         device: &mut D,
@@ -38,13 +38,13 @@ impl<P, S> DescriptorAllocator<P, S> {
         self.free_from(device, &mut sets);
     }
 
-    /// Frees the sets that the iterator yields up to its end. It allocates nothing and can't fail.
+    /// Frees the sets that the iterator yields up to its end. It allocates no memory and can't fail.
     ///
-    /// Neighbours of one pool are freed by one call of the device. Whenever the oldest pools of their
-    /// key have no set left, these are destroyed, but never the key's last pool.
+    /// It makes one device call per run of consecutive sets from one pool. Whenever the oldest pools of
+    /// their key have no sets left, they are destroyed, except the key's last pool.
     ///
-    /// `device` must be that of all other calls, and done with all work that uses one of the sets.
-    /// What was recorded with them must not be submitted again.
+    /// `device` must be that of all other calls, and done with all work that uses one of the sets. Don't
+    /// submit again what was recorded with them.
     #[inline]
     pub fn free_from<L, D: DescriptorDevice<L, P, S>, I: Iterator<Item = DescriptorSet<S>>>(
         &mut self,
@@ -66,16 +66,15 @@ impl<P, S> DescriptorAllocator<P, S> {
             ahead = self.release_run(device, first, sets);
         }
 
-        // A proof has the allocator's invariant only where a field is read, and that of `keeps`
-        // needs the invariant.
+        // A proof knows the allocator's invariant only where a field is read, and that of `keeps` needs
+        // the invariant.
         prove!(
             self.update_after_bind_descriptors
                 <= self.max_update_after_bind_descriptors_in_all_pools
         );
     }
 
-    /// Gives back one run, from `first` to before the first set that lies elsewhere, which is
-    /// returned.
+    /// Frees one run, from `first` to before the first set from elsewhere, which is returned.
     #[inline]
     fn release_run<L, D: DescriptorDevice<L, P, S>, I: Iterator<Item = DescriptorSet<S>>>(
         &mut self,
@@ -113,13 +112,13 @@ impl<P, S> DescriptorAllocator<P, S> {
 }
 
 impl<P, S: Drop> DescriptorAllocator<P, S> {
-    /// Frees the sets of a vector, as `free_from` does.
+    /// Frees the sets of a vector. Same as `free_from`.
     pub fn free_all<L, D: DescriptorDevice<L, P, S>>(
         &mut self,
         device: &mut D,
         sets: Vec<DescriptorSet<S>>,
     )
-        // Of the sets it asks one fact about their list, which `allocate` leaves true.
+        // It requires of the sets one fact about their list, which `allocate` leaves true.
         requires agree { Agrees D.meaning.pool_name self.old (D.ledger device.old) }
         requires outstanding { AreOutstanding (items_of D.meaning.set_name sets.items)
             (state_of D.meaning.pool_name self.old (D.ledger device.old)) }

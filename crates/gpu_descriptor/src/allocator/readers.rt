@@ -1,4 +1,4 @@
-//! Readers of the allocator. They allocate nothing.
+//! Readers of the allocator. They allocate no memory.
 ghost use Rattle.std.specs.Prelude.{◌≡◌, ◌≤◌, length};
 ghost use Rattle.gpu_descriptor_types.specs.Counts.{kinds};
 ghost use Rattle.gpu_descriptor.specs.Model.Books.{books_of};
@@ -11,14 +11,14 @@ use crate::view::PoolView;
 use gpu_descriptor_types::DescriptorTotalCount;
 
 impl<P, S> DescriptorAllocator<P, S> {
-    /// How many sets are outstanding.
+    /// How many sets are live.
     pub fn outstanding(&self) -> u64
         ensures total { result ≡ outstanding_of self.now }
     {
         self.outstanding
     }
 
-    /// How many descriptors the outstanding sets of update-after-bind layouts have.
+    /// How many descriptors the live sets of update-after-bind layouts have.
     pub fn update_after_bind_descriptors(&self) -> u32
         ensures sum { result ≡ marked_load_of self.now }
         ensures within { result ≤ self.now.limit }
@@ -26,9 +26,9 @@ impl<P, S> DescriptorAllocator<P, S> {
         self.update_after_bind_descriptors
     }
 
-    /// How many descriptors the pools of update-after-bind layouts have, as they were created; a
-    /// pool for sets without descriptors counts as one. So much of the limit is used. The original
-    /// has no such reader.
+    /// How much of the limit is in use: the number of descriptors with which the pools for
+    /// update-after-bind layouts were created. A pool for sets without descriptors counts as one. The
+    /// original has no such reader.
     pub fn update_after_bind_capacity(&self) -> u32
         ensures sum { result ≡ pool_load_of self.now }
         ensures within { result ≤ self.now.limit }
@@ -43,8 +43,7 @@ impl<P, S> DescriptorAllocator<P, S> {
         self.max_update_after_bind_descriptors_in_all_pools
     }
 
-    /// How many descriptors a new pool has at most, unless what is wanting needs more; `None` where
-    /// that isn't bounded.
+    /// The bound on the descriptors of a new pool, `None` without one. See `set_max_pool_descriptors`.
     pub fn max_pool_descriptors(&self) -> Option<u64>
         ensures most { result ≡ self.now.most }
     {
@@ -66,8 +65,8 @@ impl<P, S> DescriptorAllocator<P, S> {
         }
     }
 
-    /// The books of the pool at this place among those for sets of layouts with these counts and
-    /// this mark, oldest first; `None` past the last.
+    /// The books of the pool at this index among those for sets of layouts with these counts and this
+    /// mark, oldest first; `None` past the last.
     pub fn pool(
         &self,
         counts: &DescriptorTotalCount,

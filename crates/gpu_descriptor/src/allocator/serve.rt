@@ -1,4 +1,4 @@
-//! How a request is served: whether the limit allows it, and what is freed if it can't be met.
+//! How a request is served: whether the limit allows it, and what is freed if it fails.
 ghost use Rattle.std.specs.Prelude.{◌≡◌, ◌+◌, ◌*◌, ◌<◌, ◌&&◌, nat_lt, sum, Err};
 ghost use Rattle.std.specs.Prelude.{IfOk, IfErr, OnOk, OnErr};
 ghost use Rattle.gpu_descriptor_types.specs.Counts.{kinds};
@@ -26,8 +26,8 @@ use gpu_descriptor_types::DescriptorDevice;
 use std::marker::PhantomData;
 
 impl<P: Drop, S> DescriptorAllocator<P, S> {
-    /// Appends sets of a layout to a list, and returns that. On an error it has the sets that it had.
-    /// See `allocate`.
+    /// Appends sets of a layout to a list, and returns the list. On an error it has the sets that it
+    /// had. See `allocate`.
     #[inline]
     pub(super) fn append_sets<L, D: DescriptorDevice<L, P, S>, K: SetPlaces<S>>(
         &mut self,
@@ -46,7 +46,7 @@ impl<P: Drop, S> DescriptorAllocator<P, S> {
             (side self.new (D.ledger device.new)) }
     {
         if count == 0 {
-            // A proof has the allocator's invariant only where a field is read, and that of `keeps`
+            // A proof knows the allocator's invariant only where a field is read, and that of `keeps`
             // needs the invariant.
             prove!(
                 self.update_after_bind_descriptors
@@ -64,7 +64,7 @@ impl<P: Drop, S> DescriptorAllocator<P, S> {
         self.fill(device, &request, sets)
     }
 
-    /// Appends the sets of a request to a list, or frees those that came.
+    /// Appends the sets of a request to a list; if it fails, frees those that were appended.
     #[inline]
     fn fill<L, D: DescriptorDevice<L, P, S>, K: SetPlaces<S>>(
         &mut self,
@@ -96,10 +96,10 @@ impl<P: Drop, S> DescriptorAllocator<P, S> {
         }
     }
 
-    /// Takes the sets of a request, and counts those that came. On an error nothing was taken. If the
-    /// inner result is an error, the request stopped short, and the caller frees what came.
+    /// Takes the sets of a request, and counts them. On an error nothing was taken. If the inner result
+    /// is an error, the request stopped before its end, and the caller frees the sets that it took.
     ///
-    /// New pools are held against the limit where they are created, by the room in the budget.
+    /// New pools are checked against the limit where they are created, by the room in the budget.
     fn serve_if_allowed<'k, L, D: DescriptorDevice<L, P, S>, K: SetPlaces<S>>(
         &mut self,
         device: &mut D,
@@ -128,6 +128,7 @@ impl<P: Drop, S> DescriptorAllocator<P, S> {
             (side self.new (D.ledger device.new)) }
     {
         let each = request.key.marked_descriptors_of_set();
+        // Before the walk over the pools, since this test needs none.
         if self.would_exceed_limit(&request.key, each, request.count) {
             return Err(AllocationError::Fragmentation);
         }
@@ -144,8 +145,8 @@ impl<P: Drop, S> DescriptorAllocator<P, S> {
 }
 
 impl<P, S> DescriptorAllocator<P, S> {
-    /// Whether `count` sets more would exceed the limit on marked descriptors, of which a set of the key
-    /// has `each`.
+    /// Whether `count` more sets would exceed the limit on marked descriptors, when a set of the key has
+    /// `each`.
     fn would_exceed_limit(&self, key: &BucketKey, each: u64, count: u32) -> bool
         requires each { each ≡ set_descriptors (key_of key.now) 1 }
         ensures { result ≡ (key.now.marked && nat_lt (self.now.limit)

@@ -1,4 +1,4 @@
-//! The front of a bucket: its oldest pools, which go when they have no sets.
+//! The front of a bucket: its oldest pools, which are destroyed when they have no sets.
 ghost use Rattle.std.specs.Prelude.{◌≡◌, ◌+◌, ◌<◌, ◌^◌, drop, false, true};
 ghost use Rattle.std.specs.VecDeque.{deque_capacity};
 ghost use Rattle.gpu_descriptor.specs.Model.Books.{Key};
@@ -24,8 +24,8 @@ fn pop_if(listed: &mut VecDeque<u64>, is_listed: bool)
 }
 
 impl<P> DescriptorBucket<P> {
-    /// Destroys the pools without sets at the front, but never the last `keep` pools. Their
-    /// descriptors are room under the limit again.
+    /// Destroys the pools without sets at the front, except the last `keep` pools. The limit has room
+    /// for their descriptors again.
     #[inline]
     pub(crate) fn destroy_empty_front<L, S, D: DescriptorDevice<L, P, S>>(
         &mut self,

@@ -1,4 +1,4 @@
-//! What the module `search` searches by halves: a rising list of ordinals, or the pools by their
+//! What the module `search` searches by binary search: a rising list of ordinals, or the pools by their
 //! numbers. Each read counts as a comparison.
 ghost use Rattle.std.specs.Prelude.{◌≡◌, ◌+◌, ◌<◌, ℕ, List, length, nat_lt, slice_index};
 ghost use Rattle.gpu_descriptor.specs.Inner.OpenOrdinals.{stored_numbers};

@@ -83,7 +83,7 @@ impl<'a, 'b, 'c, P> OpenPools<'a, 'b, 'c, P> {
         Some(&mut self.pools[place])
     }
 
-    /// Takes the last pool out of the list, as it has no known free places left.
+    /// Takes the last pool out of the list, since it has no known free places left.
     pub(crate) fn close_newest(&mut self)
         ensures listed { self.new.listed.now.items ≡ take (length self.old.listed.now.items - 1)
             self.old.listed.now.items }

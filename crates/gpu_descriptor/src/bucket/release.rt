@@ -1,4 +1,4 @@
-//! Giving the sets of a run back to their pool.
+//! Freeing the sets of a run.
 ghost use Rattle.std.specs.Prelude.{◌≡◌, ◌+◌, ◌∷◌, ℕ, List, length, slice_get, IsTrue, OnSome, Some, false};
 ghost use Rattle.std.specs.Iterator.{HoldsAlong, IsNearerEnd};
 ghost use Rattle.gpu_descriptor_types.specs.Ledger.{CanDrain};
@@ -17,9 +17,9 @@ use crate::set::DescriptorSet;
 use gpu_descriptor_types::{DescriptorDevice, Tally};
 
 impl<P> DescriptorBucket<P> {
-    /// Gives back the sets of one run of this key in one device call.
+    /// Frees the sets of one run of this key in one device call.
     ///
-    /// The run goes from `first` to before the first set that lies elsewhere, which is returned.
+    /// The run goes from `first` to before the first set from elsewhere, which is returned.
     #[inline]
     pub(crate) fn release_sets<
         L,
@@ -77,8 +77,8 @@ impl<P> DescriptorBucket<P> {
         ahead
     }
 
-    /// The place of the pool with a number. If no number after the pool is missing, the number gives
-    /// it; else it is searched for.
+    /// The place of the pool with a number. The number gives the place if no later number is missing;
+    /// else the pool is searched for.
     #[inline]
     fn place_of_pool(&self, number: u64, comparisons: &mut Tally) -> usize
         requires there { (i : ℕ) × (slice_get (stored_numbers self.now.pools.items) i
@@ -87,6 +87,7 @@ impl<P> DescriptorBucket<P> {
         ensures compares { Compares (gap_digits (stored_numbers self.now.pools.items))
             comparisons.old.count comparisons.new.count }
     {
+        // A program that never trims compares one number, and no map of places is kept as pools go.
         let likely = number.wrapping_sub(self.first_ordinal()) as usize;
         if self.has_number(likely, number) {
             return likely;

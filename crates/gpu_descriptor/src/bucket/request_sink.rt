@@ -1,4 +1,4 @@
-//! Where a request puts the sets that come from the device.
+//! Where a request puts the sets that the device gives.
 ghost use Rattle.std.specs.Prelude.{◌≡◌, ◌≤◌, OnOk};
 
 use crate::key::BucketKey;
@@ -9,13 +9,13 @@ use gpu_descriptor_types::SetSink;
 use std::alloc::AllocError;
 use std::marker::PhantomData;
 
-/// The sets of a request, over room that was made before the first device call. Each set that is put
-/// gets the key with its id, and the number of the pool that is asked.
+/// The sets of a request, in room that was made before the first device call. Each set that is put gets
+/// the key with its id, and the number of the pool that is asked.
 #[derive(Drop)]
 pub(crate) struct RequestSink<'k, S, K: SetPlaces<S>> {
     pub(crate) sets: K,
 
-    /// How many sets are left to come.
+    /// How many sets are still needed.
     pub(crate) left: u32,
 
     /// Only contracts read it.
@@ -27,7 +27,7 @@ pub(crate) struct RequestSink<'k, S, K: SetPlaces<S>> {
 }
 
 impl<'k, S, K: SetPlaces<S>> RequestSink<'k, S, K> {
-    /// A sink that puts its sets here. None are left to come.
+    /// A sink that puts its sets here. None are needed.
     pub(crate) fn new(sets: K, key: &'k BucketKey) -> Self
         ensures { result.sets ≡ sets }
     {
@@ -41,7 +41,7 @@ impl<'k, S, K: SetPlaces<S>> RequestSink<'k, S, K> {
         }
     }
 
-    /// Makes room for so many sets, which are then all left to come.
+    /// Makes room for `count` sets, which are then all still needed.
     pub(crate) fn make_room(&mut self, count: u32) -> Result<(), AllocError>
         ensures sets { K.items self.new.sets ≡ K.items self.old.sets }
         ensures left { OnOk result (self.new.left ≡ count) }
@@ -66,10 +66,10 @@ impl<'k, S, K: SetPlaces<S>> RequestSink<'k, S, K> {
         sets
     }
 
-    /// The next sets come from the pool of this key that has this number.
+    /// The next sets are from the pool of this key that has this number.
     pub(crate) fn aim(&mut self, key: &'k BucketKey, id: u64, number: u64)
-        // Key and id are set again, since of a sink that was with the device no more is known than what
-        // it keeps of a set.
+        // Key and id are set again: of a sink that was with the device one knows only what it keeps of a
+        // set.
         ensures sets { self.new.sets ≡ self.old.sets }
         ensures left { self.new.left ≡ self.old.left }
         ensures key { self.new.key.now ≡ key.now }

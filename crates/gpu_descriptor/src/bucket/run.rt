@@ -1,4 +1,4 @@
-//! A run: sets of one pool that come one after another.
+//! A run: consecutive sets from one pool.
 ghost use Rattle.std.specs.Prelude.{◌≡◌, ◌+◌};
 ghost use Rattle.std.specs.Iterator.{count_map};
 ghost use Rattle.std.specs.Option.{option_len};
@@ -6,8 +6,8 @@ ghost use Rattle.gpu_descriptor.specs.Inner.RunSteps.{CountsFrom, RunStep};
 
 use crate::set::DescriptorSet;
 
-/// Gives the raw sets of one run: those of `source` up to the first that lies elsewhere, which
-/// stays in `ahead`. What `ahead` has at first comes before those of `source`.
+/// Yields the raw sets of one run: those of `source` up to the first from elsewhere, which stays in
+/// `ahead`. The set that is in `ahead` at first is the run's first.
 #[derive(Drop)]
 pub(crate) struct Run<'a, 'b, I, S> {
     pub(crate) source: &'a mut I,
@@ -19,7 +19,7 @@ pub(crate) struct Run<'a, 'b, I, S> {
     /// The number of their pool.
     pub(crate) number: u64,
 
-    /// How many came so far.
+    /// How many sets were yielded so far.
     pub(crate) count: u32,
 }
 
@@ -58,7 +58,7 @@ impl<S, I: Iterator<Item = DescriptorSet<S>>> Iterator for Run<'_, '_, I, S> {
 }
 
 impl<S, I: Iterator<Item = DescriptorSet<S>>> Run<'_, '_, I, S> {
-    /// Gives the borrows back, and how many sets came.
+    /// Ends the borrows, and returns how many sets were yielded.
     pub(crate) fn finish(self) -> u32
         ensures count { result ≡ self.entry.count }
         ensures source { self.exit.0.now ≡ self.entry.source.now }

@@ -1,5 +1,5 @@
-//! Searches by halves: the place of an ordinal in the list of the pools with known free places, and
-//! that of a pool with a number.
+//! Binary searches: the place of an ordinal in the list of the pools with known free places, and that of
+//! a pool with a number.
 ghost use Rattle.std.specs.Prelude.{◌≡◌, ◌+◌, ◌<◌, ◌≤◌, ℕ, Some, length, slice_get, true, false};
 ghost use Rattle.std.specs.VecDeque.{deque_capacity};
 ghost use Rattle.std.specs.List.Sorted.{IsNonDecreasing, IsPartitionPoint};
@@ -13,7 +13,7 @@ use crate::bucket::numbers::{Numbered, Numbers};
 use gpu_descriptor_types::Tally;
 use std::collections::VecDeque;
 
-/// The place of a number among others that rise: how many are below it.
+/// The place of a number in a rising list: how many of the list's numbers are below it.
 pub(crate) fn place_of<N: Numbered>(view: &mut Numbers<'_, '_, N>, number: u64) -> usize
     requires { IsNonDecreasing (N.numbers view.old.numbers.now) }
     ensures within { result ≤ length (N.numbers view.old.numbers.now) }
@@ -37,8 +37,8 @@ pub(crate) fn place_of<N: Numbered>(view: &mut Numbers<'_, '_, N>, number: u64) 
     low
 }
 
-/// The place of the pool with a number. It is out of line, because it is searched for only if pools
-/// after one with sets were trimmed.
+/// The place of the pool with a number. It is out of line: a search is needed only if pools after one
+/// with sets were trimmed.
 #[inline(never)]
 pub(crate) fn search_pools<P>(
     pools: &VecDeque<DescriptorPool<P>>,
@@ -55,7 +55,7 @@ pub(crate) fn search_pools<P>(
     place_of(&mut view, number)
 }
 
-/// Puts an ordinal in at its place. There is capacity for it.
+/// Inserts an ordinal at its place. There is capacity for it.
 #[inline(never)]
 fn enter(listed: &mut VecDeque<u64>, ordinal: u64, comparisons: &mut Tally)
     requires rising { IsNonDecreasing listed.old.items }
@@ -73,7 +73,7 @@ fn enter(listed: &mut VecDeque<u64>, ordinal: u64, comparisons: &mut Tally)
     }
 }
 
-/// Puts an ordinal in at its place if it is new. An empty list needs no search.
+/// Inserts an ordinal at its place if it is new. An empty list needs no search.
 #[inline]
 pub(crate) fn enter_new(
     listed: &mut VecDeque<u64>,
@@ -81,7 +81,7 @@ pub(crate) fn enter_new(
     ordinal: u64,
     comparisons: &mut Tally,
 )
-    // The test is an argument, since with an `if` around the call the prover has two states to carry on.
+    // The test is an argument: with an `if` around the call the prover would carry on two states.
     requires rising { IsNonDecreasing listed.old.items }
     requires fits { is_new ≡ true → length listed.old.items < deque_capacity listed.old }
     ensures entered { is_new ≡ true → IsEntered ordinal listed.old.items listed.new.items }

@@ -1,4 +1,4 @@
-//! Why a request stops that came to the pools of its key, and what it returns then.
+//! Why a request stops at the pools of its key, and which error it then returns.
 ghost use Rattle.std.specs.Prelude.{◌≡◌, if◌then◌else◌};
 ghost use Rattle.gpu_descriptor_types.specs.Ledger.{pool_refusals};
 ghost use Rattle.gpu_descriptor.specs.Model.Outcomes.{error_of_alloc, stop_error};
@@ -6,10 +6,10 @@ ghost use Rattle.gpu_descriptor.specs.Model.Outcomes.{error_of_alloc, stop_error
 use crate::errors::AllocationError;
 use gpu_descriptor_types::{CreatePoolError, DeviceAllocationError};
 
-/// Why a request stops that came to the pools of its key.
+/// Why a request stops at the pools of its key.
 #[derive(Clone, Copy)]
 pub(crate) enum Stop {
-    /// An existing pool returned that memory is wanting.
+    /// An existing pool returned that memory has run out.
     ExistingPoolWithoutMemory(DeviceAllocationError),
 
     /// The limit leaves no room for a new pool.
@@ -25,7 +25,7 @@ pub(crate) enum Stop {
     NewPoolRefused(DeviceAllocationError),
 }
 
-/// What a request returns that stopped so.
+/// The error of a request that stopped for this reason.
 pub(crate) fn error_of(stop: Stop) -> AllocationError
     ensures { result ≡ stop_error stop }
 {
@@ -51,7 +51,7 @@ fn error_of_pool(error: DeviceAllocationError) -> AllocationError
     }
 }
 
-/// Whether a refusal is of the pool alone, and not for want of memory.
+/// Whether a refusal concerns only the pool, and not memory.
 pub(crate) fn is_of_pool(error: DeviceAllocationError) -> bool
     ensures { pool_refusals error ≡ (if result then 1 else 0) }
 {

@@ -1,4 +1,4 @@
-//! The empty pools of a bucket, which go when it is cleaned up or trimmed.
+//! The empty pools of a bucket, which a cleanup or a trim destroys.
 ghost use Rattle.std.specs.Prelude.{◌≡◌, ◌+◌, ◌<◌, ◌≤◌, ◌^◌, IsTrue, filter, length, map, true};
 ghost use Rattle.std.specs.VecDeque.{deque_capacity};
 ghost use Rattle.gpu_descriptor.specs.Inner.Buckets.{AreBookedIn, ledger_but};
@@ -15,8 +15,8 @@ use gpu_descriptor_types::DescriptorDevice;
 use std::collections::VecDeque;
 
 impl<P> DescriptorBucket<P> {
-    /// Destroys the pools without sets, everywhere or at the front. Their descriptors are room under
-    /// the limit again.
+    /// Destroys the pools without sets, everywhere or only at the front. The limit has room for their
+    /// descriptors again.
     pub(crate) fn destroy_empty<L, S, D: DescriptorDevice<L, P, S>>(
         &mut self,
         device: &mut D,
@@ -63,8 +63,8 @@ fn all_have_sets<P>(pools: &VecDeque<DescriptorPool<P>>) -> bool
     true
 }
 
-/// Destroys the pools without sets. Each pool is taken from the front, and those that stay go to the
-/// back in their order, where there is capacity for them.
+/// Destroys the pools without sets. Each pool is taken from the front; those that stay go to the back in
+/// their order, where there is capacity for them.
 fn destroy_without_sets<L, P, S, D: DescriptorDevice<L, P, S>>(
     pools: &mut VecDeque<DescriptorPool<P>>,
     device: &mut D,
@@ -92,7 +92,7 @@ fn destroy_without_sets<L, P, S, D: DescriptorDevice<L, P, S>>(
     }
 }
 
-/// Lists the pools with known free places anew.
+/// Lists the pools with known free places again.
 fn relist<P>(listed: &mut VecDeque<u64>, pools: &VecDeque<DescriptorPool<P>>)
     requires rising { rises (stored_numbers pools.now.items) ≡ true }
     requires numbered { number_after (stored_numbers pools.now.items) < 2 ^ 64 }

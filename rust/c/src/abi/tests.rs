@@ -24,7 +24,7 @@ fn the_version_is_the_headers() {
     assert_eq!(ABI, u64::from(number_of("GD_ABI")));
 }
 
-/// Each status of the header but those of other headers has its number here.
+/// Each status of the header, except those of other headers, has its number here.
 #[test]
 fn statuses_are_the_headers() {
     let statuses = [

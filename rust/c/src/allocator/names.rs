@@ -1,4 +1,5 @@
-//! The names of sets and layouts in C: how a handle of the set manager is in a `gd_set` and in a `gd_layout`.
+//! The names of sets and layouts in C: how a handle of the set manager is encoded in a `gd_set` and in a
+//! `gd_layout`.
 
 use crate::abi::GdSet;
 use crate::descriptor_manager::{LayoutHandle, SetHandle};
@@ -30,15 +31,15 @@ pub fn layout_of(owner: u64, name: u64) -> LayoutHandle {
     LayoutHandle { slot }
 }
 
-/// What a set's owner is beside the id of its allocator. The factors are odd, so each handle has a seal of its
-/// own under a name, and each name under a handle.
+/// What a set's owner has in addition to the id of its allocator. The factors are odd, so under one name each
+/// handle has its own seal, and under one handle each name.
 #[inline]
 fn seal(handle: u64, name: u64) -> u64 {
     handle.wrapping_mul(0x9e37_79b9_7f4a_7c15) ^ name.wrapping_mul(0xc2b2_ae3d_27d4_eb4f)
 }
 
-/// A set of which one field was changed has the handle of another set manager, and so names no set. One of which
-/// several were has that but for a chance of 2^-64.
+/// A set with one changed field has the handle of another set manager, which is invalid. One with several
+/// changed fields does too, except with a probability of 2^-64.
 impl SetName<DescriptorSet<u64>> for GdSet {
     #[inline]
     fn handle(&self) -> SetHandle {
@@ -56,7 +57,7 @@ impl SetName<DescriptorSet<u64>> for GdSet {
     }
 }
 
-/// The host's memory for a set, which the host may never have written. So it is only written here.
+/// The host's memory for a set, which the host may never have written: it is only written here.
 impl SetName<DescriptorSet<u64>> for MaybeUninit<GdSet> {
     fn handle(&self) -> SetHandle {
         unreachable!("a set is created before its memory is read")

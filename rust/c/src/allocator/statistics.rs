@@ -1,4 +1,4 @@
-//! Numbers of an allocator, as C has them.
+//! The numbers of an allocator, as C has them.
 
 use super::{Allocator, layout_of};
 use crate::abi::{GdLayout, GdLayoutStatistics, GdStatistics, GdStatus};

@@ -1,4 +1,5 @@
-//! A thread that is in a function of the host's is turned away. One that is in none waits, also if it was in one.
+//! A thread that is in a function of the host is refused. One that is in none waits, even if it was in one
+//! before.
 
 use super::{AWAITED, FREE, Held, Lock};
 use core::sync::atomic::{AtomicBool, Ordering};
@@ -6,7 +7,7 @@ use std::panic::{AssertUnwindSafe, catch_unwind};
 use std::sync::mpsc::channel;
 use std::thread;
 
-/// Whether a call of this thread gets a lock that is held. Once it waits, or is turned away, `free` is run.
+/// Whether a call of this thread gets a lock that is held. `free` runs once it waits or is refused.
 fn is_let_in(lock: &Lock, free: impl FnOnce() + Send) -> bool {
     let is_over = AtomicBool::new(false);
     let is_awaited = || lock.state.load(Ordering::Relaxed) == AWAITED;
@@ -48,7 +49,7 @@ fn waits_for_another(lock: &Lock, is_owner: bool) -> bool {
 #[test]
 fn a_call_of_the_owner_is_turned_away() {
     let (lock, other) = (Lock::new(true), Lock::new(true));
-    // Freed by `is_let_in`, so that a call that waits for its own thread has an end.
+    // Freed by `is_let_in`, so that a call that waits for its own thread ends.
     core::mem::forget(lock.hold());
     assert!(!lock.as_owner(|| is_let_in(&lock, || drop(Held(&lock)))));
     // The functions of an allocator call another one, whose functions call both.

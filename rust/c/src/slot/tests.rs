@@ -1,4 +1,4 @@
-//! A call that panics, one inside of another, and one that waits until its allocator is gone.
+//! A call that panics, one from within another, and one that waits until its allocator is gone.
 
 use super::{GdAllocator, create, destroy, enter};
 use crate::abi::{GdDevice, GdPoolInfo, GdStatus};
@@ -7,7 +7,7 @@ use crate::device::{Host, HostDevice, HostLayout};
 use core::ffi::c_void;
 use core::mem::MaybeUninit;
 
-/// Calls the allocator that `user` leads to, if it isn't null, from inside of its call.
+/// Calls the allocator that `user` points to, if it isn't null, from within its call.
 unsafe extern "C" fn create_pool(user: *mut c_void, _: *const GdPoolInfo, _: *mut u64) -> GdStatus {
     let user = user.cast::<(GdAllocator, [GdStatus; 2])>();
     // SAFETY: `create` made it.
@@ -57,8 +57,8 @@ fn created_with(waits: bool, user: *mut c_void) -> GdAllocator {
     .unwrap()
 }
 
-/// A panic is a status, and so is each later call. Another allocator is not touched. Without std a panic
-/// ends the program.
+/// A panic becomes a status, which each later call returns too. Another allocator isn't affected. Without std
+/// a panic ends the program.
 #[cfg(feature = "std")]
 #[test]
 fn a_panic_is_a_status() {
@@ -78,7 +78,7 @@ fn a_panic_is_a_status() {
     }
 }
 
-/// A call from a function of the host's is turned away, also if it would wait for another thread's.
+/// A call from a function of the host is refused, even if it would wait for another thread's.
 #[test]
 fn a_call_inside_is_busy() {
     for waits in [true, false] {
@@ -103,7 +103,7 @@ fn a_call_inside_is_busy() {
     }
 }
 
-/// A call that waits for the one that destroys the allocator has seen its id, and comes too late even so.
+/// A call that waits for the one that destroys the allocator has read its id, and still finds no allocator.
 #[cfg(feature = "std")]
 #[test]
 fn a_call_that_waits_for_the_end_comes_too_late() {

@@ -1,4 +1,4 @@
-//! Another static library of Rust's, which a program links beside ours.
+//! Another static library of Rust, which a program links next to ours.
 
 #[unsafe(no_mangle)]
 pub extern "C" fn length_of(number: u32) -> u64 {

@@ -1,4 +1,4 @@
-//! A device whose functions count pools and sets, and call the driver's, or refuse.
+//! A device whose functions count pools and sets, and call the driver's functions or refuse.
 
 use crate::gpu::Gpu;
 use crate::memory;
@@ -15,7 +15,7 @@ static SETS: AtomicI64 = AtomicI64::new(0);
 static CREATED: AtomicI64 = AtomicI64::new(0);
 static ALLOCATED: AtomicI64 = AtomicI64::new(0);
 
-/// The calls for pools and sets while calls are refused, and one in how many is.
+/// The number of calls for pools and sets while some are refused, and one in how many is.
 static CALLS: AtomicUsize = AtomicUsize::new(0);
 static REFUSED: AtomicUsize = AtomicUsize::new(0);
 static ONE_IN: AtomicUsize = AtomicUsize::new(0);
@@ -40,7 +40,7 @@ pub fn device(gpu: &Gpu) -> Device {
     unsafe { Device::new(gpu.device, functions).with_allocation_callbacks(memory::callbacks()) }
 }
 
-/// From now on one call in so many for a pool or sets is refused; none if it is 0.
+/// From now on refuses one in `calls` calls for a pool or sets; none if it is 0.
 pub fn refuse_one_in(calls: usize) {
     ONE_IN.store(calls, Ordering::Relaxed);
 }
@@ -66,7 +66,8 @@ fn driver() -> &'static Functions {
     DRIVER.get().unwrap()
 }
 
-/// Makes a call, or refuses it. The driver itself must grant it: it has memory, and a pool that is asked has room.
+/// Makes a call, or refuses it. The driver itself must not refuse: it has memory, and a pool that is asked
+/// has room.
 fn make(call: impl FnOnce() -> i32, counters: [&AtomicI64; 2], count: i64) -> i32 {
     let one_in = ONE_IN.load(Ordering::Relaxed);
     if one_in > 0 && (CALLS.fetch_add(1, Ordering::Relaxed) + 1).is_multiple_of(one_in) {

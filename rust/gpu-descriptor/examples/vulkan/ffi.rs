@@ -1,4 +1,4 @@
-//! Of Vulkan's C interface what the example needs, as the specification has it.
+//! The part of Vulkan's C interface that the example needs, as the specification has it.
 
 use gpu_descriptor::vulkan::raw::AllocationCallbacks;
 use gpu_descriptor::vulkan::{DescriptorSet, DescriptorSetLayout, DescriptorType, DeviceHandle};
@@ -30,7 +30,7 @@ pub const SHADER_STAGE_FRAGMENT: u32 = 0x10;
 pub const MESSAGE_SEVERITIES: u32 = 0x100 | 0x1000;
 pub const MESSAGE_TYPES: u32 = 0x2 | 0x4;
 
-/// Handles: of an instance and a physical device pointers, and 64 bits of the others.
+/// Handles: pointers for an instance and a physical device, 64 bits for the others.
 #[repr(transparent)]
 #[derive(Clone, Copy)]
 pub struct Instance(pub *mut c_void);
@@ -87,7 +87,7 @@ pub struct MessengerCreateInfo {
     pub user_data: *mut c_void,
 }
 
-/// A message of the layer, of which only the first fields are declared.
+/// A message of the layer. Only its first fields are declared.
 #[repr(C)]
 pub struct MessageData {
     pub s_type: i32,

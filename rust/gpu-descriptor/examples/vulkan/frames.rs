@@ -13,11 +13,11 @@ use std::ptr::null;
 const FRAMES: u32 = 40;
 const IN_FLIGHT: usize = 2;
 
-/// What the allocator of a Vulkan device is, and a set that it handed out.
+/// The allocator for a Vulkan device, and a set of it.
 pub type Allocator = DescriptorAllocator<DescriptorPool, DescriptorSet>;
 pub type Set = gpu_descriptor::DescriptorSet<DescriptorSet>;
 
-/// How many sets of each layout a frame takes. Some fit into one pool, and some don't.
+/// How many sets of each layout a frame allocates. Some fit into one pool, and some don't.
 fn sets_in(frame: u32, layout: usize) -> u32 {
     match (frame as usize + layout) % 4 {
         0 => 1,
@@ -48,7 +48,7 @@ fn create_sampler(gpu: &Gpu) -> Sampler {
     sampler
 }
 
-/// Writes to a set, so that the layer checks whether it is one of a layout with a sampler.
+/// Writes to a set, so that the layer checks that its layout has a sampler.
 fn write_sampler(gpu: &Gpu, set: DescriptorSet, sampler: Sampler) {
     let image = ImageInfo {
         sampler,
@@ -71,7 +71,7 @@ fn write_sampler(gpu: &Gpu, set: DescriptorSet, sampler: Sampler) {
     unsafe { (gpu.functions.update_sets)(gpu.device, 1, &write, 0, null()) };
 }
 
-/// Takes the sets of a frame. A request that is refused leaves no set.
+/// Allocates the sets of a frame. A request that is refused leaves no set.
 fn record(
     gpu: &Gpu,
     allocator: &mut Allocator,
@@ -108,7 +108,7 @@ pub fn run(gpu: &Gpu, device: &Device, layouts: &[Layout]) {
     let sampler = create_sampler(gpu);
     let mut frames = VecDeque::new();
     for frame in 0..FRAMES {
-        // Here a set manager waits for the fence of the oldest frame.
+        // Here a real program waits for the fence of the oldest frame.
         if frames.len() == IN_FLIGHT {
             let sets: Vec<Set> = frames.pop_front().unwrap();
             // SAFETY: the sets are this allocator's, and nothing reads them.

@@ -1,11 +1,11 @@
-//! The functions, as the loader returns them by their names.
+//! Vulkan's functions, as the loader returns them by their names.
 
 use crate::ffi::*;
 use gpu_descriptor::vulkan::DeviceHandle;
 use std::ffi::CStr;
 use std::mem::transmute;
 
-/// A table of functions, and how a loader is asked for it. `None` where it lacks one.
+/// A table of functions, and how a loader is asked for it. `None` if the loader lacks one.
 macro_rules! table {
     ($table:ident { $($field:ident: $type:ty = $name:literal,)* }) => {
         pub struct $table {
@@ -38,7 +38,7 @@ table!(InstanceFunctions {
     get_device_proc_addr: GetDeviceProcAddr = c"vkGetDeviceProcAddr",
 });
 
-// What Vulkan 1.0 has not.
+// What Vulkan 1.0 lacks.
 table!(NewerFunctions {
     get_properties_2: GetProperties2 = c"vkGetPhysicalDeviceProperties2",
     get_features_2: GetFeatures2 = c"vkGetPhysicalDeviceFeatures2",
@@ -56,13 +56,14 @@ table!(DeviceFunctions {
 impl LoaderFunctions {
     /// Opens the loader, which stays open.
     pub fn open() -> Option<Self> {
-        // SAFETY: the loader's library has no condition on who opens it.
+        // SAFETY: anyone may open the loader's library.
         let library = unsafe { dlopen(c"libvulkan.so.1".as_ptr(), NOW) };
         if library.is_null() {
             return None;
         }
         Self::load(|name| {
-            // SAFETY: the library is open; null is no function, and all else that has a name is one.
+            // SAFETY: the library is open; null is no function, and every other symbol of these names is
+            // one.
             unsafe { transmute(dlsym(library, name.as_ptr())) }
         })
     }
@@ -75,7 +76,7 @@ impl LoaderFunctions {
         })
     }
 
-    /// The functions of an instance that Vulkan 1.0 has not.
+    /// The functions of an instance that Vulkan 1.0 lacks.
     pub fn of_newer_instance(&self, instance: Instance) -> Option<NewerFunctions> {
         // SAFETY: as above.
         NewerFunctions::load(|name| unsafe {

@@ -8,7 +8,7 @@ use std::mem::zeroed;
 use std::ptr::{self, null, null_mut};
 use std::sync::atomic::{AtomicU64, Ordering};
 
-/// How many messages the layer had.
+/// How many messages the layer reported.
 static MESSAGES: AtomicU64 = AtomicU64::new(0);
 
 /// A device with its functions and its limit, and what `close` destroys with it.
@@ -166,7 +166,7 @@ fn first_device(
     }
 }
 
-/// Its name and the version that it has.
+/// The device's name and the version that it supports.
 fn name_and_version(functions: &InstanceFunctions, physical: PhysicalDevice) -> (String, u32) {
     // SAFETY: zeros are valid in all fields.
     let mut properties: Properties = unsafe { zeroed() };
@@ -215,7 +215,7 @@ impl Gpu {
         })
     }
 
-    /// Destroys all, and returns how many messages the layer had.
+    /// Destroys all, and returns how many messages the layer reported.
     pub fn close(self) -> u64 {
         // SAFETY: nobody else has the handles.
         unsafe {

@@ -1,4 +1,4 @@
-//! Layouts, with what the allocator takes of each.
+//! Layouts, with the counts and flags that the allocator needs of each.
 
 use crate::ffi::*;
 use crate::gpu::Gpu;
@@ -20,7 +20,7 @@ pub struct Layout {
 
 type Bindings<'a> = &'a [(DescriptorType, u32)];
 
-/// Bindings of usual kinds, and below of all others, of none, and of what a device may lack.
+/// Bindings of common kinds; below, bindings of all other kinds, none, and those that a device may lack.
 const PLAIN: Bindings = &[
     (DescriptorType::SAMPLER, 1),
     (DescriptorType::UNIFORM_BUFFER, 2),
@@ -78,7 +78,7 @@ fn create_one(gpu: &Gpu, flags: u32, described: Bindings) -> Layout {
     }
 }
 
-/// The layouts that the device takes. A limit of 0 takes no update-after-bind layout.
+/// The layouts that the device supports. With a limit of 0 it supports no update-after-bind layout.
 pub fn create(gpu: &Gpu) -> Vec<Layout> {
     let mut layouts: Vec<_> = [PLAIN, OTHERS, EMPTY]
         .map(|bindings| create_one(gpu, 0, bindings))

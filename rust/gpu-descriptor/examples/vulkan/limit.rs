@@ -17,7 +17,8 @@ fn pass_the_drivers_limit(gpu: &Gpu, device: &Device, layout: &Layout) {
     assert_eq!(counted::summary(), before);
 }
 
-/// Under a limit for a hundred sets all of them are granted, not one more, and others after a release.
+/// Under a limit for a hundred sets all of them are granted, but not one more; after some are freed, others
+/// are.
 fn reach_a_small_limit(device: &Device, layout: &Layout) {
     let mut allocator = Allocator::new(100 * layout.counts.total());
     let mut sets = allocate(&mut allocator, device, layout, 60).unwrap();

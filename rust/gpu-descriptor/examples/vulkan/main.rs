@@ -1,9 +1,9 @@
 //! Descriptor sets on the first Vulkan device, under the Khronos validation layer.
 //!
-//! A frame loop takes sets of several layouts and gives them back two frames later, once on the driver
-//! as it is, and once with calls that are refused in turn. Then the limit on update-after-bind
+//! A frame loop allocates sets of several layouts and frees them two frames later, once on the driver
+//! as it is, and once with some calls refused. Then the limit on update-after-bind
 //! descriptors is reached. On Vulkan 1.3 there are update-after-bind layouts and inline uniform blocks.
-//! On 1.0 there are none, and there the layer reports a pool that is asked for more than it has left.
+//! On 1.0 there are none, and the layer reports a pool that is asked for more than it has left.
 //!
 //! It ends with 1 if the layer reports anything or anything is left, with 2 at a wrong argument, and with
 //! 3 where there is no driver or no layer.

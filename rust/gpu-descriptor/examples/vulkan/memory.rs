@@ -63,7 +63,7 @@ pub fn left() -> i64 {
     BLOCKS.load(Ordering::Relaxed)
 }
 
-/// How many it ever took.
+/// How many blocks the driver ever allocated.
 pub fn allocated() -> i64 {
     ALLOCATED.load(Ordering::Relaxed)
 }

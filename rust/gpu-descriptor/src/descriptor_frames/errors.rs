@@ -9,7 +9,7 @@ use crate::kit::fmt::Debug;
 /// Why a set was not retired, with the set.
 #[derive(Debug)]
 pub enum RetireError<S> {
-    /// The frame lies before the greatest at which a set was retired.
+    /// The frame is below the greatest at which a set was retired.
     FrameBack(DescriptorSet<S>),
 
     /// An allocation failed, for the list of retired sets.
@@ -17,7 +17,7 @@ pub enum RetireError<S> {
 }
 
 impl<S> RetireError<S> {
-    /// The set that was handed in.
+    /// The set that was not retired.
     pub fn into_inner(self) -> DescriptorSet<S>
     {
         match self {

@@ -6,8 +6,8 @@ use crate::gpu_descriptor::{DescriptorDevice, SetLayout};
 use crate::kit::alloc::{AllocError, AllocFailed, Global};
 use crate::kit::marker::PhantomData;
 
-/// The handle of a layout. Only the set manager that gave it has the layout. Once the layout is removed, it
-/// names none, and none later.
+/// The handle of a layout. It is valid only for the set manager that gave it, and only until the layout
+/// is removed. It never becomes the handle of another layout.
 #[must_use = "sets of the layout are asked for by its handle"]
 #[derive(Clone, Copy, Debug, PartialEq, Eq, Hash)]
 pub struct LayoutHandle {
@@ -15,7 +15,7 @@ pub struct LayoutHandle {
 }
 
 impl LayoutHandle {
-    /// The number by which its sets are kept.
+    /// The number under which its sets are kept.
     #[inline]
     pub(crate) fn place(self) -> u32
     {
@@ -23,19 +23,19 @@ impl LayoutHandle {
     }
 }
 
-/// The layouts of a device, each under a handle. They are in a table as sets are, each held from the
-/// call that adds it to the one that removes it. There are at most `u32::MAX` at once.
+/// The layouts of a device, each under a handle. They are in a table of the kind that sets are in, where
+/// each is held until it is removed. There are at most `u32::MAX` at once.
 ///
-/// A handle of another registry is refused by the number that the registry was made with: give
-/// each registry of a program a number of its own. Under equal numbers a handle of one registry
-/// may name a layout of the other.
+/// A registry refuses another registry's handles by its number: give each registry of a program its own.
+/// With equal numbers a handle of one registry may be valid for a layout of the other.
 pub struct LayoutRegistry<L, P, S, D: DescriptorDevice<L, P, S>> {
     table: SetTable<SetLayout<L>>,
     device: PhantomData<(P, S, D)>,
 }
 
 impl<L, P, S, D: DescriptorDevice<L, P, S>> LayoutRegistry<L, P, S, D> {
-    /// A registry without layouts, with the number that tells it from others. It allocates nothing.
+    /// A registry without layouts. `registry` is the number that marks its handles. It allocates no
+    /// memory.
     pub fn new(alloc: Global, registry: u64) -> Self
     {
         LayoutRegistry {
@@ -44,8 +44,8 @@ impl<L, P, S, D: DescriptorDevice<L, P, S>> LayoutRegistry<L, P, S, D> {
         }
     }
 
-    /// How many slots there are: as many as there were layouts at once, and those slots that gave their
-    /// last handle.
+    /// How many slots there are: the peak of the number of layouts, and the slots that gave their last
+    /// handle.
     pub fn places(&self) -> usize
     {
         self.table.places()
@@ -62,15 +62,15 @@ impl<L, P, S, D: DescriptorDevice<L, P, S>> LayoutRegistry<L, P, S, D> {
         Ok(())
     }
 
-    /// Reserves memory for one layout more.
+    /// Reserves memory for one more layout.
     fn reserve(&mut self) -> Result<(), AllocError>
     {
         self.reserve_list()?;
         self.table.reserve(1)
     }
 
-    /// Adds a layout, in the slot that was vacated last, or else in a new one, and returns its handle. If
-    /// an allocation fails the layout is returned, and nothing changed.
+    /// Adds a layout and returns its handle. It takes the slot that was vacated last, or else a new one.
+    /// If memory runs out it returns the layout in the error, and nothing changes.
     pub fn add(&mut self, layout: SetLayout<L>) -> Result<LayoutHandle, AllocFailed<SetLayout<L>>>
     {
         if self.reserve().is_err() {
@@ -83,14 +83,14 @@ impl<L, P, S, D: DescriptorDevice<L, P, S>> LayoutRegistry<L, P, S, D> {
         })
     }
 
-    /// Removes a layout, and returns it. None if the handle names none, and then nothing changed. It
-    /// allocates nothing.
+    /// Removes a layout and returns it; `None` if the handle is invalid, and then nothing changes. It
+    /// allocates no memory.
     pub fn remove(&mut self, handle: LayoutHandle) -> Option<SetLayout<L>>
     {
         self.table.remove(handle.slot)
     }
 
-    /// The layout of a handle. None if another registry gave the handle, or the layout was removed.
+    /// The layout of a handle. `None` if the layout was removed, or if the handle is another registry's.
     #[inline]
     pub fn get(&self, handle: LayoutHandle) -> Option<&SetLayout<L>>
     {

@@ -8,18 +8,18 @@ use crate::kit::fmt;
 /// Why sets were not allocated.
 #[derive(Clone, Copy, Debug, PartialEq, Eq)]
 pub enum AllocationError {
-    /// The device has no memory of its own left. A later request may succeed once something else on
-    /// the device is given up.
+    /// The device has run out of its own memory. A later request may succeed once memory on the device
+    /// is freed.
     OutOfDeviceMemory,
 
-    /// The host has no memory left: the device returned it, or an allocation failed. A later request
-    /// may succeed once some of it is given up. Or no id is left for a new key: then no request for a
-    /// new key succeeds later.
+    /// The host has run out of memory: the device returned this, or an allocation failed. A later
+    /// request may succeed once memory is freed. Or no id is left for a new key: then every later
+    /// request for a new key fails.
     OutOfHostMemory,
 
-    /// The sets, or a new pool for them, would pass the limit on update-after-bind descriptors, or
-    /// a number would pass 64 bits; or the device's memory is too fragmented for a new pool, or a
-    /// new pool refused as fragmented or full.
+    /// The sets, or a new pool for them, would exceed the limit on update-after-bind descriptors, or a
+    /// number would exceed 64 bits; or the device's memory is too fragmented for a new pool, or a new
+    /// pool refused as fragmented or full.
     Fragmentation,
 }
 

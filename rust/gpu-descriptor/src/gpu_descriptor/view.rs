@@ -4,8 +4,8 @@
 /// The books of a pool.
 #[derive(Clone, Copy, Debug, PartialEq, Eq)]
 pub struct PoolView {
-    /// The pool's number within its key: greater than that of each older pool. Numbers count from 0 up, and
-    /// only a `trim` leaves gaps.
+    /// The pool's number within its key, greater than that of each older pool. Numbers count up from 0,
+    /// and only a `trim` leaves gaps.
     pub number: u64,
 
     /// How many of its sets are allocated.

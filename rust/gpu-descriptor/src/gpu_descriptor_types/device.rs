@@ -9,9 +9,9 @@ use crate::gpu_descriptor_types::sink::SetSink;
 
 /// A device with layouts `L`, raw pools `P` and raw sets `S`.
 ///
-/// Each call that returns a `Result` may refuse whenever it likes.
+/// Each call that returns a `Result` may refuse at any time.
 pub trait DescriptorDevice<L, P, S> {
-    /// Creates a pool of at most `max_sets` sets, which together have at most these counts.
+    /// Creates a pool for at most `max_sets` sets, which together have at most these counts.
     fn create_descriptor_pool(
         &mut self,
         counts: &DescriptorTotalCount,
@@ -19,10 +19,10 @@ pub trait DescriptorDevice<L, P, S> {
         flags: DescriptorPoolCreateFlags,
     ) -> Result<P, CreatePoolError>;
 
-    /// Destroys a pool without live sets. It can't be refused.
+    /// Destroys a pool without live sets. It can't fail.
     fn destroy_descriptor_pool(&mut self, pool: P);
 
-    /// Allocates a set for each layout and puts them into `sets`, all of them or none.
+    /// Allocates a set for each layout and puts them into `sets`, all or none.
     fn alloc_descriptor_sets<K: SetSink<S>>(
         &mut self,
         pool: &mut P,
@@ -30,6 +30,6 @@ pub trait DescriptorDevice<L, P, S> {
         sets: &mut K,
     ) -> Result<(), DeviceAllocationError>;
 
-    /// Releases the sets that the iterator gives, up to its end. It can't be refused.
+    /// Frees the sets that the iterator yields, up to its end. It can't fail.
     fn dealloc_descriptor_sets<I: Iterator<Item = S>>(&mut self, pool: &mut P, sets: &mut I);
 }

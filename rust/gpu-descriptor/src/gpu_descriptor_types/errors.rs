@@ -7,10 +7,10 @@ use crate::kit::fmt;
 /// Why a pool was not created.
 #[derive(Clone, Copy, Debug, PartialEq, Eq)]
 pub enum CreatePoolError {
-    /// The device has no memory of its own left.
+    /// The device has run out of its own memory.
     OutOfDeviceMemory,
 
-    /// The host has no memory left.
+    /// The host has run out of memory.
     OutOfHostMemory,
 
     /// The device's memory is too fragmented.
@@ -32,16 +32,16 @@ impl Error for CreatePoolError {}
 /// Why sets were not allocated from a pool.
 #[derive(Clone, Copy, Debug, PartialEq, Eq)]
 pub enum DeviceAllocationError {
-    /// The device has no memory of its own left.
+    /// The device has run out of its own memory.
     OutOfDeviceMemory,
 
-    /// The host has no memory left.
+    /// The host has run out of memory.
     OutOfHostMemory,
 
-    /// The pool is too fragmented for so many sets.
+    /// The pool is too fragmented for these sets.
     FragmentedPool,
 
-    /// The pool can't give so many sets.
+    /// The pool doesn't have these sets.
     OutOfPoolMemory,
 }
 

@@ -3,7 +3,7 @@
 
 use crate::kit::bitflags::bitflag_items;
 
-/// Flags of a new pool, joined by `|`.
+/// Flags of a new pool, combined by `|`.
 ///
 /// The bits are this crate's own.
 #[derive(Clone, Copy, Debug, PartialEq, Eq, Hash)]
@@ -11,7 +11,7 @@ pub struct DescriptorPoolCreateFlags(u32);
 
 bitflag_items! {
     impl DescriptorPoolCreateFlags: u32 {
-        /// Sets may be released one at a time.
+        /// Sets may be freed one at a time.
         const FREE_DESCRIPTOR_SET = 0x1;
         /// Sets of layouts that are marked as update-after-bind may be allocated.
         const UPDATE_AFTER_BIND = 0x2;

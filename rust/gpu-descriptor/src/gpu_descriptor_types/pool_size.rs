@@ -3,18 +3,18 @@
 
 use crate::gpu_descriptor_types::counts::DescriptorTotalCount;
 
-/// How many sets a pool is for at least, before its size is cut.
+/// The least number of sets that a pool is created for, before its size is cut.
 const MIN_SETS: u32 = 64;
 
-/// How many of a key's outstanding sets count at most towards the size of its next pool.
+/// The max of a key's live sets that count towards the size of its next pool.
 const MAX_SETS: u32 = 512;
 
 /// How many sets a new pool for sets of these counts holds.
 ///
-/// `total` is how many sets of this key are outstanding, `wanted` how many are wanting. The pool
-/// holds as many sets as the least power of two that is not below 64, `wanted` and the smaller of
-/// 512 and `total`, or 2147483647 where that power passes 32 bits; and no more than keep each of
-/// its counts within 32 bits. So it may hold fewer than `wanted`, but at least one.
+/// `total` is the number of the key's live sets, and `wanted` that of the sets still needed. The pool
+/// holds the largest of 64, `wanted`, and the smaller of `total` and 512, rounded up to a power of two,
+/// or to 2147483647 if that power exceeds 32 bits; but no more sets than keep each of its counts within
+/// 32 bits. So it may hold fewer than `wanted`, but at least one.
 ///
 /// In the original this is a private call of the bucket, over a total of 32 bits.
 #[inline]
@@ -24,8 +24,8 @@ pub fn new_pool_sets(counts: &DescriptorTotalCount, total: u64, wanted: u32) -> 
     cut_to(rounded_up(start_size(total, wanted)), greatest_of(&kinds))
 }
 
-/// How many of so many sets a pool may hold that has at most `room` descriptors; `None` where not even
-/// one set fits.
+/// How many of `sets` sets a pool with at most `room` descriptors may hold; `None` if not even one set
+/// fits.
 ///
 /// A pool for sets without descriptors has one, whatever it holds.
 #[inline]
@@ -38,9 +38,9 @@ pub fn cut_pool_sets(counts: &DescriptorTotalCount, sets: u32, room: u32) -> Opt
     Some(cut)
 }
 
-/// So many sets, cut so that they have at most `most` descriptors together, unless the `wanted` sets
-/// have more; as many as they are with `None`. A set without descriptors counts as one. If none are
-/// wanted, and `most` leaves none, it is 0.
+/// Cuts `sets` so that they have at most `most` descriptors together, unless the `wanted` sets have
+/// more. `None` cuts nothing. A set without descriptors counts as one. The result is 0 if `wanted` is 0
+/// and `most` has no room for a set.
 #[inline]
 pub fn bounded_pool_sets(
     counts: &DescriptorTotalCount,
@@ -56,7 +56,7 @@ pub fn bounded_pool_sets(
     u64::from(sets).min(fit.max(u64::from(wanted))) as u32
 }
 
-/// How many of so many sets fit into room for descriptors, where each set has `each`.
+/// How many of `sets` sets fit into the room for descriptors, if each set has `each`.
 fn sets_in_room(room: u32, each: u64, sets: u32) -> u32
 {
     if each > 0 {
@@ -68,7 +68,7 @@ fn sets_in_room(room: u32, each: u64, sets: u32) -> u32
     }
 }
 
-/// How many sets a pool is for, before this is rounded up and cut.
+/// How many sets a pool is created for, before this is rounded up and cut.
 #[inline]
 fn start_size(total: u64, wanted: u32) -> u32
 {
@@ -76,7 +76,7 @@ fn start_size(total: u64, wanted: u32) -> u32
     MIN_SETS.max(wanted).max(outstanding)
 }
 
-/// The least power of two that is not below `start`, or 2147483647 where it passes 32 bits.
+/// The least power of two that is not below `start`, or 2147483647 if it exceeds 32 bits.
 fn rounded_up(start: u32) -> u32
 {
     start
@@ -95,7 +95,7 @@ fn greatest_of(kinds: &[u32; 14]) -> u32
     most
 }
 
-/// The smaller of `sets` and what a kind allows. It divides only where so many would pass 32 bits.
+/// The smaller of `sets` and what a kind allows. It divides only if the product would exceed 32 bits.
 #[inline]
 fn cut_to(sets: u32, kind: u32) -> u32
 {
@@ -106,7 +106,7 @@ fn cut_to(sets: u32, kind: u32) -> u32
     }
 }
 
-/// The counts of a pool of so many sets. If these have no descriptors it has one sampler.
+/// The counts of a pool for `sets` sets. If these have no descriptors it has one sampler.
 #[inline]
 pub fn counts_of_sets(counts: &DescriptorTotalCount, sets: u32) -> DescriptorTotalCount
 {

@@ -6,8 +6,8 @@ use core::ops::{Index, IndexMut};
 
 /// A queue that grows only by calls that return a `Result`.
 ///
-/// The allocator's books rest on this besides: no call makes the capacity less. Of its `VecDeque` Rust
-/// only does so; if it did otherwise, `push_back_reserved` would panic.
+/// The allocator's books also rely on this: no call lowers the capacity. Rust's `VecDeque` doesn't promise
+/// it, but does so; otherwise `push_back_reserved` would panic.
 #[derive(Debug)]
 pub struct VecDeque<T>(std_alloc::collections::VecDeque<T>);
 
@@ -64,8 +64,8 @@ impl<T> VecDeque<T> {
         self.0.pop_back()
     }
 
-    /// `items`, `len`: nothing changes. `ok`: there is capacity for so many more. `capacity`: it doesn't
-    /// get less. `full`: it fails only if capacity was wanting.
+    /// `items`, `len`: nothing changes. `ok`: there is capacity for `additional` more. `capacity`: it doesn't
+    /// fall. `full`: it fails only if capacity was missing.
     #[inline]
     pub fn reserve(&mut self, additional: usize) -> Result<(), AllocError> {
         if additional <= self.0.capacity() - self.0.len() {
@@ -106,7 +106,7 @@ impl<T> VecDeque<T> {
     }
 
     /// `items`, `len`: the value is at its place; or `value_returned`, `unchanged`. `full`: it fails only
-    /// if capacity was wanting.
+    /// if capacity was missing.
     pub fn insert(&mut self, index: usize, value: T) -> Result<(), AllocFailed<T>> {
         match self.0.try_reserve(1) {
             Ok(()) => {

@@ -6,7 +6,7 @@ use core::hash::{Hash, Hasher};
 use core::ops::{Index, IndexMut};
 use std_alloc::vec::Vec;
 
-/// Pairs in the order in which their keys came, each key once.
+/// Pairs in the order in which their keys were added, each key once.
 ///
 /// `slots` has each place of `entries` once, with the hash of its key: in the slot that the hash names, or
 /// if that is taken in the first vacant one after it. There is a power of two of them, or none. At least
@@ -21,7 +21,8 @@ type Slot = (u64, usize);
 
 const VACANT: Slot = (0, usize::MAX);
 
-/// The first of so many slots to look at for a hash. Its upper bits depend on all bits of the key.
+/// The slot to look at first for a hash, if `last` is the last one. The upper bits of a hash depend on all
+/// bits of the key.
 #[inline]
 fn first_slot(hash: u64, last: usize) -> usize {
     (hash >> 32) as usize & last
@@ -124,8 +125,8 @@ impl<K, V> IndexMap<K, V> {
             .partition_point(|(key, value)| pred(key, value))
     }
 
-    /// `entries`: nothing changes. `ok`: so many inserts need no allocation. `succeeds`: if they needed
-    /// none before, it allocates nothing.
+    /// `entries`: nothing changes. `ok`: `additional` inserts need no allocation. `succeeds`: if they needed
+    /// none before, it allocates no memory.
     pub fn reserve(&mut self, additional: usize) -> Result<(), AllocError> {
         self.entries
             .try_reserve(additional)

@@ -20,7 +20,7 @@ impl<T> Vec<T> {
         self.0.capacity()
     }
 
-    /// `items`, `len`: nothing moves out. `ok`: on `Ok` there is capacity for so many more. `succeeds`:
+    /// `items`, `len`: nothing moves out. `ok`: on `Ok` there is capacity for `additional` more. `succeeds`:
     /// if there was before, it is `Ok`, and nothing is allocated.
     #[inline]
     pub fn reserve(&mut self, additional: usize) -> Result<(), AllocError> {

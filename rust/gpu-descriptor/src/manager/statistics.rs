@@ -20,8 +20,9 @@ impl<L, P, S, D: DescriptorDevice<L, P, S>> SetManager<L, P, S, D> {
         handles.filter(|handle| self.layout(*handle).is_some())
     }
 
-    /// The numbers of sets, layouts and pools, now and at most. The time is linear in the number of frames
-    /// for which sets wait, and of the most layouts that there were at once. It allocates nothing.
+    /// The numbers of sets, layouts and pools, and the peaks of those of pools. The time is linear in the
+    /// number of frames that sets wait for, and in the peak of the number of layouts. It allocates no
+    /// memory.
     #[must_use]
     pub fn statistics(&self) -> Statistics {
         let inner = self.inner.get();
@@ -29,8 +30,8 @@ impl<L, P, S, D: DescriptorDevice<L, P, S>> SetManager<L, P, S, D> {
         statistics::of_set_manager(inner, &inner.device().pools.0, layouts)
     }
 
-    /// The numbers of a layout. `None` if it was removed, and under a handle of another set manager. The time is
-    /// linear in the number of its pools. It allocates nothing.
+    /// The numbers of a layout. `None` if it was removed, or if the handle is another set manager's. The
+    /// time is linear in the number of its pools. It allocates no memory.
     #[must_use]
     pub fn layout_statistics(&self, layout: LayoutHandle) -> Option<LayoutStatistics> {
         let inner = self.inner.get();
@@ -38,13 +39,13 @@ impl<L, P, S, D: DescriptorDevice<L, P, S>> SetManager<L, P, S, D> {
         known.map(|_| statistics::of_layout(inner, layout))
     }
 
-    /// Writes the numbers as JSON, also by layout. `handle` returns the driver's handle of a layout. It
-    /// allocates nothing but what `text` does.
+    /// Writes the numbers of the set manager and of each layout as JSON. `handle` returns the driver's handle
+    /// of a layout. Only `text` may allocate memory.
     ///
-    /// An object has `"version"`, that of this crate, and the fields of [`Statistics`] by their names; but
+    /// The object has `"version"`, that of this crate, and the fields of [`Statistics`] by their names; but
     /// `"max_pool_descriptors"` is null without a bound, and `"layouts"` is a list, in no order. Each layout
-    /// there has the fields of [`LayoutStatistics`], its `"handle"` as a text in hexadecimal,
-    /// `"update_after_bind"` as a truth value, and `"descriptors"` with the kinds that a set has.
+    /// there has the fields of [`LayoutStatistics`], its `"handle"` as a hexadecimal text,
+    /// `"update_after_bind"` as a Boolean, and `"descriptors"` with the kinds that a set has.
     ///
     /// ```
     /// # use gpu_descriptor::{DescriptorDevice, manager::SetManager};

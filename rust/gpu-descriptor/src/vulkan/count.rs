@@ -1,4 +1,4 @@
-//! What a layout was created from, as the allocator takes it.
+//! What a layout was created from, in the form that the allocator takes.
 
 use super::handles::DescriptorType;
 use super::raw::DescriptorPoolSize;
@@ -46,9 +46,9 @@ fn count_of(counts: &mut DescriptorTotalCount, of: DescriptorType) -> Option<&mu
 /// Bytes that a pool gets for each inline uniform block, in addition to the block's own.
 const BLOCK_PADDING: u32 = 12;
 
-/// The bytes of inline uniform blocks that a driver is asked for. Those of a block are a multiple of 4, and a
-/// driver may round those of a block, or of a set, up to a multiple of 16 without having allowed for it:
-/// SwiftShader's pool then holds fewer sets than it was made for.
+/// The bytes of inline uniform blocks that a driver is asked for. A block's bytes are a multiple of 4, but
+/// a driver may round those of a block, or of a set, up to a multiple of 16 without having allowed for it:
+/// SwiftShader's pool then has fewer sets than it was created for.
 fn padded_bytes(counts: &DescriptorTotalCount) -> u32 {
     let padding = counts
         .inline_uniform_block_bindings
@@ -76,11 +76,11 @@ pub(super) fn pool_sizes(
 /// Counts the descriptors of one set of a layout, from the type and the descriptor count of each of its
 /// bindings, as its `VkDescriptorSetLayoutBinding`s have them.
 ///
-/// * The descriptor count of an inline uniform block is its size in bytes. Each such binding counts as
-///   one block besides.
+/// * The descriptor count of an inline uniform block is its size in bytes. Each such binding also counts
+///   as one block.
 /// * Immutable samplers count as other samplers do. A combined image sampler with a YCbCr conversion may
 ///   need several descriptors: then pass its count times `combinedImageSamplerDescriptorCount`.
-/// * Dynamic buffers are types of their own. An update-after-bind layout has none.
+/// * Dynamic buffers have types of their own. An update-after-bind layout has none.
 /// * A binding without descriptors is reserved, and counts nothing, whatever its type is.
 /// * A binding of a variable count has that of a [`VariableLayout`](super::VariableLayout), for a
 ///   [`VariableDevice`](super::VariableDevice): a [`Device`](super::Device) allocates no such sets.
@@ -101,7 +101,7 @@ pub(super) fn pool_sizes(
 ///
 /// # Errors
 ///
-/// A binding has a type that isn't counted, or a count passes 32 bits.
+/// A binding has a type that isn't counted, or a count exceeds 32 bits.
 pub fn count_bindings(
     bindings: impl IntoIterator<Item = (DescriptorType, u32)>,
 ) -> Result<DescriptorTotalCount, CountError> {
@@ -137,13 +137,14 @@ fn add_binding(
 #[derive(Clone, Copy, Debug, PartialEq, Eq)]
 #[non_exhaustive]
 pub enum CountError {
-    /// A binding has a mutable type, which [no pool of this crate](super#variable-counts-and-mutable-types) has.
+    /// A binding has a mutable type, which [no pool of this crate](super#variable-counts-and-mutable-types)
+    /// has.
     MutableType,
 
-    /// A binding has a type that has no count, such as those of vendors' extensions.
+    /// A binding has a type that isn't counted, such as those of vendors' extensions.
     UnknownType(DescriptorType),
 
-    /// The descriptors of this type pass 32 bits.
+    /// The descriptors of this type exceed 32 bits.
     Overflow(DescriptorType),
 }
 
@@ -163,12 +164,12 @@ impl fmt::Display for CountError {
 
 impl Error for CountError {}
 
-/// The flags for the allocator of a layout that was created with these `VkDescriptorSetLayoutCreateFlags`.
+/// The allocator's flags for a layout that was created with these `VkDescriptorSetLayoutCreateFlags`.
 ///
 /// # Errors
 ///
-/// There is a flag beside `VK_DESCRIPTOR_SET_LAYOUT_CREATE_UPDATE_AFTER_BIND_POOL_BIT`. Layouts for push
-/// descriptors, for descriptor buffers or for the host alone have no sets in a pool of this crate.
+/// There is a flag other than `VK_DESCRIPTOR_SET_LAYOUT_CREATE_UPDATE_AFTER_BIND_POOL_BIT`. Layouts for
+/// push descriptors, for descriptor buffers or for the host alone have no sets in a pool of this crate.
 pub fn layout_flags(flags: u32) -> Result<DescriptorSetLayoutCreateFlags, LayoutFlagsError> {
     const UPDATE_AFTER_BIND_POOL: u32 = 0x2;
     match flags {

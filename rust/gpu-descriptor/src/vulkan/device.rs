@@ -14,21 +14,21 @@ use crate::{
 use core::ptr::{self, NonNull};
 use core::sync::atomic::{AtomicBool, Ordering};
 
-/// One call releases at most so many sets, whose handles lie on the stack.
+/// The max of the sets that one call frees. Their handles are on the stack.
 const RELEASED_AT_ONCE: usize = 128;
 
 /// A `VkDevice` with the functions that are called on it, as a [`DescriptorDevice`].
 ///
-/// Requests of more than 32 sets allocate memory for their handles, and return `OutOfHostMemory` if that
-/// fails. Releases allocate nothing: one call of `vkFreeDescriptorSets` frees at most 128 sets.
+/// A request for more than 32 sets allocates memory for their handles, and returns `OutOfHostMemory` if that
+/// fails. Freeing allocates no memory: one call of `vkFreeDescriptorSets` frees at most 128 sets.
 ///
 /// Inline uniform blocks need Vulkan 1.3 or `VK_EXT_inline_uniform_block`, and update-after-bind layouts
-/// need Vulkan 1.2 or `VK_EXT_descriptor_indexing`. A pool is created with 12 bytes more for each block, since
+/// need Vulkan 1.2 or `VK_EXT_descriptor_indexing`. A pool is created with 12 more bytes for each block, since
 /// some drivers round the bytes of a set up; these don't count against the limit of the allocator.
 ///
-/// It is `Send` and `Sync`. Vulkan asks for synchronization of a pool alone, and only the allocator that
-/// created a pool has it. Allocators of one `VkDevice` share a `Device` by reference: it is no `Copy`, since
-/// it remembers whether the device is [lost](Self::is_lost).
+/// It is `Send` and `Sync`: Vulkan requires synchronization only of a pool, and only the allocator that
+/// created a pool uses it. Allocators of one `VkDevice` share a `Device` by reference; it isn't `Copy`, since
+/// it stores whether the device is [lost](Self::is_lost).
 ///
 /// ```
 /// use gpu_descriptor::{DescriptorAllocator, DescriptorSetLayoutCreateFlags, vulkan};
@@ -79,8 +79,8 @@ pub struct Device {
 // that they may be called from each thread that uses the device.
 unsafe impl Send for Device {}
 
-// SAFETY: as above. The four functions need no synchronization of the `VkDevice`, only of the pool, and
-// the caller has that by `&mut` or by value.
+// SAFETY: as above. The four functions need no synchronization of the `VkDevice`, only of the pool, and the
+// caller has that by `&mut` or by value.
 unsafe impl Sync for Device {}
 
 impl Device {
@@ -102,9 +102,9 @@ impl Device {
         }
     }
 
-    /// The same device, whose pools are created and destroyed with these `VkAllocationCallbacks`.
+    /// Same as `new`, with `VkAllocationCallbacks` for creating and destroying pools.
     ///
-    /// The allocator's own memory doesn't come from them. A pointer of another binding is passed by
+    /// They aren't used for the allocator's own memory. Pass a pointer of another binding by
     /// `NonNull::from(&callbacks).cast()`.
     ///
     /// # Safety
@@ -112,10 +112,10 @@ impl Device {
     /// As long as the returned value is used,
     ///
     /// * `callbacks` points to valid `VkAllocationCallbacks`;
-    /// * they may be called from each thread that uses the value, also at the same time.
+    /// * they may be called from each thread that uses the value, even at the same time.
     ///
-    /// A pool must not be destroyed with other callbacks than it was created with, so an allocator is
-    /// given the same `Device` in all calls.
+    /// A pool must not be destroyed with other callbacks than it was created with, so an allocator is given
+    /// the same `Device` in all calls.
     #[must_use]
     pub const unsafe fn with_allocation_callbacks(
         self,
@@ -133,15 +133,15 @@ impl Device {
         self.handle
     }
 
-    /// Whether a call of an allocator was refused with `VK_ERROR_DEVICE_LOST`, which the allocator returns
-    /// as `OutOfHostMemory`. A lost device stays lost: requests may be refused, and all other calls work as
-    /// before. So free all sets, call `cleanup`, and destroy the device.
+    /// Whether a call failed with `VK_ERROR_DEVICE_LOST`, which the allocator returns as `OutOfHostMemory`.
+    /// A lost device stays lost: requests may fail, and all other calls work as before. So free all sets,
+    /// call `cleanup`, and destroy the device.
     #[must_use]
     pub fn is_lost(&self) -> bool {
         self.is_lost.load(Ordering::Relaxed)
     }
 
-    /// The same result, of which the device remembers that it is lost.
+    /// The same result, after the device noted whether it is lost.
     fn noted(&self, result: i32) -> i32 {
         if results::is_lost(result) {
             self.is_lost.store(true, Ordering::Relaxed);
@@ -157,8 +157,8 @@ impl Device {
     ///
     /// # Safety
     ///
-    /// `pool` is one of this device. It has places and descriptors for these layouts, which are of this
-    /// device too. `sets` is as long as `layouts`, and so is `variable` unless it is empty.
+    /// `pool` is of this device, and has places and descriptors for these layouts, which are of this device
+    /// too. `sets` is as long as `layouts`, and so is `variable` unless it is empty.
     pub(super) unsafe fn allocate(
         &self,
         pool: DescriptorPool,
@@ -243,7 +243,7 @@ impl DescriptorDevice<DescriptorSetLayout, DescriptorPool, DescriptorSet> for De
 
     unsafe fn destroy_descriptor_pool(&self, pool: DescriptorPool) {
         let destroy = self.functions.destroy_descriptor_pool;
-        // SAFETY: `new` says so, and the caller that the pool is one of this device without sets.
+        // SAFETY: `new` says so, and the caller that the pool is of this device and has no sets.
         unsafe { destroy(self.handle, pool, self.callbacks()) };
     }
 

@@ -9,11 +9,10 @@ use core::ffi::CStr;
 use core::fmt;
 use core::mem::transmute;
 
-/// The four functions of Vulkan that a [`Device`](super::Device) calls.
+/// The four functions of Vulkan that a [`Device`](super::Device) calls. Get them by [`Functions::load`].
 ///
-/// A program that has the functions with types of another binding may transmute them: the arguments of
-/// Vulkan's functions have the same representation in each binding. [`Functions::load`] needs no
-/// `transmute`.
+/// A program that has the functions with another binding's types may transmute them instead: the arguments
+/// of Vulkan's functions have the same representation in each binding.
 #[derive(Clone, Copy, Debug)]
 pub struct Functions {
     /// `vkCreateDescriptorPool`.
@@ -37,12 +36,12 @@ macro_rules! function {
 }
 
 impl Functions {
-    /// Asks a loader for the functions by their names, as `vkGetDeviceProcAddr` or
-    /// `vkGetInstanceProcAddr` returns them: `|name| unsafe { get_device_proc_addr(device, name.as_ptr()) }`.
+    /// Asks a loader for the functions by their names. It returns them as `vkGetDeviceProcAddr` or
+    /// `vkGetInstanceProcAddr` does: `|name| unsafe { get_device_proc_addr(device, name.as_ptr()) }`.
     ///
     /// # Errors
     ///
-    /// The loader has no function of one of the names.
+    /// The loader lacks one of the functions.
     pub fn load(mut get: impl FnMut(&CStr) -> VoidFunction) -> Result<Self, MissingFunction> {
         Ok(Functions {
             create_descriptor_pool: function!(get, c"vkCreateDescriptorPool" => CreateDescriptorPool),
@@ -53,7 +52,7 @@ impl Functions {
     }
 }
 
-/// A loader has no function of this name.
+/// A loader lacks the function of this name.
 #[derive(Clone, Copy, Debug, PartialEq, Eq)]
 pub struct MissingFunction {
     /// The name of the function.

@@ -24,14 +24,14 @@ pub struct DescriptorSet(pub u64);
 pub struct DeviceHandle(pub *mut c_void);
 
 impl DeviceHandle {
-    /// A handle that a binding has as a number, as `ash::vk::Handle::as_raw` returns it.
+    /// Converts the number by which a binding stores the handle, as `ash::vk::Handle::as_raw` returns it.
     #[must_use]
     pub fn from_raw(raw: u64) -> Self {
         DeviceHandle(ptr::with_exposed_provenance_mut(raw as usize))
     }
 }
 
-// SAFETY: a handle only names a device. This crate never reads through the pointer, and Vulkan may be
+// SAFETY: a handle only identifies a device. This crate never reads through the pointer, and Vulkan may be
 // called with it from any thread.
 unsafe impl Send for DeviceHandle {}
 
@@ -70,6 +70,6 @@ impl DescriptorType {
     pub const INLINE_UNIFORM_BLOCK: Self = Self(1_000_138_000);
     /// `VK_DESCRIPTOR_TYPE_ACCELERATION_STRUCTURE_KHR`.
     pub const ACCELERATION_STRUCTURE: Self = Self(1_000_150_000);
-    /// `VK_DESCRIPTOR_TYPE_MUTABLE_EXT`, which no pool of this crate serves.
+    /// `VK_DESCRIPTOR_TYPE_MUTABLE_EXT`, which no pool of this crate has.
     pub const MUTABLE: Self = Self(1_000_351_000);
 }

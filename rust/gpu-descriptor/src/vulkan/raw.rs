@@ -1,5 +1,4 @@
-//! The structures and the function types of Vulkan's C interface that [`Functions`](super::Functions)
-//! are called with.
+//! The structures and function types of Vulkan's C interface that [`Functions`](super::Functions) use.
 
 use super::handles::{
     DescriptorPool, DescriptorSet, DescriptorSetLayout, DescriptorType, DeviceHandle,

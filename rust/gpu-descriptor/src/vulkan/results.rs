@@ -1,4 +1,4 @@
-//! What each `VkResult` of the two calls that can fail becomes.
+//! Which error each `VkResult` of the two calls that can fail becomes.
 
 use crate::{CreatePoolError, DeviceAllocationError};
 
@@ -9,12 +9,12 @@ const ERROR_FRAGMENTED_POOL: i32 = -12;
 const ERROR_OUT_OF_POOL_MEMORY: i32 = -1_000_069_000;
 const ERROR_FRAGMENTATION: i32 = -1_000_161_000;
 
-/// Whether the result says that the device is lost, for which the errors below have no name.
+/// Whether the result says that the device is lost, which none of the errors below says.
 pub(super) fn is_lost(result: i32) -> bool {
     result == ERROR_DEVICE_LOST
 }
 
-/// The result of `vkCreateDescriptorPool`. A result without a name here ends the request.
+/// The result of `vkCreateDescriptorPool`. A result that isn't listed here ends the request.
 pub(super) fn of_create(result: i32) -> Result<(), CreatePoolError> {
     match result {
         SUCCESS => Ok(()),
@@ -26,7 +26,7 @@ pub(super) fn of_create(result: i32) -> Result<(), CreatePoolError> {
     }
 }
 
-/// The result of `vkAllocateDescriptorSets`. A result without a name here ends the request.
+/// The result of `vkAllocateDescriptorSets`. A result that isn't listed here ends the request.
 pub(super) fn of_allocate(result: i32) -> Result<(), DeviceAllocationError> {
     match result {
         SUCCESS => Ok(()),

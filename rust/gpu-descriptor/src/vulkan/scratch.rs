@@ -2,10 +2,10 @@
 
 use std_alloc::vec::Vec;
 
-/// So many handles need no allocation.
+/// Up to this number of handles, no allocation is needed.
 const FEW: usize = 32;
 
-/// An array of values, of default ones at first.
+/// An array of values, at first default ones.
 pub(super) enum Scratch<T> {
     Few([T; FEW], usize),
     Many(Vec<T>),

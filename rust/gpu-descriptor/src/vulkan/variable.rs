@@ -8,11 +8,12 @@ use crate::{
     DeviceAllocationError,
 };
 
-/// A layout, and for one with a binding of a variable count how many descriptors that has in each set.
+/// A layout, and, if one of its bindings has a variable count, how many descriptors this binding has in
+/// each set.
 ///
-/// For [`count_bindings`](super::count_bindings) the binding has this count. A layout with several counts is as
-/// many layouts for an allocator, a manager and a manager: each has its own pools, and its sets are kept for it
-/// alone.
+/// Pass this count for the binding to [`count_bindings`](super::count_bindings) too. A layout with
+/// several counts counts as several layouts for an allocator, a frame manager and a set manager: each has
+/// its own pools and its own kept sets.
 #[derive(Clone, Copy, Debug, Default, PartialEq, Eq, PartialOrd, Ord, Hash)]
 pub struct VariableLayout {
     /// The layout.
@@ -32,7 +33,7 @@ impl From<DescriptorSetLayout> for VariableLayout {
     }
 }
 
-/// A [`Device`] whose layouts may have a variable count, as bindless programs use them: other than a `Device` it
+/// A [`Device`] whose layouts may have a variable count, as bindless programs use them: unlike a `Device` it
 /// takes [`VariableLayout`]s. It needs `descriptorBindingVariableDescriptorCount` of Vulkan 1.2 or
 /// `VK_EXT_descriptor_indexing` for those that have one.
 ///

@@ -1,5 +1,5 @@
-//! A device that takes no memory once it is made, refuses or panics at a call, and sees to it that no
-//! set goes back which a frame in flight reads.
+//! A device that takes no memory once it is made, refuses or panics at a call, and checks that no set is
+//! freed that a frame in flight reads.
 #![allow(dead_code)]
 
 use gpu_descriptor::*;
@@ -43,7 +43,7 @@ pub struct Gpu {
     /// there may be.
     created: RefCell<Vec<(u32, u64)>>,
 
-    /// The same of each pool, and the most pools, sets and descriptors of pools that there were.
+    /// The same of each pool, and the peak of pools, and of their sets and descriptors.
     sizes: RefCell<Vec<(u32, u64)>>,
     peak: Cell<Sums>,
 
@@ -236,7 +236,7 @@ impl DescriptorDevice<u32, usize, Set> for Gpu {
     }
 }
 
-/// Sets of so many samplers go two to a pool.
+/// A pool holds two sets with this number of samplers.
 pub const TWO_A_POOL: u32 = u32::MAX / 2;
 
 /// Three layouts: a plain one, one of which two sets go to a pool, and a marked one.

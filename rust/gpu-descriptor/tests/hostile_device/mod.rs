@@ -1,4 +1,4 @@
-//! A device that does what it may not, as it is told, and sees to it that each set goes back once, to its
+//! A device that does what it may not, as it is told, and checks that each set is freed once, to its
 //! pool.
 
 use gpu_descriptor::*;
@@ -8,7 +8,7 @@ use std::panic::{AssertUnwindSafe, catch_unwind};
 use std::rc::Rc;
 
 /// What it does that it may not: gives sets too many or too few, some with a refusal, panics, leaves sets of
-/// a release, or reads on after its end.
+/// a release, or reads on after its end. Or it refuses a third pool, and panics at the release that follows.
 #[derive(Clone, Copy, Debug, PartialEq)]
 pub enum Fault {
     None,
@@ -25,6 +25,7 @@ pub enum Fault {
     LeavesOne,
     LeavesAll,
     ReadsPastTheEnd,
+    PanicsAfterTwoPools,
 }
 
 /// The faults at which it panics.
@@ -122,6 +123,10 @@ impl DescriptorDevice<String, u64, Set> for Device {
         _: DescriptorPoolCreateFlags,
     ) -> Result<u64, CreatePoolError> {
         self.call(Fault::PanicsAtCreate);
+        if self.fault.get() == Fault::PanicsAfterTwoPools && self.pools.borrow().len() == 2 {
+            self.fault.set(Fault::PanicsAtFree);
+            return Err(CreatePoolError::OutOfDeviceMemory);
+        }
         let pool = self.number();
         self.pools.borrow_mut().insert(pool);
         assert!(self.pools.borrow().len() < MAX_POOLS, "no test needs more");

@@ -172,7 +172,7 @@ pub unsafe extern "system" fn free_descriptor_sets(
     0
 }
 
-/// So many layouts, of which no two are the same.
+/// Layouts, no two the same.
 pub fn layouts(count: usize) -> Vec<DescriptorSetLayout> {
     (1..=count as u64)
         .map(|it| DescriptorSetLayout(it << 33))

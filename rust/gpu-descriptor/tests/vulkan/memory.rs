@@ -70,7 +70,7 @@ fn device() -> Device {
 }
 
 /// Allocates sets from a pool, with a refusal of the memory that is asked for by this number, and
-/// returns besides how often memory was asked for.
+/// returns how often memory was asked for, too.
 fn allocate(count: usize, refused: u64) -> (Result<(), DeviceAllocationError>, usize, u64) {
     let layouts = vec![DescriptorSetLayout(1); count];
     let mut sets = Vec::with_capacity(count);

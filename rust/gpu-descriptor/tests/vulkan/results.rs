@@ -114,7 +114,7 @@ fn request(driver: &Driver) -> AllocationError {
     answer.unwrap_err()
 }
 
-/// Each type over a device that is lost sees it, and gives back what it has; the device stays lost.
+/// Each type over a device that is lost sees it, and frees what it has; the device stays lost.
 #[test]
 fn a_lost_device() {
     let driver = Driver::new();

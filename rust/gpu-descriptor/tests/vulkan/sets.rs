@@ -5,7 +5,7 @@ use gpu_descriptor::vulkan::{DescriptorPool, DescriptorSet, DescriptorSetLayout}
 use gpu_descriptor::*;
 
 #[test]
-fn sets_of_one_request_come_by_one_call_in_their_order() {
+fn sets_of_one_request_are_from_one_call_in_order() {
     for count in [1, 2, 31, 32, 33, 500, 5_000] {
         let (driver, wanted) = (Driver::new(), layouts(count));
         let mut sets = vec![DescriptorSet(9)];
@@ -76,7 +76,7 @@ fn left(calls: &[Call]) -> (i64, i64) {
 }
 
 #[test]
-fn an_allocator_gives_all_back() {
+fn an_allocator_frees_all() {
     let driver = Driver::new();
     let (device, layout) = (driver.device(), DescriptorSetLayout(7));
     let mut allocator = DescriptorAllocator::new(1000);

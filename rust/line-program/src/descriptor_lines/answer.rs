@@ -94,7 +94,7 @@ pub fn device_answer(
     )
 }
 
-/// The line of `show` for the sets that are out, and the descriptors of those that are marked.
+/// The line of `show` for the live sets, and the descriptors of those that are marked.
 pub fn held_answer(answer: &mut String, held: u64, marked: u32) -> Result<(), AllocError>
 {
     writeln!(answer, "held {held} marked {marked}")

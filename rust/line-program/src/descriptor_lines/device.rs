@@ -17,7 +17,7 @@ pub trait LineDevice: ScriptedMeaning {
     /// Whether the device lost something that it was to write down.
     fn has_lost(&self) -> bool;
 
-    /// Gives up the words that are still to come, and begins with these.
+    /// Discards the unread words, and begins with these.
     fn load(&mut self, words: Vec<Answer>);
 
     /// How many pools were created, up to the greatest `u64`.

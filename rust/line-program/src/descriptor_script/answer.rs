@@ -23,7 +23,7 @@ pub enum Answer {
 }
 
 impl Answer {
-    /// The error of a create that isn't granted at this word. At `Ok` names or memory are wanting.
+    /// The error of a create that isn't granted at this word. At `Ok` names or memory have run out.
     pub(crate) fn create_error(self) -> CreatePoolError
     {
         match self {
@@ -33,7 +33,7 @@ impl Answer {
         }
     }
 
-    /// The error of an alloc that isn't granted at this word. At `Ok` names or memory are wanting.
+    /// The error of an alloc that isn't granted at this word. At `Ok` names or memory have run out.
     pub(crate) fn alloc_error(self) -> DeviceAllocationError
     {
         match self {

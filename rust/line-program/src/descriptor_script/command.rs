@@ -6,10 +6,10 @@ use crate::kit::vec::Vec;
 /// What a session is asked to do.
 #[derive(Debug, PartialEq, Eq)]
 pub enum Command {
-    /// Allocates so many sets of the layout at this place.
+    /// Allocates `count` sets of the layout at this place.
     Allocate { layout: usize, count: u32 },
 
-    /// Gives back the sets of these tickets.
+    /// Frees the sets of these tickets.
     Free { tickets: Vec<usize> },
 
     /// Destroys the empty pools at the front of each key, as `DescriptorAllocator::cleanup` does.
@@ -19,13 +19,13 @@ pub enum Command {
 /// What a session did.
 #[derive(Clone, Copy, Debug, PartialEq, Eq)]
 pub enum Reply {
-    /// Sets were handed out, under so many tickets from `first` up.
+    /// Sets were allocated, under `count` tickets from `first` up.
     Sets { first: usize, count: u32 },
 
     /// The allocator refused.
     Refused(AllocationError),
 
-    /// So many sets went back.
+    /// This many sets were freed.
     Freed(usize),
 
     /// A ticket was never given, or is freed, or is in the list twice. Nothing changed.

@@ -17,9 +17,9 @@ use crate::kit::vec::Vec;
 
 /// A device that answers by a script.
 ///
-/// Each call that creates a pool or allocates sets reads one word. It is granted only at `Ok`, and
-/// at any other word refused as that says. At `Ok` it is refused as out of host memory if names or
-/// memory are wanting. After the end of the script each word is `Ok`.
+/// Each call that creates a pool or allocates sets reads one word. It is granted only at `Ok`, and is
+/// refused at any other word with the error that this names. At `Ok` it is refused as out of host
+/// memory if names or memory have run out. After the end of the script each word is `Ok`.
 ///
 /// Pools and sets are named from 0 up, and no name is given twice. The greatest is
 /// 18446744073709551614.
@@ -47,7 +47,7 @@ impl ScriptedDevice {
         }
     }
 
-    /// Gives up the words that are still to come, and begins with this script.
+    /// Discards the unread words, and begins with this script.
     pub fn load(&mut self, script: Vec<Answer>)
     {
         self.script = Script::new(script);

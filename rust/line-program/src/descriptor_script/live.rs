@@ -7,7 +7,8 @@ use crate::gpu_descriptor_types::{
 };
 use crate::indexmap::IndexMap;
 
-/// The live sets of a pool, by name.
+/// The live sets of a pool, by name: a release takes about as many steps as it frees sets. A log of calls
+/// in their place would need memory at a release, which allocates nothing.
 pub type LiveSets = IndexMap<u64, DescriptorTotalCount>;
 
 /// A live pool, as it was created, with its live sets.

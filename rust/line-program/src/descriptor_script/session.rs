@@ -12,10 +12,10 @@ use crate::gpu_descriptor::{
 use crate::kit::alloc::Global;
 use crate::kit::vec::Vec;
 
-/// Runs commands on an allocator, and keeps the sets that are out.
+/// Runs commands on an allocator, and holds the live sets.
 ///
-/// Each set has a ticket. Tickets begin at 0, and none is used again: a session keeps a slot for
-/// each ticket that it ever gave. All steps of a session are made with one device.
+/// Each set has a ticket. Tickets begin at 0, and none is reused: a session keeps a slot for each
+/// ticket that it ever gave. All steps of a session are made with one device.
 #[derive(Debug)]
 pub struct Session<L, P, S> {
     pub(crate) allocator: DescriptorAllocator<P, S>,
@@ -25,7 +25,7 @@ pub struct Session<L, P, S> {
 
 impl<L, P, S> Session<L, P, S> {
     /// A session without layouts and sets, whose allocator has this limit on update-after-bind
-    /// descriptors, and agrees with every device. It allocates nothing.
+    /// descriptors, and agrees with every device. It allocates no memory.
     pub fn new(alloc: Global, max: u32) -> Self
     {
         Session {

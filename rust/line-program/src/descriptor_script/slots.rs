@@ -20,7 +20,7 @@ pub(crate) struct Slots<S> {
 }
 
 impl<S> Slots<S> {
-    /// No ticket was given. It allocates nothing.
+    /// No ticket was given. It allocates no memory.
     pub(crate) fn new(alloc: Global) -> Self
     {
         Slots {
@@ -52,7 +52,7 @@ impl<S> Slots<S> {
         self.sets.len()
     }
 
-    /// Reserves memory for so many tickets.
+    /// Reserves memory for `count` tickets.
     pub(crate) fn reserve(&mut self, count: u32) -> Result<(), AllocError>
     {
         self.sets.reserve(count as usize)?;

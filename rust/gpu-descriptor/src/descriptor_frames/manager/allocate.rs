@@ -9,7 +9,7 @@ use crate::gpu_descriptor::{
 use crate::kit::vec::Vec;
 
 impl<P, S> FrameManager<P, S> {
-    /// Allocates sets, as `DescriptorAllocator::allocate` does. The retired sets stay.
+    /// Allocates sets. Same as `DescriptorAllocator::allocate`; retired sets stay.
     pub fn allocate<L, D: DescriptorDevice<L, P, S>>(
         &mut self,
         device: &mut D,
@@ -23,7 +23,7 @@ impl<P, S> FrameManager<P, S> {
             .allocate(device, layout, flags, layout_descriptor_count, count)
     }
 
-    /// Allocates sets, as `DescriptorAllocator::allocate_for` does. The retired sets stay.
+    /// Allocates sets. Same as `DescriptorAllocator::allocate_for`; retired sets stay.
     pub fn allocate_for<L, D: DescriptorDevice<L, P, S>>(
         &mut self,
         device: &mut D,
@@ -34,7 +34,7 @@ impl<P, S> FrameManager<P, S> {
         self.allocator.allocate_for(device, layout, count)
     }
 
-    /// Appends sets to a vector, as `DescriptorAllocator::allocate_into` does. The retired sets stay.
+    /// Appends sets to a vector. Same as `DescriptorAllocator::allocate_into`; retired sets stay.
     pub fn allocate_into<L, D: DescriptorDevice<L, P, S>>(
         &mut self,
         device: &mut D,
@@ -46,7 +46,7 @@ impl<P, S> FrameManager<P, S> {
         self.allocator.allocate_into(device, layout, count, sets)
     }
 
-    /// Allocates one set, as `DescriptorAllocator::allocate_one` does. The retired sets stay.
+    /// Allocates one set. Same as `DescriptorAllocator::allocate_one`; retired sets stay.
     pub fn allocate_one<L, D: DescriptorDevice<L, P, S>>(
         &mut self,
         device: &mut D,

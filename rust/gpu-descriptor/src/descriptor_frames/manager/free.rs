@@ -6,9 +6,9 @@ use crate::descriptor_frames::due::Due;
 use crate::gpu_descriptor::{DescriptorDevice, DescriptorSet};
 
 impl<P, S> FrameManager<P, S> {
-    /// Frees at once the sets in use that the iterator yields up to its end, as
-    /// `DescriptorAllocator::free_from` does. It allocates nothing. The retired sets stay. Nothing
-    /// that uses one of the sets may have been submitted, or the device must be done with it.
+    /// Frees the sets in use that the iterator yields up to its end, at once. Same as
+    /// `DescriptorAllocator::free_from`; retired sets stay. It allocates no memory. Nothing that uses
+    /// one of the sets may have been submitted, or the device must be done with it.
     pub fn free_from<L, D: DescriptorDevice<L, P, S>, I: Iterator<Item = DescriptorSet<S>>>(
         &mut self,
         device: &mut D,
@@ -18,13 +18,14 @@ impl<P, S> FrameManager<P, S> {
         self.allocator.free_from(device, sets);
     }
 
-    /// Frees all sets that were retired at this frame or before, those of earlier frames first.
-    /// It allocates nothing and can't fail. The device must be done with the work of these frames.
+    /// Frees all sets that were retired at this frame or before, those of earlier frames first. It
+    /// allocates no memory and can't fail. The device must be done with the work of these frames.
     ///
-    /// It takes about as many steps as sets are freed; the others are not moved. With none it makes
-    /// no call of the device and changes nothing.
+    /// The number of steps is about that of the freed sets; the others are not moved. Without any it
+    /// makes no device call and changes nothing.
     pub fn finish<L, D: DescriptorDevice<L, P, S>>(&mut self, device: &mut D, frame: u64)
     {
+        // An iterator that borrows the list, since splitting it would move the other sets, or allocate.
         let mut due = Due {
             retired: &mut self.retired,
             frame,
@@ -35,14 +36,14 @@ impl<P, S> FrameManager<P, S> {
 }
 
 impl<P, S> FrameManager<P, S> {
-    /// Destroys pools without sets, as `DescriptorAllocator::cleanup` does. A pool of a retired set
+    /// Destroys pools without sets. Same as `DescriptorAllocator::cleanup`. A pool of a retired set
     /// stays.
     pub fn cleanup<L, D: DescriptorDevice<L, P, S>>(&mut self, device: &mut D)
     {
         self.allocator.cleanup(device);
     }
 
-    /// Destroys all pools without sets, as `DescriptorAllocator::trim` does. A pool of a retired set
+    /// Destroys all pools without sets. Same as `DescriptorAllocator::trim`. A pool of a retired set
     /// stays.
     pub fn trim<L, D: DescriptorDevice<L, P, S>>(&mut self, device: &mut D)
     {

@@ -6,16 +6,16 @@ use crate::descriptor_table::{SetHandle, SetName};
 use crate::gpu_descriptor::{AllocationError, DescriptorDevice, DescriptorSet, SetLayout};
 
 impl<L, P, S, D: DescriptorDevice<L, P, S>> Store<L, P, S, D> {
-    /// Asks the allocator for so many sets of a layout, for which the table has room.
+    /// Asks the allocator for `many` sets of a layout. The table has room for them.
     fn ask_for(&mut self, known: &SetLayout<L>, many: u32) -> Result<(), AllocationError>
     {
         self.allocator
             .allocate_into(&mut self.device, known, many, &mut self.coming)
     }
 
-    /// Asks for the sets that a request for so many needs in addition to the kept ones. If the allocator
-    /// refuses them while sets are kept, these are freed, empty pools are destroyed, and it retries once,
-    /// for all. It does not if all of them alone exceed the limit.
+    /// Asks the allocator for those of `many` sets for which no set is kept. If it refuses them while
+    /// sets are kept, all kept sets return to their pools, empty pools are destroyed, and it retries
+    /// once, for all sets. It doesn't if all of them alone exceed the limit.
     fn bring(&mut self, known: &SetLayout<L>, layout: u32, many: u32) -> Result<(), AllocationError>
     {
         let kept = self.table.kept_count(layout);
@@ -56,7 +56,7 @@ impl<L, P, S, D: DescriptorDevice<L, P, S>> Store<L, P, S, D> {
         }
     }
 
-    /// Holds one of the sets that are on their way.
+    /// Holds one of the new sets in `coming`.
     #[inline]
     fn hold_last(&mut self, layout: u32) -> SetHandle
     {
@@ -69,7 +69,7 @@ impl<L, P, S, D: DescriptorDevice<L, P, S>> Store<L, P, S, D> {
         }
     }
 
-    /// Holds the sets that are on their way, and writes their names.
+    /// Holds the new sets in `coming`, and writes their names.
     fn hold_coming<N: SetName<DescriptorSet<S>>>(&mut self, layout: u32, names: &mut [N])
     {
         for index in 0..names.len() {

@@ -6,14 +6,15 @@ use crate::descriptor_table::handle::SetName;
 use crate::descriptor_table::slot::Use;
 
 impl<T> SetTable<T> {
-    /// The set of a slot that is in no list is in use for something else, and in none then.
+    /// Changes the use of a slot's set, which is in no list before and after.
     #[inline]
     pub(super) fn assign(&mut self, place: usize, used: Use)
     {
         self.slots.set_use(place, used);
     }
 
-    /// Takes the held sets of names. If a name has none, or is in the list twice, no set is taken.
+    /// Takes the held sets of `names`, all or none. If a name has no held set, or is in the list twice,
+    /// it takes none and returns `false`.
     pub fn take_each<N: SetName<T>>(&mut self, names: &[N]) -> bool
     {
         for index in 0..names.len() {
@@ -27,7 +28,7 @@ impl<T> SetTable<T> {
         true
     }
 
-    /// The sets of the first names, which were taken, are held as before.
+    /// Holds the sets of the first `count` names again, which were taken.
     #[cold]
     fn put_back<N: SetName<T>>(&mut self, names: &[N], count: usize)
     {

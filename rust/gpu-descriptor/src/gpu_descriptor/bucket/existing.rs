@@ -9,10 +9,10 @@ use crate::gpu_descriptor::bucket::{DescriptorBucket, DescriptorPool};
 use crate::gpu_descriptor::places::SetPlaces;
 use crate::gpu_descriptor_types::{DescriptorDevice, DeviceAllocationError, Layouts};
 
-/// Asks a pool with known free places for what it has of the sets that are left to come.
+/// Asks a pool with known free places for the sets still needed, or for as many as it is known to have.
 ///
-/// A pool that refuses as fragmented or full has no known free places until sets of it are freed. Want of
-/// memory is returned. Neither gives a set.
+/// If the pool refuses as fragmented or full, it has no known free places until some of its sets are
+/// freed. If memory has run out, the error is returned. Neither gives a set.
 #[inline]
 fn ask<L, P, S, D: DescriptorDevice<L, P, S>, K: SetPlaces<S>>(
     device: &mut D,
@@ -39,8 +39,8 @@ fn ask<L, P, S, D: DescriptorDevice<L, P, S>, K: SetPlaces<S>>(
     }
 }
 
-/// Asks the pools with known free places, the newest first, until no set is left to come, or no such
-/// pool is left.
+/// Asks the pools with known free places, the newest first, until no set is needed or no such pool is
+/// left.
 #[inline(always)]
 fn walk<'k, L, P, S, D: DescriptorDevice<L, P, S>, K: SetPlaces<S>>(
     device: &mut D,
@@ -62,7 +62,7 @@ fn walk<'k, L, P, S, D: DescriptorDevice<L, P, S>, K: SetPlaces<S>>(
 }
 
 impl<P> DescriptorBucket<P> {
-    /// Takes what the existing pools are known to have.
+    /// Takes the sets that the existing pools are known to have.
     pub(crate) fn take_from_existing<'k, L, S, D: DescriptorDevice<L, P, S>, K: SetPlaces<S>>(
         &mut self,
         device: &mut D,

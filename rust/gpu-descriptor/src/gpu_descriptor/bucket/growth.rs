@@ -22,7 +22,8 @@ fn pool_flags(marked: bool) -> DescriptorPoolCreateFlags
     flags
 }
 
-/// How many sets a key's next pool holds within the limit; `None` if the limit leaves no room for one.
+/// How many sets a key's next pool holds within the limit; `None` if the limit leaves no room for one
+/// set.
 #[inline]
 fn size_in_room(key: &BucketKey, total: u64, wanted: u32, room: u32) -> Option<u32>
 {
@@ -43,10 +44,9 @@ fn next_size(key: &BucketKey, total: u64, wanted: u32, room: u32, most: Option<u
 }
 
 impl<P> DescriptorBucket<P> {
-    /// Creates a pool, and takes what it has of the sets that are left to come.
+    /// Creates a pool, and takes the sets still needed, or as many as it has.
     ///
-    /// A pool of a marked key takes of the room what descriptors it has. A pool that refuses is
-    /// destroyed.
+    /// A pool of a marked key uses up room for its descriptors. A pool that refuses is destroyed.
     #[inline(never)]
     pub(crate) fn take_from_new<'k, L, S, D: DescriptorDevice<L, P, S>, K: SetPlaces<S>>(
         &mut self,
@@ -91,13 +91,14 @@ impl<P> DescriptorBucket<P> {
         }
     }
 
-    /// Takes memory for the books of one more pool, and for its ordinal. Where that is refused, nothing
-    /// changes but capacities.
+    /// Reserves memory for the books of one more pool, and for its ordinal. If that fails, only
+    /// capacities change.
     fn reserve_pool(&mut self) -> Result<(), AllocError>
     {
         self.pools.reserve(1)?;
 
-        // The list is to have capacity for all pools, listed or not.
+        // The list has capacity for all pools, listed or not: a release and a trim list pools without an
+        // allocation.
         let wanting = self.pools.len() + 1 - self.listed.len();
         self.listed.reserve(wanting)
     }

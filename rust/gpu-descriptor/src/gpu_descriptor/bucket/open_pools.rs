@@ -49,7 +49,7 @@ impl<'a, 'b, P> OpenPools<'a, 'b, P> {
         Some(&mut self.pools[place])
     }
 
-    /// Takes the last pool out of the list, as it has no known free places left.
+    /// Takes the last pool out of the list, since it has no known free places left.
     pub(crate) fn close_newest(&mut self)
     {
         let _closed = self.listed.pop_back();

@@ -12,20 +12,20 @@ use crate::gpu_descriptor_types::DescriptorDevice;
 use crate::kit::alloc::Global;
 use crate::kit::marker::PhantomData;
 
-/// What a request asks for: so many sets of a layout, whose pools have this key.
+/// A request for `count` sets of a layout, whose pools have this key.
 pub(crate) struct SetRequest<'a, L, P, S, D: DescriptorDevice<L, P, S>> {
     pub(crate) layout: &'a L,
     pub(crate) key: BucketKey,
     pub(crate) count: u32,
 
-    /// Where the books of a new key take memory.
+    /// What allocates memory for the books of a new key.
     pub(crate) alloc: Global,
     pub(crate) device: PhantomData<(P, S, D)>,
 }
 
 impl<P> DescriptorBucket<P> {
-    /// Makes room for the sets of a request, which are then left to come, unless the numbers of so many
-    /// new pools would exceed 64 bits.
+    /// Makes room for the sets of a request, which are then still needed. It fails if the numbers of
+    /// `count` new pools would exceed 64 bits.
     #[inline(always)]
     pub(crate) fn prepare<S, K: SetPlaces<S>>(
         &self,
@@ -42,7 +42,7 @@ impl<P> DescriptorBucket<P> {
         Ok(())
     }
 
-    /// Takes as many sets as the sink has left: from the existing pools, and then from new ones.
+    /// Takes the sets that the sink still needs: from existing pools, and then from new ones.
     #[inline(always)]
     pub(crate) fn take<'k, L, S, D: DescriptorDevice<L, P, S>, K: SetPlaces<S>>(
         &mut self,

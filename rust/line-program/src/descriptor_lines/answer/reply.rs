@@ -7,11 +7,11 @@ use crate::descriptor_script::{Command, Reply};
 use crate::gpu_descriptor::AllocationError;
 use crate::kit::string::String;
 
-/// The most bytes of an answer without its stretches: two tickets of up to 20 digits, and the
-/// words about them.
+/// The max of the bytes of an answer without its runs: two tickets of up to 20 digits, and the words
+/// around them.
 const SHORT_LEN: usize = 64;
 
-/// The most bytes of a stretch for each of its sets: the name of a pool of up to 20 digits, the
+/// The max of the bytes of a run for each of its sets: the name of a pool of up to 20 digits, the
 /// length, a blank and `*`.
 const STRETCH_LEN: usize = 23;
 
@@ -62,14 +62,14 @@ fn text_of_error(error: &AllocationError) -> &'static str
     }
 }
 
-/// How many sets went back.
+/// How many sets were freed.
 fn freed_answer(answer: &mut String, count: usize)
 {
     put_number(answer, "freed ", count as u64);
     put(answer, "\n");
 }
 
-/// The tickets of sets that were handed out, and their device pools in stretches of neighbours.
+/// The tickets of allocated sets, and their device pools, run by run.
 fn sets_answer(answer: &mut String, session: &LineSession, first: usize, count: u32)
 {
     if count == 0 {
@@ -89,7 +89,7 @@ fn range_answer(answer: &mut String, first: usize, last: usize)
     put(answer, ":");
 }
 
-/// The device pools of so many tickets from the first up, in stretches of neighbours.
+/// The device pools of `count` tickets from the first up, run by run.
 fn stretches_answer(answer: &mut String, session: &LineSession, first: usize, count: u32)
 {
     let mut stretch = Stretch {
@@ -117,7 +117,7 @@ fn device_pool(session: &LineSession, ticket: usize) -> u64
     }
 }
 
-/// A stretch: the name of its pool, and its length.
+/// A run: the name of its pool, and its length.
 fn stretch_answer(answer: &mut String, stretch: Stretch)
 {
     put_number(answer, " ", stretch.pool);

@@ -49,7 +49,7 @@ impl<L, P, S> Session<L, P, S> {
         }
     }
 
-    /// Gives back the sets of these tickets.
+    /// Frees the sets of these tickets.
     fn free<D: DescriptorDevice<L, P, S>>(&mut self, device: &mut D, tickets: &[usize]) -> Reply
     {
         if !self.slots.are_held_once(tickets) {

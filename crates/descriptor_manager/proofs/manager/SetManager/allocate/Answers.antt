@@ -9,7 +9,7 @@ use Rattle.descriptor_manager.proofs.Owned.{if_some, layout_here, layout_listed,
 use Rattle.descriptor_manager.proofs.manager.SetManager.allocate.Goals.{After-allocate}
 use Rattle.descriptor_manager.proofs.manager.SetManager.allocate.Goals as goal
 
-pub allocate-requires : goal.create-requires
+pub allocate-requires : goal.allocate-requires
 allocate-requires g c =
     let old = c.args.self.now in
     let here = layout_here old.layouts c.args.layout c.in-Some.known.now c.place.result c.place.ensures (sym c.in-Some.ensures.layout) in

@@ -22,7 +22,7 @@ invariant_of-self-clause-exact g c = exact_as c.args.self.now (same_sets g (goal
 pub invariant_of-self-clause-accounted : goal.invariant_of-self-clause-accounted
 invariant_of-self-clause-accounted g c = accounted_as c.args.self.now (same_sets g (goal.at.invariant_of-self-clause-accounted g c).After-settle_due)
 
--- those that were due came back
+-- those that were due were freed
 turns : (g : Over) (c : After-give g) → Turns (is_due c.args.frame) (IsBack vacated (generations_of c.args.self.now.table) c.args.self.now.table.keep) (slots_of c.args.self.now.table) (slots_of c.give.new.self.table)
 turns g c =
     let old = slots_of c.args.self.now.table in

@@ -32,7 +32,7 @@ invariant_of-self-clause-exact g c = exact_as c.args.self.now (same_sets g (goal
 pub invariant_of-self-clause-accounted : goal.invariant_of-self-clause-accounted
 invariant_of-self-clause-accounted g c = accounted_as c.args.self.now (same_sets g (goal.at.invariant_of-self-clause-accounted g c).After-set_max_kept)
 
--- those that were let go were given back
+-- those that were let go were returned
 gives : (g : Over) (c : After-give g) → Turns goes (Becomes vacated) (slots_of c.trim.new.self) (slots_of c.give.new.self.table)
 gives g c = subst (λ v. Turns goes (Becomes vacated) (slots_in v) (slots_of c.give.new.self.table)) c.set_max_kept.ensures.slots c.give.ensures.turns
 
