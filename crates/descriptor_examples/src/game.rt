@@ -6,7 +6,7 @@ ghost use Rattle.descriptor_script.specs.Scripted.Raw.{script_meaning};
 ghost use Rattle.gpu_descriptor.specs.Caller.SetLayouts.{IsMeant};
 ghost use Rattle.descriptor_manager.specs.Managers.{pools_besides};
 
-use descriptor_manager::{LayoutHandle, RequestError, SetManager, SetHandle};
+use descriptor_manager::{LayoutHandle, RequestError, SetHandle, SetManager};
 use descriptor_script::{Answer, RawPool, RawSet, ScriptLayout, ScriptedDevice};
 use gpu_descriptor::{AllocationError, DescriptorTotalCount, SetLayout};
 use std::alloc::Global;

@@ -84,13 +84,6 @@ module _ {T : Type 0} where
   pub usable_renewed : (number p : ℕ) (u : Use) (handle : SetHandle) (old new : List (Slot T)) → Renews number p u handle old new → p < length old → (slot_at old p).used ≡ Taken → is_usable (renewed u (slot_at old p)) ≡ false → count is_usable new ≡ count is_usable old
   usable_renewed number p u handle old new r within taken used = ap (count is_usable) r.slots ∙ same_count is_usable old p (renewed u (slot_at old p)) within (used ∙ sym (taken_no_list (slot_at old p) taken 0))
 
-  -- a set under a new handle is in use for something else
-  pub renews_then : (number p : ℕ) (u : Use) (handle : SetHandle) (old mid new : List (Slot T)) → p < length old → Renews number p Taken handle old mid → new ≡ with_use p u mid → Renews number p u handle old new
-  renews_then number p u handle old mid new within r is =
-      let o = slot_at old p in
-      let slot = ap (λ l. slot_at l p) r.slots ∙ slot_set old p (renewed Taken o) within in
-      record { is = r.is; slots = is ∙ ap (λ s. set mid p (used_for u s)) slot ∙ ap (λ l. set l p (renewed u o)) r.slots ∙ set-set old p (renewed Taken o) (renewed u o) }
-
   -- a slot in a list that gets a handle left the list, and got the handle then
   pub renews_picked :
       (test : Slot T → Bool) (number p : ℕ) (u : Use) (handle : SetHandle) (old new : List (Slot T)) → test (slot_at old p) ≡ true

@@ -1,4 +1,5 @@
--- The queue of the sets that wait, when a place comes to it or leaves it: for `put_place`, and `SetTable::wait`, `pick_waiting` and `pick_due`.
+-- The queue of the sets that wait, when a place comes to it or leaves it: for `put_place`, and
+-- `SetTable::wait`, `hold_for_frame`, `pick_waiting` and `pick_due`.
 use Rattle.std.proofs.lemmas.Grind.{common_steps}
 use Rattle.std.proofs.Common.{◌≡◌, ◌≢◌, ℕ, zero, suc, ◌+◌, ◌-◌, ◌<◌, ◌≤◌, ◌==◌, ◌&&◌, Bool, true, false, if◌then◌else◌, List, [], ◌∷◌, ◌++◌, insert, length, take, drop, get_or, set, is_some, nat_le, inl, inr, refl, sym, ap, subst, ◌∙◌, arith}
 use Rattle.std.proofs.lemmas.List.{append_assoc, length-drop, length-set}
@@ -12,7 +13,7 @@ use Rattle.descriptor_table.specs.declared.slot.Use.{Use}
 use Rattle.descriptor_table.proofs.Counting.{same_or, times_here, times_there}
 use Rattle.descriptor_table.proofs.Listed.{first_passes, lists_few, lists_other, lists_pop, lists_push, not_listed, one_none, other_slots, slot_set, test_within}
 
--- a place that comes before a list, and those of the list, are in it as often wherever it comes
+-- how often each place is in a list is the same wherever a place comes to it
 times_insert : (q p : ℕ) (l : List ℕ) (i : ℕ) → times q (insert l i p) ≡ times q (p ∷ l)
 times_insert q p l zero = refl
 times_insert q p [] (suc i) = refl
@@ -54,20 +55,14 @@ module _ {T : Type 0} where
   abbrev frame : List (Slot T) → ℕ → ℕ
   frame slots p = frame_of (slot_at slots p).used
 
-  -- a set that waits for a later frame isn't due, nor is one that doesn't wait
-  not_due : (f : ℕ) (s : Slot T) → waits s ≡ true → f < frame_of s.used → is_due f s ≡ false
-  not_due f s e late = by_use s.used (is_some s.set) e late
+  -- a set isn't due if it waits for a later frame, or doesn't wait
+  not_due : (f : ℕ) (s : Slot T) → (waits s ≡ true → f < frame_of s.used) → is_due f s ≡ false
+  not_due f s late = by_use s.used (is_some s.set) late
     where
-      by_use : (u : Use) (full : Bool) → (waits_for (λ w. true) u && full) ≡ true → f < frame_of u → (waits_for (λ w. nat_le w f) u && full) ≡ false
-      by_use u full e late = grind (arith, common_steps)
+      by_use : (u : Use) (full : Bool) → ((waits_for (λ w. true) u && full) ≡ true → f < frame_of u) → (waits_for (λ w. nat_le w f) u && full) ≡ false
+      by_use u full late = grind (arith, common_steps)
 
-  out_not_due : (f : ℕ) (s : Slot T) → waits s ≡ false → is_due f s ≡ false
-  out_not_due f s e = by_use s.used (is_some s.set) e
-    where
-      by_use : (u : Use) (full : Bool) → (waits_for (λ w. true) u && full) ≡ false → (waits_for (λ w. nat_le w f) u && full) ≡ false
-      by_use u full e = grind (arith, common_steps)
-
-  -- what a slot is changed to that isn't in a list says nothing of the list
+  -- a slot changed that isn't in a list: the frames along the list stay
   module _ (slots : List (Slot T)) (p : ℕ) (s : Slot T) (l : List ℕ) (none : times p l ≡ 0) where
     other_frame : (i d : ℕ) → i < length l → frame (set slots p s) (get_or l i d) ≡ frame slots (get_or l i d)
     other_frame i d lt = ap (λ (s : Slot T). frame_of s.used) (other_slots slots p s (get_or l i d) (apart_at p l i d none lt))
@@ -78,11 +73,15 @@ module _ {T : Type 0} where
   module _ (slots : List (Slot T)) (l : List ℕ) (queue : IsQueue slots l) where
     -- no set is due if the first one waits for a later frame
     pub none_due : (f d : ℕ) → f < frame slots (get_or l 0 d) → (p : ℕ) → is_due f (slot_at slots p) ≡ false
-    none_due f d late p = by_test (waits (slot_at slots p)) refl
+    none_due f d late p = not_due f (slot_at slots p) (λ e. along (λ p. f < frame slots p) l d (λ i lt. let a = queue.rises 0 i d (omega arith) lt in omega arith) p (λ none. true≢false (sym e ∙ one_none (waits (slot_at slots p)) (sym (queue.has p) ∙ none))))
+
+    -- each place of the queue is that of a set that waits
+    pub waits_at : (i d : ℕ) → i < length l → waits (slot_at slots (get_or l i d)) ≡ true
+    waits_at i d lt = by_test (waits (slot_at slots (get_or l i d))) refl
       where
-        by_test : (b : Bool) → waits (slot_at slots p) ≡ b → is_due f (slot_at slots p) ≡ false
-        by_test false e = out_not_due f (slot_at slots p) e
-        by_test true e = not_due f (slot_at slots p) e (along (λ p. f < frame slots p) l d (λ i lt. let a = queue.rises 0 i d (omega arith) lt in omega arith) p (λ none. true≢false (sym e ∙ one_none (waits (slot_at slots p)) (sym (queue.has p) ∙ none))))
+        by_test : (b : Bool) → waits (slot_at slots (get_or l i d)) ≡ b → b ≡ true
+        by_test true e = refl
+        by_test false e = absurd (apart_at (get_or l i d) l i d (not_listed waits slots l (get_or l i d) queue.has e) lt refl)
 
     -- a slot changed that isn't in the queue
     pub out_queue : (p : ℕ) (s : Slot T) → p < length slots → waits (slot_at slots p) ≡ false → waits s ≡ false → IsQueue (set slots p s) l

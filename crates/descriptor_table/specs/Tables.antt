@@ -1,7 +1,7 @@
 -- How calls change the slots of a table.
 use Rattle.std.specs.Prelude.{◌≡◌, ◌≢◌, ℕ, zero, suc, ◌+◌, ◌-◌, ◌<◌, ◌≤◌, ◌⊎◌, ◌==◌, ◌&&◌, nat_lt, Bool, true, false, not, List, [], ◌∷◌, length, slice_index_or, slice_set, vec_capacity, is_some, if◌then◌else◌, Option, Some, None, MatchOption}
 use Rattle.std.specs.VecDeque.{deque_capacity}
-use Rattle.descriptor_table.specs.Slots.{Slot, Slots, chains_in, generations_in, nexts_in, slots_in, space_in, taken_slot, chain_at, frame_of, generation_at, is_in, is_kept_of, slot_at, waits}
+use Rattle.descriptor_table.specs.Slots.{Slot, Slots, chains_in, generations_in, nexts_in, slots_in, space_in, taken_slot, chain_at, generation_at, is_in, is_kept_of, slot_at}
 use Rattle.descriptor_table.specs.declared.handle.SetHandle.{SetHandle}
 use Rattle.descriptor_table.specs.declared.set_table.SetTable.{SetTable}
 use Rattle.descriptor_table.specs.declared.slot.Use.{Use}
@@ -160,12 +160,6 @@ module _ {T : Type 0} where
   pub record CanRenew (p : ℕ) (slots : Slots T) : Type 0 where
     pub taken : IsTaken p slots
     pub next : (slot_at slots p).generation < 4294967295
-
-  -- a call has taken a set, which waits for the frame in this use
-  pub record CanWait (f p : ℕ) (u : Use) (slots : Slots T) : Type 0 where
-    pub taken : HasTaken p slots
-    pub goes : waits (used_for u (slot_at slots p)) ≡ true
-    pub frame : frame_of u ≡ f
 
   -- the slot passed the test, and left its list
   pub record Picks (test : Slot T → Bool) (p : ℕ) (old new : Slots T) : Type 0 where

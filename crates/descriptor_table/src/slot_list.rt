@@ -1,6 +1,6 @@
 //! The slots of a table, each with the next slot of its list.
 ghost use Rattle.std.specs.Prelude.{◌≡◌, ◌+◌, ◌<◌, ◌≤◌, [], ◌∷◌, ◌++◌, length, slice_index_or, slice_set};
-ghost use Rattle.std.specs.Prelude.{IfSome, IsOk, OnOk, None};
+ghost use Rattle.std.specs.Prelude.{IfSome, IsOk, OnOk, None, true};
 
 use crate::slot::{State, Use};
 use std::alloc::{AllocError, Global};
@@ -89,8 +89,8 @@ pub struct SlotList<T> {
 }
 
 impl<T> SlotList<T> {
-    ghost use Rattle.descriptor_table.specs.Slots.{Writes, filled, nexts_in, slot_at, slot_of, slots_in, space_in};
-    ghost use Rattle.descriptor_table.specs.Slots.{taken_slot};
+    ghost use Rattle.descriptor_table.specs.Slots.{Writes, filled, frame_of, nexts_in, slot_at, slot_of, slots_in, space_in};
+    ghost use Rattle.descriptor_table.specs.Slots.{taken_slot, waits};
     ghost use Rattle.descriptor_table.specs.Tables.{aged, renewed, used_for};
 
     /// A list without slots. It allocates no memory.
@@ -138,6 +138,15 @@ impl<T> SlotList<T> {
         ensures next { result.now.next ≡ slice_index_or (nexts_in self.now) place 0 }
     {
         &self.entries[place]
+    }
+
+    /// The frame that the set of a slot waits for.
+    #[inline]
+    pub(crate) fn frame(&self, place: usize) -> u64
+        requires { waits (slot_at (slots_in self.now) place) ≡ true }
+        ensures { result ≡ frame_of (slot_at (slots_in self.now) place).used }
+    {
+        self.entries[place].frame
     }
 
     /// Changes what the set of a slot is in use for.

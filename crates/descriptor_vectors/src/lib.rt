@@ -11,11 +11,11 @@ mod device;
 mod frames;
 mod interface;
 #[cfg(test)]
+mod manager;
+#[cfg(test)]
 mod pair;
 #[cfg(test)]
 mod refused_first;
-#[cfg(test)]
-mod manager;
 #[cfg(test)]
 mod seen;
 #[cfg(test)]

@@ -5,9 +5,9 @@ ghost use Rattle.descriptor_lines.specs.Orders.{layout_in, mark_in, order_of};
 ghost use Rattle.descriptor_lines.specs.Fault.{read_as};
 ghost use Rattle.descriptor_lines.specs.Words.{words_left};
 
+use super::Command;
 use crate::layouts::{Layout, LayoutTable};
 use crate::words::{Fault, Words, parse_counts};
-use super::Command;
 
 /// `layout NAME plain` or `mark`, and the kinds with their counts.
 pub fn parse_layout<'a>(mut words: Words<'a>, layouts: &LayoutTable) -> Result<Command<'a>, Fault>

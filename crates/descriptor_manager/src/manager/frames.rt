@@ -100,7 +100,10 @@ impl<L: Drop, P: Drop, S: Drop, D: DescriptorDevice<L, P, S>> SetManager<L, P, S
         let Some(known) = self.layouts.get(layout) else {
             return Err(RequestError::NoLayout);
         };
-        match self.store.allocate_for_frame(known, layout.place(), self.frame) {
+        match self
+            .store
+            .allocate_for_frame(known, layout.place(), self.frame)
+        {
             Ok(handle) => Ok(handle),
             Err(error) => Err(RequestError::Allocation(error)),
         }

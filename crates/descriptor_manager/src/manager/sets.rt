@@ -106,10 +106,7 @@ impl<L: Drop, P: Drop, S: Drop, D: DescriptorDevice<L, P, S>> SetManager<L, P, S
     ///
     /// It fails with `NoSet` if a handle isn't that of a held set, or is in the list twice. Then nothing
     /// changes.
-    pub fn free<N: SetName<DescriptorSet<S>>>(
-        &mut self,
-        sets: &[N],
-    ) -> Result<(), FreeError>
+    pub fn free<N: SetName<DescriptorSet<S>>>(&mut self, sets: &[N]) -> Result<(), FreeError>
         ensures frees { OnOk result (FreesEach (N.handles_of sets.now) (store_of self.old)
             (store_of self.new)) }
         ensures names { OnOk result (LoseNames (N.handles_of sets.now) (sets_by self.old)

@@ -146,7 +146,7 @@ impl<T> SetTable<T> {
         if !self.has_taken(place) {
             return;
         }
-        self.wait(place, frame, Use::Waits(frame));
+        self.wait(place, frame);
     }
 
     /// Lets the sets of `names` wait for a frame. Just these sets were taken.

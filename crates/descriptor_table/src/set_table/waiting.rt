@@ -1,9 +1,10 @@
 //! The queue of the sets that wait for a frame.
-ghost use Rattle.std.specs.Prelude.{◌≡◌, ℕ, ◌+◌, ◌<◌, ◌≤◌, IfSome, length, insert, slice_index_or};
+ghost use Rattle.std.specs.Prelude.{◌≡◌, ℕ, ◌+◌, ◌<◌, ◌≤◌, length, insert, true};
 ghost use Rattle.std.specs.VecDeque.{deque_capacity};
 ghost use Rattle.std.specs.List.Sorted.{IsPartitionPoint};
 
 use super::SetTable;
+use crate::handle::SetHandle;
 use crate::slot::Use;
 use std::collections::VecDeque;
 
@@ -27,11 +28,10 @@ fn put_place(waiting: &mut VecDeque<u32>, at: usize, place: u32)
 
 impl<T> SetTable<T> {
     ghost use Rattle.descriptor_table.specs.Slots.{frame_of, is_due, slot_at, waits};
-    ghost use Rattle.descriptor_table.specs.Tables.{At, CanWait, Changes, PicksAny};
-    ghost use Rattle.descriptor_table.specs.Tables.{slots_of, used_for};
+    ghost use Rattle.descriptor_table.specs.Tables.{At, Changes, HasTaken, PicksAny, Renews};
+    ghost use Rattle.descriptor_table.specs.Tables.{number_of, slots_of, used_for};
 
     /// The frame that the set of a slot waits for. It is 0 if it waits for none.
-    #[inline]
     fn frame_at(&self, place: u32) -> u64
         ensures { result ≡ frame_of (slot_at (slots_of self.now) place).used }
     {
@@ -52,7 +52,7 @@ impl<T> SetTable<T> {
         match self.waiting.back() {
             None => 0,
             Some(last) => {
-                if self.frame_at(*last) <= frame {
+                if self.slots.frame(*last as usize) <= frame {
                     return self.waiting.len();
                 }
                 self.waiting
@@ -61,26 +61,42 @@ impl<T> SetTable<T> {
         }
     }
 
-    /// Lets a set wait for a frame, after those that wait for this one or an earlier one.
+    /// Lets the set at a place, which a call has taken, wait for a frame.
     #[inline]
-    pub(super) fn wait(&mut self, place: usize, frame: u64, used: Use)
-        requires { CanWait frame place used (slots_of self.old) }
-        ensures { Changes (At place (used_for used)) self.old self.new }
+    pub(super) fn wait(&mut self, place: usize, frame: u64)
+        requires { HasTaken place (slots_of self.old) }
+        ensures { Changes (At place (used_for (Use.Waits frame))) self.old self.new }
     {
         let at = self.place_of_frame(frame);
         put_place(&mut self.waiting, at, place as u32);
-        self.slots.set_use(place, used);
+        self.slots.set_use(place, Use::Waits(frame));
+    }
+
+    /// Makes the set at a place, which a call has taken, one of a frame.
+    #[inline]
+    pub fn hold_for_frame(&mut self, place: usize, frame: u64) -> SetHandle
+        requires taken { HasTaken place (slots_of self.old) }
+        requires next { (slot_at (slots_of self.old) place).generation < 4294967295 }
+        ensures { Changes (Renews (number_of self.old) place (Use.InFrame frame) result)
+            self.old self.new }
+    {
+        let at = self.place_of_frame(frame);
+        put_place(&mut self.waiting, at, place as u32);
+        SetHandle {
+            manager: self.number,
+            place: place as u32,
+            generation: self.slots.renew(place, Use::InFrame(frame)),
+        }
     }
 
     /// Takes the first set that waits.
     #[inline]
     pub(super) fn pick_waiting(&mut self) -> Option<usize>
-        ensures picks { Changes (PicksAny waits result) self.old self.new }
-        ensures first { IfSome result (λ place. place ≡ slice_index_or self.old.waiting.items 0 place) }
+        ensures { Changes (PicksAny waits result) self.old self.new }
     {
-        let place = self.waiting.pop_front()? as usize;
-        self.slots.set_use(place, Use::Taken);
-        Some(place)
+        let first = self.waiting.pop_front()?;
+        self.slots.set_use(first as usize, Use::Taken);
+        Some(first as usize)
     }
 
     /// Takes a set that waits for a frame up to this one, if there is one.
@@ -88,10 +104,12 @@ impl<T> SetTable<T> {
     pub(super) fn pick_due(&mut self, frame: u64) -> Option<usize>
         ensures { Changes (PicksAny (is_due frame) result) self.old self.new }
     {
-        let first = *self.waiting.front()?;
-        if self.frame_at(first) > frame {
+        let first = self.waiting.pop_front()?;
+        if self.slots.frame(first as usize) > frame {
+            self.waiting.push_front_reserved(first);
             return None;
         }
-        self.pick_waiting()
+        self.slots.set_use(first as usize, Use::Taken);
+        Some(first as usize)
     }
 }

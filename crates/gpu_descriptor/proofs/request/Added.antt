@@ -320,8 +320,10 @@ module _ {k : Key} {items : List Item} {new : Bucket} {after : ℕ → Option Po
   pub added_loses_none : KeepsForeign t s
   added_loses_none name pool foreign live =
       let new_ones : (i : ℕ) (d : Entry) → slice_get new.pools i ≡ Some d → d.pool ≢ name = λ i d at. foreign k i d (rw (key_exact.self k) at) in
-      let off : are_named new.pools name ≡ false = false_from_ne_true _ (λ named. (let f = named_at new.pools name named in new_ones f.0 f.1 f.2 f.3)) in
-      (sym (a.others name off) ∙ live, λ l i e at same. elim (cases_Bool (key_eq k l)) [
-        | inl is ↦ (let here = subst (λ (x : Key). slice_get (s.books x).pools i ≡ Some e) (sym (key_exact.same k l is)) at in true≢false (sym (a.stays name (ap (are_named (s.books k).pools) (sym same) ∙ is_named_at (s.books k).pools i e here)) ∙ off))
-        | inr apart ↦ foreign l i e (rw apart at) same
-      ])
+      let off : are_named new.pools name ≡ false = false_from_ne_true _ (λ named. (let f = named_at new.pools name named in new_ones f.0 f.1 f.2 f.3)) in (
+        sym (a.others name off) ∙ live,
+        λ l i e at same. elim (cases_Bool (key_eq k l)) [
+          | inl is ↦ (let here = subst (λ (x : Key). slice_get (s.books x).pools i ≡ Some e) (sym (key_exact.same k l is)) at in true≢false (sym (a.stays name (ap (are_named (s.books k).pools) (sym same) ∙ is_named_at (s.books k).pools i e here)) ∙ off))
+          | inr apart ↦ foreign l i e (rw apart at) same
+        ],
+      )

@@ -113,6 +113,13 @@ impl<T> SlotList<T> {
         &self.entries[place]
     }
 
+    /// The frame that the set of a slot waits for.
+    #[inline]
+    pub(crate) fn frame(&self, place: usize) -> u64
+    {
+        self.entries[place].frame
+    }
+
     /// Changes what the set of a slot is in use for.
     #[inline]
     pub(crate) fn set_use(&mut self, place: usize, used: Use)

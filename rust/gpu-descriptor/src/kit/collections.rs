@@ -88,6 +88,13 @@ impl<T> VecDeque<T> {
         self.0.push_back(value);
     }
 
+    /// `items`, `len`: the value is first. `capacity`: it stays.
+    #[inline]
+    pub fn push_front_reserved(&mut self, value: T) {
+        assert!(self.0.len() < self.0.capacity(), "{NOT_RESERVED}");
+        self.0.push_front(value);
+    }
+
     /// `items`: the first `count` items go behind the others. `len`, `capacity`: they stay. There are as
     /// many; else a panic.
     pub fn rotate_left(&mut self, count: usize) {
@@ -153,9 +160,10 @@ mod tests {
             queue.push_back_reserved(item);
         }
         assert_eq!((queue.pop_front(), queue.pop_back()), (Some(1), Some(3)));
-        queue.reserve(2).unwrap();
+        queue.push_front_reserved(0);
+        queue.reserve(1).unwrap();
         assert_eq!(queue.0.capacity(), capacity);
-        assert_eq!(items(&queue), [2]);
+        assert_eq!(items(&queue), [0, 2]);
     }
 
     #[test]
@@ -173,6 +181,12 @@ mod tests {
     #[should_panic = "no memory was reserved"]
     fn a_push_without_capacity() {
         VecDeque::new(Global).push_back_reserved(1);
+    }
+
+    #[test]
+    #[should_panic = "no memory was reserved"]
+    fn a_push_in_front_without_capacity() {
+        VecDeque::new(Global).push_front_reserved(1);
     }
 
     #[test]

@@ -57,7 +57,10 @@ impl<L, P, S, D: DescriptorDevice<L, P, S>> SetManager<L, P, S, D> {
         let Some(known) = self.layouts.get(layout) else {
             return Err(RequestError::NoLayout);
         };
-        match self.store.allocate_for_frame(known, layout.place(), self.frame) {
+        match self
+            .store
+            .allocate_for_frame(known, layout.place(), self.frame)
+        {
             Ok(handle) => Ok(handle),
             Err(error) => Err(RequestError::Allocation(error)),
         }

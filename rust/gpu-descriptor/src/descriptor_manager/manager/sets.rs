@@ -57,10 +57,7 @@ impl<L, P, S, D: DescriptorDevice<L, P, S>> SetManager<L, P, S, D> {
     ///
     /// It fails with `NoSet` if a handle isn't that of a held set, or is in the list twice. Then nothing
     /// changes.
-    pub fn free<N: SetName<DescriptorSet<S>>>(
-        &mut self,
-        sets: &[N],
-    ) -> Result<(), FreeError>
+    pub fn free<N: SetName<DescriptorSet<S>>>(&mut self, sets: &[N]) -> Result<(), FreeError>
     {
         if !self.store.free_each(sets) {
             return Err(FreeError::NoSet);

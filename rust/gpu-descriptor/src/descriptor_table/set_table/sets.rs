@@ -61,15 +61,6 @@ impl<T> SetTable<T> {
         N::of(handle, self.slots.at(handle.place as usize).set.as_ref())
     }
 
-    /// Makes the set at a place, which a call has taken, one of a frame.
-    #[inline]
-    pub fn hold_for_frame(&mut self, place: usize, frame: u64) -> SetHandle
-    {
-        let handle = self.renew(place, Use::Taken);
-        self.wait(place, frame, Use::InFrame(frame));
-        handle
-    }
-
     /// Takes the set out of a slot.
     #[inline]
     fn empty(&mut self, place: usize) -> Option<T>

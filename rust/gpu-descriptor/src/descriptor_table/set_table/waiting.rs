@@ -2,6 +2,7 @@
 //! The queue of the sets that wait for a frame.
 
 use super::SetTable;
+use crate::descriptor_table::handle::SetHandle;
 use crate::descriptor_table::slot::Use;
 use crate::kit::collections::VecDeque;
 
@@ -21,7 +22,6 @@ fn put_place(waiting: &mut VecDeque<u32>, at: usize, place: u32)
 
 impl<T> SetTable<T> {
     /// The frame that the set of a slot waits for. It is 0 if it waits for none.
-    #[inline]
     fn frame_at(&self, place: u32) -> u64
     {
         match self.slots.get(place) {
@@ -38,7 +38,7 @@ impl<T> SetTable<T> {
         match self.waiting.back() {
             None => 0,
             Some(last) => {
-                if self.frame_at(*last) <= frame {
+                if self.slots.frame(*last as usize) <= frame {
                     return self.waiting.len();
                 }
                 self.waiting
@@ -47,32 +47,47 @@ impl<T> SetTable<T> {
         }
     }
 
-    /// Lets a set wait for a frame, after those that wait for this one or an earlier one.
+    /// Lets the set at a place, which a call has taken, wait for a frame.
     #[inline]
-    pub(super) fn wait(&mut self, place: usize, frame: u64, used: Use)
+    pub(super) fn wait(&mut self, place: usize, frame: u64)
     {
         let at = self.place_of_frame(frame);
         put_place(&mut self.waiting, at, place as u32);
-        self.slots.set_use(place, used);
+        self.slots.set_use(place, Use::Waits(frame));
+    }
+
+    /// Makes the set at a place, which a call has taken, one of a frame.
+    #[inline]
+    pub fn hold_for_frame(&mut self, place: usize, frame: u64) -> SetHandle
+    {
+        let at = self.place_of_frame(frame);
+        put_place(&mut self.waiting, at, place as u32);
+        SetHandle {
+            manager: self.number,
+            place: place as u32,
+            generation: self.slots.renew(place, Use::InFrame(frame)),
+        }
     }
 
     /// Takes the first set that waits.
     #[inline]
     pub(super) fn pick_waiting(&mut self) -> Option<usize>
     {
-        let place = self.waiting.pop_front()? as usize;
-        self.slots.set_use(place, Use::Taken);
-        Some(place)
+        let first = self.waiting.pop_front()?;
+        self.slots.set_use(first as usize, Use::Taken);
+        Some(first as usize)
     }
 
     /// Takes a set that waits for a frame up to this one, if there is one.
     #[inline]
     pub(super) fn pick_due(&mut self, frame: u64) -> Option<usize>
     {
-        let first = *self.waiting.front()?;
-        if self.frame_at(first) > frame {
+        let first = self.waiting.pop_front()?;
+        if self.slots.frame(first as usize) > frame {
+            self.waiting.push_front_reserved(first);
             return None;
         }
-        self.pick_waiting()
+        self.slots.set_use(first as usize, Use::Taken);
+        Some(first as usize)
     }
 }

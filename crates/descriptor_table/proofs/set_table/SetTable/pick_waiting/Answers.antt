@@ -1,26 +1,23 @@
-use Rattle.std.proofs.Common.{◌≡◌, ◌<◌, length, true, refl, sym, subst}
-use Rattle.descriptor_table.specs.Slots.{AreSound, IsQueue, chains_in, generations_in, slot_at, slots_in, waits}
+use Rattle.std.proofs.Common.{refl, sym, subst}
+use Rattle.descriptor_table.specs.Slots.{AreSound, IsQueue, chains_in, generations_in, slot_at, slots_in}
 use Rattle.descriptor_table.specs.Tables.{used_for}
 use Rattle.descriptor_table.specs.declared.slot.Use.TheVariants.{Taken}
 use Rattle.descriptor_table.proofs.Chains.{taken_unkept}
 use Rattle.descriptor_table.proofs.Sound.{leave_sound, listed}
 use Rattle.descriptor_table.proofs.Waiting.{first_waits}
-use Rattle.descriptor_table.proofs.set_table.SetTable.pick_waiting.Goals.{In_ok-place}
 use Rattle.descriptor_table.proofs.set_table.SetTable.pick_waiting.Goals as goal
 
-first : (g : _) (c : In_ok-place g) → (c.in_ok-place.field-0 < length (slots_in c.args.self.now.slots)) × (waits (slot_at (slots_in c.args.self.now.slots) c.in_ok-place.field-0) ≡ true)
-first g c =
-    let s = c.args.self.now in
-    first_waits (slots_in s.slots) c.in_ok-place.field-0 c.pop_front.new.self.items (subst (IsQueue (slots_in s.slots)) c.in_ok-place.ensures.items s.sound.queue)
-
 pub set_use-requires : goal.set_use-requires
-set_use-requires g c = (first g (goal.at.set_use-requires g c).In_ok-place).0
+set_use-requires g c =
+    let s = c.args.self.now in
+    (first_waits (slots_in s.slots) c.in_ok-first.first c.pop_front.new.self.items (subst (IsQueue (slots_in s.slots)) c.in_ok-first.ensures.items s.sound.queue)).0
 
 pub invariant_of-self-2 : goal.invariant_of-self-2
 invariant_of-self-2 g c =
     let s = c.args.self.now in
-    let p = c.in_ok-place.field-0 in
-    let within = (first g (goal.at.invariant_of-self-2 g c).In_ok-place).0 in
+    let p = c.in_ok-first.first in
+    let rest = c.pop_front.new.self.items in
+    let within = (first_waits (slots_in s.slots) p rest (subst (IsQueue (slots_in s.slots)) c.in_ok-first.ensures.items s.sound.queue)).0 in
     let new = used_for Taken (slot_at (slots_in s.slots) p) in
-    let sound = leave_sound s.slots c.set_use.new.self (chains_in s.lists.items) (generations_in s.lists.items) s.waiting.items s.waiting.cap s.keep s.sound p new c.set_use.ensures.writes.slots c.pop_front.new.self.items c.in_ok-place.ensures.items c.set_use.ensures.nexts (λ k. refl) refl (listed s.slots s.slots (chains_in s.lists.items) (generations_in s.lists.items) s.waiting.items s.waiting.cap s.keep s.sound p new within refl refl (taken_unkept new)) in
-    record { sound = subst (λ room. AreSound c.set_use.new.self (chains_in s.lists.items) (generations_in s.lists.items) c.pop_front.new.self.items room s.keep) (sym c.in_ok-place.ensures.capacity) sound }
+    let sound = leave_sound s.slots c.set_use.new.self (chains_in s.lists.items) (generations_in s.lists.items) s.waiting.items s.waiting.cap s.keep s.sound p new c.set_use.ensures.writes.slots rest c.in_ok-first.ensures.items c.set_use.ensures.nexts (λ k. refl) refl (listed s.slots s.slots (chains_in s.lists.items) (generations_in s.lists.items) s.waiting.items s.waiting.cap s.keep s.sound p new within refl refl (taken_unkept new)) in
+    record { sound = subst (λ room. AreSound c.set_use.new.self (chains_in s.lists.items) (generations_in s.lists.items) rest room s.keep) (sym c.in_ok-first.ensures.capacity) sound }

@@ -1,6 +1,7 @@
 use Rattle.std.proofs.Common.{refl, arith}
 use Rattle.descriptor_table.specs.Slots.{AreSound, chains_in, generations_in, slot_at, slots_in}
 use Rattle.descriptor_table.specs.Tables.{used_for}
+use Rattle.descriptor_table.specs.declared.slot.Use.TheVariants.{Waits}
 use Rattle.descriptor_table.proofs.Chains.{taken_out, waits_unkept}
 use Rattle.descriptor_table.proofs.Entries.{in_place}
 use Rattle.descriptor_table.proofs.Sound.{listed, wait_sound}
@@ -11,9 +12,9 @@ pub put_place-requires-clause-room : goal.put_place-requires-clause-room
 put_place-requires-clause-room g c =
     let s = c.args.self.now in
     let p = c.args.place in
-    let taken = c.requires.taken.taken in
+    let taken = c.requires.taken in
     let was = slot_at (slots_in s.slots) p in
-    let few = few_wait (slots_in s.slots) s.waiting.items s.sound.queue p (used_for c.args.used was) taken.within (taken_out was taken.taken) c.requires.goes in
+    let few = few_wait (slots_in s.slots) s.waiting.items s.sound.queue p (used_for (Waits c.args.frame) was) taken.within (taken_out was taken.taken) c.requires.full in
     let room = s.sound.sized.room in
     omega arith
 
@@ -21,8 +22,8 @@ pub invariant_of-self : goal.invariant_of-self
 invariant_of-self g c =
     let s = c.args.self.now in
     let p = c.args.place in
-    let taken = c.requires.taken.taken in
-    let new = used_for c.args.used (slot_at (slots_in s.slots) p) in
+    let taken = c.requires.taken in
+    let new = used_for (Waits c.args.frame) (slot_at (slots_in s.slots) p) in
     let at = c.place_of_frame-at in
-    let sound = wait_sound s.slots c.set_use.new.self (chains_in s.lists.items) (generations_in s.lists.items) s.waiting.items s.waiting.cap s.keep s.sound p new c.set_use.ensures.writes.slots c.args.frame at.result c.requires.frame at.ensures.within at.ensures.place taken.within taken.taken c.requires.goes c.set_use.ensures.nexts (listed s.slots s.slots (chains_in s.lists.items) (generations_in s.lists.items) s.waiting.items s.waiting.cap s.keep s.sound p new taken.within refl refl (waits_unkept new c.requires.goes)) in
+    let sound = wait_sound s.slots c.set_use.new.self (chains_in s.lists.items) (generations_in s.lists.items) s.waiting.items s.waiting.cap s.keep s.sound p new c.set_use.ensures.writes.slots c.args.frame at.result refl at.ensures.within at.ensures.place taken.within taken.taken c.requires.full c.set_use.ensures.nexts (listed s.slots s.slots (chains_in s.lists.items) (generations_in s.lists.items) s.waiting.items s.waiting.cap s.keep s.sound p new taken.within refl refl (waits_unkept new c.requires.full)) in
     record { sound = in_place (λ waiting room. AreSound c.set_use.new.self (chains_in s.lists.items) (generations_in s.lists.items) waiting room s.keep) _ _ _ _ c.put_place.ensures.items c.put_place.ensures.capacity sound }
