@@ -236,6 +236,10 @@ class Mutant(NamedTuple):
 CHANGE = re.compile(r"\[-(.*?)-\]|\{\+(.*?)\+\}")
 
 
+def no_lines():
+    return {"error": [], "function": [], "clause": [], "rust": []}
+
+
 def mutants_of(path):
     """The mutants of a list, if it is there. A line 'file: PATH' is for all that follows up to the next one. A mutant
     begins with '== NAME' or '== NAME: NOTE'. A line that it changes is '~ if count > [-1-]{+2+} {', with what goes
@@ -249,7 +253,7 @@ def mutants_of(path):
             file = text
         elif mark == "==":
             name, _, note = text.partition(": ")
-            found.append(Mutant(name, note, [], {"error": [], "function": [], "clause": [], "rust": []}))
+            found.append(Mutant(name, note, [], no_lines()))
         elif mark == "~" and pairs is not None and file:
             pairs.append((file, *(CHANGE.sub(lambda it: it[side] or "", text) for side in (1, 2))))
         elif mark == "-" and pairs is not None and file:
@@ -262,6 +266,30 @@ def mutants_of(path):
             refuse(f"{path}:{number}: this line is out of place: {line}")
         last = mark
     return found
+
+
+def edits_of(folder):
+    """The mutants of a folder, as rt must-fail takes them: each file is one, whatever its name, so that none is passed
+    over. It has lines 'file: PATH', 'old: TEXT', one for each line that goes, and 'new: TEXT'."""
+    for path in sorted(it for it in glob.glob(f"{folder}/**", recursive=True) if os.path.isfile(it)):
+        found, file, old = Mutant(os.path.basename(path).removesuffix(".edit"), "", [], no_lines()), None, []
+        for number, line in enumerate(read(path).splitlines(), 1):
+            word, _, text = line.partition(":")
+            text = text.removeprefix(" ")
+            if word == "file":
+                file = text
+            elif word == "old":
+                old.append(text)
+            elif word == "new" and file and old:
+                found.pairs.append((file, "\n".join(old), text))
+                old = []
+            elif word in found.lines:
+                found.lines[word].append(text)
+            elif line:
+                refuse(f"{path}:{number}: this line is out of place: {line}")
+        if old:
+            refuse(f"{path}: no 'new:' is after its last 'old:'")
+        yield found
 
 
 def rust_mutants():
