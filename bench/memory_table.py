@@ -101,7 +101,7 @@ def check_case(name, column, case, checks):
     check = lambda what, value, expected: checks.equal(f"{CASES[name]}, {column}: {what}", value, expected)
     if column == "lists":
         return
-    check("pools, sets and descriptors once no set is out", case["gone"][:3], [0, 0, 0])
+    check("pools, sets and descriptors once no set is live", case["gone"][:3], [0, 0, 0])
     if name in ("first", "middle"):
         check("pools beside the set that stays", case["end"][0], 1)
     elif name == "bindless" and column != "crate":

@@ -154,8 +154,8 @@ def cargo_build(folder, *words, **environment):
 
 
 def account_of(trace):
-    """What the text of a program's calls (rust/c/layer) says: sets that were allocated, that were out at most,
-    and that are left. Its sets have numbers in order."""
+    """What the text of a program's calls (rust/c/layer) says: how many sets were allocated, were live at
+    the peak, and are left. Its sets have numbers in order."""
     pools, allocated, peak, misnumbered = {}, 0, 0, 0
     for word, *words in map(str.split, trace.splitlines()):
         if word == "alloc" and words[-2] == "=":

@@ -10,18 +10,18 @@ pub struct CountingDevice {
     next_pool: Cell<u64>,
     next_set: Cell<u64>,
     pools: Cell<u64>,
-    most_pools: u64,
+    max_pools: u64,
     sum: Cell<u64>,
 }
 
 impl CountingDevice {
     /// A device without pools, and with memory for so many.
-    pub fn new(most_pools: u64) -> Self {
+    pub fn new(max_pools: u64) -> Self {
         CountingDevice {
             next_pool: Cell::new(0),
             next_set: Cell::new(0),
             pools: Cell::new(0),
-            most_pools,
+            max_pools,
             sum: Cell::new(0),
         }
     }
@@ -40,7 +40,7 @@ impl DescriptorDevice<(), u64, u64> for CountingDevice {
         _: DescriptorPoolCreateFlags,
     ) -> Result<u64, CreatePoolError> {
         let pool = self.next_pool.get();
-        if self.pools.get() >= self.most_pools || pool == u64::MAX {
+        if self.pools.get() >= self.max_pools || pool == u64::MAX {
             return Err(CreatePoolError::OutOfDeviceMemory);
         }
         self.next_pool.set(pool + 1);

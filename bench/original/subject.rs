@@ -22,10 +22,10 @@ impl Bench for Subject {
     type Set = DescriptorSet<u64>;
     type Error = AllocationError;
 
-    fn new(most_pools: u64) -> Self {
+    fn new(max_pools: u64) -> Self {
         Subject {
             allocator: DescriptorAllocator::new(u32::MAX),
-            device: CountingDevice::new(most_pools),
+            device: CountingDevice::new(max_pools),
         }
     }
 

@@ -34,7 +34,7 @@ pub trait Bench {
     type Error: Debug;
 
     /// One whose device has memory for so many pools.
-    fn new(most_pools: u64) -> Self;
+    fn new(max_pools: u64) -> Self;
 
     /// A layout of so many samplers and uniform buffers.
     fn layout(&mut self, samplers: u32, uniform_buffers: u32, is_marked: bool) -> Self::Layout;

@@ -1,6 +1,6 @@
 //! A trace by hand, with a list of sets for each layout: what is freed is kept for the next request. A new
 //! set comes from the last pool of its layout: the first has 64 sets, and each further one twice as many as
-//! the one before. The sets of a layout that goes are freed, those that are out once they are freed, and its
+//! the one before. The sets of a layout that goes are freed, live ones once they are freed, and its
 //! pools are destroyed after the last. It checks no set that it gets.
 
 use crate::play::{Descriptors, Player};
@@ -46,11 +46,11 @@ impl<G: Gpu> Layout<G> {
         true
     }
 
-    /// Destroys the pools of a layout that is gone, once no set is out.
+    /// Destroys the pools of a layout that is gone, once no set is live.
     fn end(&mut self, gpu: &G) {
         if self.is_removed && self.sets_out == 0 {
             for pool in self.pools.drain(..) {
-                // SAFETY: no set of it is out.
+                // SAFETY: no set of it is live.
                 unsafe { gpu.destroy_descriptor_pool(pool) }
             }
             self.kept = Vec::new();

@@ -46,7 +46,7 @@ struct account measured_now(void) {
     return now;
 }
 
-struct account measured_most(void) {
+struct account measured_peak(void) {
     return most;
 }
 
@@ -56,8 +56,8 @@ uint64_t measured_bytes(void) {
     return info.uordblks + info.hblkhd;
 }
 
-void measured_limit(uint32_t most_descriptors) {
-    limit = most_descriptors;
+void measured_limit(uint32_t max_descriptors) {
+    limit = max_descriptors;
 }
 
 static gd_status create_pool(void *user, const gd_pool_info *info, uint64_t *pool) {
@@ -86,7 +86,7 @@ static void free_sets(void *user, uint64_t pool, uint32_t count, const uint64_t 
     (void)user, (void)pool, (void)count, (void)sets;
 }
 
-void c_create_with(const gd_device *device, uint32_t most_descriptors);
+void c_create_with(const gd_device *device, uint32_t max_descriptors);
 
 void measured_create_in_c(void) {
     gd_device device = {NULL, create_pool, destroy_pool, allocate_sets, free_sets};

@@ -22,9 +22,9 @@ unsafe extern "C" {
     fn measured_create(sets: u64, descriptors: u64, is_marked: bool) -> u64;
     fn measured_destroy(pool: u64);
     safe fn measured_now() -> Account;
-    safe fn measured_most() -> Account;
+    safe fn measured_peak() -> Account;
     safe fn measured_bytes() -> u64;
-    safe fn measured_limit(most_descriptors: u32);
+    safe fn measured_limit(max_descriptors: u32);
     fn measured_create_in_c();
 }
 
@@ -52,7 +52,7 @@ impl Measured {
     }
 
     pub fn most() -> Account {
-        measured_most()
+        measured_peak()
     }
 
     /// What malloc has given.

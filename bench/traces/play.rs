@@ -45,7 +45,7 @@ pub trait Player<G: Gpu> {
         self.free(pool, sets);
     }
 
-    /// How many sets are out, if it counts them.
+    /// How many sets are live, if it counts them.
     fn outstanding(&self) -> Option<u64> {
         None
     }

@@ -17,7 +17,7 @@ const UNIFORM_BUFFER: usize = 6;
 /// A layout's flag for update-after-bind.
 const MARKED: u32 = 2;
 
-/// How many sets are out at once, images one set has, and layouts come and go.
+/// How many sets are live at once, images one set has, and layouts come and go.
 const SPIKE: u32 = 100_000;
 const IMAGES: u32 = 100_000;
 const LAYOUTS: u32 = 10_000;
@@ -62,7 +62,7 @@ struct Case<P: Trim> {
     player: P,
     sets: Vec<P::Set>,
     bytes_before: u64,
-    most_bytes: u64,
+    max_bytes: u64,
 }
 
 fn of_images(count: u32) -> Descriptors {
@@ -90,7 +90,7 @@ impl<P: Trim> Case<P> {
             player: P::new(Measured::new(limit)),
             sets: Vec::new(),
             bytes_before,
-            most_bytes: 0,
+            max_bytes: 0,
         }
     }
 
@@ -100,7 +100,7 @@ impl<P: Trim> Case<P> {
     }
 
     fn look(&mut self) {
-        self.most_bytes = self.most_bytes.max(self.bytes());
+        self.max_bytes = self.max_bytes.max(self.bytes());
     }
 
     /// Takes so many sets, one by one, until one is refused: how many it got.
@@ -160,10 +160,10 @@ impl<P: Trim> Case<P> {
         }
     }
 
-    /// What there is at most, once it has freed what it can, and once no set is out.
+    /// What there is at most, once it has freed what it can, and once no set is live.
     fn end(mut self) {
         self.player.trim();
-        say("most", Measured::most(), self.most_bytes);
+        say("most", Measured::most(), self.max_bytes);
         say("end", Measured::now(), self.bytes());
         self.free();
         self.player.trim();

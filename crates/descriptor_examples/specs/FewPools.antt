@@ -5,5 +5,5 @@ use Rattle.descriptor_script.specs.Scripted.Device.{ledger_of}
 use Rattle.descriptor_examples.specs.declared.few_pools.FewPools.{FewPools}
 
 -- the ledger of the scripted device in it
-abbrev pub few_ledger : {MOST : ℕ} → FewPools MOST → Ledger
+abbrev pub few_ledger : {MAX : ℕ} → FewPools MAX → Ledger
 few_ledger d = ledger_of d.device

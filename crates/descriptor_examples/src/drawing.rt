@@ -14,8 +14,8 @@ use std::alloc::Global;
 
 /// What a drawing leaves.
 #[derive(Drop)]
-pub struct Drawn<const MOST: u32> {
-    pub device: FewPools<MOST>,
+pub struct Drawn<const MAX: u32> {
+    pub device: FewPools<MAX>,
     pub answer: Result<(), AllocationError>,
 }
 

@@ -15,16 +15,16 @@ use gpu_descriptor::{
 };
 use std::alloc::Global;
 
-/// A device that creates at most `MOST` pools.
+/// A device that creates at most `MAX` pools.
 #[derive(Drop)]
-pub struct FewPools<const MOST: u32> {
+pub struct FewPools<const MAX: u32> {
     device: ScriptedDevice,
     pools_left: u32,
-    ghost few: { (ledger_of device).counters.created + pools_left ≡ MOST },
+    ghost few: { (ledger_of device).counters.created + pools_left ≡ MAX },
     ghost unscripted: { script_of device ≡ [] },
 }
 
-impl<const MOST: u32> FewPools<MOST> {
+impl<const MAX: u32> FewPools<MAX> {
     ghost use Rattle.descriptor_examples.specs.FewPools.{few_ledger};
 
     /// A device without pools.
@@ -33,12 +33,12 @@ impl<const MOST: u32> FewPools<MOST> {
     {
         FewPools {
             device: ScriptedDevice::new(alloc, Vec::new(alloc)),
-            pools_left: MOST,
+            pools_left: MAX,
         }
     }
 }
 
-impl<const MOST: u32> DescriptorDevice<ScriptLayout, RawPool, RawSet> for FewPools<MOST> {
+impl<const MAX: u32> DescriptorDevice<ScriptLayout, RawPool, RawSet> for FewPools<MAX> {
     ghost use Rattle.descriptor_examples.specs.FewPools.{few_ledger};
 
     ghost meaning = { script_meaning };
@@ -58,10 +58,10 @@ impl<const MOST: u32> DescriptorDevice<ScriptLayout, RawPool, RawSet> for FewPoo
         ensures err { IfErr result (λ e. few_ledger self.new
             ≡ after_no_create e (few_ledger self.old)) }
 
-        ensures few { OnOk result ((few_ledger self.old).counters.created < MOST) }
+        ensures few { OnOk result ((few_ledger self.old).counters.created < MAX) }
 
         // Before it has created this many, only memory or names can run out.
-        ensures refused { (few_ledger self.old).counters.created < MOST
+        ensures refused { (few_ledger self.old).counters.created < MAX
             → IfErr result (λ e. e ≡ CreatePoolError.OutOfHostMemory) }
     {
         if self.pools_left == 0 {

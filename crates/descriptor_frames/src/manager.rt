@@ -77,8 +77,8 @@ impl<P, S> FrameManager<P, S> {
 
     /// Sets the bound on the descriptors of a new pool. See
     /// `DescriptorAllocator::set_max_pool_descriptors`.
-    pub fn set_max_pool_descriptors(&mut self, most: Option<u64>)
-        ensures allocator { allocator_of self.new ≡ record (allocator_of self.old) { most = most } }
+    pub fn set_max_pool_descriptors(&mut self, bound: Option<u64>)
+        ensures allocator { allocator_of self.new ≡ record (allocator_of self.old) { bound = bound } }
         ensures list { retired_of self.new ≡ retired_of self.old }
         ensures reserve { reserve_of self.new ≡ reserve_of self.old }
         ensures greatest { greatest_of self.new ≡ greatest_of self.old }
@@ -89,12 +89,12 @@ impl<P, S> FrameManager<P, S> {
         ensures retired { (pool_name : P → ℕ) (set_name : S → ℕ) (l : Ledger) → AreRetiredOut
             pool_name set_name self.old l → AreRetiredOut pool_name set_name self.new l }
     {
-        self.allocator.set_max_pool_descriptors(most);
+        self.allocator.set_max_pool_descriptors(bound);
     }
 
     /// The bound on the descriptors of a new pool, `None` without one.
     pub fn max_pool_descriptors(&self) -> Option<u64>
-        ensures { result ≡ (allocator_of self.now).most }
+        ensures { result ≡ (allocator_of self.now).bound }
     {
         self.allocator.max_pool_descriptors()
     }

@@ -24,10 +24,10 @@ use Rattle.descriptor_lines.specs.declared.layouts.LayoutTable.{LayoutTable}
 use Rattle.gpu_descriptor_types.specs.Side.{side}
 
 -- a new session can make a step on any device
-pub new_is_ready : (s : LineSession) (l : Ledger) (max : ℕ) → allocator_of s ≡ record { limit = max; most = None; table = []; looks = 0; comparisons = 0 } → layouts_of s ≡ [] → sets_of s ≡ [] → IsReady script_meaning (side s l)
+pub new_is_ready : (s : LineSession) (l : Ledger) (max : ℕ) → allocator_of s ≡ record { limit = max; bound = None; table = []; looks = 0; comparisons = 0 } → layouts_of s ≡ [] → sets_of s ≡ [] → IsReady script_meaning (side s l)
 new_is_ready s l max allocator layouts sets = record {
   agree = new_agrees allocator script_meaning.pool_name l;
-  held = rw (allocator, sets) (λ t. none_out (state_of pool_id (record { limit = max; most = None; table = []; looks = 0; comparisons = 0 }) l) t refl);
+  held = rw (allocator, sets) (λ t. none_out (state_of pool_id (record { limit = max; bound = None; table = []; looks = 0; comparisons = 0 }) l) t refl);
   meant = rw layouts (All-nil (IsMeant script_meaning));
 }
 

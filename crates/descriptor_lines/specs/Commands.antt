@@ -8,8 +8,8 @@ use Rattle.descriptor_lines.specs.declared.command.Command.TheVariants.{Limit, L
 use Rattle.descriptor_lines.specs.declared.layouts.LayoutTable.{LayoutTable}
 
 -- the greatest number of sets that a line asks for
-abbrev pub most_sets : ℕ
-most_sets = 1000000
+abbrev pub max_sets : ℕ
+max_sets = 1000000
 
 -- the command can be run with these layouts
 abbrev pub IsRunnable : LayoutTable → Command → Type 0

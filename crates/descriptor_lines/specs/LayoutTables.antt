@@ -23,8 +23,8 @@ abbrev pub has_key : List (List ℕ × Layout) → Layout → Bool
 has_key layouts layout = list_any (λ l. key_eq (key_of l.1) (key_of layout)) layouts
 
 -- the greatest number of layouts
-abbrev pub most_layouts : ℕ
-most_layouts = 1024
+abbrev pub max_layouts : ℕ
+max_layouts = 1024
 
 module _ (layouts : LayoutTable) where
   -- the layouts with their names, in the order in which they came

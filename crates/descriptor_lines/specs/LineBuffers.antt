@@ -5,8 +5,8 @@ use Rattle.descriptor_lines.specs.declared.input.LineBuffer.{LineBuffer}
 use Rattle.descriptor_lines.specs.declared.input.Span.{Span}
 
 -- the greatest number of read calls of a run
-abbrev pub most_reads : ℕ
-most_reads = 100000000
+abbrev pub max_reads : ℕ
+max_reads = 100000000
 
 -- the bytes in the buffer that are in no line yet
 abbrev pub buffered : LineBuffer → List ℕ

@@ -4,8 +4,8 @@ use Rattle.gpu_descriptor.specs.Model.Books.{Key}
 use Rattle.gpu_descriptor_types.specs.Bounds.{greatest_u32, greatest_u64}
 use Rattle.gpu_descriptor_types.specs.Counts.{kinds}
 use Rattle.descriptor_script.specs.declared.answer.Answer.{Answer}
-use Rattle.descriptor_lines.specs.Commands.{most_sets}
-use Rattle.descriptor_lines.specs.LayoutTables.{key_of, layout_count, layout_named, most_layouts, place_named}
+use Rattle.descriptor_lines.specs.Commands.{max_sets}
+use Rattle.descriptor_lines.specs.LayoutTables.{key_of, layout_count, layout_named, max_layouts, place_named}
 use Rattle.descriptor_lines.specs.ScriptWords.{script_in}
 use Rattle.descriptor_lines.specs.declared.command.Command.{Command}
 use Rattle.descriptor_lines.specs.declared.command.Command.TheVariants as command
@@ -74,7 +74,7 @@ module _ (layouts : LayoutTable) where
     new ← if is_some (layout_named layouts name) then Err NameIsTaken else Ok name
     mark ← mark_in mark
     counts ← counts_in words
-    if nat_lt (layout_count layouts) most_layouts then Ok (Layout name (record { counts = counts; marked = mark })) else Err TooManyLayouts
+    if nat_lt (layout_count layouts) max_layouts then Ok (Layout name (record { counts = counts; marked = mark })) else Err TooManyLayouts
   layout_in words = Err BadWordCount
 
   -- the words of `size`
@@ -92,7 +92,7 @@ module _ (layouts : LayoutTable) where
   alloc_in (name ∷ count ∷ []) = do
     name ← name_in name
     place ← ok_or (place_named layouts name) NoSuchLayout
-    count ← number_in most_sets count
+    count ← number_in max_sets count
     Ok (Alloc place count)
   alloc_in words = Err BadWordCount
 

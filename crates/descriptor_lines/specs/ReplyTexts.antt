@@ -79,5 +79,5 @@ sets_given (Sets first count) = count
 sets_given _ = 0
 
 -- the max of the bytes of an answer with this many sets: a run of one set has at most 23
-abbrev pub most_bytes : ℕ → ℕ
-most_bytes sets = 64 + 23 * sets
+abbrev pub max_bytes : ℕ → ℕ
+max_bytes sets = 64 + 23 * sets

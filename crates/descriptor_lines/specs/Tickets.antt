@@ -25,13 +25,13 @@ tickets_of word = do
   Ok (tickets_between first last)
 
 -- the greatest number of tickets of a line
-abbrev pub most_tickets : ℕ
-most_tickets = 1000000
+abbrev pub max_tickets : ℕ
+max_tickets = 1000000
 
 -- tickets after others, if they aren't too many
 abbrev pub joined : List ℕ → List ℕ → Result (List ℕ) Fault
 joined tickets more =
-    if nat_le (length (tickets ++ more)) most_tickets then Ok (tickets ++ more) else Err TooManyTickets
+    if nat_le (length (tickets ++ more)) max_tickets then Ok (tickets ++ more) else Err TooManyTickets
 
 -- the tickets with those of one word more
 abbrev pub with_word : List ℕ → List ℕ → Result (List ℕ) Fault

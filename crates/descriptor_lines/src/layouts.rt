@@ -36,7 +36,7 @@ pub struct LayoutTable {
 
 impl LayoutTable {
     ghost use Rattle.descriptor_lines.specs.LayoutTables.{first_layouts, has_key, layout_count, place_named};
-    ghost use Rattle.descriptor_lines.specs.LayoutTables.{layout_named, layouts_in, most_layouts};
+    ghost use Rattle.descriptor_lines.specs.LayoutTables.{layout_named, layouts_in, max_layouts};
     ghost use Rattle.descriptor_lines.specs.LayoutTables.{SameLayouts};
     ghost use Rattle.indexmap.specs.IndexMap.{spare};
 
@@ -51,7 +51,7 @@ impl LayoutTable {
 
     /// Whether there are as many layouts as there may be.
     pub fn is_full(&self) -> bool
-        ensures { IsTrue result ↔ (most_layouts ≤ layout_count self.now) }
+        ensures { IsTrue result ↔ (max_layouts ≤ layout_count self.now) }
     {
         MAX_LAYOUTS <= self.by_name.len()
     }

@@ -6,7 +6,7 @@ ghost use Rattle.std.specs.Prelude.{string_bytes};
 ghost use Rattle.std.specs.Io.KnownBytes.{IsAtEnd};
 ghost use Rattle.descriptor_script.specs.Scripted.Device.{empty_ledger};
 ghost use Rattle.descriptor_lines.specs.Outcomes.{EndsInFault};
-ghost use Rattle.descriptor_lines.specs.LineBuffers.{most_reads, unread};
+ghost use Rattle.descriptor_lines.specs.LineBuffers.{max_reads, unread};
 ghost use Rattle.descriptor_lines.specs.LineStates.{line_state};
 ghost use Rattle.descriptor_lines.specs.Programs.{CanAnswer, CanRun, DoesLine, IsFresh, IsNotRun};
 ghost use Rattle.descriptor_lines.specs.Transcripts.{RunsLines, Writes};
@@ -101,7 +101,7 @@ fn run_to_end<D: LineDevice, R: Read, W: Write>(
 ) -> Exit
     requires can { CanAnswer (string_bytes answer.old) (line_state D.ledger D.script program.old) }
     requires open { IsFalse lines.old.is_at_end }
-    requires reads { lines.old.reads_left ≡ most_reads }
+    requires reads { lines.old.reads_left ≡ max_reads }
     ensures writes { Writes (unread lines.old (R.remaining input.old))
         (line_state D.ledger D.script program.old) result (W.contents output.old)
         (W.contents output.new) (line_state D.ledger D.script program.new) }

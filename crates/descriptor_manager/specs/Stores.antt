@@ -115,7 +115,7 @@ module _ {L P S D : Type 0} {d : Ghosts D L P S} where
 
   -- the bound on the descriptors of a new pool, which only the sets still needed exceed
   abbrev pub bound_of : StoreOver d → Option ℕ
-  bound_of s = s.allocator.most
+  bound_of s = s.allocator.bound
 
   -- the number that marks the handles of the table
   abbrev pub number_of : StoreOver d → ℕ

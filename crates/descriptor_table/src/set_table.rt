@@ -19,8 +19,8 @@ use std::alloc::{AllocError, Global};
 use std::collections::VecDeque;
 use std::vec::Vec;
 
-/// The max of the number of slots.
-const MOST: u64 = u32::MAX as u64;
+/// The max number of slots.
+const MAX_SLOTS: u64 = u32::MAX as u64;
 
 /// The list of the slots without a set.
 pub(crate) const VACANT: usize = 0;
@@ -134,7 +134,7 @@ impl<T> SetTable<T> {
         ensures only { OnlyMemory self.old self.new }
     {
         let places = self.slots.len() as u64 + u64::from(additional);
-        if places > MOST {
+        if places > MAX_SLOTS {
             return Err(AllocError);
         }
         self.slots.reserve(additional as usize)?;

@@ -14,10 +14,10 @@ use gpu_descriptor::{
 };
 use std::alloc::AllocError;
 
-/// Enough bytes for every line of a call: fourteen kinds with their counts come to less.
+/// Bytes that every line of a call fits into: fourteen kinds with their counts take fewer.
 pub const LINE_LEN: usize = 1024;
 
-/// That a pool was to be created, and what the device answered.
+/// Appends the line of a create: the arguments, and the device's answer.
 pub fn create_line(
     text: &mut String,
     sets: u32,
@@ -39,7 +39,7 @@ pub fn create_line(
     create_end(text, answer)
 }
 
-/// That sets of a layout were asked of a pool, and what the device answered.
+/// Appends the line of a call that allocates sets of a layout from a pool, and the device's answer.
 pub fn alloc_line(
     text: &mut String,
     pool: u64,
@@ -56,7 +56,7 @@ pub fn alloc_line(
     alloc_end(text, answer)
 }
 
-/// That sets of a pool were freed.
+/// Appends the line of a call that frees sets of a pool.
 pub fn release_line(text: &mut String, pool: u64, sets: usize) -> Result<(), AllocError>
     ensures { OnOk result (string_bytes text.new ≡ string_bytes text.old
         ++ says.release_line pool sets) }
@@ -64,7 +64,7 @@ pub fn release_line(text: &mut String, pool: u64, sets: usize) -> Result<(), All
     writeln!(text, "release {pool}: {sets}")
 }
 
-/// That a pool was destroyed.
+/// Appends the line of a destroy.
 pub fn destroy_line(text: &mut String, pool: u64) -> Result<(), AllocError>
     ensures { OnOk result (string_bytes text.new ≡ string_bytes text.old
         ++ says.destroy_line pool) }
@@ -72,7 +72,7 @@ pub fn destroy_line(text: &mut String, pool: u64) -> Result<(), AllocError>
     writeln!(text, "destroy {pool}")
 }
 
-/// That a pool of this name was to be created.
+/// Appends the start of the line of a create: `create` and the pool's name.
 fn create_begin(
     text: &mut String,
     answer: &Result<RawPool, CreatePoolError>,
@@ -86,7 +86,7 @@ fn create_begin(
     }
 }
 
-/// That the sets of a new pool can't be released, where that is so.
+/// Appends `no release` if the pool can't free sets.
 fn release_part(text: &mut String, flags: DescriptorPoolCreateFlags) -> Result<(), AllocError>
     ensures { OnOk result (string_bytes text.new ≡ string_bytes text.old
         ++ says.release_part (bits flags)) }
@@ -97,7 +97,7 @@ fn release_part(text: &mut String, flags: DescriptorPoolCreateFlags) -> Result<(
     text.push_str(", no release")
 }
 
-/// The mark, where there is one.
+/// Appends the mark of a pool for update-after-bind, if it is one.
 fn mark_part(text: &mut String, mark: bool) -> Result<(), AllocError>
     ensures { OnOk result (string_bytes text.new ≡ string_bytes text.old ++ says.mark_part mark) }
 {
@@ -107,7 +107,7 @@ fn mark_part(text: &mut String, mark: bool) -> Result<(), AllocError>
     Ok(())
 }
 
-/// The counts that aren't 0.
+/// Appends the counts that aren't 0.
 fn counts_part(text: &mut String, counts: &DescriptorTotalCount) -> Result<(), AllocError>
     ensures { OnOk result (string_bytes text.new ≡ string_bytes text.old
         ++ says.counts_part (kinds counts.now)) }
@@ -119,7 +119,7 @@ fn counts_part(text: &mut String, counts: &DescriptorTotalCount) -> Result<(), A
     kinds_answer(text, &counts.to_array())
 }
 
-/// The end of the line of a create: why it was refused, if it was.
+/// Appends the end of the line of a create: the refusal, if it was refused.
 fn create_end(
     text: &mut String,
     answer: &Result<RawPool, CreatePoolError>,
@@ -133,7 +133,7 @@ fn create_end(
     }
 }
 
-/// The end of the line of a call for sets: why it was refused, if it was.
+/// Appends the end of the line of a call that allocates sets: the refusal, if it was refused.
 fn alloc_end(
     text: &mut String,
     answer: &Result<(), DeviceAllocationError>,
@@ -147,7 +147,7 @@ fn alloc_end(
     }
 }
 
-/// The end of the line of a call that was refused.
+/// Appends the end of the line of a call that was refused.
 fn refused_end(text: &mut String, word: &str) -> Result<(), AllocError>
     ensures { OnOk result (string_bytes text.new ≡ string_bytes text.old
         ++ (codes ", refused: " ++ word.now ++ codes "\n")) }
@@ -155,7 +155,7 @@ fn refused_end(text: &mut String, word: &str) -> Result<(), AllocError>
     writeln!(text, ", refused: {word}")
 }
 
-/// The word of a script that refuses a create so.
+/// The script's word for a refused create.
 fn create_word(error: CreatePoolError) -> &'static str
     ensures word { result.now ≡ word_of_answer (says.answer_of_create error) }
     ensures refuses { create_error (says.answer_of_create error) ≡ error }
@@ -167,7 +167,7 @@ fn create_word(error: CreatePoolError) -> &'static str
     }
 }
 
-/// The word of a script that refuses a call for sets so.
+/// The script's word for a refused call that allocates sets.
 fn alloc_word(error: DeviceAllocationError) -> &'static str
     ensures word { result.now ≡ word_of_answer (says.answer_of_alloc error) }
     ensures refuses { alloc_error (says.answer_of_alloc error) ≡ error }

@@ -24,8 +24,8 @@ use gpu_descriptor::{
 use std::alloc::{AllocError, Global};
 use std::io::Write;
 
-/// The scripted device, each call of which is written as a line (rust/line-program/LINES.md). From the first
-/// line that can't be written on, nothing more is, and the device `has_lost`.
+/// A scripted device that writes each call as a line (rust/line-program/LINES.md). Once a line can't be
+/// written, it writes no more, and `has_lost` is true.
 #[derive(Drop)]
 pub struct Traced<W> {
     device: ScriptedDevice,

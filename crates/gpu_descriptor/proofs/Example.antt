@@ -34,7 +34,7 @@ marked_pools = bucket (unused 3 20 ∷ unused 4 21 ∷ [])
 abbrev state : State
 state = record { books = λ k. if key_eq plain k then plain_pools else if key_eq marked k then marked_pools else no_pools; ledger = λ pool. None }
 
--- the sets that are out
+-- the live sets
 abbrev set_102 : Item
 set_102 = record { key = plain; id = 0; number = 9; name = 102 }
 
@@ -57,11 +57,11 @@ cut_size = refl
 no_size : sets_in_room 2 3 64 ≡ 0
 no_size = refl
 
--- a bound of 10 descriptors leaves 3 sets of three, 10 sets without any, and 5 where 5 are wanting. Without a bound the size stays
+-- a bound of 10 descriptors leaves 3 sets of three, 10 sets without any, and 5 where 5 are still needed. Without a bound the size stays
 bounds_shown : map (λ bound. bound 64) (bounded_sets (Some 10) 3 1 ∷ bounded_sets (Some 10) 0 1 ∷ bounded_sets (Some 10) 3 5 ∷ bounded_sets None 3 1 ∷ []) ≡ 3 ∷ 10 ∷ 5 ∷ 64 ∷ []
 bounds_shown = refl
 
--- 65536 descriptors are fewer than a set of 100000, so its pool has what is wanting
+-- 65536 descriptors are fewer than a set of 100000, so its pool has what is still needed
 great_set : bounded_sets (Some 65536) 100000 1 64 ≡ 1
 great_set = refl
 

@@ -50,7 +50,7 @@ impl<P, S> Model for DescriptorAllocator<P, S> {
 
     ghost view = { λ a. record {
       limit = a.max_update_after_bind_descriptors_in_all_pools;
-      most = a.budget.most;
+      bound = a.budget.bound;
       table = map row_of a.table.buckets.entries;
       looks = a.budget.looks.count;
       comparisons = a.comparisons.count;
@@ -99,20 +99,20 @@ impl<P, S> DescriptorAllocator<P, S> {
             budget: Budget {
                 room: max_update_after_bind_descriptors_in_all_pools,
                 looks: Tally::zero(),
-                most: None,
+                bound: None,
             },
             comparisons: Tally::zero(),
             sets: PhantomData,
         }
     }
 
-    /// Bounds a new pool to the sets that have at most `most` descriptors, or to the sets still needed
+    /// Bounds a new pool to the sets that have at most `bound` descriptors, or to the sets still needed
     /// if these are more. `None`, as at first, removes the bound. Existing pools stay as they are.
-    pub fn set_max_pool_descriptors(&mut self, most: Option<u64>)
-        ensures value { self.new ≡ record self.old { most = most } }
+    pub fn set_max_pool_descriptors(&mut self, bound: Option<u64>)
+        ensures value { self.new ≡ record self.old { bound = bound } }
         ensures agree { (name : P → ℕ) (ledger : Ledger) → Agrees name self.old ledger
             → Agrees name self.new ledger }
     {
-        self.budget.most = most;
+        self.budget.bound = bound;
     }
 }

@@ -67,15 +67,15 @@ all_in_room room each whole fits = elim (cases_Bool (each == 0)) [
 ]
 
 -- a bound
-pub bounded_few : (most : Option ℕ) (each wanted sets : ℕ) → bounded_sets most each wanted sets ≤ sets
+pub bounded_few : (bound : Option ℕ) (each wanted sets : ℕ) → bounded_sets bound each wanted sets ≤ sets
 bounded_few None each wanted sets = omega arith
-bounded_few (Some most) each wanted sets = omega arith
+bounded_few (Some bound) each wanted sets = omega arith
 
-pub bounded_some : (most : Option ℕ) (each wanted sets : ℕ) → 1 ≤ wanted → 1 ≤ sets → 1 ≤ bounded_sets most each wanted sets
+pub bounded_some : (bound : Option ℕ) (each wanted sets : ℕ) → 1 ≤ wanted → 1 ≤ sets → 1 ≤ bounded_sets bound each wanted sets
 bounded_some None each wanted sets wants some = some
-bounded_some (Some most) each wanted sets wants some = omega arith
+bounded_some (Some bound) each wanted sets wants some = omega arith
 
--- what is below what is wanting wasn't cut to it
-pub bounded_whole : (most : Option ℕ) (each wanted sets size : ℕ) → size ≡ bounded_sets most each wanted sets → size < wanted → size ≡ sets
+-- what is below what is still needed wasn't cut to it
+pub bounded_whole : (bound : Option ℕ) (each wanted sets size : ℕ) → size ≡ bounded_sets bound each wanted sets → size < wanted → size ≡ sets
 bounded_whole None each wanted sets size is short = is
-bounded_whole (Some most) each wanted sets size is short = omega arith
+bounded_whole (Some bound) each wanted sets size is short = omega arith

@@ -32,9 +32,9 @@ both_allow start a b = elim (cases_lt a b) [
   | inr le ↦ (let fewer = kind_allows b a le in rw (max-eq_left le) (omega arith))
 ]
 
-all_allow : (start most : ℕ) (counts : List ℕ) → fold min (min start (sets_of_kind most)) (map sets_of_kind counts) ≡ min start (sets_of_kind (fold max most counts))
-all_allow start most [] = refl
-all_allow start most (x ∷ counts) = ap (λ n. fold min n (map sets_of_kind counts)) (both_allow start most x) ∙ all_allow start (max most x) counts
+all_allow : (start kind : ℕ) (counts : List ℕ) → fold min (min start (sets_of_kind kind)) (map sets_of_kind counts) ≡ min start (sets_of_kind (fold max kind counts))
+all_allow start kind [] = refl
+all_allow start kind (x ∷ counts) = ap (λ n. fold min n (map sets_of_kind counts)) (both_allow start kind x) ∙ all_allow start (max kind x) counts
 
 -- the least of the start and what each kind allows is that of the start and what the greatest count allows
 pub greatest_allows : (start : ℕ) (counts : List ℕ) → start ≤ greatest_pool_size → min start (sets_of_kind (greatest counts)) ≡ fold min start (map sets_of_kind counts)
@@ -76,7 +76,7 @@ pool_size_below counts total wanted sets s =
 
 -- ---- what it has at least
 
--- it has what is wanting, or as many as it may have in any case
+-- it has what is still needed, or as many as it may have in any case
 pub pool_size_some : (counts : List ℕ) (total wanted sets : ℕ) → IsPoolSize counts total wanted sets → min wanted (pool_size_floor counts) ≤ sets
 pool_size_some counts total wanted sets s =
     let m : ℕ = min wanted (pool_size_floor counts) in

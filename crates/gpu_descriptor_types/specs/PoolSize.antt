@@ -58,7 +58,7 @@ pub record IsCutSize (counts : List ℕ) (room total wanted sets : ℕ) : Type 0
 -- `sets` cut to a bound on their descriptors, but not below the sets still needed. Each set has `each` descriptors, or counts as one
 abbrev pub bounded_sets : Option ℕ → (each wanted sets : ℕ) → ℕ
 bounded_sets None each wanted sets = sets
-bounded_sets (Some most) each wanted sets = min sets (max wanted (most / max 1 each))
+bounded_sets (Some bound) each wanted sets = min sets (max wanted (bound / max 1 each))
 
 -- how many sets a pool that is not cut to the room holds at least, unless fewer are needed
 abbrev pub pool_size_floor : List ℕ → ℕ

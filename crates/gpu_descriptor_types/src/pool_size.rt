@@ -106,40 +106,40 @@ pub fn cut_pool_size(
     Some((counts_of_sets(counts, sets), sets))
 }
 
-/// Cuts `sets` so that they have at most `most` descriptors together, unless the `wanted` sets have
+/// Cuts `sets` so that they have at most `bound` descriptors together, unless the `wanted` sets have
 /// more. `None` cuts nothing. A set without descriptors counts as one. The result is 0 if `wanted` is 0
-/// and `most` has no room for a set.
+/// and `bound` has no room for a set.
 #[inline]
 pub fn bounded_pool_sets(
     counts: &DescriptorTotalCount,
     sets: u32,
     wanted: u32,
-    most: Option<u64>,
+    bound: Option<u64>,
 ) -> u32
-    ensures sets { result ≡ bounded_sets most (sum (kinds_of counts.now)) wanted sets }
+    ensures sets { result ≡ bounded_sets bound (sum (kinds_of counts.now)) wanted sets }
     ensures at_most { result ≤ sets }
 {
-    let Some(most) = most else {
+    let Some(bound) = bound else {
         return sets;
     };
-    let fit = most / counts.total().max(1);
+    let fit = bound / counts.total().max(1);
     u64::from(sets).min(fit.max(u64::from(wanted))) as u32
 }
 
-/// Cuts a pool size of these counts so that its sets have at most `most` descriptors together, unless
+/// Cuts a pool size of these counts so that its sets have at most `bound` descriptors together, unless
 /// the `wanted` sets have more. `None` cuts nothing. See `bounded_pool_sets`.
 pub fn bounded_pool_size(
     counts: &DescriptorTotalCount,
     size: (DescriptorTotalCount, u32),
     wanted: u32,
-    most: Option<u64>,
+    bound: Option<u64>,
 ) -> (DescriptorTotalCount, u32)
     requires counts { kinds_of size.0 ≡ pool_counts (kinds_of counts.now) size.1 }
     requires fits { All (λ count. count * size.1 < 2 ^ 32) (kinds_of counts.now) }
-    ensures sets { result.1 ≡ bounded_sets most (sum (kinds_of counts.now)) wanted size.1 }
+    ensures sets { result.1 ≡ bounded_sets bound (sum (kinds_of counts.now)) wanted size.1 }
     ensures counts { kinds_of result.0 ≡ pool_counts (kinds_of counts.now) result.1 }
 {
-    let sets = bounded_pool_sets(counts, size.1, wanted, most);
+    let sets = bounded_pool_sets(counts, size.1, wanted, bound);
     (counts_of_sets(counts, sets), sets)
 }
 
@@ -185,11 +185,11 @@ fn rounded_up(start: u32) -> u32
 fn greatest_of(kinds: &[u32; 14]) -> u32
     ensures { result ≡ greatest kinds.now }
 {
-    let mut most = 0;
+    let mut max = 0;
     for kind in kinds {
-        most = most.max(*kind);
+        max = max.max(*kind);
     }
-    most
+    max
 }
 
 /// The smaller of `sets` and what a kind allows. It divides only if the product would exceed 32 bits.

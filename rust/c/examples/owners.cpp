@@ -80,7 +80,7 @@ int main() {
                 require(allocator.allocate(layout, material) == GD_OK, "allocate");
             draw(allocator, layout, material, frame);
         }
-        std::printf("after ten frames: %u sets are out, of %u\n", unsigned(outstanding(allocator)), device.sets);
+        std::printf("after ten frames: %u live sets, of %u\n", unsigned(outstanding(allocator)), device.sets);
         require(outstanding(allocator) == 6, "two frames are in flight, and two materials");
         require(device.sets == 6, "no more than are in use at once");
         require(material.reset() == GD_OK, "reset");

@@ -7,7 +7,7 @@
 #include "memory.h"
 #include <string.h>
 
-enum { LAYOUTS = 12, MOST = 700 };
+enum { LAYOUTS = 12, MAX = 700 };
 
 static uint64_t pools, sets_alive, next_handle = UINT64_C(1) << 40;
 
@@ -75,7 +75,7 @@ static gd_status allocate_variable_sets(void *user, uint64_t pool, uint32_t coun
 
 // Calls of all kinds: those that may allocate are made again if they fail, and the others allocate nothing.
 static void run(void) {
-    static gd_set sets[LAYOUTS][MOST], more[MOST];
+    static gd_set sets[LAYOUTS][MAX], more[MAX];
     gd_layout layouts[LAYOUTS];
     gd_device device = {NULL, create_pool, destroy_pool, allocate_sets, free_sets};
     memset(&allocator, 0, sizeof allocator);
@@ -92,30 +92,30 @@ static void run(void) {
     ALLOCATES_NOTHING(gd_trim(allocator));
     if (keep == 0)
         ALLOCATES_NOTHING(gd_cleanup(allocator));
-    RETRY(gd_allocate(allocator, layouts[3], MOST, more));
+    RETRY(gd_allocate(allocator, layouts[3], MAX, more));
     ALLOCATES_NOTHING(gd_free_after(allocator, more, 100, 1));
     ALLOCATES_NOTHING(gd_free_after(allocator, more + 100, 600, 0));
-    RETRY(gd_allocate(allocator, layouts[2], MOST, more));
+    RETRY(gd_allocate(allocator, layouts[2], MAX, more));
     ALLOCATES_NOTHING(gd_frame_done(allocator, 0));
-    ALLOCATES_NOTHING(gd_free_after(allocator, more, MOST, 3));
+    ALLOCATES_NOTHING(gd_free_after(allocator, more, MAX, 3));
     for (uint32_t at = 0; at < LAYOUTS; at++)
         ALLOCATES_NOTHING(gd_free_after(allocator, sets[at] + at * 20, at * 40 + 1, 2 + at % 3));
     ALLOCATES_NOTHING(gd_frame_done(allocator, 3));
     ALLOCATES_NOTHING(gd_frame_done(allocator, UINT64_MAX));
     CHECK((sets_alive == 0) == (keep == 0));
     for (uint32_t at = 0; at < LAYOUTS; at++)
-        RETRY(gd_allocate(allocator, layouts[at], MOST, sets[at]));
+        RETRY(gd_allocate(allocator, layouts[at], MAX, sets[at]));
     for (uint32_t at = 0; at < LAYOUTS; at++)
-        ALLOCATES_NOTHING(gd_free(allocator, sets[at], MOST));
+        ALLOCATES_NOTHING(gd_free(allocator, sets[at], MAX));
     ALLOCATES_NOTHING(gd_remove_layout(allocator, layouts[4]));
     uint32_t other[GD_KINDS] = {9};
     RETRY(gd_add_layout(allocator, 4, other, 0, &layouts[4]));
-    RETRY(gd_allocate(allocator, layouts[4], MOST, more));
+    RETRY(gd_allocate(allocator, layouts[4], MAX, more));
     ALLOCATES_NOTHING(gd_free_after(allocator, more, 100, 1));
     ALLOCATES_NOTHING(gd_allocator_set_allocate_variable_sets(allocator, allocate_variable_sets));
     ALLOCATES_NOTHING(gd_allocator_set_pool_created(allocator, NULL, NULL));
     RETRY(gd_add_variable_layout(allocator, 4, 5, other, 0, &layouts[5]));
-    RETRY(gd_allocate(allocator, layouts[5], MOST, more));
+    RETRY(gd_allocate(allocator, layouts[5], MAX, more));
     ALLOCATES_NOTHING(gd_begin_frame(allocator, 5));
     ALLOCATES_NOTHING(gd_free_after_current(allocator, more, 100));
     ALLOCATES_NOTHING(gd_free_all(allocator));

@@ -9,7 +9,7 @@
 #include "layer.h"
 
 // The most items of a set, the words from one item to the next, and where the results are.
-enum { MOST = 24, STRIDE = 64, RESULTS = MOST * STRIDE, WORDS = RESULTS + MOST };
+enum { MAX = 24, STRIDE = 64, RESULTS = MAX * STRIDE, WORDS = RESULTS + MAX };
 
 static VkBuffer buffer;
 static VkDeviceMemory memory;
@@ -23,7 +23,7 @@ static VkPipeline pipeline;
 
 static VkDescriptorSetLayoutBinding bindings[2] = {
     {0, VK_DESCRIPTOR_TYPE_STORAGE_BUFFER, 1, VK_SHADER_STAGE_COMPUTE_BIT, NULL},
-    {1, VK_DESCRIPTOR_TYPE_STORAGE_BUFFER, MOST, VK_SHADER_STAGE_COMPUTE_BIT, NULL},
+    {1, VK_DESCRIPTOR_TYPE_STORAGE_BUFFER, MAX, VK_SHADER_STAGE_COMPUTE_BIT, NULL},
 };
 static const VkDescriptorBindingFlags binding_flags[2] = {0, VK_DESCRIPTOR_BINDING_VARIABLE_DESCRIPTOR_COUNT_BIT |
                                                                  VK_DESCRIPTOR_BINDING_UPDATE_AFTER_BIND_BIT};
@@ -68,7 +68,7 @@ static void make_buffer(void) {
     CHECK(vkBindBufferMemory(layer.device, buffer, memory, 0) == VK_SUCCESS);
     CHECK(vkMapMemory(layer.device, memory, 0, VK_WHOLE_SIZE, 0, &start) == VK_SUCCESS);
     words = start;
-    for (uint32_t item = 0; item < MOST; item++)
+    for (uint32_t item = 0; item < MAX; item++)
         words[item * STRIDE] = 1000 + 7 * item;
 }
 
@@ -103,7 +103,7 @@ static void make_commands(void) {
 
 // The set has the first items, the last one first.
 static void write_set(VkDescriptorSet set, uint32_t count) {
-    VkDescriptorBufferInfo results = {buffer, RESULTS * sizeof *words, MOST * sizeof *words}, items[MOST];
+    VkDescriptorBufferInfo results = {buffer, RESULTS * sizeof *words, MAX * sizeof *words}, items[MAX];
     for (uint32_t at = 0; at < count; at++)
         items[at] = (VkDescriptorBufferInfo){buffer, (count - 1 - at) * STRIDE * sizeof *words, sizeof *words};
     const VkWriteDescriptorSet writes[] = {
@@ -161,7 +161,7 @@ int main(int argument_count, char **arguments) {
     CHECK(gd_allocator_set_max_kept(allocator, keep) == GD_OK);
     CHECK(gdv_add_layout(allocator, layout, &layout_info, &known) == GD_BAD_COUNTS);
     use_count(allocator, 3);
-    use_count(allocator, MOST);
+    use_count(allocator, MAX);
     use_count(allocator, 1);
     CHECK(gd_destroy(allocator) == GD_OK);
     vkDestroyCommandPool(layer.device, commands_pool, NULL);
@@ -172,6 +172,6 @@ int main(int argument_count, char **arguments) {
     vkFreeMemory(layer.device, memory, NULL);
     layer_close();
     CHECK(layer.messages == 0);
-    printf("sets of one layout with 3, %d and 1 of its descriptors\n", MOST);
+    printf("sets of one layout with 3, %d and 1 of its descriptors\n", MAX);
     return 0;
 }

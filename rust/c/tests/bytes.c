@@ -4,10 +4,10 @@
 #include "host.h"
 #include <malloc.h>
 
-enum { MOST = 200000 };
+enum { MAX = 200000 };
 
 static uint64_t next_handle;
-static gd_set sets[MOST];
+static gd_set sets[MAX];
 
 static gd_status create_pool(void *user, const gd_pool_info *info, uint64_t *pool) {
     (void)user, (void)info;

@@ -12,10 +12,10 @@
 #include <string.h>
 
 // Threads at once, turns of each, the max of the sets of a request, and those that one thread leaves for another.
-enum { THREADS = 4, TURNS = 4000, MOST = 20, LEFT = 32 };
+enum { THREADS = 4, TURNS = 4000, MAX = 20, LEFT = 32 };
 
-// Not atomic: the allocator lets one call in at a time. `most_sets` is how many there may be.
-static uint64_t next_handle = UINT64_C(1) << 40, sets_alive, most_sets = UINT64_MAX, allocations, releases;
+// Not atomic: the allocator lets one call in at a time. `max_sets` is how many there may be.
+static uint64_t next_handle = UINT64_C(1) << 40, sets_alive, max_sets = UINT64_MAX, allocations, releases;
 static gd_cache *flushed_inside; // in the next call of the device
 
 static gd_status create_pool(void *user, const gd_pool_info *info, uint64_t *pool) {
@@ -35,7 +35,7 @@ static gd_status allocate_sets(void *user, uint64_t pool, uint32_t count, const 
         CHECK(gd_cache_flush(flushed_inside) == GD_BUSY && flushed_inside->count == before);
         flushed_inside = NULL;
     }
-    if (sets_alive + count > most_sets)
+    if (sets_alive + count > max_sets)
         return GD_OUT_OF_DEVICE_MEMORY;
     allocations++;
     sets_alive += count;
@@ -60,7 +60,7 @@ static void begin(void) {
     CHECK(gd_create(&device, 0, &allocator) == GD_OK && gd_allocator_set_max_kept(allocator, 0) == GD_OK);
     CHECK(gd_add_layout(allocator, 7, counts, 0, &layout) == GD_OK);
     allocations = releases = 0;
-    most_sets = UINT64_MAX;
+    max_sets = UINT64_MAX;
 }
 
 static void end(void) {
@@ -120,7 +120,7 @@ static void ask_for_fewer(void) {
     gd_set places[2 * GD_CACHE_REFILL], sets[GD_CACHE_REFILL];
     begin();
     gd_cache cache = cache_of(places, GD_CACHE_REFILL);
-    most_sets = 10;
+    max_sets = 10;
     CHECK(gd_cache_allocate(&cache, 1, sets) == GD_OK && sets_alive == 8 && cache.count == 7);
     CHECK(gd_cache_allocate(&cache, 6, sets + 1) == GD_OK && cache.count == 1);
     CHECK(gd_cache_allocate(&cache, 4, sets + 7) == GD_OUT_OF_DEVICE_MEMORY && cache.count == 1 && sets_alive == 8);
@@ -128,7 +128,7 @@ static void ask_for_fewer(void) {
         CHECK(sets[at].owner == 0 && sets[at].handle == 0);
     CHECK(gd_cache_allocate(&cache, 3, sets + 7) == GD_OK && cache.count == 0 && sets_alive == 10);
     CHECK(gd_cache_allocate(&cache, 1, sets + 10) == GD_OUT_OF_DEVICE_MEMORY && sets[10].owner == 0);
-    most_sets = 11;
+    max_sets = 11;
     CHECK(gd_cache_allocate(&cache, 1, sets + 10) == GD_OK && cache.count == 0);
     // As many as a refill are asked for alone, and what was in the cache stays there.
     CHECK(gd_cache_free(&cache, sets, 11) == GD_OK && cache.count == 11);
@@ -201,7 +201,7 @@ static uint32_t leave(gd_set *sets, uint32_t count) {
 
 static uint32_t take_left(gd_set *sets) {
     CHECK(pthread_mutex_lock(&of_left) == 0);
-    const uint32_t count = left_count < MOST ? left_count : MOST;
+    const uint32_t count = left_count < MAX ? left_count : MAX;
     left_count -= count;
     memcpy(sets, left + left_count, count * sizeof *sets);
     CHECK(pthread_mutex_unlock(&of_left) == 0);
@@ -211,10 +211,10 @@ static uint32_t take_left(gd_set *sets) {
 static void *use(void *number) {
     static const uint32_t REFILLS[THREADS] = {64, 16, 5, 1};
     const uint32_t refill = REFILLS[*(const uint32_t *)number];
-    gd_set places[2 * GD_CACHE_REFILL], sets[MOST];
+    gd_set places[2 * GD_CACHE_REFILL], sets[MAX];
     gd_cache cache = cache_of(places, refill);
     for (uint32_t turn = 0; turn < TURNS; turn++) {
-        uint32_t count = turn * 7 % MOST + 1;
+        uint32_t count = turn * 7 % MAX + 1;
         while (is_busy(gd_cache_allocate(&cache, count, sets)))
             ;
         if (turn % 3 == 0)

@@ -8,7 +8,7 @@
 #include <string.h>
 
 // Sets that are remembered, and sets of a request and of a free.
-enum { KNOWN = 4096, MOST = 300, ALLOCATORS = 2, LAYOUTS = 4 };
+enum { KNOWN = 4096, MAX = 300, ALLOCATORS = 2, LAYOUTS = 4 };
 
 struct side {
     gd_allocator allocator;
@@ -83,9 +83,9 @@ static gd_set any_set(void) {
 
 // A call: a request, sets that are freed or wait, a frame that is done, or a cleanup.
 static void act(struct side *side) {
-    gd_set sets[MOST];
+    gd_set sets[MAX];
     uint64_t out = 0, waiting = 0, frame = operation / 50, before = side->alive;
-    uint32_t count = 1 + random_below(one_in(10) ? MOST : 5);
+    uint32_t count = 1 + random_below(one_in(10) ? MAX : 5);
     switch (random_below(10)) {
     case 0:
     case 1:

@@ -42,7 +42,7 @@ static gd_set held[MAX_HELD];
 static uint32_t held_count;
 static uint32_t uses[PLACES];  // how often a place was used
 static uint64_t strange_names; // that have none of these places
-static uint64_t met, refused, calls, most_held, frame = 10, layout_count;
+static uint64_t met, refused, calls, max_held, frame = 10, layout_count;
 static uint32_t keep;
 
 // ---- the driver ----
@@ -135,7 +135,7 @@ static uint32_t allocate(uint32_t count) {
     }
     met++;
     held_count += count;
-    most_held = held_count > most_held ? held_count : most_held;
+    max_held = held_count > max_held ? held_count : max_held;
     return count;
 }
 
@@ -241,7 +241,7 @@ int main(int words, char **word) {
     CHECK(strange_names == 0);
     close_all();
     printf("%" PRIu64 " sets allocated and freed, %" PRIu64 " held at most; requests met %" PRIu64,
-           operation, most_held, met);
+           operation, max_held, met);
     printf(", refused %" PRIu64 "; calls %" PRIu64 "; layouts %" PRIu64, refused, calls, layout_count);
     printf("; resident %" PRIu64 " kilobytes, at the first of ten points %" PRIu64 "\n", last,
            first);

@@ -124,7 +124,7 @@ static void not_served(VkDescriptorSetLayout first, VkDescriptorSetLayout variab
     vkDestroyDescriptorPool(layer.device, pool, NULL);
 }
 
-// Layouts that come and go while sets of them are out.
+// Layouts that come and go while sets of them are live.
 static void short_lived(void) {
     VkDescriptorPool pool = make_pool(MANY);
     VkDescriptorSet sets[MANY];

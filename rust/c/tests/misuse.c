@@ -5,7 +5,7 @@
 #include <string.h>
 
 // Sets of a test at most.
-enum { MOST = 4096 };
+enum { MAX = 4096 };
 
 // A device that counts, with a list of results for the calls that may fail.
 struct world {
@@ -397,7 +397,7 @@ static void know_layouts(void) {
 // Unknown statuses at each call of a request: it fails, and what it had is freed.
 static void return_unknown_statuses(void) {
     static const uint32_t UNKNOWN[] = {1, 9, 15, GD_NULL_POINTER, GD_BUSY, GD_INTERNAL_ERROR, 1000, UINT32_MAX};
-    static gd_set sets[MOST];
+    static gd_set sets[MAX];
     struct world world = {0};
     gd_device device = device_of(&world);
     gd_allocator allocator;
@@ -433,7 +433,7 @@ static void return_unknown_statuses(void) {
 
 // Each of the four functions calls the same allocator back, and another one.
 static void call_allocators_back(void) {
-    static gd_set sets[MOST];
+    static gd_set sets[MAX];
     struct world world = {0};
     gd_device device = device_of(&world);
     gd_layout layout;
@@ -459,7 +459,7 @@ static void call_allocators_back(void) {
 
 // All sets are freed at once: those in places of many generations, and those that wait.
 static void free_all(void) {
-    static gd_set sets[MOST];
+    static gd_set sets[MAX];
     struct world world = {0};
     gd_device device = device_of(&world);
     gd_layout layouts[3];

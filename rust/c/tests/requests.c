@@ -5,7 +5,7 @@
 #include "host.h"
 #include <string.h>
 
-enum { MOST = 5000, MAX_USER = 24 };
+enum { MAX = 5000, MAX_USER = 24 };
 
 // Handles of the driver, which have more than 32 bits.
 static const uint64_t FIRST_HANDLE = UINT64_C(1) << 40;
@@ -13,7 +13,7 @@ static const uint64_t FIRST_HANDLE = UINT64_C(1) << 40;
 static uint64_t pools, sets_alive, next_handle = UINT64_C(1) << 40, calls, calls_of_free;
 static uint64_t last_layout; // of the last sets
 static gd_pool_info last_pool;
-static gd_set sets[MOST];
+static gd_set sets[MAX];
 
 static gd_status create_pool(void *user, const gd_pool_info *info, uint64_t *pool) {
     (void)user;
@@ -126,13 +126,13 @@ static void allocate_many_at_once(void) {
     gd_allocator allocator = created(0);
     gd_layout layout = added(allocator, 1, 1, 0);
     calls = 0;
-    CHECK(gd_allocate(allocator, layout, MOST, sets) == GD_OK && calls == 2 && sets_alive == MOST);
-    for (uint32_t at = 0; at < MOST; at++) {
-        CHECK(sets[at].handle > next_handle - MOST && sets[at].handle <= next_handle);
+    CHECK(gd_allocate(allocator, layout, MAX, sets) == GD_OK && calls == 2 && sets_alive == MAX);
+    for (uint32_t at = 0; at < MAX; at++) {
+        CHECK(sets[at].handle > next_handle - MAX && sets[at].handle <= next_handle);
         CHECK(at == 0 || sets[at].handle != sets[at - 1].handle);
     }
     calls_of_free = 0;
-    CHECK(gd_free(allocator, sets, MOST) == GD_OK && calls_of_free == 1 && sets_alive == 0);
+    CHECK(gd_free(allocator, sets, MAX) == GD_OK && calls_of_free == 1 && sets_alive == 0);
     CHECK(gd_destroy(allocator) == GD_OK && pools == 0);
 }
 

@@ -34,7 +34,7 @@ fn layout(images: u32, is_marked: bool) -> SetLayout<u32> {
 }
 
 /// The bound with which a set manager begins.
-const MOST: Option<u64> = Some(65_536);
+const BOUND: Option<u64> = Some(65_536);
 
 /// The pools of these requests to an allocator. With a limit the layout is update-after-bind.
 fn pools(most: Option<u64>, limit: u32, images: u32, requests: &[u32]) -> Vec<u32> {
@@ -56,7 +56,7 @@ fn pools(most: Option<u64>, limit: u32, images: u32, requests: &[u32]) -> Vec<u3
 fn an_allocator_begins_as_its_feature_says() {
     let it = DescriptorAllocator::<(), ()>::new(0);
     let first = if cfg!(feature = "bounded-pools") {
-        MOST
+        BOUND
     } else {
         None
     };
@@ -67,9 +67,9 @@ fn an_allocator_begins_as_its_feature_says() {
 #[test]
 fn of_100_000_images() {
     assert_eq!(pools(None, 0, 100_000, &[1]), [64]);
-    assert_eq!(pools(MOST, 0, 100_000, &[1]), [1]);
-    assert_eq!(pools(MOST, 0, 100_000, &[3]), [3]);
-    assert_eq!(pools(MOST, 0, 100_000, &[1, 3, 1]), [1, 3, 1]);
+    assert_eq!(pools(BOUND, 0, 100_000, &[1]), [1]);
+    assert_eq!(pools(BOUND, 0, 100_000, &[3]), [3]);
+    assert_eq!(pools(BOUND, 0, 100_000, &[1, 3, 1]), [1, 3, 1]);
     assert_eq!(pools(Some(299_999), 0, 100_000, &[1]), [2]);
     assert_eq!(pools(Some(300_000), 0, 100_000, &[1]), [3]);
 }
@@ -77,24 +77,24 @@ fn of_100_000_images() {
 #[test]
 fn of_100_000_images_under_a_limit() {
     assert_eq!(pools(None, 500_000, 100_000, &[1]), [5]);
-    assert_eq!(pools(MOST, 500_000, 100_000, &[1]), [1]);
-    assert_eq!(pools(MOST, 500_000, 100_000, &[3, 1, 1]), [3, 1, 1]);
+    assert_eq!(pools(BOUND, 500_000, 100_000, &[1]), [1]);
+    assert_eq!(pools(BOUND, 500_000, 100_000, &[3, 1, 1]), [3, 1, 1]);
 }
 
 /// 65 sets of 2,000 images: of these 32 are in a pool.
 #[test]
 fn of_some_images() {
     assert_eq!(pools(None, 0, 2_000, &[1; 65]), [64, 64]);
-    assert_eq!(pools(MOST, 0, 2_000, &[1; 65]), [32; 3]);
+    assert_eq!(pools(BOUND, 0, 2_000, &[1; 65]), [32; 3]);
 }
 
 /// A pool of small sets is below the bound. Without descriptors a set counts as one.
 #[test]
 fn of_few_images() {
     for images in [0, 1, 1_024] {
-        assert_eq!(pools(MOST, 0, images, &[1]), [64]);
+        assert_eq!(pools(BOUND, 0, images, &[1]), [64]);
     }
-    assert_eq!(pools(MOST, 0, 1_025, &[1]), [63]);
+    assert_eq!(pools(BOUND, 0, 1_025, &[1]), [63]);
     assert_eq!(pools(Some(10), 0, 0, &[1]), [10]);
     assert_eq!(pools(Some(10), 0, 1, &[1]), [10]);
     assert_eq!(pools(Some(0), 0, 1, &[1, 5]), [1, 5]);
@@ -109,7 +109,7 @@ fn pools_stay() {
     it.set_max_pool_descriptors(None);
     let mut sets = unsafe { it.allocate_for(&device, &layout, 1) }.unwrap();
     assert_eq!(pools_of(&device, 100_000), [64]);
-    it.set_max_pool_descriptors(MOST);
+    it.set_max_pool_descriptors(BOUND);
     assert_eq!(it.pool_count(&layout.counts, false), 1);
     unsafe { it.allocate_into(&device, &layout, 63, &mut sets) }.unwrap();
     assert_eq!(pools_of(&device, 100_000), []);
@@ -125,8 +125,8 @@ fn pools_stay() {
 fn of_a_manager() {
     let (mut it, device) = (FrameManager::new(0), Gpu::new());
     assert_eq!(it.max_pool_descriptors(), None);
-    it.set_max_pool_descriptors(MOST);
-    assert_eq!(it.max_pool_descriptors(), MOST);
+    it.set_max_pool_descriptors(BOUND);
+    assert_eq!(it.max_pool_descriptors(), BOUND);
     let layout = layout(100_000, false);
     let mut sets = unsafe { it.allocate_for(&device, &layout, 1) }.unwrap();
     it.set_max_pool_descriptors(None);
@@ -139,7 +139,7 @@ fn of_a_manager() {
 fn a_set_manager_begins_with_one() {
     let device = Gpu::new();
     let mut it = SetManager::new(&device, 500_000);
-    assert_eq!(it.max_pool_descriptors(), MOST);
+    assert_eq!(it.max_pool_descriptors(), BOUND);
     let plain = unsafe { it.add_layout(layout(100_000, false)) }.unwrap();
     let marked = unsafe { it.add_layout(layout(100_000, true)) }.unwrap();
     let _ = it.allocate(plain).unwrap();

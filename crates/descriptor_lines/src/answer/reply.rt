@@ -6,7 +6,7 @@ ghost use Rattle.descriptor_script.specs.Sessions.Session.{sets_of};
 ghost use Rattle.descriptor_script.specs.Sessions.Tickets.{set_at};
 ghost use Rattle.descriptor_lines.specs.Answers.{HasReserveFor};
 ghost use Rattle.descriptor_lines.specs.Replies.{AreHeld, HasAnswer, pool_at};
-ghost use Rattle.descriptor_lines.specs.ReplyTexts.{most_bytes, sets_asked, sets_given};
+ghost use Rattle.descriptor_lines.specs.ReplyTexts.{max_bytes, sets_asked, sets_given};
 ghost use Rattle.descriptor_lines.specs.ReplyTexts.{freed_text, refused_text, text_of_reply};
 ghost use Rattle.descriptor_lines.specs.ReplyTexts.{pools_from, range_text, sets_text};
 ghost use Rattle.descriptor_lines.specs.ReplyTexts.{stretch_text, stretches_text};
@@ -34,7 +34,7 @@ struct Stretch {
 
 /// How many bytes the answer of a command may have.
 pub fn reserve_for(command: &Command) -> usize
-    ensures { result ≡ most_bytes (sets_asked command.now) }
+    ensures { result ≡ max_bytes (sets_asked command.now) }
 {
     match command {
         Command::Allocate { layout: _, count } => SHORT_LEN + STRETCH_LEN * *count as usize,
@@ -45,11 +45,11 @@ pub fn reserve_for(command: &Command) -> usize
 /// Puts what the session replied after the answer.
 pub fn reply_answer(answer: &mut String, session: &LineSession, reply: &Reply)
     requires replied { HasAnswer session.now reply.now }
-    requires reserve { HasReserveFor (most_bytes (sets_given reply.now)) answer.old }
+    requires reserve { HasReserveFor (max_bytes (sets_given reply.now)) answer.old }
     ensures text { string_bytes answer.new ≡ string_bytes answer.old
         ++ text_of_reply (sets_of session.now) reply.now }
     ensures enough { length (text_of_reply (sets_of session.now) reply.now)
-        ≤ most_bytes (sets_given reply.now) }
+        ≤ max_bytes (sets_given reply.now) }
 {
     match reply {
         Reply::Sets { first, count } => sets_answer(answer, session, *first, *count),
@@ -94,10 +94,10 @@ fn freed_answer(answer: &mut String, count: usize)
 /// The tickets of allocated sets, and their device pools, run by run.
 fn sets_answer(answer: &mut String, session: &LineSession, first: usize, count: u32)
     requires held { AreHeld session.now first count }
-    requires reserve { HasReserveFor (most_bytes count) answer.old }
+    requires reserve { HasReserveFor (max_bytes count) answer.old }
     ensures text { string_bytes answer.new ≡ string_bytes answer.old
         ++ sets_text (sets_of session.now) first count }
-    ensures enough { length (sets_text (sets_of session.now) first count) ≤ most_bytes count }
+    ensures enough { length (sets_text (sets_of session.now) first count) ≤ max_bytes count }
 {
     if count == 0 {
         put(answer, "sets none\n");

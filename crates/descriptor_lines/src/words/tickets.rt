@@ -5,7 +5,7 @@ ghost use Rattle.std.specs.List.{range_with_len};
 ghost use Rattle.descriptor_lines.specs.Fault.{Reads, read_as};
 ghost use Rattle.gpu_descriptor_types.specs.Bounds.{greatest_u64};
 ghost use Rattle.descriptor_lines.specs.Numbers.{number_in};
-ghost use Rattle.descriptor_lines.specs.Tickets.{joined, most_tickets, sides as sides_of};
+ghost use Rattle.descriptor_lines.specs.Tickets.{joined, max_tickets, sides as sides_of};
 ghost use Rattle.descriptor_lines.specs.Tickets.{tickets_between, tickets_in, tickets_of};
 ghost use Rattle.descriptor_lines.specs.Words.{words_left};
 
@@ -71,10 +71,10 @@ fn parse_ticket(word: &[u8]) -> Result<usize, Fault>
 /// word can name more than memory holds.
 #[tactic(auto, using(crate::proofs::TicketLemmas::count_between))]
 fn add_tickets(tickets: &mut Vec<usize>, span: Span) -> Result<(), Refusal>
-    requires { vec_len tickets.old ≤ most_tickets }
+    requires { vec_len tickets.old ≤ max_tickets }
     ensures added { Reads (λ _. tickets.new.items) result
         (joined tickets.old.items (tickets_between span.first span.last)) }
-    ensures few { OnOk result (vec_len tickets.new ≤ most_tickets) }
+    ensures few { OnOk result (vec_len tickets.new ≤ max_tickets) }
 {
     let steps = span.first.abs_diff(span.last);
     if MAX_TICKETS - tickets.len() <= steps {

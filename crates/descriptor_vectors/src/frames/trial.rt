@@ -107,13 +107,13 @@ pub enum FrameAct<'a> {
     Cleanup,
     /// The number, the allocated and the available of each pool.
     Pools(&'a [(u64, u32, u32)]),
-    /// How many sets are out, and how many of these are retired.
+    /// How many sets are live, and how many of these are retired.
     Sets(u64, u64),
     /// How many pools were destroyed, and how many calls released sets.
     Device(u64, u64),
 }
 
-/// Compares how many sets are out, and how many of these are retired.
+/// Compares how many sets are live, and how many of these are retired.
 fn expect_sets(rt: &impl Abort, trial: &Trial, outstanding: u64, retired: u64) {
     let seen = [trial.manager.outstanding(), trial.manager.retired()];
     assert_eq!(rt; seen, [outstanding, retired]);

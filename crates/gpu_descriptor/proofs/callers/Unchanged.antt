@@ -9,7 +9,7 @@ module _ {L P S : Type 0} {means : Meaning L P S} {old new : Allocations P} {bef
   keeps_still agree load pool_load = record {
     agree = subst (λ (x : Allocations P × Ledger). Agrees means.pool_name x.0 x.1) (λ i. (sym same i, sym ledger i)) agree;
     limit = ap (λ (a : Allocations P). a.limit) same;
-    most = ap (λ (a : Allocations P). a.most) same;
+    bound = ap (λ (a : Allocations P). a.bound) same;
     load = load;
     pool_load = pool_load;
     others = λ i. others_of means.pool_name (same i) (ledger i);

@@ -4,10 +4,10 @@ use Rattle.gpu_descriptor.proofs.Common.{common_steps, ℕ, zero, suc, ◌*◌, 
 pub twice : (r : ℕ) → 2 ^ suc r ≡ 2 * 2 ^ r
 twice r = (let a = pow-suc 2 r in omega arith)
 
-within : (most n : ℕ) → n ≤ most → n < 2 ^ digits_within most n
+within : (bound n : ℕ) → n ≤ bound → n < 2 ^ digits_within bound n
 within zero n h = omega arith
-within (suc most) zero h = (let a = twice zero in omega arith)
-within (suc most) (suc n) h = grind (arith, common_steps, twice, (within most (suc n / 2) (omega arith)))
+within (suc bound) zero h = (let a = twice zero in omega arith)
+within (suc bound) (suc n) h = grind (arith, common_steps, twice, (within bound (suc n / 2) (omega arith)))
 
 pub digits_enough : (n : ℕ) → n < 2 ^ binary_digits n
 digits_enough n = within n n (omega arith)

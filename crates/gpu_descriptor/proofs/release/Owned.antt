@@ -1,4 +1,4 @@
--- The row of a set that is out: its key's, and the only one with its id.
+-- The row of a live set: its key's, and the only one with its id.
 -- For `release_run`, which finds the row of a run by its id and compares no keys. es are the entries of the map, and s is the state.
 use Rattle.gpu_descriptor.proofs.Common.{◌≡◌, ◌<◌, ℕ, suc, true, false, List, [], ◌∷◌, ◌++◌, slice_get, Option, Some, None, IfSome, inl, inr, refl, sym, ap, subst, ◌∙◌, arith, eq-eqb, eqb-true, map, nat_eq, HoldsAlong, cases_Bool, and_from, and_parts, false_from_ne_true, IsDistinct}
 use Rattle.gpu_descriptor.proofs.Common.{Ledger, count_by_yes, BucketKey, DescriptorSet, DescriptorBucket, AreOutstanding, Item, State, item_eq, outstanding, Bucket, Entry, Key, key_eq, books_of, books_in, entry_at, key_of, Allocations, item_of, items_of, state_of, rises, stored_ids, stored_keys, EndsRun, AllPass}
@@ -57,7 +57,7 @@ module _ {P S : Type 0} (name : P → ℕ) (set_name : S → ℕ) (a : Allocatio
   abbrev s : State
   s = state_of name a l
 
-  -- the key of a set that is out has a row, with the set's id
+  -- the key of a live set has a row, with the set's id
   pub owns : (t : Item) → 0 < outstanding s t → Owns t.key t.id es
   owns t out =
       let f = outstanding_found s t 0 out in
@@ -65,7 +65,7 @@ module _ {P S : Type 0} (name : P → ℕ) (set_name : S → ℕ) (a : Allocatio
       let r = found_row name t.key es t.number f.0 (ap (λ (b : Bucket). entry_at b t.number) (sym (books ∙ ap (λ (rows : List (Key × Bucket)). books_of rows t.key) (rows_are name es))) ∙ f.1) in
       record { place = r.0; bucket = r.1; row = r.2; has = sym (ap (λ (b : Bucket). b.id) (books ∙ present name distinct r.2)) ∙ f.3 }
 
-  -- the first set of a list that is out
+  -- the first set of a list that is live
   pub first_owns : (x : DescriptorSet S) (xs : List (DescriptorSet S)) → AreOutstanding (items_of set_name (x ∷ xs)) s → Owns x.key.is x.id es
   first_owns x xs out =
       let t = item_of set_name x in

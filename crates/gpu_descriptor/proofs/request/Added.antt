@@ -206,15 +206,15 @@ module _ (k : Key) (id : ℕ) (es : List Entry) (pools : ℕ → Option Pool) (b
       others = λ q off. old_here q (λ same. true≢false (sym (is_named_at longer (length es) x (get_last es x)) ∙ ap (are_named longer) (sym same) ∙ off));
     }
 
-  pub added_grown : (most : Option ℕ) (room left total wanted : ℕ) (names : List ℕ) (new : List Entry) (l m : Ledger) → l.pools ≡ pools → IsGrown most k room left total wanted names es new l m → Adds k (items_at k id (number_after (numbers_of es)) names) (bucket id es) (bucket id new) pools m.pools
-  added_grown most room left total wanted names new l m is g =
+  pub added_grown : (bound : Option ℕ) (room left total wanted : ℕ) (names : List ℕ) (new : List Entry) (l m : Ledger) → l.pools ≡ pools → IsGrown bound k room left total wanted names es new l m → Adds k (items_at k id (number_after (numbers_of es)) names) (bucket id es) (bucket id new) pools m.pools
+  added_grown bound room left total wanted names new l m is g =
       let f : Fresh = g.pool in
       let x : Entry = fresh_entry (number_after (numbers_of es)) f in
       let made : Pool = fresh (pool_counts k.counts f.size) f.size (flags_of k) in
       let empty : Entry = record x { allocated = 0; available = f.size } in
       let given = g.given in
       let many = g.many in
-      let booked_empty : IsAsBooked k made empty = record { flags = refl; at_least = g.size.some; small = next_small most k _ _ _ f.size g.size; capacity = refl; counts = refl; sets = λ y some. absurd (omega arith); allocated = ∣ ([], refl, λ y. refl) ∣₁; fits = omega arith; full = λ never. (let e : 0 + f.size ≡ f.size = omega arith in e) } in
+      let booked_empty : IsAsBooked k made empty = record { flags = refl; at_least = g.size.some; small = next_small bound k _ _ _ f.size g.size; capacity = refl; counts = refl; sets = λ y some. absurd (omega arith); allocated = ∣ ([], refl, λ y. refl) ∣₁; fits = omega arith; full = λ never. (let e : 0 + f.size ≡ f.size = omega arith in e) } in
       let became : Became (length names) false empty x = record { number = refl; pool = refl; capacity = refl; allocated = omega arith; fits = omega arith; whole = λ off. omega arith } in
       rw (g.entries, g.pools ∙ ap (λ (p : ℕ → Option Pool). on_pool f.pool (pool_with (live_sets k.counts names) false) (update nat_eq p f.pool (Some made))) is)
       (added_new x names made (ap (λ (p : ℕ → Option Pool). p f.pool) (sym is) ∙ g.is_new) refl (pool_booked k made empty x names false booked_empty became) (λ y. refl))

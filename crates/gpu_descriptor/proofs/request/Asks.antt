@@ -21,7 +21,7 @@ pub none_with : (o : Option Pool) → option_map (pool_with [] false) o ≡ o
 none_with None = refl
 none_with (Some p) = ap (λ (x : Pool). Some x) (pool_same p)
 
--- a pool is asked exactly if it has places and sets are wanting
+-- a pool is asked exactly if it has places and sets are needed
 asks_some : (free wanted : ℕ) → 0 < min wanted free → nat_lt 0 free && nat_lt 0 wanted ≡ true
 asks_some free wanted h = and_from _ _ (lt-ltb 0 free (omega arith)) (lt-ltb 0 wanted (omega arith))
 
@@ -51,7 +51,7 @@ skipped k wanted e l h = record {
   counters = (let t = asks_none e.available wanted h in rw t (let n = l.counters in same_counters _ _ (omega arith) (omega arith) (omega arith) (omega arith) (omega arith) (omega arith) (omega arith) (omega arith)));
 }
 
--- it gave what is wanting or all it has; it refused as fragmented or full; it returned a memory error (`no_memory`)
+-- it gave what is still needed or all it has; it refused as fragmented or full; it returned a memory error (`no_memory`)
 pub given :
     (k : Key) (wanted : ℕ) (names : List ℕ) (e : Entry) (l m : Ledger) → 0 < min wanted e.available
     → length names ≡ min wanted e.available → m ≡ after_alloc e.pool (live_sets k.counts names) l

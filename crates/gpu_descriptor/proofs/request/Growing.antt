@@ -24,20 +24,20 @@ abbrev pub all_so_far : ℕ → (ℕ → Bool) → List Fresh → List Part → 
 all_so_far id refused fresh parts = grant_of id 0 refused fresh parts
 
 -- old and l are the key's entries and the ledger at first, new and m those now; of the room start, room is left
-pub record Growing (most : Option ℕ) (k : Key) (start n id room total wanting : ℕ) (items : List Item) (old new : List Entry) (l m : Ledger) : Type 0 where
+pub record Growing (bound : Option ℕ) (k : Key) (start n id room total needed : ℕ) (items : List Item) (old new : List Entry) (l m : Ledger) : Type 0 where
   pub refused : ℕ → Bool
   pub parts : List Part
   pub fresh : List Fresh
   pub totals : total ≡ allocated_in (all_shared refused n old) + given_by fresh
-  pub wants : wanting + given_by fresh ≡ rest refused n old
-  pub sized : AreSized most k start (allocated_in (all_shared refused n old)) (rest refused n old) fresh
+  pub wants : needed + given_by fresh ≡ rest refused n old
+  pub sized : AreSized bound k start (allocated_in (all_shared refused n old)) (rest refused n old) fresh
   pub room_now : room ≡ room_after k start fresh
-  -- as long as sets are wanting each new pool gave all that it has, and once none is they are a whole fresh list
-  pub full : 0 < wanting → AreFull fresh
-  pub list : wanting ≡ 0 → IsFreshList most k start (allocated_in (all_shared refused n old)) (rest refused n old) fresh
+  -- as long as sets are needed each new pool gave all that it has, and once none is they are a whole fresh list
+  pub full : 0 < needed → AreFull fresh
+  pub list : needed ≡ 0 → IsFreshList bound k start (allocated_in (all_shared refused n old)) (rest refused n old) fresh
   pub taken : HasTaken k n (all_so_far id refused fresh parts) items (bucket id old) (bucket id new) l m
 
--- what is out rises by what was given
+-- the number of live sets rises by what was given
 pub allocated_shared : (refused : ℕ → Bool) (n : ℕ) (es : List Entry) → allocated_in (all_shared refused n es) + rest refused n es ≡ allocated_in es + n
 allocated_shared refused n [] = omega arith
 allocated_shared refused n (e ∷ newer) = grind (arith, common_steps, sum_by-cons, (allocated_shared refused n newer))
@@ -65,17 +65,17 @@ given_more : (fs : List Fresh) (f : Fresh) → given_by (fs ++ f ∷ []) ≡ giv
 given_more fs f = sum_by-append (λ (f : Fresh). f.given) fs (f ∷ []) ∙ (let one : given_by (f ∷ []) ≡ f.given = omega arith in omega arith)
 
 sized_more :
-    (most : Option ℕ) (k : Key) (room t w : ℕ) (fs : List Fresh) (f : Fresh) (left total wanted : ℕ)
-    → AreSized most k room t w fs → left ≡ room_after k room fs → total ≡ t + given_by fs → wanted ≡ w - given_by fs
-    → IsNextSize most k left total wanted f.size → AreSized most k room t w (fs ++ f ∷ [])
-sized_more most k room t w [] f left total wanted all room_is total_is wanted_is one =
+    (bound : Option ℕ) (k : Key) (room t w : ℕ) (fs : List Fresh) (f : Fresh) (left total wanted : ℕ)
+    → AreSized bound k room t w fs → left ≡ room_after k room fs → total ≡ t + given_by fs → wanted ≡ w - given_by fs
+    → IsNextSize bound k left total wanted f.size → AreSized bound k room t w (fs ++ f ∷ [])
+sized_more bound k room t w [] f left total wanted all room_is total_is wanted_is one =
     let a : total ≡ t = omega arith in
     let b : wanted ≡ w = omega arith in
     (rw (room_is, a, b) at one, tt)
-sized_more most k room t w (h ∷ fs) f left total wanted all room_is total_is wanted_is one =
+sized_more bound k room t w (h ∷ fs) f left total wanted all room_is total_is wanted_is one =
     (let s = sum_by-cons (λ (f : Fresh). f.given) h fs in (
       all.0,
-      sized_more most k (room - pool_descriptors k h.size) (t + h.given) (w - h.given) fs f left total wanted all.1
+      sized_more bound k (room - pool_descriptors k h.size) (t + h.given) (w - h.given) fs f left total wanted all.1
           room_is (omega arith) (omega arith) one,
     ))
 
@@ -83,8 +83,8 @@ full_more : (fs : List Fresh) (f : Fresh) → AreFull fs → f.given ≡ f.size 
 full_more [] f all one = (one, tt)
 full_more (h ∷ fs) f all one = (all.0, full_more fs f all.1 one)
 
-module _ {most : Option ℕ} {k : Key} {start n id room left total wanting : ℕ} {items : List Item} {old new new' : List Entry} {l m m' : Ledger} {more : List ℕ}
-    (booked : AreBookedIn k l.pools old) (s : Growing most k start n id room total wanting items old new l m) (a : IsGrown most k room left total wanting more new new' m m') where
+module _ {bound : Option ℕ} {k : Key} {start n id room left total needed : ℕ} {items : List Item} {old new new' : List Entry} {l m m' : Ledger} {more : List ℕ}
+    (booked : AreBookedIn k l.pools old) (s : Growing bound k start n id room total needed items old new l m) (a : IsGrown bound k room left total needed more new new' m m') where
   -- the pool and its name, the new pools with it, the number of the first, the part that came, and all parts
   abbrev f : Fresh
   f = a.pool
@@ -147,11 +147,11 @@ module _ {most : Option ℕ} {k : Key} {start n id room left total wanting : ℕ
   counters_now : m'.counters ≡ risen (grant_rise n (all_so_far id s.refused fresh_now parts_now) old) l.counters
   counters_now = grind (arith, common_steps, same_counters)
 
-  sized_now : AreSized most k start (allocated_in (all_shared s.refused n old)) (rest s.refused n old) fresh_now
-  sized_now = (let w = s.wants in sized_more most k start _ _ s.fresh f room total wanting s.sized s.room_now s.totals (omega arith) a.size)
+  sized_now : AreSized bound k start (allocated_in (all_shared s.refused n old)) (rest s.refused n old) fresh_now
+  sized_now = (let w = s.wants in sized_more bound k start _ _ s.fresh f room total needed s.sized s.room_now s.totals (omega arith) a.size)
 
-  -- one turn of the loop: the new pool gave all that was wanting, or all that it has
-  pub grow_more : {total' wanting' number : ℕ} {put : List Item} → 0 < wanting → total' ≡ total + length more → wanting' + length more ≡ wanting → number ≡ number_after (numbers_of new) → put ≡ items ++ items_at k id number more → Growing most k start n id left total' wanting' put old new' l m'
+  -- one turn of the loop: the new pool gave all that was needed, or all that it has
+  pub grow_more : {total' needed' number : ℕ} {put : List Item} → 0 < needed → total' ≡ total + length more → needed' + length more ≡ needed → number ≡ number_after (numbers_of new) → put ≡ items ++ items_at k id number more → Growing bound k start n id left total' needed' put old new' l m'
   grow_more some totals' less named put_is =
       let all = given_more s.fresh f in
       let g = a.given in
@@ -172,14 +172,14 @@ module _ {most : Option ℕ} {k : Key} {start n id room left total wanting : ℕ
           bucket = ap (bucket id) entries_now;
           pools = pools_now;
           counters = counters_now;
-          keeps = subst (λ (xs : List Item). Adds k xs (bucket id old) (bucket id new') l.pools m'.pools) (sym (put_is ∙ ap (λ (i : ℕ). items ++ items_at k id i more) named)) (added_both refl s.taken.keeps (added_grown k id new m.pools s.taken.keeps.booked s.taken.keeps.rising most room left total wanting more new' m m' refl a));
+          keeps = subst (λ (xs : List Item). Adds k xs (bucket id old) (bucket id new') l.pools m'.pools) (sym (put_is ∙ ap (λ (i : ℕ). items ++ items_at k id i more) named)) (added_both refl s.taken.keeps (added_grown k id new m.pools s.taken.keeps.booked s.taken.keeps.rising bound room left total needed more new' m m' refl a));
         };
       }
 
 -- after the walk, before the first new pool
-pub grow_start : {most : Option ℕ} {k : Key} {start n id own total wanting : ℕ} {items : List Item} {old new : List Entry} {l m : Ledger}
-    → IsWalked k n wanting items (bucket id old) (bucket own new) l m → own ≡ id → total + wanting ≡ allocated_in old + n → Growing most k start n id start total wanting items old new l m
-grow_start {most} {k} {n = n} {id = id} {items = items} {old = old} {new = new} {l = l} {m = m} walked ids totals =
+pub grow_start : {bound : Option ℕ} {k : Key} {start n id own total needed : ℕ} {items : List Item} {old new : List Entry} {l m : Ledger}
+    → IsWalked k n needed items (bucket id old) (bucket own new) l m → own ≡ id → total + needed ≡ allocated_in old + n → Growing bound k start n id start total needed items old new l m
+grow_start {bound} {k} {n = n} {id = id} {items = items} {old = old} {new = new} {l = l} {m = m} walked ids totals =
     let w : IsWalked k n _ items (bucket id old) (bucket id new) l m = rw (ids) at walked in
     let g = w.grant in
     let wants = w.wants in
@@ -199,14 +199,14 @@ grow_start {most} {k} {n = n} {id = id} {items = items} {old = old} {new = new} 
       taken = subst (λ (g : Grant). HasTaken k n g items (bucket id old) (bucket id new) l m) grant w.taken;
     }
 
--- the loop ends with no set wanting, and all was taken; or it stops before (`grow_stop`), and so much was
-pub grow_end : {most : Option ℕ} {k : Key} {start n id own room total wanting : ℕ} {items : List Item} {old new : List Entry} {l m : Ledger}
-    → Growing most k start n id room total wanting items old new l m → wanting ≡ 0 → own ≡ id → (done : Unit {0}) → IsTaken (Ok done) most k start n items (bucket id old) (bucket own new) l m
+-- the loop ends with no set needed, and all was taken; or it stops before (`grow_stop`), and so much was
+pub grow_end : {bound : Option ℕ} {k : Key} {start n id own room total needed : ℕ} {items : List Item} {old new : List Entry} {l m : Ledger}
+    → Growing bound k start n id room total needed items old new l m → needed ≡ 0 → own ≡ id → (done : Unit {0}) → IsTaken (Ok done) bound k start n items (bucket id old) (bucket own new) l m
 grow_end s end ids done = rw (ids) (all_so_far _ s.refused s.fresh s.parts, s.taken, refl, s.list end)
 
-pub grow_stop : (why : Stop) {most : Option ℕ} {k : Key} {start n id own room total wanting : ℕ} {items put : List Item} {old new newer : List Entry} {l m m' : Ledger}
-    → 0 < wanting → Growing most k start n id room total wanting items old new l m → put ≡ items → newer ≡ new → own ≡ id → IsRefused why m m' → StopsAtNew why k room → IsTaken (Err why) most k start n put (bucket id old) (bucket own newer) l m'
-grow_stop why {most} {k} {start} {n} {id} {old = old} {m = m} some s same_sets same_pools ids refused in_room = rw (same_sets, same_pools, ids) (
+pub grow_stop : (why : Stop) {bound : Option ℕ} {k : Key} {start n id own room total needed : ℕ} {items put : List Item} {old new newer : List Entry} {l m m' : Ledger}
+    → 0 < needed → Growing bound k start n id room total needed items old new l m → put ≡ items → newer ≡ new → own ≡ id → IsRefused why m m' → StopsAtNew why k room → IsTaken (Err why) bound k start n put (bucket id old) (bucket own newer) l m'
+grow_stop why {bound} {k} {start} {n} {id} {old = old} {m = m} some s same_sets same_pools ids refused in_room = rw (same_sets, same_pools, ids) (
   all_so_far _ s.refused s.fresh s.parts,
   m,
   s.taken,
@@ -214,7 +214,7 @@ grow_stop why {most} {k} {start} {n} {id} {old = old} {m = m} some s same_sets s
   refused,
 )
   where
-    stops_at : (why : Stop) → IsFreshPrefix most k start (allocated_in (all_shared s.refused n old)) (rest s.refused n old) s.fresh → StopsAtNew why k (room_after k start s.fresh) → StopsAt why most k start n (all_so_far id s.refused s.fresh s.parts) old
+    stops_at : (why : Stop) → IsFreshPrefix bound k start (allocated_in (all_shared s.refused n old)) (rest s.refused n old) s.fresh → StopsAtNew why k (room_after k start s.fresh) → StopsAt why bound k start n (all_so_far id s.refused s.fresh s.parts) old
     stops_at (stop.ExistingPoolWithoutMemory e) front none = absurd none
     stops_at why front none = (refl, front, none)
 

@@ -12,12 +12,12 @@ use Rattle.gpu_descriptor.proofs.request.Promises.{short}
 module _ {L P S : Type 0} {means : Meaning L P S} {k : Key} {count : ℕ} {sets : List (DescriptorSet S)} {ended : Result (Unit {0}) Stop} {old new : Allocations P} {before after : Ledger}
     (t : Takes means k count sets ended (side old before) (side new after)) (agree : Agree (state_of means.pool_name old before)) where
   -- what every call keeps: once the sets came, and once they went back
-  pub keeps_all : HasDistinctKeys (table_of means.pool_name new) → new.limit ≡ old.limit → new.most ≡ old.most → marked_load_of new ≤ new.limit → pool_load_of new ≤ new.limit → Keeps means (side old before) (side new after)
-  keeps_all rows limit most load pool_load =
+  pub keeps_all : HasDistinctKeys (table_of means.pool_name new) → new.limit ≡ old.limit → new.bound ≡ old.bound → marked_load_of new ≤ new.limit → pool_load_of new ≤ new.limit → Keeps means (side old before) (side new after)
+  keeps_all rows limit bound load pool_load =
       record {
         agree = record { rows = rows; books = taken_agree t agree };
         limit = limit;
-        most = most;
+        bound = bound;
         load = load;
         pool_load = pool_load;
         others = taken_others_of t agree;

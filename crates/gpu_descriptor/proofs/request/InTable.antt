@@ -43,19 +43,19 @@ taken_new : {k : Key} {n id : ℕ} {g : Grant} {items : List Item} {b : Bucket} 
 taken_new t = record { grant = grant_new t.grant; came = t.came; bucket = t.bucket; pools = t.pools; counters = t.counters; keeps = (let a = t.keeps in record { booked = a.booked; rising = a.rising; live = a.live; stays = a.stays; comes = a.comes; others = a.others }) }
 
 served_new :
-    {L P S : Type 0} {means : Meaning L P S} {most : Option ℕ} {k : Key} {room count id : ℕ}
+    {L P S : Type 0} {means : Meaning L P S} {bound : Option ℕ} {k : Key} {room count id : ℕ}
     {sets : List (DescriptorSet S)} {ended : Result (Unit {0}) Stop} {b : Bucket} {before after : Ledger}
-    → IsServed means most k room count sets ended (record no_pools { id = id }) b before after
-    → IsServed means most k room count sets ended no_pools b before after
+    → IsServed means bound k room count sets ended (record no_pools { id = id }) b before after
+    → IsServed means bound k room count sets ended no_pools b before after
 served_new {ended = Ok done} s = record { numbers = s.numbers; few = s.few; all = s.all; taken = (s.taken.0, taken_new s.taken.1, s.taken.2, s.taken.3) }
 served_new {ended = Err why} s = record { numbers = s.numbers; few = s.few; all = s.all; taken = (s.taken.0, s.taken.1, taken_new s.taken.2, s.taken.3, s.taken.4) }
 
 -- what one key gave, in the table
-module _ {L P S : Type 0} {means : Meaning L P S} (k : BucketKey) (w : DescriptorBucket P) {old : Bucket} {most : Option ℕ} {room count : ℕ} {sets : List (DescriptorSet S)} {ended : Result (Unit {0}) Stop} {before after : Ledger}
-    (s : IsServed means most (key_of k) room count sets ended old (bucket_of means.pool_name w) before after) where
+module _ {L P S : Type 0} {means : Meaning L P S} (k : BucketKey) (w : DescriptorBucket P) {old : Bucket} {bound : Option ℕ} {room count : ℕ} {sets : List (DescriptorSet S)} {ended : Result (Unit {0}) Stop} {before after : Ledger}
+    (s : IsServed means bound (key_of k) room count sets ended old (bucket_of means.pool_name w) before after) where
   module _ {had : ℕ} (total : w.total ≡ had + length sets) (es : List (BucketKey × DescriptorBucket P)) {fs : List (BucketKey × DescriptorBucket P)} where
     -- the key had a row, which was written; or its row came last (`serves_new`)
-    pub serves_present : {i : ℕ} {v : DescriptorBucket P} → IsDistinct key_eq (stored_keys es) → bucket_of means.pool_name v ≡ old → v.total ≡ had → IsAt (key_of k) es i v → fs ≡ set_value_at es i w → ServesKey means most (key_of k) room count sets ended (map row_of es) (map row_of fs) before after
+    pub serves_present : {i : ℕ} {v : DescriptorBucket P} → IsDistinct key_eq (stored_keys es) → bucket_of means.pool_name v ≡ old → v.total ≡ had → IsAt (key_of k) es i v → fs ≡ set_value_at es i w → ServesKey means bound (key_of k) room count sets ended (map row_of es) (map row_of fs) before after
     serves_present {i} {v} distinct was many h wrote =
         let here : books_in means.pool_name (map row_of es) (key_of k) ≡ old = present means.pool_name distinct h ∙ was in
         let out = (sum_put (λ b. b.1.total) es i h.key v w h.at).1 in
@@ -63,7 +63,7 @@ module _ {L P S : Type 0} {means : Meaning L P S} (k : BucketKey) (w : Descripto
         let grows = load_grows k h.key v w (length sets) h.is (total ∙ ap (λ n. n + length sets) (sym many)) in
         rw wrote (record {
           bucket = bucket_of means.pool_name w;
-          served = subst (λ (b : Bucket). IsServed means most (key_of k) room count sets ended b (bucket_of means.pool_name w) before after) (sym here) s;
+          served = subst (λ (b : Bucket). IsServed means bound (key_of k) room count sets ended b (bucket_of means.pool_name w) before after) (sym here) s;
           books = written means.pool_name distinct h w;
           out = (let was = rows_out es in let is = rows_out (set_value_at es i w) in omega arith);
           load = (let was = rows_load es in let is = rows_load (set_value_at es i w) in omega arith);
@@ -72,12 +72,12 @@ module _ {L P S : Type 0} {means : Meaning L P S} (k : BucketKey) (w : Descripto
     pub serves_new :
         (test : BucketKey → Bool) → ((l : BucketKey) → test l ≡ key_eq (key_of k) (key_of l)) → lookup test es ≡ None
         → fs ≡ es ++ (k, w) ∷ [] → old ≡ record no_pools { id = old.id } → had ≡ 0
-        → ServesKey means most (key_of k) room count sets ended (map row_of es) (map row_of fs) before after
+        → ServesKey means bound (key_of k) room count sets ended (map row_of es) (map row_of fs) before after
     serves_new test same at put empty none =
         let gone = missing means.pool_name (key_of k) es test same at in
         rw put (record {
           bucket = bucket_of means.pool_name w;
-          served = subst (λ (b : Bucket). IsServed means most (key_of k) room count sets ended b (bucket_of means.pool_name w) before after) (sym gone) (served_new (subst (λ (b : Bucket). IsServed means most (key_of k) room count sets ended b (bucket_of means.pool_name w) before after) empty s));
+          served = subst (λ (b : Bucket). IsServed means bound (key_of k) room count sets ended b (bucket_of means.pool_name w) before after) (sym gone) (served_new (subst (λ (b : Bucket). IsServed means bound (key_of k) room count sets ended b (bucket_of means.pool_name w) before after) empty s));
           books = books_end means.pool_name k w test same es at;
           out = (let was = rows_out es in let is = rows_out (es ++ (k, w) ∷ []) in let a = sum_by-append (λ (r : BucketKey × DescriptorBucket P). r.1.total) es ((k, w) ∷ []) in let one : sum_by (λ (r : BucketKey × DescriptorBucket P). r.1.total) ((k, w) ∷ []) ≡ w.total = omega arith in omega arith);
           load =

@@ -1,6 +1,6 @@
 -- The new pools of a request: their sizes, and what the pools before them have left. For request.Promises.
 use Rattle.gpu_descriptor.proofs.Common.{common_steps, ◌≡◌, ℕ, ◌+◌, ◌-◌, ◌<◌, Bool, List, [], ◌∷◌, ◌++◌, length, take, refl, sym, ap, ◌∙◌, arith, append_assoc, length-append, All, take_at, All-nil, All-cons, All-append, All-same, sum_by-cons, Option, State, Key, Entry, Fresh, AreSized, AreFull}
-use Rattle.gpu_descriptor.proofs.Common.{IsFreshList, given_by, fresh_entries, fresh_entry, next_number, Grant, granted, pool_descriptors, Call, IsDone, out_then, wanting, AreBelowTwice, offer, rest, shared, all_shared}
+use Rattle.gpu_descriptor.proofs.Common.{IsFreshList, given_by, fresh_entries, fresh_entry, next_number, Grant, granted, pool_descriptors, Call, IsDone, out_then, needed, AreBelowTwice, offer, rest, shared, all_shared}
 use Rattle.gpu_descriptor.specs.Model.FreshPools.IsFreshList.{none as no_fresh, some as some_fresh}
 use Rattle.gpu_descriptor.proofs.table.Exact.{key_exact}
 use Rattle.gpu_descriptor.proofs.request.FreshNumbers.{fresh_entries_more}
@@ -9,17 +9,17 @@ use Rattle.gpu_descriptor.proofs.request.NextSize.{next_below}
 -- ---- sizes
 
 -- each is below twice its start size: in a prefix, and in a prefix and one more
-pub prefix_below : (most : Option ℕ) (k : Key) (room total wanted : ℕ) (pools : List Fresh) → AreSized most k room total wanted pools → AreFull pools → given_by pools < wanted → AreBelowTwice total wanted pools
-prefix_below most k room total wanted [] sized full short = tt
-prefix_below most k room total wanted (f ∷ pools) sized full short =
+pub prefix_below : (bound : Option ℕ) (k : Key) (room total wanted : ℕ) (pools : List Fresh) → AreSized bound k room total wanted pools → AreFull pools → given_by pools < wanted → AreBelowTwice total wanted pools
+prefix_below bound k room total wanted [] sized full short = tt
+prefix_below bound k room total wanted (f ∷ pools) sized full short =
     let sum = sum_by-cons (λ (g : Fresh). g.given) f pools in
-    (omega arith, next_below most k room total wanted f.size sized.0, prefix_below most k (room - pool_descriptors k f.size) (total + f.given) (wanted - f.given) pools sized.1 full.1 (omega arith))
+    (omega arith, next_below bound k room total wanted f.size sized.0, prefix_below bound k (room - pool_descriptors k f.size) (total + f.given) (wanted - f.given) pools sized.1 full.1 (omega arith))
 
-pub list_below : (most : Option ℕ) (k : Key) (room total wanted : ℕ) (front : List Fresh) (last : Fresh) → AreSized most k room total wanted (front ++ last ∷ []) → AreFull front → given_by front < wanted → AreBelowTwice total wanted (front ++ last ∷ [])
-list_below most k room total wanted [] last sized full short = (omega arith, next_below most k room total wanted last.size sized.0, tt)
-list_below most k room total wanted (f ∷ front) last sized full short =
+pub list_below : (bound : Option ℕ) (k : Key) (room total wanted : ℕ) (front : List Fresh) (last : Fresh) → AreSized bound k room total wanted (front ++ last ∷ []) → AreFull front → given_by front < wanted → AreBelowTwice total wanted (front ++ last ∷ [])
+list_below bound k room total wanted [] last sized full short = (omega arith, next_below bound k room total wanted last.size sized.0, tt)
+list_below bound k room total wanted (f ∷ front) last sized full short =
     let sum = sum_by-cons (λ (g : Fresh). g.given) f front in
-    (omega arith, next_below most k room total wanted f.size sized.0, list_below most k (room - pool_descriptors k f.size) (total + f.given) (wanted - f.given) front last sized.1 full.1 (omega arith))
+    (omega arith, next_below bound k room total wanted f.size sized.0, list_below bound k (room - pool_descriptors k f.size) (total + f.given) (wanted - f.given) front last sized.1 full.1 (omega arith))
 
 -- ---- known free places
 
@@ -55,7 +55,7 @@ module _ (c : Call) (d : IsDone c) where
   pub done_filled : 0 < length d.grant.fresh → AreFilled c
   done_filled more = by_list d.fresh
     where
-      by_list : IsFreshList c.most k (c.limit - c.pooled) (out_then c d.grant) (wanting c d.grant) d.grant.fresh → AreFilled c
+      by_list : IsFreshList c.bound k (c.limit - c.pooled) (out_then c d.grant) (needed c d.grant) d.grant.fresh → AreFilled c
       by_list (no_fresh zero_wanted empty) = (let e = ap length empty in absurd (omega arith))
       by_list (some_fresh front last is short sized le given) =
           let shares : List Entry = all_shared d.grant.refused c.count (c.old.books k).pools in

@@ -6,13 +6,13 @@ use Rattle.gpu_descriptor_types.proofs.Sizes.{fewer_fit, pool_size_below, pool_s
 
 -- ---- a key's next pool
 
-module _ (most : Option ℕ) (k : Key) (room total wanted size : ℕ) (s : IsNextSize most k room total wanted size) where
+module _ (bound : Option ℕ) (k : Key) (room total wanted size : ℕ) (s : IsNextSize bound k room total wanted size) where
   -- how many sets it would hold without the bound
   abbrev unbounded : ℕ
   unbounded = if k.marked then sets_in_room room (sum k.counts) s.whole else s.whole
 
   least : size ≤ unbounded
-  least = (let is = s.cut in let a = bounded_few most (sum k.counts) wanted unbounded in omega arith)
+  least = (let is = s.cut in let a = bounded_few bound (sum k.counts) wanted unbounded in omega arith)
 
   few : size ≤ s.whole
   few = grind (arith, common_steps, few_in_room, least)
@@ -42,12 +42,12 @@ module _ (most : Option ℕ) (k : Key) (room total wanted size : ℕ) (s : IsNex
   pub one_fits : pool_descriptors k 1 ≤ room
   one_fits = grind (arith, common_steps, mul-le-mul_right, next_fits)
 
-  -- where it leaves room for another and is below what is wanting, it was not cut
+  -- where it leaves room for another and is below what is still needed, it was not cut
   pub next_whole : size < wanted → pool_descriptors k 1 ≤ room - pool_descriptors k size → IsPoolSize k.counts total wanted size
   next_whole short left = subst (λ n. IsPoolSize k.counts total wanted n) (sym is) s.is_whole
     where
       all : size ≡ unbounded
-      all = bounded_whole most (sum k.counts) wanted unbounded size s.cut short
+      all = bounded_whole bound (sum k.counts) wanted unbounded size s.cut short
 
       is : size ≡ s.whole
       is = grind (arith, common_steps, whole_in_room)
@@ -59,6 +59,6 @@ room_more k room [] f = refl
 room_more k room (g ∷ pools) f = room_more k (room - pool_descriptors k g.size) pools f
 
 -- before the last of some there was room for one
-pub last_fits : (most : Option ℕ) (k : Key) (room total wanted : ℕ) (front : List Fresh) (last : Fresh) → AreSized most k room total wanted (front ++ last ∷ []) → pool_descriptors k 1 ≤ room_after k room front
-last_fits most k room total wanted [] last sized = one_fits most k room total wanted last.size sized.0
-last_fits most k room total wanted (f ∷ front) last sized = last_fits most k (room - pool_descriptors k f.size) (total + f.given) (wanted - f.given) front last sized.1
+pub last_fits : (bound : Option ℕ) (k : Key) (room total wanted : ℕ) (front : List Fresh) (last : Fresh) → AreSized bound k room total wanted (front ++ last ∷ []) → pool_descriptors k 1 ≤ room_after k room front
+last_fits bound k room total wanted [] last sized = one_fits bound k room total wanted last.size sized.0
+last_fits bound k room total wanted (f ∷ front) last sized = last_fits bound k (room - pool_descriptors k f.size) (total + f.given) (wanted - f.given) front last sized.1

@@ -13,29 +13,29 @@ use Rattle.gpu_descriptor.proofs.release.StoredNumbers.{numbers_stored}
 use Rattle.std.proofs.lemmas.Simd.{map-map}
 
 -- so far the pools from a place on were asked as far as they had something, and the list has the open pools
-pub record OpenWalk {P : Type 0} (name : P → ℕ) (k : Key) (n id first wanting : ℕ) (out : List Item) (old : List Entry) (items : List (DescriptorPool P)) (numbers : List ℕ) (l m : Ledger) : Type 0 where
+pub record OpenWalk {P : Type 0} (name : P → ℕ) (k : Key) (n id first needed : ℕ) (out : List Item) (old : List Entry) (items : List (DescriptorPool P)) (numbers : List ℕ) (l m : Ledger) : Type 0 where
   pub long : length items ≡ length old
   pub listed : numbers ≡ open_ordinals first (free_in items)
   pub left : ℕ
   pub within : left ≤ length old
-  -- the pools from there on have nothing, or nothing is wanting
-  pub closed : (j : ℕ) (e : Entry) → left ≤ j → slice_get (map (entry_of name) items) j ≡ Some e → min wanting e.available ≡ 0
-  pub walking : Walking k n id left wanting out old (map (entry_of name) items) l m
+  -- the pools from there on have nothing, or nothing is needed
+  pub closed : (j : ℕ) (e : Entry) → left ≤ j → slice_get (map (entry_of name) items) j ≡ Some e → min needed e.available ≡ 0
+  pub walking : Walking k n id left needed out old (map (entry_of name) items) l m
 
-module _ {P : Type 0} {name : P → ℕ} {k : Key} {n id first wanting : ℕ} {out : List Item} {old : List Entry} {items : List (DescriptorPool P)} {numbers : List ℕ} {l m : Ledger}
-    (booked : AreBookedIn k l.pools old) (s : OpenWalk name k n id first wanting out old items numbers l m) where
+module _ {P : Type 0} {name : P → ℕ} {k : Key} {n id first needed : ℕ} {out : List Item} {old : List Entry} {items : List (DescriptorPool P)} {numbers : List ℕ} {l m : Ledger}
+    (booked : AreBookedIn k l.pools old) (s : OpenWalk name k n id first needed out old items numbers l m) where
   free_get : (j : ℕ) (e : Entry) → slice_get (map (entry_of name) items) j ≡ Some e → slice_get (free_in items) j ≡ Some e.available
   free_get j e at = ap (λ (free : List ℕ). slice_get free j) (sym (map-map (λ (d : Entry). d.available) (entry_of name) items)) ∙ slice_get-map (λ (d : Entry). d.available) (map (entry_of name) items) j ∙ ap (option_map (λ (d : Entry). d.available)) at
 
-  -- where nothing is wanting the older pools are left
-  pub walk_sated : wanting ≡ 0 → Walking k n id 0 wanting out old (map (entry_of name) items) l m
-  walk_sated none = walk_gap k n id wanting out old (map (entry_of name) items) l m booked s.left 0 s.left (omega arith) s.within (λ j e le lt at. omega arith) s.walking
+  -- where nothing is needed the older pools are left
+  pub walk_sated : needed ≡ 0 → Walking k n id 0 needed out old (map (entry_of name) items) l m
+  walk_sated none = walk_gap k n id needed out old (map (entry_of name) items) l m booked s.left 0 s.left (omega arith) s.within (λ j e le lt at. omega arith) s.walking
 
   -- where no pool is open they have nothing
-  pub walk_empty : numbers ≡ [] → Walking k n id 0 wanting out old (map (entry_of name) items) l m
-  walk_empty none = walk_gap k n id wanting out old (map (entry_of name) items) l m booked s.left 0 s.left (omega arith) s.within (λ j e le lt at. (let z = open_all_none first (free_in items) (sym s.listed ∙ none) j e.available (free_get j e at) in omega arith)) s.walking
+  pub walk_empty : numbers ≡ [] → Walking k n id 0 needed out old (map (entry_of name) items) l m
+  walk_empty none = walk_gap k n id needed out old (map (entry_of name) items) l m booked s.left 0 s.left (omega arith) s.within (λ j e le lt at. (let z = open_all_none first (free_in items) (sym s.listed ∙ none) j e.available (free_get j e at) in omega arith)) s.walking
 
-  module _ (some : 0 < wanting) (front : List ℕ) (place : ℕ) (last : numbers ≡ front ++ (first + place) ∷ []) where
+  module _ (some : 0 < needed) (front : List ℕ) (place : ℕ) (last : numbers ≡ front ++ (first + place) ∷ []) where
     -- the pool of the last number is the newest open one
     newest : IsNewestOpen first (free_in items) front (first + place)
     newest = newest_open first (free_in items) front (first + place) (sym s.listed ∙ last)
@@ -58,13 +58,13 @@ module _ {P : Type 0} {name : P → ℕ} {k : Key} {n id first wanting : ℕ} {o
       has_free = grind (arith, common_steps, entry_at_place, free_get, newest, place_is)
 
       -- the walk passes the pools after it, which have nothing, and comes to it
-      pub walk_reaches : Walking k n id (suc place) wanting out old (map (entry_of name) items) l m
+      pub walk_reaches : Walking k n id (suc place) needed out old (map (entry_of name) items) l m
       walk_reaches =
           let to : suc place ≤ s.left = elim (cases_lt place s.left) [ inl lt ↦ omega arith | inr le ↦ (let a = s.closed place (entry_of name p) le entry_at_place in let b = has_free in absurd (omega arith)) ] in
-          walk_gap k n id wanting out old (map (entry_of name) items) l m booked (s.left - suc place) (suc place) s.left (omega arith) s.within (λ j e le lt there. (let z = newer j e.available (omega arith) (free_get j e there) in omega arith)) s.walking
+          walk_gap k n id needed out old (map (entry_of name) items) l m booked (s.left - suc place) (suc place) s.left (omega arith) s.within (λ j e le lt there. (let z = newer j e.available (omega arith) (free_get j e there) in omega arith)) s.walking
 
       was : slice_get old place ≡ Some (entry_of name p)
-      was = sym (next_was k n id place wanting out old (map (entry_of name) items) l m booked walk_reaches (let a = inside in let b = s.long in omega arith)) ∙ entry_at_place
+      was = sym (next_was k n id place needed out old (map (entry_of name) items) l m booked walk_reaches (let a = inside in let b = s.long in omega arith)) ∙ entry_at_place
 
       -- what stands in the books and the list once it was asked
       module _ (q : DescriptorPool P) where
@@ -75,38 +75,38 @@ module _ {P : Type 0} {name : P → ℕ} {k : Key} {n id first wanting : ℕ} {o
         pub listed_now_open : 0 < q.available → numbers ≡ open_ordinals first (free_in (slice_set items place q))
         listed_now_open has = listed_stays first items numbers s.listed place p q at has_free has
 
-        pub closed_now : (names : List ℕ) (m' : Ledger) (wanting' : ℕ) → IsAsked k wanting names (entry_of name p) (entry_of name q) m m' → wanting' + length names ≡ wanting
-            → (j : ℕ) (e : Entry) → place ≤ j → slice_get (map (entry_of name) (slice_set items place q)) j ≡ Some e → min wanting' e.available ≡ 0
-        closed_now names m' wanting' asked less j e le there = grind (arith, common_steps, free_get, map-set, newer, set_got)
+        pub closed_now : (names : List ℕ) (m' : Ledger) (needed' : ℕ) → IsAsked k needed names (entry_of name p) (entry_of name q) m m' → needed' + length names ≡ needed
+            → (j : ℕ) (e : Entry) → place ≤ j → slice_get (map (entry_of name) (slice_set items place q)) j ≡ Some e → min needed' e.available ≡ 0
+        closed_now names m' needed' asked less j e le there = grind (arith, common_steps, free_get, map-set, newer, set_got)
 
         -- one look for one pool that was asked
-        pub one_asked : (names : List ℕ) (m' : Ledger) → IsAsked k wanting names (entry_of name p) (entry_of name q) m m' → m'.counters.asked ≡ m.counters.asked + 1
-        one_asked names m' asked = ap (λ (x : Counters). x.asked) asked.counters ∙ rw (lt-ltb 0 p.available has_free, lt-ltb 0 wanting some) refl
+        pub one_asked : (names : List ℕ) (m' : Ledger) → IsAsked k needed names (entry_of name p) (entry_of name q) m m' → m'.counters.asked ≡ m.counters.asked + 1
+        one_asked names m' asked = ap (λ (x : Counters). x.asked) asked.counters ∙ rw (lt-ltb 0 p.available has_free, lt-ltb 0 needed some) refl
 
         -- one turn of the loop: the pool gave, or refused as fragmented or full. On an error of memory the walk stops
-        pub open_walk_more : {put : List Item} {items' : List (DescriptorPool P)} {numbers' : List ℕ} {own start wanting' : ℕ} {names : List ℕ} {m' : Ledger}
+        pub open_walk_more : {put : List Item} {items' : List (DescriptorPool P)} {numbers' : List ℕ} {own start needed' : ℕ} {names : List ℕ} {m' : Ledger}
             → own ≡ id → start ≡ first → put ≡ out ++ items_at k id p.number names → items' ≡ slice_set items place q → numbers' ≡ open_ordinals first (free_in (slice_set items place q))
-            → IsAsked k wanting names (entry_of name p) (entry_of name q) m m' → wanting' + length names ≡ wanting → OpenWalk name k n own start wanting' put old items' numbers' l m'
-        open_walk_more {put} {wanting' = wanting'} {names = names} {m' = m'} ids starts put_is items_is listed' asked less =
-            let next = walk_more k n id place wanting out old (map (entry_of name) items) l m booked walk_reaches (entry_of name p) (entry_of name q) names m' wanting' was asked less in
+            → IsAsked k needed names (entry_of name p) (entry_of name q) m m' → needed' + length names ≡ needed → OpenWalk name k n own start needed' put old items' numbers' l m'
+        open_walk_more {put} {needed' = needed'} {names = names} {m' = m'} ids starts put_is items_is listed' asked less =
+            let next = walk_more k n id place needed out old (map (entry_of name) items) l m booked walk_reaches (entry_of name p) (entry_of name q) names m' needed' was asked less in
             rw (ids, starts, items_is) (record {
               long = length-set items place q ∙ s.long;
               listed = listed';
               left = place;
               within = (let a = inside in let b = s.long in omega arith);
-              closed = closed_now names m' wanting' asked less;
+              closed = closed_now names m' needed' asked less;
               walking = rw (put_is, map-set (entry_of name) items place q) next;
             })
 
-        pub open_walk_stop : {own : ℕ} (room : ℕ) (error : DeviceAllocationError) (m' : Ledger) → id ≡ own → entry_of name q ≡ entry_of name p → IsNoMemory wanting (entry_of name p) error m m'
+        pub open_walk_stop : {own : ℕ} (room : ℕ) (error : DeviceAllocationError) (m' : Ledger) → id ≡ own → entry_of name q ≡ entry_of name p → IsNoMemory needed (entry_of name p) error m m'
             → IsTaken (Err (ExistingPoolWithoutMemory error)) None k room n out (bucket own old) (bucket id (map (entry_of name) (slice_set items place q))) l m'
-        open_walk_stop room error m' ids same none = rw (sym ids, map-set (entry_of name) items place q) (walk_stop k room n id place wanting out old (map (entry_of name) items) l m m' (entry_of name p) (entry_of name q) error walk_reaches was entry_at_place same none)
+        open_walk_stop room error m' ids same none = rw (sym ids, map-set (entry_of name) items place q) (walk_stop k room n id place needed out old (map (entry_of name) items) l m m' (entry_of name p) (entry_of name q) error walk_reaches was entry_at_place same none)
 
         pub listed_now_same : entry_of name q ≡ entry_of name p → numbers ≡ open_ordinals first (free_in (slice_set items place q))
         listed_now_same same = listed_now_open (let a : q.available ≡ p.available = ap (λ (d : Entry). d.available) same in let b = has_free in omega arith)
 
       pub next_is_booked : IsBookedIn k m.pools (entry_of name p)
-      next_is_booked = next_booked k n id place wanting out old (map (entry_of name) items) l m booked walk_reaches (entry_of name p) was
+      next_is_booked = next_booked k n id place needed out old (map (entry_of name) items) l m booked walk_reaches (entry_of name p) was
 
 pub open_walk_start : {P : Type 0} (name : P → ℕ) (k : Key) (n id first : ℕ) (items : List (DescriptorPool P)) (numbers : List ℕ) (l : Ledger) → numbers ≡ open_ordinals first (free_in items) → AreBookedIn k l.pools (map (entry_of name) items) → rises (stored_numbers items) ≡ true → OpenWalk name k n id first n [] (map (entry_of name) items) items numbers l l
 open_walk_start name k n id first items numbers l listed booked rising = record {

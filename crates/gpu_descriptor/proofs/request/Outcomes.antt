@@ -34,9 +34,9 @@ had_so {k} {g = g} {new = new} t is =
       owns = λ some. id ∙ t.grant.id some;
     }
 
-had_taken : (ended : Result (Unit {0}) Stop) (most : Option ℕ) (k : Key) (room n : ℕ) (items : List Item) (old new : Bucket) (l m : Ledger) → IsTaken ended most k room n items old new l m → Had k items old new l.pools m.pools
-had_taken (Ok x) most k room n items old new l m t = had_so t.1 refl
-had_taken (Err why) most k room n items old new l m t = had_so t.2 t.4.pools
+had_taken : (ended : Result (Unit {0}) Stop) (bound : Option ℕ) (k : Key) (room n : ℕ) (items : List Item) (old new : Bucket) (l m : Ledger) → IsTaken ended bound k room n items old new l m → Had k items old new l.pools m.pools
+had_taken (Ok x) bound k room n items old new l m t = had_so t.1 refl
+had_taken (Err why) bound k room n items old new l m t = had_so t.2 t.4.pools
 
 module _ {L P S : Type 0} {means : Meaning L P S} {k : Key} {count : ℕ} {sets : List (DescriptorSet S)} {ended : Result (Unit {0}) Stop} {old new : Allocations P} {before after : Ledger}
     (t : Takes means k count sets ended (side old before) (side new after)) (agree : Agree (state_of means.pool_name old before)) where
@@ -55,7 +55,7 @@ module _ {L P S : Type 0} {means : Meaning L P S} {k : Key} {count : ℕ} {sets 
   state = λ i. record { books = fun_ext t.serves.books i; ledger = after.pools }
 
   had : Had k items (s.books k) t.serves.bucket s.ledger after.pools
-  had = had_taken ended old.most k room count items (s.books k) t.serves.bucket before after t.serves.served.taken
+  had = had_taken ended old.bound k room count items (s.books k) t.serves.bucket before after t.serves.served.taken
 
   -- books and ledger agree after it
   pub taken_agree : Agree (state_of means.pool_name new after)
@@ -114,7 +114,7 @@ module _ {L P S : Type 0} {means : Meaning L P S} {k : Key} {count : ℕ} {sets 
       now = state ∙ (λ i. with_bucket k (taken.bucket i) ((refused.pools ∙ taken.pools) i) s)
 
       -- it is the outcome `stopped`, for this reason, and so for whatever reason (`went_back`)
-      rolls : StopsAt why old.most k room count g (s.books k).pools → Rolls why
+      rolls : StopsAt why old.bound k room count g (s.books k).pools → Rolls why
       rolls at = (
         stopped (proceeds some last final _) (record {
           why = why;
@@ -135,7 +135,7 @@ module _ {L P S : Type 0} {means : Meaning L P S} {k : Key} {count : ℕ} {sets 
 
     pub went_back : {why : Stop} → ended ≡ Err why → Rolls why
     went_back {why} is =
-        let taken = subst (λ (r : Result (Unit {0}) Stop). IsTaken r old.most k room count items (s.books k) t.serves.bucket before after) is t.serves.served.taken in
+        let taken = subst (λ (r : Result (Unit {0}) Stop). IsTaken r old.bound k room count items (s.books k) t.serves.bucket before after) is t.serves.served.taken in
         rolls why taken.0 taken.1 taken.2 taken.4 taken.3
 
   module _ {last : Allocations P} {final : Ledger} {calls : ℕ} (back : GivesBack means sets calls (side new after) (side last final)) where
@@ -162,8 +162,8 @@ module _ {L P S : Type 0} {means : Meaning L P S} {k : Key} {count : ℕ} {sets 
   -- ---- the sets are kept
 
   -- a request that didn't stop took all: as many sets as it was for, and the totals rose by them
-  all_of : {x : Unit {0}} → ended ≡ Ok x → IsTaken (Ok x) old.most k room count items (s.books k) t.serves.bucket before after
-  all_of is = subst (λ (r : Result (Unit {0}) Stop). IsTaken r old.most k room count items (s.books k) t.serves.bucket before after) is t.serves.served.taken
+  all_of : {x : Unit {0}} → ended ≡ Ok x → IsTaken (Ok x) old.bound k room count items (s.books k) t.serves.bucket before after
+  all_of is = subst (λ (r : Result (Unit {0}) Stop). IsTaken r old.bound k room count items (s.books k) t.serves.bucket before after) is t.serves.served.taken
 
   pub kept_many : {x : Unit {0}} → ended ≡ Ok x → length sets ≡ count
   kept_many is = subst (λ (r : Result (Unit {0}) Stop). OnOk r (length sets ≡ count)) is t.serves.served.all

@@ -15,7 +15,7 @@ sum_alike counts j (s ∷ sets) h =
     let here : s.counts ≡ counts = h s (omega arith) in
     let one : slice_index s.counts j ≡ slice_index counts j = ap (λ (c : List ℕ). slice_index c j) here in
     let more : sum_by (λ s. slice_index s.counts j) (s ∷ sets) ≡ slice_index s.counts j + sum_by (λ s. slice_index s.counts j) sets = sum_by-cons (λ (s : LiveSet). slice_index s.counts j) s sets in
-    let rest : sum_by (λ s. slice_index s.counts j) sets ≡ length sets * slice_index counts j = sum_alike counts j sets (λ x lt. h x (let most = count_by_more (λ y. set_eq y x) s sets in omega arith)) in
+    let rest : sum_by (λ s. slice_index s.counts j) sets ≡ length sets * slice_index counts j = sum_alike counts j sets (λ x lt. h x (let bound = count_by_more (λ y. set_eq y x) s sets in omega arith)) in
     omega arith
 
 index_le_sum : (j : ℕ) (xs : List ℕ) → slice_index xs j ≤ sum xs

@@ -33,11 +33,11 @@ no_sets k size name error m m' at is =
     }
 
 -- it gave sets: what it adds to a request
-pub grown : (most : Option ℕ) (k : Key) (room left total wanted size name number : ℕ) (names : List ℕ) (old new : List Entry) (l m m' : Ledger)
-    → IsNextSize most k room total wanted size → left + pool_descriptors k size ≡ room → length names ≡ min size wanted → l.pools name ≡ None
+pub grown : (bound : Option ℕ) (k : Key) (room left total wanted size name number : ℕ) (names : List ℕ) (old new : List Entry) (l m m' : Ledger)
+    → IsNextSize bound k room total wanted size → left + pool_descriptors k size ≡ room → length names ≡ min size wanted → l.pools name ≡ None
     → m ≡ after_create (pool_counts k.counts size) size (flags_of k) name l → m' ≡ after_alloc name (live_sets k.counts names) m → number ≡ number_after (numbers_of old)
-    → new ≡ old ++ record { number = number; pool = name; capacity = size; allocated = min size wanted; available = size - min size wanted } ∷ [] → IsGrown most k room left total wanted names old new l m'
-grown most k room left total wanted size name number names old new l m m' sized less many none made is numbered now = record {
+    → new ≡ old ++ record { number = number; pool = name; capacity = size; allocated = min size wanted; available = size - min size wanted } ∷ [] → IsGrown bound k room left total wanted names old new l m'
+grown bound k room left total wanted size name number names old new l m m' sized less many none made is numbered now = record {
   pool = record { pool = name; size = size; given = min size wanted };
   size = sized;
   less = less;

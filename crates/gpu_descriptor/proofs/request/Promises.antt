@@ -1,7 +1,7 @@
 -- What every outcome of a request promises.
 -- For request.HandedOut: `short` is the clause that pools are created only if the existing ones fall short, and few (IsShort).
 use Rattle.gpu_descriptor.proofs.Common.{common_steps, ◌≡◌, ◌≢◌, ℕ, suc, ◌+◌, ◌-◌, ◌*◌, ◌<◌, ◌≤◌, Bool, Option, List, [], ◌∷◌, map, length, sum_by, inl, inr, refl, sym, ap, ◌∙◌, subst, arith, length-map, length-append, sum_by-cons, sum_by-append, pool_size_floor, ◌↔◌, OnOk, Counters}
-use Rattle.gpu_descriptor.proofs.Common.{create_refused, alloc_refused, no_rise, CreatePoolError, DeviceAllocationError, Stop, Key, Entry, cases_lt, ◌⊎◌, Allocates, Call, IsBack, IsDone, IsStopped, StopsAt, out_then, stop_rise, wanting, Fresh, IsFreshPrefix, IsNextSize, room_after, AreSized}
+use Rattle.gpu_descriptor.proofs.Common.{create_refused, alloc_refused, no_rise, CreatePoolError, DeviceAllocationError, Stop, Key, Entry, cases_lt, ◌⊎◌, Allocates, Call, IsBack, IsDone, IsStopped, StopsAt, out_then, stop_rise, needed, Fresh, IsFreshPrefix, IsNextSize, room_after, AreSized}
 use Rattle.gpu_descriptor.proofs.Common.{AreFull, IsFreshList, given_by, Grant, Part, portion_of, items_in, AreBelowTwice, IsShort, CreatesOnlyWhereShort, pool_descriptors, Portion, rest, portions_of}
 use Rattle.gpu_descriptor_types.proofs.Sizes.{pool_size_some}
 use Rattle.gpu_descriptor.specs.declared.bucket.stop.Stop.TheVariants as stop
@@ -27,27 +27,27 @@ shares_sum refused n (e ∷ newer) = grind (arith, common_steps, sum_by-append, 
 -- ---- pools are created only where the existing ones fall short
 
 -- a pool that was not cut, gave all it has, and didn't do gave the least that a pool holds
-whole_gave : (most : Option ℕ) (k : Key) (room total wanted : ℕ) (f : Fresh) → IsNextSize most k room total wanted f.size → pool_descriptors k 1 ≤ room - pool_descriptors k f.size → f.given ≡ f.size → f.given < wanted → pool_size_floor k.counts ≤ f.given
-whole_gave most k room total wanted f next left full short = (let some = pool_size_some k.counts total wanted f.size (next_whole most k room total wanted f.size next (omega arith) left) in omega arith)
+whole_gave : (bound : Option ℕ) (k : Key) (room total wanted : ℕ) (f : Fresh) → IsNextSize bound k room total wanted f.size → pool_descriptors k 1 ≤ room - pool_descriptors k f.size → f.given ≡ f.size → f.given < wanted → pool_size_floor k.counts ≤ f.given
+whole_gave bound k room total wanted f next left full short = (let some = pool_size_some k.counts total wanted f.size (next_whole bound k room total wanted f.size next (omega arith) left) in omega arith)
 
 -- new pools that gave all they have and didn't do are few; with room left for one more so are they and that one. The last may have been cut
 few :
-    (most : Option ℕ) (k : Key) (room total wanted : ℕ) (pools : List Fresh) → AreSized most k room total wanted pools
+    (bound : Option ℕ) (k : Key) (room total wanted : ℕ) (pools : List Fresh) → AreSized bound k room total wanted pools
     → AreFull pools → given_by pools < wanted → (more : ℕ)
     → (more ≡ 0) ⊎ ((more ≡ pool_size_floor k.counts) × (pool_descriptors k 1 ≤ room_after k room pools))
     → length pools * pool_size_floor k.counts + more ≤ given_by pools + pool_size_floor k.counts
-few most k room total wanted [] sized full short more why = elim why [ inl nothing ↦ (omega arith) | inr one ↦ (let is = one.0 in omega arith) ]
-few most k room total wanted (f ∷ []) sized full short more why = elim why [ inl nothing ↦ (omega arith) | inr one ↦ (let is = one.0 in let gave = whole_gave most k room total wanted f sized.0 one.1 full.0 (omega arith) in omega arith) ]
-few most k room total wanted (f ∷ h ∷ pools) sized full short more why =
+few bound k room total wanted [] sized full short more why = elim why [ inl nothing ↦ (omega arith) | inr one ↦ (let is = one.0 in omega arith) ]
+few bound k room total wanted (f ∷ []) sized full short more why = elim why [ inl nothing ↦ (omega arith) | inr one ↦ (let is = one.0 in let gave = whole_gave bound k room total wanted f sized.0 one.1 full.0 (omega arith) in omega arith) ]
+few bound k room total wanted (f ∷ h ∷ pools) sized full short more why =
     let sum = sum_by-cons (λ (g : Fresh). g.given) f (h ∷ pools) in
     let is = full.0 in
-    let left = one_fits most k (room - pool_descriptors k f.size) (total + f.given) (wanted - f.given) h.size sized.1.0 in
-    let gave = whole_gave most k room total wanted f sized.0 left is (omega arith) in
-    let rest = few most k (room - pool_descriptors k f.size) (total + f.given) (wanted - f.given) (h ∷ pools) sized.1 full.1 (omega arith) more why in
+    let left = one_fits bound k (room - pool_descriptors k f.size) (total + f.given) (wanted - f.given) h.size sized.1.0 in
+    let gave = whole_gave bound k room total wanted f sized.0 left is (omega arith) in
+    let rest = few bound k (room - pool_descriptors k f.size) (total + f.given) (wanted - f.given) (h ∷ pools) sized.1 full.1 (omega arith) more why in
     omega arith
 
 -- a request that created n pools is short (IsShort) if n is so small
-pools_short : (c : Call) (g : Grant) → 0 < wanting c g → AreBelowTwice (out_then c g) (wanting c g) g.fresh → OnOk c.answer (AreFilled c) → (n : ℕ) → c.after.created ≡ c.before.created + n → n * pool_size_floor c.key.counts < wanting c g + pool_size_floor c.key.counts → IsShort c g
+pools_short : (c : Call) (g : Grant) → 0 < needed c g → AreBelowTwice (out_then c g) (needed c g) g.fresh → OnOk c.answer (AreFilled c) → (n : ℕ) → c.after.created ≡ c.before.created + n → n * pool_size_floor c.key.counts < needed c g + pool_size_floor c.key.counts → IsShort c g
 pools_short c g some below filled n rise few = record {
   short = omega arith;
   used_up = shares_used g.refused c.count (c.old.books c.key).pools some;
@@ -56,27 +56,27 @@ pools_short c g some below filled n rise few = record {
   few = (
       let m = pool_size_floor c.key.counts in
       let same : c.after.created - c.before.created ≡ n = omega arith in
-      subst (λ i. i * m < wanting c g + m) (sym same) few);
+      subst (λ i. i * m < needed c g + m) (sym same) few);
 }
 
 -- of a request that stopped after a prefix; a new pool that was destroyed at once counts, too
-prefix_short : (c : Call) (s : IsStopped c) (why : Stop) (room : ℕ) → IsBack c s.grant why → IsFreshPrefix c.most c.key room (out_then c s.grant) (wanting c s.grant) s.grant.fresh
+prefix_short : (c : Call) (s : IsStopped c) (why : Stop) (room : ℕ) → IsBack c s.grant why → IsFreshPrefix c.bound c.key room (out_then c s.grant) (needed c s.grant) s.grant.fresh
     → ((stop_rise why).created * pool_size_floor c.key.counts ≡ 0) ⊎ (((stop_rise why).created * pool_size_floor c.key.counts ≡ pool_size_floor c.key.counts) × (pool_descriptors c.key 1 ≤ room_after c.key room s.grant.fresh)) → IsShort c s.grant
 prefix_short c s why room back front more =
     let short = front.short in
     let n = ap (λ (k : Counters). k.created) back.counters in
-    let all = few c.most c.key room _ _ s.grant.fresh front.sized front.full short ((stop_rise why).created * pool_size_floor c.key.counts) more in
-    pools_short c s.grant (omega arith) (prefix_below c.most c.key room _ _ s.grant.fresh front.sized front.full short) (rw back.answer tt) (length s.grant.fresh + (stop_rise why).created) (omega arith) (omega arith)
+    let all = few c.bound c.key room _ _ s.grant.fresh front.sized front.full short ((stop_rise why).created * pool_size_floor c.key.counts) more in
+    pools_short c s.grant (omega arith) (prefix_below c.bound c.key room _ _ s.grant.fresh front.sized front.full short) (rw back.answer tt) (length s.grant.fresh + (stop_rise why).created) (omega arith) (omega arith)
 
 -- of a request that was met
-done_short : (c : Call) (d : IsDone c) → IsFreshList c.most c.key (c.limit - c.pooled) (out_then c d.grant) (wanting c d.grant) d.grant.fresh → 0 < length d.grant.fresh → IsShort c d.grant
+done_short : (c : Call) (d : IsDone c) → IsFreshList c.bound c.key (c.limit - c.pooled) (out_then c d.grant) (needed c d.grant) d.grant.fresh → 0 < length d.grant.fresh → IsShort c d.grant
 done_short c d (no_fresh zero_wanted empty) some = (let e = ap length empty in absurd (omega arith))
 done_short c d (some_fresh front last parts short sized le given) some =
     let g : Grant = d.grant in
     let m : ℕ = pool_size_floor c.key.counts in
-    let whole_sized = subst (AreSized c.most c.key (c.limit - c.pooled) (out_then c g) (wanting c g)) parts sized in
-    let all = few c.most c.key (c.limit - c.pooled) _ _ front short.sized short.full short.short m (inr (refl, last_fits c.most c.key _ _ _ front last whole_sized)) in
-    let below = subst (AreBelowTwice (out_then c g) (wanting c g)) (sym parts) (list_below c.most c.key (c.limit - c.pooled) (out_then c g) (wanting c g) front last whole_sized short.full short.short) in
+    let whole_sized = subst (AreSized c.bound c.key (c.limit - c.pooled) (out_then c g) (needed c g)) parts sized in
+    let all = few c.bound c.key (c.limit - c.pooled) _ _ front short.sized short.full short.short m (inr (refl, last_fits c.bound c.key _ _ _ front last whole_sized)) in
+    let below = subst (AreBelowTwice (out_then c g) (needed c g)) (sym parts) (list_below c.bound c.key (c.limit - c.pooled) (out_then c g) (needed c g) front last whole_sized short.full short.short) in
     let less = short.short in
     let long = ap length parts ∙ length-append front (last ∷ []) in
     let same : length g.fresh ≡ suc (length front) = omega arith in
@@ -96,7 +96,7 @@ fits : {why : Stop} {one room : ℕ} → (why ≡ stop.NoRoomUnderLimit) ↔ (ro
 fits {one = one} {room = room} told other = elim (cases_lt room one) [ inl lt ↦ absurd (other (told.1 lt)) | inr le ↦ le ]
 
 module _ (c : Call) where
-  stop_short : (s : IsStopped c) (why : Stop) → IsBack c s.grant why → StopsAt why c.most c.key (c.limit - c.pooled) c.count s.grant (c.old.books c.key).pools → c.before.created < c.after.created → IsShort c s.grant
+  stop_short : (s : IsStopped c) (why : Stop) → IsBack c s.grant why → StopsAt why c.bound c.key (c.limit - c.pooled) c.count s.grant (c.old.books c.key).pools → c.before.created < c.after.created → IsShort c s.grant
   stop_short s (stop.ExistingPoolWithoutMemory e) back at more = grind (arith, common_steps, alloc_creates)
   stop_short s stop.NoRoomUnderLimit back at more = prefix_short c s stop.NoRoomUnderLimit _ back at.1 (inl (omega arith))
   stop_short s stop.NoMemoryForPool back at more = prefix_short c s stop.NoMemoryForPool _ back at.1 (inl (omega arith))

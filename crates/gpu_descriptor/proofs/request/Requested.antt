@@ -9,8 +9,8 @@ use Rattle.gpu_descriptor.specs.Model.Outcomes.Allocates.{past_bound, no_memory_
 use Rattle.gpu_descriptor.proofs.table.TableBooks.{rows_are, distinct_rows}
 
 -- what a test that failed says
-pub within_of : (marked : Bool) (most count : ℕ) → (marked && nat_lt most count) ≡ false → marked ≡ true → count ≤ most
-within_of marked most count off on = ltb-false most count (let seen : (marked && nat_lt most count) ≡ nat_lt most count = ap (λ (b : Bool). b && nat_lt most count) on in sym seen ∙ off)
+pub within_of : (marked : Bool) (bound count : ℕ) → (marked && nat_lt bound count) ≡ false → marked ≡ true → count ≤ bound
+within_of marked bound count off on = ltb-false bound count (let seen : (marked && nat_lt bound count) ≡ nat_lt bound count = ap (λ (b : Bool). b && nat_lt bound count) on in sym seen ∙ off)
 
 -- what a table of the map says of an allocator that has it
 module _ {P : Type 0} (a : Allocations P) (es : List (BucketKey × DescriptorBucket P)) (is : a.table ≡ map row_of es) where
@@ -22,7 +22,7 @@ module _ {P : Type 0} (a : Allocations P) (es : List (BucketKey × DescriptorBuc
 
 -- the fields of an allocator, as callers see them
 abbrev pub seen : {P : Type 0} → ℕ → Option ℕ → ℕ → ℕ → List (BucketKey × DescriptorBucket P) → Allocations P
-seen limit most looks compared es = record { limit = limit; most = most; table = map row_of es; looks = looks; comparisons = compared }
+seen limit bound looks compared es = record { limit = limit; bound = bound; table = map row_of es; looks = looks; comparisons = compared }
 
 -- no key has two rows, where the table has none twice
 pub rows_distinct : {P : Type 0} (name : P → ℕ) (es : List (BucketKey × DescriptorBucket P)) → IsDistinct key_eq (stored_keys es) → HasDistinctKeys (map (named_row name) (map row_of es))
@@ -32,12 +32,12 @@ rows_distinct name es distinct = subst HasDistinctKeys (sym (rows_are name es)) 
 pub counted_none : {P : Type 0} (max : ℕ) → IsConsistent {P = P} max 0 max 0 []
 counted_none max = record { is_load = refl; within = omega arith; is_room = omega arith; is_out = refl }
 
-module _ {P : Type 0} {a : Allocations P} {max looks compared : ℕ} {most : Option ℕ} (es : List (BucketKey × DescriptorBucket P)) (is : seen max most looks compared es ≡ a) where
+module _ {P : Type 0} {a : Allocations P} {max looks compared : ℕ} {bound : Option ℕ} (es : List (BucketKey × DescriptorBucket P)) (is : seen max bound looks compared es ≡ a) where
   pub table_is : a.table ≡ map row_of es
   table_is = ap (λ (x : Allocations P). x.table) (sym is)
 
   -- where nothing was written, callers see the same
-  pub seen_again : {looked : ℕ} {bound : Option ℕ} (fs : List (BucketKey × DescriptorBucket P)) → fs ≡ es → looked ≡ looks → bound ≡ most → seen max bound looked compared fs ≡ a
+  pub seen_again : {looked : ℕ} {bound_now : Option ℕ} (fs : List (BucketKey × DescriptorBucket P)) → fs ≡ es → looked ≡ looks → bound_now ≡ bound → seen max bound_now looked compared fs ≡ a
   seen_again fs rows count stays = (λ i. seen max (stays i) (count i) compared (rows i)) ∙ is
 
   pub rows_apart : (name : P → ℕ) → IsDistinct key_eq (stored_keys es) → HasDistinctKeys (table_of name a)
@@ -52,7 +52,7 @@ module _ {P : Type 0} {a : Allocations P} {max looks compared : ℕ} {most : Opt
 -- ---- the tests of a request, over the fields of an allocator
 
 module _ {L P S : Type 0} (means : Meaning L P S) {a : Allocations P} {max looks compared marked room out : ℕ}
-    {most : Option ℕ} {es : List (BucketKey × DescriptorBucket P)} (is : seen max most looks compared es ≡ a)
+    {bound : Option ℕ} {es : List (BucketKey × DescriptorBucket P)} (is : seen max bound looks compared es ≡ a)
     (counted : IsConsistent max marked room out es) (before : Ledger)
     (key : BucketKey) {count : ℕ} (some : 0 < count) {above : Bool} (test : above ≡ (key.marked && nat_lt a.limit (count * sum (kinds key.counts) + marked_load_of a))) where
   abbrev Declines : AllocationError → Type 0
@@ -87,8 +87,8 @@ module _ {L P S : Type 0} (means : Meaning L P S) {a : Allocations P} {max looks
     ])
 
 -- a request that passed them, and took what its key has
-module _ {L P S : Type 0} {means : Meaning L P S} {most : Option ℕ} {key : BucketKey} {room count : ℕ} {sets : List (DescriptorSet S)} {ended : Result (Unit {0}) Stop} {es : List (BucketKey × DescriptorBucket P)} (fs : List (BucketKey × DescriptorBucket P)) {before after : Ledger}
-    (s : ServesKey means most (key_of key) room count sets ended (map row_of es) (map row_of fs) before after) {a : Allocations P} {max looks compared marked out : ℕ} (is : seen max most looks compared es ≡ a) (counted : IsConsistent max marked room out es)
+module _ {L P S : Type 0} {means : Meaning L P S} {bound : Option ℕ} {key : BucketKey} {room count : ℕ} {sets : List (DescriptorSet S)} {ended : Result (Unit {0}) Stop} {es : List (BucketKey × DescriptorBucket P)} (fs : List (BucketKey × DescriptorBucket P)) {before after : Ledger}
+    (s : ServesKey means bound (key_of key) room count sets ended (map row_of es) (map row_of fs) before after) {a : Allocations P} {max looks compared marked out : ℕ} (is : seen max bound looks compared es ≡ a) (counted : IsConsistent max marked room out es)
     {above : Bool} (test : above ≡ (key.marked && nat_lt a.limit (count * sum (kinds key.counts) + marked_load_of a))) (below : above ≡ false) where
   sets_within : key.marked ≡ true → count * sum (kinds key.counts) + marked_load_of a ≤ a.limit
   sets_within = within_of key.marked a.limit (count * sum (kinds key.counts) + marked_load_of a) (sym test ∙ below)
@@ -101,5 +101,5 @@ module _ {L P S : Type 0} {means : Meaning L P S} {most : Option ℕ} {key : Buc
   pub counted_now : {given more left : ℕ} → given ≡ length sets → more ≡ set_descriptors (key_of key) given → left + sum_over bucket_load (map row_of fs) ≡ room + sum_over bucket_load (map row_of es) → IsConsistent max (marked + more) left (out + given) fs
   counted_now long load moved = grind (arith, common_steps, given_fits)
 
-  pub takes_of : {past : Bool} → past ≡ nat_lt greatest_u64 (out + count) → past ≡ false → {looked : ℕ} {bound : Option ℕ} → Takes means (key_of key) count sets ended (side a before) (side (seen max bound looked compared fs) after)
-  takes_of bounded kept_in {looked} {bound} = grind (arith, common_steps, ltb-false, sets_within)
+  pub takes_of : {past : Bool} → past ≡ nat_lt greatest_u64 (out + count) → past ≡ false → {looked : ℕ} {bound_now : Option ℕ} → Takes means (key_of key) count sets ended (side a before) (side (seen max bound_now looked compared fs) after)
+  takes_of bounded kept_in {looked} {bound_now} = grind (arith, common_steps, ltb-false, sets_within)

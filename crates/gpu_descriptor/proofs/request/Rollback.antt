@@ -78,7 +78,7 @@ load_of_items k (t ∷ m) of_key =
     let own : count_of t (t ∷ m) ≡ suc (count_of t m) = count_by_yes (λ u. item_eq u t) t m (item_exact.self t) in
     let key : t.key ≡ k = of_key t (omega arith) in
     let one : set_descriptors t.key 1 ≡ set_descriptors k 1 = ap (λ (l : Key). set_descriptors l 1) key in
-    let rest = load_of_items k m (λ u some. of_key u (let most = count_by_more (λ v. item_eq v u) t m in omega arith)) in
+    let rest = load_of_items k m (λ u some. of_key u (let bound = count_by_more (λ v. item_eq v u) t m in omega arith)) in
     let sum = sum_by-cons (λ (t : Item). set_descriptors t.key 1) t m in
     let parts = set_descriptors-add k 1 (length m) in
     let long : 1 + length m ≡ length (t ∷ m) = omega arith in

@@ -25,7 +25,7 @@ module _ {L P S : Type 0} {means : Meaning L P S} {k : Key} {count left : ℕ} {
     budget = λ i. was;
     ledger = λ i. l;
     room = ap (λ (xs : List (BucketKey × DescriptorBucket P)). was.room + sum_over bucket_load (map row_of xs)) entries;
-    most = λ i. was.most;
+    bound = λ i. was.bound;
     looks = λ i. was.looks.count + l.counters.asked;
   })
 
@@ -33,15 +33,15 @@ module _ {L P S : Type 0} {means : Meaning L P S} {k : Key} {count left : ℕ} {
   module _
       {ended : Result (Unit {0}) Stop} {before after : Ledger} {roomy : List (DescriptorSet S)} (id : ℕ) (pools : List (DescriptorPool P)) (many : ℕ) (new : DescriptorBucket P) (made : roomy ≡ had) (fits : number_after (stored_numbers pools) + count < 2 ^ 64)
       (appends : Appends means layout count left roomy has) (all : OnOk ended (left ≡ 0)) (total : new.total ≡ many + length (appended roomy has))
-      (taken : IsTaken ended was.most k was.room count (items_of means.set_name (appended roomy has)) (bucket id (map (entry_of means.pool_name) pools)) (bucket_of means.pool_name new) before after) where
+      (taken : IsTaken ended was.bound k was.room count (items_of means.set_name (appended roomy has)) (bucket id (map (entry_of means.pool_name) pools)) (bucket_of means.pool_name new) before after) where
     pub is_served : {is : Budget}
-        → (IsServed means was.most k was.room count (appended had has) ended (bucket id (map (entry_of means.pool_name) pools)) (bucket_of means.pool_name new) before after → new.total ≡ many + length (appended had has)
-        → ServesKey means was.most k was.room count (appended had has) ended (map row_of es) (map row_of fs) before after)
-        → stored_keys fs ≡ with_key k (stored_keys es) → is.room + sum_over bucket_load (map row_of fs) ≡ was.room + sum_over bucket_load (map row_of es) → is.most ≡ was.most → CountsLooks was.looks.count is.looks.count before after
+        → (IsServed means was.bound k was.room count (appended had has) ended (bucket id (map (entry_of means.pool_name) pools)) (bucket_of means.pool_name new) before after → new.total ≡ many + length (appended had has)
+        → ServesKey means was.bound k was.room count (appended had has) ended (map row_of es) (map row_of fs) before after)
+        → stored_keys fs ≡ with_key k (stored_keys es) → is.room + sum_over bucket_load (map row_of fs) ≡ was.room + sum_over bucket_load (map row_of es) → is.bound ≡ was.bound → CountsLooks was.looks.count is.looks.count before after
         → ServesRequest means layout k count left (Ok ended) es fs was is had has before after
-    is_served serves keys room most looks =
+    is_served serves keys room bound looks =
         let here = subst (λ (xs : List (DescriptorSet S)). Appends means layout count left xs has × (new.total ≡ many + length (appended xs has))
-        × IsTaken ended was.most k was.room count (items_of means.set_name (appended xs has)) (bucket id (map (entry_of means.pool_name) pools)) (bucket_of means.pool_name new) before after) made (appends, total, taken) in
+        × IsTaken ended was.bound k was.room count (items_of means.set_name (appended xs has)) (bucket id (map (entry_of means.pool_name) pools)) (bucket_of means.pool_name new) before after) made (appends, total, taken) in
         let rest = here.0.rest in
         record {
           served = serves (record {
@@ -58,6 +58,6 @@ module _ {L P S : Type 0} {means : Meaning L P S} {k : Key} {count left : ℕ} {
           budget = tt;
           ledger = tt;
           room = room;
-          most = most;
+          bound = bound;
           looks = looks;
         }

@@ -125,6 +125,6 @@ module _ (id n i : ℕ) (refused : ℕ → Bool) (parts : List Part) (old : List
     keeps = keeps;
   }
 
-  -- what is wanting falls by what was given
+  -- what is still needed falls by what was given
   pub rest_now : rest now n (drop i old) + length names ≡ rest refused n newer
   rest_now = grind (arith, common_steps, newer, now, offer_now, same, sum_by-cons)

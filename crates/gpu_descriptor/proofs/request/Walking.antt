@@ -1,5 +1,5 @@
 -- The walk over a key's pools, as far as it has come.
--- For `walk`, by request.OpenWalk. Of n sets, wanting are still wanting; left is how many of the oldest pools weren't asked yet.
+-- For `walk`, by request.OpenWalk. Of n sets, `needed` are still needed; left is how many of the oldest pools weren't asked yet.
 -- old and l are the key's entries and the ledger before the walk, new and m those now; items are the sets that came.
 use Rattle.gpu_descriptor.proofs.Common.{common_steps, ◌≡◌, ℕ, zero, suc, ◌+◌, ◌<◌, ◌≤◌, List, [], ◌∷◌, ◌++◌, length, map, min, take, drop, slice_set, Bool, false, nat_lt, ◌&&◌, true, Option, None, Some, Err, refl, sym, ap, ◌∙◌, subst, arith, append-nil, drop_all, fun_ext, slice_get, Key, Entry}
 use Rattle.gpu_descriptor.proofs.Common.{Item, Pool, Ledger, DeviceAllocationError, set_at, items_of, Part, items_at, ledger_with, rest, all_shared, IsBookedIn, AreBookedIn, IsAsked, IsNoMemory, HasTaken, IsWalked, IsTaken, numbers_of, rises, slice_get_within}
@@ -12,10 +12,10 @@ use Rattle.gpu_descriptor.proofs.request.Shares.{IsApart, apart_from, not_refuse
 use Rattle.gpu_descriptor.proofs.request.WalkStep.{items_more, part, so_far, taken_more, rest_now}
 use Rattle.gpu_descriptor.proofs.lists.AtPlaces.{drop_at, get_drop, get_some, long_take, set_same, split_at, take_get}
 
-pub record Walking (k : Key) (n id left wanting : ℕ) (items : List Item) (old new : List Entry) (l m : Ledger) : Type 0 where
+pub record Walking (k : Key) (n id left needed : ℕ) (items : List Item) (old new : List Entry) (l m : Ledger) : Type 0 where
   pub refused : ℕ → Bool
   pub parts : List Part
-  pub wants : wanting ≡ rest refused n (drop left old)
+  pub wants : needed ≡ rest refused n (drop left old)
   pub taken : HasTaken k n (so_far id left refused parts) items (bucket id old) (bucket id new) l m
 
 get_take : {A : Type 0} (xs ys : List A) (i : ℕ) → i < length xs → slice_get (take (suc i) xs ++ ys) i ≡ slice_get xs i
@@ -23,7 +23,7 @@ get_take [] ys i h = absurd (omega arith)
 get_take (x ∷ xs) ys zero h = refl
 get_take (x ∷ xs) ys (suc i) h = get_take xs ys i (omega arith)
 
-module _ (k : Key) (n id i wanting : ℕ) (items : List Item) (old new : List Entry) (l m : Ledger) (booked : AreBookedIn k l.pools old) (s : Walking k n id (suc i) wanting items old new l m) where
+module _ (k : Key) (n id i needed : ℕ) (items : List Item) (old new : List Entry) (l m : Ledger) (booked : AreBookedIn k l.pools old) (s : Walking k n id (suc i) needed items old new l m) where
   -- the next pool is as it was in the books, and in the ledger as they say
   pub next_was : i < length old → slice_get new i ≡ slice_get old i
   next_was here = grind (arith, common_steps, append-nil, get_take)
@@ -38,8 +38,8 @@ module _ (k : Key) (n id i wanting : ℕ) (items : List Item) (old new : List En
   apart e at = apart_from e.pool (drop (suc i) old) (λ j d there same. (let place = booked.distinct (suc i + j) i d e (sym (get_drop old (suc i) j) ∙ there) at same in absurd (omega arith)))
 
   -- one step: the next pool was asked
-  pub walk_more : (e f : Entry) (more : List ℕ) (m' : Ledger) (wanting' : ℕ) → slice_get old i ≡ Some e → IsAsked k wanting more e f m m' → wanting' + length more ≡ wanting → Walking k n id i wanting' (items ++ items_at k id e.number more) old (slice_set new i f) l m'
-  walk_more e f more m' wanting' at asked less =
+  pub walk_more : (e f : Entry) (more : List ℕ) (m' : Ledger) (needed' : ℕ) → slice_get old i ≡ Some e → IsAsked k needed more e f m m' → needed' + length more ≡ needed → Walking k n id i needed' (items ++ items_at k id e.number more) old (slice_set new i f) l m'
+  walk_more e f more m' needed' at asked less =
       let a : IsAsked k (rest s.refused n (drop (suc i) old)) more e f m m' = subst (λ (w : ℕ). IsAsked k w more e f m m') s.wants asked in
       let not_yet = not_refused s.refused n e.pool (drop (suc i) old) (apart e at) s.taken.grant.refusing in
       let tail = drop_at old i e at in
@@ -49,7 +49,7 @@ module _ (k : Key) (n id i wanting : ℕ) (items : List Item) (old new : List En
         wants = (let r = rest_now id n i s.refused s.parts old e f more k m m' (apart e at) tail not_yet a in let w = s.wants in omega arith);
         taken = taken_more id n i s.refused s.parts old e f more k m m' (apart e at) tail not_yet a l new items (items ++ items_at k id e.number more)
             (long_take old i e at) (take_get old i e at) s.taken (items_more k id e.number e.pool more s.parts ∙ ap (λ x. x ++ items_at k id e.number more) s.taken.came)
-            (added_both refl s.taken.keeps (added_asked k id new m.pools s.taken.keeps.booked s.taken.keeps.rising i wanting e f more m m' (next_is e at) refl asked));
+            (added_both refl s.taken.keeps (added_asked k id new m.pools s.taken.keeps.booked s.taken.keeps.rising i needed e f more m m' (next_is e at) refl asked));
       }
 
 ledger_none : (k : Key) (id left : ℕ) (pools : ℕ → Option Pool) → pools ≡ ledger_with k (so_far id left (λ _. false) []) pools
@@ -74,13 +74,13 @@ walk_start k n id old l booked rising =
       };
     }
 
-pub walk_end : {k : Key} {n id own wanting : ℕ} {items : List Item} {old new : List Entry} {l m : Ledger} → id ≡ own → Walking k n id 0 wanting items old new l m → IsWalked k n wanting items (bucket own old) (bucket id new) l m
+pub walk_end : {k : Key} {n id own needed : ℕ} {items : List Item} {old new : List Entry} {l m : Ledger} → id ≡ own → Walking k n id 0 needed items old new l m → IsWalked k n needed items (bucket own old) (bucket id new) l m
 walk_end ids s = rw (sym ids) (record { grant = so_far _ 0 s.refused s.parts; all = refl; no_fresh = refl; wants = s.wants; taken = s.taken })
 
-pub walk_stop : (k : Key) (room n id i wanting : ℕ) (items : List Item) (old new : List Entry) (l m m' : Ledger) (e f : Entry) (error : DeviceAllocationError)
-    → Walking k n id (suc i) wanting items old new l m → slice_get old i ≡ Some e → slice_get new i ≡ Some e → f ≡ e → IsNoMemory wanting e error m m'
+pub walk_stop : (k : Key) (room n id i needed : ℕ) (items : List Item) (old new : List Entry) (l m m' : Ledger) (e f : Entry) (error : DeviceAllocationError)
+    → Walking k n id (suc i) needed items old new l m → slice_get old i ≡ Some e → slice_get new i ≡ Some e → f ≡ e → IsNoMemory needed e error m m'
     → IsTaken (Err (ExistingPoolWithoutMemory error)) None k room n items (bucket id old) (bucket id (slice_set new i f)) l m'
-walk_stop k room n id i wanting items old new l m m' e f error s was is same none = (
+walk_stop k room n id i needed items old new l m m' e f error s was is same none = (
   so_far id (suc i) s.refused s.parts,
   m,
   subst (λ (es : List Entry). HasTaken k n (so_far id (suc i) s.refused s.parts) items (bucket id old) (bucket id es) l m) (sym (ap (slice_set new i) same ∙ set_same new i e is)) s.taken,
@@ -98,18 +98,18 @@ walk_stop k room n id i wanting items old new l m m' e f error s was is same non
 )
 
 -- older pools that have nothing, or of which nothing is wanted, are left as they are
-pub walk_gap : (k : Key) (n id wanting : ℕ) (items : List Item) (old new : List Entry) (l m : Ledger) → AreBookedIn k l.pools old
-    → (gap i left : ℕ) → left ≡ gap + i → left ≤ length old → ((j : ℕ) (e : Entry) → i ≤ j → j < left → slice_get new j ≡ Some e → min wanting e.available ≡ 0) → Walking k n id left wanting items old new l m → Walking k n id i wanting items old new l m
-walk_gap k n id wanting items old new l m booked zero i left is here none s = subst (λ (j : ℕ). Walking k n id j wanting items old new l m) (let e : left ≡ i = omega arith in e) s
-walk_gap k n id wanting items old new l m booked (suc gap) i left is here none s =
+pub walk_gap : (k : Key) (n id needed : ℕ) (items : List Item) (old new : List Entry) (l m : Ledger) → AreBookedIn k l.pools old
+    → (gap i left : ℕ) → left ≡ gap + i → left ≤ length old → ((j : ℕ) (e : Entry) → i ≤ j → j < left → slice_get new j ≡ Some e → min needed e.available ≡ 0) → Walking k n id left needed items old new l m → Walking k n id i needed items old new l m
+walk_gap k n id needed items old new l m booked zero i left is here none s = subst (λ (j : ℕ). Walking k n id j needed items old new l m) (let e : left ≡ i = omega arith in e) s
+walk_gap k n id needed items old new l m booked (suc gap) i left is here none s =
     let one : left ≡ suc (gap + i) = omega arith in
     let at = get_some old (gap + i) (omega arith) in
     let e : Entry = at.0 in
-    let from : Walking k n id (suc (gap + i)) wanting items old new l m = subst (λ (j : ℕ). Walking k n id j wanting items old new l m) one s in
-    let there : slice_get new (gap + i) ≡ Some e = next_was k n id (gap + i) wanting items old new l m booked from (omega arith) ∙ at.1 in
+    let from : Walking k n id (suc (gap + i)) needed items old new l m = subst (λ (j : ℕ). Walking k n id j needed items old new l m) one s in
+    let there : slice_get new (gap + i) ≡ Some e = next_was k n id (gap + i) needed items old new l m booked from (omega arith) ∙ at.1 in
     let nothing = none (gap + i) e (omega arith) (omega arith) there in
-    let next : Walking k n id (gap + i) wanting (items ++ []) old (slice_set new (gap + i) e) l m = walk_more k n id (gap + i) wanting items old new l m booked from e e [] m wanting at.1 (skipped k wanting e m nothing) (omega arith) in
-    walk_gap k n id wanting items old new l m booked gap i (gap + i) refl (omega arith) (λ j d le lt there. none j d le (omega arith) there)
+    let next : Walking k n id (gap + i) needed (items ++ []) old (slice_set new (gap + i) e) l m = walk_more k n id (gap + i) needed items old new l m booked from e e [] m needed at.1 (skipped k needed e m nothing) (omega arith) in
+    walk_gap k n id needed items old new l m booked gap i (gap + i) refl (omega arith) (λ j d le lt there. none j d le (omega arith) there)
     (rw (append-nil items, set_same new (gap + i) e there) at next)
 
 -- sets of one pool, as the books see them

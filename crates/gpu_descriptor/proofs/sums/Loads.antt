@@ -49,7 +49,7 @@ module _ {P : Type 0} where
   abbrev pub stored_load_in : BucketKey × DescriptorBucket P → ℕ
   stored_load_in r = stored_load (key_of r.0) r.1.pools.items
 
-  -- sets that are out, marked load, pool load: the sums over the rows are sums over the map's entries
+  -- live sets, marked load, pool load: the sums over the rows are sums over the map's entries
   pools_out : (r : BucketKey × DescriptorBucket P) → sets_out (key_of r.0) (kept_in r.1) ≡ r.1.total
   pools_out r = sum_map _ kept_of _ (λ p. refl) r.1.pools.items ∙ sym r.1.counted
 
@@ -103,7 +103,7 @@ module _ {P : Type 0} {k : Key} {es : List (BucketKey × DescriptorBucket P)} {i
         let after = rows_pool_load fs in
         omega arith
 
-    -- n sets fewer are out of it: so it is of the totals
+    -- n sets fewer are live in it: so it is of the totals
     pub taken : {n : ℕ} → w.total + n ≡ v.total → Taken k n es fs
     taken {n} total =
         let out = (sum_put (λ (r : BucketKey × DescriptorBucket P). r.1.total) es i h.key v w h.at).1 in

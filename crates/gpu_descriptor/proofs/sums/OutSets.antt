@@ -1,4 +1,4 @@
--- As many sets are out as are outstanding.
+-- As many sets are live as are outstanding.
 -- For `laws::out_is_outstanding`. A list is made, pool by pool and row by row, that has each item as often as it is outstanding. It is
 -- in ∥ ∥₁, as the agreement says of a pool's live sets only that they have a list.
 use Rattle.std.specs.List.{find}
@@ -28,7 +28,7 @@ by_name counts (x ∷ sets) all =
     more : (y : LiveSet) → times sets y ≤ times (x ∷ sets) y
     more y = grind (arith, common_steps, count_by_no, count_by_yes)
 
--- the sets that are out of a key's pools
+-- the live sets of a key's pools
 record OutOf (k : Key) (b : Bucket) (ledger : ℕ → Option Pool) : Type 0 where
   items : List Item
   many : length items ≡ allocated_in b.pools
@@ -84,7 +84,7 @@ key_out k id (e ∷ es) ledger rising booked =
           ];
     }))
 
--- how often a set is out of a bucket: as often as it is live there, if its id is the bucket's
+-- how often a set is live in a bucket, if its id is the bucket's
 abbrev out_at : (ℕ → Option Pool) → Bucket → Item → ℕ
 out_at ledger b t = if b.id == t.id then live_at ledger b t else 0
 
@@ -94,7 +94,7 @@ out_of_none ledger t = elim (cases_Bool (0 == t.id)) [ inl same ↦ rw same (non
 each_out : (k : Key) (b : Bucket) (ledger : ℕ → Option Pool) (out : OutOf k b ledger) (t : Item) → t.key ≡ k → count_of t out.items ≡ out_at ledger b t
 each_out k b ledger out t key = grind arith
 
--- the sets that are out of all keys of a table
+-- the live sets of all keys of a table
 abbrev OutOfAll : (ℕ → Option Pool) → List (Key × Bucket) → Type 0
 OutOfAll ledger table = (items : List Item) × (length items ≡ sum_over sets_out table) × ((t : Item) → count_of t items ≡ out_at ledger (books_of table t.key) t) × (marked_descriptors items ≡ sum_over descriptors_out table)
 
@@ -134,7 +134,7 @@ table_out ledger (row ∷ table) distinct rising booked =
     appended : (k : Key) (i : ℕ) (e : Entry) → slice_get (books_of table k).pools i ≡ Some e → slice_get (books_of (row ∷ table) k).pools i ≡ Some e
     appended k i e at = grind (arith, common_steps, none_behind)
 
--- the sets that are out of a table which keeps the books
+-- the live sets of a table which keeps the books
 all_out : (s : State) (f : Key → Bucket → ℕ) (n : ℕ) → Agree s → (out : AddsUp f s.books n) → ∥ OutOfAll s.ledger out.table ∥₁
 all_out s f n agree out = table_out s.ledger out.table out.distinct (λ k. ap (λ (b : Bucket). rises (numbers_of b.pools)) (out.keeps k) ∙ agree.rising k) (λ k i e at. (booked_of s k agree).each i e (ap (λ (b : Bucket). slice_get b.pools i) (sym (out.keeps k)) ∙ at))
 

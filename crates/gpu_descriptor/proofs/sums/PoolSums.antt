@@ -28,7 +28,7 @@ plain_entries : (k : Key) (es : List Entry) → k.marked ≡ false → pools_loa
 plain_entries k [] plain = refl
 plain_entries k (e ∷ es) plain = grind (arith, (plain_entries k es plain))
 
--- ---- what is out of a key's pools
+-- ---- the live sets of a key's pools
 
 -- so many sets have no more descriptors than a pool of them
 out_of_entry : (k : Key) (n : ℕ) → set_descriptors k n ≤ pool_descriptors k n

@@ -21,7 +21,7 @@ module _ {L P S : Type 0} (means : Meaning L P S) where
     key = k;
     count = count;
     limit = old.value.limit;
-    most = old.value.most;
+    bound = old.value.bound;
     out = outstanding_of old.value;
     load = marked_load_of old.value;
     pooled = pool_load_of old.value;

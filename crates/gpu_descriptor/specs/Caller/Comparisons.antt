@@ -7,8 +7,8 @@ use Rattle.gpu_descriptor.specs.Model.Release.{released}
 -- counted by halving, at most `n` times: 0 has none, and a number has one more than its half
 abbrev pub digits_within : ℕ → ℕ → ℕ
 digits_within zero n = 0
-digits_within (suc most) zero = 0
-digits_within (suc most) (suc n) = suc (digits_within most (suc n / 2))
+digits_within (suc bound) zero = 0
+digits_within (suc bound) (suc n) = suc (digits_within bound (suc n / 2))
 
 -- 1 has 1, 2 and 3 have 2, 4 to 7 have 3: the least d with n below 2 ^ d
 abbrev pub binary_digits : ℕ → ℕ

@@ -6,7 +6,7 @@ use Rattle.gpu_descriptor.specs.Model.Books.{Key, BucketOf}
 pub record Allocations (P : Type 0) : Type 0 where
   pub limit : ℕ
   -- the bound on the descriptors of a new pool, which only the sets still needed exceed; None without one
-  pub most : Option ℕ
+  pub bound : Option ℕ
   -- a list, since a value has to be data; with raw pools, since an allocator's type names no device
   pub table : List (Key × BucketOf P)
   -- how often a request looked at a pool, and how many comparisons the searches of releases took
@@ -15,4 +15,4 @@ pub record Allocations (P : Type 0) : Type 0 where
 
 -- an allocator without keys and without a bound
 abbrev pub without_keys : {P : Type 0} → ℕ → Allocations P
-without_keys limit = record { limit = limit; most = None; table = []; looks = 0; comparisons = 0 }
+without_keys limit = record { limit = limit; bound = None; table = []; looks = 0; comparisons = 0 }

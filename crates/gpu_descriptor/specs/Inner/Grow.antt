@@ -14,10 +14,10 @@ use Rattle.gpu_descriptor.specs.Model.Grants.{Grant, pool_with}
 use Rattle.gpu_descriptor.specs.Inner.Walk.{HasTaken, IsRefused}
 
 -- a new pool was created, used up room for its descriptors, and gave the sets still needed or as many as it has
-pub record IsGrown (most : Option ℕ) (k : Key) (room room_left total wanted : ℕ) (names : List ℕ) (old new : List Entry) (before after : Ledger) : Type 0 where
+pub record IsGrown (bound : Option ℕ) (k : Key) (room room_left total wanted : ℕ) (names : List ℕ) (old new : List Entry) (before after : Ledger) : Type 0 where
   pub pool : Fresh
   -- it has the size of the key's next pool at that moment
-  pub size : IsNextSize most k room total wanted pool.size
+  pub size : IsNextSize bound k room total wanted pool.size
   pub less : room_left + pool_descriptors k pool.size ≡ room
   pub given : pool.given ≡ min pool.size wanted
   pub many : length names ≡ pool.given
@@ -31,5 +31,5 @@ pub record IsGrown (most : Option ℕ) (k : Key) (room room_left total wanted : 
 
 -- what was taken of a key's pools: all that was requested, or what had been taken when the request stopped
 abbrev pub IsTaken : Result (Unit {0}) Stop → Option ℕ → Key → (room n : ℕ) → List Item → (old new : Bucket) → (before after : Ledger) → Type 0
-IsTaken (Ok done) most k room n items old new before after = (g : Grant) × HasTaken k n g items old new before after × (g.skipped ≡ 0) × IsFreshList most k room (allocated_in (all_shared g.refused n old.pools)) (rest g.refused n old.pools) g.fresh
-IsTaken (Err why) most k room n items old new before after = (g : Grant) × (between : Ledger) × HasTaken k n g items old new before between × StopsAt why most k room n g old.pools × IsRefused why between after
+IsTaken (Ok done) bound k room n items old new before after = (g : Grant) × HasTaken k n g items old new before after × (g.skipped ≡ 0) × IsFreshList bound k room (allocated_in (all_shared g.refused n old.pools)) (rest g.refused n old.pools) g.fresh
+IsTaken (Err why) bound k room n items old new before after = (g : Grant) × (between : Ledger) × HasTaken k n g items old new before between × StopsAt why bound k room n g old.pools × IsRefused why between after

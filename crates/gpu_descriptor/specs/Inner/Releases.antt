@@ -36,10 +36,10 @@ pub record Releases (k : Key) (number : ℕ) (names : List ℕ) (old : Bucket) (
   pub books : new ≡ bucket_back old place (length names) entry
   pub ledger : after ≡ after_release entry.pool (live_sets k.counts names) before
 
--- the number of comparisons stays, or rises by at most `most`
-pub record Compares (most old new : ℕ) : Type 0 where
+-- the number of comparisons stays, or rises by at most `bound`
+pub record Compares (bound old new : ℕ) : Type 0 where
   pub rises : old ≤ new
-  pub few : new ≤ old + most
+  pub few : new ≤ old + bound
 
 -- the names of the raw sets
 abbrev pub names_of : {S : Type 0} → (S → ℕ) → List (DescriptorSet S) → List ℕ

@@ -32,14 +32,14 @@ module _ {L P S : Type 0} (means : Meaning L P S) where
     pub own : PutsOfLayout means layout old new
     pub rest : length (appended old new) + left ≡ count
 
-  module _ (most : Option ℕ) (k : Key) (room count : ℕ) (sets : List (DescriptorSet S)) (ended : Result (Unit {0}) Stop) where
+  module _ (bound : Option ℕ) (k : Key) (room count : ℕ) (sets : List (DescriptorSet S)) (ended : Result (Unit {0}) Stop) where
     -- a request took these sets of a bucket
     pub record IsServed (old new : Bucket) (before after : Ledger) : Type 0 where
       -- with the numbers of count new pools, 64 bits are kept
       pub numbers : next_number old + count ≤ greatest_u64
       pub few : length sets ≤ count
       pub all : OnOk ended (length sets ≡ count)
-      pub taken : IsTaken ended most k room count (items_of means.set_name sets) old new before after
+      pub taken : IsTaken ended bound k room count (items_of means.set_name sets) old new before after
 
     -- the table has the key's new bucket, and those of the other keys as they were
     pub record ServesKey (old new : List (Key × BucketOf P)) (before after : Ledger) : Type 0 where
@@ -58,7 +58,7 @@ module _ {L P S : Type 0} (means : Meaning L P S) where
     pub within : k.marked ≡ true → count * sum k.counts + marked_load_of old.value ≤ old.value.limit
     pub fits : outstanding_of old.value + count ≤ greatest_u64
     -- what the table gave, with the room that the limit left
-    pub serves : ServesKey old.value.most k (old.value.limit - pool_load_of old.value) count sets ended old.value.table new.value.table old.ledger new.ledger
+    pub serves : ServesKey old.value.bound k (old.value.limit - pool_load_of old.value) count sets ended old.value.table new.value.table old.ledger new.ledger
 
 -- a request ended before the walk over the pools
 abbrev pub IsDeclined : Call → Type 0
@@ -74,7 +74,7 @@ module _ {L P S : Type 0} (means : Meaning L P S) where
       (layout : L) (k : Key) (count left : ℕ) (result : Result (Result (Unit {0}) Stop) AllocationError) (old new : List (BucketKey × DescriptorBucket P))
       (was is : Budget) (had has : List (DescriptorSet S)) (before after : Ledger) : Type 0 where
     -- it gave sets of the key's bucket; the inner result says whether the request stopped
-    pub served : IfOk result (λ ended. ServesKey means was.most k was.room count (appended had has) ended (map row_of old) (map row_of new) before after)
+    pub served : IfOk result (λ ended. ServesKey means was.bound k was.room count (appended had has) ended (map row_of old) (map row_of new) before after)
     pub appends : OnOk result (Appends means layout count left had has)
     -- the key is in the table then, last if it is new
     pub keys : OnOk result (stored_keys new ≡ with_key k (stored_keys old))
@@ -88,5 +88,5 @@ module _ {L P S : Type 0} (means : Meaning L P S) where
     -- new pools of a marked key use up room for their descriptors
     pub room : is.room + sum_over bucket_load (map row_of new) ≡ was.room + sum_over bucket_load (map row_of old)
     -- the bound stays, and each call that asks a pool is a look
-    pub most : is.most ≡ was.most
+    pub bound : is.bound ≡ was.bound
     pub looks : CountsLooks was.looks.count is.looks.count before after

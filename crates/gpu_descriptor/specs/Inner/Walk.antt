@@ -55,10 +55,10 @@ pub record HasTaken (k : Key) (n : ℕ) (g : Grant) (items : List Item) (old new
   pub keeps : Adds k items old new before.pools after.pools
 
 -- all existing pools were asked, and this many sets are still needed
-pub record IsWalked (k : Key) (n wanting : ℕ) (items : List Item) (old new : Bucket) (before after : Ledger) : Type 0 where
+pub record IsWalked (k : Key) (n needed : ℕ) (items : List Item) (old new : Bucket) (before after : Ledger) : Type 0 where
   pub grant : Grant
   pub all : grant.skipped ≡ 0
   pub no_fresh : grant.fresh ≡ []
   -- the sets that the shares leave to be needed
-  pub wants : wanting ≡ rest grant.refused n old.pools
+  pub wants : needed ≡ rest grant.refused n old.pools
   pub taken : HasTaken k n grant items old new before after

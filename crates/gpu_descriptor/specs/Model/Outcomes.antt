@@ -68,7 +68,7 @@ pub record Call : Type 0 where
   -- the limit on the descriptors of the outstanding marked sets, and on those of the pools of marked keys
   pub limit : ℕ
   -- the bound on the descriptors of a new pool, which only the sets still needed exceed
-  pub most : Option ℕ
+  pub bound : Option ℕ
   -- before it: the number of outstanding sets, the marked load, and the pool load
   pub out : ℕ
   pub load : ℕ
@@ -121,8 +121,8 @@ StopsAtNew why k room = (why ≡ stop.NoRoomUnderLimit) ↔ (room < pool_descrip
 
 -- what had been taken by then: of the existing pools, or of all these and a prefix of new ones
 abbrev pub StopsAt : Stop → Option ℕ → Key → (room n : ℕ) → Grant → List Entry → Type 0
-StopsAt (stop.ExistingPoolWithoutMemory e) most k room n g old = EndsAtPool n old e g
-StopsAt why most k room n g old = (g.skipped ≡ 0) × IsFreshPrefix most k room (allocated_in (all_shared g.refused n old)) (rest g.refused n old) g.fresh × StopsAtNew why k (room_after k room g.fresh)
+StopsAt (stop.ExistingPoolWithoutMemory e) bound k room n g old = EndsAtPool n old e g
+StopsAt why bound k room n g old = (g.skipped ≡ 0) × IsFreshPrefix bound k room (allocated_in (all_shared g.refused n old)) (rest g.refused n old) g.fresh × StopsAtNew why k (room_after k room g.fresh)
 
 -- ---- the outcomes
 
@@ -132,8 +132,8 @@ module _ (c : Call) where
   IsGrant g = IsGrantOf c.count (c.old.books c.key) c.old.ledger g
 
   -- how many sets are needed after the existing pools
-  abbrev pub wanting : Grant → ℕ
-  wanting g = rest g.refused c.count (c.old.books c.key).pools
+  abbrev pub needed : Grant → ℕ
+  needed g = rest g.refused c.count (c.old.books c.key).pools
 
   -- how many sets are allocated from the key's pools then, with what they gave of this request
   abbrev pub out_then : Grant → ℕ
@@ -169,7 +169,7 @@ module _ (c : Call) where
     pub grant : Grant
     pub taken : IsGrant grant
     pub all : grant.skipped ≡ 0
-    pub fresh : IsFreshList c.most c.key (c.limit - c.pooled) (out_then grant) (wanting grant) grant.fresh
+    pub fresh : IsFreshList c.bound c.key (c.limit - c.pooled) (out_then grant) (needed grant) grant.fresh
     pub answer : c.answer ≡ Ok (items_in c.key grant.id grant.parts)
     pub state : c.new ≡ granted c.key c.count grant c.old
     pub counters : c.after ≡ risen (grant_rise c.count grant (c.old.books c.key).pools) c.before
@@ -185,7 +185,7 @@ module _ (c : Call) where
   pub record IsStopped : Type 0 where
     pub why : Stop
     pub grant : Grant
-    pub at : StopsAt why c.most c.key (c.limit - c.pooled) c.count grant (c.old.books c.key).pools
+    pub at : StopsAt why c.bound c.key (c.limit - c.pooled) c.count grant (c.old.books c.key).pools
     pub back : IsBack grant why
 
   -- the six outcomes of a request for sets: when each comes, its result, and what it leaves

@@ -5,7 +5,7 @@ use Rattle.std.specs.Prelude.{◌≡◌, ℕ, ◌+◌, ◌-◌, ◌*◌, ◌<◌
 use Rattle.gpu_descriptor_types.specs.PoolSize.{pool_size_floor, start_size}
 use Rattle.gpu_descriptor.specs.Model.Books.{Key, Entry, key_eq}
 use Rattle.gpu_descriptor.specs.Model.Agreement.{State, Item, count_of, outstanding}
-use Rattle.gpu_descriptor.specs.Model.Outcomes.{Call, taken_by, out_then, wanting, Allocates}
+use Rattle.gpu_descriptor.specs.Model.Outcomes.{Call, taken_by, out_then, needed, Allocates}
 use Rattle.gpu_descriptor.specs.Model.Shares.{offer, all_shared}
 
 -- exactly these sets are outstanding in addition to those before
@@ -33,9 +33,9 @@ module _ (c : Call) where
     pub used_up : All (λ e. e.available ≡ 0) (all_shared g.refused c.count (c.old.books c.key).pools)
     -- if the request succeeded, no pool of the key but the newest has a known free place
     pub filled : OnOk c.answer (let pools = (c.new.books c.key).pools in All (λ e. e.available ≡ 0) (take (length pools - 1) pools))
-    pub below_twice : AreBelowTwice (out_then c g) (wanting c g) g.fresh
+    pub below_twice : AreBelowTwice (out_then c g) (needed c g) g.fresh
     -- the number of new pools is at most that of the sets needed divided by the floor of a pool's size, rounded up
-    pub few : let floor = pool_size_floor c.key.counts in (c.after.created - c.before.created) * floor < wanting c g + floor
+    pub few : let floor = pool_size_floor c.key.counts in (c.after.created - c.before.created) * floor < needed c g + floor
 
 -- a pool is created only if the key's existing pools fall short
 abbrev pub CreatesOnlyWhereShort : {c : Call} → Allocates c → Type 0

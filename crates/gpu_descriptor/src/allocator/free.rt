@@ -92,7 +92,7 @@ impl<P, S> DescriptorAllocator<P, S> {
         ensures goes { OnSome result (IsNearerEnd I.can_next I.remaining sets.old sets.new) }
         ensures keys { keys_of self.new ≡ keys_of self.old }
         ensures limit { self.new.limit ≡ self.old.limit }
-        ensures most { self.new.most ≡ self.old.most }
+        ensures bound { self.new.bound ≡ self.old.bound }
         ensures looks_stay { self.new.looks ≡ self.old.looks }
         ensures compares { Compares (search_digits ((state_of D.meaning.pool_name self.old
             (D.ledger device.old)).books first.key.is)) self.old.comparisons self.new.comparisons }

@@ -45,9 +45,9 @@ impl<P, S> DescriptorAllocator<P, S> {
 
     /// The bound on the descriptors of a new pool, `None` without one. See `set_max_pool_descriptors`.
     pub fn max_pool_descriptors(&self) -> Option<u64>
-        ensures most { result ≡ self.now.most }
+        ensures bound { result ≡ self.now.bound }
     {
-        self.budget.most
+        self.budget.bound
     }
 
     /// How many pools there are for sets of layouts with these counts and this mark.

@@ -59,9 +59,9 @@ fn size_in_room(key: &BucketKey, total: u64, wanted: u32, room: u32) -> Option<u
 
 /// How many sets a key's next pool holds, within the limit and the bound.
 #[inline]
-fn next_size(key: &BucketKey, total: u64, wanted: u32, room: u32, most: Option<u64>) -> Option<u32>
+fn next_size(key: &BucketKey, total: u64, wanted: u32, room: u32, bound: Option<u64>) -> Option<u32>
     requires some { 1 ≤ wanted }
-    ensures sets { IfSome result (λ sets. IsNextSize most (key_of key.now) room total wanted
+    ensures sets { IfSome result (λ sets. IsNextSize bound (key_of key.now) room total wanted
         sets) }
     ensures fits { IfSome result (λ sets. All (λ count. count * sets < 2 ^ 32)
         (kinds key.now.counts)) }
@@ -71,7 +71,7 @@ fn next_size(key: &BucketKey, total: u64, wanted: u32, room: u32, most: Option<u
     ensures none { IfNone result (room < pool_descriptors (key_of key.now) 1) }
 {
     let sets = size_in_room(key, total, wanted, room)?;
-    Some(bounded_pool_sets(&key.counts, sets, wanted, most))
+    Some(bounded_pool_sets(&key.counts, sets, wanted, bound))
 }
 
 impl<P> DescriptorBucket<P> {
@@ -94,7 +94,7 @@ impl<P> DescriptorBucket<P> {
             self.old.id (number_after (stored_numbers self.old.pools.items))) put) ×
             (sink.new.left + length put ≡ sink.old.left) ×
             (self.new.total ≡ self.old.total + length put) ×
-            IsGrown budget.old.most (key_of request.now.key) budget.old.room budget.new.room
+            IsGrown budget.old.bound (key_of request.now.key) budget.old.room budget.new.room
             self.old.total sink.old.left (map D.meaning.set_name put) (bucket_of D.meaning.pool_name self.old).pools
             (bucket_of D.meaning.pool_name self.new).pools (D.ledger device.old)
             (D.ledger device.new)) }
@@ -109,12 +109,12 @@ impl<P> DescriptorBucket<P> {
             × IsRefused stop (D.ledger device.old) (D.ledger device.new)
             × StopsAtNew stop (key_of request.now.key) budget.old.room) }
         ensures id_stays { self.new.id ≡ self.old.id }
-        ensures most { budget.new.most ≡ budget.old.most }
+        ensures bound { budget.new.bound ≡ budget.old.bound }
         ensures looks { CountsLooks budget.old.looks.count budget.new.looks.count
             (D.ledger device.old) (D.ledger device.new) }
     {
         let key = &request.key;
-        let Some(size) = next_size(key, self.total, sink.left, budget.room, budget.most) else {
+        let Some(size) = next_size(key, self.total, sink.left, budget.room, budget.bound) else {
             return Err(Stop::NoRoomUnderLimit);
         };
         if self.reserve_pool().is_err() {
@@ -163,8 +163,8 @@ impl<P> DescriptorBucket<P> {
 
         // The list has capacity for all pools, listed or not: a release and a trim list pools without an
         // allocation.
-        let wanting = self.pools.len() + 1 - self.listed.len();
-        self.listed.reserve(wanting)
+        let missing = self.pools.len() + 1 - self.listed.len();
+        self.listed.reserve(missing)
     }
 
     /// Appends a new pool, counts its sets, and lists it if it has free places.

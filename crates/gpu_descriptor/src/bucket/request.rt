@@ -76,7 +76,7 @@ impl<P: Drop> DescriptorBucket<P> {
         requires numbers { number_after (stored_numbers self.old.pools.items) + request.now.count
             < 2 ^ 64 }
         requires left { sink.old.left ≡ request.now.count }
-        ensures taken { IsTaken result budget.old.most (key_of request.now.key) budget.old.room
+        ensures taken { IsTaken result budget.old.bound (key_of request.now.key) budget.old.room
             request.now.count
             (items_of D.meaning.set_name
             (appended (K.items sink.old.sets) (K.items sink.new.sets)))
@@ -90,7 +90,7 @@ impl<P: Drop> DescriptorBucket<P> {
         ensures all { OnOk result (sink.new.left ≡ 0) }
         ensures room { budget.new.room + stored_load (key_of request.now.key) self.new.pools.items
             ≡ budget.old.room + stored_load (key_of request.now.key) self.old.pools.items }
-        ensures most { budget.new.most ≡ budget.old.most }
+        ensures bound { budget.new.bound ≡ budget.old.bound }
         ensures looks { CountsLooks budget.old.looks.count budget.new.looks.count
             (D.ledger device.old) (D.ledger device.new) }
     {

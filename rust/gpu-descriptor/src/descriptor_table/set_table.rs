@@ -17,7 +17,7 @@ use crate::kit::collections::VecDeque;
 use crate::kit::vec::Vec;
 
 /// The max of the number of slots.
-const MOST: u64 = u32::MAX as u64;
+const MAX_SLOTS: u64 = u32::MAX as u64;
 
 /// The list of the slots without a set.
 pub(crate) const VACANT: usize = 0;
@@ -107,7 +107,7 @@ impl<T> SetTable<T> {
     fn reserve_slots(&mut self, additional: u32) -> Result<(), AllocError>
     {
         let places = self.slots.len() as u64 + u64::from(additional);
-        if places > MOST {
+        if places > MAX_SLOTS {
             return Err(AllocError);
         }
         self.slots.reserve(additional as usize)?;

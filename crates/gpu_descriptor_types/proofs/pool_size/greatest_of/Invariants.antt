@@ -4,4 +4,4 @@ use Rattle.gpu_descriptor_types.specs.Counts.{greatest}
 use Rattle.gpu_descriptor_types.proofs.pool_size.greatest_of.Given as goal
 
 abbrev pub invariant-loop-kind : goal.invariant-loop-kind
-invariant-loop-kind l = l.most ≡ greatest (take l.kind-index l.kinds)
+invariant-loop-kind l = l.max ≡ greatest (take l.kind-index l.kinds)

@@ -8,7 +8,7 @@ pub returns-clause-sets : goal.returns-clause-sets
 returns-clause-sets c = record {
   start = c.rounded_up.result;
   rounded = rw c.start_size.ensures at c.rounded_up.ensures.rounded;
-  is_least = c.cut_to.ensures ∙ ap (λ most. min c.rounded_up.result (sets_of_kind most)) (c.greatest_of.ensures ∙ ap greatest c.to_array-kinds.ensures) ∙ greatest_allows c.rounded_up.result (kinds_of c.args.counts.now) c.rounded_up.ensures.at_most;
+  is_least = c.cut_to.ensures ∙ ap (λ kind. min c.rounded_up.result (sets_of_kind kind)) (c.greatest_of.ensures ∙ ap greatest c.to_array-kinds.ensures) ∙ greatest_allows c.rounded_up.result (kinds_of c.args.counts.now) c.rounded_up.ensures.at_most;
 }
 
 pub returns-clause-at_most : goal.returns-clause-at_most

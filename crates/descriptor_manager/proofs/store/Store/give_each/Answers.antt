@@ -46,5 +46,5 @@ returns g c =
       back = record { sets = f.sets; returns = f.returns };
       turns = subst (λ t. Turns goes (Becomes vacated) (slots_of c.args.self.now.table) (slots_of t)) (sym c.end.ensures) all.0;
       keeps = keeps;
-      stays = record { store = record { number = settings.number; lists = settings.lists; generations = settings.generations; limit = keeps.limit; bound = keeps.most; besides = keeps.others; keeps = settings.keep }; coming = refl };
+      stays = record { store = record { number = settings.number; lists = settings.lists; generations = settings.generations; limit = keeps.limit; bound = keeps.bound; besides = keeps.others; keeps = settings.keep }; coming = refl };
     }

@@ -8,7 +8,7 @@ use Rattle.descriptor_manager.proofs.store.Store.held.Given.{Over}
 use Rattle.descriptor_manager.proofs.store.Store.held.Goals as goal
 use Rattle.descriptor_manager.proofs.store.Store.held.Goals.{After-waiting}
 
--- as many sets are out as are held, wait and are kept
+-- as many sets are live in the allocator as are held, wait and are kept
 all : (g : Over) (c : After-waiting g) → outstanding_of c.args.self.now.allocator ≡ count holds (slots_in c.args.self.now) + (count waits (slots_in c.args.self.now) + count is_kept (slots_in c.args.self.now))
 all g c =
     let n = placed_count (slots_in c.args.self.now) c.requires.placed in

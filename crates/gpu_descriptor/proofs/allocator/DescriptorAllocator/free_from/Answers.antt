@@ -15,7 +15,7 @@ loop-ahead-init g c = record {
       c.next-ahead.new.self c.requires.agree.books c.requires.ends.1 c.next-ahead.ensures.steps
       c.next-ahead.ensures.goes;
   limit = λ i. c.args.self.now.limit;
-  most = λ i. c.args.self.now.most;
+  bound = λ i. c.args.self.now.bound;
   looks = λ i. c.args.self.now.looks;
 }
 
@@ -42,7 +42,7 @@ loop-ahead-preserved g c =
           (g.D.DescriptorDevice.ledger c.loop-ahead.device) c.in-Some.first c.loop-ahead.sets
           c.requires.agree.books c.requires.outstanding r _ _ _ _ c.release_run-ahead.ensures.ran c.release_run-ahead.ensures.keys c.release_run-ahead.ensures.goes c.release_run-ahead.ensures.compares;
       limit = c.release_run-ahead.ensures.limit ∙ c.loop-ahead.invariant.limit;
-      most = c.release_run-ahead.ensures.most ∙ c.loop-ahead.invariant.most;
+      bound = c.release_run-ahead.ensures.bound ∙ c.loop-ahead.invariant.bound;
       looks = c.release_run-ahead.ensures.looks_stay ∙ c.loop-ahead.invariant.looks;
     }
 
@@ -55,7 +55,7 @@ returns-clause-keeps g c =
     record {
       agree = record { rows = rows_apart _ c.self.view_is name c.self.inside.table.distinct; books = r.agree };
       limit = c.loop-ahead.invariant.limit;
-      most = c.loop-ahead.invariant.most;
+      bound = c.loop-ahead.invariant.bound;
       load = load_within _ c.self.view_is (opened c.self.invariant);
       pool_load = pool_load_within _ c.self.view_is (opened c.self.invariant);
       others = freed_others g.D.DescriptorDevice.meaning r.sets _ c.args.self.now c.loop-ahead.self before after r.back;

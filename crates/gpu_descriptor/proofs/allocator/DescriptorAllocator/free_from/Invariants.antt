@@ -6,7 +6,7 @@ abbrev pub invariant-loop-ahead : goal.invariant-loop-ahead
 invariant-loop-ahead g l = record {
   freed : Freed g.D.DescriptorDevice.meaning g.I.Iterator.next_gives g.I.Iterator.can_next g.I.Iterator.remaining l.fn.sets l.fn.self (g.D.DescriptorDevice.ledger l.fn.device) l.self (g.D.DescriptorDevice.ledger l.device) l.ahead l.sets;
   limit : l.self.limit ≡ l.fn.self.limit;
-  most : l.self.most ≡ l.fn.self.most;
+  bound : l.self.bound ≡ l.fn.self.bound;
   looks : l.self.looks ≡ l.fn.self.looks;
 }
 

@@ -165,7 +165,7 @@ returns-clause-compares g c =
     let open_ones = row_open g.D.DescriptorDevice.meaning.pool_name g.D.DescriptorDevice.meaning.set_name c.args.self.now (g.D.DescriptorDevice.ledger c.args.device.now) c.self.inside.table.buckets.entries (table_is _ c.self.view_is) c.self.inside.table.distinct c.requires.agree c.args.first (there g at.After-pair_mut-bucket) in
     let same = ap binary_digits open_ones in
     let count = ap (λ (a : Allocations _). a.comparisons) c.self.view_is in
-    let most = c.release_sets-ahead.ensures.compares in
+    let bound = c.release_sets-ahead.ensures.compares in
     record { rises = omega arith; few = omega arith }
 
 pub destroy_empty_front-requires-clause-stored : goal.destroy_empty_front-requires-clause-stored

@@ -26,7 +26,7 @@ returns-in_err-ended-clause-declined g c =
     (declined_unserved g.D.DescriptorDevice.meaning c.self.view_is (opened c.self.invariant) _ c.args.request.now.key c.requires.some c.would_exceed_limit.ensures c.if-would_exceed_limit.false
     c.would_exceed_64_bits.ensures c.if-would_exceed_64_bits.false
     (seen_again _ c.self.view_is _ c.in_err-ended.ensures.serves.entries
-    (ap (λ b. b.looks.count) c.in_err-ended.ensures.serves.budget) (ap (λ b. b.most) c.in_err-ended.ensures.serves.budget))
+    (ap (λ b. b.looks.count) c.in_err-ended.ensures.serves.budget) (ap (λ b. b.bound) c.in_err-ended.ensures.serves.budget))
     c.in_err-ended.ensures.serves.ledger c.in_err-ended.field-0.0 c.in_err-ended.ensures.serves.refused)
 
 many : (g : _) (c : After-from-taken g) → c.from-taken.result ≡ length (appended (g.K.SetPlaces.items c.args.sink.now.sets) (g.K.SetPlaces.items c.serve.new.sink.sets))
@@ -85,11 +85,11 @@ pub returns-clause-keeps : goal.returns-clause-keeps
 returns-clause-keeps g c =
     let fs = c.serve.new.self.buckets.entries in
     let all = counted g (goal.at.returns-clause-keeps g c).After-from-taken in
-    let now : Allocations _ = seen c.self.inside.max_update_after_bind_descriptors_in_all_pools c.serve.new.budget.most c.serve.new.budget.looks.count c.self.inside.comparisons.count fs in
+    let now : Allocations _ = seen c.self.inside.max_update_after_bind_descriptors_in_all_pools c.serve.new.budget.bound c.serve.new.budget.looks.count c.self.inside.comparisons.count fs in
     keeps_all {new = now}
     (takes_of fs c.in_ok-ended.ensures.serves.served c.self.view_is (opened c.self.invariant) c.would_exceed_limit.ensures c.if-would_exceed_limit.false c.would_exceed_64_bits.ensures c.if-would_exceed_64_bits.false)
     c.requires.agree.books (rows_apart {a = now} fs refl g.D.DescriptorDevice.meaning.pool_name c.serve.new.self.distinct) (ap (λ (a : Allocations _). a.limit) c.self.view_is)
-    (c.in_ok-ended.ensures.serves.most ∙ ap (λ (a : Allocations _). a.most) c.self.view_is) (load_within {a = now} fs refl all) (pool_load_within {a = now} fs refl all)
+    (c.in_ok-ended.ensures.serves.bound ∙ ap (λ (a : Allocations _). a.bound) c.self.view_is) (load_within {a = now} fs refl all) (pool_load_within {a = now} fs refl all)
 
 pub returns-then-would_exceed_limit-clause-keeps : goal.returns-then-would_exceed_limit-clause-keeps
 returns-then-would_exceed_limit-clause-keeps g c = keeps_still refl refl c.requires.agree (load_within _ c.self.view_is (opened c.self.invariant)) (pool_load_within _ c.self.view_is (opened c.self.invariant))
@@ -100,7 +100,7 @@ returns-then-would_exceed_64_bits-clause-keeps g c = keeps_still refl refl c.req
 pub returns-in_err-ended-clause-keeps : goal.returns-in_err-ended-clause-keeps
 returns-in_err-ended-clause-keeps g c =
     let serves = c.in_err-ended.ensures.serves in
-    let same = seen_again _ c.self.view_is _ serves.entries (ap (λ b. b.looks.count) serves.budget) (ap (λ b. b.most) serves.budget) in
+    let same = seen_again _ c.self.view_is _ serves.entries (ap (λ b. b.looks.count) serves.budget) (ap (λ b. b.bound) serves.budget) in
     keeps_still same serves.ledger c.requires.agree
     (subst (λ (a : Allocations _). marked_load_of a ≤ a.limit) (sym same) (load_within _ c.self.view_is (opened c.self.invariant)))
     (subst (λ (a : Allocations _). pool_load_of a ≤ a.limit) (sym same) (pool_load_within _ c.self.view_is (opened c.self.invariant)))

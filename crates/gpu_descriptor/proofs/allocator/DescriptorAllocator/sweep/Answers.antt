@@ -65,7 +65,7 @@ loop-place-preserved g c =
       out = h.out;
       marked = h.marked;
       limit = h.limit;
-      most = h.most;
+      bound = h.bound;
       looks = h.looks;
       comparisons = h.comparisons;
     }
@@ -100,7 +100,7 @@ returns g c =
     let now : Allocations _ =
     record {
       limit = c.loop-place.self-inside.max_update_after_bind_descriptors_in_all_pools;
-      most = c.loop-place.self-inside.budget.most;
+      bound = c.loop-place.self-inside.budget.bound;
       table = map row_of c.retain.new.self.entries;
       looks = c.loop-place.self-inside.budget.looks.count;
       comparisons = c.loop-place.self-inside.comparisons.count;
@@ -122,7 +122,7 @@ returns g c =
       keeps = record {
         agree = record { rows = rows_distinct name c.retain.new.self.entries (distinct_stored _ (λ k l. search rules) _ c.retain.ensures.unique); books = clean_agrees c.args.everywhere _ _ c.requires.agree.books clean };
         limit = h.limit ∙ ap (λ (a : Allocations _). a.limit) c.self.view_is;
-        most = h.most ∙ ap (λ (a : Allocations _). a.most) c.self.view_is;
+        bound = h.bound ∙ ap (λ (a : Allocations _). a.bound) c.self.view_is;
         load = (omega arith);
         pool_load = (omega arith);
         others = cleaned_others name c.args.everywhere c.args.self.now now (ledger c.args.device.now) (ledger c.loop-place.device) clean;

@@ -17,7 +17,7 @@ invariant-loop-place g l =
       out : l.self-inside.outstanding ≡ l.initial.self-inside.outstanding;
       marked : l.self-inside.update_after_bind_descriptors ≡ l.initial.self-inside.update_after_bind_descriptors;
       limit : l.self-inside.max_update_after_bind_descriptors_in_all_pools ≡ l.initial.self-inside.max_update_after_bind_descriptors_in_all_pools;
-      most : l.self-inside.budget.most ≡ l.initial.self-inside.budget.most;
+      bound : l.self-inside.budget.bound ≡ l.initial.self-inside.budget.bound;
       looks : l.self-inside.budget.looks.count ≡ l.initial.self-inside.budget.looks.count;
       comparisons : l.self-inside.comparisons.count ≡ l.initial.self-inside.comparisons.count;
     }

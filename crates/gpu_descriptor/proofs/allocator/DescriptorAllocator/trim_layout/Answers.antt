@@ -82,7 +82,7 @@ returns g c =
     let now : Allocations _ =
     record {
       limit = c.self.inside.max_update_after_bind_descriptors_in_all_pools;
-      most = c.self.inside.budget.most;
+      bound = c.self.inside.budget.bound;
       table = map row_of fs;
       looks = c.self.inside.budget.looks.count;
       comparisons = c.self.inside.comparisons.count;
@@ -105,7 +105,7 @@ returns g c =
       keeps = record {
         agree = record { rows = rows_apart {a = now} fs refl name distinct; books = subst Agree (sym state) (emptied_agree less c.requires.agree.books) };
         limit = ap (λ (a : Allocations _). a.limit) c.self.view_is;
-        most = ap (λ (a : Allocations _). a.most) c.self.view_is;
+        bound = ap (λ (a : Allocations _). a.bound) c.self.view_is;
         load = load_within {a = now} fs refl counted;
         pool_load = pool_load_within {a = now} fs refl counted;
         others = emptied_others name old now before after (subst (Empties s) (sym state) less);

@@ -12,7 +12,7 @@ returns-clause-compares g c =
       | inl gaps ↦ (
           let is : gap_digits numbers ≡ binary_digits (length numbers) = rw gaps refl in
           let same = ap binary_digits long in
-          let most = c.search_pools.ensures.compares in
+          let bound = c.search_pools.ensures.compares in
           record { rises = omega arith; few = omega arith })
       | inr none ↦ absurd (
           let stands = c.requires.there in

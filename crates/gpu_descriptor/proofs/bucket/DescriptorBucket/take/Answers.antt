@@ -17,7 +17,7 @@ use Rattle.gpu_descriptor.proofs.bucket.DescriptorBucket.take.Goals as goal
 
 -- a walk leaves the load of the key's pools
 module _ {P : Type 0} (name : P → ℕ) {k : Key} {n id own : ℕ} {items : List Item} (old new : List (DescriptorPool P)) {l m : Ledger} where
-  walked_load : {wanting : ℕ} → IsWalked k n wanting items (bucket id (map (entry_of name) old)) (bucket own (map (entry_of name) new)) l m → stored_load k new ≡ stored_load k old
+  walked_load : {needed : ℕ} → IsWalked k n needed items (bucket id (map (entry_of name) old)) (bucket own (map (entry_of name) new)) l m → stored_load k new ≡ stored_load k old
   walked_load w = (let a = load_entries name k old in let b = load_entries name k new in let same = load_walked k n w.grant (bucket id (map (entry_of name) old)) (bucket own (map (entry_of name) new)) l m items w.taken w.no_fresh in omega arith)
 
   stopped_load : {error : DeviceAllocationError} → IsTaken (Err (ExistingPoolWithoutMemory error)) None k 0 n items (bucket id (map (entry_of name) old)) (bucket own (map (entry_of name) new)) l m → stored_load k new ≡ stored_load k old
@@ -46,7 +46,7 @@ loop-sink-init g c =
       growing = grow_start known c.take_from_existing.ensures.id_stays (let out = allocated_entries name c.args.self.now.pools.items in let counted = c.args.self.now.counted in let all = c.take_from_existing.ensures.appends.rest in omega arith);
       load = ap (λ n. c.args.budget.now.room + n) (walked_load name c.args.self.now.pools.items c.take_from_existing.new.self.pools.items known);
       own = c.take_from_existing.ensures.appends.own;
-      most = λ i. c.args.budget.now.most;
+      bound = λ i. c.args.budget.now.bound;
       looks = c.take_from_existing.ensures.looks;
     }
 
@@ -65,7 +65,7 @@ pub loop-sink-preserved : goal.loop-sink-preserved
 loop-sink-preserved g c =
     let inv = c.loop-sink.invariant in
     let got = c.in_ok-take_from_new.ensures.grown in
-    let grown = rw inv.most at got.4 in
+    let grown = rw inv.bound at got.4 in
     let key : Key = key_of c.args.request.now.key in
     let items : List (DescriptorPool g.row.P.Denot) = c.loop-sink.self.pools.items in
     let new : List Entry = map (entry_of g.D.DescriptorDevice.meaning.pool_name) items in
@@ -106,7 +106,7 @@ loop-sink-preserved g c =
           let less = grown.less in
           omega arith);
       own = λ first before. c.in_ok-take_from_new.ensures.own first (inv.own first before);
-      most = c.in_ok-take_from_new.ensures.most ∙ inv.most;
+      bound = c.in_ok-take_from_new.ensures.bound ∙ inv.bound;
       looks = (let a = inv.looks in let b = c.in_ok-take_from_new.ensures.looks in omega arith);
     }
 

@@ -19,7 +19,7 @@ module _ {S : Type 0} (name : S → ℕ) (was : List (DescriptorSet S)) {now : L
   all = sym (appended_is was put is)
 
   module _ {k : Key} {n : ℕ} {old older new newer : Bucket} {l m : Ledger} (first : old ≡ older) (last : new ≡ newer) where
-    walked_as : {wanting : ℕ} → IsWalked k n wanting (items_of name put) old new l m → IsWalked k n wanting (items_of name (appended was now)) older newer l m
+    walked_as : {needed : ℕ} → IsWalked k n needed (items_of name put) old new l m → IsWalked k n needed (items_of name (appended was now)) older newer l m
     walked_as w = rw (sym first, sym last, sym all) w
 
     stopped_as : {error : DeviceAllocationError} → IsTaken (Err (ExistingPoolWithoutMemory error)) None k 0 n (items_of name put) old new l m → IsTaken (Err (ExistingPoolWithoutMemory error)) None k 0 n (items_of name (appended was now)) older newer l m

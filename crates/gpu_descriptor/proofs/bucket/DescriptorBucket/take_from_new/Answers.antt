@@ -34,7 +34,7 @@ module _ (g : _) (c : In-Ok g) where
 
   -- a pool of one set fits
   fits : pool_descriptors key 1 ≤ c.args.budget.now.room
-  fits = one_fits c.args.budget.now.most key c.args.budget.now.room c.args.self.now.total c.args.sink.now.left size c.in-Some.ensures.sets
+  fits = one_fits c.args.budget.now.bound key c.args.budget.now.room c.args.self.now.total c.args.sink.now.left size c.in-Some.ensures.sets
 
 -- what came stands behind what was there
 kept : (g : _) (c : In-Ok-alloc_descriptor_sets g) → (g.K.SetPlaces.items c.alloc_descriptor_sets.new.sets.sets)
@@ -99,7 +99,7 @@ returns-in-Ok-alloc_descriptor_sets-clause-grown g c =
       came,
       room,
       total,
-      grown c.args.budget.now.most (key g d) c.args.budget.now.room _ c.args.self.now.total c.args.sink.now.left (size g d) (name g d) c.next_number-number.result
+      grown c.args.budget.now.bound (key g d) c.args.budget.now.room _ c.args.self.now.total c.args.sink.now.left (size g d) (name g d) c.next_number-number.result
           names old new (before g d) (created g d) m' c.in-Some.ensures.sets
           (let fits = c.in-Some.ensures.room.0 in let load = c.marked_descriptors_of_pool.ensures in omega arith) long c.in-Ok.ensures.new_name (made g d) is numbered now,
     )
@@ -114,7 +114,7 @@ returns-then-is_err-clause-err g c = (
   none_asked
       (g.D.DescriptorDevice.ledger c.args.device.now) stop.NoMemoryForPool refl,
   had_room (λ is. absurd (cc))
-      (one_fits c.args.budget.now.most (key_of c.args.request.now.key) c.args.budget.now.room c.args.self.now.total
+      (one_fits c.args.budget.now.bound (key_of c.args.request.now.key) c.args.budget.now.room c.args.self.now.total
       c.args.sink.now.left c.in-Some.size c.in-Some.ensures.sets),
 )
 
@@ -130,7 +130,7 @@ returns-in-Err-clause-err g c =
       not_created c.in-Err.error l m
           c.in-Err.ensures.err,
       had_room (λ is. absurd (cc))
-          (one_fits c.args.budget.now.most (key_of c.args.request.now.key) c.args.budget.now.room c.args.self.now.total
+          (one_fits c.args.budget.now.bound (key_of c.args.request.now.key) c.args.budget.now.room c.args.self.now.total
           c.args.sink.now.left c.in-Some.size c.in-Some.ensures.sets),
     )
 

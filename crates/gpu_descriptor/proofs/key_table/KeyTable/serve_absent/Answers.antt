@@ -63,7 +63,7 @@ returns g c =
           (λ served total. serves_new c.args.request.now.key c.take-ended.new.self served total es (is_of key) (λ k. search rules) c.requires.absent added (λ i. record { id = c.args.self.now.next_id; pools = map (entry_of g.D.DescriptorDevice.meaning.pool_name) (c.new.ensures.items i) }) refl)
           (keys_put key c.args.request.now.key es c.insert.new.self.entries c.take-ended.new.self refl c.requires.absent added)
           (rw added (pools_end c.args.request.now.key es c.take-ended.new.self c.take-ended.new.budget.room c.args.budget.now.room (omega arith)))
-          c.take-ended.ensures.most c.take-ended.ensures.looks;
+          c.take-ended.ensures.bound c.take-ended.ensures.looks;
     }
 
 pub invariant_of-self-in-Ok : goal.invariant_of-self-in-Ok
