@@ -63,10 +63,6 @@ module _ {T : Type 0} where
   pub renewed_sets : (number p : ℕ) (u : Use) (handle : SetHandle) (old new : List (Slot T)) → Renews number p u handle old new → sets_in new ≡ sets_in old
   renewed_sets number p u handle old new renews = ap sets_in renews.slots ∙ set_sets old p (renewed u (slot_at old p)) refl
 
-  pub held_sets : (layout number : ℕ) (r : Option SetHandle) (old new : List (Slot T)) {X : Type 0} → IfSome r (λ h. (is_kept_of layout (slot_at old h.place) ≡ true) × Renews number h.place Held h old new) → (r ≡ None → (new ≡ old) × X) → sets_in new ≡ sets_in old
-  held_sets layout number None old new some none = ap sets_in (none refl).0
-  held_sets layout number (Some h) old new some none = renewed_sets number h.place Held h old new some.1
-
   pub picked_sets : (test : Slot T → Bool) (p : ℕ) (old new : List (Slot T)) → Picks test p old new → sets_in new ≡ sets_in old
   picked_sets test p old new picks = ap sets_in picks.slots ∙ set_sets old p (used_for Taken (slot_at old p)) refl
 

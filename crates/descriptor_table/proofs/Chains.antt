@@ -104,13 +104,13 @@ module _ {T : Type 0} (slots : List (Slot T)) (next : List ℕ) (chains : List C
   pub out_linked : (p : ℕ) (s : Slot T) → p < length slots → ((k : ℕ) → is_in k (slot_at slots p) ≡ false) → ((k : ℕ) → is_in k s ≡ false) → AreLinked (set slots p s) next chains
   out_linked p s within was now k = lists_other (is_in k) slots p s (places k) (h k) within (now k ∙ sym (was k))
 
-  module _ (p : ℕ) (s : Slot T) (within : p < length slots) (taken : (slot_at slots p).used ≡ Taken) where
+  module _ (p : ℕ) (s : Slot T) (within : p < length slots) (idle : IsNowhere (slot_at slots p).used) where
     -- a list that the slot isn't in stays, whatever its next is
     other_places : (k x : ℕ) → walk (chain_at chains k).count (set next p x) (chain_at chains k).first ≡ places k
-    other_places k x = walk_other (chain_at chains k).count next (chain_at chains k).first p x (not_listed (is_in k) slots (places k) p (h k) (taken_no_list (slot_at slots p) taken k))
+    other_places k x = walk_other (chain_at chains k).count next (chain_at chains k).first p x (not_listed (is_in k) slots (places k) p (h k) ((nowhere_out (slot_at slots p) idle).1 k))
 
     pub filled_linked : (x : ℕ) → ((k : ℕ) → is_in k s ≡ false) → AreLinked (set slots p s) (set next p x) chains
-    filled_linked x now k = subst (Lists (is_in k) (set slots p s)) (sym (other_places k x)) (out_linked p s within (taken_no_list (slot_at slots p) taken) now k)
+    filled_linked x now k = subst (Lists (is_in k) (set slots p s)) (sym (other_places k x)) (out_linked p s within (nowhere_out (slot_at slots p) idle).1 now k)
 
   -- one list changed
   chain_changed : (slots' : List (Slot T)) (next' : List ℕ) (k : ℕ) (d : Chain) → k < length chains → Lists (is_in k) slots' (walk d.count next' d.first) → ((j : ℕ) → j ≢ k → Lists (is_in j) slots' (walk (chain_at chains j).count next' (chain_at chains j).first)) → AreLinked slots' next' (set chains k d)
@@ -139,21 +139,21 @@ module _ {T : Type 0} (slots : List (Slot T)) (next : List ℕ) (chains : List C
         (lists_pop (is_in k) slots c.first s (walk (c.count - 1) next (get_or next c.first 0)) (parts some) first.0 (out k)))
         (λ j ne. lists_other (is_in j) slots c.first s (places j) (h j) first.0 (out j ∙ sym (lists_apart j k (slot_at slots c.first) first.1 ne)))
 
-    module _ (p : ℕ) (s : Slot T) (within : p < length slots) (taken : (slot_at slots p).used ≡ Taken) (goes : is_in k s ≡ true) where
+    module _ (p : ℕ) (s : Slot T) (within : p < length slots) (idle : IsNowhere (slot_at slots p).used) (goes : is_in k s ≡ true) where
       pushed : Lists (is_in k) (set slots p s) (p ∷ places k)
-      pushed = lists_push (is_in k) slots p s (places k) (h k) within (taken_no_list (slot_at slots p) taken k) goes
+      pushed = lists_push (is_in k) slots p s (places k) (h k) within ((nowhere_out (slot_at slots p) idle).1 k) goes
 
-      -- a slot that a call had came first in the list
+      -- a slot that was in no list came first in this one
       pub link_linked : length next ≡ length slots → k < length chains → AreLinked (set slots p s) (set next p c.first) (set chains k (record { first = p; count = c.count + 1 }))
       link_linked long there =
           let told : get_or (set next p c.first) p 0 ≡ c.first = get_or-set_same next p c.first 0 (omega arith) in
-          let same : walk c.count (set next p c.first) c.first ≡ places k = ap (λ (c' : Chain). walk c'.count (set next p c.first) c'.first) (sym is) ∙ other_places p s within taken k c.first in
+          let same : walk c.count (set next p c.first) c.first ≡ places k = ap (λ (c' : Chain). walk c'.count (set next p c.first) c'.first) (sym is) ∙ other_places p s within idle k c.first in
           chain_changed (set slots p s) (set next p c.first) k (record { first = p; count = c.count + 1 }) there
           (subst (Lists (is_in k) (set slots p s))
           (sym (ap (λ n. walk n (set next p c.first) p) (add-one c.count)
           ∙ ap (λ q. p ∷ walk c.count (set next p c.first) q) told
           ∙ ap (λ l. p ∷ l) same)) pushed)
-          (λ j ne. subst (Lists (is_in j) (set slots p s)) (sym (other_places p s within taken j c.first)) (lists_other (is_in j) slots p s (places j) (h j) within (lists_apart j k s goes ne ∙ sym (taken_no_list (slot_at slots p) taken j))))
+          (λ j ne. subst (Lists (is_in j) (set slots p s)) (sym (other_places p s within idle j c.first)) (lists_other (is_in j) slots p s (places j) (h j) within (lists_apart j k s goes ne ∙ sym ((nowhere_out (slot_at slots p) idle).1 j))))
 
       -- which has no more places then than there are slots
       pub link_more : c.count + 1 ≤ length slots

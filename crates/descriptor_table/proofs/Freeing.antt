@@ -4,13 +4,12 @@ use Rattle.std.proofs.Common.{◌≡◌, ◌≢◌, ℕ, zero, suc, ◌+◌, ◌
 use Rattle.std.proofs.lemmas.List.{get_or-set_other, get_or-set_same, set-get_or, set-set}
 use Rattle.std.proofs.lemmas.Bool.{true≢false}
 use Rattle.descriptor_table.specs.Slots.{chain_at, in_list, is_in, slot_at, nexts_in, chains_in}
-use Rattle.descriptor_table.specs.Tables.{At, JoinsList, KeepsLists, Pops, SettleEach, SettlesOne, list_of, place_at, slots_of, used_for}
+use Rattle.descriptor_table.specs.Tables.{At, Pops, SettleEach, SettlesOne, list_of, place_at, slots_of, used_for}
 use Rattle.descriptor_table.specs.declared.handle.SetHandle.{SetHandle}
 use Rattle.descriptor_table.specs.declared.set_table.SetTable.{SetTable}
 use Rattle.descriptor_table.specs.declared.slot.Chain.{Chain}
 use Rattle.descriptor_table.specs.Slots.{Slot}
-use Rattle.descriptor_table.specs.declared.slot.Use.{Use}
-use Rattle.descriptor_table.specs.declared.slot.Use.TheVariants.{Held, Taken}
+use Rattle.descriptor_table.specs.declared.slot.Use.TheVariants.{Held}
 use Rattle.descriptor_table.proofs.Chains.{chain_set}
 use Rattle.descriptor_table.proofs.Listed.{other_slots, with_use}
 use Rattle.descriptor_table.proofs.Sound.{same_long}
@@ -91,23 +90,6 @@ module _ {T : Type 0} where
   -- once none is left, the slots are as they were
   pub rewinds_end : (handles : List SetHandle) (before now : SetTable T) → Rewinds handles 0 before now → slots_of now ≡ slots_of before
   rewinds_end handles before now r = r.rewound.slots ∙ r.settled.0
-
-  -- a held set settled, after its slot was taken
-  pub settles_one : (p : ℕ) (u : Use) (a mid b : SetTable T) → p < length (slots_of a) → (slot_at (slots_of a) p).used ≡ Held → slots_of mid ≡ with_use p Taken (slots_of a) → KeepsLists a mid → slots_of b ≡ with_use p u (slots_of mid) → JoinsList p mid b → SettlesOne p a b
-  settles_one p u a mid b within held taken keeps made joins = record {
-    within = within;
-    held = held;
-    new_use = u;
-    turns = made ∙ ap (with_use p u) taken ∙ use_again (slots_of a) p Taken u within;
-    joins = record {
-      listed = joins.listed;
-      pushes = record {
-        there = subst (λ l. list_of (slot_at (slots_of b) p) < length l) keeps.chains joins.pushes.there;
-        chains = joins.pushes.chains ∙ ap (λ l. set l (list_of (slot_at (slots_of b) p)) (record { first = p; count = (chain_at l (list_of (slot_at (slots_of b) p))).count + 1 })) keeps.chains;
-        next = joins.pushes.next ∙ (λ i. set (keeps.next i) p (chain_at (keeps.chains i) (list_of (slot_at (slots_of b) p))).first);
-      };
-    };
-  }
 
   -- the last of the handles that are left is the first of its list
   pub record IsNext (handles : List SetHandle) (p : ℕ) (before now : SetTable T) : Type 0 where

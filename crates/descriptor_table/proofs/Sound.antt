@@ -4,13 +4,13 @@ use Rattle.std.proofs.Common.{◌≡◌, ◌≢◌, ℕ, ◌+◌, ◌-◌, ◌<�
 use Rattle.std.proofs.lemmas.Bool.{true≢false}
 use Rattle.std.proofs.lemmas.List.{get_or-set_other, get_or-set_same, length-map, length-set, length_push}
 use Rattle.std.specs.List.Sorted.{IsPartitionPoint}
-use Rattle.descriptor_table.specs.Slots.{AreLinked, AreSized, AreSound, HasLists, IsListed, IsQueue, Slot, chain_at, frame_of, generation_at, is_in, nexts_in, slot_at, slot_of, slots_in, waits}
+use Rattle.descriptor_table.specs.Slots.{AreLinked, AreSized, AreSound, HasLists, IsListed, IsNowhere, IsQueue, Slot, chain_at, frame_of, generation_at, is_in, nexts_in, slot_at, slot_of, slots_in, waits}
 use Rattle.descriptor_table.specs.Tables.{is_kept, removed_at}
 use Rattle.descriptor_table.specs.declared.slot.Chain.{Chain}
 use Rattle.descriptor_table.specs.declared.slot.Use.TheVariants.{Taken}
 use Rattle.descriptor_table.specs.declared.slot_list.Entry.{Entry}
 use Rattle.descriptor_table.specs.declared.slot_list.SlotList.{SlotList}
-use Rattle.descriptor_table.proofs.Chains.{few_set, filled_linked, known_chains, link_linked, listed_out, lists_set, out_linked, pick_linked, picked, taken_no_list, taken_out, waits_no_list}
+use Rattle.descriptor_table.proofs.Chains.{few_set, filled_linked, known_chains, link_linked, listed_out, lists_set, nowhere_out, out_linked, pick_linked, picked, taken_no_list, taken_out, waits_no_list}
 use Rattle.descriptor_table.proofs.Counting.{same_or}
 use Rattle.descriptor_table.proofs.Entries.{in_place}
 use Rattle.descriptor_table.proofs.Growing.{known_grown, linked_grown, queue_grown}
@@ -77,13 +77,13 @@ module _ {T : Type 0} (l l' : SlotList T) (chains : List Chain) (generations wai
         (listed_out k (slot_at (slots_in l) p) was) now
 
     -- a slot that a call had came first in a list
-    pub link_sound : (k : ℕ) (c : Chain) → chain_at chains k ≡ c → k < length chains → p < length (slots_in l) → (slot_at (slots_in l) p).used ≡ Taken → is_in k s ≡ true → nexts_in l' ≡ set (nexts_in l) p c.first → IsListed (length chains) (generation_at generations) s → (2 ≤ k → c.count < keep) → AreSound l' (set chains k (record { first = p; count = c.count + 1 })) generations waiting room keep
-    link_sound k c is there within taken goes nexts here few =
+    pub link_sound : (k : ℕ) (c : Chain) → chain_at chains k ≡ c → k < length chains → p < length (slots_in l) → IsNowhere (slot_at (slots_in l) p).used → is_in k s ≡ true → nexts_in l' ≡ set (nexts_in l) p c.first → IsListed (length chains) (generation_at generations) s → (2 ≤ k → c.count < keep) → AreSound l' (set chains k (record { first = p; count = c.count + 1 })) generations waiting room keep
+    link_sound k c is there within idle goes nexts here few =
         let d : Chain = record { first = p; count = c.count + 1 } in
         changed k d there within here
         (λ two. let less = few two in omega arith)
-        (in_place (λ l n. AreLinked l n (set chains k d)) _ _ _ _ slots nexts (link_linked (slots_in l) (nexts_in l) chains h.linked k c is p s within taken goes (same_long l) there))
-        (taken_out (slot_at (slots_in l) p) taken) (listed_out k s goes)
+        (in_place (λ l n. AreLinked l n (set chains k d)) _ _ _ _ slots nexts (link_linked (slots_in l) (nexts_in l) chains h.linked k c is p s within idle goes (same_long l) there))
+        (nowhere_out (slot_at (slots_in l) p) idle).0 (listed_out k s goes)
 
     -- a set came to wait
     pub wait_sound : (f i : ℕ) → frame_of s.used ≡ f → i ≤ length waiting → IsPartitionPoint (λ q. frame_of (slot_at (slots_in l) q).used ≤ f) (λ q. f < frame_of (slot_at (slots_in l) q).used) waiting i → p < length (slots_in l) → (slot_at (slots_in l) p).used ≡ Taken → waits s ≡ true → nexts_in l' ≡ nexts_in l → IsListed (length chains) (generation_at generations) s → AreSound l' chains generations (insert waiting i p) room keep
@@ -114,7 +114,7 @@ module _ {T : Type 0} (l l' : SlotList T) (chains : List Chain) (generations wai
   pub fill_sound : (p x : ℕ) (s : Slot T) → p < length (slots_in l) → (slot_at (slots_in l) p).used ≡ Taken → s.used ≡ Taken → slots_in l' ≡ set (slots_in l) p s → nexts_in l' ≡ set (nexts_in l) p x → IsListed (length chains) (generation_at generations) s → AreSound l' chains generations waiting room keep
   fill_sound p x s within was taken slots nexts here = record {
     sized = sized p s slots;
-    linked = in_place (λ l n. AreLinked l n chains) _ _ _ _ slots nexts (filled_linked (slots_in l) (nexts_in l) chains h.linked p s within was x (taken_no_list s taken));
+    linked = in_place (λ l n. AreLinked l n chains) _ _ _ _ slots nexts (filled_linked (slots_in l) (nexts_in l) chains h.linked p s within (subst IsNowhere (sym was) tt) x (taken_no_list s taken));
     queue = subst (λ l. IsQueue l waiting) (sym slots) (out_queue (slots_in l) waiting h.queue p s within (taken_out (slot_at (slots_in l) p) was) (taken_out s taken));
     known = known p s slots within here;
     few = h.few;

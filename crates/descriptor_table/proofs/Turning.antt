@@ -5,13 +5,12 @@ use Rattle.std.proofs.lemmas.Grind.{common_steps}
 use Rattle.std.proofs.Common.{◌≡◌, ◌≢◌, ℕ, zero, suc, ◌+◌, ◌<◌, ◌≤◌, ◌⊎◌, ◌&&◌, nat_lt, Bool, true, false, if◌then◌else◌, List, [], ◌∷◌, length, set, Option, Some, None, ne_eqb, is_some, inl, inr, refl, sym, ap, subst, ◌∙◌, arith, nat_le}
 use Rattle.std.proofs.lemmas.List.{length-set, set-set}
 use Rattle.std.proofs.lemmas.Bool.{false≢true, ltb-false, true≢false}
-use Rattle.descriptor_table.specs.Slots.{in_list, is_due, is_in, slot_at, waits_for}
+use Rattle.descriptor_table.specs.Slots.{IsNowhere, Slot, in_list, is_due, is_in, slot_at, waits_for}
 use Rattle.descriptor_table.specs.Tables.{AtIf, IsBack, KeepsSettings, MayBecome, Picks, PicksAbove, PicksAny, Stays, Turns, count, generations_of, holds, is_held_use, is_kept, is_taken, is_taken_use, may_stay, keep_of, next_use, stays, used_for, Becomes}
 use Rattle.descriptor_table.specs.declared.set_table.SetTable.{SetTable}
 use Rattle.descriptor_table.specs.declared.slot.Use.{Use}
 use Rattle.descriptor_table.specs.declared.slot.Use.TheVariants.{Held, Kept, Going, Taken}
-use Rattle.descriptor_table.specs.Slots.{Slot}
-use Rattle.descriptor_table.proofs.Chains.{and_true, lists_apart}
+use Rattle.descriptor_table.proofs.Chains.{and_true, lists_apart, nowhere_out}
 use Rattle.descriptor_table.proofs.Counting.{same_or}
 use Rattle.descriptor_table.proofs.Counts.{bit, count_set, none_count, same_count}
 use Rattle.descriptor_table.proofs.Listed.{other_slots, slot_set, with_use}
@@ -75,10 +74,10 @@ module _ {T : Type 0} where
   kept_grows k p now s within out = (let h = count_set (is_in k) now p s within in let b = ap bit out in omega arith)
 
   -- a set of a slot that is in no list settled
-  module _ (generations : ℕ → ℕ) (max : ℕ) (now mid new : List (Slot T)) (p : ℕ) (within : p < length now) (out : (k : ℕ) → is_in k (slot_at now p) ≡ false) (left : mid ≡ with_use p Taken now) (is : new ≡ with_use p (next_use generations max mid p) mid) where
+  module _ (generations : ℕ → ℕ) (max : ℕ) (now mid new : List (Slot T)) (p : ℕ) (within : p < length now) (out : (k : ℕ) → is_in k (slot_at now p) ≡ false) (u : Use) (idle : IsNowhere u) (left : mid ≡ with_use p u now) (is : new ≡ with_use p (next_use generations max mid p) mid) where
     -- only the use of its slot changed
     pub settled_set : new ≡ set now p (used_for (next_use generations max mid p) (slot_at now p))
-    settled_set = is ∙ ap (λ l. with_use p (next_use generations max mid p) l) left ∙ use_again now p Taken (next_use generations max mid p) within
+    settled_set = is ∙ ap (λ l. with_use p (next_use generations max mid p) l) left ∙ use_again now p u (next_use generations max mid p) within
 
     -- of sets that settled before it `IsBack` still holds, as no fewer sets of any layout are kept than then
     pub settled_grows : (o n : Slot T) → IsBack (used_for Going) generations max now o n → IsBack (used_for Going) generations max new o n
@@ -92,8 +91,8 @@ module _ {T : Type 0} where
         o : Slot T
         o = slot_at now p
 
-        slot : slot_at mid p ≡ used_for Taken (slot_at now p)
-        slot = ap (λ l. slot_at l p) left ∙ slot_set now p (used_for Taken (slot_at now p)) within
+        slot : slot_at mid p ≡ used_for u (slot_at now p)
+        slot = ap (λ l. slot_at l p) left ∙ slot_set now p (used_for u (slot_at now p)) within
 
         both : may_stay generations max mid (slot_at mid p) ≡ (stays generations (slot_at now p) && nat_lt (count (is_in ((slot_at now p).layout + 2)) mid) max)
         both = ap (may_stay generations max mid) slot
@@ -107,7 +106,7 @@ module _ {T : Type 0} where
               let full = ltb-false (count (is_in k) mid) max (sym (ap (λ b. b && nat_lt (count (is_in k) mid) max) may) ∙ sym both ∙ e) in
               let a = kept_grows k p now (used_for (next_use generations max mid p) (slot_at now p)) within (out k) in
               let b = ap (count (is_in k)) settled_set in
-              let c = same_count (is_in k) now p (used_for Taken (slot_at now p)) within (sym (out k)) in
+              let c = same_count (is_in k) now p (used_for u (slot_at now p)) within ((nowhere_out (used_for u (slot_at now p)) idle).1 k ∙ sym (out k)) in
               let d = ap (count (is_in k)) left in
               omega arith,
         )
@@ -218,11 +217,10 @@ module _ {T : Type 0} where
             }
 
   -- a slot whose set is held goes
-  pub held_goes : (old mid new : List (Slot T)) (p : ℕ) (u : Use) (s : Slot T) → p < length old → s ≡ slot_at old p → s.used ≡ Held → is_some s.set ≡ true → mid ≡ set old p (used_for Taken s) → new ≡ with_use p u mid → AtIf holds p (used_for u) old new
-  held_goes old mid new p u s within is held full taken goes =
+  pub held_goes : (old new : List (Slot T)) (p : ℕ) (u : Use) (s : Slot T) → s ≡ slot_at old p → s.used ≡ Held → is_some s.set ≡ true → new ≡ with_use p u old → AtIf holds p (used_for u) old new
+  held_goes old new p u s is held full goes =
       let was : holds (slot_at old p) ≡ true = ap holds (sym is) ∙ ap (λ u. is_held_use u && is_some s.set) held ∙ full in
-      let left : mid ≡ with_use p Taken old = taken ∙ ap (λ (s : Slot T). set old p (used_for Taken s)) is in
-      goes ∙ ap (with_use p u) left ∙ use_again old p Taken u within ∙ sym (ap (λ b. if b then with_use p u old else old) was)
+      goes ∙ sym (ap (λ b. if b then with_use p u old else old) was)
 
   -- a slot that passes the test comes to be in use for something, and doesn't pass it then
   pub use_one : (test : Slot T → Bool) (u : Use) (old now new : List (Slot T)) (p : ℕ) → Turning test (λ l o n. n ≡ used_for u o) old now → p < length now → AtIf test p (used_for u) now new → ((s : Slot T) → test (used_for u s) ≡ false) → TurnsOne test (λ l o n. n ≡ used_for u o) old now new p

@@ -66,20 +66,18 @@ impl<L: Drop, P: Drop, S: Drop, D: DescriptorDevice<L, P, S>> Store<L, P, S, D> 
         }
     }
 
-    /// Holds a kept set of a layout.
+    /// Holds a kept set of a layout, and returns its name.
     #[inline]
-    fn hold_next(&mut self, layout: u32) -> SetHandle
+    fn hold_next<N: SetName<DescriptorSet<S>>>(&mut self, layout: u32) -> N
         requires kept { 0 < kept_of layout self.old }
-        ensures holds { HoldEach (number_of self.old) (current_in layout self.old) (result ∷ [])
-            (slots_in self.old) (slots_in self.new) }
-        ensures was_kept { is_kept_of layout (slot_at (slots_in self.old) result.place) ≡ true }
+        ensures holds { HoldEach (number_of self.old) (current_in layout self.old)
+            (N.handle_of result ∷ []) (slots_in self.old) (slots_in self.new) }
+        ensures was_kept { is_kept_of layout (slot_at (slots_in self.old)
+            (N.handle_of result).place) ≡ true }
         ensures fewer { kept_of layout self.new + 1 ≡ kept_of layout self.old }
         ensures keeps { HoldsKept self.old self.new }
     {
-        match self.table.hold_kept(layout) {
-            Some(handle) => handle,
-            None => unreachable!(),
-        }
+        self.table.hold_kept(layout)
     }
 
     /// Holds kept sets of a layout, and writes their names.
@@ -94,8 +92,7 @@ impl<L: Drop, P: Drop, S: Drop, D: DescriptorDevice<L, P, S>> Store<L, P, S, D> 
         ensures keeps { HoldsKept self.old self.new }
     {
         for index in 0..names.len() {
-            let handle = self.hold_next(layout);
-            names[index] = self.table.name_of(handle);
+            names[index] = self.hold_next(layout);
         }
     }
 

@@ -1,21 +1,31 @@
 //! Sets that are freed: each is kept, or goes. A set that goes joins the list of those that return to
 //! their pools.
-ghost use Rattle.std.specs.Prelude.{◌≡◌, ◌↔◌, ◌+◌, ◌<◌, ◌≤◌, ℕ, true, false, IsFalse, IsTrue, length};
+ghost use Rattle.std.specs.Prelude.{◌≡◌, ◌↔◌, ◌+◌, ◌<◌, ◌≤◌, ℕ, true, false, IsFalse, IsTrue, is_some, length};
 
 use super::{GOING, KEPT, SetTable};
 use crate::handle::SetName;
-use crate::slot::Use;
+use crate::slot::{ListHead, Use};
 
 impl<T> SetTable<T> {
     ghost use Rattle.descriptor_table.specs.declared.set_table.SetTable.{SetTable};
     ghost use Rattle.descriptor_table.specs.Sets.{AreHeldOnce};
-    ghost use Rattle.descriptor_table.specs.Slots.{chain_at, chains_in, is_due, is_in, is_kept_of, slot_at, waits};
-    ghost use Rattle.descriptor_table.specs.Tables.{AreAllTaken, At, AtIf, Becomes, Changes, HasTaken};
+    ghost use Rattle.descriptor_table.specs.Slots.{IsNowhere, chain_at, chains_in, is_due, is_in, is_kept_of, slot_at, waits};
+    ghost use Rattle.descriptor_table.specs.Tables.{AreAllTaken, At, AtIf, Becomes, Changes};
     ghost use Rattle.descriptor_table.specs.Tables.{IsBack, JoinsList, KeepsUpTo, MayBecome, PicksAbove, Pops};
     ghost use Rattle.descriptor_table.specs.Tables.{SettleEach, Stays, TurnEach, Turns, count};
     ghost use Rattle.descriptor_table.specs.Tables.{generations_of, holds, is_kept, is_taken, keep_of};
     ghost use Rattle.descriptor_table.specs.Tables.{list_of, lists_of, may_stay, next_use, number_of};
     ghost use Rattle.descriptor_table.specs.Tables.{slots_of, used_for};
+
+    /// The list of a layout's kept sets.
+    #[inline]
+    fn kept_list(&self, layout: u32) -> &ListHead
+        requires { layout + 2 < lists_of self.now }
+        ensures generation { result.now.generation ≡ generations_of self.now layout }
+        ensures count { result.now.chain.count ≡ count (is_kept_of layout) (slots_of self.now) }
+    {
+        &self.lists[layout as usize + KEPT]
+    }
 
     /// Whether a set that is freed may be kept.
     #[inline]
@@ -25,16 +35,19 @@ impl<T> SetTable<T> {
             (slots_of self.now) (slot_at (slots_of self.now) place) }
     {
         let slot = self.slots.at(place);
+        let list = self.kept_list(slot.layout);
         !slot.leaves
             && slot.generation < u32::MAX
-            && slot.layout_generation == self.generation(slot.layout)
-            && self.kept_count(slot.layout) < self.keep
+            && slot.layout_generation == list.generation
+            && list.chain.count < self.keep
     }
 
-    /// Keeps a set that a call has taken, or lets it go.
+    /// Keeps a set that is in no list, or lets it go.
     #[inline(always)]
     fn settle(&mut self, place: usize)
-        requires { HasTaken place (slots_of self.old) }
+        requires within { place < length (slots_of self.old) }
+        requires idle { IsNowhere (slot_at (slots_of self.old) place).used }
+        requires full { is_some (slot_at (slots_of self.old) place).set ≡ true }
         ensures changes { Changes (At place (used_for (next_use (generations_of self.old)
             (keep_of self.old) (slots_of self.old) place))) self.old self.new }
         ensures joins { JoinsList place self.old self.new }
@@ -87,7 +100,6 @@ impl<T> SetTable<T> {
                 self.unsettle(names, index);
                 return false;
             }
-            self.assign(handle.place as usize, Use::Taken);
             self.settle(handle.place as usize);
         }
         true
@@ -185,7 +197,6 @@ impl<T> SetTable<T> {
             Use::InFrame(_) | Use::Waits(_) | Use::Kept | Use::Going | Use::Taken | Use::Vacant =>
                 return,
         }
-        self.assign(place, Use::Taken);
         self.link(GOING, place, Use::Going);
     }
 

@@ -1,13 +1,13 @@
 //! The lists of slots without a set, of sets that go back to their pools, and of kept sets.
-ghost use Rattle.std.specs.Prelude.{◌≡◌, ◌+◌, ◌<◌, ◌≤◌, IfSome, IsTrue, None, true, false, ℕ};
+ghost use Rattle.std.specs.Prelude.{◌≡◌, ◌+◌, ◌<◌, ◌≤◌, IfSome, IsTrue, length, true, false, ℕ};
 
 use super::{GOING, KEPT, SetTable};
-use crate::handle::SetHandle;
+use crate::handle::{SetHandle, SetName};
 use crate::slot::{Chain, Use};
 
 impl<T> SetTable<T> {
-    ghost use Rattle.descriptor_table.specs.Slots.{chain_at, chains_in, goes, is_in, is_kept_of, slot_at};
-    ghost use Rattle.descriptor_table.specs.Tables.{At, Changes, IsTaken, PicksAny, Pops, Pushes, Renews, Stays, count, count_of};
+    ghost use Rattle.descriptor_table.specs.Slots.{IsNowhere, chain_at, chains_in, goes, is_in, is_kept_of, slot_at};
+    ghost use Rattle.descriptor_table.specs.Tables.{At, Changes, PicksAny, Pops, Pushes, Renews, Stays, count, count_of};
     ghost use Rattle.descriptor_table.specs.Tables.{generations_of, is_kept, lists_of};
     ghost use Rattle.descriptor_table.specs.Tables.{keep_of, number_of, slots_of, used_for};
 
@@ -51,11 +51,12 @@ impl<T> SetTable<T> {
         Some(place)
     }
 
-    /// Puts a slot first in a list.
+    /// Puts a slot that is in no list first in one.
     #[inline]
     pub(super) fn link(&mut self, list: usize, place: usize, used: Use)
         requires list { list < lists_of self.old }
-        requires taken { IsTaken place (slots_of self.old) }
+        requires within { place < length (slots_of self.old) }
+        requires idle { IsNowhere (slot_at (slots_of self.old) place).used }
         requires goes { is_in list (used_for used (slot_at (slots_of self.old) place)) ≡ true }
         requires current { is_kept (used_for used (slot_at (slots_of self.old) place)) ≡ true
             → (slot_at (slots_of self.old) place).layout_generation ≡ generations_of self.old
@@ -78,26 +79,23 @@ impl<T> SetTable<T> {
         self.pick(layout as usize + KEPT)
     }
 
-    /// Holds a kept set of a layout, under its next handle.
+    /// Holds a kept set of a layout, under its next handle, and returns its name.
     #[inline]
-    pub fn hold_kept(&mut self, layout: u32) -> Option<SetHandle>
-        ensures holds { IfSome result (λ handle. (is_kept_of layout (slot_at (slots_of self.old)
-            handle.place) ≡ true) × Renews (number_of self.old) handle.place Use.Held handle
-            (slots_of self.old) (slots_of self.new)) }
-        ensures none { result ≡ None → (slots_of self.new ≡ slots_of self.old)
-            × (count (is_kept_of layout) (slots_of self.old) ≡ 0) }
+    pub fn hold_kept<N: SetName<T>>(&mut self, layout: u32) -> N
+        requires { 0 < count (is_kept_of layout) (slots_of self.old) }
+        ensures kept { is_kept_of layout (slot_at (slots_of self.old) (N.handle_of result).place)
+            ≡ true }
+        ensures renews { Renews (number_of self.old) (N.handle_of result).place Use.Held
+            (N.handle_of result) (slots_of self.old) (slots_of self.new) }
         ensures stays { Stays self.old self.new }
     {
-        let head = self.lists.get_mut(layout as usize + KEPT)?;
-        if head.chain.count == 0 {
-            return None;
-        }
+        let head = &mut self.lists[layout as usize + KEPT];
         let place = head.chain.first;
         let next = self.slots.at(place as usize).next;
         let generation = self.slots.renew(place as usize, Use::Held);
         head.chain.first = next;
         head.chain.count -= 1;
-        Some(SetHandle {
+        self.name_of(SetHandle {
             manager: self.number,
             place,
             generation,

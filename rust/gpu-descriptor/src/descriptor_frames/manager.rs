@@ -57,9 +57,9 @@ impl<P, S> FrameManager<P, S> {
 
     /// Sets the bound on the descriptors of a new pool. See
     /// `DescriptorAllocator::set_max_pool_descriptors`.
-    pub fn set_max_pool_descriptors(&mut self, most: Option<u64>)
+    pub fn set_max_pool_descriptors(&mut self, bound: Option<u64>)
     {
-        self.allocator.set_max_pool_descriptors(most);
+        self.allocator.set_max_pool_descriptors(bound);
     }
 
     /// The bound on the descriptors of a new pool, `None` without one.

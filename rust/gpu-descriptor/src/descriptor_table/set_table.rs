@@ -16,7 +16,7 @@ use crate::kit::alloc::{AllocError, Global};
 use crate::kit::collections::VecDeque;
 use crate::kit::vec::Vec;
 
-/// The max of the number of slots.
+/// The max number of slots.
 const MAX_SLOTS: u64 = u32::MAX as u64;
 
 /// The list of the slots without a set.

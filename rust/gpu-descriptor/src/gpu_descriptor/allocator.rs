@@ -66,16 +66,16 @@ impl<P, S> DescriptorAllocator<P, S> {
             outstanding: 0,
             budget: Budget {
                 room: max_update_after_bind_descriptors_in_all_pools,
-                most: None,
+                bound: None,
             },
             sets: PhantomData,
         }
     }
 
-    /// Bounds a new pool to the sets that have at most `most` descriptors, or to the sets still needed
+    /// Bounds a new pool to the sets that have at most `bound` descriptors, or to the sets still needed
     /// if these are more. `None`, as at first, removes the bound. Existing pools stay as they are.
-    pub fn set_max_pool_descriptors(&mut self, most: Option<u64>)
+    pub fn set_max_pool_descriptors(&mut self, bound: Option<u64>)
     {
-        self.budget.most = most;
+        self.budget.bound = bound;
     }
 }

@@ -9,5 +9,5 @@ pub(crate) struct Budget {
     pub(crate) room: u32,
 
     /// The bound on the descriptors of a new pool, which only the sets still needed exceed.
-    pub(crate) most: Option<u64>,
+    pub(crate) bound: Option<u64>,
 }

@@ -38,21 +38,21 @@ pub fn cut_pool_sets(counts: &DescriptorTotalCount, sets: u32, room: u32) -> Opt
     Some(cut)
 }
 
-/// Cuts `sets` so that they have at most `most` descriptors together, unless the `wanted` sets have
+/// Cuts `sets` so that they have at most `bound` descriptors together, unless the `wanted` sets have
 /// more. `None` cuts nothing. A set without descriptors counts as one. The result is 0 if `wanted` is 0
-/// and `most` has no room for a set.
+/// and `bound` has no room for a set.
 #[inline]
 pub fn bounded_pool_sets(
     counts: &DescriptorTotalCount,
     sets: u32,
     wanted: u32,
-    most: Option<u64>,
+    bound: Option<u64>,
 ) -> u32
 {
-    let Some(most) = most else {
+    let Some(bound) = bound else {
         return sets;
     };
-    let fit = most / counts.total_u64().max(1);
+    let fit = bound / counts.total_u64().max(1);
     u64::from(sets).min(fit.max(u64::from(wanted))) as u32
 }
 
@@ -88,11 +88,11 @@ fn rounded_up(start: u32) -> u32
 #[inline]
 fn greatest_of(kinds: &[u32; 14]) -> u32
 {
-    let mut most = 0;
+    let mut max = 0;
     for kind in kinds {
-        most = most.max(*kind);
+        max = max.max(*kind);
     }
-    most
+    max
 }
 
 /// The smaller of `sets` and what a kind allows. It divides only if the product would exceed 32 bits.

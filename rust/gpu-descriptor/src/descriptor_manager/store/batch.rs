@@ -36,14 +36,11 @@ impl<L, P, S, D: DescriptorDevice<L, P, S>> Store<L, P, S, D> {
         }
     }
 
-    /// Holds a kept set of a layout.
+    /// Holds a kept set of a layout, and returns its name.
     #[inline]
-    fn hold_next(&mut self, layout: u32) -> SetHandle
+    fn hold_next<N: SetName<DescriptorSet<S>>>(&mut self, layout: u32) -> N
     {
-        match self.table.hold_kept(layout) {
-            Some(handle) => handle,
-            None => unreachable!(),
-        }
+        self.table.hold_kept(layout)
     }
 
     /// Holds kept sets of a layout, and writes their names.
@@ -51,8 +48,7 @@ impl<L, P, S, D: DescriptorDevice<L, P, S>> Store<L, P, S, D> {
     fn hold_kept<N: SetName<DescriptorSet<S>>>(&mut self, layout: u32, names: &mut [N])
     {
         for index in 0..names.len() {
-            let handle = self.hold_next(layout);
-            names[index] = self.table.name_of(handle);
+            names[index] = self.hold_next(layout);
         }
     }
 

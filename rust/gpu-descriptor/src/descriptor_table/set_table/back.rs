@@ -4,21 +4,29 @@
 
 use super::{GOING, KEPT, SetTable};
 use crate::descriptor_table::handle::SetName;
-use crate::descriptor_table::slot::Use;
+use crate::descriptor_table::slot::{ListHead, Use};
 
 impl<T> SetTable<T> {
+    /// The list of a layout's kept sets.
+    #[inline]
+    fn kept_list(&self, layout: u32) -> &ListHead
+    {
+        &self.lists[layout as usize + KEPT]
+    }
+
     /// Whether a set that is freed may be kept.
     #[inline]
     fn may_stay(&self, place: usize) -> bool
     {
         let slot = self.slots.at(place);
+        let list = self.kept_list(slot.layout);
         !slot.leaves
             && slot.generation < u32::MAX
-            && slot.layout_generation == self.generation(slot.layout)
-            && self.kept_count(slot.layout) < self.keep
+            && slot.layout_generation == list.generation
+            && list.chain.count < self.keep
     }
 
-    /// Keeps a set that a call has taken, or lets it go.
+    /// Keeps a set that is in no list, or lets it go.
     #[inline(always)]
     fn settle(&mut self, place: usize)
     {
@@ -60,7 +68,6 @@ impl<T> SetTable<T> {
                 self.unsettle(names, index);
                 return false;
             }
-            self.assign(handle.place as usize, Use::Taken);
             self.settle(handle.place as usize);
         }
         true
@@ -137,7 +144,6 @@ impl<T> SetTable<T> {
             Use::InFrame(_) | Use::Waits(_) | Use::Kept | Use::Going | Use::Taken | Use::Vacant =>
                 return,
         }
-        self.assign(place, Use::Taken);
         self.link(GOING, place, Use::Going);
     }
 

@@ -2,7 +2,7 @@
 //! The lists of slots without a set, of sets that go back to their pools, and of kept sets.
 
 use super::{GOING, KEPT, SetTable};
-use crate::descriptor_table::handle::SetHandle;
+use crate::descriptor_table::handle::{SetHandle, SetName};
 use crate::descriptor_table::slot::{Chain, Use};
 
 impl<T> SetTable<T> {
@@ -42,7 +42,7 @@ impl<T> SetTable<T> {
         Some(place)
     }
 
-    /// Puts a slot first in a list.
+    /// Puts a slot that is in no list first in one.
     #[inline]
     pub(super) fn link(&mut self, list: usize, place: usize, used: Use)
     {
@@ -59,20 +59,17 @@ impl<T> SetTable<T> {
         self.pick(layout as usize + KEPT)
     }
 
-    /// Holds a kept set of a layout, under its next handle.
+    /// Holds a kept set of a layout, under its next handle, and returns its name.
     #[inline]
-    pub fn hold_kept(&mut self, layout: u32) -> Option<SetHandle>
+    pub fn hold_kept<N: SetName<T>>(&mut self, layout: u32) -> N
     {
-        let head = self.lists.get_mut(layout as usize + KEPT)?;
-        if head.chain.count == 0 {
-            return None;
-        }
+        let head = &mut self.lists[layout as usize + KEPT];
         let place = head.chain.first;
         let next = self.slots.at(place as usize).next;
         let generation = self.slots.renew(place as usize, Use::Held);
         head.chain.first = next;
         head.chain.count -= 1;
-        Some(SetHandle {
+        self.name_of(SetHandle {
             manager: self.number,
             place,
             generation,

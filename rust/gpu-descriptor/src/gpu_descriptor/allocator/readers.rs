@@ -36,7 +36,7 @@ impl<P, S> DescriptorAllocator<P, S> {
     /// The bound on the descriptors of a new pool, `None` without one. See `set_max_pool_descriptors`.
     pub fn max_pool_descriptors(&self) -> Option<u64>
     {
-        self.budget.most
+        self.budget.bound
     }
 
     /// How many pools there are for sets of layouts with these counts and this mark.

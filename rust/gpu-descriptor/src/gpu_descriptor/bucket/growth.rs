@@ -37,10 +37,10 @@ fn size_in_room(key: &BucketKey, total: u64, wanted: u32, room: u32) -> Option<u
 
 /// How many sets a key's next pool holds, within the limit and the bound.
 #[inline]
-fn next_size(key: &BucketKey, total: u64, wanted: u32, room: u32, most: Option<u64>) -> Option<u32>
+fn next_size(key: &BucketKey, total: u64, wanted: u32, room: u32, bound: Option<u64>) -> Option<u32>
 {
     let sets = size_in_room(key, total, wanted, room)?;
-    Some(bounded_pool_sets(&key.counts, sets, wanted, most))
+    Some(bounded_pool_sets(&key.counts, sets, wanted, bound))
 }
 
 impl<P> DescriptorBucket<P> {
@@ -57,7 +57,7 @@ impl<P> DescriptorBucket<P> {
     ) -> Result<(), Stop>
     {
         let key = &request.key;
-        let Some(size) = next_size(key, self.total, sink.left, budget.room, budget.most) else {
+        let Some(size) = next_size(key, self.total, sink.left, budget.room, budget.bound) else {
             return Err(Stop::NoRoomUnderLimit);
         };
         if self.reserve_pool().is_err() {
@@ -99,8 +99,8 @@ impl<P> DescriptorBucket<P> {
 
         // The list has capacity for all pools, listed or not: a release and a trim list pools without an
         // allocation.
-        let wanting = self.pools.len() + 1 - self.listed.len();
-        self.listed.reserve(wanting)
+        let missing = self.pools.len() + 1 - self.listed.len();
+        self.listed.reserve(missing)
     }
 
     /// Appends a new pool, counts its sets, and lists it if it has free places.

@@ -20,28 +20,28 @@ loop-index-init g c = record {
 pub loop-index-preserved : goal.loop-index-preserved
 loop-index-preserved g c =
     let was = c.loop-index.invariant in
-    let now = c.hold_next-handle.ensures in
+    let now = c.hold_next.ensures in
     let i = c.loop-index.index in
     let s = c.args.self.now in
-    let handle = c.hold_next-handle.result in
+    let handle = g.N.SetName.handle_of c.hold_next.result in
     let handles = g.N.SetName.handles_of c.loop-index.names in
-    let written = handles_written g.N.SetName g.met.N.SetName.each c.loop-index.names i c.name_of.result handle c.name_of.ensures in
+    let written = handles_written g.N.SetName g.met.N.SetName.each c.loop-index.names i c.hold_next.result handle refl in
     let all = handles_long g.N.SetName g.met.N.SetName.each c.loop-index.names in
     let lt = c.loop-index-test.true in
     let long = was.long in
     record {
-      long = length-set c.loop-index.names i c.name_of.result ∙ was.long;
-      holds = subst (λ l. HoldEach (number_of s) (current_in c.args.layout s) (take (i + 1) l) (slots_in s) (slots_in c.hold_next-handle.new.self)) (sym written)
-          (held_next c.args.layout i handles handle s c.loop-index.self c.hold_next-handle.new.self was.keeps.stays.store (omega arith) was.holds now.holds);
+      long = length-set c.loop-index.names i c.hold_next.result ∙ was.long;
+      holds = subst (λ l. HoldEach (number_of s) (current_in c.args.layout s) (take (i + 1) l) (slots_in s) (slots_in c.hold_next.new.self)) (sym written)
+          (held_next c.args.layout i handles handle s c.loop-index.self c.hold_next.new.self was.keeps.stays.store (omega arith) was.holds now.holds);
       were_kept = subst (λ l. (j : ℕ) → j < i + 1 → is_kept_of c.args.layout (slot_at (slots_in s) (place_at l j)) ≡ true) (sym written)
           (were_kept (number_of s) (current_in c.args.layout s) c.args.layout i handles handle (slots_in s) (slots_in c.loop-index.self) (omega arith) was.holds was.were_kept now.was_kept);
       fewer = (let a = was.fewer in let b = now.fewer in omega arith);
       keeps = record {
         side = now.keeps.side ∙ was.keeps.side;
-        sets = kept_then NoneComes (slots_in s) (slots_in c.loop-index.self) (slots_in c.hold_next-handle.new.self) was.keeps.sets now.keeps.sets;
+        sets = kept_then NoneComes (slots_in s) (slots_in c.loop-index.self) (slots_in c.hold_next.new.self) was.keeps.sets now.keeps.sets;
         table = λ n room. now.keeps.table n (was.keeps.table n room);
-        grows = grow_more (number_of c.loop-index.self) (current_in c.args.layout c.loop-index.self) (handle ∷ []) (slots_in s) (slots_in c.loop-index.self) (slots_in c.hold_next-handle.new.self) was.keeps.grows now.keeps.grows now.holds;
-        stays = record { store = stays_then s c.loop-index.self c.hold_next-handle.new.self was.keeps.stays.store now.keeps.stays.store; coming = now.keeps.stays.coming ∙ was.keeps.stays.coming };
+        grows = grow_more (number_of c.loop-index.self) (current_in c.args.layout c.loop-index.self) (handle ∷ []) (slots_in s) (slots_in c.loop-index.self) (slots_in c.hold_next.new.self) was.keeps.grows now.keeps.grows now.holds;
+        stays = record { store = stays_then s c.loop-index.self c.hold_next.new.self was.keeps.stays.store now.keeps.stays.store; coming = now.keeps.stays.coming ∙ was.keeps.stays.coming };
       };
     }
 
@@ -52,6 +52,3 @@ returns-clause-holds g c =
     let long = was.long in
     let all = handles_long g.N.SetName g.met.N.SetName.each c.loop-index.names in
     held_all (number_of c.args.self.now) (current_in c.args.layout c.args.self.now) c.loop-index.index (g.N.SetName.handles_of c.loop-index.names) (slots_in c.args.self.now) (slots_in c.loop-index.self) (omega arith) was.holds
-
-pub name_of-requires : goal.name_of-requires
-name_of-requires g c = held_full (number_of c.loop-index.self) (current_in c.args.layout c.loop-index.self) c.hold_next-handle.result (slots_in c.loop-index.self) (slots_in c.hold_next-handle.new.self) c.hold_next-handle.ensures.holds

@@ -29,7 +29,7 @@ pub overflow_add-head : goal.overflow_add-head
 overflow_add-head g c =
     let s = c.args.self.now in
     let few = s.sound.sized.few in
-    let more = link_more (slots_in s.slots) (nexts_in s.slots) (chains_in s.lists.items) s.sound.linked c.args.list c.index_mut-head.result.now.chain (sym (is_list g (goal.at.overflow_add-head g c).After-index_mut-head)) c.args.place (used_for c.args.used (slot_at (slots_in s.slots) c.args.place)) c.requires.taken.within c.requires.taken.taken c.requires.goes in
+    let more = link_more (slots_in s.slots) (nexts_in s.slots) (chains_in s.lists.items) s.sound.linked c.args.list c.index_mut-head.result.now.chain (sym (is_list g (goal.at.overflow_add-head g c).After-index_mut-head)) c.args.place (used_for c.args.used (slot_at (slots_in s.slots) c.args.place)) c.requires.within c.requires.idle c.requires.goes in
     omega arith
 
 pub invariant_of-self : goal.invariant_of-self
@@ -39,7 +39,7 @@ invariant_of-self g c =
     let is = is_list g d in
     let p = c.args.place in
     let new = used_for c.args.used (slot_at (slots_in s.slots) p) in
-    let sound = link_sound s.slots c.link.new.self (chains_in s.lists.items) (generations_in s.lists.items) s.waiting.items s.waiting.cap s.keep s.sound p new c.link.ensures.writes.slots c.args.list c.index_mut-head.result.now.chain (sym is) c.requires.list c.requires.taken.within c.requires.taken.taken c.requires.goes c.link.ensures.nexts (listed s.slots s.slots (chains_in s.lists.items) (generations_in s.lists.items) s.waiting.items s.waiting.cap s.keep s.sound p new c.requires.taken.within refl refl c.requires.current) (λ two. let few = c.requires.few two in let same = ap (λ (d : Chain). d.count) is in omega arith) in
+    let sound = link_sound s.slots c.link.new.self (chains_in s.lists.items) (generations_in s.lists.items) s.waiting.items s.waiting.cap s.keep s.sound p new c.link.ensures.writes.slots c.args.list c.index_mut-head.result.now.chain (sym is) c.requires.list c.requires.within c.requires.idle c.requires.goes c.link.ensures.nexts (listed s.slots s.slots (chains_in s.lists.items) (generations_in s.lists.items) s.waiting.items s.waiting.cap s.keep s.sound p new c.requires.within refl refl c.requires.current) (λ two. let few = c.requires.few two in let same = ap (λ (d : Chain). d.count) is in omega arith) in
     record { sound = in_place (λ chains generations. AreSound c.link.new.self chains generations s.waiting.items s.waiting.cap s.keep) _ _ _ _ (chains g d) (generations g d) sound }
 
 pub returns-clause-changes : goal.returns-clause-changes

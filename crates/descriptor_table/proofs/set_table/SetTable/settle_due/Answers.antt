@@ -4,7 +4,7 @@ use Rattle.descriptor_table.specs.Tables.{IsBack, generations_of, next_use, slot
 use Rattle.descriptor_table.proofs.Turning.{due_not_listed, one_fewer, same_next, settled_grows, settled_here, settled_not_due, settled_set, stays_more, turn_step}
 use Rattle.descriptor_table.proofs.Listed.{with_use}
 use Rattle.descriptor_table.proofs.set_table.SetTable.settle_due.Goals.{After-settle}
-use Rattle.descriptor_table.specs.declared.slot.Use.TheVariants.{Going}
+use Rattle.descriptor_table.specs.declared.slot.Use.TheVariants.{Going, Taken}
 use Rattle.descriptor_table.proofs.set_table.SetTable.settle_due.Goals as goal
 
 -- the set that was picked settled
@@ -30,10 +30,10 @@ loop-place-preserved g c =
       turning =
           turn_step (is_due c.args.frame) (IsBack (used_for Going) generations max) (slots_of c.args.self.now) now new p
           (used_for (next_use generations max mid p) (slot_at now p)) inv.turning picks.within picks.was
-          (settled_set generations max now mid new p picks.within out picks.slots is)
-          (settled_grows generations max now mid new p picks.within out picks.slots is)
+          (settled_set generations max now mid new p picks.within out Taken tt picks.slots is)
+          (settled_grows generations max now mid new p picks.within out Taken tt picks.slots is)
           (settled_not_due generations c.args.frame max now)
-          (settled_here generations max now mid new p picks.within out picks.slots is);
+          (settled_here generations max now mid new p picks.within out Taken tt picks.slots is);
       stays = stays_more c.args.self.now c.loop-place.self c.settle.new.self inv.stays (stays_more c.loop-place.self c.pick_due.new.self c.settle.new.self c.in-Some.ensures.stays c.settle.ensures.changes.stays);
     }
 
@@ -52,5 +52,5 @@ loop-place-smaller g c =
     picks.was
     (settled_not_due generations c.args.frame max new (slot_at now p)
     (used_for (next_use generations max mid p) (slot_at now p))
-    (settled_here generations max now mid new p picks.within out picks.slots is))
-    (settled_set generations max now mid new p picks.within out picks.slots is)
+    (settled_here generations max now mid new p picks.within out Taken tt picks.slots is))
+    (settled_set generations max now mid new p picks.within out Taken tt picks.slots is)

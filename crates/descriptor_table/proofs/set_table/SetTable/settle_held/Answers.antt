@@ -4,12 +4,11 @@ use Rattle.descriptor_table.specs.Sets.{is_held}
 use Rattle.descriptor_table.specs.Slots.{in_list, is_in, slot_at}
 use Rattle.descriptor_table.specs.Tables.{IsBack, SettleEach, SettlesOne, generations_of, next_use, place_at, slots_of, used_for}
 use Rattle.descriptor_table.specs.declared.handle.SetHandle.{SetHandle}
-use Rattle.descriptor_table.specs.declared.slot.Use.TheVariants.{Going}
-use Rattle.descriptor_table.proofs.Freeing.{settles_one}
+use Rattle.descriptor_table.specs.declared.slot.Use.TheVariants.{Going, Held}
 use Rattle.descriptor_table.proofs.Holding.{TurnedSome, held_is, turn_more, turned_all, turned_no, turned_none}
 use Rattle.descriptor_table.proofs.Listed.{with_use}
 use Rattle.descriptor_table.proofs.Names.{handle_read, handles_long, place_read}
-use Rattle.descriptor_table.proofs.Turning.{same_next, settled_grows, settled_here, settled_not_held, settled_set, stays_more, stays_same}
+use Rattle.descriptor_table.proofs.Turning.{same_next, same_use, settled_grows, settled_here, settled_not_held, settled_set, stays_more, stays_same}
 use Rattle.descriptor_table.proofs.set_table.SetTable.settle_held.Goals.{After-handle-handle, After-holds}
 use Rattle.descriptor_table.proofs.set_table.SetTable.settle_held.Goals as goal
 
@@ -42,31 +41,30 @@ loop-index-preserved g c =
     let s = c.args.self.now in
     let old = slots_of s in
     let now = slots_of c.loop-index.self in
-    let mid = slots_of c.assign.new.self in
     let new = slots_of c.settle.new.self in
     let h = c.handle-handle.result in
     let p = h.place in
     let has = sym (holds g d.After-holds) ∙ c.if-not-holds.false in
     let held = held_is s.number now h has in
     let out : (k : ℕ) → is_in k (slot_at now p) ≡ false = (λ k. ap (λ u. in_list k u (slot_at now p).layout (slot_at now p).generation (is_some (slot_at now p).set)) held.used) in
-    let stays = stays_more s c.loop-index.self c.assign.new.self inv.stays c.assign.ensures.changes.stays in
-    let made = c.settle.ensures.changes.slots ∙ ap (λ u. with_use p u mid) (same_next s c.assign.new.self stays.settings mid p) in
-    let u = next_use (generations_of s) s.keep mid p in
+    let same : now ≡ with_use p Held now = sym (same_use now p Held held.used held.within) in
+    let made = c.settle.ensures.changes.slots ∙ ap (λ u. with_use p u now) (same_next s c.loop-index.self inv.stays.settings now p) in
+    let u = next_use (generations_of s) s.keep now p in
     record {
       some =
           turn_more s.number (g.N.SetName.handles_of c.args.names.now) (IsBack (used_for Going) (generations_of s) s.keep) c.loop-index.index old now inv.some
           (settled_not_held (generations_of s) s.keep) h (within g d.After-handle-handle) (named g d.After-handle-handle) has
           (used_for u (slot_at now p)) new
-          (settled_set (generations_of s) s.keep now mid new p held.within out c.assign.ensures.changes.slots made)
-          (settled_grows (generations_of s) s.keep now mid new p held.within out c.assign.ensures.changes.slots made)
-          (settled_here (generations_of s) s.keep now mid new p held.within out c.assign.ensures.changes.slots made);
+          (settled_set (generations_of s) s.keep now now new p held.within out Held tt same made)
+          (settled_grows (generations_of s) s.keep now now new p held.within out Held tt same made)
+          (settled_here (generations_of s) s.keep now now new p held.within out Held tt same made);
       settled = subst (λ n. SettleEach (g.N.SetName.handles_of c.args.names.now) n s c.settle.new.self) (sym (add-one c.loop-index.index)) (
         c.loop-index.self,
         inv.settled,
         subst (λ q. SettlesOne q c.loop-index.self c.settle.new.self) (sym (at g d.After-handle-handle))
-            (settles_one p (next_use (generations_of c.assign.new.self) c.assign.new.self.keep mid p) c.loop-index.self c.assign.new.self c.settle.new.self held.within held.used c.assign.ensures.changes.slots c.assign.ensures.lists c.settle.ensures.changes.slots c.settle.ensures.joins),
+            (record { within = held.within; held = held.used; new_use = next_use (generations_of c.loop-index.self) c.loop-index.self.keep now p; turns = c.settle.ensures.changes.slots; joins = c.settle.ensures.joins }),
       );
-      stays = stays_more s c.assign.new.self c.settle.new.self stays c.settle.ensures.changes.stays;
+      stays = stays_more s c.loop-index.self c.settle.new.self inv.stays c.settle.ensures.changes.stays;
     }
 
 pub unsettle-requires-clause-settled : goal.unsettle-requires-clause-settled

@@ -1,0 +1,12 @@
+use Rattle.std.proofs.Common.{◌+◌, ap, ◌∙◌}
+use Rattle.descriptor_table.specs.Slots.{chains_in, nexts_in, slots_in}
+use Rattle.descriptor_table.specs.declared.slot.Chain.{Chain}
+use Rattle.descriptor_table.proofs.Counts.{chain_count}
+use Rattle.descriptor_table.proofs.Entries.{chain_was}
+use Rattle.descriptor_table.proofs.set_table.SetTable.kept_list.Goals as goal
+
+pub returns-clause-count : goal.returns-clause-count
+returns-clause-count g c =
+    let s = c.args.self.now in
+    ap (λ (d : Chain). d.count) (chain_was s.lists.items (c.args.layout + 2) c.index.result.now c.index.ensures c.requires)
+    ∙ chain_count (slots_in s.slots) (nexts_in s.slots) (chains_in s.lists.items) s.sound.linked (c.args.layout + 2)
