@@ -31,9 +31,7 @@ class Checks(Counts):
     """How many values are as they must be."""
 
     def equal(self, what, value, expected):
-        self.passed += value == expected
-        if value != expected:
-            self.say(False, f"{what}: {value}, not {expected}")
+        self.check(what, None if value == expected else f"{value}, not {expected}")
 
 
 def pools_of(words, file):
@@ -180,9 +178,9 @@ def run(given):
     drawn = next(picture(pools, account_of(trace)["peak"]) for name, trace, pools in pools_by_trace if name == DRAWN)
     if given.picture:
         sys.stdout.write(drawn)
-        return
+        return 0
     print_traces(pools_by_trace, checks)
     print_cases(columns, checks)
     with open(PICTURE, encoding="utf-8") as it:
         checks.equal(f"{os.path.relpath(PICTURE, TOP)} is what it draws", it.read() == drawn, True)
-    sys.exit(checks.end())
+    return checks.end()

@@ -4,12 +4,10 @@ import glob
 import gzip
 import os
 import re
-import shutil
 import subprocess
-import sys
 import tempfile
 
-from common import SKIPPED, TOP, account_of, cargo_build, need, original_source, refuse, report, skip, write_package
+from common import OF_DEBIAN, SKIPPED, TOP, account_of, cargo_build, need, refuse, report, skip, write_original
 
 HERE = os.path.dirname(os.path.abspath(__file__))
 TRACES = f"{HERE}/traces"
@@ -30,15 +28,19 @@ SETS_A_RUN = 20_000
 CALLGRIND = ["valgrind", "--tool=callgrind", "--callgrind-out-file=/dev/null"]
 
 
-def build_original(allocator, folder, features, flags):
-    """The original, with the crate's device for Vulkan over its types."""
-    device = f"{TOP}/rust/gpu-descriptor/src/vulkan"
-    os.makedirs(f"{BUILD}/vulkan", exist_ok=True)
-    for path in [f"{device}.rs", *glob.glob(f"{device}/*.rs")]:
-        shutil.copy(path, f"{BUILD}/{os.path.relpath(path, os.path.dirname(device))}")
-    write_package(f"{HERE}/original", BUILD, {"allocator.rs": original_source(allocator)})
-    cargo_build(BUILD, "--profile", "release", "--target-dir", f"{folder}/original", *features, RUSTFLAGS=flags)
-    return [f"{folder}/original/release/original", "trace"]
+def build(program, over="counts", *words, **environment):
+    """A program of bench/traces over the crate."""
+    target = f"{BUILD}/{over}/traces"
+    cargo_build(TRACES, "--bin", program, "--target-dir", target, *words, **environment)
+    return f"{target}/release/{program}"
+
+
+def build_original(allocator, program, over="counts", *words, **environment):
+    """One over the original."""
+    write_original(allocator)
+    target = f"{BUILD}/{over}/original"
+    cargo_build(f"{HERE}/original", "--bin", program, "--target-dir", target, *OF_DEBIAN, *words, **environment)
+    return f"{target}/release/{program}"
 
 
 def build_columns(allocator, over="counts"):
@@ -49,7 +51,7 @@ def build_columns(allocator, over="counts"):
     if over == "driver" and not os.path.exists("/usr/include/vulkan/vulkan.h"):
         skip("no headers of Vulkan: apt-get install libvulkan-dev")
     sources, features = {"counts": ([], []), "driver": (["-DWITH_DRIVER", f"{TRACES}/driver.c", "-lvulkan"], [over]),
-                         "memory": ([f"{TRACES}/measured.c"], [over])}[over]
+                         "memory": ([], [over])}[over]
     folder = f"{BUILD}/{over}"
     os.makedirs(folder, exist_ok=True)
     # A shared library, as cargo doesn't see whether what it links has changed.
@@ -63,9 +65,10 @@ def build_columns(allocator, over="counts"):
     features = [f"--features={it}" for it in features]
     columns = {}
     if allocator:
-        columns["original"] = build_original(allocator, folder, features, flags if features else "")
-    cargo_build(TRACES, "--target-dir", f"{folder}/traces", *features, RUSTFLAGS=flags)
-    return columns | {name: [f"{folder}/traces/release/traces", name] for name in COLUMNS}
+        own = flags if features else ""
+        columns["original"] = [build_original(allocator, "traces", over, *features, RUSTFLAGS=own), "original"]
+    program = build("traces", over, *features, RUSTFLAGS=flags)
+    return columns | {name: [program, name] for name in COLUMNS}
 
 
 def finish(words):
@@ -194,19 +197,19 @@ def page_checks(rows):
 
 
 def run(given):
-    """The table that was asked for."""
+    """The table that was asked for, or the exit code of checks."""
     columns = build_columns(given.allocator, "driver" if given.vulkan else "counts")
     each = lambda value: lambda *where: [f"{value(words, *where):10.1f}" for words in columns.values()]
     if given.check:
-        sys.exit(report(checks(columns, given.vulkan)))
-    elif given.vulkan:
+        return report(checks(columns, given.vulkan))
+    if given.vulkan:
         unit = f"nanoseconds, lowest of {given.runs}, of them the driver's, and calls of the driver,"
         print_rows(columns, lambda *where: row_over_driver(columns, given.runs, *where), unit, 21)
     elif given.instructions:
         need("valgrind", "it counts the instructions")
         rows = print_rows(columns, each(instructions), "instructions", 10)
-        if given.check_page:
-            sys.exit(report(page_checks(rows)))
+        return report(page_checks(rows)) if given.check_page else 0
     else:
         time = each(lambda *where: nanoseconds(*where, given.runs))
         print_rows(columns, time, f"nanoseconds, lowest of {given.runs},", 10)
+    return 0

@@ -1,21 +1,16 @@
-#!/usr/bin/env python3
 """A copy of a crate whose proofs are assumed, but for those of some functions: what a mutant's check needs.
 
-A function is proved over the contracts of those that it calls, and over lemmas, whose own proofs a mutant
-doesn't touch. So here an axiom of the same statement is in place of each lemma, and of the proof of
-each function that no mutant changes, and a check takes a third of the time or less. The body of such a
-function, which nothing reads then, is one call that is never made: rattle would make its parts of each body.
-That all of these are proved is for rt ci to show. What the copy assumes it calls 'not proved', so nothing
-built comes of it. Definitions that a proof unfolds stay as they are, and so do a trait's functions and laws.
-
-usage: tools/assumed.py CRATE FOLDER [FUNCTION..] ; it writes the copy to a folder, and keeps the proofs of these
+A function is proved over the contracts of those that it calls, and over lemmas, whose own proofs a mutant doesn't touch.
+So here an axiom of the same statement is in place of each lemma, and of the proof of each function that no mutant
+changes, whose body, which nothing reads then, is one call that is never made. That all of these are proved is for rt ci
+to show: what the copy assumes it calls 'not proved', so nothing built comes of it. Definitions that a proof unfolds stay
+as they are, and so do a trait's functions and laws.
 """
 import re
-import sys
 from pathlib import Path
 
 from contracts import FUNCTIONS, sources
-from kit import copy_parts, crates_of
+from kit import copy_parts
 
 SIGNATURE = re.compile(r"( *)(?:pub )?([^\s◌:(){}.]+)(?: \{[^}]*\})? :(?: |$)")
 UNFOLDED = re.compile(r"^ *unfolding (.*)$|\bunfold (.*?) in\b", re.M)
@@ -110,10 +105,3 @@ def assumed(crate, room, is_kept):
         if path.name not in PROOF and not kept & {*path.parents}:
             path.write_text(with_axioms(text, unfolded), encoding="utf-8")
     return crate._replace(folder=str(room))
-
-
-if __name__ == "__main__":
-    name, folder, *names = sys.argv[1:] or sys.exit(__doc__.strip().rsplit("\n", 1)[-1])
-    for found in crates_of():
-        if found.name == name:
-            assumed(found, folder, lambda path: any(path.replace("/", "::").endswith(it) for it in names))

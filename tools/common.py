@@ -18,6 +18,14 @@ TOOL = os.path.basename(sys.argv[0])
 # Where Debian's packages put the sources of crates.
 REGISTRY = "/usr/share/cargo/registry"
 PACKAGES = {"bitflags-1": "librust-bitflags-dev", "hashbrown-0.12": "librust-hashbrown-dev"}
+# They are in the place of crates.io, without a network.
+OF_DEBIAN = ["--config", 'source.crates-io.replace-with="debian"', "--config", f'source.debian.directory="{REGISTRY}"']
+
+# The crates of which tools/generate makes Rust, by the package of rust/ that has their modules.
+IN_RUST = {
+    "gpu-descriptor": ("gpu_descriptor_types", "gpu_descriptor", "descriptor_frames", "descriptor_table", "descriptor_manager"),
+    "line-program": ("descriptor_script", "descriptor_lines"),
+}
 
 # The exit code of a tool that can do nothing, because something is missing. Its output says what.
 SKIPPED = 3
@@ -63,6 +71,11 @@ class Counts:
         self.failed += not is_fine
         print(text if is_fine else f"FAILED: {text}", flush=True)
 
+    def check(self, name, fault):
+        """Counts a check with its fault, if it has one. Whether it has none."""
+        self.say(not fault, f"{name}: {fault}" if fault else name)
+        return not fault
+
     def part(self, *words):
         """Runs a tool whose last line counts, and adds that."""
         ran = subprocess.run(words, stdout=subprocess.PIPE, text=True)
@@ -101,6 +114,15 @@ def is_built(file):
     return os.path.isfile(file) and os.path.getmtime(file) > max(map(os.path.getmtime, sources))
 
 
+def builds_of(crate):
+    """The program of a crate as LLVM and as Rattle's own compiler built it; what isn't there is named."""
+    files = [f"{TOP}/crates/{crate}/out/{crate}{end}" for end in ("", ".by-rattle")]
+    for it in files:
+        if not is_built(it):
+            print(f"skipped: {os.path.relpath(it, TOP)} isn't built")
+    return [it for it in files if is_built(it)]
+
+
 def original_source(path):
     """The original's file src/allocator.rs, as it compiles with bitflags 1."""
     try:
@@ -119,36 +141,25 @@ def missing_crates():
     return f"no {' and no '.join(missing)}: apt-get install {' '.join(missing.values())}" if missing else ""
 
 
-def write_package(source, folder, files):
-    """A package for cargo without a network: a folder of this repository, and files of these texts."""
-    need("cargo", "it builds the original")
-    if missing := missing_crates():
-        skip(missing)
-    shutil.copytree(source, folder, dirs_exist_ok=True)
-    os.makedirs(f"{folder}/.cargo", exist_ok=True)
-    registry = f'[source.crates-io]\nreplace-with = "debian"\n[source.debian]\ndirectory = "{REGISTRY}"\n'
-    for name, text in {".cargo/config.toml": registry, **files}.items():
-        with open(f"{folder}/{name}", "w", encoding="utf-8") as it:
-            it.write(text)
-
-
 def write_original(path):
     """The original as a package of its name and version, in tools/out. The repository has its manifest under
     another name, or cargo finds two packages gpu-descriptor there: the other one is in rust/patch."""
-    with open(f"{TOP}/bench/original/types.rs", encoding="utf-8") as it:
-        types = it.read()
-    with open(f"{TOOLS}/original/crate/package.toml", encoding="utf-8") as it:
-        manifest = it.read()
-    folder = f"{TOOLS}/out/gpu-descriptor"
-    files = {"Cargo.toml": manifest, "allocator.rs": original_source(path), "types.rs": types}
-    write_package(f"{TOOLS}/original/crate", folder, files)
+    need("cargo", "it builds the original")
+    if missing := missing_crates():
+        skip(missing)
+    folder, source = f"{TOOLS}/out/gpu-descriptor", f"{TOP}/bench/original/crate"
+    os.makedirs(folder, exist_ok=True)
+    texts = {"Cargo.toml": read(f"{source}/package.toml"), "allocator.rs": original_source(path),
+             **{name: read(f"{source}/{name}") for name in ("lib.rs", "types.rs")}}
+    for name, text in texts.items():
+        with open(f"{folder}/{name}", "w", encoding="utf-8") as it:
+            it.write(text)
     return folder
 
 
 def cargo_build(folder, *words, **environment):
-    """Builds a package, in its release profile unless the words name another."""
-    profile = () if "--profile" in words else ("--release",)
-    command = ["cargo", "build", "--offline", "--quiet", *profile, *words]
+    """Builds a package in its release profile."""
+    command = ["cargo", "build", "--offline", "--quiet", "--release", *words]
     if subprocess.run(command, cwd=folder, env={**os.environ, **environment}).returncode:
         refuse(f"cargo could not build {os.path.relpath(folder, TOP)}")
 
@@ -169,6 +180,12 @@ def account_of(trace):
         elif word in ("reset", "destroy"):
             pools.pop(words[0], None)
     return {"allocated": allocated, "peak": peak, "left": sum(map(len, pools.values())), "misnumbered": misnumbered}
+
+
+def table(text, head):
+    """The cells of the rows of a table."""
+    rows = text.partition(head)[2].partition("\n\n")[0].splitlines()[2:]
+    return [row.strip("| ").split(" | ") for row in rows]
 
 
 # The escape of a byte in a line of a golden test.
@@ -270,24 +287,24 @@ def mutants_of(path):
 
 def edits_of(folder):
     """The mutants of a folder, as rt must-fail takes them: each file is one, whatever its name, so that none is passed
-    over. It has lines 'file: PATH', 'old: TEXT', one for each line that goes, and 'new: TEXT'."""
+    over. It has lines 'file: PATH', and for each replacement 'old: TEXT' and 'new: TEXT'."""
     for path in sorted(it for it in glob.glob(f"{folder}/**", recursive=True) if os.path.isfile(it)):
-        found, file, old = Mutant(os.path.basename(path).removesuffix(".edit"), "", [], no_lines()), None, []
+        found, file, old = Mutant(os.path.basename(path).removesuffix(".edit"), "", [], no_lines()), None, None
         for number, line in enumerate(read(path).splitlines(), 1):
             word, _, text = line.partition(":")
             text = text.removeprefix(" ")
             if word == "file":
                 file = text
-            elif word == "old":
-                old.append(text)
-            elif word == "new" and file and old:
-                found.pairs.append((file, "\n".join(old), text))
-                old = []
+            elif word == "old" and file and old is None:
+                old = text
+            elif word == "new" and old is not None:
+                found.pairs.append((file, old, text))
+                old = None
             elif word in found.lines:
                 found.lines[word].append(text)
             elif line:
                 refuse(f"{path}:{number}: this line is out of place: {line}")
-        if old:
+        if old is not None:
             refuse(f"{path}: no 'new:' is after its last 'old:'")
         yield found
 

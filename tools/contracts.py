@@ -1,6 +1,6 @@
 #!/usr/bin/env python3
-"""What the sources say of the contracts of functions, read as text: the clauses of each function, the
-definitions that its clauses are said with, and the fields of those that are records.
+"""What the sources say of the contracts of functions, read as text: the clauses of each function, the definitions of
+specs/, and the fields of those that are records.
 
 usage: tools/contracts.py CRATE.. ; it prints the clauses of the crates' public functions
 """
@@ -12,7 +12,6 @@ import common
 
 TOP = Path(common.TOP)
 WORD = re.compile(r"[A-Za-z_]\w*")
-IMPORT = re.compile(r"use Rattle\.(\w+)\.specs\.([\w.]+)\.\{([^}]*)\}")
 DEFINED = re.compile(r"^ *(?:(?:abbrev|unfoldable) pub|pub (record|data)) (\w+)\b", re.M)
 FUNCTION = re.compile(r"^( *)((?:pub(?:\(\w+\))? )?)(?:const )?(?:unsafe )?(?:extern \"C\" )?fn (\w+)", re.M)
 AROUND = re.compile(r"^(?:pub(?:\(\w+\))? )?(impl|trait|struct|enum)\b(.*(?:\n    where.*)?)", re.M)
@@ -26,14 +25,8 @@ def sources(crate, kind, ending):
 CRATES = sorted(path.parent.name for path in (TOP / "crates").glob("*/src"))
 
 
-def imports(text):
-    """Of each name that a file imports, the module that defines it."""
-    return {name.split(" as ")[-1].strip(): (crate, module, name.split(" as ")[0].strip())
-            for crate, module, names in IMPORT.findall(text) for name in names.split(",")}
-
-
 def definitions():
-    """Of each definition, by crate, module and name, its kind, its text, and its file's imports."""
+    """Of each definition, by crate, module and name, whether it is a record or a data type, and its text."""
     found = {}
     for crate in CRATES:
         root = TOP / "crates" / crate / "specs"
@@ -41,10 +34,8 @@ def definitions():
             module = ".".join(path.relative_to(root).with_suffix("").parts)
             text = path.read_text()
             places = [*DEFINED.finditer(text)]
-            inside = {**imports(text), **{it[2]: (crate, module, it[2]) for it in places}}
             for place, end in zip(places, [*(it.start() for it in places[1:]), len(text)]):
-                body = re.sub(r"--.*", "", text[place.start():end])
-                found[crate, module, place[2]] = place[1], body, inside
+                found[crate, module, place[2]] = place[1], re.sub(r"--.*", "", text[place.start():end])
     return found
 
 
@@ -53,24 +44,9 @@ DEFINITIONS = definitions()
 
 def fields(place):
     """The fields of a record, and the cases of a data type, each with its text."""
-    kind, body, _ = DEFINITIONS.get(place, (None, "", None))
+    kind, body = DEFINITIONS.get(place, (None, ""))
     parts = re.split(r"^ +(?:pub )?(\w+) :", body, flags=re.M)
     return dict(zip(parts[1::2], parts[2::2])) if kind else {}
-
-
-def said_with(text, names):
-    """The definitions that a text is said with, by their names. Those that are named nearest to the
-    text come first: of two with one name the page means the first."""
-    found, seen = {}, set()
-    near = [names[word] for word in WORD.findall(text) if word in names]
-    while near:
-        near = [it for it in dict.fromkeys(near) if it in DEFINITIONS and it not in seen]
-        seen.update(near)
-        for place in near:
-            found.setdefault(place[2], place)
-        near = [inside[word] for _, body, inside in map(DEFINITIONS.get, near)
-                for word in WORD.findall(body) if word in inside]
-    return found
 
 
 class Function:
@@ -94,15 +70,6 @@ class Function:
         clauses = CLAUSE.findall(head)
         self.requires = {name for kind, name in clauses if kind == "requires"}
         self.ensures = [name for kind, name in clauses if kind == "ensures"]
-        self.names = imports(text)
-        self.words = None
-
-    def said(self):
-        """The definitions that its clauses are said with."""
-        if self.words is None:
-            at = CLAUSE.search(self.head)
-            self.words = said_with(self.head[at.start():] if at else "", self.names)
-        return self.words
 
 
 def without_parameters(text):

@@ -17,12 +17,6 @@ LICENCES = ("LICENSE-APACHE", "LICENSE-MIT")
 INCLUDE = f"{TOP}/rust/c/include"
 LOST = re.compile(r"\]\((?![a-z+]+:|#)[^)\s]*\.(?:md|rs|svg)\b|\]\(\.\.?/")
 
-# The packages of pkg-config, by what they link.
-PACKAGES = {"static": "gpu-descriptor-static", "shared": "gpu-descriptor"}
-
-# Examples that are linked with Vulkan.
-OVER_VULKAN = {"vulkan.c", "engine.cpp"}
-
 
 def read(path):
     with open(path, encoding="utf-8", errors="surrogateescape") as it:
@@ -93,16 +87,16 @@ def docs_fault(folder):
     return None if is_said else "the docs don't say that the module vulkan needs its feature"
 
 
-def check_crate(say, out, room, version, fields):
+def check_crate(counts, out, room, version, fields):
     name = f"gpu-descriptor-proved-{version}"
     folder = unpacked(f"{out}/{name}.crate", f"{room}/crate", name)
-    if say("the package is one folder", None if folder else "it is not"):
-        say("licences of the package", licence_fault(folder))
-        say("addresses of the package", manifest_fault(folder, fields))
-        say("links of the package", link_fault(folder))
-        say("docs of the package", docs_fault(folder))
+    if counts.check("the package is one folder", None if folder else "it is not"):
+        counts.check("licences of the package", licence_fault(folder))
+        counts.check("addresses of the package", manifest_fault(folder, fields))
+        counts.check("links of the package", link_fault(folder))
+        counts.check("docs of the package", docs_fault(folder))
     publish = ["cargo", "package", "--offline", "--allow-dirty", "--no-verify", "--list"]
-    say("the folder for cargo publish", run(*publish, cwd=f"{out}/crate"))
+    counts.check("the folder for cargo publish", run(*publish, cwd=f"{out}/crate"))
 
 
 # ---- the sources ----
@@ -115,13 +109,13 @@ def source_fault(folder):
     return f"files of one side alone: {sorted(different)[:5]}" if different else None
 
 
-def check_source(say, out, room, version, _):
+def check_source(counts, out, room, version, _):
     name = f"gpu_descriptor-{version}"
     folder = unpacked(f"{out}/{name}.tar.gz", f"{room}/source", name)
-    if say("the sources are one folder", None if folder else "they are not"):
-        say("files of the sources", source_fault(folder))
-        say("licences of the sources", licence_fault(folder))
-        say("the sources build", run("cargo", "build", "--offline", "--workspace", cwd=folder))
+    if counts.check("the sources are one folder", None if folder else "they are not"):
+        counts.check("files of the sources", source_fault(folder))
+        counts.check("licences of the sources", licence_fault(folder))
+        counts.check("the sources build", run("cargo", "build", "--offline", "--workspace", cwd=folder))
 
 
 # ---- the library for C ----
@@ -154,76 +148,32 @@ def path_fault(folder):
     return None
 
 
-def program_fault(program):
-    """It ends with 0, and the validation layer reports nothing."""
-    ran = subprocess.run([*TIMED, program], capture_output=True, text=True)
-    said = ran.stdout + ran.stderr
-    is_fine = ran.returncode == 0 and not re.search("vuid|validation", said, re.I)
-    return None if is_fine else f"it ended with {ran.returncode}: {said[-500:]}"
-
-
-def by_pkg_config(folder, name, kind, made):
-    """Builds an example with the flags of pkg-config."""
-    language = "c++ -std=c++17" if name.endswith(".cpp") else "cc -std=c11"
-    more = "-lvulkan -lpthread" if name in OVER_VULKAN else ""
-    line = (f"flags=$(pkg-config --cflags --libs {PACKAGES[kind]}) && "
-            f"{language} examples/{name} $flags {more} -Wl,-rpath,{folder}/lib -o {made}")
-    return run("sh", "-c", line, cwd=folder, PKG_CONFIG_PATH=f"{folder}/lib/pkgconfig")
-
-
-def by_cmake(folder, made):
-    """Builds all examples by their CMakeLists.txt."""
-    return (run("cmake", "-S", f"{folder}/examples", "-B", made, f"-DCMAKE_PREFIX_PATH={folder}") or
-            run("cmake", "--build", made))
-
-
-def check_programs(say, folder, room):
-    examples = [it for it in sorted(os.listdir(f"{folder}/examples")) if it.endswith((".c", ".cpp"))]
-    if run("sh", "-c", "echo '#include <vulkan/vulkan.h>' | cc -E -x c - -o /dev/null"):
-        print("skipped: what needs Vulkan: apt-get install libvulkan-dev")
-        examples = [it for it in examples if it not in OVER_VULKAN]
-    has_cmake = shutil.which("cmake") and say("the examples by CMake", by_cmake(folder, f"{room}/made"))
-    for missing in (it for it in ("cmake", "pkg-config") if not shutil.which(it)):
-        print(f"skipped: programs by {missing}: apt-get install {missing}")
-    for name in examples:
-        for kind in PACKAGES:
-            if has_cmake:
-                say(f"{name} by CMake, {kind}", program_fault(f"{room}/made/{name.partition('.')[0]}_{kind}"))
-            if shutil.which("pkg-config"):
-                made = f"{room}/{name}-{kind}"
-                say(f"{name} by pkg-config, {kind}", by_pkg_config(folder, name, kind, made) or program_fault(made))
-
-
-def check_library(say, out, room, version, _):
+def check_library(counts, out, room, version, _):
     archive, = (it for it in os.listdir(out) if it.startswith("gpu_descriptor-c-"))
     folder = unpacked(f"{out}/{archive}", f"{room}/library", archive.removesuffix(".tar.gz"))
-    if not say("the library is one folder", None if folder else "it is not"):
+    if not counts.check("the library is one folder", None if folder else "it is not"):
         return
-    say("licences of the library", licence_fault(folder))
-    say("headers of the library", header_fault(folder))
-    say("paths in the library", path_fault(folder))
+    counts.check("licences of the library", licence_fault(folder))
+    counts.check("headers of the library", header_fault(folder))
+    counts.check("paths in the library", path_fault(folder))
     readme = read(f"{folder}/README.txt")
-    say("README of the library", None if version in readme and "@" not in readme else readme)
+    counts.check("README of the library", None if version in readme and "@" not in readme else readme)
     kept = os.environ.copy()
     os.environ.update(PATH=without_cargo(room), HOME=room)
     try:
-        if say("no cargo and no rustc", shutil.which("cargo") or shutil.which("rustc")):
-            check_programs(say, folder, room)
+        if counts.check("no cargo and no rustc", shutil.which("cargo") or shutil.which("rustc")):
+            counts.part(f"{TOP}/rust/c/tests/run", "--prefix", folder)
     finally:
         os.environ.update(kept)
 
 
 def check(counts, out, parts, version, fields):
     """Tries the parts of a release."""
-    def say(name, fault):
-        counts.say(not fault, f"{name}: {fault}" if fault else name)
-        return not fault
-
     checks = {"crate": check_crate, "source": check_source, "library": check_library}
     with tempfile.TemporaryDirectory() as room:
         for part in parts:
-            checks[part](say, out, room, version, fields)
-    say("SHA256SUMS", run("sha256sum", "--check", "--strict", "SHA256SUMS", cwd=out))
+            checks[part](counts, out, room, version, fields)
+    counts.check("SHA256SUMS", run("sha256sum", "--check", "--strict", "SHA256SUMS", cwd=out))
     summed = {*re.findall("  (.*)", read(f"{out}/SHA256SUMS"))}
     files = {it for it in os.listdir(out) if os.path.isfile(f"{out}/{it}")}
-    say("each file has a sum", ", ".join(files - summed - {"SHA256SUMS"}))
+    counts.check("each file has a sum", ", ".join(files - summed - {"SHA256SUMS"}))

@@ -53,6 +53,16 @@ has() {
   command -v "$1" >/dev/null || { echo "skipped: $2: $1 is missing: apt-get install ${3:-$1}"; return 1; }
 }
 
+# formatted FILE..: each is as rustfmt has it. It goes through standard input, because rustfmt would follow the modules of
+# a file to the generated ones; there --check ends with 0.
+formatted() {
+  local file status=0
+  for file; do
+    rustfmt --edition 2024 <"$file" | diff -U 1 "$file" - || status=1
+  done
+  return "$status"
+}
+
 on_swiftshader() {
   VK_DRIVER_FILES=$swiftshader VK_ICD_FILENAMES=$swiftshader "$@"
 }

@@ -1,10 +1,10 @@
 //! A trace by an allocator with the original's interface: each request is one call, as is each free.
-//! bench/original/main.rs compiles this file too, over the original.
 
-use crate::allocator::{DescriptorAllocator, DescriptorSet, DescriptorSetLayoutCreateFlags};
 use crate::gpu::Gpu;
-use crate::play::{Descriptors, KINDS, Player};
-use crate::types::DescriptorTotalCount;
+use crate::play::{Descriptors, Player};
+use gpu_descriptor::{
+    DescriptorAllocator, DescriptorSet, DescriptorSetLayoutCreateFlags, DescriptorTotalCount,
+};
 
 struct Layout<L> {
     handle: L,
@@ -18,25 +18,7 @@ pub struct Allocator<G: Gpu> {
     layouts: Vec<Layout<G::Layout>>,
 }
 
-/// The counts in the order of the kinds.
-pub fn total_count(counts: &[u32; KINDS]) -> DescriptorTotalCount {
-    DescriptorTotalCount {
-        sampler: counts[0],
-        combined_image_sampler: counts[1],
-        sampled_image: counts[2],
-        storage_image: counts[3],
-        uniform_texel_buffer: counts[4],
-        storage_texel_buffer: counts[5],
-        uniform_buffer: counts[6],
-        storage_buffer: counts[7],
-        uniform_buffer_dynamic: counts[8],
-        storage_buffer_dynamic: counts[9],
-        input_attachment: counts[10],
-        acceleration_structure: counts[11],
-        inline_uniform_block_bytes: counts[12],
-        inline_uniform_block_bindings: counts[13],
-    }
-}
+include!("kinds.rs");
 
 /// The flags of a layout, of which update-after-bind is the only one.
 pub fn layout_flags(flags: u32) -> DescriptorSetLayoutCreateFlags {

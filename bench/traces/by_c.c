@@ -41,13 +41,13 @@ static void require(gd_status status) {
         abort();
 }
 
-void c_create_with(const gd_device *device, uint32_t limit) {
-    require(gd_create(device, limit, &allocator));
+void c_create_with(gd_create_pool_fn create, gd_destroy_pool_fn destroy, uint32_t limit) {
+    gd_device device = {NULL, create, destroy, allocate_sets, free_sets};
+    require(gd_create(&device, limit, &allocator));
 }
 
 void c_create(void) {
-    gd_device device = {NULL, create_pool, destroy_pool, allocate_sets, free_sets};
-    c_create_with(&device, UINT32_MAX);
+    c_create_with(create_pool, destroy_pool, UINT32_MAX);
 }
 
 #ifdef WITH_DRIVER

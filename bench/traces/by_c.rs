@@ -23,7 +23,21 @@ unsafe extern "C" {
     fn c_free(sets: *const Set, count: u32);
     #[cfg(feature = "memory")]
     fn c_cleanup();
+    #[cfg(feature = "memory")]
+    pub fn c_create_with(
+        create: unsafe extern "C" fn(u64, &PoolInfo, &mut u64) -> u32,
+        destroy: unsafe extern "C" fn(u64, u64),
+        limit: u32,
+    );
     fn c_outstanding() -> u64;
+}
+
+#[cfg(feature = "memory")]
+#[repr(C)]
+pub struct PoolInfo {
+    pub max_sets: u32,
+    pub flags: u32,
+    pub counts: [u32; crate::play::KINDS],
 }
 
 /// A device that the library for C has too.

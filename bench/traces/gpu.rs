@@ -2,7 +2,7 @@
 
 use crate::device::CountingDevice;
 use crate::play::Descriptors;
-use crate::types::DescriptorDevice;
+use gpu_descriptor::DescriptorDevice;
 use std::fmt::Debug;
 
 /// A device, with what no allocator asks of it.

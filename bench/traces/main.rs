@@ -1,36 +1,51 @@
 //! Plays a trace by one of the columns of `bench/compare --traces`: over the device that only counts, over a driver
 //! with the feature `driver`, and over one that accounts for its pools with `memory`. A program has one of them
-//! alone, as the columns are compiled otherwise in a program that has several.
+//! alone, as the columns are compiled otherwise in a program that has several. With the feature `original`
+//! `gpu_descriptor` is gpu-descriptor 0.3.2, and its column is the only one.
 
-mod allocator {
-    pub use gpu_descriptor::*;
-}
 mod by_allocator;
+#[cfg(not(feature = "original"))]
 mod by_c;
+#[cfg(not(feature = "original"))]
 mod by_lists;
-mod by_pools;
+#[cfg(not(feature = "original"))]
 mod by_manager;
+#[cfg(not(feature = "original"))]
+mod by_pools;
 #[allow(dead_code)]
-#[path = "../original/device.rs"]
 mod device;
 #[cfg(feature = "driver")]
 mod driver;
+#[allow(dead_code)]
 mod gpu;
 #[cfg(feature = "memory")]
 mod measured;
 mod play;
-mod types {
-    pub use gpu_descriptor::*;
-}
-#[cfg(feature = "driver")]
-mod vulkan {
-    pub use gpu_descriptor::vulkan::*;
-}
 #[cfg(feature = "memory")]
 mod worst;
 
+#[cfg(all(feature = "driver", not(feature = "original")))]
+use gpu_descriptor::vulkan;
+#[cfg(all(feature = "driver", feature = "original"))]
+use {gpu_descriptor::*, of_the_crate::vulkan};
 use play::Asked;
 
+/// The crate's device for Vulkan, over the original's types.
+#[cfg(all(feature = "driver", feature = "original"))]
+#[allow(dead_code, unused_imports)]
+#[path = "../../rust/gpu-descriptor/src"]
+mod of_the_crate {
+    pub mod vulkan;
+}
+#[cfg(all(feature = "driver", feature = "original"))]
+extern crate alloc as std_alloc;
+
+#[cfg(feature = "original")]
+fn play<G: gpu::Gpu>(gpu: G, _: &str, asked: &Asked) {
+    play::run::<G, by_allocator::Allocator<G>>(gpu, asked)
+}
+
+#[cfg(not(feature = "original"))]
 fn play<G: by_c::GpuOfC>(gpu: G, column: &str, asked: &Asked) {
     match column {
         "crate" => play::run::<G, by_allocator::Allocator<G>>(gpu, asked),

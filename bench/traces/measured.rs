@@ -1,6 +1,8 @@
-//! The device of `measured.c`, which keeps an account of its pools.
+//! A device that keeps an account of its pools, and refuses those past a limit of update-after-bind descriptors.
+//! It allocates nothing: what a pool has is in its handle.
 
-use crate::by_c::GpuOfC;
+use crate::by_c::{GpuOfC, PoolInfo};
+use crate::device::CountingDevice;
 use crate::gpu::Gpu;
 use crate::play::Descriptors;
 use gpu_descriptor::{
@@ -10,7 +12,6 @@ use gpu_descriptor::{
 use std::cell::Cell;
 
 /// How many pools there are, with room for how many sets, and how many descriptors.
-#[repr(C)]
 #[derive(Clone, Copy, PartialEq)]
 pub struct Account {
     pub pools: u64,
@@ -18,46 +19,99 @@ pub struct Account {
     pub descriptors: u64,
 }
 
+// What all pools have, now and at most; the descriptors of update-after-bind pools, and how many they may have. The
+// library for C creates pools by two functions, so it stands outside of the device.
+thread_local! {
+    static NOW: Cell<Account> = const { Cell::new(NONE) };
+    static MOST: Cell<Account> = const { Cell::new(NONE) };
+    static MARKED: Cell<u64> = const { Cell::new(0) };
+    static LIMIT: Cell<u32> = const { Cell::new(0) };
+}
+
+const NONE: Account = Account {
+    pools: 0,
+    sets: 0,
+    descriptors: 0,
+};
+
+/// A pool's handle: bit 0 says whether it is for update-after-bind, then its descriptors, then its sets.
+const DESCRIPTORS_SHIFT: u32 = 1;
+const SETS_SHIFT: u32 = 41;
+
+/// 0 if the limit refuses the pool.
+fn create(sets: u32, descriptors: u64, is_marked: bool) -> u64 {
+    let load = MARKED.get() + if is_marked { descriptors } else { 0 };
+    if is_marked && load > u64::from(LIMIT.get()) {
+        return 0;
+    }
+    MARKED.set(load);
+    let (now, most) = (NOW.get(), MOST.get());
+    let now = Account {
+        pools: now.pools + 1,
+        sets: now.sets + u64::from(sets),
+        descriptors: now.descriptors + descriptors,
+    };
+    NOW.set(now);
+    MOST.set(Account {
+        pools: now.pools.max(most.pools),
+        sets: now.sets.max(most.sets),
+        descriptors: now.descriptors.max(most.descriptors),
+    });
+    u64::from(sets) << SETS_SHIFT | descriptors << DESCRIPTORS_SHIFT | u64::from(is_marked)
+}
+
+fn destroy(pool: u64) {
+    let descriptors = pool >> DESCRIPTORS_SHIFT & ((1 << (SETS_SHIFT - DESCRIPTORS_SHIFT)) - 1);
+    MARKED.set(MARKED.get() - if pool & 1 == 1 { descriptors } else { 0 });
+    let now = NOW.get();
+    NOW.set(Account {
+        pools: now.pools - 1,
+        sets: now.sets - (pool >> SETS_SHIFT),
+        descriptors: now.descriptors - descriptors,
+    });
+}
+
+unsafe extern "C" fn create_pool(_user: u64, info: &PoolInfo, pool: &mut u64) -> u32 {
+    let descriptors = info.counts.iter().copied().map(u64::from).sum();
+    *pool = create(info.max_sets, descriptors, info.flags & 2 != 0);
+    // GD_OK, or GD_OUT_OF_DEVICE_MEMORY.
+    if *pool != 0 { 0 } else { 10 }
+}
+
+unsafe extern "C" fn destroy_pool(_user: u64, pool: u64) {
+    destroy(pool);
+}
+
+/// What malloc has given, as `mallinfo2` of the C library has it among its figures.
+#[repr(C)]
+struct MallocInfo([usize; 10]);
+
 unsafe extern "C" {
-    fn measured_create(sets: u64, descriptors: u64, is_marked: bool) -> u64;
-    fn measured_destroy(pool: u64);
-    safe fn measured_now() -> Account;
-    safe fn measured_peak() -> Account;
-    safe fn measured_bytes() -> u64;
-    safe fn measured_limit(max_descriptors: u32);
-    fn measured_create_in_c();
+    safe fn mallinfo2() -> MallocInfo;
 }
 
-/// The device of `bench/compare --memory`. Its account is in C, so that the library for C allocates over
-/// the same one.
-pub struct Measured {
-    limit: u32,
-
-    /// The number of the next set.
-    sets: Cell<u64>,
-}
+/// The device of `bench/compare --memory`. The other one numbers its sets.
+pub struct Measured(CountingDevice);
 
 impl Measured {
     /// All update-after-bind pools may have so many descriptors.
     pub fn new(limit: u32) -> Self {
-        measured_limit(limit);
-        Measured {
-            limit,
-            sets: Cell::new(0),
-        }
+        LIMIT.set(limit);
+        Measured(CountingDevice::new(0))
     }
 
     pub fn now() -> Account {
-        measured_now()
+        NOW.get()
     }
 
     pub fn most() -> Account {
-        measured_peak()
+        MOST.get()
     }
 
-    /// What malloc has given.
+    /// What malloc has given: `uordblks` and `hblkhd`.
     pub fn bytes() -> u64 {
-        measured_bytes()
+        let MallocInfo(it) = mallinfo2();
+        (it[7] + it[4]) as u64
     }
 }
 
@@ -69,33 +123,27 @@ impl DescriptorDevice<(), u64, u64> for Measured {
         flags: DescriptorPoolCreateFlags,
     ) -> Result<u64, CreatePoolError> {
         let is_marked = flags.contains(DescriptorPoolCreateFlags::UPDATE_AFTER_BIND);
-        let descriptors = counts.total_u64();
-        // SAFETY: it has no condition.
-        match unsafe { measured_create(u64::from(max_sets), descriptors, is_marked) } {
+        match create(max_sets, counts.total_u64(), is_marked) {
             0 => Err(CreatePoolError::OutOfDeviceMemory),
             pool => Ok(pool),
         }
     }
 
     unsafe fn destroy_descriptor_pool(&self, pool: u64) {
-        // SAFETY: the pool is one that it created.
-        unsafe { measured_destroy(pool) }
+        destroy(pool);
     }
 
     unsafe fn alloc_descriptor_sets<'a>(
         &self,
-        _: &mut u64,
+        pool: &mut u64,
         layouts: impl ExactSizeIterator<Item = &'a ()>,
         sets: &mut impl Extend<u64>,
     ) -> Result<(), DeviceAllocationError> {
-        let first = self.sets.get();
-        self.sets.set(first + layouts.len() as u64);
-        sets.extend(first..self.sets.get());
-        Ok(())
+        unsafe { self.0.alloc_descriptor_sets(pool, layouts, sets) }
     }
 
-    unsafe fn dealloc_descriptor_sets(&self, _: &mut u64, sets: impl Iterator<Item = u64>) {
-        sets.for_each(drop);
+    unsafe fn dealloc_descriptor_sets(&self, pool: &mut u64, sets: impl Iterator<Item = u64>) {
+        unsafe { self.0.dealloc_descriptor_sets(pool, sets) }
     }
 }
 
@@ -105,7 +153,7 @@ impl Gpu for Measured {
     type Set = u64;
 
     fn limit(&self) -> u32 {
-        self.limit
+        LIMIT.get()
     }
 
     fn create_layout(&self, _of: &Descriptors) {}
@@ -124,6 +172,6 @@ impl Gpu for Measured {
 
 impl GpuOfC for Measured {
     unsafe fn create(&self) {
-        unsafe { measured_create_in_c() }
+        unsafe { crate::by_c::c_create_with(create_pool, destroy_pool, LIMIT.get()) }
     }
 }

@@ -1,4 +1,4 @@
-// Statuses of calls that can fail, dropped by a cast. tools/rust-c removes the casts one by one: then each
+// Statuses of calls that can fail, dropped by a cast. rust/c/tests/run removes the casts one by one: then each
 // line is an error.
 #include "gpu_descriptor.hpp"
 

@@ -1,4 +1,4 @@
-// Calls on sets that the programs of tools/real-programs don't make: sets freed one by one, requests of
+// Calls on sets that the programs of rust/c/tests/real-programs don't make: sets freed one by one, requests of
 // several layouts, layouts that the library doesn't serve, pools that are destroyed with their sets, and threads
 // with a pool each.
 // Each set is written, so that the validation layer sees whether it is of its layout.

@@ -16,7 +16,6 @@
 #include "gpu_descriptor.h"
 #include "host.h"
 #include "memory.h"
-#include "names.h"
 #include <string.h>
 
 // Sets of a request, sets of a free or waiting, and held sets beyond which most are freed.

@@ -14,7 +14,6 @@
 #include "host.h"
 #include "layer.h"
 #include "memory.h"
-#include "names.h"
 #include <string.h>
 
 #include "gpu_descriptor_vulkan.h"

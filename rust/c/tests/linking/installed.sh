@@ -1,6 +1,6 @@
 # shellcheck shell=bash
-# A part of tools/rust-c: what is installed, projects that build the library, and what is linked with it. It uses
-# the functions and variables of tools/rust-c, which reads it.
+# A part of rust/c/tests/run: what is installed, projects that build the library, and what is linked with it. It uses
+# the functions and variables of rust/c/tests/run, which reads it.
 
 # ---- examples, from an installed prefix ----
 
@@ -19,14 +19,16 @@ on_drivers() {
 by_pkg_config() {
   local flags words=(gcc "${of_c[@]}")
   flags=$(PKG_CONFIG_PATH=$1/lib/pkgconfig pkg-config --cflags --libs "$3") || return
-  case $2 in *.cpp) words=(g++ "${of_cpp[@]}") ;; vulkan.c) flags+=" -lvulkan" ;; esac
+  case $2 in *.cpp) words=(g++ "${of_cpp[@]}") ;; esac
+  case $2 in vulkan.c | engine.cpp) flags+=" -lvulkan -lpthread" ;; esac
   # shellcheck disable=SC2086
   "${words[@]}" "$room/programs/$2" $flags "-Wl,-rpath,$1/lib" -o "$room/programs/made" || return
   run_example "$room/programs/made"
 }
 
+# by_cmake PREFIX EXAMPLES
 by_cmake() {
-  cmake -S "$crate/examples" -B "$room/by-cmake" -DCMAKE_PREFIX_PATH="$1" && cmake --build "$room/by-cmake"
+  cmake -S "$2" -B "$room/by-cmake" -DCMAKE_PREFIX_PATH="$1" && cmake --build "$room/by-cmake"
 }
 
 # The examples in a project that has the library as a part: cargo builds it in the project's folder.
@@ -121,12 +123,20 @@ try_builds() {
 }
 
 try_prefix() {
-  local prefix=$room/$1 name kind examples="counting.c owners.cpp"
+  local prefix=$room/$1 threaded=engine.cpp
   shift
-  ! has_vulkan || examples+=" vulkan.c"
-  step "install${*:+ $*}" "$crate/install" "$@" "$prefix" || return
+  # The small library has no lock.
+  [ $# -eq 0 ] || threaded=
+  step "install${*:+ $*}" "$crate/install" "$@" "$prefix" && try_programs "$prefix" "$crate/examples" $threaded
+}
+
+# try_programs PREFIX EXAMPLES [NAME]: programs of a folder over an installed library, static and shared, and one with
+# threads.
+try_programs() {
+  local prefix=$1 name kind examples="counting.c owners.cpp"
+  ! need_vulkan || examples+=" vulkan.c ${3-}"
   rm -rf "$room/programs" "$room/by-cmake"
-  cp -r "$crate/examples" "$room/programs"
+  cp -r "$2" "$room/programs"
   if has pkg-config "programs by pkg-config"; then
     for name in $examples; do
       for kind in gpu-descriptor gpu-descriptor-static; do
@@ -134,7 +144,7 @@ try_prefix() {
       done
     done
   fi
-  has cmake "programs by find_package" && step "find_package" by_cmake "$prefix" || return
+  has cmake "programs by find_package" && step "find_package" by_cmake "$prefix" "$2" || return
   for name in $examples; do
     for kind in static shared; do
       step "$name by find_package, $kind" run_example "$room/by-cmake/${name%.*}_$kind"
@@ -179,10 +189,16 @@ meets() {
     "$room/version" "$2"
 }
 
+# In the other library a panic is caught.
 beside_another() {
-  rustc --edition 2024 --crate-type staticlib -O rust/c/tests/linking/other.rs -o "$room/libother.a" &&
-    gcc "${of_c[@]}" -I"$include" rust/c/tests/linking/two_libraries.c "$1/lib/libgpu_descriptor_c.a" "$room/libother.a" \
-      -o "$room/two_libraries" && "$room/two_libraries" 2>/dev/null
+  rustc --edition 2024 --crate-type staticlib -O - -o "$room/libother.a" <<'END' || return
+#[unsafe(no_mangle)]
+pub extern "C" fn length_of(number: u32) -> u64 {
+    std::panic::catch_unwind(|| number.checked_sub(1).expect("on purpose").to_string().len() as u64).unwrap_or(0)
+}
+END
+  gcc "${of_c[@]}" -I"$include" rust/c/tests/linking/two_libraries.c "$1/lib/libgpu_descriptor_c.a" "$room/libother.a" \
+    -o "$room/two_libraries" && "$room/two_libraries" 2>/dev/null
 }
 
 # As cargo builds it the static library shows its functions, unless the linker excludes them.

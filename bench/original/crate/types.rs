@@ -3,41 +3,26 @@
 //! Names, fields and signatures are those by which the allocator's own source uses them; what that
 //! source leaves open, such as the order of the fields and the bits, is this project's choice.
 
-#[derive(Clone, Copy, Debug, PartialEq, Eq, Hash, Default)]
-pub struct DescriptorTotalCount {
-    pub sampler: u32,
-    pub combined_image_sampler: u32,
-    pub sampled_image: u32,
-    pub storage_image: u32,
-    pub uniform_texel_buffer: u32,
-    pub storage_texel_buffer: u32,
-    pub uniform_buffer: u32,
-    pub storage_buffer: u32,
-    pub uniform_buffer_dynamic: u32,
-    pub storage_buffer_dynamic: u32,
-    pub input_attachment: u32,
-    pub acceleration_structure: u32,
-    pub inline_uniform_block_bytes: u32,
-    pub inline_uniform_block_bindings: u32,
+macro_rules! kinds {
+    ($($kind:ident)*) => {
+        #[derive(Clone, Copy, Debug, PartialEq, Eq, Hash, Default)]
+        pub struct DescriptorTotalCount {
+            $(pub $kind: u32,)*
+        }
+
+        impl DescriptorTotalCount {
+            pub fn total(&self) -> u32 {
+                0 $(+ self.$kind)*
+            }
+        }
+    };
 }
 
-impl DescriptorTotalCount {
-    pub fn total(&self) -> u32 {
-        self.sampler
-            + self.combined_image_sampler
-            + self.sampled_image
-            + self.storage_image
-            + self.uniform_texel_buffer
-            + self.storage_texel_buffer
-            + self.uniform_buffer
-            + self.storage_buffer
-            + self.uniform_buffer_dynamic
-            + self.storage_buffer_dynamic
-            + self.input_attachment
-            + self.acceleration_structure
-            + self.inline_uniform_block_bytes
-            + self.inline_uniform_block_bindings
-    }
+kinds! {
+    sampler combined_image_sampler sampled_image storage_image uniform_texel_buffer
+    storage_texel_buffer uniform_buffer storage_buffer uniform_buffer_dynamic
+    storage_buffer_dynamic input_attachment acceleration_structure
+    inline_uniform_block_bytes inline_uniform_block_bindings
 }
 
 bitflags::bitflags! {

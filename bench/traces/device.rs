@@ -1,6 +1,6 @@
 //! A device that only counts, so that what is timed is the allocator.
 
-use crate::types::{
+use gpu_descriptor::{
     CreatePoolError, DescriptorDevice, DescriptorPoolCreateFlags, DescriptorTotalCount,
     DeviceAllocationError,
 };

@@ -6,7 +6,6 @@
 mod counts;
 mod device;
 mod random;
-mod subject;
 
 mod there {
     use original as under_test;
@@ -14,7 +13,7 @@ mod there {
     /// The original's runs end where it acts otherwise by design.
     const DEPARTS: bool = true;
 
-    include!("over.rs");
+    include!("program.rs");
 }
 
 mod here {
@@ -23,16 +22,14 @@ mod here {
     /// The crate runs to the end.
     const DEPARTS: bool = false;
 
-    include!("over.rs");
+    include!("program.rs");
 }
 
 use counts::Counts;
-use here::Over as New;
 use std::ops::Range;
 use std::process::ExitCode;
 use std::sync::atomic::{AtomicU64, Ordering};
 use std::thread::{available_parallelism, scope};
-use there::Over as Original;
 
 /// So many programs a thread takes at once.
 const BATCH: u64 = 100;
@@ -47,8 +44,8 @@ fn compare_programs(seeds: Range<u64>) -> Counts {
             for seed in first..seeds.end.min(first + BATCH) {
                 counts.compare(
                     &format!("random program {seed}"),
-                    || random::run::<Original>(seed),
-                    || random::run::<New>(seed),
+                    || there::run(seed),
+                    || here::run(seed),
                 );
             }
             if first >= seeds.end {

@@ -1,5 +1,6 @@
 //! A device that follows a script, notes each call, and sees whether it is called rightly.
 
+use crate::random::Random;
 use std::collections::{HashMap, VecDeque};
 use std::ops::Range;
 use std::panic::resume_unwind;
@@ -120,10 +121,9 @@ pub struct Device {
     pub script: VecDeque<Outcome>,
 
     /// Refuses by chance, one call in so many, where it is not 0, for each reason of `Call::refusals`.
-    pub odds: u64,
+    pub odds: usize,
 
-    /// The state of the random numbers.
-    chance: u64,
+    chance: Random,
 
     /// The limit that the original is held to: where it is about to pass it the run ends.
     limit: Option<u32>,
@@ -144,7 +144,7 @@ impl Device {
             transcript: Vec::new(),
             script: VecDeque::new(),
             odds: 0,
-            chance: 1,
+            chance: Random(1),
             limit,
             pools: HashMap::new(),
             created: 0,
@@ -162,20 +162,12 @@ impl Device {
         resume_unwind(Box::new(Departure { why, before }))
     }
 
-    fn below(&mut self, end: u64) -> u64 {
-        self.chance = self
-            .chance
-            .wrapping_mul(6364136223846793005)
-            .wrapping_add(1442695040888963407);
-        (self.chance >> 33) % end
-    }
-
     /// An outcome by chance, one of these if it is a refusal.
     fn by_chance(&mut self, refusals: &[Outcome]) -> Outcome {
-        if self.odds == 0 || self.below(self.odds) > 0 {
+        if self.odds == 0 || self.chance.below(self.odds) > 0 {
             return Outcome::Granted;
         }
-        refusals[self.below(refusals.len() as u64) as usize]
+        self.chance.one_of(refusals)
     }
 
     fn outcome(&mut self, call: Call) -> Result<(), Outcome> {

@@ -1,10 +1,11 @@
-//! What single calls cost, by name: over so many layouts and sets that stay, so many operations.
-//!
-//! A cost that grows with what stays is a walk over all of it.
+//! What single calls of the crate cost (`bench/compare --costs`), by name: over so many layouts and sets that stay,
+//! so many operations. A cost that grows with what stays is a walk over all of it.
 
-use crate::device::CountingDevice;
-use crate::drawn::add_layout;
-use gpu_descriptor::manager::{LayoutHandle, SetManager, SetHandle};
+#[allow(dead_code)]
+mod device;
+
+use device::CountingDevice;
+use gpu_descriptor::manager::{LayoutHandle, SetHandle, SetManager};
 use gpu_descriptor::{
     DescriptorAllocator, DescriptorSetLayoutCreateFlags, DescriptorTotalCount, SetLayout,
 };
@@ -79,19 +80,31 @@ impl<'a> Scene<'a> {
     }
 }
 
+fn set_layout(sampler: u32, uniform_buffer: u32) -> SetLayout<()> {
+    let counts = DescriptorTotalCount {
+        sampler,
+        uniform_buffer,
+        ..Default::default()
+    };
+    SetLayout {
+        layout: (),
+        counts,
+        flags: DescriptorSetLayoutCreateFlags::empty(),
+    }
+}
+
+fn add_layout(
+    manager: &mut SetManager<(), u64, u64, &CountingDevice>,
+    samplers: u32,
+) -> LayoutHandle {
+    // SAFETY: the device only counts.
+    unsafe { manager.add_layout(set_layout(samplers, 1)) }.unwrap()
+}
+
 /// A set of the first key and one of the last are allocated, and freed, by an allocator with so many keys.
 fn keys(device: &CountingDevice, size: u32, operations: u32) {
     let mut allocator: DescriptorAllocator<u64, u64> = DescriptorAllocator::new(u32::MAX);
-    let layouts: Vec<_> = (0..size)
-        .map(|samplers| SetLayout {
-            layout: (),
-            counts: DescriptorTotalCount {
-                sampler: samplers,
-                ..Default::default()
-            },
-            flags: DescriptorSetLayoutCreateFlags::empty(),
-        })
-        .collect();
+    let layouts: Vec<_> = (0..size).map(|samplers| set_layout(samplers, 0)).collect();
     // SAFETY: the device only counts.
     let mut sets: Vec<_> = (layouts.iter())
         .map(|it| unsafe { allocator.allocate_one(device, it) }.unwrap())
@@ -112,14 +125,36 @@ fn keys(device: &CountingDevice, size: u32, operations: u32) {
     }
 }
 
-/// Does so many operations of a name.
-pub fn run(name: &str, size: u32, operations: u32) {
+/// Two sets of a key that has so many full pools are allocated, and freed.
+fn full(device: &CountingDevice, size: u32, operations: u32) {
+    let mut allocator: DescriptorAllocator<u64, u64> = DescriptorAllocator::new(u32::MAX);
+    let layout = set_layout(u32::MAX / 2, 0);
+    // SAFETY: the device only counts.
+    unsafe {
+        let filling = allocator.allocate_for(device, &layout, 2 * size).unwrap();
+        for _ in 0..operations {
+            let sets = allocator.allocate_for(device, &layout, 2).unwrap();
+            allocator.free(device, sets);
+        }
+        allocator.free(device, filling);
+        allocator.cleanup(device);
+    }
+}
+
+fn main() {
+    let words: Vec<_> = std::env::args().skip(1).collect();
+    let [name, size, operations] = &words[..] else {
+        panic!("the arguments are a name and two numbers");
+    };
+    let (size, operations) = (size.parse().unwrap(), operations.parse().unwrap());
     let device = CountingDevice::new(u64::MAX);
-    if name == "keys" {
-        return keys(&device, size, operations);
+    match name.as_str() {
+        "keys" => return keys(&device, size, operations),
+        "full" => return full(&device, size, operations),
+        _ => {}
     }
     let mut scene = Scene::new(&device, size);
-    let operation = match name {
+    let operation = match name.as_str() {
         "kept" => Scene::kept,
         "frame" => Scene::frame,
         "removed" => Scene::removed,
