@@ -2,10 +2,11 @@
 -- `bytes` are those of the buffer: from `start` on they are in no line yet, up to `searched` no line ends among them, and up to `end` they
 -- were read. Byte 10 ends a line. `known` are the bytes that the reader has left, if that is known; `ended`, `was` and `now` say whether
 -- its end was seen.
-use Rattle.std.proofs.Common.{◌≡◌, if◌then◌else◌, ℕ, ◌+◌, ◌-◌, ◌<◌, ◌≤◌, ◌⊎◌, inl, inr, subst, append_assoc, append-nil, length-take, Bool, true, false, IsTrue, List, [], ◌++◌, Option, None, Some, not, is_some, unwrap_or, length, length-take-le, take, drop, position, slice_range, length-append}
-use Rattle.std.proofs.Common.{take-append-drop, refl, sym, ap, ◌∙◌, arith, IfSome}
+use Rattle.std.proofs.Common.{◌≡◌, if◌then◌else◌, ℕ, ◌+◌, ◌-◌, ◌<◌, ◌≤◌, ◌⊎◌, inl, inr, append_assoc, append-nil, length-take, Bool, true, false, IsTrue, List, [], ◌++◌, Option, None, Some, not, is_some, unwrap_or, length, length-take-le, take, drop, position, slice_range, length-append}
+use Rattle.std.proofs.Common.{take-append-drop, refl, sym, ap, ◌∙◌, arith}
 use Rattle.std.specs.List.{position_or_len}
 use Rattle.std.specs.Io.KnownBytes.{Keeps, IsAtEnd, Consumes, prepend_known}
+use Rattle.std.proofs.Math.Seq.{take-add}
 use Rattle.std.proofs.lemmas.Bool.{cases_lt}
 use Rattle.std.proofs.lemmas.Bool.Decides.{nat_tests}
 use Rattle.std.proofs.lemmas.List.{drop-drop, drop-take, take-take, take_all, drop_all, take-append-le, drop-append-le, drop_at}
@@ -13,7 +14,7 @@ use Rattle.std.proofs.lemmas.Slice.{between_is}
 use Rattle.std.proofs.lemmas.List.Edits.{length-between}
 use Rattle.std.proofs.lemmas.List.Folds.{prefix_len-append}
 use Rattle.std.proofs.lemmas.List.Sums.{prefix_len-le-length}
-use Rattle.descriptor_lines.specs.Lines.{HasEnd, HasNoEnd, LosesLine, BeginsTooLong, before_end, after_end, longest_line}
+use Rattle.descriptor_lines.specs.Lines.{HasEnd, HasNoEnd, before_end, after_end, longest_line}
 use Rattle.descriptor_lines.specs.Words.{is_byte}
 
 -- ---- parts of a list
@@ -21,14 +22,9 @@ use Rattle.descriptor_lines.specs.Words.{is_byte}
 -- two parts that meet
 pub parts_joined : (bytes : List ℕ) (a b c : ℕ) → a ≤ b → b ≤ c → slice_range bytes a c ≡ slice_range bytes a b ++ slice_range bytes b c
 parts_joined bytes a b c ab bc =
-    let n : ℕ = b - a in
-    let m : ℕ = c - b in
-    let ys : List ℕ = drop a bytes in
-    let whole : c - a ≡ n + m = omega arith in
-    let at : b ≡ a + n = omega arith in
-    let back : drop b bytes ≡ drop n ys = ap (λ k. drop k bytes) at ∙ sym (drop-drop n a bytes) in
-    let front : take n (take (n + m) ys) ≡ take n ys = take-take n (n + m) ys (omega arith) in
-    ap (λ k. take k ys) whole ∙ sym (take-append-drop n (take (n + m) ys)) ∙ ap (λ l. l ++ drop n (take (n + m) ys)) front ∙ ap (λ l. take n ys ++ l) (drop-take n m ys ∙ ap (take m) (sym back))
+    let whole : c - a ≡ b - a + (c - b) = omega arith in
+    let at : a + (b - a) ≡ b = omega arith in
+    ap (λ k. take k (drop a bytes)) whole ∙ take-add (b - a) (c - b) (drop a bytes) ∙ ap (λ l. slice_range bytes a b ++ take (c - b) l) (drop-drop (b - a) a bytes ∙ ap (λ k. drop k bytes) at)
 
 -- the front of a part
 pub part_front : (bytes : List ℕ) (a b n : ℕ) → a + n ≤ b → take n (slice_range bytes a b) ≡ slice_range bytes a (a + n)
@@ -171,36 +167,36 @@ before_end-grows front rest = before_end-grows_by front rest (cases_lt _ _)
 
 -- ---- known bytes
 
--- what holds of known bytes, and what they lose, is so of the bytes before, if these were kept
-pub Keeps-IfSome : (a b : Option (List ℕ)) (P : List ℕ → Type 0) → Keeps a b → IfSome b P → IfSome a P
-Keeps-IfSome None b P same h = tt
-Keeps-IfSome (Some x) None P same h = absurd same
-Keeps-IfSome (Some x) (Some y) P same h = subst P same h
+pub Keeps-Some : (a b : Option (List ℕ)) (bytes : List ℕ) → Keeps a b → a ≡ Some bytes → b ≡ Some bytes
+Keeps-Some None b bytes same is = absurd (cc)
+Keeps-Some (Some x) None bytes same is = absurd same
+Keeps-Some (Some x) (Some y) bytes same is = cc
 
-pub Keeps-LosesLine : (a b c : Option (List ℕ)) → Keeps a b → LosesLine b c → LosesLine a c
-Keeps-LosesLine None b c same h = tt
-Keeps-LosesLine (Some x) None c same h = absurd same
-Keeps-LosesLine (Some x) (Some y) None same h = absurd h
-Keeps-LosesLine (Some x) (Some y) (Some z) same h = subst (λ l. LosesLine (Some l) (Some z)) same h
+-- known bytes are those at hand and then more, and so they are with others at hand
+pub behind : (ended : Bool) (known : Option (List ℕ)) (bytes all : List ℕ) → (if ended then Some bytes else prepend_known bytes known) ≡ Some all
+    → (more : List ℕ) × (all ≡ bytes ++ more) × ((others : List ℕ) → (if ended then Some others else prepend_known others known) ≡ Some (others ++ more))
+behind true known bytes all is = ([], (let e : bytes ≡ all = cc in sym e ∙ sym (append-nil bytes)), λ others. ap Some (sym (append-nil others)))
+behind false None bytes all is = absurd (cc)
+behind false (Some more) bytes all is = (more, (let e : bytes ++ more ≡ all = cc in sym e), λ others. refl)
 
--- a line that ends among the bytes at hand
-pub taken : (was now : Bool) (known : Option (List ℕ)) (bytes rest : List ℕ) → now ≡ was → HasEnd bytes → rest ≡ after_end bytes → LosesLine (if was then Some bytes else prepend_known bytes known) (if now then Some rest else prepend_known rest known)
-taken true true known bytes rest kept some is = (omega arith, is)
-taken true false known bytes rest kept some is = absurd (cc)
-taken false true known bytes rest kept some is = absurd (cc)
-taken false false None bytes rest kept some is = tt
-taken false false (Some more) bytes rest kept some is = (omega (arith, length-append bytes more), ap (λ l. l ++ more) is ∙ sym (after_end-append bytes more some))
+-- the line that ends among the bytes at hand is the first of all
+pub takes_ended :
+    (was now : Bool) (known : Option (List ℕ)) (bytes all line rest : List ℕ)
+    → (if was then Some bytes else prepend_known bytes known) ≡ Some all → now ≡ was → HasEnd bytes
+    → line ≡ before_end bytes → rest ≡ after_end bytes
+    → (0 < length all) × (line ≡ before_end all) × ((if now then Some rest else prepend_known rest known) ≡ Some (after_end all))
+takes_ended was now known bytes all line rest is kept some first after =
+    let (more, whole, with) = behind was known bytes all is in (
+      omega (arith, ap length whole, length-append bytes more),
+      first ∙ sym (ap before_end whole ∙ before_end-append bytes more some),
+      rw kept (with rest) ∙ ap Some (ap (λ l. l ++ more) after ∙ sym (ap after_end whole ∙ after_end-append bytes more some)),
+    )
 
--- the line that was taken is the first of all that is unread, and so is one that is too long
-pub taken_line : (ended : Bool) (known : Option (List ℕ)) (bytes line : List ℕ) → HasEnd bytes → line ≡ before_end bytes → IfSome (if ended then Some bytes else prepend_known bytes known) (λ all. line ≡ before_end all)
-taken_line true known bytes line some is = is
-taken_line false None bytes line some is = tt
-taken_line false (Some more) bytes line some is = is ∙ sym (before_end-append bytes more some)
-
-pub too_long : (ended : Bool) (known : Option (List ℕ)) (bytes : List ℕ) → longest_line < length (before_end bytes) → BeginsTooLong (if ended then Some bytes else prepend_known bytes known)
-too_long true known bytes long = long
-too_long false None bytes long = tt
-too_long false (Some more) bytes long = omega (arith, before_end-grows bytes more)
+-- a line that is too long begins all
+pub begins_too_long : (ended : Bool) (known : Option (List ℕ)) (bytes all : List ℕ) → (if ended then Some bytes else prepend_known bytes known) ≡ Some all → longest_line < length (before_end bytes) → longest_line < length (before_end all)
+begins_too_long ended known bytes all is long =
+    let (more, whole, with) = behind ended known bytes all is in
+    omega (arith, ap (λ l. length (before_end l)) whole, before_end-grows bytes more)
 
 -- a read put its bytes behind those at hand, and saw the end only where none was left
 pub read_kept :

@@ -1,6 +1,6 @@
 -- Sessions that are ready, and the replies of their steps: for `Program::new`, `add_layout`, `set_limit` and `ask`.
 use Rattle.std.proofs.Common.{All, ◌≡◌, ◌≢◌, ℕ, zero, suc, zero-le, ◌+◌, ◌-◌, ◌<◌, ◌≤◌, ◌^◌, List, [], ◌∷◌, ◌++◌, length, length-append, map, get_or, Option, None, Some, IsSome, refl, sym, ap, ◌∙◌, arith}
-use Rattle.std.proofs.lemmas.List.{get_or-append_right, length-map}
+use Rattle.std.proofs.lemmas.List.{length-map}
 use Rattle.std.proofs.lemmas.List.Elements.{All-nil}
 use Rattle.gpu_descriptor_types.specs.Ledger.{Ledger}
 use Rattle.gpu_descriptor.specs.Caller.SetLayouts.{IsMeant}
@@ -13,12 +13,9 @@ use Rattle.descriptor_script.specs.Sessions.Steps.{StepsTo}
 use Rattle.descriptor_script.specs.declared.command.Command.{Command}
 use Rattle.descriptor_script.specs.declared.command.Command.TheVariants.{Allocate}
 use Rattle.descriptor_script.specs.declared.command.Reply.{Reply}
-use Rattle.descriptor_script.specs.declared.command.Reply.TheVariants.{Sets, BadLayout, NoMemory}
-use Rattle.descriptor_lines.specs.Commands.{IsKnown}
+use Rattle.descriptor_script.specs.declared.command.Reply.TheVariants.{Sets}
 use Rattle.descriptor_lines.specs.LayoutTables.{layout_count, layouts_in}
-use Rattle.descriptor_lines.specs.LineStates.{LineState}
-use Rattle.descriptor_lines.specs.Programs.{CanRun}
-use Rattle.descriptor_lines.specs.Replies.{LineSession, HasAnswer}
+use Rattle.descriptor_lines.specs.Replies.{LineSession, TicketsFit}
 use Rattle.descriptor_lines.specs.ReplyTexts.{sets_asked, sets_given}
 use Rattle.descriptor_lines.specs.declared.layouts.LayoutTable.{LayoutTable}
 use Rattle.gpu_descriptor_types.specs.Side.{side}
@@ -39,38 +36,20 @@ same_is_ready s t l ready allocator sets meant = record {
   meant = meant;
 }
 
-module _ {X : Type 0} where
-  some_at : (given : List X) (i : ℕ) → i < length given → IsSome (get_or (map Some given) i None)
-  some_at [] i inside = absurd (omega arith)
-  some_at (x ∷ given) zero inside = refl
-  some_at (x ∷ given) (suc i) inside = some_at given i (omega arith)
-
-  -- the slots at the end have sets
-  some_behind : (slots : List (Option X)) (given : List X) (n : ℕ) → length slots ≤ n → n < length slots + length given → IsSome (get_or (slots ++ map Some given) n None)
-  some_behind slots given n past inside =
-      rw (get_or-append_right slots (map Some given) (length slots) n None refl past) (some_at given (n - length slots) (omega arith))
-
 -- a step of a session, where pools, sets and layouts mean what they carry
 abbrev Steps : Command → Reply → LineSession → LineSession → Ledger → Ledger → Type 0
 Steps command reply old new before after = StepsTo script_meaning command reply (side old before) (side new after)
 
--- the reply to a command is answered where its layout is there, and memory
-pub has_answer : (command : Command) (reply : Reply) (old new : LineSession) (before after : Ledger) → Steps command reply old new before after → reply ≢ NoMemory → IsKnown (length (layouts_of old)) command → length (sets_of new) < 2 ^ 64 → HasAnswer new reply
-has_answer command NoMemory old new before after step memory known small = absurd (memory refl)
-has_answer (Allocate layout count) (Sets first many) old new before after step memory known small =
-    let longer : length (sets_of new) ≡ length (sets_of old) + length step.given = ap length step.sets ∙ length-append (sets_of old) (map Some step.given) ∙ ap (λ n. length (sets_of old) + n) (length-map step.given Some) in
-    record {
-      held = λ ticket from to. rw step.sets (some_behind (sets_of old) step.given ticket (omega (arith, step.first)) (omega (arith, step.first, step.asked, step.all_given)));
-      fits = omega (arith, longer, step.first, step.asked, step.all_given);
-    }
-has_answer (Allocate layout count) BadLayout old new before after step memory known small = absurd (omega (arith, step.0, known))
-has_answer _ (Sets first many) old new before after step memory known small = absurd step
-has_answer _ BadLayout old new before after step memory known small = absurd step
-has_answer _ _ old new before after step memory known small = tt
+-- the tickets of a reply are those of slots, which fit
+pub tickets_fit : (command : Command) (reply : Reply) (old new : LineSession) (before after : Ledger) → Steps command reply old new before after → length (sets_of new) < 2 ^ 64 → TicketsFit reply
+tickets_fit (Allocate layout count) (Sets first many) old new before after (met, outcome) small =
+    omega (arith, ap length met.sets, length-append (sets_of old) (map Some met.given), length-map met.given Some, met.next, met.asked, met.all_given)
+tickets_fit _ (Sets first many) old new before after step small = absurd step
+tickets_fit _ _ old new before after step small = tt
 
 -- a reply has no more sets than the command asks for
 pub given_as_asked : (command : Command) (reply : Reply) (old new : LineSession) (before after : Ledger) → Steps command reply old new before after → sets_given reply ≤ sets_asked command
-given_as_asked (Allocate layout count) (Sets first many) old new before after step = omega (arith, step.asked)
+given_as_asked (Allocate layout count) (Sets first many) old new before after (met, outcome) = omega (arith, met.asked)
 given_as_asked _ (Sets first many) old new before after step = absurd step
 given_as_asked _ _ old new before after step = zero-le
 
@@ -88,8 +67,3 @@ none_in layouts none = rw (nil_from_length layouts.by_name.entries none) refl
 
 pub none_counted : (layouts : LayoutTable) → layouts_in layouts ≡ [] → layout_count layouts ≡ 0
 none_counted layouts none = sym (length-map layouts.by_name.entries _) ∙ ap length none
-
--- the session has as many layouts as the table
-pub as_many : (p : LineState) → CanRun p → layout_count p.layouts ≡ length (layouts_of p.session)
-as_many p can =
-    sym (length-map p.layouts.by_name.entries _) ∙ sym (length-map (layouts_in p.layouts) _) ∙ sym (ap length can.layouts) ∙ length-map (layouts_of p.session) _

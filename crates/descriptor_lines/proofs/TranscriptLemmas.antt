@@ -1,13 +1,12 @@
--- How far a run of lines has come, and one line more: for the loop of `run_to_end`, by `EndLemmas`.
-use Rattle.std.proofs.Common.{◌≡◌, ℕ, ◌+◌, ◌<◌, ◌≤◌, ◌⊎◌, inl, inr, List, [], ◌∷◌, ◌++◌, Option, None, Some, IfSome, length, length-append, append_assoc, append-nil, subst, refl, sym, ap, ◌∙◌, arith}
-use Rattle.std.specs.Bool.{⊤}
+-- The lines of bytes, and one line more that is answered: for the loop of `run_to_end`, by `EndLemmas`.
+use Rattle.std.proofs.Common.{◌≡◌, ℕ, ◌+◌, ◌<◌, ◌≤◌, ◌⊎◌, inl, inr, List, [], ◌∷◌, ◌++◌, length, append_assoc, append-nil, subst, refl, sym, ap, ◌∙◌, arith}
 use Rattle.std.specs.List.{position_or_len, slice_split}
 use Rattle.std.proofs.lemmas.Bool.{cases_lt}
 use Rattle.std.proofs.lemmas.List.Splits.{length-slice_split, slice_split_first, slice_split_none}
 use Rattle.std.proofs.lemmas.List.Sums.{fails_before_first, prefix_len-le-length}
 use Rattle.descriptor_lines.specs.Words.{is_byte}
 use Rattle.descriptor_lines.specs.LineStates.{LineState}
-use Rattle.descriptor_lines.specs.Lines.{HasEnd, LosesLine, after_end, before_end, lines_of, without_empty_last}
+use Rattle.descriptor_lines.specs.Lines.{HasEnd, after_end, before_end, lines_of, without_empty_last}
 use Rattle.descriptor_lines.specs.Transcripts.{AreAnswered, IsAnswered}
 use Rattle.descriptor_lines.proofs.LineLemmas.{after_end-whole, before_end-whole}
 
@@ -63,26 +62,3 @@ goes_on [] text old p line answer new (nothing, same) answered =
     (answer, [], new, subst (λ q. IsAnswered line answer q new) same answered, ap (λ t. t ++ answer) nothing ∙ sym (append-nil answer), (refl, refl))
 goes_on (first ∷ lines) text old p line answer new (said, answers, q, was, is, others) answered =
     (said, answers ++ answer, q, was, ap (λ l. l ++ answer) is ∙ append_assoc said answers answer, goes_on lines answers q p line answer new others answered)
-
--- ---- known bytes
-
--- how far a run over known bytes has come, where these are left: the lines before were answered, and the next one has this number
-abbrev pub Stands : Option (List ℕ) → LineState → List ℕ → ℕ → Option (List ℕ) → LineState → Type 0
-Stands None old text next left new = ⊤
-Stands (Some bytes) old text next None new = ⊥
-Stands (Some bytes) old text next (Some left) new =
-    (before : List (List ℕ)) × (lines_of bytes ≡ before ++ lines_of left) × (next ≡ length before + 1) × AreAnswered before text old new
-
--- the first line of known bytes
-abbrev pub IsFirstOf : List ℕ → Option (List ℕ) → Type 0
-IsFirstOf line known = IfSome known (λ bytes. line ≡ before_end bytes)
-
--- a line was answered, and the run stands at the next one
-pub stands_next : (known left rest : Option (List ℕ)) (old p new : LineState) (text answer line : List ℕ) (next : ℕ) → Stands known old text next left p → IsFirstOf line left → LosesLine left rest → IsAnswered line answer p new → Stands known old (text ++ answer) (next + 1) rest new
-stands_next None left rest old p new text answer line next at first loses answered = tt
-stands_next (Some bytes) None rest old p new text answer line next at first loses answered = absurd at
-stands_next (Some bytes) (Some left) None old p new text answer line next at first loses answered = absurd loses
-stands_next (Some bytes) (Some left) (Some rest) old p new text answer line next (before, all, number, at) first loses answered =
-    let split : lines_of left ≡ line ∷ lines_of rest = lines_split left loses.0 ∙ ap (λ l. l ∷ lines_of (after_end left)) (sym first) ∙ ap (λ l. line ∷ lines_of l) (sym loses.1) in
-    let long : length (before ++ line ∷ []) ≡ length before + 1 = length-append before (line ∷ []) in
-    (before ++ line ∷ [], all ∙ ap (λ l. before ++ l) split ∙ sym (append_assoc before (line ∷ []) (lines_of rest)), omega arith, goes_on before text old p line answer new at answered)

@@ -1,10 +1,8 @@
 -- What the parser knows of the command of a line.
-use Rattle.std.specs.Prelude.{◌≡◌, ◌<◌, ℕ, None}
-use Rattle.descriptor_script.specs.declared.command.Command as session
-use Rattle.descriptor_script.specs.declared.command.Command.TheVariants as step
+use Rattle.std.specs.Prelude.{◌≡◌, ℕ, None}
 use Rattle.descriptor_lines.specs.LayoutTables.{layout_named, layout_count}
 use Rattle.descriptor_lines.specs.declared.command.Command.{Command}
-use Rattle.descriptor_lines.specs.declared.command.Command.TheVariants.{Limit, Layout, Alloc}
+use Rattle.descriptor_lines.specs.declared.command.Command.TheVariants.{Limit, Layout}
 use Rattle.descriptor_lines.specs.declared.layouts.LayoutTable.{LayoutTable}
 
 -- the greatest number of sets that a line asks for
@@ -15,10 +13,4 @@ max_sets = 1000000
 abbrev pub IsRunnable : LayoutTable → Command → Type 0
 IsRunnable layouts (Limit max) = layout_count layouts ≡ 0
 IsRunnable layouts (Layout name layout) = layout_named layouts name.now ≡ None
-IsRunnable layouts (Alloc layout count) = layout < layout_count layouts
 IsRunnable layouts _ = Unit {0}
-
--- a session with this many layouts has the one that the command asks for
-abbrev pub IsKnown : ℕ → session.Command → Type 0
-IsKnown layouts (step.Allocate layout count) = layout < layouts
-IsKnown layouts _ = Unit {0}

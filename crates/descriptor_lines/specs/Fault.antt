@@ -28,11 +28,6 @@ abbrev pub ◌>>=◌ : {A B : Type 0} → Result A Fault → (A → Result B Fau
 Ok x >>= next = next x
 Err fault >>= next = Err fault
 
--- a value that was read, as the definitions see it
-abbrev pub read_as : {A B : Type 0} → (A → B) → Result A Fault → Result B Fault
-read_as view (Ok x) = Ok (view x)
-read_as view (Err fault) = Err fault
-
 -- what was read, as the definitions see it, is this value or this fault, if no allocation failed
 abbrev pub Reads : {A B : Type 0} → (A → B) → Result A Refusal → Result B Fault → Type 0
 Reads view (Ok x) given = given ≡ Ok (view x)

@@ -1,5 +1,5 @@
 -- The lines that known bytes begin with.
-use Rattle.std.specs.Prelude.{◌≡◌, ℕ, ◌<◌, List, [], ◌∷◌, Option, None, Some, ⊤, length, IfSome}
+use Rattle.std.specs.Prelude.{◌≡◌, ℕ, ◌<◌, List, [], ◌∷◌, length}
 use Rattle.std.specs.List.{after_first, before_first, position_or_len, slice_split}
 use Rattle.descriptor_lines.specs.Words.{is_byte}
 
@@ -29,12 +29,6 @@ without_empty_last (piece ∷ pieces) = piece ∷ without_empty_last pieces
 unfoldable pub lines_of : List ℕ → List (List ℕ)
 lines_of bytes = without_empty_last (slice_split (is_byte 10) bytes)
 
--- known bytes are not at their end, and lose the first line and its end
-abbrev pub LosesLine : Option (List ℕ) → Option (List ℕ) → Type 0
-LosesLine None new = ⊤
-LosesLine (Some bytes) None = ⊥
-LosesLine (Some bytes) (Some rest) = (0 < length bytes) × (rest ≡ after_end bytes)
-
 -- the greatest number of bytes of a line
 abbrev pub longest_line : ℕ
 longest_line = 4096
@@ -42,7 +36,3 @@ longest_line = 4096
 -- how many bytes a buffer of lines holds
 abbrev pub buffer_len : ℕ
 buffer_len = 65536
-
--- the first line of known bytes has more bytes than a line may have
-abbrev pub BeginsTooLong : Option (List ℕ) → Type 0
-BeginsTooLong known = IfSome known (λ bytes. longest_line < length (before_end bytes))

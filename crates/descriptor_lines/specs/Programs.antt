@@ -1,5 +1,5 @@
 -- What a line does to what the lines before it made.
-use Rattle.std.specs.Prelude.{◌≡◌, ◌⊎◌, ◌++◌, ◌∷◌, [], ℕ, List, Option, None, Some, IsOkAnd, IsSome, OnErr, OnOk, Result, Err, length, map, sum, true, IsTrue, IsFalse, if◌then◌else◌}
+use Rattle.std.specs.Prelude.{◌≡◌, ◌⊎◌, ◌++◌, ◌∷◌, [], ℕ, List, IsOkAnd, MatchOption, IsSome, OnErr, OnOk, Result, Err, length, map, sum, true, IsTrue, IsFalse, if◌then◌else◌}
 use Rattle.gpu_descriptor_types.specs.Bounds.{greatest_u32}
 use Rattle.gpu_descriptor.specs.Caller.Values.{without_keys}
 use Rattle.descriptor_script.specs.Scripted.Device.{empty_ledger}
@@ -110,19 +110,10 @@ DoesOrder (Free tickets) text old new =
 DoesOrder Cleanup text old new = Does (StepsTo script_meaning session.Cleanup) text old new
 DoesOrder Show text old new = (new ≡ old) × (text ≡ show_answer old)
 
--- a line gave a command, and from then on one had come
-abbrev pub begun : LineState → LineState
-begun p = record p { has_begun = true }
-
--- what a line does that asks for this, or is silent, and its answer, if no allocation fails
-abbrev pub DoesAsked : Option Order → List ℕ → LineState → LineState → Type 0
-DoesAsked None text old new = (text ≡ []) × (new ≡ old)
-DoesAsked (Some order) text old new = DoesOrder order text (begun old) new × IsTrue new.has_begun
-
--- what a line of these words does
+-- what a line of these words does, and its answer, if no allocation fails: nothing if it is silent, else its command, and from then on one has come
 abbrev pub DoesLine : List (List ℕ) → List ℕ → LineState → LineState → Type 0
 DoesLine words text old new =
-    IsOkAnd (line_in old.layouts old.has_begun words) (λ asked. DoesAsked asked text old new)
+    IsOkAnd (line_in old.layouts old.has_begun words) (λ asked. MatchOption asked ((text ≡ []) × (new ≡ old)) (λ order. DoesOrder order text (record old { has_begun = true }) new × IsTrue new.has_begun))
 
 -- why a line is not run: a fault of its words; or an allocation failed, to run its command or to read its words
 abbrev pub IsReasonFor : LineState → List (List ℕ) → Refusal → Type 0

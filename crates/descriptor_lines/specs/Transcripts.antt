@@ -1,5 +1,5 @@
 -- What a run of the program writes: the answers of the lines of its input, in order, up to the end or the line that stopped it. A relation, since at any line the device may refuse or an allocation fail.
-use Rattle.std.specs.Prelude.{◌≡◌, ◌⊎◌, ◌≤◌, ◌<◌, ◌+◌, ◌++◌, ◌∷◌, [], ℕ, List, Option, Err, IfSome, length}
+use Rattle.std.specs.Prelude.{◌≡◌, ◌≢◌, ◌⊎◌, ◌≤◌, ◌<◌, ◌+◌, ◌++◌, ◌∷◌, [], ℕ, List, Option, Some, Err, length}
 use Rattle.std.specs.Io.BufRead.{strip_last}
 use Rattle.std.specs.Io.KnownBytes.{Appends, IsAtEnd, Keeps}
 use Rattle.gpu_descriptor_types.specs.Ledger.{Ledger}
@@ -29,16 +29,12 @@ pub record IsAnswered (line text : List ℕ) (old new : LineState) : Type 0 wher
   -- the session has the layouts of the lines, and its books agree with the device
   pub ready : CanRun new
 
--- what is wrong with a line: its length, or else its words
-abbrev pub IsFaultOfLine : LineState → List ℕ → Fault → Type 0
-IsFaultOfLine p line fault =
-    ((longest_line < length line) × (fault ≡ LineTooLong))
-    ⊎ ((length line ≤ longest_line) × (line_in p.layouts p.has_begun (words_in line) ≡ Err fault))
-
 -- a faulty line is answered by the line of its fault, with its number, and leaves the device alone
 pub record IsRefused (number : ℕ) (line text : List ℕ) (old new : LineState) : Type 0 where
   pub fault : Fault
-  pub wrong : IsFaultOfLine old line fault
+  -- its length is wrong, or else its words
+  pub wrong :
+      ((longest_line < length line) × (fault ≡ LineTooLong)) ⊎ ((length line ≤ longest_line) × (line_in old.layouts old.has_begun (words_in line) ≡ Err fault))
   pub said : text ≡ fault_line number fault
   pub device : KeepsDevice old new
 
@@ -72,22 +68,16 @@ Wrote lines start WriteFault text last =
     ComesTo (λ number line said p. (unwritten : List ℕ) × (IsAnswered line (said ++ unwritten) p last ⊎ IsRefused number line (said ++ unwritten) p last)) lines start text
 Wrote lines start NoMemory text last = text ≡ []
 
--- known bytes grow by what a run of the lines of known bytes wrote
-abbrev pub Writes : Option (List ℕ) → LineState → Exit → Option (List ℕ) → Option (List ℕ) → LineState → Type 0
-Writes known start exit old new last =
-    IfSome known (λ bytes. (text : List ℕ) × Wrote (lines_of bytes) start exit text last × Appends old new text)
-
--- so it is from a program on that no line was run on before, and its device is left with this ledger and this script; a run for whose buffers an allocation fails writes nothing, and its device is as it was
-abbrev pub WritesFromStart : Option (List ℕ) → Exit → Option (List ℕ) → Option (List ℕ) → Ledger → List Answer → Type 0
-WritesFromStart known NoMemory old new ledger script = Keeps old new × (ledger ≡ empty_ledger) × (script ≡ [])
-WritesFromStart known exit old new ledger script =
-    (start : LineState) × (last : LineState) × IsFresh start × Writes known start exit old new last × (last.ledger ≡ ledger) × (last.script ≡ script)
+-- known bytes grow by what a run of these lines wrote
+abbrev pub Writes : List (List ℕ) → LineState → Exit → Option (List ℕ) → Option (List ℕ) → LineState → Type 0
+Writes lines start exit old new last = (text : List ℕ) × Wrote lines start exit text last × Appends old new text
 
 -- a run of the lines that a reader gives: what the reader had left and has left, how the run ended, what the writer held and holds, and the ledger and the script of the device then
 pub record RunsLines (unread rest : Option (List ℕ)) (exit : Exit) (old new : Option (List ℕ)) (ledger : Ledger) (script : List Answer) : Type 0 where
-  pub writes : WritesFromStart unread exit old new ledger script
+  -- where the bytes to read are known, their lines were run from a state before the first line on
+  pub writes : (bytes : List ℕ) → unread ≡ Some bytes → exit ≢ NoMemory → (start : LineState) × (last : LineState) × IsFresh start × Writes (lines_of bytes) start exit old new last × (last.ledger ≡ ledger) × (last.script ≡ script)
   -- it is done only at the end of the input
   pub done : exit ≡ Done → IsAtEnd rest
-  -- whatever the reader, a bad line is named last, and if memory runs out nothing is written
+  -- whatever the reader, a bad line is named last; and if an allocation for the buffers fails nothing is written, and the device is as it was
   pub bad_line : exit ≡ BadLine → EndsInFault old new
-  pub no_memory : exit ≡ NoMemory → Keeps old new
+  pub no_memory : exit ≡ NoMemory → Keeps old new × (ledger ≡ empty_ledger) × (script ≡ [])

@@ -4,7 +4,8 @@ ghost use Rattle.std.specs.Prelude.{option_map};
 ghost use Rattle.descriptor_lines.specs.Orders.{BeginsList, HasList, alloc_in, limit_in, line_in};
 ghost use Rattle.descriptor_lines.specs.Orders.{nothing_in, order_in, order_of, size_in};
 ghost use Rattle.descriptor_lines.specs.Commands.{IsRunnable};
-ghost use Rattle.descriptor_lines.specs.Fault.{Reads, read_as};
+ghost use Rattle.descriptor_lines.specs.Fault.{Reads};
+ghost use Rattle.std.specs.Result.{result_map_both};
 ghost use Rattle.descriptor_lines.specs.LayoutTables.{layout_count};
 ghost use Rattle.descriptor_lines.specs.Words.{words as words_of, words_left, is_silent};
 
@@ -136,7 +137,7 @@ fn parse_words<'a>(
 
 /// `limit N`.
 fn parse_limit<'a>(mut words: Words<'a>, has_begun: bool) -> Result<Command<'a>, Fault>
-    ensures reads { read_as order_of result ≡ limit_in has_begun (words_left words.entry) }
+    ensures reads { result_map_both order_of (λ fault. fault) result ≡ limit_in has_begun (words_left words.entry) }
     ensures in_time { OnOk result (IsFalse has_begun) }
 {
     if has_begun {
@@ -151,7 +152,7 @@ fn parse_limit<'a>(mut words: Words<'a>, has_begun: bool) -> Result<Command<'a>,
 
 /// `size NAME TOTAL WANTED`.
 fn parse_size<'a>(mut words: Words<'a>, layouts: &LayoutTable) -> Result<Command<'a>, Fault>
-    ensures reads { read_as order_of result ≡ size_in layouts.now (words_left words.entry) }
+    ensures reads { result_map_both order_of (λ fault. fault) result ≡ size_in layouts.now (words_left words.entry) }
     ensures runnable { IfOk result (IsRunnable layouts.now) }
 {
     let (Some(name), Some(total), Some(wanted), None) = (
@@ -175,7 +176,7 @@ fn parse_size<'a>(mut words: Words<'a>, layouts: &LayoutTable) -> Result<Command
 
 /// `alloc NAME N`.
 fn parse_alloc<'a>(mut words: Words<'a>, layouts: &LayoutTable) -> Result<Command<'a>, Fault>
-    ensures reads { read_as order_of result ≡ alloc_in layouts.now (words_left words.entry) }
+    ensures reads { result_map_both order_of (λ fault. fault) result ≡ alloc_in layouts.now (words_left words.entry) }
     ensures runnable { IfOk result (IsRunnable layouts.now) }
 {
     let (Some(name), Some(count), None) = (words.next(), words.next(), words.next()) else {

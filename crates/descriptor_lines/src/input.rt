@@ -1,9 +1,9 @@
 //! Lines out of a reader.
-ghost use Rattle.std.specs.Prelude.{◌≡◌, ◌+◌, ◌-◌, ◌<◌, ◌≤◌, [], IfOk, IfSome, IfErr, IfNone};
+ghost use Rattle.std.specs.Prelude.{◌≡◌, ◌+◌, ◌-◌, ◌<◌, ◌≤◌, ℕ, List, [], Some, IfOk, IfSome, IfErr, IfNone};
 ghost use Rattle.std.specs.Prelude.{OnErr, OnOk, Err, IsFalse, length, vec_len, slice_range};
 ghost use Rattle.std.specs.Io.BufRead.{strip_last};
 ghost use Rattle.std.specs.Io.KnownBytes.{IsAtEnd, Keeps};
-ghost use Rattle.descriptor_lines.specs.Lines.{HasEnd, HasNoEnd, LosesLine, BeginsTooLong};
+ghost use Rattle.descriptor_lines.specs.Lines.{HasEnd, HasNoEnd};
 ghost use Rattle.descriptor_lines.specs.Lines.{before_end, after_end, buffer_len, longest_line};
 
 use crate::words::first_of;
@@ -56,7 +56,7 @@ pub struct LineBuffer {
 }
 
 impl LineBuffer {
-    ghost use Rattle.descriptor_lines.specs.LineBuffers.{buffered, bytes_at, unread, SeesEndOf};
+    ghost use Rattle.descriptor_lines.specs.LineBuffers.{SeesEndOf, TakesLine, buffered, bytes_at, unread};
 
     /// A buffer for a reader that may be called `reads` times.
     pub fn new(alloc: Global, reads: u32) -> Result<Self, AllocError>
@@ -81,21 +81,18 @@ impl LineBuffer {
         ensures short { IfOk result (λ span. IfSome span (λ span.
             span.end - span.start ≤ longest_line)) }
 
-        // Where the reader's bytes are known.
-        ensures line { IfOk result (λ span. IfSome span (λ span.
-            IfSome (unread self.old (R.remaining input.old)) (λ bytes. bytes_at self.new span
-            ≡ before_end bytes))) }
-        ensures rest { IfOk result (λ span. IfSome span (λ _.
-            LosesLine (unread self.old (R.remaining input.old)) (unread self.new
-            (R.remaining input.new)))) }
-        ensures none { IfOk result (λ span. IfNone span
-            (IsAtEnd (unread self.old (R.remaining input.old)))) }
-        ensures end { IfOk result (λ span. IfNone span (SeesEndOf self.old (R.remaining input.old)
-            → IsAtEnd (R.remaining input.new))) }
+        // Where the bytes are known that are in no line yet.
+        ensures known { IfOk result (λ span. (bytes : List ℕ) → unread self.old
+            (R.remaining input.old) ≡ Some bytes → TakesLine bytes span self.new (unread self.new
+            (R.remaining input.new))) }
         ensures kept { OnErr result (Keeps (unread self.old (R.remaining input.old))
             (unread self.new (R.remaining input.new))) }
-        ensures too_long { result ≡ Err InputFault.LineTooLong
-            → BeginsTooLong (unread self.old (R.remaining input.old)) }
+        ensures too_long { result ≡ Err InputFault.LineTooLong → (bytes : List ℕ)
+            → unread self.old (R.remaining input.old) ≡ Some bytes
+            → longest_line < length (before_end bytes) }
+
+        ensures end { IfOk result (λ span. IfNone span (SeesEndOf self.old (R.remaining input.old)
+            → IsAtEnd (R.remaining input.new))) }
         ensures sees { SeesEndOf self.old (R.remaining input.old)
             → SeesEndOf self.new (R.remaining input.new) }
     {

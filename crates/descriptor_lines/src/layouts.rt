@@ -1,5 +1,5 @@
 //! The layouts that the lines made, by name.
-ghost use Rattle.std.specs.Prelude.{◌≡◌, ◌+◌, ◌<◌, ◌≤◌, ◌↔◌, ◌++◌, ◌∷◌, [], IsTrue, IfOk, IfSome};
+ghost use Rattle.std.specs.Prelude.{◌≡◌, ◌+◌, ◌<◌, ◌≤◌, ◌↔◌, ◌++◌, ◌∷◌, [], IsTrue, IfOk};
 ghost use Rattle.std.specs.Prelude.{OnOk, None, if◌then◌else◌, string_bytes};
 
 use gpu_descriptor_types::DescriptorTotalCount;
@@ -65,8 +65,7 @@ impl LayoutTable {
 
     /// The place of the layout of this name, in the order in which they came.
     pub fn place(&self, name: &str) -> Option<usize>
-        ensures place { result ≡ place_named self.now name.now }
-        ensures within { IfSome result (λ place. place < layout_count self.now) }
+        ensures { result ≡ place_named self.now name.now }
     {
         self.by_name.get_index_of(name)
     }

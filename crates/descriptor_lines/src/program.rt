@@ -1,13 +1,14 @@
 //! The program: lines in, answers out.
 ghost use Rattle.gpu_descriptor_types.specs.Ledger.{Ledger};
 ghost use Rattle.descriptor_script.specs.declared.answer.Answer.{Answer};
-ghost use Rattle.std.specs.Prelude.{◌≡◌, ◌≢◌, List, [], IsFalse, IfErr, OnOk};
+ghost use Rattle.std.specs.Prelude.{◌≡◌, ◌≢◌, ℕ, List, [], Some, IsFalse, IfErr, OnOk};
 ghost use Rattle.std.specs.Prelude.{string_bytes};
 ghost use Rattle.std.specs.Io.KnownBytes.{IsAtEnd};
 ghost use Rattle.descriptor_script.specs.Scripted.Device.{empty_ledger};
 ghost use Rattle.descriptor_lines.specs.Outcomes.{EndsInFault};
 ghost use Rattle.descriptor_lines.specs.LineBuffers.{max_reads, unread};
 ghost use Rattle.descriptor_lines.specs.LineStates.{line_state};
+ghost use Rattle.descriptor_lines.specs.Lines.{lines_of};
 ghost use Rattle.descriptor_lines.specs.Programs.{CanAnswer, CanRun, DoesLine, IsFresh, IsNotRun};
 ghost use Rattle.descriptor_lines.specs.Transcripts.{RunsLines, Writes};
 ghost use Rattle.descriptor_lines.specs.Words.{words};
@@ -102,9 +103,9 @@ fn run_to_end<D: LineDevice, R: Read, W: Write>(
     requires can { CanAnswer (string_bytes answer.old) (line_state D.ledger D.script program.old) }
     requires open { IsFalse lines.old.is_at_end }
     requires reads { lines.old.reads_left ≡ max_reads }
-    ensures writes { Writes (unread lines.old (R.remaining input.old))
-        (line_state D.ledger D.script program.old) result (W.contents output.old)
-        (W.contents output.new) (line_state D.ledger D.script program.new) }
+    ensures writes { (bytes : List ℕ) → unread lines.old (R.remaining input.old) ≡ Some bytes
+        → Writes (lines_of bytes) (line_state D.ledger D.script program.old) result
+        (W.contents output.old) (W.contents output.new) (line_state D.ledger D.script program.new) }
     ensures done { result ≡ Exit.Done → IsAtEnd (R.remaining input.new) }
     ensures bad_line { result ≡ Exit.BadLine → EndsInFault (W.contents output.old)
         (W.contents output.new) }

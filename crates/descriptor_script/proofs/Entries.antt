@@ -3,7 +3,7 @@ use Rattle.std.proofs.Common.{◌≡◌, ℕ, zero, suc, ◌+◌, ◌<◌, Bool,
 use Rattle.std.specs.List.{position_or_len, swap_remove}
 use Rattle.std.specs.Map.{lookup, keys_of, values_of}
 use Rattle.std.proofs.lemmas.Bool.{cases_Bool, false≢true, true≢false}
-use Rattle.std.proofs.lemmas.List.{map-append, length-map}
+use Rattle.std.proofs.lemmas.List.{length-map}
 use Rattle.std.proofs.lemmas.List.Sums.{passes_at_first, sum_by-swap_remove}
 use Rattle.indexmap.specs.IndexMap.{swap_remove_entry}
 use Rattle.indexmap.proofs.MapLemmas.{Found-position, some_index, swap_remove_entry-found}
@@ -12,9 +12,6 @@ use Rattle.gpu_descriptor_types.specs.declared.counts.DescriptorTotalCount.{Desc
 use Rattle.gpu_descriptor_types.proofs.Counting.{set_exact, count_by_yes, count_by_no, count_by-append, all_taken_out}
 use Rattle.gpu_descriptor.proofs.release.RunsOfOne.{count_all}
 use Rattle.descriptor_script.specs.Inner.Live.{live_set_of, live_sets_of}
-
-pub map_push : {A B : Type 0} (f : A → B) (xs : List A) (x : A) → map f (xs ++ x ∷ []) ≡ map f xs ++ f x ∷ []
-map_push f xs x = map-append f xs (x ∷ [])
 
 pub none_either : {X : Type 0} (b : Bool) (o : Option X) → o ≡ None → cond b None o ≡ None
 none_either true o h = refl

@@ -1,11 +1,11 @@
--- Tickets are given once: for `Session::step`, which ensures `KeepsTickets`.
-use Rattle.std.proofs.Common.{◌≡◌, ℕ, List, [], ◌∷◌, length, get_or, set, Option, None, inl, inr, refl, ap, ◌∙◌, arith}
+-- Tickets are given once: for `Session::step`, which ensures `tickets` and `freed`.
+use Rattle.std.proofs.Common.{◌≡◌, ◌≤◌, ℕ, List, [], ◌∷◌, length, get_or, set, Option, None, inl, inr, refl, ap, ◌∙◌, arith}
 use Rattle.std.proofs.lemmas.Bool.{cases_eq}
 use Rattle.std.proofs.lemmas.List.{get_or-set_other, length-set}
 use Rattle.gpu_descriptor_types.specs.Meaning.{Meaning}
 use Rattle.gpu_descriptor_types.specs.Side.{Side}
 use Rattle.descriptor_script.specs.Sessions.Session.{sets_of}
-use Rattle.descriptor_script.specs.Sessions.Steps.{FreesTo, KeepsTickets}
+use Rattle.descriptor_script.specs.Sessions.Steps.{FreesTo}
 use Rattle.descriptor_script.specs.Sessions.Tickets.{emptied, set_at}
 use Rattle.descriptor_script.specs.declared.command.Reply.{Reply}
 use Rattle.descriptor_script.specs.declared.command.Reply.TheVariants.{Freed, BadTicket}
@@ -28,18 +28,14 @@ module _ {X : Type 0} where
   emptied_none slots [] m none = none
   emptied_none slots (n ∷ ns) m none = emptied_none (set slots n None) ns m (none_set slots n m none)
 
-module _ {L P S : Type 0} where
-  same : (old new : Session L P S) → sets_of new ≡ sets_of old → KeepsTickets old new
-  same old new e = record {
-    next = (let l = ap length e in omega arith);
-    freed = λ ticket lt none. ap (λ s. set_at s ticket) e ∙ none;
-  }
+-- a free gives no ticket a second time
+module _ {L P S : Type 0} (means : Meaning L P S) (tickets : List ℕ) where
+  pub no_fewer_tickets : (reply : Reply) (old new : Side (Session L P S)) → FreesTo means tickets old new reply → length (sets_of old.value) ≤ length (sets_of new.value)
+  no_fewer_tickets (Freed n) old new (gone, returns) = omega (arith, ap length gone.sets, emptied_length (sets_of old.value) tickets)
+  no_fewer_tickets BadTicket old new h = omega (arith, ap length h.1.sets)
+  no_fewer_tickets _ old new h = absurd h
 
-  -- a free gives no ticket a second time
-  pub freeing_keeps : (means : Meaning L P S) (tickets : List ℕ) (reply : Reply) (old new : Side (Session L P S)) → FreesTo means tickets old new reply → KeepsTickets old.value new.value
-  freeing_keeps means tickets (Freed n) old new h = record {
-    next = (let l = ap length h.sets in let a = emptied_length (sets_of old.value) tickets in omega arith);
-    freed = λ ticket lt none. ap (λ s. set_at s ticket) h.sets ∙ emptied_none (sets_of old.value) tickets ticket none;
-  }
-  freeing_keeps means tickets BadTicket old new h = same old.value new.value h.1.sets
-  freeing_keeps means tickets _ old new h = absurd h
+  pub freed_stay : (reply : Reply) (old new : Side (Session L P S)) → FreesTo means tickets old new reply → (ticket : ℕ) → set_at (sets_of old.value) ticket ≡ None → set_at (sets_of new.value) ticket ≡ None
+  freed_stay (Freed n) old new (gone, returns) ticket none = ap (λ s. set_at s ticket) gone.sets ∙ emptied_none (sets_of old.value) tickets ticket none
+  freed_stay BadTicket old new h ticket none = ap (λ s. set_at s ticket) h.1.sets ∙ none
+  freed_stay _ old new h ticket none = absurd h

@@ -1,11 +1,11 @@
 -- What the steps of a session leave outstanding.
-use Rattle.std.proofs.Common.{◌≡◌, OnOk, Result, Ok, Err, is_err, false, ℕ, ◌+◌, ◌≤◌, List, [], ◌∷◌, ◌++◌, length, length-append, map, Option, None, Some, refl, sym, ap, ◌∙◌, arith}
+use Rattle.std.proofs.Common.{◌≡◌, OnOk, Result, Ok, Err, is_err, false, ℕ, ◌+◌, ◌≤◌, List, [], ◌∷◌, ◌++◌, length, length-append, map, Option, None, Some, refl, ap, ◌∙◌, arith}
 use Rattle.std.proofs.lemmas.Bool.{true≢false}
-use Rattle.gpu_descriptor_types.proofs.Counting.{count_by-append}
-use Rattle.gpu_descriptor.specs.Model.Agreement.{State, count_of, item_eq}
+use Rattle.gpu_descriptor.specs.Model.Agreement.{State, count_of}
 use Rattle.gpu_descriptor.specs.Model.Promises.{AreOutBesides}
-use Rattle.gpu_descriptor.specs.Caller.Sets.{item_of, items_of}
+use Rattle.gpu_descriptor.specs.Caller.Sets.{items_of}
 use Rattle.gpu_descriptor.specs.declared.set.DescriptorSet.{DescriptorSet}
+use Rattle.gpu_descriptor.proofs.callers.HeldSets.{count_parts}
 use Rattle.descriptor_script.specs.Sessions.Session.{AreAllHeld}
 use Rattle.descriptor_script.specs.Sessions.Tickets.{held_sets}
 
@@ -31,12 +31,6 @@ module _ {X : Type 0} where
   held_few (None ∷ slots) = let h = held_few slots in omega arith
   held_few (Some x ∷ slots) = let h = held_few slots in omega arith
 
-items_more : {S : Type 0} (name : S → ℕ) (xs ys : List (DescriptorSet S)) → items_of name (xs ++ ys) ≡ items_of name xs ++ items_of name ys
-items_more name [] ys = refl
-items_more name (x ∷ xs) ys = ap (λ l. item_of name x ∷ l) (items_more name xs ys)
-
 -- given sets are held besides
 pub all_held_more : {S : Type 0} (name : S → ℕ) (slots : List (Option (DescriptorSet S))) (given : List (DescriptorSet S)) (s t : State) → AreAllHeld name slots s → AreOutBesides (items_of name given) s t → AreAllHeld name (slots ++ map Some given) t
-all_held_more name slots given s t held besides x =
-    let e : items_of name (held_sets (slots ++ map Some given)) ≡ items_of name (held_sets slots) ++ items_of name given = ap (items_of name) (held_more slots given) ∙ items_more name (held_sets slots) given in
-    besides x ∙ ap (λ n. n + count_of x (items_of name given)) (held x) ∙ sym (ap (count_of x) e ∙ count_by-append (λ i. item_eq i x) (items_of name (held_sets slots)) (items_of name given))
+all_held_more name slots given s t held besides x = (let h = held x in let b = besides x in let more = ap (λ l. count_of x (items_of name l)) (held_more slots given) ∙ count_parts name (held_sets slots) given x in omega arith)

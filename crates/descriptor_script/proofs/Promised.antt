@@ -1,5 +1,5 @@
 -- The parts of the headline hold at each step of a run: for `headline`. They follow from what the reply says of the step (`StepsTo`),
--- and from what every command keeps (`KeepsSession`), as `RunsTo` has both.
+-- and from what every command keeps (`KeepsSession`), as `IsStep` has both.
 use Rattle.std.proofs.Common.{ℕ, List, [], ◌∷◌, refl, sym, ap, subst, ◌∙◌, arith, inl, inr, true}
 use Rattle.std.specs.Prelude.{◌<◌, slice_get, Option, Some}
 use Rattle.std.specs.Option.{option_map_or}
@@ -12,21 +12,21 @@ use Rattle.gpu_descriptor_types.specs.Side.{Side}
 use Rattle.gpu_descriptor.proofs.Common.{◌≡◌, ◌≤◌, descriptors_out, length, marked_descriptors, marked_load_of, outstanding_of, sets_out}
 use Rattle.gpu_descriptor.proofs.sums.OutSets.{load_is_descriptors, out_is_length}
 use Rattle.gpu_descriptor.proofs.sums.TableSums.{adds_up, marked_load_of-table, outstanding_of-table}
-use Rattle.gpu_descriptor.specs.Caller.Call.{layout_key}
-use Rattle.gpu_descriptor.specs.Caller.Causes.{IsBecause}
+use Rattle.gpu_descriptor.specs.Caller.Causes.{HasCause, IsBecause}
 use Rattle.gpu_descriptor.specs.Model.Agreement.{AreOutstanding, Item, live_in}
 use Rattle.gpu_descriptor.specs.Model.Books.{Entry, Key}
 use Rattle.gpu_descriptor.specs.Caller.Sets.{items_of}
 use Rattle.gpu_descriptor.specs.Caller.States.{state_of}
+use Rattle.gpu_descriptor.specs.Caller.Values.{Allocations}
 use Rattle.gpu_descriptor.specs.declared.errors.AllocationError.{AllocationError}
 use Rattle.gpu_descriptor.proofs.lists.Numbers.{entry_at-from}
 use Rattle.gpu_descriptor.proofs.release.FreedOne.{freed_is}
 use Rattle.gpu_descriptor.proofs.release.Places.{back_named, back_named-is, outstanding_at, part_fits}
 use Rattle.gpu_descriptor.proofs.release.ReleaseAgrees.{one_by_one}
-use Rattle.descriptor_script.specs.Sessions.Headline.{GoBack, HoldsWhatIsOut, IsMet, IsRefused, KeepsAll, held_items}
+use Rattle.descriptor_script.specs.Sessions.Headline.{GoBack, HoldsWhatIsOut, KeepsAll}
 use Rattle.descriptor_script.specs.Sessions.Session.{IsReady, allocator_of, allocator_on, sets_of, state_on}
-use Rattle.descriptor_script.specs.Sessions.SessionRun.{Runs, RunsKeeping, RunsTo}
-use Rattle.descriptor_script.specs.Sessions.Steps.{GivesUp, HoldsAnswer, OfStep, Refuses, StepsTo}
+use Rattle.descriptor_script.specs.Sessions.SessionRun.{IsStep, Runs}
+use Rattle.descriptor_script.specs.Sessions.Steps.{FreesTo, OfStep, StepsTo, held_items}
 use Rattle.descriptor_script.specs.declared.command.Command.{Command}
 use Rattle.descriptor_script.specs.declared.command.Command.TheVariants.{Allocate, Free, Cleanup}
 use Rattle.descriptor_script.specs.declared.command.Reply.{Reply}
@@ -43,6 +43,10 @@ module _ {L P S : Type 0} (means : Meaning L P S) where
   -- the marked load is that of the held sets
   held_load : (s : Side (Session L P S)) → IsReady means s → marked_descriptors (held_items means s) ≡ marked_load_of (allocator_of s.value)
   held_load s ready = load_is_descriptors (state_on means s) _ ready.agree.books (adds_up means.pool_name (allocator_of s.value) descriptors_out ready.agree.rows (marked_load_of-table means.pool_name (allocator_of s.value))) (held_items means s) (λ t. sym (ready.held t))
+
+  -- the cause of a refusal, with the numbers of held sets in the place of the allocator's
+  pub cause_from_held : (old : Side (Session L P S)) → IsReady means old → (key : Key) (count : ℕ) (error : AllocationError) (new : Side (Allocations P)) → HasCause means key count (allocator_on old) new error → IsBecause means key count (length (held_items means old)) (marked_descriptors (held_items means old)) (allocator_on old) new error
+  cause_from_held old ready key count error new cause = rw (held_count old ready, held_load old ready) cause
 
   -- the live sets of a pool in the books are the held sets that lie in it, and have the counts of its key
   nothing_else :
@@ -79,55 +83,22 @@ module _ {L P S : Type 0} (means : Meaning L P S) where
       )
 
   module _ (old new : Side (Session L P S)) (ready : IsReady means old) where
-    -- a free that was done, and below a request that was met or refused, as the headline says it
-    gone_back : (tickets : List ℕ) (many : ℕ) → GivesUp means tickets old new many → GoBack means tickets many old new
-    gone_back tickets many h =
+    -- a free that was done, as the headline says it
+    gone_back : (tickets : List ℕ) (many : ℕ) → FreesTo means tickets old new (Freed many) → GoBack means tickets many old new
+    gone_back tickets many (gone, returns) =
         let start = state_of means.pool_name (allocator_of old.value) old.ledger in
-        let out = listed_out means.set_name (sets_of old.value) tickets h.given start h.good h.each ready.held in
-        let back = h.back.back in
+        let out = listed_out means.set_name (sets_of old.value) tickets gone.given start gone.good gone.each ready.held in
+        let back = returns.back in
         record {
-          good = h.good;
-          all = h.all;
-          given = h.given;
-          each = h.each;
-          sets = h.sets;
+          gone = gone;
           one_call_a_run = ap (λ (c : Counters). c.released) back.counters;
-          one_by_one = λ order alike. back.state ∙ sym (one_by_one (items_of means.set_name h.given) order start ready.agree.books out alike) ∙ sym (freed_is order start);
+          one_by_one = λ order alike. back.state ∙ sym (one_by_one (items_of means.set_name gone.given) order start ready.agree.books out alike) ∙ sym (freed_is order start);
         }
-
-    met : (layout count first many : ℕ) → HoldsAnswer means layout count old new first many → IsMet means layout count old new first many
-    met layout count first many h = record {
-      known = h.known;
-      at = h.at;
-      given = h.given;
-      asked = h.asked;
-      all_given = h.all_given;
-      own = h.own;
-      keys = request_own _ h.outcome;
-      next = h.first;
-      sets = h.sets;
-    }
-
-    refused : (layout count : ℕ) (error : AllocationError) → Refuses means layout count old new error → IsRefused means layout count old new error
-    refused layout count error h = let k = layout_key means h.known.layout in let marked = marked_descriptors (held_items means old) in record {
-      known = h.known;
-      at = h.at;
-      some = wants_some _ h.outcome;
-      cause =
-          subst (λ out. IsBecause means k count out marked (allocator_on old) (allocator_on new) error)
-          (sym (held_count old ready))
-          (subst
-          (λ load.
-          IsBecause means k count (outstanding_of (allocator_of old.value)) load (allocator_on old)
-          (allocator_on new) error)
-          (sym (held_load old ready)) h.cause);
-      sets = h.sets;
-    }
 
     -- so it is for each command and reply
     replied : (command : Command) (reply : Reply) → StepsTo means command reply old new → HoldsWhatIsOut means command reply old new
-    replied (Allocate layout count) (Sets first many) h = met layout count first many h
-    replied (Allocate layout count) (Refused e) h = refused layout count e h
+    replied (Allocate layout count) (Sets first many) (met, outcome) = (met, request_own _ outcome)
+    replied (Allocate layout count) (Refused e) (refused, outcome) = (wants_some _ outcome, refused)
     replied (Allocate layout count) BadLayout h = h
     replied (Allocate layout count) NoMemory h = h
     replied (Free tickets) (Freed n) h = gone_back tickets.items n h
@@ -136,7 +107,7 @@ module _ {L P S : Type 0} (means : Meaning L P S) where
     replied _ _ h = absurd h
 
   -- a run keeps all parts at each of its steps
-  pub all_kept : (commands : List Command) (replies : List Reply) (old new : Side (Session L P S)) → IsReady means old → RunsTo means commands replies old new → RunsKeeping means (KeepsAll means) commands replies old new
+  pub all_kept : (commands : List Command) (replies : List Reply) (old new : Side (Session L P S)) → IsReady means old → Runs (IsStep means) commands replies old new → Runs (λ command reply s t. KeepsAll means command reply s t × IsStep means command reply s t) commands replies old new
   all_kept [] [] old new ready run = run
   all_kept (c ∷ cs) (r ∷ rs) old new ready run =
       let keeps = run.1.1 in
@@ -150,11 +121,11 @@ module _ {L P S : Type 0} (means : Meaning L P S) where
         layouts = keeps.layouts;
         others = keeps.allocator.others;
       } in
-      (run.0, (all, run.1.0, run.1.1), all_kept cs rs run.0 new keeps.ready run.2)
+      (run.0, (all, run.1), all_kept cs rs run.0 new keeps.ready run.2)
   all_kept _ _ old new ready run = absurd run
 
   -- the promise alone
-  pub promise_of : (promise : OfStep L P S) (commands : List Command) (replies : List Reply) (old new : Side (Session L P S)) → RunsKeeping means promise commands replies old new → Runs promise commands replies old new
+  pub promise_of : (promise : OfStep L P S) (commands : List Command) (replies : List Reply) (old new : Side (Session L P S)) → Runs (λ command reply s t. promise command reply s t × IsStep means command reply s t) commands replies old new → Runs promise commands replies old new
   promise_of promise [] [] old new run = run
   promise_of promise (c ∷ cs) (r ∷ rs) old new run = (run.0, run.1.0, promise_of promise cs rs run.0 new run.2)
   promise_of promise _ _ old new run = absurd run

@@ -1,7 +1,6 @@
 -- What the code's own contracts say, and what the public definitions are made of.
 pub mod Counters
 pub mod Live
-pub mod Log
 pub mod Marks
 pub mod Pools
 pub mod Slots

@@ -4,4 +4,3 @@ pub mod Session
 pub mod SessionRun
 pub mod Steps
 pub mod Tickets
-pub mod Visits

@@ -6,7 +6,7 @@ ghost use Rattle.std.specs.Prelude.{◌≡◌, IfOk, OnErr};
 ghost use Rattle.gpu_descriptor_types.specs.Side.{side};
 ghost use Rattle.descriptor_script.specs.Sessions.Headline.{KeepsAll};
 ghost use Rattle.descriptor_script.specs.Sessions.Session.{IsReady, KeepsSession};
-ghost use Rattle.descriptor_script.specs.Sessions.SessionRun.{Runs, RunsKeeping};
+ghost use Rattle.descriptor_script.specs.Sessions.SessionRun.{IsStep, Runs};
 
 use crate::{Command, Reply, Session};
 use gpu_descriptor::DescriptorDevice;
@@ -43,9 +43,9 @@ pub fn headline<L, P: Drop, S: Drop, D: DescriptorDevice<L, P, S>>(
 
     // `together`, and at the same states the words of the model: each step is one that it allows, which
     // also says what pools are asked, created and destroyed.
-    ensures runs { IfOk result (λ replies. RunsKeeping D.meaning (KeepsAll D.meaning) commands.now
-        replies.items (side session.old (D.ledger device.old))
-        (side session.new (D.ledger device.new))) }
+    ensures runs { IfOk result (λ replies. Runs (λ command reply s t. KeepsAll D.meaning command
+        reply s t × IsStep D.meaning command reply s t) commands.now replies.items
+        (side session.old (D.ledger device.old)) (side session.new (D.ledger device.new))) }
 {
     session.run(device, commands)
 }

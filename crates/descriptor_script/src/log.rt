@@ -32,8 +32,6 @@ pub(crate) struct Log {
 }
 
 impl Log {
-    ghost use Rattle.descriptor_script.specs.Inner.Log.{HasLogReserve};
-
     pub(crate) fn new(alloc: Global) -> Self
         ensures calls { result.calls.items ≡ [] }
         ensures owed { result.owed ≡ 0 }
@@ -46,7 +44,8 @@ impl Log {
 
     /// Reserves memory for `more` more calls.
     pub(crate) fn reserve(&mut self, more: usize) -> Result<(), AllocError>
-        ensures reserve { OnOk result (HasLogReserve more self.new) }
+        ensures reserve { OnOk result (vec_len self.new.calls + self.new.owed + more
+            ≤ vec_capacity self.new.calls) }
         ensures calls { self.new.calls.items ≡ self.old.calls.items }
         ensures owed { self.new.owed ≡ self.old.owed }
     {
@@ -58,7 +57,7 @@ impl Log {
 
     /// Puts a call that owes `owes` others.
     pub(crate) fn put(&mut self, call: Call, owes: usize)
-        requires { HasLogReserve (owes + 1) self.old }
+        requires { vec_len self.old.calls + self.old.owed + (owes + 1) ≤ vec_capacity self.old.calls }
         ensures calls { self.new.calls.items ≡ self.old.calls.items ++ call ∷ [] }
         ensures owed { self.new.owed ≡ self.old.owed + owes }
     {

@@ -1,13 +1,13 @@
 //! The live pools of a device, by name.
 ghost use Rattle.std.specs.Prelude.{◌≡◌, ◌+◌, ◌-◌, ◌<◌, ◌≤◌, ◌^◌, ◌++◌, map, Some, None};
-ghost use Rattle.std.specs.Prelude.{IfOk, IsSome, OnOk, OnErr, nat_eq};
+ghost use Rattle.std.specs.Prelude.{IfOk, IsSome, OnOk, OnErr, length, nat_eq};
 ghost use Rattle.std.specs.Iterator.{HoldsAlong};
 ghost use Rattle.std.specs.Map.{update};
 ghost use Rattle.gpu_descriptor_types.specs.Counts.{kinds};
 ghost use Rattle.gpu_descriptor_types.specs.Flags.{bits};
 ghost use Rattle.gpu_descriptor_types.specs.Layouts.{layout, left};
 ghost use Rattle.gpu_descriptor_types.specs.Ledger.{fresh as fresh_pool, on_pool, pool_refusals};
-ghost use Rattle.descriptor_script.specs.Scripted.Raw.{ReleasesMany, raw_sets, set_id};
+ghost use Rattle.descriptor_script.specs.Scripted.Raw.{raw_sets, set_id};
 ghost use Rattle.descriptor_script.specs.Inner.Table.{PoolsAreBelow, SetsAreBelow};
 
 use crate::live::{LivePool, fill, take_back};
@@ -36,7 +36,7 @@ pub struct Pools {
 impl Pools {
     ghost use Rattle.descriptor_script.specs.Inner.Pools.{next_names, owed, pools_of};
     ghost use Rattle.gpu_descriptor_types.specs.Ledger.{AreLive, CanDrain, Counters, live_sets};
-    ghost use Rattle.gpu_descriptor_types.specs.Ledger.{no_rise};
+    ghost use Rattle.gpu_descriptor_types.specs.Ledger.{Releases, no_rise};
     ghost use Rattle.gpu_descriptor_types.specs.Multiset.{times};
 
     /// No pool is live, and these names of a pool and of a set come next.
@@ -175,8 +175,9 @@ impl Pools {
         requires live { HoldsAlong I.next_gives sets.old (λ xs.
             AreLive pool (map set_id xs) (owed self.old no_rise)) }
         // With whatever counters, of which one rises.
-        ensures released { (n : Counters) → ReleasesMany I.next_gives pool result sets.old sets.new
-            (owed self.old n) (owed self.new (record n { released = n.released + 1 })) }
+        ensures released { (n : Counters) → (gone : Releases I.next_gives set_id pool sets.old
+            sets.new (owed self.old n) (owed self.new (record n { released = n.released + 1 })))
+            × (length gone.items ≡ result) }
         ensures names { next_names self.new ≡ next_names self.old }
     {
         let Some(live) = self.live.get_mut(&pool) else {

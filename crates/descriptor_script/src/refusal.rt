@@ -1,6 +1,5 @@
 //! A script that refuses once.
-ghost use Rattle.std.specs.Prelude.{◌≡◌, IfOk};
-ghost use Rattle.descriptor_script.specs.Scripted.Script.{refusing_at};
+ghost use Rattle.std.specs.Prelude.{◌≡◌, [], ◌∷◌, ◌++◌, IfOk, replicate};
 
 use crate::answer::Answer;
 use std::alloc::{AllocError, Global};
@@ -12,7 +11,8 @@ use std::vec::{self, Vec};
 ///
 /// It fails if memory runs out, as for a script that is longer than a vector can be.
 pub fn refuse_at(alloc: Global, place: usize, answer: Answer) -> Result<Vec<Answer>, AllocError>
-    ensures { IfOk result (λ script. script.items ≡ refusing_at place answer) }
+    ensures { IfOk result (λ script. script.items
+        ≡ replicate place Answer.Ok ++ answer ∷ []) }
 {
     let mut script = vec![in alloc; Answer::Ok; place]?;
     script.push(answer)?;

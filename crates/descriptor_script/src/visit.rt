@@ -1,14 +1,15 @@
 //! A visit to a device: of an allocator that is made, used and cleaned up nothing is left there,
 //! once all its sets are free.
 ghost use Rattle.std.specs.Prelude.{◌≡◌, [], IfOk, OnErr};
-ghost use Rattle.gpu_descriptor_types.specs.Side.{side};
+ghost use Rattle.gpu_descriptor_types.specs.Side.{Side, side};
 ghost use Rattle.gpu_descriptor.specs.Caller.States.{state_of};
 ghost use Rattle.gpu_descriptor.specs.Model.Agreement.{HasNoKeys, HasNoPools};
 ghost use Rattle.descriptor_script.specs.Sessions.Session.{IsReady, KeepsSession, allocator_of};
 ghost use Rattle.descriptor_script.specs.Sessions.Session.{sets_of};
 ghost use Rattle.descriptor_script.specs.Sessions.Steps.{Cleans};
 ghost use Rattle.descriptor_script.specs.Sessions.Tickets.{held_sets};
-ghost use Rattle.descriptor_script.specs.Sessions.Visits.{VisitsTo};
+ghost use Rattle.descriptor_script.specs.Sessions.SessionRun.{IsStep, Runs};
+ghost use Rattle.descriptor_script.specs.declared.session.Session.{Session as SessionValue};
 
 use crate::{Command, Reply, Session};
 use gpu_descriptor::DescriptorDevice;
@@ -30,8 +31,9 @@ pub fn visit<L, P: Drop, S: Drop, D: DescriptorDevice<L, P, S>>(
     requires ready { IsReady D.meaning (side session.old (D.ledger device.old)) }
     requires began { HasNoPools (state_of D.meaning.pool_name (allocator_of session.old)
         (D.ledger device.old)) }
-    ensures runs { IfOk result (λ replies. VisitsTo D.meaning commands.now replies.items
-        (side session.old (D.ledger device.old)) (side session.new (D.ledger device.new))) }
+    ensures runs { IfOk result (λ replies. (used : Side (SessionValue L P S))
+        × Runs (IsStep D.meaning) commands.now replies.items (side session.old (D.ledger device.old)) used
+        × Cleans D.meaning used (side session.new (D.ledger device.new))) }
     ensures cleans { OnErr result (Cleans D.meaning (side session.old (D.ledger device.old))
         (side session.new (D.ledger device.new))) }
     ensures pools { held_sets (sets_of session.new) ≡ [] → (D.ledger device.new).pools

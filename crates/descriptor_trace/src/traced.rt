@@ -1,6 +1,6 @@
 //! A device that writes down what passes through it.
 ghost use Rattle.std.specs.Prelude.{◌≡◌, ◌+◌, [], map, None, IsFalse, IsOk, IfErr, IfOk};
-ghost use Rattle.std.specs.Prelude.{OnErr, OnOk, string_bytes};
+ghost use Rattle.std.specs.Prelude.{OnErr, OnOk, length, string_bytes};
 ghost use Rattle.std.specs.Iterator.{HoldsAlong};
 ghost use Rattle.gpu_descriptor_types.specs.Counts.{kinds};
 ghost use Rattle.gpu_descriptor_types.specs.Flags.{bits};
@@ -12,7 +12,7 @@ ghost use Rattle.descriptor_script.specs.Scripted.Device.{empty_ledger};
 ghost use Rattle.descriptor_script.specs.Scripted.Raw.{pool_id, script_meaning, set_id};
 ghost use Rattle.descriptor_script.specs.Scripted.Script.{alloc_error, create_error};
 ghost use Rattle.descriptor_trace.specs.TraceTexts as says;
-ghost use Rattle.descriptor_trace.specs.Traced.{WritesDown, WritesRelease};
+ghost use Rattle.descriptor_trace.specs.Traced.{WritesDown};
 
 use crate::text;
 use descriptor_lines::{LineDevice, ScriptedMeaning};
@@ -185,8 +185,9 @@ impl<W: Write> DescriptorDevice<ScriptLayout, RawPool, RawSet> for Traced<W> {
 
         // Besides the trait's: no word is read, and no name is given; and the call is written down.
         ensures reads { ReadsNone self.old.device self.new.device }
-        ensures written { WritesRelease W.contents I.next_gives (pool_id pool.old) sets.old
-            sets.new self.old self.new }
+        ensures written { (gone : Releases I.next_gives set_id (pool_id pool.old) sets.old sets.new
+            (ledger_of self.old.device) (ledger_of self.new.device)) × WritesDown W.contents
+            self.old self.new (says.release_line (pool_id pool.old) (length gone.items)) }
     {
         let released = self.device.release(pool, sets);
         self.write_release(pool.id(), released);

@@ -1,16 +1,16 @@
 //! The answers of the commands that a session runs.
-ghost use Rattle.std.specs.Prelude.{◌≡◌, ◌<◌, ◌≤◌, ◌*◌, ◌++◌, length, IsSome};
+ghost use Rattle.std.specs.Prelude.{◌≡◌, ◌+◌, ◌<◌, ◌≤◌, ◌*◌, ◌^◌, ◌++◌, length};
 ghost use Rattle.std.specs.Prelude.{string_bytes, string_capacity};
 ghost use Rattle.gpu_descriptor.specs.Caller.Errors.{error_text};
 ghost use Rattle.descriptor_script.specs.Sessions.Session.{sets_of};
-ghost use Rattle.descriptor_script.specs.Sessions.Tickets.{set_at};
 ghost use Rattle.descriptor_lines.specs.Answers.{HasReserveFor};
-ghost use Rattle.descriptor_lines.specs.Replies.{AreHeld, HasAnswer, pool_at};
+ghost use Rattle.descriptor_lines.specs.Replies.{TicketsFit, pool_at};
 ghost use Rattle.descriptor_lines.specs.ReplyTexts.{max_bytes, sets_asked, sets_given};
 ghost use Rattle.descriptor_lines.specs.ReplyTexts.{freed_text, refused_text, text_of_reply};
 ghost use Rattle.descriptor_lines.specs.ReplyTexts.{pools_from, range_text, sets_text};
 ghost use Rattle.descriptor_lines.specs.ReplyTexts.{stretch_text, stretches_text};
 
+use super::NO_MEMORY;
 use super::reserved::{put, put_number};
 use crate::program::LineSession;
 use descriptor_script::{Command, Reply};
@@ -44,7 +44,7 @@ pub fn reserve_for(command: &Command) -> usize
 
 /// Puts what the session replied after the answer.
 pub fn reply_answer(answer: &mut String, session: &LineSession, reply: &Reply)
-    requires replied { HasAnswer session.now reply.now }
+    requires fits { TicketsFit reply.now }
     requires reserve { HasReserveFor (max_bytes (sets_given reply.now)) answer.old }
     ensures text { string_bytes answer.new ≡ string_bytes answer.old
         ++ text_of_reply (sets_of session.now) reply.now }
@@ -57,7 +57,8 @@ pub fn reply_answer(answer: &mut String, session: &LineSession, reply: &Reply)
         Reply::Freed(count) => freed_answer(answer, *count),
         Reply::BadTicket => put(answer, "bad ticket\n"),
         Reply::Clean => put(answer, "clean\n"),
-        Reply::BadLayout | Reply::NoMemory => unreachable!(),
+        Reply::NoMemory => put(answer, NO_MEMORY),
+        Reply::BadLayout => {}
     }
 }
 
@@ -93,7 +94,7 @@ fn freed_answer(answer: &mut String, count: usize)
 
 /// The tickets of allocated sets, and their device pools, run by run.
 fn sets_answer(answer: &mut String, session: &LineSession, first: usize, count: u32)
-    requires held { AreHeld session.now first count }
+    requires fits { first + count < 2 ^ 64 }
     requires reserve { HasReserveFor (max_bytes count) answer.old }
     ensures text { string_bytes answer.new ≡ string_bytes answer.old
         ++ sets_text (sets_of session.now) first count }
@@ -122,7 +123,7 @@ fn range_answer(answer: &mut String, first: usize, last: usize)
 /// The device pools of `count` tickets from the first up, run by run.
 fn stretches_answer(answer: &mut String, session: &LineSession, first: usize, count: u32)
     requires some { 0 < count }
-    requires held { AreHeld session.now first count }
+    requires fits { first + count < 2 ^ 64 }
     requires reserve { HasReserveFor (23 * count) answer.old }
     ensures text { string_bytes answer.new ≡ string_bytes answer.old
         ++ stretches_text (pools_from (sets_of session.now) first count) }
@@ -146,14 +147,13 @@ fn stretches_answer(answer: &mut String, session: &LineSession, first: usize, co
     stretch_answer(answer, stretch);
 }
 
-/// The name of the device pool of a ticket's set.
+/// The name of the device pool of a ticket's set, or 0 without one.
 fn device_pool(session: &LineSession, ticket: usize) -> u64
-    requires { IsSome (set_at (sets_of session.now) ticket) }
     ensures { result ≡ pool_at (sets_of session.now) ticket }
 {
     match session.set(ticket) {
         Some(set) => set.raw().pool(),
-        None => unreachable!(),
+        None => 0,
     }
 }
 

@@ -2,7 +2,7 @@
 ghost use Rattle.std.specs.Prelude.{◌≡◌, [], None, IsTrue, OnOk, string_bytes};
 ghost use Rattle.gpu_descriptor_types.specs.Counts.{kinds};
 ghost use Rattle.descriptor_lines.specs.Answers.{AnswersSize};
-ghost use Rattle.descriptor_lines.specs.Commands.{IsKnown, IsRunnable};
+ghost use Rattle.descriptor_lines.specs.Commands.{IsRunnable};
 ghost use Rattle.descriptor_lines.specs.LayoutTables.{key_of, layout_count, layout_named};
 ghost use Rattle.descriptor_lines.specs.LineStates.{line_state};
 ghost use Rattle.descriptor_lines.specs.Orders.{Limit, Layout as NewLayout, Script, order_of};
@@ -106,7 +106,6 @@ impl<D: LineDevice> Program<D> {
     /// Runs a command of the session, and puts its answer into the empty text.
     fn ask(&mut self, command: SessionCommand, answer: &mut String) -> Result<(), AllocError>
         requires can { CanAnswer (string_bytes answer.old) (line_state D.ledger D.script self.old) }
-        requires known { IsKnown (layout_count self.old.layouts) command }
         ensures runs { RunsAs (Does (StepsTo script_meaning command)) result
             (string_bytes answer.new) (line_state D.ledger D.script self.old)
             (line_state D.ledger D.script self.new) }

@@ -1,7 +1,7 @@
 //! Words that give the counts of a layout.
 ghost use Rattle.std.specs.Prelude.{◌≡◌};
 ghost use Rattle.gpu_descriptor_types.specs.Counts.{kinds};
-ghost use Rattle.descriptor_lines.specs.Fault.{read_as};
+ghost use Rattle.std.specs.Result.{result_map_both};
 ghost use Rattle.descriptor_lines.specs.Kinds.{counts_in};
 ghost use Rattle.gpu_descriptor_types.specs.Bounds.{greatest_u32};
 ghost use Rattle.descriptor_lines.specs.Numbers.{number_in};
@@ -14,7 +14,7 @@ use gpu_descriptor_types::DescriptorTotalCount;
 
 /// The counts out of words `KIND=N`, each kind at most once.
 pub fn parse_counts(words: Words<'_>) -> Result<DescriptorTotalCount, Fault>
-    ensures { read_as kinds result ≡ counts_in (words_left words.entry) }
+    ensures { result_map_both kinds (λ fault. fault) result ≡ counts_in (words_left words.entry) }
 {
     let mut counts = DescriptorTotalCount::default();
     let mut is_named = [false; text::KIND_COUNT];

@@ -2,7 +2,8 @@
 ghost use Rattle.std.specs.Prelude.{◌≡◌, ◌+◌, ◌-◌, ◌^◌, ◌≤◌, ◌++◌, vec_len, vec_capacity};
 ghost use Rattle.std.specs.Prelude.{OnOk, reverse};
 ghost use Rattle.std.specs.List.{range_with_len};
-ghost use Rattle.descriptor_lines.specs.Fault.{Reads, read_as};
+ghost use Rattle.descriptor_lines.specs.Fault.{Reads};
+ghost use Rattle.std.specs.Result.{result_map_both};
 ghost use Rattle.gpu_descriptor_types.specs.Bounds.{greatest_u64};
 ghost use Rattle.descriptor_lines.specs.Numbers.{number_in};
 ghost use Rattle.descriptor_lines.specs.Tickets.{joined, max_tickets, sides as sides_of};
@@ -40,7 +41,7 @@ pub fn parse_free(alloc: Global, words: Words<'_>) -> Result<Vec<usize>, Refusal
 
 /// The tickets of a word: one, `T`, or a range, `A-B`.
 fn parse_span(word: &[u8]) -> Result<Span, Fault>
-    ensures { read_as (λ span. tickets_between span.first span.last) result
+    ensures { result_map_both (λ span. tickets_between span.first span.last) (λ fault. fault) result
         ≡ tickets_of word.now }
 {
     let (first, last) = sides(word);

@@ -1,8 +1,7 @@
 -- Names of raw pools and raw sets.
-use Rattle.std.specs.Prelude.{◌≡◌, ℕ, List, Option, length, map}
+use Rattle.std.specs.Prelude.{ℕ, List, map}
 use Rattle.std.specs.List.{range_with_len}
 use Rattle.gpu_descriptor_types.specs.Counts.{kinds}
-use Rattle.gpu_descriptor_types.specs.Ledger.{Ledger, Releases}
 use Rattle.gpu_descriptor_types.specs.Meaning.{Meaning}
 use Rattle.descriptor_script.specs.declared.raw.RawPool.{RawPool}
 use Rattle.descriptor_script.specs.declared.raw.RawSet.{RawSet}
@@ -36,8 +35,3 @@ raw_sets pool first many = map (raw_set pool) (range_with_len first many)
 pub record Names : Type 0 where
   pub pools : ℕ
   pub sets : ℕ
-
--- the iterator gave so many items, up to its end, and these sets have left the pool
-pub record ReleasesMany {I : Type 0} (steps : I → Option RawSet → I → Type 0) (name n : ℕ) (old new : I) (before after : Ledger) : Type 0 where
-  pub sets : Releases steps set_id name old new before after
-  pub many : length sets.items ≡ n

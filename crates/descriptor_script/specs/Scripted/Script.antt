@@ -1,5 +1,5 @@
 -- What the words of a script mean.
-use Rattle.std.specs.Prelude.{ℕ, List, [], ◌∷◌, ◌++◌, replicate}
+use Rattle.std.specs.Prelude.{List, [], ◌∷◌}
 use Rattle.gpu_descriptor_types.specs.declared.errors.CreatePoolError.{CreatePoolError}
 use Rattle.gpu_descriptor_types.specs.declared.errors.DeviceAllocationError.{DeviceAllocationError}
 use Rattle.descriptor_script.specs.declared.answer.Answer.{Answer}
@@ -16,10 +16,6 @@ next_word (word ∷ words) = word
 abbrev pub rest_words : List Answer → List Answer
 rest_words [] = []
 rest_words (word ∷ words) = words
-
--- a script that refuses once: n words Ok, and then this one
-abbrev pub refusing_at : ℕ → Answer → List Answer
-refusing_at place answer = replicate place Ok ++ answer ∷ []
 
 -- the error of a create that isn't granted at this word. At Ok names ran out or an allocation failed
 abbrev pub create_error : Answer → CreatePoolError

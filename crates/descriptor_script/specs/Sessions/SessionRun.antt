@@ -16,11 +16,6 @@ module _ {L P S : Type 0} where
       (next : Side (Session L P S)) × promise command reply old next × Runs promise commands replies next new
   Runs promise _ _ old new = ⊥
 
-module _ {L P S : Type 0} (means : Meaning L P S) where
-  -- each state comes of the one before it by a step, as the reply says, and has what every command keeps
-  abbrev pub RunsTo : List Command → List Reply → Side (Session L P S) → Side (Session L P S) → Type 0
-  RunsTo = Runs (λ command reply old new. StepsTo means command reply old new × KeepsSession means old new)
-
-  -- the same, and at each step the promise is kept too
-  abbrev pub RunsKeeping : OfStep L P S → List Command → List Reply → Side (Session L P S) → Side (Session L P S) → Type 0
-  RunsKeeping promise = Runs (λ command reply old new. promise command reply old new × StepsTo means command reply old new × KeepsSession means old new)
+-- a step, as the reply says, that has what every command keeps
+abbrev pub IsStep : {L P S : Type 0} → Meaning L P S → OfStep L P S
+IsStep means command reply old new = StepsTo means command reply old new × KeepsSession means old new

@@ -1,19 +1,19 @@
 -- What a command does to a session, and what it replies.
-use Rattle.std.specs.Prelude.{◌≡◌, ℕ, ◌<◌, ◌≤◌, List, ◌++◌, length, map, slice_get, None, Some, Result, Ok, Err}
+use Rattle.std.specs.Prelude.{◌≡◌, ℕ, ◌<◌, ◌≤◌, List, ◌++◌, length, map, slice_get, Some, Result, Ok, Err}
 use Rattle.gpu_descriptor_types.specs.Meaning.{Meaning}
 use Rattle.gpu_descriptor_types.specs.Side.{Side}
 use Rattle.gpu_descriptor.specs.Caller.CleansUp.{CleansUp}
-use Rattle.gpu_descriptor.specs.Caller.Frees.{Returns}
+use Rattle.gpu_descriptor.specs.Caller.Frees.{Returns, marked_descriptors}
 use Rattle.gpu_descriptor.specs.Model.Agreement.{Item}
 use Rattle.gpu_descriptor.specs.Model.Outcomes.{Allocates, Call}
 use Rattle.gpu_descriptor.specs.Caller.Call.{call_of, layout_key}
-use Rattle.gpu_descriptor.specs.Caller.Causes.{HasCause}
+use Rattle.gpu_descriptor.specs.Caller.Causes.{IsBecause}
 use Rattle.gpu_descriptor.specs.Caller.Sets.{AreOfLayout, items_of}
 use Rattle.gpu_descriptor.specs.declared.errors.AllocationError.{AllocationError}
 use Rattle.gpu_descriptor.specs.declared.layout.SetLayout.{SetLayout}
 use Rattle.gpu_descriptor.specs.declared.set.DescriptorSet.{DescriptorSet}
 use Rattle.descriptor_script.specs.Sessions.Session.{allocator_of, allocator_on, layouts_of, sets_of}
-use Rattle.descriptor_script.specs.Sessions.Tickets.{AreHeldOnce, emptied, set_at}
+use Rattle.descriptor_script.specs.Sessions.Tickets.{AreHeldOnce, emptied, held_sets, set_at}
 use Rattle.descriptor_script.specs.declared.command.Command.{Command}
 use Rattle.descriptor_script.specs.declared.command.Command.TheVariants.{Allocate, Free, Cleanup}
 use Rattle.descriptor_script.specs.declared.command.Reply.{Reply}
@@ -39,60 +39,59 @@ abbrev pub OfStep : (L P S : Type 0) → Type 1
 OfStep L P S = Command → Reply → Side (Session L P S) → Side (Session L P S) → Type 0
 
 module _ {L P S : Type 0} (means : Meaning L P S) where
+  -- the sets that are held, as the books see them
+  abbrev pub held_items : Side (Session L P S) → List Item
+  held_items s = items_of means.set_name (held_sets (sets_of s.value))
+
   module _ (layout count : ℕ) (old new : Side (Session L P S)) where
     -- the session's request to its allocator, and what it left
     abbrev pub request_of : SetLayout L → Result (List Item) AllocationError → Call
     request_of known answer = call_of means (layout_key means known.layout) count (allocator_on old) (allocator_on new) answer
 
-    -- the sets of a request are held under the next tickets, in their order
-    pub record HoldsAnswer (next many : ℕ) : Type 0 where
+    -- a request was met: its sets are held under the next tickets
+    pub record IsMet (first many : ℕ) : Type 0 where
       pub known : SetLayout L
       -- the layout at the command's place
       pub at : slice_get (layouts_of old.value) layout ≡ Some known
-      -- the sets of the request, which was met
       pub given : List (DescriptorSet S)
-      pub outcome : Allocates (request_of known (Ok (items_of means.set_name given)))
+      -- as many sets as were asked for
       pub asked : many ≡ count
       pub all_given : length given ≡ count
       -- each is of the layout
       pub own : AreOfLayout means known.layout given
-      -- the first ticket is the next one
-      pub first : next ≡ length (sets_of old.value)
-      -- the sets are in the next slots, in their order
+      -- they are in the next slots, in their order
+      pub next : first ≡ length (sets_of old.value)
       pub sets : sets_of new.value ≡ sets_of old.value ++ map Some given
 
-    -- the allocator refused for a named cause, and the sets stay
-    pub record Refuses (error : AllocationError) : Type 0 where
+    -- a request was refused: the same sets are held
+    pub record IsRefused (error : AllocationError) : Type 0 where
       pub known : SetLayout L
       pub at : slice_get (layouts_of old.value) layout ≡ Some known
-      -- which of its outcomes the request had
-      pub outcome : Allocates (request_of known (Err error))
-      -- the error has one of its causes
-      pub cause : HasCause means (layout_key means known.layout) count (allocator_on old) (allocator_on new) error
-      -- the held sets stay
+      -- the error has one of its causes. The number of outstanding sets before, and that of the descriptors of marked ones, is read from the held sets
+      pub cause : IsBecause means (layout_key means known.layout) count (length (held_items old)) (marked_descriptors (held_items old)) (allocator_on old) (allocator_on new) error
       pub sets : sets_of new.value ≡ sets_of old.value
 
     -- what a request for count sets of the layout at a place may reply. A request for none is not refused for memory
     abbrev pub AllocatesTo : Reply → Type 0
-    AllocatesTo (Sets first many) = HoldsAnswer first many
-    AllocatesTo (Refused error) = Refuses error
+    AllocatesTo (Sets first many) = (met : IsMet first many) × Allocates (request_of met.known (Ok (items_of means.set_name met.given)))
+    AllocatesTo (Refused error) = (refused : IsRefused error) × Allocates (request_of refused.known (Err error))
     AllocatesTo BadLayout = (length (layouts_of old.value) ≤ layout) × IsAsBefore old new
     AllocatesTo NoMemory = (layout < length (layouts_of old.value)) × (0 < count) × IsAsBefore old new
     AllocatesTo _ = ⊥
 
   module _ (tickets : List ℕ) (old new : Side (Session L P S)) where
-    -- the sets of these tickets, in the order of the list, are freed, one release call for each run, and are held no longer
+    -- the sets of these tickets are held no longer
     pub record GivesUp (many : ℕ) : Type 0 where
       pub good : AreHeldOnce (sets_of old.value) tickets
       pub all : many ≡ length tickets
+      -- their sets, in the order of the list
       pub given : List (DescriptorSet S)
       pub each : map Some given ≡ map (set_at (sets_of old.value)) tickets
-      pub back : Returns means given (allocator_on old) (allocator_on new)
       pub sets : sets_of new.value ≡ emptied (sets_of old.value) tickets
 
-    -- what a free of these tickets may reply: that one is bad exactly if one isn't held or is there twice
+    -- what a free of these tickets may reply: they are freed, by one release call for each run, or one is bad, exactly if it isn't held or is there twice
     abbrev pub FreesTo : Reply → Type 0
-    FreesTo (Freed many) = GivesUp many
+    FreesTo (Freed many) = (gone : GivesUp many) × Returns means gone.given (allocator_on old) (allocator_on new)
     FreesTo BadTicket = (¬ AreHeldOnce (sets_of old.value) tickets) × IsAsBefore old new
     FreesTo _ = ⊥
 
@@ -108,8 +107,3 @@ module _ {L P S : Type 0} (means : Meaning L P S) where
   StepsTo (Free tickets) reply old new = FreesTo tickets.items old new reply
   StepsTo Cleanup Clean old new = Cleans old new
   StepsTo Cleanup _ old new = ⊥
-
--- no ticket is given twice: the next ticket never falls, and a ticket that was given and isn't held never is again
-pub record KeepsTickets {L P S : Type 0} (old new : Session L P S) : Type 0 where
-  pub next : length (sets_of old) ≤ length (sets_of new)
-  pub freed : (ticket : ℕ) → ticket < length (sets_of old) → set_at (sets_of old) ticket ≡ None → set_at (sets_of new) ticket ≡ None

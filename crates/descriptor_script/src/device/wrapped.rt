@@ -1,8 +1,9 @@
 //! What a device needs that wraps a scripted one: to count what it releases, and to refuse by itself.
-ghost use Rattle.std.specs.Prelude.{◌≡◌, map};
+ghost use Rattle.std.specs.Prelude.{◌≡◌, length, map};
 ghost use Rattle.std.specs.Iterator.{HoldsAlong};
-ghost use Rattle.gpu_descriptor_types.specs.Ledger.{AreLive, CanDrain, after_no_alloc, after_no_create};
-ghost use Rattle.descriptor_script.specs.Scripted.Raw.{ReleasesMany, pool_id, set_id};
+ghost use Rattle.gpu_descriptor_types.specs.Ledger.{AreLive, CanDrain, Releases};
+ghost use Rattle.gpu_descriptor_types.specs.Ledger.{after_no_alloc, after_no_create};
+ghost use Rattle.descriptor_script.specs.Scripted.Raw.{pool_id, set_id};
 
 use super::ScriptedDevice;
 use crate::raw::{RawPool, RawSet};
@@ -18,8 +19,8 @@ impl ScriptedDevice {
         requires live { HoldsAlong I.next_gives sets.old
             (λ xs. AreLive (pool_id pool.old) (map set_id xs) (ledger_of self.old)) }
         ensures name { pool_id pool.new ≡ pool_id pool.old }
-        ensures released { ReleasesMany I.next_gives (pool_id pool.old) result sets.old sets.new
-            (ledger_of self.old) (ledger_of self.new) }
+        ensures released { (gone : Releases I.next_gives set_id (pool_id pool.old) sets.old
+            sets.new (ledger_of self.old) (ledger_of self.new)) × (length gone.items ≡ result) }
         ensures reads { ReadsNone self.old self.new }
     {
         let many = self.pools.release(pool.id, sets);

@@ -2,7 +2,7 @@
 ghost use Rattle.std.specs.Prelude.{◌≡◌, All, IfOk, OnErr};
 ghost use Rattle.gpu_descriptor_types.specs.Side.{side};
 ghost use Rattle.descriptor_script.specs.Sessions.Session.{IsReady, KeepsSession};
-ghost use Rattle.descriptor_script.specs.Sessions.SessionRun.{RunsTo};
+ghost use Rattle.descriptor_script.specs.Sessions.SessionRun.{IsStep, Runs};
 ghost use Rattle.descriptor_script.specs.Sessions.Steps.{IsTurnedAway};
 
 use super::Session;
@@ -19,7 +19,7 @@ impl<L, P: Drop, S: Drop> Session<L, P, S> {
         commands: &[Command],
     ) -> Result<Vec<Reply>, AllocError>
         requires ready { IsReady D.meaning (side self.old (D.ledger device.old)) }
-        ensures runs { IfOk result (λ replies. RunsTo D.meaning commands.now replies.items
+        ensures runs { IfOk result (λ replies. Runs (IsStep D.meaning) commands.now replies.items
             (side self.old (D.ledger device.old)) (side self.new (D.ledger device.new))) }
         ensures session { OnErr result (self.new ≡ self.old) }
         ensures device { OnErr result (device.new ≡ device.old) }

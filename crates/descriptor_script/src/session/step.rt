@@ -1,9 +1,10 @@
 //! One command of a session.
-ghost use Rattle.std.specs.Prelude.{◌≡◌};
+ghost use Rattle.std.specs.Prelude.{◌≡◌, ◌<◌, ◌≤◌, ℕ, None, length};
 ghost use Rattle.gpu_descriptor_types.specs.Side.{side};
-ghost use Rattle.descriptor_script.specs.Sessions.Session.{IsReady, KeepsSession};
+ghost use Rattle.descriptor_script.specs.Sessions.Session.{IsReady, KeepsSession, sets_of};
+ghost use Rattle.descriptor_script.specs.Sessions.Tickets.{set_at};
 ghost use Rattle.descriptor_script.specs.Sessions.Steps.{AllocatesTo, Cleans, FreesTo};
-ghost use Rattle.descriptor_script.specs.Sessions.Steps.{IsTurnedAway, KeepsTickets, StepsTo};
+ghost use Rattle.descriptor_script.specs.Sessions.Steps.{IsTurnedAway, StepsTo};
 
 use super::Session;
 use crate::command::{Command, Reply};
@@ -21,7 +22,9 @@ impl<L, P: Drop, S: Drop> Session<L, P, S> {
         requires ready { IsReady D.meaning (side self.old (D.ledger device.old)) }
         ensures step { StepsTo D.meaning command.now result (side self.old (D.ledger device.old))
             (side self.new (D.ledger device.new)) }
-        ensures tickets { KeepsTickets self.old self.new }
+        ensures tickets { length (sets_of self.old) ≤ length (sets_of self.new) }
+        ensures freed { (ticket : ℕ) → ticket < length (sets_of self.old)
+            → set_at (sets_of self.old) ticket ≡ None → set_at (sets_of self.new) ticket ≡ None }
         ensures device { IsTurnedAway result → device.new ≡ device.old }
         ensures keeps { KeepsSession D.meaning (side self.old (D.ledger device.old))
             (side self.new (D.ledger device.new)) }

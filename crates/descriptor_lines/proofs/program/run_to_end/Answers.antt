@@ -2,12 +2,12 @@ use Rattle.std.proofs.Common.{[], Ok, Err, Result, Option, List, ℕ, refl, sym,
 use Rattle.std.specs.String.{string_bytes}
 use Rattle.std.specs.Io.KnownBytes.{Appends}
 use Rattle.descriptor_lines.specs.LineBuffers.{unread}
-use Rattle.descriptor_lines.specs.LineStates.{line_state}
+use Rattle.descriptor_lines.specs.LineStates.{LineState, line_state}
 use Rattle.std.proofs.KnownBytes.{Appends-nil, Appends-trans}
 use Rattle.descriptor_lines.specs.Outcomes.{EndsInFault, IsNoFault, said_of}
 use Rattle.descriptor_lines.specs.declared.words.fault.Refusal.{Refusal}
 use Rattle.descriptor_lines.specs.declared.words.fault.Refusal.TheVariants as refusal
-use Rattle.descriptor_lines.proofs.EndLemmas.{Takes, ends_at_fault, ends_done, ends_early, ends_unread, ends_unwritten, stands_on, takes_long, takes_span}
+use Rattle.descriptor_lines.proofs.EndLemmas.{Stands, Takes, ends_at_fault, ends_done, ends_early, ends_unread, ends_unwritten, stands_on, takes_long, takes_span}
 use Rattle.descriptor_lines.proofs.program.run_to_end.Given.{Over}
 use Rattle.descriptor_lines.proofs.program.run_to_end.Goals as goal
 use Rattle.descriptor_lines.proofs.program.run_to_end.Goals.{After-has_lost, in-Ok-Some, in-Err-LineTooLong}
@@ -18,22 +18,25 @@ ends_in_fault number (Ok done) text answers a b c faulty before said = absurd (f
 ends_in_fault number (Err refusal.NoMemory) text answers a b c faulty before said = absurd (faulty refl)
 ends_in_fault number (Err (refusal.Fault fault)) text answers a b c faulty before said = record { answers = answers; number = number; fault = fault; grown = Appends-trans a b c _ _ before said }
 
+-- what came of the line, if a run over known bytes stood there
 takes :
-    (g : Over) (c : After-has_lost g)
-    → Takes c.loop-number.number (unread c.loop-number.lines (g.R.Read.remaining c.loop-number.input))
-    (unread c.next_line.new.self (g.R.Read.remaining c.next_line.new.input)) c.match-next_line.outcome
-    (string_bytes c.match-next_line.answer)
+    (g : Over) (c : After-has_lost g) (bytes answers : List ℕ) (start : LineState)
+    (at : Stands bytes start answers c.loop-number.number (unread c.loop-number.lines (g.R.Read.remaining c.loop-number.input))
+    (line_state g.D.DescriptorDevice.ledger g.D.LineDevice.script c.loop-number.program))
+    → Takes c.loop-number.number at.rest (unread c.next_line.new.self (g.R.Read.remaining c.next_line.new.input))
+    c.match-next_line.outcome (string_bytes c.match-next_line.answer)
     (line_state g.D.DescriptorDevice.ledger g.D.LineDevice.script c.loop-number.program)
     (line_state g.D.DescriptorDevice.ledger g.D.LineDevice.script c.match-next_line.program)
-takes g c = elim
+takes g c bytes answers start at =
+    elim
     c.match-next_line.branch [
       | in-Ok-Some w ↦ let ran =
           w.run_line-outcome.ensures in let found =
           w.in-Ok-Some.ensures in rw (w.program-is, w.answer-is, w.outcome-is)
-          (takes_span _ c.next_line.new.self w.in-Ok-Some.span _ _ _ _ _ _ _
-          (rw w.in-Ok-Some.field-0-is at found.line) (rw w.in-Ok-Some.field-0-is at found.rest)
+          (takes_span _ _ c.next_line.new.self w.in-Ok-Some.span _ _ _ _ _ _
+          (rw w.in-Ok-Some.field-0-is at (found.known at.rest at.known))
           (rw w.in-Ok-Some.field-0-is at found.short) w.line.ensures.bytes ran.does ran.not_run ran.ready)
-      | in-Err-LineTooLong w ↦ rw (w.program-is, w.answer-is) (takes_long _ _ _ _ _ _ w.outcome-is (c.next_line.ensures.too_long (w.in-Err-LineTooLong.is ∙ ap Err w.in-Err-LineTooLong.field-0-is)))
+      | in-Err-LineTooLong w ↦ rw (w.program-is, w.answer-is) (takes_long _ _ _ _ _ _ w.outcome-is (c.next_line.ensures.too_long (w.in-Err-LineTooLong.is ∙ ap Err w.in-Err-LineTooLong.field-0-is) at.rest at.known))
     ]
 
 pub loop-number-preserved : goal.loop-number-preserved
@@ -45,37 +48,45 @@ loop-number-preserved g c =
         | in-Err-LineTooLong w ↦ rw w.program-is c.loop-number.invariant.ready
       ];
       empty = c.in_default.ensures.emptied;
-      answers = (_, Appends-trans _ _ _ _ _ grown c.in_default.ensures.answered, stands_on _ _ _ _ _ _ _ _ _ _ stands (takes g c.before.before.before.before.before.before) c.in_default.ensures.ok);
+      answers = (_, Appends-trans _ _ _ _ _ grown c.in_default.ensures.answered, λ bytes is. (let at = stands bytes is in stands_on _ _ _ _ _ _ at _ _ _ _ (takes g c.before.before.before.before.before.before _ _ _ at) c.in_default.ensures.ok));
       sees = c.next_line.ensures.sees c.loop-number.invariant.sees;
       whole = λ _. sym c.has_lost.ensures ∙ c.if-has_lost.false;
     }
 
 pub returns-in_default-clause-writes : goal.returns-in_default-clause-writes
-returns-in_default-clause-writes g c =
+returns-in_default-clause-writes g c bytes is =
     let (text, grown, stands) = c.loop-number.invariant.answers in
-    ends_unread _ _ _ _ _ _ _ _ (stands_on _ _ _ _ _ _ _ _ _ _ stands (takes g c.before.before.before.before.before.before) c.in_default.ensures.ok) (Appends-trans _ _ _ _ _ grown c.in_default.ensures.answered)
+    let at = stands bytes is in
+    let now = stands_on _ _ _ _ _ _ at _ _ _ _ (takes g c.before.before.before.before.before.before _ _ _ at) c.in_default.ensures.ok in
+    ends_unread _ _ _ _ _ _ now _ _ (Appends-trans _ _ _ _ _ grown c.in_default.ensures.answered)
 
 pub returns-then-has_lost-clause-writes : goal.returns-then-has_lost-clause-writes
-returns-then-has_lost-clause-writes g c =
+returns-then-has_lost-clause-writes g c bytes is =
     let (text, grown, stands) = c.loop-number.invariant.answers in
-    ends_unwritten _ _ _ _ _ _ _ _ _ _ _ _ _ stands (takes g c.before) grown (record { prefix = []; unwritten = _; split = refl; grown = Appends-nil _ })
+    let at = stands bytes is in
+    ends_unwritten _ _ _ _ _ _ at _ _ _ _ (takes g c.before _ _ _ at) _ _ _ grown (record { prefix = []; unwritten = _; split = refl; grown = Appends-nil _ })
 
 pub returns-in-Ok-None-clause-writes : goal.returns-in-Ok-None-clause-writes
-returns-in-Ok-None-clause-writes g c =
+returns-in-Ok-None-clause-writes g c bytes is =
     let (text, grown, stands) = c.loop-number.invariant.answers in
-    ends_done _ _ _ _ text _ _ _ stands (rw c.in-Ok-None.field-0-is at c.in-Ok-None.ensures.none) grown
+    let at = stands bytes is in
+    ends_done _ _ _ _ _ _ at _ _ (rw c.in-Ok-None.field-0-is at (c.in-Ok-None.ensures.known at.rest at.known)) grown
+
+pub returns-in-Err-Read-clause-writes : goal.returns-in-Err-Read-clause-writes
+returns-in-Err-Read-clause-writes g c bytes is =
+    let (text, grown, stands) = c.loop-number.invariant.answers in
+    ends_unread _ _ _ _ _ _ (stands bytes is) _ _ grown
 
 pub returns-in-Err-clause-writes : goal.returns-in-Err-clause-writes
-returns-in-Err-clause-writes g c =
+returns-in-Err-clause-writes g c bytes is =
     let (text, grown, stands) = c.loop-number.invariant.answers in
-    let said = c.in-Err.ensures in
-    ends_early _ _ _ c.in-Err.exit _ _ said.err
+    let at = stands bytes is in
+    let came = takes g c.before.before.before.before.before _ _ _ at in
+    ends_early _ _ _ c.in-Err.exit _ _ c.in-Err.ensures.err
     (λ bad.
-    ends_at_fault _ _ _ _ _ _ _ _ _ _ _ _ _ (c.answer_line.ensures.bad_line (c.in-Err.is ∙ ap Err bad)) stands
-    (takes g c.before.before.before.before.before) grown (c.answer_line.ensures.told (c.in-Err.is ∙ ap Err bad)))
-    (λ broken.
-    ends_unwritten _ _ _ _ _ _ _ _ _ _ _ _ _ stands (takes g c.before.before.before.before.before) grown
-    (c.answer_line.ensures.broken (c.in-Err.is ∙ ap Err broken)))
+    ends_at_fault _ _ _ _ _ _ at _ _ _ _ came _ _ _ (c.answer_line.ensures.bad_line (c.in-Err.is ∙ ap Err bad)) grown
+    (c.answer_line.ensures.told (c.in-Err.is ∙ ap Err bad)))
+    (λ broken. ends_unwritten _ _ _ _ _ _ at _ _ _ _ came _ _ _ grown (c.answer_line.ensures.broken (c.in-Err.is ∙ ap Err broken)))
 
 pub returns-in-Err-clause-bad_line : goal.returns-in-Err-clause-bad_line
 returns-in-Err-clause-bad_line g c = λ bad. ends_in_fault c.loop-number.number c.match-next_line.outcome _ _ _ _ _ (c.answer_line.ensures.bad_line (c.in-Err.is ∙ ap Err bad)) c.loop-number.invariant.answers.1 (c.answer_line.ensures.told (c.in-Err.is ∙ ap Err bad))

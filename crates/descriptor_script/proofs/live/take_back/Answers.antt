@@ -1,13 +1,13 @@
-use Rattle.std.proofs.Common.{rules, ◌≡◌, ◌-◌, ℕ, ◌<◌, ◌==◌, nat_eq, List, [], ◌∷◌, ◌++◌, length, map, count_by, sym, ap, ◌∙◌, arith}
+use Rattle.std.proofs.Common.{rules, ◌≡◌, ℕ, ◌<◌, ◌==◌, nat_eq, List, [], ◌∷◌, ◌++◌, length, map, count_by, sym, ap, ◌∙◌, arith}
 use Rattle.std.proofs.iter.Next.{Yields-more}
-use Rattle.std.proofs.lemmas.List.{length-map}
+use Rattle.std.proofs.lemmas.List.{length-map, map_push}
 use Rattle.indexmap.specs.IndexMap.{get}
 use Rattle.gpu_descriptor_types.specs.Multiset.{LiveSet, set_eq}
 use Rattle.gpu_descriptor_types.proofs.Counting.{count_by-append}
 use Rattle.descriptor_script.specs.Inner.Live.{live_set_of, live_sets_of}
 use Rattle.descriptor_script.specs.Scripted.Raw.{set_id}
 use Rattle.descriptor_script.specs.declared.raw.RawSet.{RawSet}
-use Rattle.descriptor_script.proofs.Entries.{gone_many, map_push, none_either, taken, some_left, found_left}
+use Rattle.descriptor_script.proofs.Entries.{gone_many, none_either, taken, some_left, found_left}
 use Rattle.descriptor_script.proofs.live.take_back.Goals as goal
 
 pub loop-set-preserved : goal.loop-set-preserved

@@ -1,4 +1,4 @@
-use Rattle.std.proofs.Common.{◌≡◌, Bool, true, false, not, cond, filter, List, map, Option, None, Some, Result, Ok, Err, OnOk, IsOk, ◌++◌, ◌∷◌, [], Global, String, string_bytes, refl, ap, ◌∙◌}
+use Rattle.std.proofs.Common.{◌≡◌, Bool, true, false, not, cond, filter, map, Option, None, Some, Result, Ok, Err, OnOk, IsOk, ◌++◌, ◌∷◌, [], Global, String, string_bytes, refl, ap, ◌∙◌}
 use Rattle.std.proofs.lemmas.List.{map-append}
 use Rattle.std.proofs.lemmas.List.Elements.{filter-append}
 use Rattle.std.specs.Option.{option_map}

@@ -5,6 +5,7 @@ use Rattle.gpu_descriptor.proofs.NoGaps.{none_requested}
 use Rattle.descriptor_script.specs.Inner.Slots.{HasSpareSlots}
 use Rattle.descriptor_script.specs.Sessions.Tickets.{held_sets}
 use Rattle.descriptor_script.proofs.Held.{all_held_more, held_sum, is_ok_then}
+use Rattle.descriptor_script.proofs.Promised.{cause_from_held}
 use Rattle.descriptor_script.proofs.session.Session.allocate.Goals.{In-Some}
 use Rattle.descriptor_script.proofs.session.Session.allocate.Goals as goal
 
@@ -22,17 +23,19 @@ append-requires g c =
     record { sets = omega arith; listed = omega arith }
 
 pub returns-in-Ok-clause-step : goal.returns-in-Ok-clause-step
-returns-in-Ok-clause-step g c = record {
-  known = c.in-Some.layout.now;
-  at = at g (goal.at.returns-in-Ok-clause-step g c).In-Some;
-  given = c.in-Ok.sets.items;
-  outcome = c.in-Ok.ensures.hands_out.outcome;
-  asked = search rules;
-  all_given = c.in-Ok.ensures.hands_out.many;
-  own = c.in-Ok.ensures.own;
-  first = c.next-first.ensures ∙ ap length c.reserve.ensures.sets;
-  sets = c.append.ensures ∙ ap (λ l. l ++ map Some c.in-Ok.sets.items) c.reserve.ensures.sets;
-}
+returns-in-Ok-clause-step g c = (
+  record {
+    known = c.in-Some.layout.now;
+    at = at g (goal.at.returns-in-Ok-clause-step g c).In-Some;
+    given = c.in-Ok.sets.items;
+    asked = search rules;
+    all_given = c.in-Ok.ensures.hands_out.many;
+    own = c.in-Ok.ensures.own;
+    next = c.next-first.ensures ∙ ap length c.reserve.ensures.sets;
+    sets = c.append.ensures ∙ ap (λ l. l ++ map Some c.in-Ok.sets.items) c.reserve.ensures.sets;
+  },
+  c.in-Ok.ensures.hands_out.outcome,
+)
 
 pub returns-in-Ok-clause-keeps : goal.returns-in-Ok-clause-keeps
 returns-in-Ok-clause-keeps g c = record {
@@ -55,13 +58,15 @@ returns-in-Ok-clause-keeps g c = record {
 }
 
 pub returns-in-Err-clause-step : goal.returns-in-Err-clause-step
-returns-in-Err-clause-step g c = record {
-  known = c.in-Some.layout.now;
-  at = at g (goal.at.returns-in-Err-clause-step g c).In-Some;
-  outcome = c.in-Err.ensures.hands_out.outcome;
-  cause = c.in-Err.ensures.hands_out.cause;
-  sets = c.reserve.ensures.sets;
-}
+returns-in-Err-clause-step g c = (
+  record {
+    known = c.in-Some.layout.now;
+    at = at g (goal.at.returns-in-Err-clause-step g c).In-Some;
+    cause = cause_from_held g.D.DescriptorDevice.meaning _ c.requires.ready _ _ _ _ c.in-Err.ensures.hands_out.cause;
+    sets = c.reserve.ensures.sets;
+  },
+  c.in-Err.ensures.hands_out.outcome,
+)
 
 pub returns-in-Err-clause-keeps : goal.returns-in-Err-clause-keeps
 returns-in-Err-clause-keeps g c = record {

@@ -31,15 +31,16 @@ returns-clause-step g c =
     let d = (goal.at.returns-clause-step g c).After-iter in
     let s : Taking g.row.S.Denot = record { slots = c.replace-slots.result; tickets = c.iter.result } in
     let frees = c.free_from.ensures.frees in
-    let drained = frees.drained in
-    record {
-      good = good g d;
-      all = search rules;
-      given = frees.sets;
-      each = each_taken frees.sets s drained.0 drained.1 drained.2.0 ∙ ap (λ l. map (set_at l) (iter_rest s.tickets)) (slots_are g d) ∙ ap (map (set_at (slots_of c.args.self.now.slots))) c.iter.ensures.rest;
-      back = frees.returns;
-      sets = drained.2.2 ∙ all_emptied frees.sets s drained.0 drained.1 drained.2.0 ∙ ap (λ l. emptied l (iter_rest s.tickets)) (slots_are g d) ∙ ap (emptied (slots_of c.args.self.now.slots)) c.iter.ensures.rest;
-    }
+    let drained = frees.drained in (
+      record {
+        good = good g d;
+        all = search rules;
+        given = frees.sets;
+        each = each_taken frees.sets s drained.0 drained.1 drained.2.0 ∙ ap (λ l. map (set_at l) (iter_rest s.tickets)) (slots_are g d) ∙ ap (map (set_at (slots_of c.args.self.now.slots))) c.iter.ensures.rest;
+        sets = drained.2.2 ∙ all_emptied frees.sets s drained.0 drained.1 drained.2.0 ∙ ap (λ l. emptied l (iter_rest s.tickets)) (slots_are g d) ∙ ap (emptied (slots_of c.args.self.now.slots)) c.iter.ensures.rest;
+      },
+      frees.returns,
+    )
 
 pub returns-clause-keeps : goal.returns-clause-keeps
 returns-clause-keeps g c =

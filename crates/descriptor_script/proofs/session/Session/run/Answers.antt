@@ -13,7 +13,7 @@ loop-command-preserved g c =
     let commands : take (c.loop-command.command-index + 1) c.args.commands.now ≡ take c.loop-command.command-index c.args.commands.now ++ command ∷ [] =
     take_more c.args.commands.now c.loop-command.command-index command c.loop-command-test.true ∙ ap (λ x. take c.loop-command.command-index c.args.commands.now ++ x ∷ []) (sym c.command-item.is) in
     let p = c.step-reply.ensures in
-    let more = runs_more g.D.DescriptorDevice.meaning (take c.loop-command.command-index c.args.commands.now) c.loop-command.replies.items command c.step-reply.result _ _ _ inv.runs p.step p.keeps in
+    let more = runs_more g.D.DescriptorDevice.meaning (take c.loop-command.command-index c.args.commands.now) c.loop-command.replies.items command c.step-reply.result _ _ _ inv.runs (p.step, p.keeps) in
     record {
       runs = rw (commands, c.push_reserved.ensures.items) more;
       keeps = session_through _ inv.keeps p.keeps;

@@ -7,21 +7,9 @@ use Rattle.descriptor_trace.proofs.traced.TracedDescriptorDeviceScriptLayoutRawP
 
 pub returns-clause-written : goal.returns-clause-written
 returns-clause-written g c =
-    let r = c.release-released.ensures.released.sets in
+    let (r, many) = c.release-released.ensures.released in
     let w = c.write_release.ensures.written in
-    let line : release_line c.id.result c.release-released.result ≡ release_line (pool_id c.args.pool.now) (length r.items) = ap (λ pool. release_line pool c.release-released.result) (c.id.ensures ∙ c.release-released.ensures.name) ∙ ap (release_line (pool_id c.args.pool.now)) (sym c.release-released.ensures.released.many) in
-    record {
-      released = record {
-        items = r.items;
-        drained = r.drained;
-        gone = r.gone;
-        named = r.named;
-        live = r.live;
-        ledger = ap ledger_of c.write_release.ensures.device ∙ r.ledger;
-      };
-      written = record {
-        whole = λ kept. subst (Appends (g.W.Write.contents c.args.self.now.output) (g.W.Write.contents c.write_release.new.self.output)) line (w.whole kept);
-        still_lost = w.still_lost;
-        silent = w.silent;
-      };
-    }
+    let line : release_line c.id.result c.release-released.result ≡ release_line (pool_id c.args.pool.now) (length r.items) = ap (λ pool. release_line pool c.release-released.result) (c.id.ensures ∙ c.release-released.ensures.name) ∙ ap (release_line (pool_id c.args.pool.now)) (sym many) in (
+      record { items = r.items; drained = r.drained; gone = r.gone; named = r.named; live = r.live; ledger = ap ledger_of c.write_release.ensures.device ∙ r.ledger },
+      record { whole = λ kept. subst (Appends (g.W.Write.contents c.args.self.now.output) (g.W.Write.contents c.write_release.new.self.output)) line (w.whole kept); still_lost = w.still_lost; silent = w.silent },
+    )
