@@ -3,7 +3,8 @@ use Rattle.std.specs.Prelude.{ℕ, ◌-◌, ◌^◌, List, ◌++◌, length, map
 use Rattle.std.specs.List.{flat_map}
 use Rattle.gpu_descriptor_types.specs.Ledger.{Counters}
 use Rattle.gpu_descriptor.specs.Caller.States.{marked_load_of}
-use Rattle.gpu_descriptor.specs.Model.Books.{BucketOf, EntryOf, Key, books_of}
+use Rattle.gpu_descriptor.specs.declared.bucket.DescriptorPool.{DescriptorPool}
+use Rattle.gpu_descriptor.specs.Model.Books.{BucketOf, Key, books_of}
 use Rattle.gpu_descriptor.specs.declared.view.PoolView.{PoolView}
 use Rattle.descriptor_script.specs.Sessions.Session.{allocator_of, sets_of}
 use Rattle.descriptor_script.specs.Sessions.Tickets.{held_sets}
@@ -14,7 +15,7 @@ use Rattle.descriptor_lines.specs.LineStates.{LineState}
 use Rattle.descriptor_lines.specs.declared.layouts.Layout.{Layout}
 
 -- a pool, as readers see it
-abbrev pub view_of : EntryOf RawPool → PoolView
+abbrev pub view_of : DescriptorPool RawPool → PoolView
 view_of pool = record { number = pool.number; allocated = pool.allocated; available = pool.available }
 
 -- the pools of a key, oldest first

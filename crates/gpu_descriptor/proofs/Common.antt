@@ -37,7 +37,7 @@ pub use Rattle.gpu_descriptor.specs.declared.set.DescriptorSet.{DescriptorSet}
 pub use Rattle.gpu_descriptor.specs.declared.bucket.DescriptorBucket.{DescriptorBucket}
 pub use Rattle.gpu_descriptor.specs.declared.bucket.DescriptorPool.{DescriptorPool}
 pub use Rattle.gpu_descriptor.specs.declared.bucket.stop.Stop.{Stop}
-pub use Rattle.gpu_descriptor.specs.Model.Books.{AddsUp, Bucket, BucketOf, Entry, EntryOf, HasDistinctKeys, Key, books_of, entry_at, key_eq, next_number, no_pools, number_after, numbers_of, rises, sum_over}
+pub use Rattle.gpu_descriptor.specs.Model.Books.{AddsUp, Bucket, BucketOf, Entry, HasDistinctKeys, Key, books_of, entry_at, key_eq, next_number, no_pools, number_after, numbers_of, rises, sum_over}
 pub use Rattle.gpu_descriptor.specs.Model.Agreement.{Agree, AreOutstanding, HasNoPools, IsAsBooked, Item, State, count_of, flags_of, item_eq, live_at, live_in, outstanding, set_of}
 pub use Rattle.gpu_descriptor.specs.Inner.KeyOf.{key_of}
 pub use Rattle.gpu_descriptor.specs.Caller.Values.{Allocations}
@@ -47,26 +47,26 @@ pub use Rattle.gpu_descriptor.specs.Caller.Frees.{Frees, GivesBack, Returns, mar
 pub use Rattle.gpu_descriptor.specs.Caller.Keys.{keys_with_pools, with_key}
 pub use Rattle.gpu_descriptor.specs.Caller.Others.{is_named}
 pub use Rattle.gpu_descriptor.specs.Caller.Sets.{AreOfLayout, item_of, items_of}
-pub use Rattle.gpu_descriptor.specs.Caller.States.{Agrees, marked_load_of, named, named_bucket, named_row, outstanding_of, pool_load_of, state_of, table_of}
+pub use Rattle.gpu_descriptor.specs.Caller.States.{Agrees, entry_of, marked_load_of, named_bucket, named_row, outstanding_of, pool_load_of, state_of, table_of}
 pub use Rattle.gpu_descriptor.specs.Inner.Buckets.{AreBookedIn, IsBookedIn, has_pools, ledger_but, bucket_but_front, ledger_but_front}
 pub use Rattle.gpu_descriptor.specs.Inner.Grow.{IsGrown, IsTaken}
 pub use Rattle.gpu_descriptor.specs.Inner.Ids.{is_of, stored_ids}
-pub use Rattle.gpu_descriptor.specs.Inner.OpenOrdinals.{IsEntered, first_ordinal, free_in, open_ordinals, stored_numbers}
+pub use Rattle.gpu_descriptor.specs.Inner.OpenOrdinals.{IsEntered, first_ordinal, free_in, open_ordinals}
 pub use Rattle.gpu_descriptor.specs.Inner.OpenPools.{CountsLooks, KeepsView, bucket_in, looked_at, newest_place}
 pub use Rattle.gpu_descriptor.specs.Inner.Releases.{Compares, FreesRun, IsTakenAt, Releases, bucket_back, names_of}
-pub use Rattle.gpu_descriptor.specs.Inner.RunSteps.{AllPass, CountsFrom, EndsRun, Hands, Looks, RunStep}
+pub use Rattle.gpu_descriptor.specs.Inner.RunSteps.{EndsRun, RunStep}
 pub use Rattle.gpu_descriptor.specs.Inner.Serves.{IsDeclined, IsServed, IsUnserved, ServesKey, Takes}
 pub use Rattle.gpu_descriptor.specs.Inner.SetAt.{set_at}
-pub use Rattle.gpu_descriptor.specs.Inner.Stored.{IsConsistent, books_in, bucket_of, entry_of, has_sets, kept_in, kept_of, row_of, stored_keys, stored_load}
+pub use Rattle.gpu_descriptor.specs.Inner.Stored.{IsConsistent, books_in, bucket_of, kept_in, row_of, stored_keys}
 pub use Rattle.gpu_descriptor.specs.Inner.Walk.{Adds, HasTaken, IsAsked, IsNoMemory, IsRefused, IsWalked}
 pub use Rattle.gpu_descriptor.specs.Model.Cleanup.{LosesEmpty, are_named, gone_of, left_of, pools_lost, with_pools, without_empty}
 pub use Rattle.gpu_descriptor.specs.Model.Foreign.{IsForeign, IsNamed, KeepsForeign}
 pub use Rattle.gpu_descriptor.specs.Model.FreshPools.{AreFull, AreNew, AreSized, Fresh, IsFreshPrefix, IsFreshList, IsNextSize, fresh_entries, fresh_entry, fresh_portions, given_by, room_after}
 pub use Rattle.gpu_descriptor.specs.Model.Grants.{Grant, IsGrantOf, Part, bucket_with, came, fresh_or, granted, items_at, items_in, ledger_with, pool_with, portion_of}
-pub use Rattle.gpu_descriptor.specs.Model.Load.{allocated_in, bucket_load, descriptors_created, descriptors_out, set_descriptors, pool_descriptors, sets_out}
+pub use Rattle.gpu_descriptor.specs.Model.Load.{allocated_in, bucket_load, descriptors_created, descriptors_out, pool_descriptors, pools_load, set_descriptors, sets_out}
 pub use Rattle.gpu_descriptor.specs.Model.Outcomes.{Allocates, Call, IsBack, IsDone, IsStopped, IsWithinLimit, StopsAtNew, Proceeds, Stays, StopsAt, error_of_alloc, grant_rise, out_then, risen, rollback_rise, stop_error, stop_rise, taken_by, needed}
 pub use Rattle.gpu_descriptor.specs.Model.Promises.{AreBelowTwice, AreOfKey, AreOutBesides, CreatesOnlyWhereShort, IsShort, IsUntouched, KeepsOtherKeys, KeepsOutstanding}
-pub use Rattle.gpu_descriptor.specs.Model.Release.{bucket_less, empty_front, entry_less, front_but, fronts_gone, given_back, in_front, is_empty, lies_in, more_destroyed, more_released, pool_less, pools_gone, released, released_each, singly, spent_front, without_front}
+pub use Rattle.gpu_descriptor.specs.Model.Release.{bucket_less, entry_less, front_but, fronts_gone, given_back, has_sets, in_front, is_empty, lies_in, more_destroyed, more_released, pool_less, pools_gone, released, released_each, singly, spent_front, without_front}
 pub use Rattle.gpu_descriptor.specs.Model.Runs.{runs}
 pub use Rattle.gpu_descriptor.specs.Model.Shares.{OnlyAskedRefuse, Portion, all_shared, asked_count, asks, is_asked, offer, portions_of, refused_count, rest, share, shared}
 pub use Rattle.gpu_descriptor.specs.declared.bucket.run.Run.{Run}

@@ -8,7 +8,6 @@ pub mod FrontPool
 pub mod Given
 pub mod Fronts
 pub mod LentRow
-pub mod OneLook
 pub mod OneRun
 pub mod OtherKeys
 pub mod Owned

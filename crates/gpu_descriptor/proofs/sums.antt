@@ -3,7 +3,6 @@ pub mod OutSets
 pub mod PoolCounts
 pub mod PoolLoads
 pub mod PoolSums
-pub mod PoolsLoad
 pub mod Sized
 pub mod StoredPools
 pub mod TableSums

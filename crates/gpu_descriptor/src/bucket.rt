@@ -1,10 +1,10 @@
 //! The pools of one key.
-ghost use Rattle.std.specs.Prelude.{◌≡◌, ◌+◌, ◌<◌, ◌≤◌, ◌^◌, length, nat_lt, sum_by, true};
+ghost use Rattle.std.specs.Prelude.{◌≡◌, ◌+◌, ◌<◌, ◌≤◌, ◌^◌, length, nat_lt, true};
 ghost use Rattle.std.specs.VecDeque.{deque_capacity};
 ghost use Rattle.gpu_descriptor_types.specs.Bounds.{greatest_u64};
 ghost use Rattle.gpu_descriptor.specs.Inner.OpenOrdinals.{first_ordinal, free_in, open_ordinals};
-ghost use Rattle.gpu_descriptor.specs.Inner.OpenOrdinals.{stored_numbers};
-ghost use Rattle.gpu_descriptor.specs.Model.Books.{number_after, rises};
+ghost use Rattle.gpu_descriptor.specs.Model.Books.{number_after, numbers_of, rises};
+ghost use Rattle.gpu_descriptor.specs.Model.Load.{allocated_in};
 
 mod existing;
 mod front;
@@ -24,7 +24,7 @@ use std::collections::VecDeque;
 /// A pool, and its books.
 #[derive(Debug, Drop)]
 pub(crate) struct DescriptorPool<P> {
-    pub(crate) raw: P,
+    pub(crate) pool: P,
 
     /// Its number, greater than that of each older pool of its key.
     pub(crate) number: u64,
@@ -60,9 +60,9 @@ pub(crate) struct DescriptorBucket<P> {
     /// Number of sets allocated from these pools.
     pub(crate) total: u64,
     ghost ordinal: { first ≡ first_ordinal pools.items },
-    ghost numbered: { number_after (stored_numbers pools.items) < 2 ^ 64 },
-    ghost rising: { rises (stored_numbers pools.items) ≡ true },
-    ghost counted: { total ≡ sum_by (λ p. p.allocated) pools.items },
+    ghost numbered: { number_after (numbers_of pools.items) < 2 ^ 64 },
+    ghost rising: { rises (numbers_of pools.items) ≡ true },
+    ghost counted: { total ≡ allocated_in pools.items },
     ghost open: { listed.items ≡ open_ordinals (first_ordinal pools.items) (free_in pools.items) },
     ghost capacity: { length pools.items ≤ deque_capacity listed },
 }
@@ -70,7 +70,7 @@ pub(crate) struct DescriptorBucket<P> {
 impl<P> DescriptorBucket<P> {
     /// The number of the next pool.
     pub(crate) fn next_number(&self) -> u64
-        ensures { result ≡ number_after (stored_numbers self.now.pools.items) }
+        ensures { result ≡ number_after (numbers_of self.now.pools.items) }
     {
         self.first + self.pools.len() as u64
     }
@@ -79,7 +79,7 @@ impl<P> DescriptorBucket<P> {
     pub(crate) fn first_ordinal(&self) -> u64
         ensures first { result ≡ first_ordinal self.now.pools.items }
         ensures fits { result + length self.now.pools.items
-            ≡ number_after (stored_numbers self.now.pools.items) }
+            ≡ number_after (numbers_of self.now.pools.items) }
     {
         self.first
     }
@@ -87,8 +87,8 @@ impl<P> DescriptorBucket<P> {
 
 /// The number of the next pool after these: the newest's plus 1, or 0 if there is none.
 fn next_number_of<P>(pools: &VecDeque<DescriptorPool<P>>) -> u64
-    requires { number_after (stored_numbers pools.now.items) < 2 ^ 64 }
-    ensures { result ≡ number_after (stored_numbers pools.now.items) }
+    requires { number_after (numbers_of pools.now.items) < 2 ^ 64 }
+    ensures { result ≡ number_after (numbers_of pools.now.items) }
 {
     match pools.back() {
         Some(newest) => newest.number + 1,
@@ -98,10 +98,10 @@ fn next_number_of<P>(pools: &VecDeque<DescriptorPool<P>>) -> u64
 
 /// The ordinal of the first of these pools: the number of the next one less how many there are.
 fn first_ordinal_of<P>(pools: &VecDeque<DescriptorPool<P>>) -> u64
-    requires numbered { number_after (stored_numbers pools.now.items) < 2 ^ 64 }
-    requires rising { rises (stored_numbers pools.now.items) ≡ true }
+    requires numbered { number_after (numbers_of pools.now.items) < 2 ^ 64 }
+    requires rising { rises (numbers_of pools.now.items) ≡ true }
     ensures first { result ≡ first_ordinal pools.now.items }
-    ensures fits { result + length pools.now.items ≡ number_after (stored_numbers pools.now.items) }
+    ensures fits { result + length pools.now.items ≡ number_after (numbers_of pools.now.items) }
 {
     next_number_of(pools) - pools.len() as u64
 }

@@ -5,7 +5,7 @@ use Rattle.gpu_descriptor.specs.Caller.States.{keys_of}
 use Rattle.gpu_descriptor.proofs.cleanup.Splitting.{pools_with}
 use Rattle.gpu_descriptor.proofs.cleanup.RowsCleaned.{cleared_row, first_keys, has_row, rows_left}
 use Rattle.gpu_descriptor.proofs.table.RowAt.{Rows, row_books}
-use Rattle.gpu_descriptor.proofs.table.TableBooks.{keys_are, rows_are, rows_in}
+use Rattle.gpu_descriptor.proofs.table.TableBooks.{keys_are, rows_in}
 use Rattle.gpu_descriptor.proofs.table.Exact.{key_exact}
 
 -- ---- a request
@@ -55,7 +55,7 @@ keys_cleaned everywhere {P} name a b l m es now fs was is distinct rows kept cle
     ap (λ (c : Bucket). not (length c.pools == 0))
     (clean.books r.0
     ∙ ap (λ (b : Bucket). with_pools b (left_of everywhere b.pools))
-    (ap (λ (x : Rows). books_of x r.0) (ap (map (named_row name)) was ∙ rows_are name es)
+    (ap (λ (x : Rows). books_of x r.0) (ap (map (named_row name)) was)
     ∙ row_books (rows_in name es) i r distinct at))
     ∙ ap (λ (es : List Entry). not (length es == 0)) (pools_with r.1 (left_of everywhere r.1.pools)) in
     keys_are b fs is ∙ ap stored_keys kept ∙ sym (first_keys everywhere name (filter (λ e. has_pools e.1) now))

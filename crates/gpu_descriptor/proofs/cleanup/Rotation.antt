@@ -67,18 +67,18 @@ module _ {P : Type 0} (name : P → ℕ) (k : Key) where
         }
 
     -- an empty one has no sets on the device
-    pub unused : x.allocated ≡ 0 → HasNoSets (name x.raw) after
+    pub unused : x.allocated ≡ 0 → HasNoSets (name x.pool) after
     unused none = front_unused k (entry_of name x) (entries (drop (suc n) old)) after next_stored none
 
-    pub destroyed : x.allocated ≡ 0 → (now' : List (DescriptorPool P)) → now' ≡ drop (suc n) old ++ filter has_sets (take n old) → (after' : Ledger) → after' ≡ after_destroy (name x.raw) after → Turning old now' (suc n) before after'
+    pub destroyed : x.allocated ≡ 0 → (now' : List (DescriptorPool P)) → now' ≡ drop (suc n) old ++ filter has_sets (take n old) → (after' : Ledger) → after' ≡ after_destroy (name x.pool) after → Turning old now' (suc n) before after'
     destroyed none now' is after' done =
         let empty : is_empty (entry_of name x) ≡ true = eq-eqb x.allocated 0 none in
         let no_sets : has_sets x ≡ false = ap (nat_lt 0) none in
         let gone = gone_of true (entries (take n old)) in
         let pools : (p : ℕ) → after'.pools p ≡ (if are_named (gone ++ entry_of name x ∷ []) p then None else before.pools p) = λ p.
-        ap (λ (l : Ledger). l.pools p) (done ∙ ap (after_destroy (name x.raw)) turned.ledger) ∙ one_more gone p in
+        ap (λ (l : Ledger). l.pools p) (done ∙ ap (after_destroy (name x.pool)) turned.ledger) ∙ one_more gone p in
         let counters : after'.counters ≡ more_destroyed (length (gone ++ entry_of name x ∷ [])) before.counters =
-        ap (λ (l : Ledger). l.counters) (done ∙ ap (after_destroy (name x.raw)) turned.ledger)
+        ap (λ (l : Ledger). l.counters) (done ∙ ap (after_destroy (name x.pool)) turned.ledger)
         ∙ (let long = length-append gone (entry_of name x ∷ []) in let e : before.counters.destroyed + length gone + 1 ≡ before.counters.destroyed + length (gone ++ entry_of name x ∷ []) = omega arith in λ i. record before.counters { destroyed = e i }) in
         record {
           pools = is ∙ ap (λ l. drop (suc n) old ++ l) (sym (kept_more false no_sets ∙ append-nil (filter has_sets (take n old))));
@@ -86,7 +86,7 @@ module _ {P : Type 0} (name : P → ℕ) (k : Key) where
           ledger = (λ i. record { pools = λ p. pools p i; counters = counters i }) ∙ ap (λ l. ledger_but l before) (sym (gone_more true empty));
         }
       where
-        one_more : (gone : List Entry) (p : ℕ) → (after_destroy (name x.raw) (ledger_but gone before)).pools p ≡ (if are_named (gone ++ entry_of name x ∷ []) p then None else before.pools p)
+        one_more : (gone : List Entry) (p : ℕ) → (after_destroy (name x.pool) (ledger_but gone before)).pools p ≡ (if are_named (gone ++ entry_of name x ∷ []) p then None else before.pools p)
         one_more gone p = grind (arith, common_steps, list_any-append)
 
   pub as_turned : (old now : List (DescriptorPool P)) (n m : ℕ) (before after after' : Ledger) → n ≡ m → after ≡ after' → Turning old now n before after → Turning old now m before after'

@@ -2,7 +2,7 @@
 -- For `sweep`, whose loop *clears* the rows of the table one after another: pools of a row that go are destroyed. Then the rows
 -- without pools are dropped. es, now and fs are the map's entries before, between and after. everywhere is true for a trim.
 use Rattle.gpu_descriptor.proofs.Common.{◌≡◌, ℕ, zero, suc, ◌+◌, ◌<◌, ◌≤◌, Bool, true, false, not, ◌==◌, List, [], ◌∷◌, ◌++◌, length, map, filter, set, take, drop, sum_by, slice_get, Option, Some, None, option_map, inl, inr, refl, sym, ap, subst, ◌∙◌, arith, eq-eqb, ne_eqb, if◌then◌else◌, fun_ext}
-use Rattle.gpu_descriptor.proofs.Common.{list_any, cases_Bool, false_from_ne_true, append-nil, drop_all, length-map, take_all, sum_by-cons, sum_by_more, get_or_from_slice_get, slice_get-map, slice_get_within, Pool, Ledger, BucketKey, DescriptorPool, DescriptorBucket, State, Agree, Key, key_eq}
+use Rattle.gpu_descriptor.proofs.Common.{list_any, cases_Bool, false_from_ne_true, append-nil, drop_all, length-map, take_all, sum_by-cons, sum_by_more, get_or_from_slice_get, slice_get_within, Pool, Ledger, BucketKey, DescriptorPool, DescriptorBucket, State, Agree, Key, key_eq}
 use Rattle.gpu_descriptor.proofs.Common.{Bucket, Entry, no_pools, books_of, HasDistinctKeys, key_of, Allocations, common_steps, list_any_more, AreBookedIn, has_pools, ledger_but, more_destroyed, LosesEmpty, are_named, gone_of, left_of, pools_lost, with_pools, named_row, state_of, row_of}
 use Rattle.gpu_descriptor.proofs.Common.{bucket_of, IsConsistent, none-some, same_Some, true≢false}
 use Rattle.indexmap.specs.Layout.{set_value_at}
@@ -12,8 +12,8 @@ use Rattle.gpu_descriptor.proofs.table.Exact.{key_exact}
 use Rattle.gpu_descriptor.proofs.cleanup.Splitting.{gone_at, named_at, no_pools_left, split}
 use Rattle.gpu_descriptor.proofs.foreign.LedgerPools.{destroyed_both}
 use Rattle.gpu_descriptor.proofs.sums.Loads.{set_descriptors-none, rows_load, rows_out, rows_pool_load, stored_load_in, sum_put}
-use Rattle.gpu_descriptor.proofs.table.RowAt.{Rows, row_books, rows_set}
-use Rattle.gpu_descriptor.proofs.table.TableBooks.{rows_in, rows_are, keys_are}
+use Rattle.gpu_descriptor.proofs.table.RowAt.{Rows, row_books, row_there, rows_set}
+use Rattle.gpu_descriptor.proofs.table.TableBooks.{rows_in, keys_are}
 use Rattle.gpu_descriptor.proofs.table.Tables.{key_eq_symm, none_behind}
 use Rattle.gpu_descriptor.proofs.request.StateAgrees.{booked_of}
 
@@ -80,7 +80,7 @@ module _ (everywhere : Bool) where
   module _ {P : Type 0} (name : P → ℕ) where
     -- the row that is next stands there as it did
     pub next : (i : ℕ) (es : List (BucketKey × DescriptorBucket P)) (rows : Rows) (k : BucketKey) (v : DescriptorBucket P) → rows_in name es ≡ cleared i rows → slice_get es i ≡ Some (k, v) → slice_get rows i ≡ Some (key_of k, bucket_of name v)
-    next i es rows k v h at = sym (cleared_at rows i) ∙ ap (λ (l : Rows). slice_get l i) (sym h) ∙ slice_get-map (λ (e : BucketKey × DescriptorBucket P). (key_of e.0, bucket_of name e.1)) es i ∙ ap (option_map (λ (e : BucketKey × DescriptorBucket P). (key_of e.0, bucket_of name e.1))) at
+    next i es rows k v h at = sym (cleared_at rows i) ∙ ap (λ (l : Rows). slice_get l i) (sym h) ∙ row_there name es i k v at
 
     -- one step of the loop: what it leaves of the rows, and of the ledger
     pub step_rows : (i : ℕ) (es : List (BucketKey × DescriptorBucket P)) (rows : Rows) (k : BucketKey) (v w : DescriptorBucket P) → rows_in name es ≡ cleared i rows → slice_get es i ≡ Some (k, v) → bucket_of name w ≡ less (bucket_of name v) → rows_in name (set_value_at es i w) ≡ cleared (suc i) rows
@@ -191,7 +191,7 @@ module _ (everywhere : Bool) where
     -- of an allocator with this table: its state, its agreement, the whole sweep, after which the ledger is k, and how many pools
     -- that destroys
     state_is : (a : Allocations P) (l : Ledger) (es : List (BucketKey × DescriptorBucket P)) → a.table ≡ map row_of es → state_of name a l ≡ record { books = books_of (rows_in name es); ledger = l.pools }
-    state_is a l es is = (let rows = ap (map (named_row name)) is ∙ rows_are name es in λ i. record { books = books_of (rows i); ledger = l.pools })
+    state_is a l es is = (let rows = ap (map (named_row name)) is in λ i. record { books = books_of (rows i); ledger = l.pools })
 
     pub agree_is : (a : Allocations P) (l : Ledger) (es : List (BucketKey × DescriptorBucket P)) → a.table ≡ map row_of es → Agree (state_of name a l) → Agree (record { books = books_of (rows_in name es); ledger = l.pools })
     agree_is a l es is agree = subst Agree (state_is a l es is) agree

@@ -1,7 +1,7 @@
 -- The numbers of a key's pools: they rise, so each number stands at one place.
 -- For whatever finds a pool by its number (`place_of_pool`), a key by its id (`place_of_id`), or has to say that numbers rise.
 use Rattle.gpu_descriptor.proofs.Common.{common_steps, ◌≡◌, ℕ, zero, suc, ◌+◌, ◌-◌, ◌<◌, ◌≤◌, ◌==◌, Bool, true, false, nat_lt, List, [], ◌∷◌, ◌++◌, length, map, drop, filter, slice_get, slice_index, slice_index_or, IsNonDecreasing, IsPartitionPoint, Some, option_map, inl, inr, refl}
-use Rattle.gpu_descriptor.proofs.Common.{sym, ap, ◌∙◌, arith, eq-eqb, eqb-true, lt-ltb, ltb-false, and_parts, and_from, cases_Bool, cases_lt, list_all, slice_get_within, EntryOf, Entry, Bucket, entry_at, rises, number_after, numbers_of, none-some, same_Some}
+use Rattle.gpu_descriptor.proofs.Common.{sym, ap, ◌∙◌, arith, eq-eqb, eqb-true, lt-ltb, ltb-false, and_parts, and_from, cases_Bool, cases_lt, list_all, slice_get_within, DescriptorPool, Entry, Bucket, entry_at, rises, number_after, numbers_of, none-some, same_Some}
 use Rattle.std.specs.List.{find}
 
 -- a number that is below all of a list
@@ -161,18 +161,18 @@ rises_filter f stays ys (e ∷ es) h = grind (arith, all_filter, (rises_filter f
 -- ---- pools
 
 module _ {X : Type 0} where
-  pub number_of : (es : List (EntryOf X)) (i : ℕ) (e : EntryOf X) → slice_get es i ≡ Some e → slice_get (numbers_of es) i ≡ Some e.number
+  pub number_of : (es : List (DescriptorPool X)) (i : ℕ) (e : DescriptorPool X) → slice_get es i ≡ Some e → slice_get (numbers_of es) i ≡ Some e.number
   number_of [] i e at = absurd (none-some e at)
-  number_of (x ∷ es) zero e at = (let same : x ≡ e = cc in ap (λ (y : EntryOf X). Some y.number) same)
+  number_of (x ∷ es) zero e at = (let same : x ≡ e = cc in ap (λ (y : DescriptorPool X). Some y.number) same)
   number_of (x ∷ es) (suc i) e at = number_of es i e at
 
-  pub numbers_drop : (es : List (EntryOf X)) (n : ℕ) → numbers_of (drop n es) ≡ drop n (numbers_of es)
+  pub numbers_drop : (es : List (DescriptorPool X)) (n : ℕ) → numbers_of (drop n es) ≡ drop n (numbers_of es)
   numbers_drop es zero = refl
   numbers_drop [] (suc n) = refl
   numbers_drop (e ∷ es) (suc n) = numbers_drop es n
 
   -- a change of pools that leaves their numbers
-  pub numbers_map : (f : EntryOf X → EntryOf X) → ((e : EntryOf X) → (f e).number ≡ e.number) → (es : List (EntryOf X)) → numbers_of (map f es) ≡ numbers_of es
+  pub numbers_map : (f : DescriptorPool X → DescriptorPool X) → ((e : DescriptorPool X) → (f e).number ≡ e.number) → (es : List (DescriptorPool X)) → numbers_of (map f es) ≡ numbers_of es
   numbers_map f same [] = refl
   numbers_map f same (e ∷ es) = λ i. same e i ∷ numbers_map f same es i
 

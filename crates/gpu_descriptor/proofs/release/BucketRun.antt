@@ -10,8 +10,8 @@ pub read_at : {P : Type 0} (name : P → ℕ) (items : List (DescriptorPool P)) 
 read_at name items i q lt is = slice_get-map (entry_of name) items i ∙ ap (option_map (entry_of name)) (slice_get_read items (length items) i q refl lt is)
 
 -- the place after the counts moved
-pub changed_at : {P : Type 0} (name : P → ℕ) (items : List (DescriptorPool P)) (i : ℕ) (q : DescriptorPool P) (raw : P) (m n : ℕ) → name raw ≡ name q.raw → m ≡ n
-    → map (entry_of name) (set items i (record { raw = raw; number = q.number; capacity = q.capacity; allocated = q.allocated - m; available = q.available + m })) ≡ set (map (entry_of name) items) i (entry_less n (entry_of name q))
+pub changed_at : {P : Type 0} (name : P → ℕ) (items : List (DescriptorPool P)) (i : ℕ) (q : DescriptorPool P) (raw : P) (m n : ℕ) → name raw ≡ name q.pool → m ≡ n
+    → map (entry_of name) (set items i (record { pool = raw; number = q.number; capacity = q.capacity; allocated = q.allocated - m; available = q.available + m })) ≡ set (map (entry_of name) items) i (entry_less n (entry_of name q))
 changed_at name [] i q raw m n same e = refl
 changed_at name (x ∷ items) zero q raw m n same e = λ j. record { number = q.number; pool = same j; capacity = q.capacity; allocated = q.allocated - e j; available = q.available + e j } ∷ map (entry_of name) items
 changed_at name (x ∷ items) (suc i) q raw m n same e = ap (λ (l : List Entry). entry_of name x ∷ l) (changed_at name items i q raw m n same e)
@@ -85,7 +85,7 @@ allocated_from pools = sum_by (λ p. p.allocated) pools
 
 -- the sets that go back are no longer counted
 pub total_less : {P : Type 0} (items : List (DescriptorPool P)) (i : ℕ) (q : DescriptorPool P) (raw : P) (m : ℕ) → i < length items → q ≡ get_or items i q → m ≤ q.allocated
-    → (m ≤ allocated_from items) × (allocated_from (set items i (record { raw = raw; number = q.number; capacity = q.capacity; allocated = q.allocated - m; available = q.available + m })) + m ≡ allocated_from items)
+    → (m ≤ allocated_from items) × (allocated_from (set items i (record { pool = raw; number = q.number; capacity = q.capacity; allocated = q.allocated - m; available = q.available + m })) + m ≡ allocated_from items)
 total_less [] i q raw m lt is fits = absurd (omega arith)
 total_less {P = P} (x ∷ items) zero q raw m lt is fits =
     let e : q.allocated ≡ x.allocated = ap (λ (p : DescriptorPool P). p.allocated) is in

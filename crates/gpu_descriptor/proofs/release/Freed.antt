@@ -3,7 +3,7 @@
 -- ledger then; now and mid are those of this turn; x is in hand and begins the next run, and rest is the iterator after it.
 use Rattle.gpu_descriptor.proofs.Common.{search_digits, ◌≡◌, ℕ, ◌+◌, ◌<◌, true, false, ◌&&◌, ◌==◌, List, [], ◌∷◌, ◌++◌, sum_by, refl, sym, ap, subst, ◌∙◌, arith, append_assoc, append-nil, length-append, Option, Some, None, MatchOption, OnSome, IfSome, Count, HoldsAlong, IsFinite, IsNearerEnd}
 use Rattle.gpu_descriptor.proofs.Common.{MakesProgress, size, Yields, YieldsThen, and_parts, and_from, map-append, sum_by-append, side, Meaning, Counters, Ledger, bool_iff, DescriptorSet, State, Item, AreOutstanding, Agree, count_of, Key, key_eq, Allocations, common_steps, set_descriptors}
-use Rattle.gpu_descriptor.proofs.Common.{more_released, more_destroyed, released, given_back, pools_gone, run_digits, GivesBack, FreesRun, runs, item_of, items_of, AllPass, state_of, Compares}
+use Rattle.gpu_descriptor.proofs.Common.{more_released, more_destroyed, released, given_back, pools_gone, run_digits, GivesBack, FreesRun, runs, item_of, items_of, AllByRecursion, state_of, Compares}
 use Rattle.std.proofs.iter.Next.{Yields-more}
 use Rattle.gpu_descriptor.specs.Inner.RunSteps.{lies_at}
 use Rattle.gpu_descriptor.specs.Caller.States.{keys_of}
@@ -48,7 +48,7 @@ module _ {L P S : Type 0} (means : Meaning L P S) where
   items xs = items_of means.set_name xs
 
   -- a run before sets of another place is one run more
-  pub run_then : (k : Key) (n : ℕ) (x : DescriptorSet S) (xs zs : List (DescriptorSet S)) → lies_at k n x ≡ true → AllPass (lies_at k n) xs → BeginsApart k n zs → runs (items ((x ∷ xs) ++ zs)) ≡ 1 + runs (items zs)
+  pub run_then : (k : Key) (n : ℕ) (x : DescriptorSet S) (xs zs : List (DescriptorSet S)) → lies_at k n x ≡ true → AllByRecursion (λ y. lies_at k n y ≡ true) xs → BeginsApart k n zs → runs (items ((x ∷ xs) ++ zs)) ≡ 1 + runs (items zs)
   run_then k n x [] [] own have apart = refl
   run_then k n x [] (z ∷ zs) own have apart = grind (arith, same_spot)
   run_then k n x (y ∷ ys) zs own have apart = grind (arith, common_steps, same_spot, (run_then k n y ys zs have.0 have.1 apart))

@@ -53,7 +53,7 @@ module _ {P : Type 0} (name : P → ℕ) (keep : ℕ) where
   abbrev pub stored : Key → List (DescriptorPool P) → (ℕ → Option Pool) → Type 0
   stored k items pools = AreBookedIn k pools (map (entry_of name) items)
 
-  pub turn_unused : (k : Key) (items : List (DescriptorPool P)) (p : DescriptorPool P) (l : Ledger) → IsFront items p → stored k items l.pools → HasNoSets (name p.raw) l
+  pub turn_unused : (k : Key) (items : List (DescriptorPool P)) (p : DescriptorPool P) (l : Ledger) → IsFront items p → stored k items l.pools → HasNoSets (name p.pool) l
   turn_unused k [] p l front agree = (let bad = front.long in absurd (omega arith))
   turn_unused k (x ∷ items) p l front agree = grind (arith, front_unused)
 
@@ -63,14 +63,14 @@ module _ {P : Type 0} (name : P → ℕ) (keep : ℕ) where
     pub books : bucket_but_front keep (bucket id (map (entry_of name) news)) ≡ bucket_but_front keep (bucket id (map (entry_of name) items))
     pub ledger : ledger_but_front keep (bucket id (map (entry_of name) news)) after ≡ ledger_but_front keep (bucket id (map (entry_of name) items)) before
 
-  pub turn : (k : Key) (id : ℕ) (items news : List (DescriptorPool P)) (p : DescriptorPool P) (l after : Ledger) → IsFront items p → news ≡ drop 1 items → after ≡ after_destroy (name p.raw) l → stored k items l.pools → Turned k id items news l after
+  pub turn : (k : Key) (id : ℕ) (items news : List (DescriptorPool P)) (p : DescriptorPool P) (l after : Ledger) → IsFront items p → news ≡ drop 1 items → after ≡ after_destroy (name p.pool) l → stored k items l.pools → Turned k id items news l after
   turn k id [] news p l after front new taken agree = (let bad = front.long in absurd (omega arith))
   turn k id (x ∷ items) news p l after front new taken agree =
       let is : p ≡ x = front.is in
       let long : keep < suc (length items) = front.long in
       let same = length-map items (entry_of name) in
       let le : keep ≤ length (map (entry_of name) items) = omega arith in
-      let gone : after ≡ after_destroy (name x.raw) l = taken ∙ ap (λ (z : DescriptorPool P). after_destroy (name z.raw) l) is in
+      let gone : after ≡ after_destroy (name x.pool) l = taken ∙ ap (λ (z : DescriptorPool P). after_destroy (name z.pool) l) is in
       let empty : is_empty (entry_of name x) ≡ true = eq-eqb x.allocated 0 (ap (λ (z : DescriptorPool P). z.allocated) (sym is) ∙ front.empty) in
       rw (new, gone) (record {
         agree = step_stored k (entry_of name x) (map (entry_of name) items) l.pools agree;

@@ -1,7 +1,7 @@
 -- One run, x and xs, through the row at a place of the table, which it lends to `release_run`: its bucket is bucket before, w after.
-use Rattle.gpu_descriptor.proofs.Common.{◌≡◌, ◌<◌, ℕ, List, [], ◌∷◌, map, None, length, refl, sym, ap, subst, ◌∙◌, fun_ext, IsDistinct, Ledger, after_release, live_sets, BucketKey, DescriptorSet, DescriptorBucket, Agree, AreOutstanding, Key, BucketOf, Item, count_of}
+use Rattle.gpu_descriptor.proofs.Common.{◌≡◌, ◌<◌, ℕ, List, [], ◌∷◌, map, None, length, refl, sym, ap, subst, ◌∙◌, fun_ext, IsDistinct, Ledger, after_release, live_sets, BucketKey, DescriptorSet, DescriptorBucket, Agree, AreOutstanding, Key, BucketOf, Item, count_of, true}
 use Rattle.gpu_descriptor.proofs.Common.{key_eq, Bucket, HasDistinctKeys, Allocations, AreBookedIn, IsTakenAt, Releases, names_of, bucket_back, bucket_but_front, ledger_but_front, more_destroyed, more_released, released, pools_gone, search_digits, items_of, named_row}
-use Rattle.gpu_descriptor.proofs.Common.{state_of, table_of, AllPass, row_of, bucket_of, stored_keys}
+use Rattle.gpu_descriptor.proofs.Common.{state_of, table_of, AllByRecursion, row_of, bucket_of, stored_keys}
 use Rattle.indexmap.specs.Layout.{set_value_at}
 use Rattle.gpu_descriptor.specs.Caller.States.{keys_of}
 use Rattle.gpu_descriptor.specs.Inner.RunSteps.{lies_at}
@@ -25,11 +25,11 @@ module _ {P S : Type 0} (name : P → ℕ) (set_name : S → ℕ) (a : Allocatio
   pub row_open : search_digits ((state_of name a l).books x.key.is) ≡ search_digits (bucket_of name bucket)
   row_open = ap search_digits at_key
 
-  pub row_taken : (xs : List (DescriptorSet S)) → AllPass (lies_at x.key.is x.number) xs → AreOutstanding (items_of set_name (x ∷ xs)) (state_of name a l) → IsTakenAt x.key.is x.number (names_of set_name (x ∷ xs)) (bucket_of name bucket) l.pools
+  pub row_taken : (xs : List (DescriptorSet S)) → AllByRecursion (λ y. lies_at x.key.is x.number y ≡ true) xs → AreOutstanding (items_of set_name (x ∷ xs)) (state_of name a l) → IsTakenAt x.key.is x.number (names_of set_name (x ∷ xs)) (bucket_of name bucket) l.pools
   row_taken xs have out = subst (λ b. IsTakenAt x.key.is x.number (names_of set_name (x ∷ xs)) b l.pools) at_key (taken_of set_name (state_of name a l) agree x xs have out)
 
   -- the run went back, and then the front went
-  module _ (xs : List (DescriptorSet S)) (have : AllPass (lies_at x.key.is x.number) xs) (w : DescriptorBucket P) (after : Ledger) (between : Bucket) (during : Ledger) (back : Releases x.key.is x.number (names_of set_name (x ∷ xs)) (bucket_of name bucket) l between during)
+  module _ (xs : List (DescriptorSet S)) (have : AllByRecursion (λ y. lies_at x.key.is x.number y ≡ true) xs) (w : DescriptorBucket P) (after : Ledger) (between : Bucket) (during : Ledger) (back : Releases x.key.is x.number (names_of set_name (x ∷ xs)) (bucket_of name bucket) l between during)
       (front : bucket_of name w ≡ bucket_but_front 1 between) (gone : after ≡ ledger_but_front 1 between during) where
     here : Releases x.key.is x.number (names_of set_name (x ∷ xs)) ((state_of name a l).books x.key.is) l between during
     here = subst (λ b. Releases x.key.is x.number (names_of set_name (x ∷ xs)) b l between during) (sym at_key) back

@@ -1,7 +1,7 @@
 -- The row of a live set: its key's, and the only one with its id.
 -- For `release_run`, which finds the row of a run by its id and compares no keys. es are the entries of the map, and s is the state.
 use Rattle.gpu_descriptor.proofs.Common.{◌≡◌, ◌<◌, ℕ, suc, true, false, List, [], ◌∷◌, ◌++◌, slice_get, Option, Some, None, IfSome, inl, inr, refl, sym, ap, subst, ◌∙◌, arith, eq-eqb, eqb-true, map, nat_eq, HoldsAlong, cases_Bool, and_from, and_parts, false_from_ne_true, IsDistinct}
-use Rattle.gpu_descriptor.proofs.Common.{Ledger, count_by_yes, BucketKey, DescriptorSet, DescriptorBucket, AreOutstanding, Item, State, item_eq, outstanding, Bucket, Entry, Key, key_eq, books_of, books_in, entry_at, key_of, Allocations, item_of, items_of, state_of, rises, stored_ids, stored_keys, EndsRun, AllPass}
+use Rattle.gpu_descriptor.proofs.Common.{Ledger, count_by_yes, BucketKey, DescriptorSet, DescriptorBucket, AreOutstanding, Item, State, item_eq, outstanding, Bucket, Entry, Key, key_eq, books_of, books_in, entry_at, key_of, Allocations, item_of, items_of, state_of, rises, stored_ids, stored_keys, EndsRun, AllByRecursion}
 use Rattle.gpu_descriptor.proofs.Common.{row_of, none-some, same_Some, true≢false}
 use Rattle.std.proofs.iter.Next.{Yields-more}
 use Rattle.gpu_descriptor.specs.Inner.RunSteps.{at_place, lies_at}
@@ -12,7 +12,7 @@ use Rattle.gpu_descriptor.proofs.release.Places.{outstanding_found}
 use Rattle.gpu_descriptor.proofs.request.Requested.{books_at}
 use Rattle.gpu_descriptor.proofs.table.Rising.{id_of}
 use Rattle.gpu_descriptor.proofs.table.RowAt.{IsAt, present}
-use Rattle.gpu_descriptor.proofs.table.TableBooks.{rows_are, rows_in}
+use Rattle.gpu_descriptor.proofs.table.TableBooks.{rows_in}
 use Rattle.gpu_descriptor.proofs.release.WholeRun.{at_from, at_parts}
 
 -- the row of a key, which has the id
@@ -62,7 +62,7 @@ module _ {P S : Type 0} (name : P → ℕ) (set_name : S → ℕ) (a : Allocatio
   owns t out =
       let f = outstanding_found s t 0 out in
       let books = books_at a es is name l t.key in
-      let r = found_row name t.key es t.number f.0 (ap (λ (b : Bucket). entry_at b t.number) (sym (books ∙ ap (λ (rows : List (Key × Bucket)). books_of rows t.key) (rows_are name es))) ∙ f.1) in
+      let r = found_row name t.key es t.number f.0 (ap (λ (b : Bucket). entry_at b t.number) (sym books) ∙ f.1) in
       record { place = r.0; bucket = r.1; row = r.2; has = sym (ap (λ (b : Bucket). b.id) (books ∙ present name distinct r.2)) ∙ f.3 }
 
   -- the first set of a list that is live
@@ -75,7 +75,7 @@ module _ {P S : Type 0} (name : P → ℕ) (set_name : S → ℕ) (a : Allocatio
 
   module _ (rise : rises (stored_ids es) ≡ true) (k : Key) (id n : ℕ) (own : Owns k id es) where
     -- sets with the key's id are of the key
-    pub lie_at : (xs : List (DescriptorSet S)) → AreOutstanding (items_of set_name xs) s → AllPass (at_place id n) xs → AllPass (lies_at k n) xs
+    pub lie_at : (xs : List (DescriptorSet S)) → AreOutstanding (items_of set_name xs) s → AllByRecursion (λ y. at_place id n y ≡ true) xs → AllByRecursion (λ y. lies_at k n y ≡ true) xs
     lie_at [] out have = tt
     lie_at (x ∷ xs) out have =
         let p = place_parts id n x have.0 in

@@ -3,7 +3,7 @@
 -- one key and pool number; m are their items; e is the entry of their pool, at place i of the key's bucket.
 use Rattle.gpu_descriptor.proofs.Common.{slice_get, ◌≡◌, ℕ, suc, ◌<◌, ◌≤◌, Bool, true, false, ◌==◌, List, [], ◌∷◌, length, map, count_by, Option, Some, None, option_map, inl, inr, refl, sym, ap, ◌∙◌, arith, eq-eqb, ne_eqb, if◌then◌else◌, fun_ext, list_any, cases_Bool, cases_eq, and_parts}
 use Rattle.gpu_descriptor.proofs.Common.{and_from, false_from_ne_true, length-map, Pool, live_sets, LiveSet, set_eq, times, bool_iff, any_found, any_from, count_by_yes, count_by_no, DescriptorSet, set_of, State, Item, item_eq, count_of, live_in, AreOutstanding, Agree, Key, key_eq}
-use Rattle.gpu_descriptor.proofs.Common.{Entry, Bucket, entry_at, common_steps, IsTakenAt, names_of, bucket_back, bucket_but_front, entry_less, pool_less, given_back, fronts_gone, released, spent_front, pools_gone, in_front, item_of, items_of, AllPass, true≢false}
+use Rattle.gpu_descriptor.proofs.Common.{Entry, Bucket, entry_at, common_steps, IsTakenAt, names_of, bucket_back, bucket_but_front, entry_less, pool_less, given_back, fronts_gone, released, spent_front, pools_gone, in_front, item_of, items_of, AllByRecursion, true≢false}
 use Rattle.gpu_descriptor.specs.Inner.RunSteps.{lies_at}
 use Rattle.gpu_descriptor.proofs.table.Exact.{key_exact, item_exact}
 use Rattle.gpu_descriptor.proofs.lists.Numbers.{entry_at-named}
@@ -33,7 +33,7 @@ at_parts k n x h = grind (arith, key_exact)
 
 module _ {S : Type 0} (name : S → ℕ) where
   -- the items of such sets are a run
-  in_run : (k : Key) (n : ℕ) (xs : List (DescriptorSet S)) → AllPass (lies_at k n) xs → (t : Item) → 0 < count_of t (items_of name xs) → (t.key ≡ k) × (t.number ≡ n)
+  in_run : (k : Key) (n : ℕ) (xs : List (DescriptorSet S)) → AllByRecursion (λ y. lies_at k n y ≡ true) xs → (t : Item) → 0 < count_of t (items_of name xs) → (t.key ≡ k) × (t.number ≡ n)
   in_run k n [] have t h = absurd (omega arith)
   in_run k n (x ∷ xs) have t h =
       let one : Item = item_of name x in
@@ -44,11 +44,11 @@ module _ {S : Type 0} (name : S → ℕ) where
         | inr other ↦ (let skip : count_of t (one ∷ items_of name xs) ≡ count_of t (items_of name xs) = count_by_no (λ u. item_eq u t) one (items_of name xs) other in in_run k n xs have.1 t (omega arith))
       ]
 
-  pub is_run : (k : Key) (n : ℕ) (xs : List (DescriptorSet S)) → AllPass (lies_at k n) xs → IsRun k n (items_of name xs)
+  pub is_run : (k : Key) (n : ℕ) (xs : List (DescriptorSet S)) → AllByRecursion (λ y. lies_at k n y ≡ true) xs → IsRun k n (items_of name xs)
   is_run k n xs have t h = in_run k n xs have t h
 
   -- the sets of a run, counted
-  pub named_times : (k : Key) (n : ℕ) (xs : List (DescriptorSet S)) → AllPass (lies_at k n) xs → (x : LiveSet) → count_by (λ t. set_eq (set_of t) x) (items_of name xs) ≡ times (live_sets k.counts (names_of name xs)) x
+  pub named_times : (k : Key) (n : ℕ) (xs : List (DescriptorSet S)) → AllByRecursion (λ y. lies_at k n y ≡ true) xs → (x : LiveSet) → count_by (λ t. set_eq (set_of t) x) (items_of name xs) ≡ times (live_sets k.counts (names_of name xs)) x
   named_times k n [] have x = refl
   named_times k n (y ∷ ys) have x = grind (arith, common_steps, at_parts, (named_times k n ys have.1 x))
 
@@ -58,11 +58,11 @@ module _ {S : Type 0} (name : S → ℕ) where
   same_length : (xs : List (DescriptorSet S)) → length (items_of name xs) ≡ length (names_of name xs)
   same_length xs = length-map xs (λ (x : DescriptorSet S). item_of name x) ∙ sym (length-map xs (λ (x : DescriptorSet S). name x.raw))
 
-  all_have : (x : DescriptorSet S) (xs : List (DescriptorSet S)) → AllPass (lies_at x.key.is x.number) xs → AllPass (lies_at x.key.is x.number) (x ∷ xs)
+  all_have : (x : DescriptorSet S) (xs : List (DescriptorSet S)) → AllByRecursion (λ y. lies_at x.key.is x.number y ≡ true) xs → AllByRecursion (λ y. lies_at x.key.is x.number y ≡ true) (x ∷ xs)
   all_have x xs have = (lies_own x, have)
 
   -- a run that is outstanding is in one pool, which has so many sets, each of them live
-  pub taken_of : (s : State) → Agree s → (x : DescriptorSet S) (xs : List (DescriptorSet S)) → AllPass (lies_at x.key.is x.number) xs → AreOutstanding (items_of name (x ∷ xs)) s → IsTakenAt x.key.is x.number (names_of name (x ∷ xs)) (s.books x.key.is) s.ledger
+  pub taken_of : (s : State) → Agree s → (x : DescriptorSet S) (xs : List (DescriptorSet S)) → AllByRecursion (λ y. lies_at x.key.is x.number y ≡ true) xs → AreOutstanding (items_of name (x ∷ xs)) s → IsTakenAt x.key.is x.number (names_of name (x ∷ xs)) (s.books x.key.is) s.ledger
   taken_of s agree x xs have out =
       let k = x.key.is in
       let n = x.number in
@@ -92,7 +92,7 @@ module _ {S : Type 0} (name : S → ℕ) where
   pool_none (Some p) = grind arith
 
   -- THE STATE AFTER ONE RUN, before the front goes
-  pub given_run : (s : State) → Agree s → (x : DescriptorSet S) (xs : List (DescriptorSet S)) → AllPass (lies_at x.key.is x.number) xs → (i : ℕ) (e : Entry) → slice_get (s.books x.key.is).pools i ≡ Some e → e.number ≡ x.number
+  pub given_run : (s : State) → Agree s → (x : DescriptorSet S) (xs : List (DescriptorSet S)) → AllByRecursion (λ y. lies_at x.key.is x.number y ≡ true) xs → (i : ℕ) (e : Entry) → slice_get (s.books x.key.is).pools i ≡ Some e → e.number ≡ x.number
       → given_back (items_of name (x ∷ xs)) s ≡ record {
         books = put_books s.books x.key.is (bucket_back (s.books x.key.is) i (length (names_of name (x ∷ xs))) e);
         ledger = taken_from s.ledger e.pool (live_sets x.key.is.counts (names_of name (x ∷ xs)));
@@ -132,7 +132,7 @@ module _ {S : Type 0} (name : S → ℕ) where
       λ z. record { books = books z; ledger = ledger z }
 
   -- THE FRONT OF THE RUN'S KEY
-  pub front_run : (x : DescriptorSet S) (xs : List (DescriptorSet S)) → AllPass (lies_at x.key.is x.number) xs → (books : Key → Bucket) (b : Bucket) (pools : ℕ → Option Pool)
+  pub front_run : (x : DescriptorSet S) (xs : List (DescriptorSet S)) → AllByRecursion (λ y. lies_at x.key.is x.number y ≡ true) xs → (books : Key → Bucket) (b : Bucket) (pools : ℕ → Option Pool)
       → fronts_gone (items_of name (x ∷ xs)) (record { books = put_books books x.key.is b; ledger = pools }) ≡ record { books = put_books books x.key.is (bucket_but_front 1 b); ledger = trimmed_pools b pools }
   front_run x xs have books b pools =
       let k = x.key.is in
@@ -165,7 +165,7 @@ module _ {S : Type 0} (name : S → ℕ) where
       λ z. record { books = books_are z; ledger = ledger z }
 
   -- THE STATE AFTER ONE RUN
-  pub whole_run : (s : State) → Agree s → (x : DescriptorSet S) (xs : List (DescriptorSet S)) → AllPass (lies_at x.key.is x.number) xs → (i : ℕ) (e : Entry) → slice_get (s.books x.key.is).pools i ≡ Some e → e.number ≡ x.number
+  pub whole_run : (s : State) → Agree s → (x : DescriptorSet S) (xs : List (DescriptorSet S)) → AllByRecursion (λ y. lies_at x.key.is x.number y ≡ true) xs → (i : ℕ) (e : Entry) → slice_get (s.books x.key.is).pools i ≡ Some e → e.number ≡ x.number
       → (c : Bucket) (pools : ℕ → Option Pool)
       → c ≡ bucket_but_front 1 (bucket_back (s.books x.key.is) i (length (names_of name (x ∷ xs))) e)
       → pools
@@ -180,7 +180,7 @@ module _ {S : Type 0} (name : S → ℕ) where
       left ∙ sym (front_run x xs have s.books b after) ∙ ap (fronts_gone (items_of name (x ∷ xs))) (sym (given_run s agree x xs have i e at named))
 
   -- THE POOLS THAT GO from the run's key
-  pub gone_run : (s : State) → Agree s → (x : DescriptorSet S) (xs : List (DescriptorSet S)) → AllPass (lies_at x.key.is x.number) xs → (i : ℕ) (e : Entry) → slice_get (s.books x.key.is).pools i ≡ Some e → e.number ≡ x.number
+  pub gone_run : (s : State) → Agree s → (x : DescriptorSet S) (xs : List (DescriptorSet S)) → AllByRecursion (λ y. lies_at x.key.is x.number y ≡ true) xs → (i : ℕ) (e : Entry) → slice_get (s.books x.key.is).pools i ≡ Some e → e.number ≡ x.number
       → pools_gone (x.key.is ∷ []) (items_of name (x ∷ xs)) s ≡ spent_front (bucket_back (s.books x.key.is) i (length (names_of name (x ∷ xs))) e)
   gone_run s agree x xs have i e at named_so =
       let k = x.key.is in

@@ -1,11 +1,10 @@
 -- The new pools of a request, as far as it has come.
 -- For `take`: Growing is the invariant of its loop, from after the walk (`grow_start`) to the end or a stop.
 -- `_more`: with one new pool more at the end. `_now`: with the new pool f, named q, which gave the sets more; m' is the ledger then.
-use Rattle.gpu_descriptor.proofs.Common.{common_steps, ◌≡◌, ℕ, zero, suc, take, drop, ◌+◌, ◌-◌, ◌<◌, List, [], ◌∷◌, ◌++◌, length, map, Bool, true, false, cond, ◌==◌, nat_eq, Option, Some, None, Ok, Err, refl, sym, ap, ◌∙◌, subst, arith, eqb-true, eq-eqb, fun_ext, nil_from_length, eqb-false}
+use Rattle.gpu_descriptor.proofs.Common.{common_steps, ◌≡◌, ℕ, zero, suc, take, drop, ◌+◌, ◌-◌, ◌<◌, List, [], ◌∷◌, ◌++◌, length, map, Bool, true, false, cond, ◌==◌, nat_eq, Option, Some, None, Ok, Err, refl, sym, ap, ◌∙◌, subst, arith, eqb-true, eq-eqb, fun_ext, nil_from_length, eqb-false, pools_load}
 use Rattle.gpu_descriptor.proofs.Common.{map-append, append-nil, sum_by-cons, sum_by-append, list_any, update, if◌then◌else◌, option_map, Item, flags_of, Key, Entry, Bucket, Pool, Ledger, live_sets, on_pool, or_from, or_parts, pool_counts, Stop, list_any-append, Fresh, fresh_portions}
 use Rattle.gpu_descriptor.proofs.Common.{fresh_entries, fresh_entry, number_after, numbers_of, given_by, IsNextSize, room_after, AreSized, AreFull, AreNew, IsFreshPrefix, IsFreshList, Grant, Part, items_at, portion_of, came, pool_with, ledger_with, fresh_or, IsGrown, IsTaken, IsRefused}
 use Rattle.gpu_descriptor.proofs.Common.{allocated_in, pool_descriptors, risen, grant_rise, StopsAtNew, StopsAt, rest, all_shared, portions_of, Adds, AreBookedIn, HasTaken, IsWalked}
-use Rattle.gpu_descriptor.proofs.sums.PoolsLoad.{pools_load}
 use Rattle.gpu_descriptor.specs.declared.bucket.stop.Stop.TheVariants as stop
 use Rattle.gpu_descriptor_types.specs.Ledger as ledgers
 use Rattle.gpu_descriptor.specs.Model.FreshPools as grants

@@ -8,12 +8,12 @@ use Rattle.gpu_descriptor.proofs.sums.Loads.{load_in, sum_put, set_descriptors-a
 use Rattle.gpu_descriptor.proofs.sums.TableSums.{books_named}
 use Rattle.gpu_descriptor.proofs.table.Readings.{kept_at}
 use Rattle.gpu_descriptor.proofs.table.RowAt.{IsAt, present, written}
-use Rattle.gpu_descriptor.proofs.table.TableBooks.{put_books, row_bucket}
+use Rattle.gpu_descriptor.proofs.table.TableBooks.{put_books}
 
 -- a new key goes last
 books_end : {P : Type 0} (name : P → ℕ) (k : BucketKey) (w : DescriptorBucket P) (test : BucketKey → Bool) → ((l : BucketKey) → test l ≡ key_eq (key_of k) (key_of l)) → (es : List (BucketKey × DescriptorBucket P)) → lookup test es ≡ None → (l : Key)
     → books_in name (map row_of (es ++ (k, w) ∷ [])) l ≡ put_books (books_in name (map row_of es)) (key_of k) (bucket_of name w) l
-books_end name k w test same [] none l = ap (λ (b : Bucket). if key_eq (key_of k) l then b else no_pools) (row_bucket name (k, w))
+books_end name k w test same [] none l = refl
 books_end {P} name k w test same (e ∷ es) none l = elim (cases_Bool (test e.0)) [
   | inl at ↦ (let found : Some e.1 ≡ None = rw at at none in absurd (cc))
   | inr at ↦ (

@@ -2,7 +2,7 @@
 -- For `walk`: OpenWalk is the invariant of its loop, which asks the last pool of the list of open ones. numbers is that list, front
 -- is it without its last, place is where the last one's pool is; p is that pool before it is asked, and q after.
 use Rattle.gpu_descriptor.proofs.Common.{common_steps, ◌≡◌, ℕ, suc, ◌+◌, ◌-◌, ◌<◌, ◌≤◌, List, [], ◌∷◌, ◌++◌, length, min, slice_set, None, Some, Err, refl, sym, ap, ◌∙◌, arith, true, inl, inr, map, length-map, map-set, length-set, slice_get-map, slice_get_within, lt-ltb, cases_lt, slice_get, option_map}
-use Rattle.gpu_descriptor.proofs.Common.{Ledger, Counters, DescriptorPool, Item, Key, Entry, DeviceAllocationError, AreBookedIn, IsBookedIn, free_in, open_ordinals, entry_of, IsAsked, IsNoMemory, IsTaken, items_at, rises, stored_numbers}
+use Rattle.gpu_descriptor.proofs.Common.{Ledger, Counters, DescriptorPool, Item, Key, Entry, DeviceAllocationError, AreBookedIn, IsBookedIn, free_in, open_ordinals, entry_of, IsAsked, IsNoMemory, IsTaken, items_at, rises, numbers_of}
 use Rattle.gpu_descriptor.specs.declared.bucket.stop.Stop.TheVariants.{ExistingPoolWithoutMemory}
 use Rattle.gpu_descriptor.proofs.table.Exact.{bucket}
 use Rattle.gpu_descriptor.proofs.lists.OpenList.{listed_closes, listed_stays}
@@ -108,7 +108,7 @@ module _ {P : Type 0} {name : P → ℕ} {k : Key} {n id first needed : ℕ} {ou
       pub next_is_booked : IsBookedIn k m.pools (entry_of name p)
       next_is_booked = next_booked k n id place needed out old (map (entry_of name) items) l m booked walk_reaches (entry_of name p) was
 
-pub open_walk_start : {P : Type 0} (name : P → ℕ) (k : Key) (n id first : ℕ) (items : List (DescriptorPool P)) (numbers : List ℕ) (l : Ledger) → numbers ≡ open_ordinals first (free_in items) → AreBookedIn k l.pools (map (entry_of name) items) → rises (stored_numbers items) ≡ true → OpenWalk name k n id first n [] (map (entry_of name) items) items numbers l l
+pub open_walk_start : {P : Type 0} (name : P → ℕ) (k : Key) (n id first : ℕ) (items : List (DescriptorPool P)) (numbers : List ℕ) (l : Ledger) → numbers ≡ open_ordinals first (free_in items) → AreBookedIn k l.pools (map (entry_of name) items) → rises (numbers_of items) ≡ true → OpenWalk name k n id first n [] (map (entry_of name) items) items numbers l l
 open_walk_start name k n id first items numbers l listed booked rising = record {
   long = sym (length-map items (entry_of name));
   listed = listed;

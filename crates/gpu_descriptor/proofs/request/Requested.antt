@@ -6,7 +6,7 @@ use Rattle.gpu_descriptor.proofs.Common.{nat_lt, ◌⊎◌, kinds, Ledger, Alloc
 use Rattle.gpu_descriptor.proofs.Common.{IsDeclined, IsUnserved, ServesKey, Takes, named_row, state_of, table_of, outstanding_of, marked_load_of, pool_load_of, IsConsistent, row_of, stored_keys, books_in}
 use Rattle.gpu_descriptor.specs.declared.errors.AllocationError.TheVariants.{Fragmentation, OutOfHostMemory}
 use Rattle.gpu_descriptor.specs.Model.Outcomes.Allocates.{past_bound, no_memory_at_start}
-use Rattle.gpu_descriptor.proofs.table.TableBooks.{rows_are, distinct_rows}
+use Rattle.gpu_descriptor.proofs.table.TableBooks.{distinct_rows}
 
 -- what a test that failed says
 pub within_of : (marked : Bool) (bound count : ℕ) → (marked && nat_lt bound count) ≡ false → marked ≡ true → count ≤ bound
@@ -26,7 +26,7 @@ seen limit bound looks compared es = record { limit = limit; bound = bound; tabl
 
 -- no key has two rows, where the table has none twice
 pub rows_distinct : {P : Type 0} (name : P → ℕ) (es : List (BucketKey × DescriptorBucket P)) → IsDistinct key_eq (stored_keys es) → HasDistinctKeys (map (named_row name) (map row_of es))
-rows_distinct name es distinct = subst HasDistinctKeys (sym (rows_are name es)) (distinct_rows name es distinct)
+rows_distinct name es distinct = distinct_rows name es distinct
 
 -- a table without keys
 pub counted_none : {P : Type 0} (max : ℕ) → IsConsistent {P = P} max 0 max 0 []

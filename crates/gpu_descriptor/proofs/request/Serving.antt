@@ -1,6 +1,6 @@
 -- What a table leaves of a request for sets of one of its keys: the contract of `serve` and `serve_absent`.
 use Rattle.gpu_descriptor.proofs.Common.{◌≡◌, ◌+◌, ◌<◌, ◌^◌, ℕ, List, length, map, Result, Ok, Err, OnOk, sym, ap, arith, subst, Meaning, Ledger, AllocationError, BucketKey, DescriptorBucket, DescriptorPool, DescriptorSet, Stop, entry_of, Key, next_number, number_after, sum_over, bucket_load}
-use Rattle.gpu_descriptor.proofs.Common.{items_of, bucket_of, books_in, row_of, stored_numbers, stored_keys, with_key, CountsLooks, IsTaken, IsServed, IsUnserved, ServesKey}
+use Rattle.gpu_descriptor.proofs.Common.{items_of, bucket_of, books_in, row_of, numbers_of, stored_keys, with_key, CountsLooks, IsTaken, IsServed, IsUnserved, ServesKey}
 use Rattle.std.proofs.lemmas.Result.{on_ok_weaker}
 use Rattle.gpu_descriptor.specs.declared.budget.Budget.{Budget}
 use Rattle.gpu_descriptor.specs.Inner.Serves.{Appends, ServesRequest}
@@ -9,7 +9,7 @@ use Rattle.gpu_descriptor.proofs.table.Exact.{bucket}
 use Rattle.gpu_descriptor.proofs.release.StoredNumbers.{numbers_stored}
 
 -- the number of the next pool, as the books have it
-pub next : {P : Type 0} (name : P → ℕ) (id : ℕ) (pools : List (DescriptorPool P)) → number_after (stored_numbers pools) ≡ next_number (bucket id (map (entry_of name) pools))
+pub next : {P : Type 0} (name : P → ℕ) (id : ℕ) (pools : List (DescriptorPool P)) → number_after (numbers_of pools) ≡ next_number (bucket id (map (entry_of name) pools))
 next name id pools = sym (ap number_after (numbers_stored name pools))
 
 module _ {L P S : Type 0} {means : Meaning L P S} {k : Key} {count left : ℕ} {layout : L} (es : List (BucketKey × DescriptorBucket P)) {fs : List (BucketKey × DescriptorBucket P)} {was : Budget} {had has : List (DescriptorSet S)} where
@@ -31,7 +31,7 @@ module _ {L P S : Type 0} {means : Meaning L P S} {k : Key} {count left : ℕ} {
 
   -- a bucket gave what it took, once room had been made for it
   module _
-      {ended : Result (Unit {0}) Stop} {before after : Ledger} {roomy : List (DescriptorSet S)} (id : ℕ) (pools : List (DescriptorPool P)) (many : ℕ) (new : DescriptorBucket P) (made : roomy ≡ had) (fits : number_after (stored_numbers pools) + count < 2 ^ 64)
+      {ended : Result (Unit {0}) Stop} {before after : Ledger} {roomy : List (DescriptorSet S)} (id : ℕ) (pools : List (DescriptorPool P)) (many : ℕ) (new : DescriptorBucket P) (made : roomy ≡ had) (fits : number_after (numbers_of pools) + count < 2 ^ 64)
       (appends : Appends means layout count left roomy has) (all : OnOk ended (left ≡ 0)) (total : new.total ≡ many + length (appended roomy has))
       (taken : IsTaken ended was.bound k was.room count (items_of means.set_name (appended roomy has)) (bucket id (map (entry_of means.pool_name) pools)) (bucket_of means.pool_name new) before after) where
     pub is_served : {is : Budget}

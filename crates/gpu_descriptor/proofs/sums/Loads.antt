@@ -1,8 +1,8 @@
 -- The running totals of a table, and what a run takes from them.
 -- For the functions of the allocator that keep its totals (IsConsistent). es and fs are the map's entries before and after a write, v
 -- and w the bucket of the key k that was there and that is; left is the room then.
-use Rattle.gpu_descriptor.proofs.Common.{◌≡◌, ℕ, ◌+◌, ◌-◌, ◌*◌, ◌≤◌, List, [], ◌∷◌, ◌++◌, length, map, sum_by, Some, inl, inr, refl, sym, ap, ◌∙◌, arith, zero, suc, slice_get, cases_Bool, sum_by-cons, BucketKey, DescriptorSet, DescriptorBucket, Key}
-use Rattle.gpu_descriptor.proofs.Common.{sum_over, key_of, Allocations, common_steps, bucket_load, descriptors_out, set_descriptors, sets_out, marked_descriptors, items_of, outstanding_of, marked_load_of, AllPass, kept_in, kept_of, row_of, stored_load, IsConsistent, none-some}
+use Rattle.gpu_descriptor.proofs.Common.{◌≡◌, ℕ, ◌+◌, ◌-◌, ◌*◌, ◌≤◌, List, [], ◌∷◌, ◌++◌, length, map, sum_by, Some, inl, inr, refl, sym, ap, ◌∙◌, arith, zero, suc, slice_get, cases_Bool, sum_by-cons, BucketKey, DescriptorSet, DescriptorBucket, Key, true}
+use Rattle.gpu_descriptor.proofs.Common.{sum_over, key_of, Allocations, common_steps, bucket_load, descriptors_out, set_descriptors, sets_out, marked_descriptors, items_of, outstanding_of, marked_load_of, AllByRecursion, kept_in, row_of, pools_load, IsConsistent, none-some}
 use Rattle.indexmap.specs.Layout.{set_value_at}
 use Rattle.gpu_descriptor.specs.Inner.RunSteps.{lies_at}
 use Rattle.gpu_descriptor.specs.Inner.Stored.{IsCounted}
@@ -47,11 +47,11 @@ module _ {P : Type 0} where
   load_in r = set_descriptors (key_of r.0) r.1.total
 
   abbrev pub stored_load_in : BucketKey × DescriptorBucket P → ℕ
-  stored_load_in r = stored_load (key_of r.0) r.1.pools.items
+  stored_load_in r = pools_load (key_of r.0) r.1.pools.items
 
   -- live sets, marked load, pool load: the sums over the rows are sums over the map's entries
   pools_out : (r : BucketKey × DescriptorBucket P) → sets_out (key_of r.0) (kept_in r.1) ≡ r.1.total
-  pools_out r = sum_map _ kept_of _ (λ p. refl) r.1.pools.items ∙ sym r.1.counted
+  pools_out r = sym r.1.counted
 
   pub rows_out : (es : List (BucketKey × DescriptorBucket P)) → sum_over sets_out (map row_of es) ≡ sum_by (λ r. r.1.total) es
   rows_out = sum_map _ row_of _ pools_out
@@ -60,14 +60,14 @@ module _ {P : Type 0} where
   rows_load = sum_map _ row_of _ (λ r. ap (set_descriptors (key_of r.0)) (pools_out r))
 
   pub rows_pool_load : (es : List (BucketKey × DescriptorBucket P)) → sum_over bucket_load (map row_of es) ≡ sum_by stored_load_in es
-  rows_pool_load = sum_map _ row_of _ (λ r. sum_map _ kept_of _ (λ p. refl) r.1.pools.items)
+  rows_pool_load = sum_map _ row_of _ (λ r. refl)
 
-pub run_load : {S : Type 0} (name : S → ℕ) (k : Key) (n : ℕ) (xs : List (DescriptorSet S)) → AllPass (lies_at k n) xs → marked_descriptors (items_of name xs) ≡ set_descriptors k (length xs)
+pub run_load : {S : Type 0} (name : S → ℕ) (k : Key) (n : ℕ) (xs : List (DescriptorSet S)) → AllByRecursion (λ y. lies_at k n y ≡ true) xs → marked_descriptors (items_of name xs) ≡ set_descriptors k (length xs)
 run_load name k n [] have = sym (set_descriptors-none k)
 run_load name k n (x ∷ xs) have = grind (arith, common_steps, at_parts, (run_load name k n xs have.1))
 
 -- a new key comes last, and its pools took of the room
-pub pools_end : {P : Type 0} (k : BucketKey) (es : List (BucketKey × DescriptorBucket P)) (w : DescriptorBucket P) (left room : ℕ) → left + stored_load (key_of k) w.pools.items ≡ room → left + sum_over bucket_load (map row_of (es ++ (k, w) ∷ [])) ≡ room + sum_over bucket_load (map row_of es)
+pub pools_end : {P : Type 0} (k : BucketKey) (es : List (BucketKey × DescriptorBucket P)) (w : DescriptorBucket P) (left room : ℕ) → left + pools_load (key_of k) w.pools.items ≡ room → left + sum_over bucket_load (map row_of (es ++ (k, w) ∷ [])) ≡ room + sum_over bucket_load (map row_of es)
 pools_end {P} k es w left room moved = grind (arith, common_steps)
 
 -- what a run takes from the totals
@@ -81,10 +81,10 @@ module _ {P : Type 0} {k : Key} {es : List (BucketKey × DescriptorBucket P)} {i
   total_present = (let le = (sum_put (λ (r : BucketKey × DescriptorBucket P). r.1.total) es i h.key v v h.at).0 in let is = rows_out es in omega arith)
 
   -- and so is the room that its pools take
-  pub pools_present : stored_load k v.pools.items ≤ sum_over bucket_load (map row_of es)
+  pub pools_present : pools_load k v.pools.items ≤ sum_over bucket_load (map row_of es)
   pools_present =
       let le = (sum_put (stored_load_in {P = P}) es i h.key v v h.at).0 in
-      let here = ap (λ (l : Key). stored_load l v.pools.items) h.is in
+      let here = ap (λ (l : Key). pools_load l v.pools.items) h.is in
       let all = rows_pool_load es in
       omega arith
 
@@ -94,11 +94,11 @@ module _ {P : Type 0} {k : Key} {es : List (BucketKey × DescriptorBucket P)} {i
     fs = set_value_at es i w
 
     -- its pools took of the room, or gave some back
-    pub pools_set : (left room : ℕ) → left + stored_load k w.pools.items ≡ room + stored_load k v.pools.items → left + sum_over bucket_load (map row_of fs) ≡ room + sum_over bucket_load (map row_of es)
+    pub pools_set : (left room : ℕ) → left + pools_load k w.pools.items ≡ room + pools_load k v.pools.items → left + sum_over bucket_load (map row_of fs) ≡ room + sum_over bucket_load (map row_of es)
     pools_set left room moved =
         let sums = (sum_put (stored_load_in {P = P}) es i h.key v w h.at).1 in
-        let was = ap (λ (l : Key). stored_load l v.pools.items) h.is in
-        let now = ap (λ (l : Key). stored_load l w.pools.items) h.is in
+        let was = ap (λ (l : Key). pools_load l v.pools.items) h.is in
+        let now = ap (λ (l : Key). pools_load l w.pools.items) h.is in
         let all = rows_pool_load es in
         let after = rows_pool_load fs in
         omega arith

@@ -1,23 +1,23 @@
 -- The descriptors of a key's pools, as the code has them.
-use Rattle.gpu_descriptor.proofs.Common.{◌++◌, sum_by-append, ◌≡◌, ◌+◌, ◌<◌, List, [], ◌∷◌, length, drop, get_or, ap, arith, sum_by-cons, DescriptorPool, Key, pool_descriptors, stored_load, ℕ, zero, suc, set, common_steps}
+use Rattle.gpu_descriptor.proofs.Common.{◌++◌, sum_by-append, ◌≡◌, ◌+◌, ◌<◌, List, [], ◌∷◌, length, drop, get_or, ap, arith, sum_by-cons, DescriptorPool, Key, pool_descriptors, pools_load, ℕ, zero, suc, set, common_steps}
 
 module _ {P : Type 0} (k : Key) where
-  cons : (p : DescriptorPool P) (ps : List (DescriptorPool P)) → stored_load k (p ∷ ps) ≡ pool_descriptors k p.capacity + stored_load k ps
+  cons : (p : DescriptorPool P) (ps : List (DescriptorPool P)) → pools_load k (p ∷ ps) ≡ pool_descriptors k p.capacity + pools_load k ps
   cons p ps = sum_by-cons (λ (q : DescriptorPool P). pool_descriptors k q.capacity) p ps
 
-  pub stored_first : (items : List (DescriptorPool P)) (p : DescriptorPool P) → 0 < length items → p ≡ get_or items 0 p → stored_load k items ≡ pool_descriptors k p.capacity + stored_load k (drop 1 items)
+  pub stored_first : (items : List (DescriptorPool P)) (p : DescriptorPool P) → 0 < length items → p ≡ get_or items 0 p → pools_load k items ≡ pool_descriptors k p.capacity + pools_load k (drop 1 items)
   stored_first [] p some is = absurd (omega arith)
   stored_first (x ∷ items) p some is = (let same : pool_descriptors k p.capacity ≡ pool_descriptors k x.capacity = ap (λ (y : DescriptorPool P). pool_descriptors k y.capacity) is in let all = cons x items in omega arith)
 
-  pub stored_append : (first last : List (DescriptorPool P)) → stored_load k (first ++ last) ≡ stored_load k first + stored_load k last
+  pub stored_append : (first last : List (DescriptorPool P)) → pools_load k (first ++ last) ≡ pools_load k first + pools_load k last
   stored_append first last = sum_by-append (λ (p : DescriptorPool P). pool_descriptors k p.capacity) first last
 
-  pub stored_one : (p : DescriptorPool P) → stored_load k (p ∷ []) ≡ pool_descriptors k p.capacity
+  pub stored_one : (p : DescriptorPool P) → pools_load k (p ∷ []) ≡ pool_descriptors k p.capacity
   stored_one p = (let sum = cons p [] in omega arith)
 
   -- counts move
   pub stored_put : (items : List (DescriptorPool P)) (i : ℕ) (q : DescriptorPool P) (raw : P) (allocated available : ℕ) → i < length items → q ≡ get_or items i q
-      → stored_load k (set items i (record { raw = raw; number = q.number; capacity = q.capacity; allocated = allocated; available = available })) ≡ stored_load k items
+      → pools_load k (set items i (record { pool = raw; number = q.number; capacity = q.capacity; allocated = allocated; available = available })) ≡ pools_load k items
   stored_put [] i q raw allocated available within is = absurd (omega arith)
   stored_put (x ∷ items) zero q raw allocated available within is = grind arith
   stored_put (x ∷ items) (suc i) q raw allocated available within is = grind (arith, common_steps)

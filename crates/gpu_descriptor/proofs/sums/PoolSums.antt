@@ -1,7 +1,6 @@
 -- Over all pools of marked keys: the pool load is what the device created them with, and the marked load is no more.
-use Rattle.gpu_descriptor.proofs.Common.{◌≡◌, ℕ, suc, ◌<◌, ◌≤◌, true, false, List, [], ◌∷◌, length, slice_get, sum, sum_by, Option, Some, inl, inr, refl, ap, ◌∙◌, arith, ◌↔◌, option_map_or, cases_Bool, sum_by-cons, Pool, State, Agree, Key, Entry, Bucket, books_of, HasDistinctKeys, sum_over}
+use Rattle.gpu_descriptor.proofs.Common.{◌≡◌, ℕ, suc, ◌<◌, ◌≤◌, true, false, List, [], ◌∷◌, length, slice_get, sum, sum_by, Option, Some, inl, inr, refl, ap, ◌∙◌, arith, ◌↔◌, option_map_or, cases_Bool, sum_by-cons, Pool, State, Agree, Key, Entry, Bucket, books_of, HasDistinctKeys, sum_over, pools_load}
 use Rattle.gpu_descriptor.proofs.Common.{AddsUp, common_steps, IsBookedIn, allocated_in, set_descriptors, pool_descriptors, bucket_load, descriptors_out, descriptors_created}
-use Rattle.gpu_descriptor.proofs.sums.PoolsLoad.{pools_load}
 use Rattle.gpu_descriptor.proofs.request.StateAgrees.{booked_of}
 use Rattle.gpu_descriptor.proofs.sums.Loads.{set_descriptors-none, set_descriptors-add, set_descriptors-le}
 use Rattle.gpu_descriptor.proofs.sums.PoolCounts.{booked_load}

@@ -2,11 +2,11 @@
 -- For `serve`, `release_run` and `sweep`, which read and write the map at a place. es are the entries of the map, and rows are those of
 -- the books.
 use Rattle.gpu_descriptor.proofs.Common.{◌≡◌, ℕ, zero, suc, Bool, false, List, [], ◌∷◌, map, set, slice_get, slice_get-map, option_map, Some, refl, sym, ap, subst, ◌∙◌, arith, cases_Bool, inl, inr, IsDistinct, lookup, values_of, BucketKey, DescriptorBucket, Key, key_eq}
-use Rattle.gpu_descriptor.proofs.Common.{Bucket, HasDistinctKeys, books_of, books_in, bucket_of, key_of, row_of, stored_keys, none-some, same_Some}
+use Rattle.gpu_descriptor.proofs.Common.{Bucket, HasDistinctKeys, books_of, books_in, bucket_of, key_of, named_row, row_of, stored_keys, none-some, same_Some}
 use Rattle.indexmap.specs.Layout.{set_value_at}
 use Rattle.gpu_descriptor.proofs.lists.AtPlaces.{none_at}
 use Rattle.gpu_descriptor.proofs.table.Exact.{key_exact}
-use Rattle.gpu_descriptor.proofs.table.TableBooks.{distinct_rows, put_books, rows_are, rows_in}
+use Rattle.gpu_descriptor.proofs.table.TableBooks.{distinct_rows, put_books, rows_in}
 use Rattle.gpu_descriptor.proofs.table.Tables.{key_eq_symm}
 
 abbrev pub Rows : Type 0
@@ -42,6 +42,10 @@ module _ {P : Type 0} (k : Key) where
   is_at (e ∷ es) (suc i) v key value = (let r = is_at es i v key value in record { key = r.key; at = r.at; is = r.is })
 
 module _ {P : Type 0} (name : P → ℕ) where
+  -- the row of a place of the map
+  pub row_there : (es : List (BucketKey × DescriptorBucket P)) (i : ℕ) (k : BucketKey) (v : DescriptorBucket P) → slice_get es i ≡ Some (k, v) → slice_get (rows_in name es) i ≡ Some (key_of k, bucket_of name v)
+  row_there es i k v at = slice_get-map (named_row name) (map row_of es) i ∙ ap (option_map (named_row name)) (slice_get-map row_of es i ∙ ap (option_map row_of) at)
+
   -- a bucket that is written at a place of the map is that of the row there
   pub rows_set : (es : List (BucketKey × DescriptorBucket P)) (i : ℕ) (k : BucketKey) (v w : DescriptorBucket P) → slice_get es i ≡ Some (k, v) → rows_in name (set_value_at es i w) ≡ set (rows_in name es) i (key_of k, bucket_of name w)
   rows_set [] i k v w at = absurd (none-some (k, v) at)
@@ -50,17 +54,17 @@ module _ {P : Type 0} (name : P → ℕ) where
 
   module _ {k : Key} {es : List (BucketKey × DescriptorBucket P)} (distinct : IsDistinct key_eq (stored_keys es)) {i : ℕ} {v : DescriptorBucket P} (h : IsAt k es i v) where
     here : slice_get (rows_in name es) i ≡ Some (key_of h.key, bucket_of name v)
-    here = slice_get-map (λ (e : BucketKey × DescriptorBucket P). (key_of e.0, bucket_of name e.1)) es i ∙ ap (option_map (λ (e : BucketKey × DescriptorBucket P). (key_of e.0, bucket_of name e.1))) h.at
+    here = row_there es i h.key v h.at
 
     -- the books have the bucket at the place, and after a write there the one that was written
     pub present : books_in name (map row_of es) k ≡ bucket_of name v
-    present = ap (λ (rows : Rows). books_of rows k) (rows_are name es) ∙ ap (books_of (rows_in name es)) (sym h.is) ∙ row_books (rows_in name es) i (key_of h.key, bucket_of name v) (distinct_rows name es distinct) here
+    present = ap (books_of (rows_in name es)) (sym h.is) ∙ row_books (rows_in name es) i (key_of h.key, bucket_of name v) (distinct_rows name es distinct) here
 
     pub written : (w : DescriptorBucket P) (l : Key) → books_in name (map row_of (set_value_at es i w)) l ≡ put_books (books_in name (map row_of es)) k (bucket_of name w) l
     written w l =
-        ap (λ (rows : Rows). books_of rows l) (rows_are name (set_value_at es i w) ∙ rows_set es i h.key v w h.at)
+        ap (λ (rows : Rows). books_of rows l) (rows_set es i h.key v w h.at)
         ∙ put_row (rows_in name es) i (key_of h.key, bucket_of name v) (bucket_of name w) (distinct_rows name es distinct) here l
-        ∙ (λ j. put_books (books_of (sym (rows_are name es) j)) (h.is j) (bucket_of name w) l)
+        ∙ ap (λ (m : Key). put_books (books_of (rows_in name es)) m (bucket_of name w) l) h.is
 
 -- a write at a place keeps the keys; one of what is there changes nothing
 pub keys_at : {P : Type 0} (es : List (BucketKey × DescriptorBucket P)) (i : ℕ) (w : DescriptorBucket P) → stored_keys (set_value_at es i w) ≡ stored_keys es

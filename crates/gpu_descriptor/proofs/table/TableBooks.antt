@@ -1,6 +1,6 @@
 -- The books of a table, read off the entries of the map, es.
 use Rattle.gpu_descriptor.proofs.Common.{◌≡◌, ℕ, Bool, false, List, [], ◌∷◌, map, refl, sym, ap, ◌∙◌, if◌then◌else◌, list_any, IsDistinct, AllByRecursion, or_from}
-use Rattle.gpu_descriptor.proofs.Common.{BucketKey, DescriptorPool, DescriptorBucket, Key, key_eq, Entry, Bucket, HasDistinctKeys, key_of, Allocations, named, named_row, kept_of, row_of, entry_of, bucket_of, stored_keys}
+use Rattle.gpu_descriptor.proofs.Common.{BucketKey, DescriptorPool, DescriptorBucket, Key, key_eq, Entry, Bucket, HasDistinctKeys, key_of, Allocations, named_row, row_of, stored_keys}
 use Rattle.std.specs.Map.{keys_of as map_keys}
 use Rattle.gpu_descriptor.specs.Caller.States.{keys_of}
 use Rattle.gpu_descriptor.proofs.table.Tables.{key_eq_symm}
@@ -20,21 +20,9 @@ abbrev pub put_books : (Key → Bucket) → Key → Bucket → Key → Bucket
 put_books books k b l = if key_eq k l then b else books l
 
 module _ {P : Type 0} (name : P → ℕ) where
-  -- a stored bucket is the same by its row (`kept_of`, and then `named`) as by `entry_of`
-  pub entries : (items : List (DescriptorPool P)) → map (named name) (map kept_of items) ≡ map (entry_of name) items
-  entries [] = refl
-  entries (x ∷ items) = ap (λ (l : List Entry). entry_of name x ∷ l) (entries items)
-
   -- the rows of the books that the entries of the map keep
   abbrev pub rows_in : List (BucketKey × DescriptorBucket P) → List (Key × Bucket)
-  rows_in es = map (λ e. (key_of e.0, bucket_of name e.1)) es
-
-  pub row_bucket : (r : BucketKey × DescriptorBucket P) → (named_row name (row_of r)).1 ≡ bucket_of name r.1
-  row_bucket r = λ i. record { id = r.1.id; pools = entries r.1.pools.items i }
-
-  pub rows_are : (es : List (BucketKey × DescriptorBucket P)) → map (named_row name) (map row_of es) ≡ rows_in es
-  rows_are [] = refl
-  rows_are (e ∷ es) = λ i. (key_of e.0, row_bucket e i) ∷ rows_are es i
+  rows_in es = map (named_row name) (map row_of es)
 
   -- distinct keys have a row each
   pub distinct_rows : (es : List (BucketKey × DescriptorBucket P)) → IsDistinct key_eq (stored_keys es) → HasDistinctKeys (rows_in es)

@@ -1,19 +1,20 @@
 -- Books and ledger of an allocator over a device.
 use Rattle.std.specs.Prelude.{ℕ, map, List}
 use Rattle.gpu_descriptor_types.specs.Ledger.{Ledger}
-use Rattle.gpu_descriptor.specs.Model.Books.{Key, EntryOf, BucketOf, Entry, Bucket, HasDistinctKeys, books_of, sum_over}
+use Rattle.gpu_descriptor.specs.declared.bucket.DescriptorPool.{DescriptorPool}
+use Rattle.gpu_descriptor.specs.Model.Books.{Key, BucketOf, Entry, Bucket, HasDistinctKeys, books_of, sum_over}
 use Rattle.gpu_descriptor.specs.Model.Agreement.{State, Agree}
 use Rattle.gpu_descriptor.specs.Model.Load.{sets_out, descriptors_out, bucket_load}
 use Rattle.gpu_descriptor.specs.Caller.Values.{Allocations}
 
 module _ {P : Type 0} (name : P → ℕ) where
   -- a pool in the books, under the name that the device gives it
-  abbrev pub named : EntryOf P → Entry
-  named e = record { number = e.number; pool = name e.pool; capacity = e.capacity; allocated = e.allocated; available = e.available }
+  abbrev pub entry_of : DescriptorPool P → Entry
+  entry_of e = record { number = e.number; pool = name e.pool; capacity = e.capacity; allocated = e.allocated; available = e.available }
 
   -- a bucket in the books, with the device's names for its pools
   abbrev pub named_bucket : BucketOf P → Bucket
-  named_bucket b = record { id = b.id; pools = map named b.pools }
+  named_bucket b = record { id = b.id; pools = map entry_of b.pools }
 
   -- a row of the table, with the device's names for its pools
   abbrev pub named_row : Key × BucketOf P → Key × Bucket

@@ -1,5 +1,5 @@
 -- Which pools of a key are open, which means that they have known free places; and their ordinals.
-use Rattle.gpu_descriptor.specs.Model.Books.{number_after}
+use Rattle.gpu_descriptor.specs.Model.Books.{number_after, numbers_of}
 use Rattle.std.specs.Prelude.{◌≡◌, ◌-◌, ◌≤◌, ◌<◌, ℕ, zero, suc, List, [], ◌∷◌, map, length, insert}
 use Rattle.std.specs.List.Sorted.{IsPartitionPoint}
 use Rattle.gpu_descriptor.specs.declared.bucket.DescriptorPool.{DescriptorPool}
@@ -10,13 +10,9 @@ open_ordinals first [] = []
 open_ordinals first (zero ∷ free) = open_ordinals (suc first) free
 open_ordinals first (suc n ∷ free) = first ∷ open_ordinals (suc first) free
 
--- the numbers of a bucket's pools
-abbrev pub stored_numbers : {P : Type 0} → List (DescriptorPool P) → List ℕ
-stored_numbers pools = map (λ p. p.number) pools
-
 -- the ordinal of the first pool, by which the last pool's ordinal is its number
 abbrev pub first_ordinal : {P : Type 0} → List (DescriptorPool P) → ℕ
-first_ordinal pools = number_after (stored_numbers pools) - length pools
+first_ordinal pools = number_after (numbers_of pools) - length pools
 
 -- how many free places each pool is known to have
 abbrev pub free_in : {P : Type 0} → List (DescriptorPool P) → List ℕ

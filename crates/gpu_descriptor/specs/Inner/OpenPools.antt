@@ -1,5 +1,5 @@
 -- A key's pools, as the walk of a request sees them.
-use Rattle.gpu_descriptor.specs.Inner.Stored.{entry_of}
+use Rattle.gpu_descriptor.specs.Caller.States.{entry_of}
 use Rattle.std.specs.Prelude.{◌≡◌, ℕ, ◌+◌, ◌-◌, [], Option, length, map, slice_index}
 use Rattle.std.specs.VecDeque.{deque_with_item}
 use Rattle.std.specs.Borrow.{LendsIf, MutBor, Fml, RattleType}

@@ -1,6 +1,7 @@
 -- What the allocator keeps of its pools: for each key a list of pools, and sums over all keys.
 use Rattle.std.specs.Prelude.{◌≡◌, ℕ, ◌+◌, Bool, true, false, ◌==◌, ◌&&◌, nat_eq, nat_lt, if◌then◌else◌, List, [], ◌∷◌, map, sum_by, Option}
 use Rattle.std.specs.List.{find, list_all, list_any}
+use Rattle.gpu_descriptor.specs.declared.bucket.DescriptorPool.{DescriptorPool}
 use lib.Pointwise.{pointwise}
 use mathlib.Core.Bool.{beq}
 
@@ -13,23 +14,14 @@ pub record Key : Type 0 where
 abbrev pub key_eq : Key → Key → Bool
 key_eq k l = pointwise nat_eq k.counts l.counts && beq k.marked l.marked
 
--- a pool in the books: its number among those of its key, its capacity in sets, how many sets are allocated, how many free places are known
-pub record EntryOf (X : Type 0) : Type 0 where
-  pub number : ℕ
-  -- its name, or the raw pool itself: with a parameter, sums and look-ups are defined once for both
-  pub pool : X
-  pub capacity : ℕ
-  pub allocated : ℕ
-  pub available : ℕ
-
--- the pools of a key, oldest first. Sets of the key have its id
+-- the pools of a key, oldest first. Sets of the key have its id. A pool of the books has the code's fields: its number among those of its key, its capacity in sets, how many sets are allocated, how many free places are known, and as pool its name or the raw pool itself. With a parameter, sums and look-ups are defined once for both
 pub record BucketOf (X : Type 0) : Type 0 where
   pub id : ℕ
-  pub pools : List (EntryOf X)
+  pub pools : List (DescriptorPool X)
 
 -- a pool, with the name that the device gives it
 abbrev pub Entry : Type 0
-Entry = EntryOf ℕ
+Entry = DescriptorPool ℕ
 
 -- a key's pools, with the device's names
 abbrev pub Bucket : Type 0
@@ -52,7 +44,7 @@ number_after (n ∷ m ∷ later) = number_after (m ∷ later)
 
 module _ {X : Type 0} where
   -- the numbers of these pools
-  abbrev pub numbers_of : List (EntryOf X) → List ℕ
+  abbrev pub numbers_of : List (DescriptorPool X) → List ℕ
   numbers_of pools = map (λ e. e.number) pools
 
   -- the number of the key's next pool: one more than the newest's

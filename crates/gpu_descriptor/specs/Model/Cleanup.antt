@@ -1,9 +1,9 @@
 -- What cleaning up and trimming leave: each key, or one, loses the empty pools at its front, or all empty ones.
-use Rattle.std.specs.Prelude.{◌≡◌, ℕ, Bool, true, false, nat_lt, ◌==◌, if◌then◌else◌, List, [], ◌∷◌, drop, filter, length, sum_by, take, None}
+use Rattle.std.specs.Prelude.{◌≡◌, ℕ, Bool, true, false, ◌==◌, if◌then◌else◌, List, [], ◌∷◌, drop, filter, length, sum_by, take, None}
 use Rattle.std.specs.List.{list_any, prefix_len}
 use Rattle.gpu_descriptor.specs.Model.Books.{Key, Entry, Bucket, key_eq, no_pools}
 use Rattle.gpu_descriptor.specs.Model.Agreement.{State}
-use Rattle.gpu_descriptor.specs.Model.Release.{is_empty}
+use Rattle.gpu_descriptor.specs.Model.Release.{has_sets, is_empty}
 
 -- whether one of the pools has the name
 abbrev pub are_named : List Entry → ℕ → Bool
@@ -17,7 +17,7 @@ module _ (everywhere : Bool) where
 
   -- which of them are left, in their order
   abbrev pub left_of : List Entry → List Entry
-  left_of pools = if everywhere then filter (λ e. nat_lt 0 e.allocated) pools else drop (prefix_len is_empty pools) pools
+  left_of pools = if everywhere then filter has_sets pools else drop (prefix_len is_empty pools) pools
 
 -- the bucket with these of its pools. Without pools it is that of a key that was never added
 abbrev pub with_pools : Bucket → List Entry → Bucket

@@ -1,9 +1,10 @@
 -- The effect of freeing sets on books and ledger: each pool loses its part, and then empty pools at the front are destroyed.
-use Rattle.std.specs.Prelude.{sum_by, ◌∷◌, ℕ, ◌+◌, ◌-◌, Bool, false, ◌==◌, ◌&&◌, if◌then◌else◌, min, List, [], length, map, drop, take, count_by, None, option_map}
+use Rattle.std.specs.Prelude.{sum_by, ◌∷◌, ℕ, ◌+◌, ◌-◌, Bool, false, nat_lt, ◌==◌, ◌&&◌, if◌then◌else◌, min, List, [], length, map, drop, take, count_by, None, option_map}
 use Rattle.std.specs.Option.{option_map_or}
 use Rattle.std.specs.List.{list_any, prefix_len}
 use Rattle.gpu_descriptor_types.specs.Ledger.{Pool, Counters}
 use Rattle.gpu_descriptor_types.specs.Multiset.{LiveSet, set_eq}
+use Rattle.gpu_descriptor.specs.declared.bucket.DescriptorPool.{DescriptorPool}
 use Rattle.gpu_descriptor.specs.Model.Books.{Key, key_eq, Entry, Bucket, entry_at}
 use Rattle.gpu_descriptor.specs.Model.Agreement.{State, Item, set_of}
 
@@ -30,17 +31,17 @@ given_back m s = record {
   ledger = λ pool. option_map (pool_less (λ x. count_by (λ t. lies_in s.books pool t && set_eq (set_of t) x) m)) (s.ledger pool);
 }
 
--- no set is allocated from it
+-- whether no set is allocated from it
 abbrev pub is_empty : Entry → Bool
 is_empty e = e.allocated == 0
 
--- how many empty pools are at the front
-abbrev pub empty_front : Bucket → ℕ
-empty_front b = prefix_len is_empty b.pools
+-- whether one is
+abbrev pub has_sets : {X : Type 0} → DescriptorPool X → Bool
+has_sets e = nat_lt 0 e.allocated
 
--- how many of them may be destroyed, if `keep` pools are to stay
+-- how many empty pools at the front may be destroyed, if `keep` pools are to stay
 abbrev pub front_but : ℕ → Bucket → ℕ
-front_but keep b = min (empty_front b) (length b.pools - keep)
+front_but keep b = min (prefix_len is_empty b.pools) (length b.pools - keep)
 
 -- the same if the last pool stays
 abbrev pub spent_front : Bucket → ℕ

@@ -6,16 +6,16 @@ ghost use Rattle.gpu_descriptor.specs.declared.set.DescriptorSet.{DescriptorSet}
 ghost use Rattle.gpu_descriptor.specs.declared.bucket.stop.Stop.TheVariants.{ExistingPoolWithoutMemory};
 ghost use Rattle.gpu_descriptor.specs.Caller.SetLists.{appended};
 ghost use Rattle.gpu_descriptor.specs.Caller.Sets.{PutsOfLayout, items_of};
+ghost use Rattle.gpu_descriptor.specs.Caller.States.{entry_of};
 ghost use Rattle.gpu_descriptor.specs.Inner.Buckets.{IsBookedIn, AreBookedIn};
 ghost use Rattle.gpu_descriptor.specs.Inner.Grow.{IsTaken};
 ghost use Rattle.gpu_descriptor.specs.Inner.KeyOf.{key_of};
 ghost use Rattle.gpu_descriptor.specs.Inner.OpenPools.{CountsLooks, IsListed, KeepsView, bucket_in};
 ghost use Rattle.gpu_descriptor.specs.Inner.Serves.{Appends};
 ghost use Rattle.gpu_descriptor.specs.Inner.SetAt.{set_at};
-ghost use Rattle.gpu_descriptor.specs.Inner.OpenOrdinals.{stored_numbers};
-ghost use Rattle.gpu_descriptor.specs.Inner.Stored.{bucket_of, entry_of};
+ghost use Rattle.gpu_descriptor.specs.Inner.Stored.{bucket_of};
 ghost use Rattle.gpu_descriptor.specs.Inner.Walk.{IsAsked, IsNoMemory, IsWalked};
-ghost use Rattle.gpu_descriptor.specs.Model.Books.{rises};
+ghost use Rattle.gpu_descriptor.specs.Model.Books.{numbers_of, rises};
 
 use crate::bucket::open_pools::OpenPools;
 use crate::bucket::request::SetRequest;
@@ -54,7 +54,7 @@ fn ask<L, P, S, D: DescriptorDevice<L, P, S>, K: SetPlaces<S>>(
         (entry_of D.meaning.pool_name pool.old) e (D.ledger device.old) (D.ledger device.new)) }
 {
     let count = sink.left.min(pool.available);
-    match device.alloc_descriptor_sets(&mut pool.raw, Layouts::new(request.layout, count), sink) {
+    match device.alloc_descriptor_sets(&mut pool.pool, Layouts::new(request.layout, count), sink) {
         Ok(()) => {
             pool.allocated += count;
             pool.available -= count;
@@ -82,7 +82,7 @@ fn walk<'k, L, P, S, D: DescriptorDevice<L, P, S>, K: SetPlaces<S>>(
 ) -> Result<(), DeviceAllocationError>
     requires booked { AreBookedIn (key_of request.now.key) (D.ledger device.old).pools
         (map (entry_of D.meaning.pool_name) view.old.pools.now.items) }
-    requires rising { rises (stored_numbers view.old.pools.now.items) ≡ true }
+    requires rising { rises (numbers_of view.old.pools.now.items) ≡ true }
     requires listed { IsListed view.old }
     requires left { sink.old.left ≡ request.now.count }
     ensures walked { OnOk result ((put : List (DescriptorSet S)) ×
@@ -145,8 +145,8 @@ impl<P> DescriptorBucket<P> {
         ensures appends { Appends D.meaning request.now.layout.now request.now.count sink.new.left
             (K.items sink.old.sets) (K.items sink.new.sets) }
         ensures id_stays { self.new.id ≡ self.old.id }
-        ensures numbers_stay { stored_numbers self.new.pools.items
-            ≡ stored_numbers self.old.pools.items }
+        ensures numbers_stay { numbers_of self.new.pools.items
+            ≡ numbers_of self.old.pools.items }
         ensures total { self.new.total ≡ self.old.total
             + length (appended (K.items sink.old.sets) (K.items sink.new.sets)) }
         ensures looks { CountsLooks looks.old.count looks.new.count

@@ -4,7 +4,8 @@ ghost use Rattle.std.specs.VecDeque.{deque_capacity};
 ghost use Rattle.gpu_descriptor.specs.Model.Books.{Key};
 ghost use Rattle.gpu_descriptor.specs.Inner.Buckets.{AreBookedIn, bucket_but_front, ledger_but_front};
 ghost use Rattle.gpu_descriptor.specs.Inner.KeyOf.{key_of};
-ghost use Rattle.gpu_descriptor.specs.Inner.Stored.{bucket_of, stored_load};
+ghost use Rattle.gpu_descriptor.specs.Inner.Stored.{bucket_of};
+ghost use Rattle.gpu_descriptor.specs.Model.Load.{pools_load};
 
 use crate::bucket::{DescriptorBucket, first_ordinal_of};
 use crate::key::BucketKey;
@@ -34,7 +35,7 @@ impl<P> DescriptorBucket<P> {
         room: &mut u32,
         keep: usize,
     )
-        requires room { room.old + stored_load (key_of key.now) self.old.pools.items < 2 ^ 32 }
+        requires room { room.old + pools_load (key_of key.now) self.old.pools.items < 2 ^ 32 }
         requires stored { (k : Key) × AreBookedIn k (D.ledger device.old).pools
             (bucket_of D.meaning.pool_name self.old).pools }
         ensures books { bucket_of D.meaning.pool_name self.new ≡ bucket_but_front keep
@@ -42,15 +43,15 @@ impl<P> DescriptorBucket<P> {
         ensures ledger { D.ledger device.new ≡ ledger_but_front keep
             (bucket_of D.meaning.pool_name self.old) (D.ledger device.old) }
         ensures total { self.new.total ≡ self.old.total }
-        ensures room { room.new + stored_load (key_of key.now) self.new.pools.items
-            ≡ room.old + stored_load (key_of key.now) self.old.pools.items }
+        ensures room { room.new + pools_load (key_of key.now) self.new.pools.items
+            ≡ room.old + pools_load (key_of key.now) self.old.pools.items }
     {
         while self.pools.len() > keep && self.pools[0].allocated == 0 {
             let front = self.pools.pop_front().unwrap();
             pop_if(&mut self.listed, front.available > 0);
             self.first = first_ordinal_of(&self.pools);
             *room += key.marked_descriptors_of_pool(front.capacity);
-            device.destroy_descriptor_pool(front.raw);
+            device.destroy_descriptor_pool(front.pool);
         }
     }
 }

@@ -10,9 +10,8 @@ ghost use Rattle.gpu_descriptor.specs.Inner.Grow.{IsGrown};
 ghost use Rattle.gpu_descriptor.specs.Inner.KeyOf.{key_of};
 ghost use Rattle.gpu_descriptor.specs.Inner.OpenPools.{CountsLooks};
 ghost use Rattle.gpu_descriptor.specs.Inner.SetAt.{set_at};
-ghost use Rattle.gpu_descriptor.specs.Inner.OpenOrdinals.{stored_numbers};
 ghost use Rattle.gpu_descriptor.specs.Inner.Stored.{bucket_of};
-ghost use Rattle.gpu_descriptor.specs.Model.Books.{next_number, number_after};
+ghost use Rattle.gpu_descriptor.specs.Model.Books.{next_number, number_after, numbers_of};
 ghost use Rattle.gpu_descriptor.specs.Inner.Walk.{IsRefused};
 ghost use Rattle.gpu_descriptor.specs.Model.FreshPools.{IsNextSize};
 ghost use Rattle.gpu_descriptor.specs.Model.Load.{pool_descriptors};
@@ -87,11 +86,11 @@ impl<P> DescriptorBucket<P> {
         sink: &mut RequestSink<'k, S, K>,
     ) -> Result<(), Stop>
         requires some { 0 < sink.old.left }
-        requires numbers { number_after (stored_numbers self.old.pools.items) + sink.old.left < 2 ^ 64 }
+        requires numbers { number_after (numbers_of self.old.pools.items) + sink.old.left < 2 ^ 64 }
         requires bound { self.old.total + sink.old.left < 2 ^ 64 }
         ensures grown { OnOk result ((put : List S) ×
             (K.items sink.new.sets ≡ K.items sink.old.sets ++ map (set_at (key_of request.now.key)
-            self.old.id (number_after (stored_numbers self.old.pools.items))) put) ×
+            self.old.id (number_after (numbers_of self.old.pools.items))) put) ×
             (sink.new.left + length put ≡ sink.old.left) ×
             (self.new.total ≡ self.old.total + length put) ×
             IsGrown budget.old.bound (key_of request.now.key) budget.old.room budget.new.room
@@ -133,7 +132,7 @@ impl<P> DescriptorBucket<P> {
         match device.alloc_descriptor_sets(&mut raw, Layouts::new(request.layout, given), sink) {
             Ok(()) => {
                 self.push(DescriptorPool {
-                    raw,
+                    pool: raw,
                     number,
                     capacity: size,
                     allocated: given,
@@ -169,7 +168,7 @@ impl<P> DescriptorBucket<P> {
 
     /// Appends a new pool, counts its sets, and lists it if it has free places.
     fn push(&mut self, pool: DescriptorPool<P>)
-        requires number { pool.number ≡ number_after (stored_numbers self.old.pools.items) }
+        requires number { pool.number ≡ number_after (numbers_of self.old.pools.items) }
         requires numbers { pool.number + 1 < 2 ^ 64 }
         requires bound { self.old.total + pool.allocated < 2 ^ 64 }
         requires capacity { length self.old.pools.items < deque_capacity self.old.pools }

@@ -1,7 +1,7 @@
 //! What the module `search` searches by binary search: a rising list of ordinals, or the pools by their
 //! numbers. Each read counts as a comparison.
 ghost use Rattle.std.specs.Prelude.{◌≡◌, ◌+◌, ◌<◌, ℕ, List, length, nat_lt, slice_index};
-ghost use Rattle.gpu_descriptor.specs.Inner.OpenOrdinals.{stored_numbers};
+ghost use Rattle.gpu_descriptor.specs.Model.Books.{numbers_of};
 
 use crate::bucket::DescriptorPool;
 use gpu_descriptor_types::Tally;
@@ -35,7 +35,7 @@ impl Numbered for VecDeque<u64> {
 
 /// The numbers of pools.
 impl<P> Numbered for VecDeque<DescriptorPool<P>> {
-    ghost numbers = { λ pools. stored_numbers pools.items };
+    ghost numbers = { λ pools. numbers_of pools.items };
 
     fn count(&self) -> usize {
         self.len()

@@ -1,14 +1,15 @@
 //! Freeing the sets of a run.
-ghost use Rattle.std.specs.Prelude.{◌≡◌, ◌+◌, ◌∷◌, ℕ, List, length, slice_get, IsTrue, OnSome, Some, false};
+ghost use Rattle.std.specs.Prelude.{◌≡◌, ◌+◌, ◌∷◌, ℕ, List, length, slice_get, IsTrue, OnSome, Some, false, true};
 ghost use Rattle.std.specs.Iterator.{HoldsAlong, IsNearerEnd};
+ghost use Rattle.std.specs.List.{AllByRecursion};
 ghost use Rattle.gpu_descriptor_types.specs.Ledger.{CanDrain};
 ghost use Rattle.gpu_descriptor.specs.Caller.Comparisons.{gap_digits, search_digits};
 ghost use Rattle.gpu_descriptor.specs.Inner.Buckets.{AreBookedIn};
-ghost use Rattle.gpu_descriptor.specs.Inner.OpenOrdinals.{stored_numbers};
 ghost use Rattle.gpu_descriptor.specs.Inner.Releases.{Compares, IsTakenAt, Releases, names_of};
-ghost use Rattle.gpu_descriptor.specs.Inner.RunSteps.{AllPass, EndsRun, at_place};
-ghost use Rattle.gpu_descriptor.specs.Inner.Stored.{bucket_of, stored_load};
-ghost use Rattle.gpu_descriptor.specs.Model.Books.{Key};
+ghost use Rattle.gpu_descriptor.specs.Inner.RunSteps.{EndsRun, at_place};
+ghost use Rattle.gpu_descriptor.specs.Inner.Stored.{bucket_of};
+ghost use Rattle.gpu_descriptor.specs.Model.Books.{Key, numbers_of};
+ghost use Rattle.gpu_descriptor.specs.Model.Load.{pools_load};
 
 use crate::bucket::DescriptorBucket;
 use crate::bucket::run::Run;
@@ -36,8 +37,8 @@ impl<P> DescriptorBucket<P> {
         requires ends { CanDrain I.can_next I.remaining sets.old }
         requires stored { AreBookedIn first.key.is (D.ledger device.old).pools
             (bucket_of D.meaning.pool_name self.old).pools }
-        requires taken { HoldsAlong I.next_gives sets.old (λ xs. AllPass
-            (at_place first.id first.number) xs → IsTakenAt first.key.is first.number
+        requires taken { HoldsAlong I.next_gives sets.old (λ xs. AllByRecursion
+            (λ y. at_place first.id first.number y ≡ true) xs → IsTakenAt first.key.is first.number
             (names_of D.meaning.set_name (first ∷ xs)) (bucket_of D.meaning.pool_name self.old)
             (D.ledger device.old).pools) }
         ensures ran { (run : List (DescriptorSet S)) ×
@@ -48,8 +49,8 @@ impl<P> DescriptorBucket<P> {
             (self.new.total + length (first ∷ run) ≡ self.old.total) }
         ensures stored { AreBookedIn first.key.is (D.ledger device.new).pools
             (bucket_of D.meaning.pool_name self.new).pools }
-        ensures load { (k : Key) → stored_load k self.new.pools.items
-            ≡ stored_load k self.old.pools.items }
+        ensures load { (k : Key) → pools_load k self.new.pools.items
+            ≡ pools_load k self.old.pools.items }
         ensures goes { OnSome result (IsNearerEnd I.can_next I.remaining sets.old sets.new) }
         ensures compares { Compares (search_digits (bucket_of D.meaning.pool_name self.old))
             comparisons.old.count comparisons.new.count }
@@ -68,7 +69,7 @@ impl<P> DescriptorBucket<P> {
             number,
             count: 0,
         };
-        device.dealloc_descriptor_sets(&mut pool.raw, &mut run);
+        device.dealloc_descriptor_sets(&mut pool.pool, &mut run);
         let count = run.finish();
         pool.allocated -= count;
         pool.available += count;
@@ -81,10 +82,10 @@ impl<P> DescriptorBucket<P> {
     /// else the pool is searched for.
     #[inline]
     fn place_of_pool(&self, number: u64, comparisons: &mut Tally) -> usize
-        requires there { (i : ℕ) × (slice_get (stored_numbers self.now.pools.items) i
+        requires there { (i : ℕ) × (slice_get (numbers_of self.now.pools.items) i
             ≡ Some number) }
-        ensures place { slice_get (stored_numbers self.now.pools.items) result ≡ Some number }
-        ensures compares { Compares (gap_digits (stored_numbers self.now.pools.items))
+        ensures place { slice_get (numbers_of self.now.pools.items) result ≡ Some number }
+        ensures compares { Compares (gap_digits (numbers_of self.now.pools.items))
             comparisons.old.count comparisons.new.count }
     {
         // A program that never trims compares one number, and no map of places is kept as pools go.
@@ -98,9 +99,9 @@ impl<P> DescriptorBucket<P> {
     /// Whether the pool at this place has this number.
     #[inline]
     fn has_number(&self, place: usize, number: u64) -> bool
-        ensures yes { IsTrue result → slice_get (stored_numbers self.now.pools.items) place
+        ensures yes { IsTrue result → slice_get (numbers_of self.now.pools.items) place
             ≡ Some number }
-        ensures no { result ≡ false → slice_get (stored_numbers self.now.pools.items) place
+        ensures no { result ≡ false → slice_get (numbers_of self.now.pools.items) place
             ≡ Some number → ⊥ }
     {
         match self.pools.get(place) {

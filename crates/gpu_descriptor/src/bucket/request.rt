@@ -8,9 +8,9 @@ ghost use Rattle.gpu_descriptor.specs.Inner.Grow.{IsTaken};
 ghost use Rattle.gpu_descriptor.specs.Inner.KeyOf.{key_of};
 ghost use Rattle.gpu_descriptor.specs.Inner.OpenPools.{CountsLooks};
 ghost use Rattle.gpu_descriptor.specs.Inner.Serves.{Appends, IsUnserved};
-ghost use Rattle.gpu_descriptor.specs.Inner.Stored.{bucket_of, stored_load};
-ghost use Rattle.gpu_descriptor.specs.Model.Books.{number_after};
-ghost use Rattle.gpu_descriptor.specs.Inner.OpenOrdinals.{stored_numbers};
+ghost use Rattle.gpu_descriptor.specs.Inner.Stored.{bucket_of};
+ghost use Rattle.gpu_descriptor.specs.Model.Books.{number_after, numbers_of};
+ghost use Rattle.gpu_descriptor.specs.Model.Load.{pools_load};
 
 use crate::bucket::request_sink::RequestSink;
 use crate::bucket::stop::Stop;
@@ -47,10 +47,10 @@ impl<P: Drop> DescriptorBucket<P> {
     ) -> Result<(), AllocationError>
         ensures sets { K.items sink.new.sets ≡ K.items sink.old.sets }
         ensures left { OnOk result (sink.new.left ≡ count) }
-        ensures numbers { OnOk result (number_after (stored_numbers self.now.pools.items) + count
+        ensures numbers { OnOk result (number_after (numbers_of self.now.pools.items) + count
             < 2 ^ 64) }
         ensures refused { IfErr result (IsUnserved count (number_after
-            (stored_numbers self.now.pools.items))) }
+            (numbers_of self.now.pools.items))) }
     {
         if would_exceed_64_bits(self.next_number(), count) {
             return Err(AllocationError::Fragmentation);
@@ -73,7 +73,7 @@ impl<P: Drop> DescriptorBucket<P> {
         requires booked { AreBookedIn (key_of request.now.key) (D.ledger device.old).pools
             (bucket_of D.meaning.pool_name self.old).pools }
         requires bound { self.old.total + request.now.count < 2 ^ 64 }
-        requires numbers { number_after (stored_numbers self.old.pools.items) + request.now.count
+        requires numbers { number_after (numbers_of self.old.pools.items) + request.now.count
             < 2 ^ 64 }
         requires left { sink.old.left ≡ request.now.count }
         ensures taken { IsTaken result budget.old.bound (key_of request.now.key) budget.old.room
@@ -88,8 +88,8 @@ impl<P: Drop> DescriptorBucket<P> {
         ensures total { self.new.total ≡ self.old.total
             + length (appended (K.items sink.old.sets) (K.items sink.new.sets)) }
         ensures all { OnOk result (sink.new.left ≡ 0) }
-        ensures room { budget.new.room + stored_load (key_of request.now.key) self.new.pools.items
-            ≡ budget.old.room + stored_load (key_of request.now.key) self.old.pools.items }
+        ensures room { budget.new.room + pools_load (key_of request.now.key) self.new.pools.items
+            ≡ budget.old.room + pools_load (key_of request.now.key) self.old.pools.items }
         ensures bound { budget.new.bound ≡ budget.old.bound }
         ensures looks { CountsLooks budget.old.looks.count budget.new.looks.count
             (D.ledger device.old) (D.ledger device.new) }

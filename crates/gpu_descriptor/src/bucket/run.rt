@@ -2,7 +2,7 @@
 ghost use Rattle.std.specs.Prelude.{◌≡◌, ◌+◌};
 ghost use Rattle.std.specs.Iterator.{count_map};
 ghost use Rattle.std.specs.Option.{option_len};
-ghost use Rattle.gpu_descriptor.specs.Inner.RunSteps.{CountsFrom, RunStep};
+ghost use Rattle.gpu_descriptor.specs.Inner.RunSteps.{RunStep};
 
 use crate::set::DescriptorSet;
 
@@ -19,15 +19,14 @@ pub(crate) struct Run<'a, 'b, I, S> {
     /// The number of their pool.
     pub(crate) number: u64,
 
-    /// How many sets were yielded so far.
+    /// How many sets were yielded so far. A pool has fewer than 2^32.
     pub(crate) count: u32,
 }
 
 impl<S, I: Iterator<Item = DescriptorSet<S>>> Iterator for Run<'_, '_, I, S> {
     type Item = S;
 
-    ghost can_next = { λ s. I.can_next s.source.now
-        × CountsFrom I.next_gives s.id s.number s.source.now (s.count + option_len s.ahead.now) };
+    ghost can_next = { λ s. I.can_next s.source.now };
 
     ghost next_gives = { RunStep I.next_gives I.can_next I.remaining };
 
@@ -41,7 +40,7 @@ impl<S, I: Iterator<Item = DescriptorSet<S>>> Iterator for Run<'_, '_, I, S> {
             None => self.source.next()?,
         };
         if set.is_at(self.id, self.number) {
-            self.count += 1;
+            self.count = self.count.wrapping_add(1);
             let DescriptorSet {
                 raw,
                 number: _,

@@ -4,9 +4,9 @@ ghost use Rattle.std.specs.Prelude.{◌≡◌, ◌+◌, ◌<◌, ◌≤◌, ℕ,
 ghost use Rattle.std.specs.VecDeque.{deque_capacity};
 ghost use Rattle.std.specs.List.Sorted.{IsNonDecreasing, IsPartitionPoint};
 ghost use Rattle.gpu_descriptor.specs.Caller.Comparisons.{binary_digits};
-ghost use Rattle.gpu_descriptor.specs.Inner.OpenOrdinals.{IsEntered, stored_numbers};
+ghost use Rattle.gpu_descriptor.specs.Inner.OpenOrdinals.{IsEntered};
 ghost use Rattle.gpu_descriptor.specs.Inner.Releases.{Compares};
-ghost use Rattle.gpu_descriptor.specs.Model.Books.{rises};
+ghost use Rattle.gpu_descriptor.specs.Model.Books.{numbers_of, rises};
 
 use crate::bucket::DescriptorPool;
 use crate::bucket::numbers::{Numbered, Numbers};
@@ -45,9 +45,9 @@ pub(crate) fn search_pools<P>(
     number: u64,
     comparisons: &mut Tally,
 ) -> usize
-    requires rising { rises (stored_numbers pools.now.items) ≡ true }
-    requires there { (i : ℕ) × (slice_get (stored_numbers pools.now.items) i ≡ Some number) }
-    ensures place { slice_get (stored_numbers pools.now.items) result ≡ Some number }
+    requires rising { rises (numbers_of pools.now.items) ≡ true }
+    requires there { (i : ℕ) × (slice_get (numbers_of pools.now.items) i ≡ Some number) }
+    ensures place { slice_get (numbers_of pools.now.items) result ≡ Some number }
     ensures compares { Compares (binary_digits (length pools.now.items)) comparisons.old.count
         comparisons.new.count }
 {

@@ -4,10 +4,12 @@ ghost use Rattle.std.specs.VecDeque.{deque_capacity};
 ghost use Rattle.gpu_descriptor.specs.Inner.Buckets.{AreBookedIn, ledger_but};
 ghost use Rattle.gpu_descriptor.specs.Inner.KeyOf.{key_of};
 ghost use Rattle.gpu_descriptor.specs.Inner.OpenOrdinals.{first_ordinal, free_in, open_ordinals};
-ghost use Rattle.gpu_descriptor.specs.Inner.OpenOrdinals.{stored_numbers};
-ghost use Rattle.gpu_descriptor.specs.Inner.Stored.{bucket_of, entry_of, has_sets, stored_load};
-ghost use Rattle.gpu_descriptor.specs.Model.Books.{Key, number_after, rises};
+ghost use Rattle.gpu_descriptor.specs.Inner.Stored.{bucket_of};
+ghost use Rattle.gpu_descriptor.specs.Caller.States.{entry_of};
+ghost use Rattle.gpu_descriptor.specs.Model.Books.{Key, number_after, numbers_of, rises};
 ghost use Rattle.gpu_descriptor.specs.Model.Cleanup.{gone_of, left_of};
+ghost use Rattle.gpu_descriptor.specs.Model.Load.{pools_load};
+ghost use Rattle.gpu_descriptor.specs.Model.Release.{has_sets};
 
 use crate::bucket::{DescriptorBucket, DescriptorPool, first_ordinal_of};
 use crate::key::BucketKey;
@@ -24,7 +26,7 @@ impl<P> DescriptorBucket<P> {
         room: &mut u32,
         everywhere: bool,
     )
-        requires room { room.old + stored_load (key_of key.now) self.old.pools.items < 2 ^ 32 }
+        requires room { room.old + pools_load (key_of key.now) self.old.pools.items < 2 ^ 32 }
         requires stored { (k : Key) × AreBookedIn k (D.ledger device.old).pools
             (bucket_of D.meaning.pool_name self.old).pools }
         ensures books { bucket_of D.meaning.pool_name self.new
@@ -35,8 +37,8 @@ impl<P> DescriptorBucket<P> {
         ensures ledger { D.ledger device.new ≡ ledger_but (gone_of everywhere
             (bucket_of D.meaning.pool_name self.old).pools) (D.ledger device.old) }
         ensures total { self.new.total ≡ self.old.total }
-        ensures room { room.new + stored_load (key_of key.now) self.new.pools.items
-            ≡ room.old + stored_load (key_of key.now) self.old.pools.items }
+        ensures room { room.new + pools_load (key_of key.now) self.new.pools.items
+            ≡ room.old + pools_load (key_of key.now) self.old.pools.items }
     {
         if !everywhere {
             self.destroy_empty_front(device, key, room, 0);
@@ -71,15 +73,15 @@ fn destroy_without_sets<L, P, S, D: DescriptorDevice<L, P, S>>(
     key: &BucketKey,
     room: &mut u32,
 )
-    requires room { room.old + stored_load (key_of key.now) pools.old.items < 2 ^ 32 }
+    requires room { room.old + pools_load (key_of key.now) pools.old.items < 2 ^ 32 }
     requires stored { (k : Key) × AreBookedIn k (D.ledger device.old).pools
         (map (entry_of D.meaning.pool_name) pools.old.items) }
     ensures left { pools.new.items ≡ filter has_sets pools.old.items }
     ensures capacity { deque_capacity pools.new ≡ deque_capacity pools.old }
     ensures ledger { D.ledger device.new ≡ ledger_but (gone_of true
         (map (entry_of D.meaning.pool_name) pools.old.items)) (D.ledger device.old) }
-    ensures room { room.new + stored_load (key_of key.now) pools.new.items
-        ≡ room.old + stored_load (key_of key.now) pools.old.items }
+    ensures room { room.new + pools_load (key_of key.now) pools.new.items
+        ≡ room.old + pools_load (key_of key.now) pools.old.items }
 {
     for _ in 0..pools.len() {
         let pool = pools.pop_front().unwrap();
@@ -87,15 +89,15 @@ fn destroy_without_sets<L, P, S, D: DescriptorDevice<L, P, S>>(
             pools.push_back_reserved(pool);
         } else {
             *room += key.marked_descriptors_of_pool(pool.capacity);
-            device.destroy_descriptor_pool(pool.raw);
+            device.destroy_descriptor_pool(pool.pool);
         }
     }
 }
 
 /// Lists the pools with known free places again.
 fn relist<P>(listed: &mut VecDeque<u64>, pools: &VecDeque<DescriptorPool<P>>)
-    requires rising { rises (stored_numbers pools.now.items) ≡ true }
-    requires numbered { number_after (stored_numbers pools.now.items) < 2 ^ 64 }
+    requires rising { rises (numbers_of pools.now.items) ≡ true }
+    requires numbered { number_after (numbers_of pools.now.items) < 2 ^ 64 }
     requires capacity { length pools.now.items ≤ deque_capacity listed.old }
     ensures listed { listed.new.items ≡ open_ordinals (first_ordinal pools.now.items)
         (free_in pools.now.items) }

@@ -19,7 +19,7 @@ use crate::kit::collections::VecDeque;
 /// A pool, and its books.
 #[derive(Debug)]
 pub(crate) struct DescriptorPool<P> {
-    pub(crate) raw: P,
+    pub(crate) pool: P,
 
     /// Its number, greater than that of each older pool of its key.
     pub(crate) number: u64,

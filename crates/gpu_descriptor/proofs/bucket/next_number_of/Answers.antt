@@ -1,10 +1,10 @@
-use Rattle.gpu_descriptor.proofs.Common.{common_steps, ◌≡◌, ◌+◌, sym, arith, number_after, slice_get_read, stored_numbers}
+use Rattle.gpu_descriptor.proofs.Common.{common_steps, ◌≡◌, ◌+◌, sym, arith, number_after, slice_get_read, numbers_of}
 use Rattle.gpu_descriptor.proofs.lists.Ordinals.{next_after}
 use Rattle.gpu_descriptor.proofs.bucket.next_number_of.Goals.{In-Some}
 use Rattle.gpu_descriptor.proofs.bucket.next_number_of.Goals as goal
 
 -- the newest pool is the last
-next : (g : _) (c : In-Some g) → number_after (stored_numbers c.args.pools.now.items) ≡ c.in-Some.newest.now.number + 1
+next : (g : _) (c : In-Some g) → number_after (numbers_of c.args.pools.now.items) ≡ c.in-Some.newest.now.number + 1
 next g c = grind (arith, common_steps, next_after, slice_get_read)
 
 pub overflow_add-result : goal.overflow_add-result

@@ -22,7 +22,7 @@ fn ask<L, P, S, D: DescriptorDevice<L, P, S>, K: SetPlaces<S>>(
 ) -> Result<(), DeviceAllocationError>
 {
     let count = sink.left.min(pool.available);
-    match device.alloc_descriptor_sets(&mut pool.raw, Layouts::new(request.layout, count), sink) {
+    match device.alloc_descriptor_sets(&mut pool.pool, Layouts::new(request.layout, count), sink) {
         Ok(()) => {
             pool.allocated += count;
             pool.available -= count;

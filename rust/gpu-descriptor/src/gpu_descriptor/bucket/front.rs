@@ -32,7 +32,7 @@ impl<P> DescriptorBucket<P> {
             pop_if(&mut self.listed, front.available > 0);
             self.first = first_ordinal_of(&self.pools);
             *room += key.marked_descriptors_of_pool(front.capacity);
-            device.destroy_descriptor_pool(front.raw);
+            device.destroy_descriptor_pool(front.pool);
         }
     }
 }

@@ -75,7 +75,7 @@ impl<P> DescriptorBucket<P> {
         match device.alloc_descriptor_sets(&mut raw, Layouts::new(request.layout, given), sink) {
             Ok(()) => {
                 self.push(DescriptorPool {
-                    raw,
+                    pool: raw,
                     number,
                     capacity: size,
                     allocated: given,

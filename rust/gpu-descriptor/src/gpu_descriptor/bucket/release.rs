@@ -38,7 +38,7 @@ impl<P> DescriptorBucket<P> {
             number,
             count: 0,
         };
-        device.dealloc_descriptor_sets(&mut pool.raw, &mut run);
+        device.dealloc_descriptor_sets(&mut pool.pool, &mut run);
         let count = run.finish();
         pool.allocated -= count;
         pool.available += count;

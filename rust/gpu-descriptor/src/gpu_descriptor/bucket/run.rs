@@ -15,7 +15,7 @@ pub(crate) struct Run<'a, 'b, I, S> {
     /// The number of their pool.
     pub(crate) number: u64,
 
-    /// How many sets were yielded so far.
+    /// How many sets were yielded so far. A pool has fewer than 2^32.
     pub(crate) count: u32,
 }
 
@@ -29,7 +29,7 @@ impl<S, I: Iterator<Item = DescriptorSet<S>>> Iterator for Run<'_, '_, I, S> {
             None => self.source.next()?,
         };
         if set.is_at(self.id, self.number) {
-            self.count += 1;
+            self.count = self.count.wrapping_add(1);
             let DescriptorSet {
                 raw,
                 number: _,

@@ -56,7 +56,7 @@ fn destroy_without_sets<L, P, S, D: DescriptorDevice<L, P, S>>(
             pools.push_back_reserved(pool);
         } else {
             *room += key.marked_descriptors_of_pool(pool.capacity);
-            device.destroy_descriptor_pool(pool.raw);
+            device.destroy_descriptor_pool(pool.pool);
         }
     }
 }

@@ -1,4 +1,4 @@
-use Rattle.gpu_descriptor.proofs.Common.{map, option_map, ◌<◌, ◌≤◌, arith, rules, ap, sym, ◌∙◌, length, refl, inl, inr, cases_lt, length-map, slice_get-map, slice_get_past, slice_get_read, option_copied, Allocations, Key, BucketOf, EntryOf, key_of, kept_of, false≢true}
+use Rattle.gpu_descriptor.proofs.Common.{map, option_map, ◌<◌, ◌≤◌, arith, rules, ap, sym, ◌∙◌, length, refl, inl, inr, cases_lt, slice_get_past, slice_get_read, option_copied, Allocations, Key, BucketOf, DescriptorPool, key_of, false≢true}
 use Rattle.gpu_descriptor.specs.Caller.Views.{view_in}
 use Rattle.gpu_descriptor.proofs.table.Readings.{seen_at}
 use Rattle.gpu_descriptor.proofs.allocator.DescriptorAllocator.pool.Goals as goal
@@ -19,8 +19,8 @@ returns-in_err-pool g c =
       | inr le ↦ omega arith
     ] in
     let here = seen_at _ k (λ l. search rules) c.args.self.now c.self.inside.table.buckets.entries (ap (λ (a : Allocations _). a.table) c.self.view_is) (sym c.get.ensures.value ∙ ap option_copied c.in_ok-bucket.was) in
-    let past = slice_get_past (map kept_of q.items) c.args.index (let e = length-map q.items kept_of in omega arith) in
-    record { view = c.from_residual-in_err-pool.ensures ∙ sym (ap (λ (b : BucketOf _). view_in b c.args.index) here ∙ ap (option_map (λ (e : EntryOf _). record { number = e.number; allocated = e.allocated; available = e.available })) past) }
+    let past = slice_get_past q.items c.args.index short in
+    record { view = c.from_residual-in_err-pool.ensures ∙ sym (ap (λ (b : BucketOf _). view_in b c.args.index) here ∙ ap (option_map (λ (e : DescriptorPool _). record { number = e.number; allocated = e.allocated; available = e.available })) past) }
 
 pub returns : goal.returns
 returns g c =
@@ -28,5 +28,5 @@ returns g c =
     let lt : c.args.index < length c.in_ok-bucket.bucket.now.pools.items = (let lt = c.in_ok-pool.ensures.variant.0 refl in omega (arith, c.in_ok-bucket.bucket.now.pools.ok.0)) in
     let b = c.in_ok-bucket.bucket.now in
     let here = seen_at _ k (λ l. search rules) c.args.self.now c.self.inside.table.buckets.entries (ap (λ (a : Allocations _). a.table) c.self.view_is) (sym c.get.ensures.value ∙ ap option_copied c.in_ok-bucket.was) in
-    let there = slice_get-map kept_of b.pools.items c.args.index ∙ ap (option_map kept_of) (slice_get_read b.pools.items (length b.pools.items) c.args.index c.in_ok-pool.pool.now refl lt c.in_ok-pool.ensures.lookup) in
-    record { view = sym (ap (λ (r : BucketOf _). view_in r c.args.index) here ∙ ap (option_map (λ (e : EntryOf _). record { number = e.number; allocated = e.allocated; available = e.available })) there) }
+    let there = slice_get_read b.pools.items (length b.pools.items) c.args.index c.in_ok-pool.pool.now refl lt c.in_ok-pool.ensures.lookup in
+    record { view = sym (ap (λ (r : BucketOf _). view_in r c.args.index) here ∙ ap (option_map (λ (e : DescriptorPool _). record { number = e.number; allocated = e.allocated; available = e.available })) there) }

@@ -1,5 +1,5 @@
 use Rattle.gpu_descriptor.proofs.Common.{common_steps}
-use Rattle.gpu_descriptor.proofs.Common.{length, bucket_but_front, ◌≡◌, ◌+◌, ◌-◌, ℕ, arith, refl, sym, ap, ◌∙◌, List, [], ◌∷◌, subst, IsDistinct, Bucket, Key, key_eq, key_of, Allocations, DescriptorSet, items_of, state_of, binary_digits, rises, stored_ids, ◌++◌, stored_load, set_descriptors}
+use Rattle.gpu_descriptor.proofs.Common.{length, bucket_but_front, ◌≡◌, ◌+◌, ◌-◌, ℕ, arith, refl, sym, ap, ◌∙◌, List, [], ◌∷◌, subst, IsDistinct, Bucket, Key, key_eq, key_of, Allocations, DescriptorSet, items_of, state_of, binary_digits, rises, stored_ids, ◌++◌, pools_load, set_descriptors}
 use Rattle.indexmap.specs.Layout.{set_value_at}
 use Rattle.gpu_descriptor.proofs.callers.HeldSets.{out_back, out_less}
 use Rattle.gpu_descriptor.proofs.release.LentRow.{row_open, row_stored, row_taken, row_ran, row_counted}
@@ -58,7 +58,7 @@ pub destroy_empty_front-requires-clause-room : goal.destroy_empty_front-requires
 destroy_empty_front-requires-clause-room g c =
     let at = (goal.at.destroy_empty_front-requires-clause-room g c).After-pair_mut-bucket in
     let below = pools_present (there g at) in
-    let same = ap (λ (k : Key). stored_load k c.pair_mut-bucket.result.1.now.pools.items) (own g at) in
+    let same = ap (λ (k : Key). pools_load k c.pair_mut-bucket.result.1.now.pools.items) (own g at) in
     let load = c.release_sets-ahead.ensures.load (key_of c.pair_mut-bucket.result.0.now) in
     let all = (opened c.self.invariant).is_room in
     omega arith
@@ -119,10 +119,10 @@ invariant_of-self g c =
     let here = there g at.After-pair_mut-bucket in
     let same = own g at.After-pair_mut-bucket in
     let key = key_of c.pair_mut-bucket.result.0.now in
-    let moved : c.destroy_empty_front.new.room + stored_load key c.destroy_empty_front.new.self.pools.items ≡ c.self.inside.budget.room + stored_load key c.pair_mut-bucket.result.1.now.pools.items =
+    let moved : c.destroy_empty_front.new.room + pools_load key c.destroy_empty_front.new.self.pools.items ≡ c.self.inside.budget.room + pools_load key c.pair_mut-bucket.result.1.now.pools.items =
     c.destroy_empty_front.ensures.room ∙ ap (λ n. c.self.inside.budget.room + n) (c.release_sets-ahead.ensures.load key) in
     closed (counted_after (run_taken g at.After-destroy_empty_front here) (opened c.self.invariant) (c.marked_descriptors_of_sets-descriptors.ensures ∙ ap (λ (k : Key). set_descriptors k (c.pair_mut-bucket.result.1.now.total - c.destroy_empty_front.new.self.total)) same)
-    (pools_set here c.destroy_empty_front.new.self _ _ (subst (λ (k : Key). c.destroy_empty_front.new.room + stored_load k c.destroy_empty_front.new.self.pools.items ≡ c.self.inside.budget.room + stored_load k c.pair_mut-bucket.result.1.now.pools.items) same moved)))
+    (pools_set here c.destroy_empty_front.new.self _ _ (subst (λ (k : Key). c.destroy_empty_front.new.room + pools_load k c.destroy_empty_front.new.self.pools.items ≡ c.self.inside.budget.room + pools_load k c.pair_mut-bucket.result.1.now.pools.items) same moved)))
 
 pub returns-clause-ran : goal.returns-clause-ran
 returns-clause-ran g c =

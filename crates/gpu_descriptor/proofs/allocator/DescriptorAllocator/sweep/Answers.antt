@@ -1,4 +1,4 @@
-use Rattle.gpu_descriptor.proofs.Common.{◌≡◌, ◌≤◌, ◌+◌, ℕ, List, suc, rules, refl, sym, ap, subst, ◌∙◌, arith, length, map, length-map, take_all, IsDistinct, Ledger, Bucket, key_eq, key_of, Allocations, AreBookedIn, has_pools, rises, stored_ids, outstanding_of, marked_load_of, bucket_of, row_of}
+use Rattle.gpu_descriptor.proofs.Common.{◌≡◌, ◌≤◌, ◌+◌, ℕ, List, suc, rules, refl, sym, ap, subst, ◌∙◌, arith, length, map, length-map, take_all, IsDistinct, Ledger, Bucket, key_eq, key_of, Allocations, AreBookedIn, has_pools, rises, stored_ids, outstanding_of, marked_load_of, bucket_of, named_row, row_of}
 use Rattle.gpu_descriptor.proofs.Common.{◌++◌, ◌∷◌, []}
 use Rattle.indexmap.proofs.CallerLemmas.{filter-RetainsPairs}
 use Rattle.indexmap.specs.Layout.{length-set_value_at}
@@ -93,7 +93,7 @@ returns g c =
     let was = ap (λ (a : Allocations _). a.table) (sym c.self.view_is) in
     let distinct = distinct_rows name es c.self.inside.table.distinct in
     let kept = filter-RetainsPairs _ (λ e. has_pools e.1) _ (λ k v b w f call. search rules) _ _ c.retain.ensures.filtered in
-    let le : length (rows_in name es) ≤ c.loop-place.place = (let rows : length (rows_in name es) ≡ length es = length-map es (λ e. (key_of e.0, bucket_of name e.1)) in omega arith) in
+    let le : length (rows_in name es) ≤ c.loop-place.place = (let rows : length (rows_in name es) ≡ length es = length-map (map row_of es) (named_row name) ∙ length-map es row_of in omega arith) in
     let rows = h.rows ∙ all_cleared c.args.everywhere c.loop-place.place (rows_in name es) le in
     let less = h.ledger ∙ ap (λ l. ledger_less c.args.everywhere l (ledger c.args.device.now)) (take_all c.loop-place.place (rows_in name es) le) in
     let counted = counted_filter _ _ _ _ _ _ kept h.counted in

@@ -1,4 +1,4 @@
-use Rattle.gpu_descriptor.proofs.Common.{true, refl, sym, ap, ◌∙◌, arith, length, map, sum_by, DescriptorPool, entry_of, gone_of, has_sets, ledger_but, left_of, number_after, rises, stored_numbers}
+use Rattle.gpu_descriptor.proofs.Common.{true, refl, sym, ap, ◌∙◌, arith, length, map, sum_by, DescriptorPool, entry_of, gone_of, has_sets, ledger_but, left_of, number_after, rises, numbers_of}
 use Rattle.gpu_descriptor.proofs.cleanup.Rotation.{entries_left, length_left, none_destroyed, sets_left}
 use Rattle.gpu_descriptor.proofs.cleanup.Splitting.{gone_twice}
 use Rattle.gpu_descriptor.proofs.release.StoredNumbers.{next_stored, rises_stored}
@@ -9,8 +9,8 @@ relist-requires g c =
     let left = c.destroy_without_sets.ensures.left in
     let items = c.args.self.now.pools.items in
     record {
-      rising = ap (λ ps. rises (stored_numbers ps)) left ∙ rises_stored has_sets items c.args.self.now.rising;
-      numbered = (let less = next_stored has_sets items c.args.self.now.rising in let same = ap (λ ps. number_after (stored_numbers ps)) left in let was = c.args.self.now.numbered in omega arith);
+      rising = ap (λ ps. rises (numbers_of ps)) left ∙ rises_stored has_sets items c.args.self.now.rising;
+      numbered = (let less = next_stored has_sets items c.args.self.now.rising in let same = ap (λ ps. number_after (numbers_of ps)) left in let was = c.args.self.now.numbered in omega arith);
       capacity = (let fewer = length_left items in let same = ap length left in let was = c.args.self.now.capacity in omega arith);
     }
 
@@ -20,8 +20,8 @@ invariant_of-self g c =
     let items = c.args.self.now.pools.items in
     record {
       ordinal = c.first_ordinal_of-self.ensures.first;
-      numbered = (let less = next_stored has_sets items c.args.self.now.rising in let same = ap (λ ps. number_after (stored_numbers ps)) left in let was = c.args.self.now.numbered in omega arith);
-      rising = ap (λ ps. rises (stored_numbers ps)) left ∙ rises_stored has_sets items c.args.self.now.rising;
+      numbered = (let less = next_stored has_sets items c.args.self.now.rising in let same = ap (λ ps. number_after (numbers_of ps)) left in let was = c.args.self.now.numbered in omega arith);
+      rising = ap (λ ps. rises (numbers_of ps)) left ∙ rises_stored has_sets items c.args.self.now.rising;
       counted = c.args.self.now.counted ∙ sym (ap (sum_by (λ (p : DescriptorPool _). p.allocated)) left ∙ sets_left items);
       «open» = c.relist.ensures.listed;
       capacity = (let fewer = length_left items in let same = ap length left in let was = c.args.self.now.capacity in let stays = c.relist.ensures.capacity in omega arith);
@@ -32,8 +32,8 @@ first_ordinal_of-self-requires g c =
     let left = c.destroy_without_sets.ensures.left in
     let items = c.args.self.now.pools.items in
     record {
-      numbered = (let less = next_stored has_sets items c.args.self.now.rising in let same = ap (λ ps. number_after (stored_numbers ps)) left in let was = c.args.self.now.numbered in omega arith);
-      rising = ap (λ ps. rises (stored_numbers ps)) left ∙ rises_stored has_sets items c.args.self.now.rising;
+      numbered = (let less = next_stored has_sets items c.args.self.now.rising in let same = ap (λ ps. number_after (numbers_of ps)) left in let was = c.args.self.now.numbered in omega arith);
+      rising = ap (λ ps. rises (numbers_of ps)) left ∙ rises_stored has_sets items c.args.self.now.rising;
     }
 
 pub returns-clause-books : goal.returns-clause-books

@@ -1,4 +1,4 @@
-use Rattle.gpu_descriptor.proofs.Common.{common_steps, ◌≡◌, ◌+◌, drop, ◌<◌, ◌≤◌, ◌∙◌, sym, ap, arith, length, key_of, pool_descriptors, bucket_of, stored_load}
+use Rattle.gpu_descriptor.proofs.Common.{common_steps, ◌≡◌, ◌+◌, drop, ◌<◌, ◌≤◌, ◌∙◌, sym, ap, arith, length, key_of, pool_descriptors, bucket_of, pools_load}
 use Rattle.gpu_descriptor.proofs.sums.PoolLoads.{stored_first}
 use Rattle.gpu_descriptor.proofs.release.StoredNumbers.{popped_numbers, popped_open}
 use Rattle.gpu_descriptor.proofs.release.FrontPool.{IsFront, is_front, turn_unused, turn, stop_full, stop_short, still}
@@ -8,7 +8,7 @@ use Rattle.gpu_descriptor.proofs.bucket.DescriptorBucket.destroy_empty_front.Goa
 front : (g : _) (c : After-unwrap-front g) → IsFront g.D.DescriptorDevice.meaning.pool_name c.args.keep c.loop-self.self.pools.items c.unwrap-front.result
 front g c = grind (arith, common_steps, is_front)
 
-first_load : (g : _) (c : After-unwrap-front g) → stored_load (key_of c.args.key.now) c.loop-self.self.pools.items ≡ pool_descriptors (key_of c.args.key.now) c.unwrap-front.result.capacity + stored_load (key_of c.args.key.now) (drop 1 c.loop-self.self.pools.items)
+first_load : (g : _) (c : After-unwrap-front g) → pools_load (key_of c.args.key.now) c.loop-self.self.pools.items ≡ pool_descriptors (key_of c.args.key.now) c.unwrap-front.result.capacity + pools_load (key_of c.args.key.now) (drop 1 c.loop-self.self.pools.items)
 first_load g c = (let first = front g c in let some = first.long in stored_first (key_of c.args.key.now) c.loop-self.self.pools.items c.unwrap-front.result (omega arith) first.is)
 
 pub marked_descriptors_of_pool-requires : goal.marked_descriptors_of_pool-requires
@@ -44,7 +44,7 @@ loop-self-preserved g c =
       total = c.loop-self.invariant.total;
       room = (
           let all = first_load g d in
-          let rest = ap (stored_load (key_of c.args.key.now)) c.pop_front.ensures.rest in
+          let rest = ap (pools_load (key_of c.args.key.now)) c.pop_front.ensures.rest in
           omega arith);
     }
 

@@ -1,4 +1,4 @@
-use Rattle.gpu_descriptor.proofs.Common.{◌≡◌, ◌+◌, length, Key, key_of, AreBookedIn, bucket_but_front, ledger_but_front, bucket_of, stored_load}
+use Rattle.gpu_descriptor.proofs.Common.{◌≡◌, ◌+◌, length, Key, key_of, AreBookedIn, bucket_but_front, ledger_but_front, bucket_of, pools_load}
 use Rattle.gpu_descriptor.proofs.bucket.DescriptorBucket.destroy_empty_front.Given as goal
 
 -- what is left to drop is what there was to drop
@@ -11,7 +11,7 @@ invariant-loop-self g l =
       books : bucket_but_front l.fn.keep (bucket_of name l.self) ≡ bucket_but_front l.fn.keep (bucket_of name l.fn.self);
       ledger : ledger_but_front l.fn.keep (bucket_of name l.self) (ledger l.device) ≡ ledger_but_front l.fn.keep (bucket_of name l.fn.self) (ledger l.fn.device);
       total : l.self.total ≡ l.fn.self.total;
-      room : l.room + stored_load (key_of l.fn.key) l.self.pools.items ≡ l.fn.room + stored_load (key_of l.fn.key) l.fn.self.pools.items;
+      room : l.room + pools_load (key_of l.fn.key) l.self.pools.items ≡ l.fn.room + pools_load (key_of l.fn.key) l.fn.self.pools.items;
     }
 
 abbrev pub decreases-loop-self : goal.decreases-loop-self

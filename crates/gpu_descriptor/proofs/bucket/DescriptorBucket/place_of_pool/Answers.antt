@@ -1,4 +1,4 @@
-use Rattle.gpu_descriptor.proofs.Common.{◌≡◌, ◌+◌, ◌-◌, nat_lt, length, slice_get, slice_index, inl, inr, refl, ap, ◌∙◌, arith, cases_Bool, length-map, DescriptorPool, binary_digits, gap_digits, number_after, stored_numbers}
+use Rattle.gpu_descriptor.proofs.Common.{◌≡◌, ◌+◌, ◌-◌, nat_lt, length, slice_get, slice_index, inl, inr, refl, ap, ◌∙◌, arith, cases_Bool, length-map, DescriptorPool, binary_digits, gap_digits, number_after, numbers_of}
 use Rattle.std.proofs.Common.{◌%◌}
 use Rattle.gpu_descriptor.proofs.lists.Numbers.{no_gaps}
 use Rattle.gpu_descriptor.proofs.bucket.DescriptorBucket.place_of_pool.Goals as goal
@@ -6,7 +6,7 @@ use Rattle.gpu_descriptor.proofs.bucket.DescriptorBucket.place_of_pool.Goals as 
 pub returns-clause-compares : goal.returns-clause-compares
 returns-clause-compares g c =
     let items = c.args.self.now.pools.items in
-    let numbers = stored_numbers items in
+    let numbers = numbers_of items in
     let long : length numbers ≡ length items = length-map items (λ (p : DescriptorPool _). p.number) in
     elim (cases_Bool (nat_lt (slice_index numbers 0 + length numbers) (number_after numbers))) [
       | inl gaps ↦ (

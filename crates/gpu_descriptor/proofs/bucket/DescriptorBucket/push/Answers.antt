@@ -1,4 +1,4 @@
-use Rattle.gpu_descriptor.proofs.Common.{common_steps, ◌≡◌, ℕ, ◌++◌, ◌∷◌, [], ◌+◌, length, length-append, sum_by, arith, ap, sym, ◌∙◌, sum_by-append, DescriptorPool, first_ordinal, free_in, number_after, open_ordinals, rises, stored_numbers}
+use Rattle.gpu_descriptor.proofs.Common.{common_steps, ◌≡◌, ℕ, ◌++◌, ◌∷◌, [], ◌+◌, length, length-append, sum_by, arith, ap, sym, ◌∙◌, sum_by-append, DescriptorPool, first_ordinal, free_in, number_after, open_ordinals, rises, numbers_of}
 use Rattle.gpu_descriptor.proofs.lists.Numbers.{next_push, rises_push}
 use Rattle.gpu_descriptor.proofs.lists.OpenList.{few_listed, listed_push_open, listed_push_closed}
 use Rattle.gpu_descriptor.proofs.lists.Ordinals.{first_fits, first_push, stored_push}
@@ -16,11 +16,11 @@ module _ (g : _) (c : After-push_back_reserved g) where
   counted : sum_by (λ (p : DescriptorPool g.row.P.Denot). p.allocated) c.push_back_reserved.new.self.items ≡ sum_by (λ (p : DescriptorPool g.row.P.Denot). p.allocated) c.args.self.now.pools.items + c.args.pool.allocated
   counted = grind (arith, common_steps, sum_by-append)
 
-  numbers : stored_numbers c.push_back_reserved.new.self.items ≡ stored_numbers c.args.self.now.pools.items ++ c.args.pool.number ∷ []
-  numbers = ap stored_numbers c.push_back_reserved.ensures.items ∙ stored_push c.args.self.now.pools.items c.args.pool
+  numbers : numbers_of c.push_back_reserved.new.self.items ≡ numbers_of c.args.self.now.pools.items ++ c.args.pool.number ∷ []
+  numbers = ap numbers_of c.push_back_reserved.ensures.items ∙ stored_push c.args.self.now.pools.items c.args.pool
 
-  next : number_after (stored_numbers c.push_back_reserved.new.self.items) ≡ c.args.pool.number + 1
-  next = ap number_after numbers ∙ next_push (stored_numbers c.args.self.now.pools.items) c.args.pool.number
+  next : number_after (numbers_of c.push_back_reserved.new.self.items) ≡ c.args.pool.number + 1
+  next = ap number_after numbers ∙ next_push (numbers_of c.args.self.now.pools.items) c.args.pool.number
 
   first : first_ordinal c.push_back_reserved.new.self.items ≡ first_ordinal c.args.self.now.pools.items
   first = ap first_ordinal c.push_back_reserved.ensures.items ∙ first_push c.args.self.now.pools.items c.args.pool c.requires.number
@@ -38,7 +38,7 @@ invariant_of-self g c =
     record {
       ordinal = c.args.self.now.ordinal ∙ sym (first g at);
       numbered = (let next = next g at in omega arith);
-      rising = ap rises (numbers g at) ∙ rises_push (stored_numbers c.args.self.now.pools.items) c.args.pool.number c.args.self.now.rising (let is = c.requires.number in omega arith);
+      rising = ap rises (numbers g at) ∙ rises_push (numbers_of c.args.self.now.pools.items) c.args.pool.number c.args.self.now.rising (let is = c.requires.number in omega arith);
       counted = (omega arith);
       «open» =
           c.push_back_reserved-then-is_open.ensures.items
@@ -55,7 +55,7 @@ invariant_of-self-else-is_open g c =
     record {
       ordinal = c.args.self.now.ordinal ∙ sym (first g at);
       numbered = (let next = next g at in omega arith);
-      rising = ap rises (numbers g at) ∙ rises_push (stored_numbers c.args.self.now.pools.items) c.args.pool.number c.args.self.now.rising (let is = c.requires.number in omega arith);
+      rising = ap rises (numbers g at) ∙ rises_push (numbers_of c.args.self.now.pools.items) c.args.pool.number c.args.self.now.rising (let is = c.requires.number in omega arith);
       counted = (omega arith);
       «open» = listed_push_closed (first_ordinal c.args.self.now.pools.items) c.args.self.now.pools.items c.args.self.now.listed.items c.args.self.now.«open» c.args.pool c.if-is_open.false ∙ sym (ordinals g at);
       capacity = (omega arith);

@@ -6,7 +6,7 @@ use Rattle.gpu_descriptor.proofs.release.Comparisons.{listed_count}
 use Rattle.gpu_descriptor.proofs.release.BucketRun.{AreTaken, are_taken, changed_at, stored_after, total_less, place_fits}
 use Rattle.gpu_descriptor.proofs.release.StoredNumbers.{IsAt, numbers_set, numbers_stored, stands_at, stored_at}
 use Rattle.gpu_descriptor.proofs.foreign.LedgerPools.{taken_from, release_pools}
-use Rattle.gpu_descriptor.proofs.release.OneRun.{run_counts, run_live, run_ends, run_goes, done}
+use Rattle.gpu_descriptor.proofs.release.OneRun.{run_live, run_ends, run_goes, done}
 use Rattle.gpu_descriptor.proofs.table.Exact.{bucket}
 use Rattle.gpu_descriptor.proofs.bucket.DescriptorBucket.release_sets.Goals.{Start, After-index_mut-pool, After-finish-count}
 use Rattle.gpu_descriptor.proofs.sums.PoolLoads.{stored_put}
@@ -66,7 +66,7 @@ module _ (g : _) (c : After-finish-count g) where
         map (entry_of g.D.DescriptorDevice.meaning.pool_name)
         (set c.args.self.now.pools.items place
         (record {
-          raw = c.dealloc_descriptor_sets.new.pool;
+          pool = c.dealloc_descriptor_sets.new.pool;
           number = c.index_mut-pool.result.now.number;
           capacity = c.index_mut-pool.result.now.capacity;
           allocated = c.index_mut-pool.result.now.allocated - c.finish-count.result;
@@ -76,22 +76,6 @@ module _ (g : _) (c : After-finish-count g) where
         (entry_less (length c.dealloc_descriptor_sets.ensures.released.gone) e)
     changed =
         changed_at g.D.DescriptorDevice.meaning.pool_name c.args.self.now.pools.items place c.index_mut-pool.result.now c.dealloc_descriptor_sets.new.pool c.finish-count.result (length c.dealloc_descriptor_sets.ensures.released.gone) c.dealloc_descriptor_sets.ensures.name counted.1
-
-pub dealloc_descriptor_sets-requires-clause-ends : goal.dealloc_descriptor_sets-requires-clause-ends
-dealloc_descriptor_sets-requires-clause-ends g c =
-    let d = (goal.at.dealloc_descriptor_sets-requires-clause-ends g c).After-index_mut-pool in
-    let fits = places g d in (
-      (
-        c.requires.ends.0,
-        run_counts g.I.Iterator.next_gives g.I.Iterator.can_next g.I.Iterator.remaining
-            g.D.DescriptorDevice.meaning.set_name c.args.sets.now c.args.first
-            (bucket_of g.D.DescriptorDevice.meaning.pool_name c.args.self.now)
-            (g.D.DescriptorDevice.ledger c.args.device.now).pools
-            (entry_of g.D.DescriptorDevice.meaning.pool_name c.index_mut-pool.result.now)
-            ((is_at g d).there c.args.self.now.id) (omega arith) c.requires.taken,
-      ),
-      c.requires.ends.1,
-    )
 
 pub dealloc_descriptor_sets-requires-clause-live : goal.dealloc_descriptor_sets-requires-clause-live
 dealloc_descriptor_sets-requires-clause-live g c =
@@ -147,7 +131,7 @@ invariant_of-self g c =
     let some : 0 < c.index_mut-pool.result.now.available + c.finish-count.result = (let some = (counted g f (is_at g r)).2 in omega arith) in
     let new : DescriptorPool g.row.P.Denot =
     record {
-      raw = c.dealloc_descriptor_sets.new.pool;
+      pool = c.dealloc_descriptor_sets.new.pool;
       number = c.index_mut-pool.result.now.number;
       capacity = c.index_mut-pool.result.now.capacity;
       allocated = c.index_mut-pool.result.now.allocated - c.finish-count.result;
@@ -194,16 +178,16 @@ returns-clause-ran g c =
     (g.D.DescriptorDevice.ledger c.args.device.now).pools (place g f) e c.dealloc_descriptor_sets.new.sets t.items
     t.gone refl refl refl refl c.requires.stored (is_at g r).at ((is_at g r).there c.args.self.now.id)
     c.requires.taken t.drained (taken g f (is_at g r)) in
-    let m = sym d.run.aname in
+    let m = sym d.run.ahead in
     let h = c.finish-count.ensures.ahead in
-    let v = sym d.run.name in
+    let v = sym d.run.source in
     let w = c.finish-count.ensures.source in
     let fits = (counted g f (is_at g r)).0 in
     let less = total_less c.args.self.now.pools.items (place g f) c.index_mut-pool.result.now c.dealloc_descriptor_sets.new.pool c.finish-count.result (is_at g r).within c.index_mut-pool.ensures.value (omega arith) in
     let long = length-map d.run.xs (λ (x : DescriptorSet _). g.D.DescriptorDevice.meaning.set_name x.raw) in
     let entries = changed g f (is_at g r) ∙ ap (λ (l : ℕ). set es (place g f) (entry_less l e)) d.long in (
       d.run.xs,
-      run_ends g.I.Iterator.next_gives g.I.Iterator.can_next g.I.Iterator.remaining g.D.DescriptorDevice.meaning.set_name c.args.first _ c.dealloc_descriptor_sets.new.sets t.items d.run _ _ (search (rules, m, h)) (search (rules, v, w)),
+      run_ends g.I.Iterator.next_gives g.I.Iterator.can_next g.I.Iterator.remaining g.D.DescriptorDevice.meaning.set_name d (search (rules, m, h)) (search (rules, v, w)),
       record {
         place = place g f;
         entry = e;
@@ -227,11 +211,11 @@ returns-clause-goes g c =
     c.dealloc_descriptor_sets.new.sets t.items t.gone refl refl refl refl c.requires.stored (is_at g r).at
     ((is_at g r).there c.args.self.now.id) c.requires.taken t.drained
     (taken g (goal.at.returns-clause-goes g c).After-finish-count (is_at g r)) in
-    let m = sym d.run.aname in
+    let m = sym d.run.ahead in
     let h = c.finish-count.ensures.ahead in
-    let v = sym d.run.name in
+    let v = sym d.run.source in
     let f = c.finish-count.ensures.source in
-    run_goes g.I.Iterator.next_gives g.I.Iterator.can_next g.I.Iterator.remaining g.D.DescriptorDevice.meaning.set_name c.args.first _ c.dealloc_descriptor_sets.new.sets t.items d.run _ _ (search (rules, m, h)) (search (rules, v, f)) c.requires.ends.1
+    run_goes g.I.Iterator.next_gives g.I.Iterator.can_next g.I.Iterator.remaining g.D.DescriptorDevice.meaning.set_name d (search (rules, m, h)) (search (rules, v, f)) c.requires.ends.1
 
 pub returns-clause-compares : goal.returns-clause-compares
 returns-clause-compares g c =

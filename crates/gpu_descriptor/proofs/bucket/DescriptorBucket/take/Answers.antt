@@ -1,8 +1,7 @@
 use Rattle.gpu_descriptor.proofs.Common.{◌≡◌, ℕ, ◌+◌, ◌≤◌, ◌++◌, List, length, map, sym, ap, ◌∙◌, arith, Result, Ok, OnOk, IfErr, true, false, length-append, [], ◌∷◌, None, Err, length-map, map-append, Ledger, DeviceAllocationError, DescriptorPool, DescriptorSet, Item, Entry, Key}
-use Rattle.gpu_descriptor.proofs.Common.{key_of, set_at, fresh_entry, items_at, items_of, IsTaken, entry_of, number_after, numbers_of, stored_load, stored_numbers, IsWalked}
+use Rattle.gpu_descriptor.proofs.Common.{key_of, set_at, fresh_entry, items_at, items_of, IsTaken, entry_of, number_after, numbers_of, pools_load, IsWalked}
 use Rattle.std.specs.Result.{is_ok}
 use mathlib.Core.Bool.{true≢false}
-use Rattle.gpu_descriptor.proofs.sums.PoolsLoad.{pools_load}
 use Rattle.gpu_descriptor.specs.declared.bucket.stop.Stop.TheVariants.{ExistingPoolWithoutMemory}
 use Rattle.gpu_descriptor.proofs.lists.Appended.{appended_more, front_more}
 use Rattle.gpu_descriptor.proofs.lists.Numbers.{next_push}
@@ -17,10 +16,10 @@ use Rattle.gpu_descriptor.proofs.bucket.DescriptorBucket.take.Goals as goal
 
 -- a walk leaves the load of the key's pools
 module _ {P : Type 0} (name : P → ℕ) {k : Key} {n id own : ℕ} {items : List Item} (old new : List (DescriptorPool P)) {l m : Ledger} where
-  walked_load : {needed : ℕ} → IsWalked k n needed items (bucket id (map (entry_of name) old)) (bucket own (map (entry_of name) new)) l m → stored_load k new ≡ stored_load k old
+  walked_load : {needed : ℕ} → IsWalked k n needed items (bucket id (map (entry_of name) old)) (bucket own (map (entry_of name) new)) l m → pools_load k new ≡ pools_load k old
   walked_load w = (let a = load_entries name k old in let b = load_entries name k new in let same = load_walked k n w.grant (bucket id (map (entry_of name) old)) (bucket own (map (entry_of name) new)) l m items w.taken w.no_fresh in omega arith)
 
-  stopped_load : {error : DeviceAllocationError} → IsTaken (Err (ExistingPoolWithoutMemory error)) None k 0 n items (bucket id (map (entry_of name) old)) (bucket own (map (entry_of name) new)) l m → stored_load k new ≡ stored_load k old
+  stopped_load : {error : DeviceAllocationError} → IsTaken (Err (ExistingPoolWithoutMemory error)) None k 0 n items (bucket id (map (entry_of name) old)) (bucket own (map (entry_of name) new)) l m → pools_load k new ≡ pools_load k old
   stopped_load t = (let a = load_entries name k old in let b = load_entries name k new in let same = load_walked k n t.0 (bucket id (map (entry_of name) old)) (bucket own (map (entry_of name) new)) l t.1 items t.2 t.3.no_fresh in omega arith)
 
 -- what is known of an Ok, and of an Err
@@ -76,7 +75,7 @@ loop-sink-preserved g c =
     let more : List ℕ = map g.D.DescriptorDevice.meaning.set_name got.0 in
     let given : length got.0 ≡ length more = sym (length-map got.0 g.D.DescriptorDevice.meaning.set_name) in
     let few : length more ≤ c.loop-sink.sink.left = (let a = grown.many in let b = grown.given in omega arith) in
-    let number : ℕ = number_after (stored_numbers items) in
+    let number : ℕ = number_after (numbers_of items) in
     let fresh : List (DescriptorSet g.row.S.Denot) = map (set_at key c.loop-sink.self.id number) got.0 in
     let came : appended was (g.K.SetPlaces.items c.take_from_new.new.sink.sets) ≡ sets ++ fresh = appended_more was (g.K.SetPlaces.items c.loop-sink.sink.sets) fresh inv.front got.1 in
     let seen : items_of g.D.DescriptorDevice.meaning.set_name (appended was (g.K.SetPlaces.items c.take_from_new.new.sink.sets)) ≡ put ++ items_at key c.args.self.now.id number more =
@@ -91,7 +90,7 @@ loop-sink-preserved g c =
       id_stays = c.in_ok-take_from_new.ensures.id_stays ∙ inv.id_stays;
       numbers = (
           let a = inv.numbers in
-          let is : number_after (numbers_of new') ≡ number_after (stored_numbers c.take_from_new.new.self.pools.items) = ap number_after (numbers_stored g.D.DescriptorDevice.meaning.pool_name c.take_from_new.new.self.pools.items) in
+          let is : number_after (numbers_of new') ≡ number_after (numbers_of c.take_from_new.new.self.pools.items) = ap number_after (numbers_stored g.D.DescriptorDevice.meaning.pool_name c.take_from_new.new.self.pools.items) in
           let one = ap (λ (es : List Entry). number_after (numbers_of es)) grown.entries ∙ ap number_after (map-append _ new (fresh_entry (number_after (numbers_of new)) grown.pool ∷ [])) ∙ next_push (numbers_of new) (number_after (numbers_of new)) in
           let gave = grown.given in
           let size = grown.size.some in

@@ -1,5 +1,5 @@
 use Rattle.gpu_descriptor.proofs.Common.{◌≡◌, ℕ, Global, ◌+◌, ◌++◌, arith, length, sum_by, List, None, Result, Ok, Err, sym, ap, ◌∙◌, subst, map, OnOk, IfErr, length-map, Ledger, DeviceAllocationError, DescriptorSet, DescriptorPool, Bucket, Key, key_of, allocated_in, items_of, item_of}
-use Rattle.gpu_descriptor.proofs.Common.{AreBookedIn, IsTaken, bucket_in, bucket_of, entry_of, free_in, number_after, numbers_of, open_ordinals, rises, stored_numbers, IsWalked}
+use Rattle.gpu_descriptor.proofs.Common.{AreBookedIn, IsTaken, bucket_in, bucket_of, entry_of, free_in, number_after, numbers_of, open_ordinals, rises, IsWalked}
 use Rattle.std.specs.declared.collections.VecDeque.{VecDeque}
 use Rattle.std.proofs.lemmas.Result.{IfErr-weaker, on_ok_weaker}
 use Rattle.gpu_descriptor.specs.declared.bucket.stop.Stop.TheVariants.{ExistingPoolWithoutMemory}
@@ -41,7 +41,7 @@ walk-walked-requires-clause-booked g c =
     (sym c.new-view.ensures.pools) c.requires.booked
 
 pub walk-walked-requires-clause-rising : goal.walk-walked-requires-clause-rising
-walk-walked-requires-clause-rising g c = ap (λ (q : VecDeque (DescriptorPool g.row.P.Denot) Global). rises (stored_numbers q.items)) c.new-view.ensures.pools ∙ c.args.self.now.rising
+walk-walked-requires-clause-rising g c = ap (λ (q : VecDeque (DescriptorPool g.row.P.Denot) Global). rises (numbers_of q.items)) c.new-view.ensures.pools ∙ c.args.self.now.rising
 
 pub returns-clause-walked : goal.returns-clause-walked
 returns-clause-walked g c =
@@ -90,10 +90,10 @@ module _ (g : _) (c : After-walk-walked g) where
       more g.D.DescriptorDevice.meaning.set_name (g.K.SetPlaces.items c.args.sink.now.sets) (g.K.SetPlaces.items c.walk-walked.new.sink.sets) (key_of c.args.request.now.key) c.args.request.now.count c.walk-walked.new.sink.left
       (bucket_in pool_name c.new-view.result) (bucket_in pool_name c.walk-walked.new.view) (g.D.DescriptorDevice.ledger c.args.device.now) (g.D.DescriptorDevice.ledger c.walk-walked.new.device) c.walk-walked.result c.walk-walked.ensures.walked c.walk-walked.ensures.stopped
 
-  numbers_stay : stored_numbers new ≡ stored_numbers c.args.self.now.pools.items
+  numbers_stay : numbers_of new ≡ numbers_of c.args.self.now.pools.items
   numbers_stay =
       sym (numbers_stored pool_name new) ∙ given.2 ∙ numbers_stored pool_name c.new-view.result.pools.now.items
-      ∙ ap (λ (q : VecDeque (DescriptorPool g.row.P.Denot) Global). stored_numbers q.items) c.new-view.ensures.pools
+      ∙ ap (λ (q : VecDeque (DescriptorPool g.row.P.Denot) Global). numbers_of q.items) c.new-view.ensures.pools
 
 pub returns-clause-numbers_stay : goal.returns-clause-numbers_stay
 returns-clause-numbers_stay g c = numbers_stay g (goal.at.returns-clause-numbers_stay g c).After-walk-walked

@@ -1,5 +1,5 @@
 use Rattle.gpu_descriptor.proofs.Common.{common_steps, ◌≡◌, ℕ, ◌+◌, ◌-◌, ◌≤◌, ◌++◌, List, [], ◌∷◌, length, map, min, refl, sym, ap, ◌∙◌, subst, arith, length-map, map-append, Some, Ledger, after_alloc, after_create, after_destroy, live_sets, HasNoSets, fresh, pool_counts, DescriptorPool, Entry, Key}
-use Rattle.gpu_descriptor.proofs.Common.{flags_of, key_of, set_at, number_after, numbers_of, pool_descriptors, entry_of, stored_numbers}
+use Rattle.gpu_descriptor.proofs.Common.{flags_of, key_of, set_at, number_after, numbers_of, pool_descriptors, entry_of}
 use Rattle.gpu_descriptor.specs.declared.bucket.stop.Stop.TheVariants as stop
 use Rattle.gpu_descriptor.proofs.release.StoredNumbers.{numbers_stored}
 use Rattle.gpu_descriptor.proofs.request.NextSize.{one_fits}
@@ -38,7 +38,7 @@ module _ (g : _) (c : In-Ok g) where
 
 -- what came stands behind what was there
 kept : (g : _) (c : In-Ok-alloc_descriptor_sets g) → (g.K.SetPlaces.items c.alloc_descriptor_sets.new.sets.sets)
-    ≡ (g.K.SetPlaces.items c.args.sink.now.sets) ++ map (set_at (key_of c.args.request.now.key) c.args.self.now.id (number_after (stored_numbers c.args.self.now.pools.items))) c.in-Ok-alloc_descriptor_sets.ensures.ok.sets
+    ≡ (g.K.SetPlaces.items c.args.sink.now.sets) ++ map (set_at (key_of c.args.request.now.key) c.args.self.now.id (number_after (numbers_of c.args.self.now.pools.items))) c.in-Ok-alloc_descriptor_sets.ensures.ok.sets
 kept g c = grind (arith, common_steps)
 
 pub alloc_descriptor_sets-requires : goal.alloc_descriptor_sets-requires
@@ -85,13 +85,13 @@ returns-in-Ok-alloc_descriptor_sets-clause-grown g c =
     let is : m' ≡ after_alloc (name g d) (live_sets (key g d).counts names) (created g d) = put.ledger ∙ ap (λ cs. after_alloc (name g d) (live_sets cs names) (created g d)) (ap g.D.DescriptorDevice.meaning.counts c.new.ensures.layout ∙ sym (ap (λ (k : Key). k.counts) c.args.request.now.same)) in
     let old : List Entry = map (entry_of g.D.DescriptorDevice.meaning.pool_name) c.args.self.now.pools.items in
     let new : List Entry = map (entry_of g.D.DescriptorDevice.meaning.pool_name) c.push.new.self.pools.items in
-    let value : DescriptorPool g.row.P.Denot = record { raw = c.alloc_descriptor_sets.new.pool; number = c.next_number-number.result; capacity = c.in-Some.size; allocated = c.min-given.result; available = c.in-Some.size - c.min-given.result } in
+    let value : DescriptorPool g.row.P.Denot = record { pool = c.alloc_descriptor_sets.new.pool; number = c.next_number-number.result; capacity = c.in-Some.size; allocated = c.min-given.result; available = c.in-Some.size - c.min-given.result } in
     let now : new ≡ old ++ record { number = c.next_number-number.result; pool = name g d; capacity = size g d; allocated = min (size g d) c.args.sink.now.left; available = size g d - min (size g d) c.args.sink.now.left } ∷ [] =
     ap (map (entry_of g.D.DescriptorDevice.meaning.pool_name)) (c.push.ensures.pools ∙ ap (λ x. x ++ value ∷ []) c.reserve_pool.ensures.pools)
     ∙ map-append (entry_of g.D.DescriptorDevice.meaning.pool_name) c.args.self.now.pools.items (value ∷ [])
     ∙ ap (λ (e : Entry). old ++ e ∷ []) (same_entry (entry_of g.D.DescriptorDevice.meaning.pool_name value) _ refl c.in-Ok-alloc_descriptor_sets.ensures.name refl count (ap (λ n. c.in-Some.size - n) count)) in
     let numbered : c.next_number-number.result ≡ number_after (numbers_of old) =
-    c.next_number-number.ensures ∙ ap (λ (items : List (DescriptorPool g.row.P.Denot)). number_after (stored_numbers items)) c.reserve_pool.ensures.pools ∙ sym (ap number_after (numbers_stored g.D.DescriptorDevice.meaning.pool_name c.args.self.now.pools.items)) in
+    c.next_number-number.ensures ∙ ap (λ (items : List (DescriptorPool g.row.P.Denot)). number_after (numbers_of items)) c.reserve_pool.ensures.pools ∙ sym (ap number_after (numbers_stored g.D.DescriptorDevice.meaning.pool_name c.args.self.now.pools.items)) in
     let room : c.alloc_descriptor_sets.new.sets.left + length put.sets ≡ c.args.sink.now.left = (let r = put.room in let n = c.new.ensures.left in let a = c.aim.ensures.left in omega arith) in
     let total : c.push.new.self.total ≡ c.args.self.now.total + length put.sets = (let pushed = c.push.ensures.total in let kept = c.reserve_pool.ensures.total in omega arith) in
     let came = kept g (goal.at.returns-in-Ok-alloc_descriptor_sets-clause-grown g c).In-Ok-alloc_descriptor_sets in (

@@ -28,7 +28,7 @@ returns-in-Ok-clause-asked g c =
     let is : m ≡ after_alloc e.pool (live_sets key.counts names) l = put.ledger ∙ ap (λ cs. after_alloc e.pool (live_sets cs names) l) (ap g.D.DescriptorDevice.meaning.counts c.new.ensures.layout ∙ counts) in
     let was = given key c.args.sink.now.left names e l m some long is in
     let now : record e { allocated = e.allocated + min c.args.sink.now.left e.available; available = e.available - min c.args.sink.now.left e.available }
-    ≡ entry_of g.D.DescriptorDevice.meaning.pool_name (record { raw = c.alloc_descriptor_sets.new.pool; number = c.args.pool.now.number; capacity = c.args.pool.now.capacity; allocated = c.args.pool.now.allocated + c.min-count.result; available = c.args.pool.now.available - c.min-count.result })
+    ≡ entry_of g.D.DescriptorDevice.meaning.pool_name (record { pool = c.alloc_descriptor_sets.new.pool; number = c.args.pool.now.number; capacity = c.args.pool.now.capacity; allocated = c.args.pool.now.allocated + c.min-count.result; available = c.args.pool.now.available - c.min-count.result })
     = same_entry _ _ refl (sym c.in-Ok.ensures.name) refl (omega arith) (omega arith) in
     let room : c.alloc_descriptor_sets.new.sets.left + length put.sets ≡ c.args.sink.now.left = (let r = put.room in let n = c.new.ensures.left in omega arith) in
     (put.sets, put.kept, room, subst (λ (f : Entry). IsAsked key c.args.sink.now.left names e f l m) now was)
@@ -45,7 +45,7 @@ returns-then-is_of_pool-clause-asked g c =
     let of_pool : pool_refusals c.in-Err.error ≡ 1 = c.is_of_pool.ensures ∙ ap (λ b. if b then 1 else 0) c.if-is_of_pool.true in
     let was = refuses key c.args.sink.now.left c.in-Err.error e l m some of_pool err.ledger in
     let now : record e { available = 0 }
-    ≡ entry_of g.D.DescriptorDevice.meaning.pool_name (record { raw = c.alloc_descriptor_sets.new.pool; number = c.args.pool.now.number; capacity = c.args.pool.now.capacity; allocated = c.args.pool.now.allocated; available = 0 }) = same_entry _ _ refl (sym c.in-Err.ensures.name) refl refl refl in
+    ≡ entry_of g.D.DescriptorDevice.meaning.pool_name (record { pool = c.alloc_descriptor_sets.new.pool; number = c.args.pool.now.number; capacity = c.args.pool.now.capacity; allocated = c.args.pool.now.allocated; available = 0 }) = same_entry _ _ refl (sym c.in-Err.ensures.name) refl refl refl in
     ([], err.kept ∙ sym (append-nil (g.K.SetPlaces.items c.args.sink.now.sets)), (let left = err.room in omega arith), subst (λ (f : Entry). IsAsked key c.args.sink.now.left [] e f l m) now was)
 
 pub returns-in-Ok-clause-own : goal.returns-in-Ok-clause-own

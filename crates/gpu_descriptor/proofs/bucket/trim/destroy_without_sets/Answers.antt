@@ -1,4 +1,4 @@
-use Rattle.gpu_descriptor.proofs.Common.{common_steps, ◌≡◌, ◌+◌, ◌<◌, ◌++◌, ◌∷◌, [], List, suc, rules, refl, sym, ap, ◌∙◌, arith, length, drop, take, filter, get_or, slice_get, deque_capacity, Some, DescriptorPool, key_of, has_sets, pool_descriptors, stored_load}
+use Rattle.gpu_descriptor.proofs.Common.{common_steps, ◌≡◌, ◌+◌, ◌<◌, ◌++◌, ◌∷◌, [], List, suc, rules, refl, sym, ap, ◌∙◌, arith, length, drop, take, filter, get_or, slice_get, deque_capacity, Some, DescriptorPool, key_of, has_sets, pool_descriptors, pools_load}
 use Rattle.gpu_descriptor.proofs.cleanup.Rotation.{as_turned, destroyed, end, first, goes_back, start, unused}
 use Rattle.gpu_descriptor.proofs.lists.AtPlaces.{get_some}
 use Rattle.gpu_descriptor.proofs.sums.PoolLoads.{stored_append, stored_first, stored_one}
@@ -27,8 +27,8 @@ taken g c =
     let same : c.unwrap-pool.result ≡ x.0 = is ∙ ap (λ (l : List (DescriptorPool _)). get_or l 0 c.unwrap-pool.result) front in
     record { at = x.1 ∙ ap Some (sym same); some = some; is = is; rest = c.pop_front.ensures.rest ∙ ap (drop 1) front }
 
-first_load : (g : _) (c : After-unwrap-pool g) → stored_load (key_of c.args.key.now) c.loop.pools.items ≡ pool_descriptors (key_of c.args.key.now) c.unwrap-pool.result.capacity + stored_load (key_of c.args.key.now) c.pop_front.new.self.items
-first_load g c = (let t = taken g c in stored_first (key_of c.args.key.now) c.loop.pools.items c.unwrap-pool.result t.some t.is ∙ ap (λ l. pool_descriptors (key_of c.args.key.now) c.unwrap-pool.result.capacity + stored_load (key_of c.args.key.now) l) (sym c.pop_front.ensures.rest))
+first_load : (g : _) (c : After-unwrap-pool g) → pools_load (key_of c.args.key.now) c.loop.pools.items ≡ pool_descriptors (key_of c.args.key.now) c.unwrap-pool.result.capacity + pools_load (key_of c.args.key.now) c.pop_front.new.self.items
+first_load g c = (let t = taken g c in stored_first (key_of c.args.key.now) c.loop.pools.items c.unwrap-pool.result t.some t.is ∙ ap (λ l. pool_descriptors (key_of c.args.key.now) c.unwrap-pool.result.capacity + pools_load (key_of c.args.key.now) l) (sym c.pop_front.ensures.rest))
 
 pub loop-init : goal.loop-init
 loop-init g c = record { within = omega arith; turned = (c.requires.stored.0, start g.D.DescriptorDevice.meaning.pool_name c.requires.stored.0 c.args.pools.now.items (g.D.DescriptorDevice.ledger c.args.device.now) c.requires.stored.1); room = refl; capacity = refl }
@@ -66,7 +66,7 @@ loop-preserved g c =
           let pushed = ap (λ v. v.items) w.pools-is ∙ w.push_back_reserved.ensures.items in
           let now = pushed ∙ ap (λ l. l ++ c.unwrap-pool.result ∷ []) t.rest in
           let next = goes_back name turned.0 old c.loop.pools.items c.loop.counter _ _ turned.1 c.unwrap-pool.result t.at (omega (arith, w.if-pool-gt0.true)) c.if-pool-gt0.pools.items now in
-          let both = ap (stored_load key) pushed ∙ stored_append key c.pop_front.new.self.items (c.unwrap-pool.result ∷ []) in
+          let both = ap (pools_load key) pushed ∙ stored_append key c.pop_front.new.self.items (c.unwrap-pool.result ∷ []) in
           let one = stored_one key c.unwrap-pool.result in
           let same = w.room-is in
           record {
@@ -79,7 +79,7 @@ loop-preserved g c =
           let now = ap (λ v. v.items) w.pools-is ∙ t.rest in
           let next = destroyed name turned.0 old c.loop.pools.items c.loop.counter _ _ turned.1 c.unwrap-pool.result t.at (omega (arith, w.if-pool-gt0.false)) c.if-pool-gt0.pools.items now _ w.destroy_descriptor_pool.ensures in
           let same = w.room-is in
-          let less = ap (λ v. stored_load key v.items) w.pools-is in
+          let less = ap (λ v. pools_load key v.items) w.pools-is in
           let counted = w.marked_descriptors_of_pool.ensures in
           record {
             within = omega (arith, c.loop-test.true);

@@ -1,4 +1,4 @@
-use Rattle.gpu_descriptor.proofs.Common.{◌≡◌, ◌+◌, ◌≤◌, length, deque_capacity, Key, key_of, stored_load}
+use Rattle.gpu_descriptor.proofs.Common.{◌≡◌, ◌+◌, ◌≤◌, length, deque_capacity, Key, key_of, pools_load}
 use Rattle.gpu_descriptor.proofs.cleanup.Rotation.{Turning}
 use Rattle.gpu_descriptor.proofs.bucket.trim.destroy_without_sets.Given as goal
 
@@ -10,6 +10,6 @@ invariant-loop g l =
     record {
       within : l.counter ≤ length l.fn.pools.items;
       turned : (k : Key) × Turning name k l.fn.pools.items l.pools.items l.counter (ledger l.fn.device) (ledger l.device);
-      room : l.room + stored_load (key_of l.fn.key) l.pools.items ≡ l.fn.room + stored_load (key_of l.fn.key) l.fn.pools.items;
+      room : l.room + pools_load (key_of l.fn.key) l.pools.items ≡ l.fn.room + pools_load (key_of l.fn.key) l.fn.pools.items;
       capacity : deque_capacity l.pools ≡ deque_capacity l.fn.pools;
     }

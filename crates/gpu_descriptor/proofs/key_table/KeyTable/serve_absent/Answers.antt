@@ -1,5 +1,5 @@
 use Rattle.gpu_descriptor.proofs.Common.{ℕ, List, lookup, BucketKey, DescriptorBucket, map-append, greatest_u64, ◌≡◌, ◌+◌, ◌≤◌, ◌++◌, ◌∷◌, [], Bool, None, inl, refl, sym, ap, ◌∙◌, subst, arith, rules, map, Bucket, key_eq, no_pools, next_number, key_of, is_of, rises, stored_ids, books_in, entry_of}
-use Rattle.gpu_descriptor.proofs.Common.{stored_load, stored_numbers, row_of, IsUnserved, DescriptorPool, number_after}
+use Rattle.gpu_descriptor.proofs.Common.{pools_load, numbers_of, row_of, IsUnserved, DescriptorPool, number_after}
 use Rattle.gpu_descriptor.proofs.lists.Numbers.{next_push, rises_push}
 use Rattle.gpu_descriptor.proofs.table.RowAt.{lookup_same}
 use Rattle.indexmap.specs.IndexMap.{IndexMap, insert_entry}
@@ -39,7 +39,7 @@ returns-then-self g c = record { serves = unserved c.args.self.now.buckets.entri
 pub returns-in_err-prepare : goal.returns-in_err-prepare
 returns-in_err-prepare g c =
     let is = absent g (goal.at.returns-in_err-prepare g c).Start in
-    let first = ap (λ (ps : List (DescriptorPool g.row.P.Denot)). number_after (stored_numbers ps)) c.new.ensures.items ∙ sym (ap next_number is) in
+    let first = ap (λ (ps : List (DescriptorPool g.row.P.Denot)). number_after (numbers_of ps)) c.new.ensures.items ∙ sym (ap next_number is) in
     record {
       serves = unserved c.args.self.now.buckets.entries (passed c.from_residual.result c.in_err-prepare.field-0.0 c.from_residual.ensures.1)
           (subst (λ (n : ℕ). IsUnserved c.args.request.now.count n c.in_err-prepare.field-0.0) first c.in_err-prepare.ensures.refused) c.prepare.ensures.sets c.reserve.ensures.entries;
@@ -56,7 +56,7 @@ returns g c =
     let es = c.args.self.now.buckets.entries in
     let key = key_of c.args.request.now.key in
     let added = put g (goal.at.returns g c).In-Ok in
-    let empty : stored_load key c.new.result.items ≡ 0 = ap (stored_load key) c.new.ensures.items in
+    let empty : pools_load key c.new.result.items ≡ 0 = ap (pools_load key) c.new.ensures.items in
     let moved = c.take-ended.ensures.room in
     record {
       serves = is_served es c.args.self.now.next_id c.new.result.items 0 c.take-ended.new.self c.prepare.ensures.sets c.in_ok-prepare.ensures.numbers c.take-ended.ensures.appends c.take-ended.ensures.all c.take-ended.ensures.total c.take-ended.ensures.taken
