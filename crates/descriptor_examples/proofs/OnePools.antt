@@ -2,7 +2,7 @@
 use Rattle.std.proofs.Common.{◌≡◌, ◌≢◌, ◌-◌, ℕ, zero, suc, false, List, [], ◌∷◌, map, Option, Some, None, refl, sym, ap, ◌∙◌, arith}
 use Rattle.std.proofs.Math.Path.{fun_ext}
 use Rattle.std.proofs.lemmas.Map.{update_apart}
-use Rattle.std.proofs.lemmas.Option.{none-some}
+use Rattle.std.proofs.lemmas.Option.{none-some, same_Some}
 use Rattle.std.proofs.lemmas.Bool.{true≢false}
 use Rattle.std.specs.Map.{update}
 use Rattle.std.specs.Prelude.{IfSome, is_some, nat_eq}
@@ -57,26 +57,19 @@ pub none_in : (o : Option Pool) → IfSome o (λ p. AreIn [] p.live)
 none_in None = tt
 none_in (Some p) = λ x. (omega arith)
 
--- no set is live
-pub none_live : (d : OnePool) (name x : ℕ) → AreLive name (x ∷ []) (owed_of d) → ⊥
-none_live d name x h = by_gone h.gone h.named h.live
-  where
-    empty : (o : Option OnlyPool) (n : ℕ) → only (as_created o) n ≡ Some h.pool → (y : LiveSet) → h.pool.live y ≡ 0
-    empty None zero live y = absurd (none-some h.pool live)
-    empty (Some p) zero live y = (let same : as_created (Some p) ≡ Some h.pool = live in by_same same)
-      where
-        by_same : as_created (Some p) ≡ Some h.pool → h.pool.live y ≡ 0
-        by_same same = ap (λ (o : Option Pool). live_or o) (sym same)
-          where
-            live_or : Option Pool → ℕ
-            live_or None = 0
-            live_or (Some q) = q.live y
-    empty o (suc n) live y = absurd (none-some h.pool live)
+-- in the only pool no set is live
+none_at : (o : Option OnlyPool) (name : ℕ) (p : Pool) (x : LiveSet) → only (as_created o) name ≡ Some p → p.live x ≡ 0
+none_at None zero p x live = absurd (none-some p live)
+none_at (Some q) zero p x live = sym (ap (λ (pool : Pool). pool.live x) (same_Some _ p live))
+none_at o (suc name) p x live = absurd (none-some p live)
 
-    by_gone : (gone : List LiveSet) → map (λ s. s.name) gone ≡ x ∷ [] → AreIn gone h.pool.live → ⊥
-    by_gone [] named live = (let bad : ◌≡◌ {A = List ℕ} [] (x ∷ []) = named in cc)
-    by_gone (g ∷ gs) named live =
+pub none_live : (d : OnePool) (name x : ℕ) → AreLive name (x ∷ []) (owed_of d) → ⊥
+none_live d name x h = by h.gone h.named h.live
+  where
+    by : (gone : List LiveSet) → map (λ s. s.name) gone ≡ x ∷ [] → AreIn gone h.pool.live → ⊥
+    by [] named live = (let bad : ◌≡◌ {A = List ℕ} [] (x ∷ []) = named in cc)
+    by (g ∷ gs) named live =
         let one : times (g ∷ gs) g ≡ suc (times gs g) = count_by_yes (λ s. set_eq s g) g gs (set_exact.self g) in
         let fits = live g in
-        let none = empty d.pool name h.is_live g in
+        let none = none_at d.pool name h.pool g h.is_live in
         omega arith

@@ -14,10 +14,10 @@ use std::vec::{self, Vec};
 /// The greatest length of a line, in bytes without its end.
 pub const MAX_LINE_LEN: usize = 4096;
 
-/// The most read calls that a run may make.
+/// The max number of read calls in a run.
 pub const MAX_READS: u32 = 100_000_000;
 
-/// The most bytes that a read call asks for.
+/// The max number of bytes that a read call asks for.
 const BUFFER_LEN: usize = 65536;
 
 /// Why there is no next line, where the input is not at its end.

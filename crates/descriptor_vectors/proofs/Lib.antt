@@ -1,2 +1,1 @@
 mod Beside
-mod Trips

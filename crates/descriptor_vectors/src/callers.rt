@@ -4,7 +4,9 @@ use crate::seen::{expect_calls, expect_same, layout_of};
 use descriptor_examples::drawing::{render, render_one};
 use descriptor_examples::game::{Score, play};
 use descriptor_examples::one_layout::draw_once;
-use descriptor_script::{Call, LogDevice, RawPool, RawSet, ScriptLayout};
+use descriptor_script::{
+    Answer, Call, LogDevice, RawPool, RawSet, ScriptLayout, ScriptedDevice, refuse_at,
+};
 use gpu_descriptor::{DescriptorDevice, DescriptorPoolCreateFlags};
 use std::process::Abort;
 use std::test::Fail;
@@ -22,6 +24,25 @@ fn one_layout_is_drawn(rt: HostRuntime) -> Result<(), Fail> {
         Call::Destroy { pool: 0 },
     ];
     expect_calls(&rt, &device, &calls);
+    Ok(())
+}
+
+/// The word that refuses is discarded, and after the end of a script all is granted.
+#[test]
+fn grants_after_the_end(rt: HostRuntime) -> Result<(), Fail> {
+    let script = refuse_at(rt.alloc(), 0, Answer::Frag)?;
+    let mut device = ScriptedDevice::new(rt.alloc(), script);
+    device.load(Vec::new(rt.alloc()));
+    let layout = layout_of(1, false);
+    draw_once(
+        rt.alloc(),
+        &mut device,
+        &layout,
+        layout.flags(),
+        &layout.counts,
+    )?;
+    expect_same(&rt, (device.created(), device.destroyed()), (1, 1));
+    expect_same(&rt, (device.asked(), device.released()), (1, 1));
     Ok(())
 }
 

@@ -6,8 +6,6 @@
 #[cfg(test)]
 mod callers;
 #[cfg(test)]
-mod device;
-#[cfg(test)]
 mod frames;
 mod interface;
 #[cfg(test)]

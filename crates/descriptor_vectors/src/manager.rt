@@ -4,7 +4,7 @@ use descriptor_script::{Answer, ScriptLayout, ScriptedDevice, refuse_at};
 use gpu_descriptor::DescriptorTotalCount;
 use std::test::Fail;
 
-/// The device refuses its first call, so the first draw is refused. The next one has a set.
+/// The device refuses its first call, so the first request is refused. The next one gets a set.
 #[test]
 fn draws_past_a_refusal(rt: HostRuntime) -> Result<(), Fail> {
     let script = refuse_at(rt.alloc(), 0, Answer::Device)?;

@@ -8,7 +8,7 @@
 #include "host.h"
 #include "layer.h"
 
-// The most items of a set, the words from one item to the next, and where the results are.
+// The max number of items of a set, the words from one item to the next, and where the results are.
 enum { MAX = 24, STRIDE = 64, RESULTS = MAX * STRIDE, WORDS = RESULTS + MAX };
 
 static VkBuffer buffer;

@@ -438,7 +438,7 @@ fn answer_before_the_next_line() {
 
 // ---- how many read calls a run makes ----
 
-/// The most read calls that a run may make.
+/// The max number of read calls in a run.
 const MAX_CALLS: u64 = 100_000_000;
 
 /// Gives long comments, a byte a call, without an end.

@@ -122,7 +122,7 @@ impl Gpu {
         })
     }
 
-    /// The most of each that there were at once.
+    /// The peak of each.
     pub fn peak(&self) -> Sums {
         self.peak.get()
     }

@@ -1,3 +1,0 @@
-//! The scripted device tried through its public calls.
-mod trip;
-mod words;
