@@ -6,7 +6,7 @@ use Rattle.std.proofs.lemmas.List.{get_or-set_other, get_or-set_same, length-set
 use Rattle.std.proofs.lemmas.Bool.{false≢true, true≢false}
 use Rattle.descriptor_table.specs.Places.{times, walk}
 use Rattle.descriptor_table.specs.Slots.{AreFew, AreLinked, HasLists, IsListed, IsNowhere, Lists, Slot, chain_at, in_list, is_in, slot_at, waits, waits_for}
-use Rattle.descriptor_table.specs.Tables.{is_kept, used_for}
+use Rattle.descriptor_table.specs.Tables.{is_held_use, is_kept, used_for}
 use Rattle.descriptor_table.specs.declared.slot.Use.{Use}
 use Rattle.descriptor_table.specs.declared.slot.Use.TheVariants.{Held, Taken}
 use Rattle.descriptor_table.specs.declared.slot.Chain.{Chain}
@@ -19,6 +19,10 @@ and_true x0 x1 e = grind (arith, common_steps)
 -- a slot is in one list
 one_list : (j k : ℕ) (u : Use) (layout generation : ℕ) (full : Bool) → in_list k u layout generation full ≡ true → j ≢ k → in_list j u layout generation full ≡ false
 one_list j k u layout generation full e ne = grind (arith, common_steps)
+
+-- a set in such a use isn't held
+pub unheld : (u : Use) {X : Type 0} → is_held_use u ≡ false → u ≡ Held → X
+unheld u out held = absurd (false≢true (sym out ∙ ap is_held_use held))
 
 module _ {T : Type 0} where
   -- so it is for whole slots
@@ -51,6 +55,10 @@ module _ {T : Type 0} where
       by_use Taken n = (refl, λ k. refl)
       by_use x0 n = grind (arith, common_steps)
 
+  -- a held set is in no list
+  pub held_nowhere : (s : Slot T) (k : ℕ) → is_in k s ≡ true → s.used ≢ Held
+  held_nowhere s k e held = true≢false (sym e ∙ ap (λ u. in_list k u s.layout s.generation (is_some s.set)) held)
+
   pub taken_unkept : (s : Slot T) {X : Type 0} → is_kept (used_for Taken s) ≡ true → X
   taken_unkept s kept = absurd (false≢true kept)
 
@@ -80,16 +88,6 @@ module _ {T : Type 0} where
     | inl e ↦ subst (IsListed lists generations) (sym (ap (slot_at (set slots p s)) e ∙ slot_set slots p s within)) here
     | inr ne ↦ subst (IsListed lists generations) (sym (other_slots slots p s q ne)) (known q (let size = length-set slots p s in omega arith))
   ]
-
-  -- a slot keeps its layout. If its set is kept now, its layout has its number still
-  pub known_set :
-      (slots : List (Slot T)) (p : ℕ) (u : Use) (w : Slot T) (lists : ℕ) (generations : ℕ → ℕ)
-      → HasLists slots lists generations → p < length slots → w ≡ slot_at slots p
-      → (is_kept (used_for u w) ≡ true → w.layout_generation ≡ generations w.layout)
-      → HasLists (set slots p (used_for u w)) lists generations
-  known_set slots p u w lists generations known within is current =
-      let was = subst (IsListed lists generations) (sym is) (known p within) in
-      lists_set slots p (used_for u w) lists generations known within (record { there = was.there; before = was.before; kept = current })
 
 module _ {T : Type 0} (slots : List (Slot T)) (next : List ℕ) (chains : List Chain) (h : AreLinked slots next chains) where
   -- the places of a list

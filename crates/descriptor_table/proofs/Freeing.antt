@@ -1,23 +1,18 @@
 -- Held sets that came first into their lists, one after another, and are held again, the last one first: for `SetTable::settle_held`
 -- and `unsettle`. `a` is a table before a set settled, `b` after it; `now` and `new` are the tables before and after it is held again.
-use Rattle.std.proofs.Common.{◌≡◌, ◌≢◌, ℕ, zero, suc, ◌+◌, ◌-◌, ◌<◌, true, List, is_some, length, get_or, set, refl, sym, ap, subst, ◌∙◌, arith}
+use Rattle.std.proofs.Common.{◌≡◌, ◌≢◌, ℕ, zero, suc, ◌+◌, ◌-◌, ◌<◌, true, List, length, get_or, set, refl, sym, ap, subst, ◌∙◌, arith}
 use Rattle.std.proofs.lemmas.List.{get_or-set_other, get_or-set_same, set-get_or, set-set}
-use Rattle.std.proofs.lemmas.Bool.{true≢false}
-use Rattle.descriptor_table.specs.Slots.{chain_at, in_list, is_in, slot_at, nexts_in, chains_in}
+use Rattle.descriptor_table.specs.Slots.{chain_at, is_in, slot_at, nexts_in, chains_in}
 use Rattle.descriptor_table.specs.Tables.{At, Pops, SettleEach, SettlesOne, list_of, place_at, slots_of, used_for}
 use Rattle.descriptor_table.specs.declared.handle.SetHandle.{SetHandle}
 use Rattle.descriptor_table.specs.declared.set_table.SetTable.{SetTable}
 use Rattle.descriptor_table.specs.declared.slot.Chain.{Chain}
 use Rattle.descriptor_table.specs.Slots.{Slot}
 use Rattle.descriptor_table.specs.declared.slot.Use.TheVariants.{Held}
-use Rattle.descriptor_table.proofs.Chains.{chain_set}
+use Rattle.descriptor_table.proofs.Chains.{chain_set, held_nowhere}
 use Rattle.descriptor_table.proofs.Listed.{other_slots, with_use}
 use Rattle.descriptor_table.proofs.Sound.{same_long}
 use Rattle.descriptor_table.proofs.Turning.{same_use, use_again}
-
--- a held set is in no list
-held_nowhere : {T : Type 0} (s : Slot T) (k : ℕ) → is_in k s ≡ true → s.used ≢ Held
-held_nowhere s k e held = true≢false (sym e ∙ ap (λ u. in_list k u s.layout s.generation (is_some s.set)) held)
 
 module _ {T : Type 0} where
   -- the table `now` is `b`, but for the next of slots whose sets are held

@@ -7,7 +7,7 @@ use Rattle.std.proofs.lemmas.List.{length-set}
 use Rattle.std.proofs.lemmas.Bool.{true≢false}
 use Rattle.descriptor_table.specs.Sets.{AreHeldOnce, is_held}
 use Rattle.descriptor_table.specs.Slots.{IsNowhere, slot_at}
-use Rattle.descriptor_table.specs.Tables.{Becomes, TookEach, is_held_use, place_at, used_for}
+use Rattle.descriptor_table.specs.Tables.{Becomes, TookEach, holds, is_held_use, place_at, used_for}
 use Rattle.descriptor_table.specs.declared.handle.SetHandle.{SetHandle}
 use Rattle.descriptor_table.specs.declared.slot.Use.{Use}
 use Rattle.descriptor_table.specs.declared.slot.Use.TheVariants.{Held, Taken}
@@ -50,11 +50,15 @@ handle_is a b r p g =
     ∙ ap (λ n. record { manager = b.manager; place = b.place; generation = n }) g
 
 module _ {T : Type 0} where
+  holds_used : (s : Slot T) → holds s ≡ true → s.used ≡ Held
+  holds_used s e = held_use s.used (and_true (is_held_use s.used) (is_some s.set) e).0
+
   -- what is known of a handle with a held set
   pub record IsHeld (number : ℕ) (slots : List (Slot T)) (h : SetHandle) : Type 0 where
     pub manager : h.manager ≡ number
     pub generation : h.generation ≡ (slot_at slots h.place).generation
     pub used : (slot_at slots h.place).used ≡ Held
+    pub holds : holds (slot_at slots h.place) ≡ true
     pub within : h.place < length slots
 
   -- a handle that passes the test `is_held` has all that
@@ -63,11 +67,11 @@ module _ {T : Type 0} where
       let s = slot_at slots h.place in
       let both = and_true ((h.manager == number) && (h.generation == s.generation)) (is_held_use s.used && is_some s.set) e in
       let last = and_true (h.manager == number) (h.generation == s.generation) both.0 in
-      let full = and_true (is_held_use s.used) (is_some s.set) both.1 in
       record {
         manager = eqb-true h.manager number last.0;
         generation = eqb-true h.generation s.generation last.1;
-        used = held_use s.used full.0;
+        used = holds_used s both.1;
+        holds = both.1;
         within = test_within (λ s. ((h.manager == number) && (h.generation == s.generation)) && (is_held_use s.used && is_some s.set)) slots h.place (and_none ((h.manager == number) && (h.generation == 0))) e;
       }
 
@@ -161,7 +165,7 @@ module _ {T : Type 0} where
   took_each number handles n old now le some =
       let z : SetHandle = record { manager = 0; place = 0; generation = 0 } in
       let was = λ (i : ℕ) (lt : i < n). held_is number old (get_or handles i z) (some.held i z lt (omega arith)) in
-      record { long = some.long; held = λ i lt. (was i lt).used; within = λ i lt. (was i lt).within; named = some.named; rest = some.rest }
+      record { long = some.long; held = λ i lt. (was i lt).holds; within = λ i lt. (was i lt).within; named = some.named; rest = some.rest }
 
   -- the sets of the first handles are held again
   pub record PutSome (handles : List SetHandle) (n m : ℕ) (before now : List (Slot T)) : Type 0 where
@@ -178,9 +182,17 @@ module _ {T : Type 0} where
     -- it is in no list
     pub put_nowhere : IsNowhere (slot_at now (place_at handles m)).used
     put_nowhere = elim (some.each m lt) [
-      | inl same ↦ subst IsNowhere (sym (ap (λ (s : Slot T). s.used) same ∙ took.held m lt)) tt
+      | inl same ↦ subst IsNowhere (sym (ap (λ (s : Slot T). s.used) same ∙ holds_used (slot_at before (place_at handles m)) (took.held m lt))) tt
       | inr taken ↦ subst IsNowhere (sym (ap (λ (s : Slot T). s.used) taken)) tt
     ]
+
+    pub put_full : is_some (slot_at now (place_at handles m)).set ≡ true
+    put_full =
+        let before_full = (and_true (is_held_use (slot_at before (place_at handles m)).used) (is_some (slot_at before (place_at handles m)).set) (took.held m lt)).1 in
+        elim (some.each m lt) [
+          | inl same ↦ ap (λ (s : Slot T). is_some s.set) same ∙ before_full
+          | inr taken ↦ ap (λ (s : Slot T). is_some s.set) taken ∙ before_full
+        ]
 
     -- one set more is held again
     pub put_more : (new : List (Slot T)) → new ≡ with_use (place_at handles m) Held now → PutSome handles n (m + 1) before new
@@ -189,8 +201,8 @@ module _ {T : Type 0} where
         let s = used_for Held (slot_at now p) in
         let far : (q : ℕ) → q ≢ p → slot_at new q ≡ slot_at now q = λ q ne. ap (λ l. slot_at l q) made ∙ other_slots now p s q ne in
         let whole : s ≡ slot_at before p = elim (some.each m lt) [
-          | inl same ↦ ap (used_for Held) same ∙ used_same (slot_at before p) Held (took.held m lt)
-          | inr taken ↦ ap (used_for Held) taken ∙ used_same (slot_at before p) Held (took.held m lt)
+          | inl same ↦ ap (used_for Held) same ∙ used_same (slot_at before p) Held (holds_used (slot_at before (place_at handles m)) (took.held m lt))
+          | inr taken ↦ ap (used_for Held) taken ∙ used_same (slot_at before p) Held (holds_used (slot_at before (place_at handles m)) (took.held m lt))
         ] in
         let here : slot_at new p ≡ slot_at before p = ap (λ l. slot_at l p) made ∙ slot_set now p s put_inside ∙ whole in
         record {

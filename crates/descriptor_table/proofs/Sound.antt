@@ -1,13 +1,13 @@
 -- What a table says of its lists stays when a slot comes to a list or leaves one, or comes to the table: for all methods that write slots.
 -- `l` are the slots before, `l'` after.
-use Rattle.std.proofs.Common.{◌≡◌, ◌≢◌, ℕ, ◌+◌, ◌-◌, ◌<◌, ◌≤◌, ◌⊎◌, inl, inr, true, false, if◌then◌else◌, List, [], ◌∷◌, ◌++◌, length, get_or, set, insert, refl, sym, ap, subst, ◌∙◌, arith, eq-eqb, ne_eqb}
+use Rattle.std.proofs.Common.{◌≡◌, ◌≢◌, ℕ, ◌+◌, ◌-◌, ◌<◌, ◌≤◌, ◌⊎◌, inl, inr, true, false, if◌then◌else◌, List, [], ◌∷◌, ◌++◌, is_some, length, get_or, set, insert, refl, sym, ap, subst, ◌∙◌, arith, eq-eqb, ne_eqb}
 use Rattle.std.proofs.lemmas.Bool.{true≢false}
 use Rattle.std.proofs.lemmas.List.{get_or-set_other, get_or-set_same, length-map, length-set, length_push}
 use Rattle.std.specs.List.Sorted.{IsPartitionPoint}
 use Rattle.descriptor_table.specs.Slots.{AreLinked, AreSized, AreSound, HasLists, IsListed, IsNowhere, IsQueue, Slot, chain_at, frame_of, generation_at, is_in, nexts_in, slot_at, slot_of, slots_in, waits}
 use Rattle.descriptor_table.specs.Tables.{is_kept, removed_at}
 use Rattle.descriptor_table.specs.declared.slot.Chain.{Chain}
-use Rattle.descriptor_table.specs.declared.slot.Use.TheVariants.{Taken}
+use Rattle.descriptor_table.specs.declared.slot.Use.TheVariants.{Held, Taken}
 use Rattle.descriptor_table.specs.declared.slot_list.Entry.{Entry}
 use Rattle.descriptor_table.specs.declared.slot_list.SlotList.{SlotList}
 use Rattle.descriptor_table.proofs.Chains.{few_set, filled_linked, known_chains, link_linked, listed_out, lists_set, nowhere_out, out_linked, pick_linked, picked, taken_no_list, taken_out, waits_no_list}
@@ -22,13 +22,14 @@ same_long l = length-map l.entries.items (λ (e : Entry _). e.next) ∙ sym (len
 
 module _ {T : Type 0} (l l' : SlotList T) (chains : List Chain) (generations waiting : List ℕ) (room keep : ℕ) (h : AreSound l chains generations waiting room keep) where
   -- a slot with another use keeps its layout, which has its number still if the set is kept
-  pub listed : (p : ℕ) (s : Slot T) → p < length (slots_in l) → s.layout ≡ (slot_at (slots_in l) p).layout → s.layout_generation ≡ (slot_at (slots_in l) p).layout_generation → (is_kept s ≡ true → s.layout_generation ≡ generation_at generations s.layout) → IsListed (length chains) (generation_at generations) s
-  listed p s within layout generation kept =
+  pub listed : (p : ℕ) (s : Slot T) → p < length (slots_in l) → s.layout ≡ (slot_at (slots_in l) p).layout → s.layout_generation ≡ (slot_at (slots_in l) p).layout_generation → (is_kept s ≡ true → s.layout_generation ≡ generation_at generations s.layout) → (s.used ≡ Held → is_some s.set ≡ true) → IsListed (length chains) (generation_at generations) s
+  listed p s within layout generation kept full =
       let was = h.known p within in
       record {
         there = (let a = was.there in omega arith);
         before = subst (λ n. s.layout_generation ≤ generation_at generations n) (sym layout) (let a = was.before in omega arith);
         kept = kept;
+        full = full;
       }
 
   module _ (p : ℕ) (s : Slot T) (slots : slots_in l' ≡ set (slots_in l) p s) where
@@ -60,8 +61,8 @@ module _ {T : Type 0} (l l' : SlotList T) (chains : List Chain) (generations wai
     }
 
     -- a slot that is in no list, and not in the queue, came to neither
-    pub out_sound : p < length (slots_in l) → nexts_in l' ≡ nexts_in l → (waits (slot_at (slots_in l) p) ≡ false) × ((k : ℕ) → is_in k (slot_at (slots_in l) p) ≡ false) → (waits s ≡ false) × ((k : ℕ) → is_in k s ≡ false) → s.layout ≡ (slot_at (slots_in l) p).layout → s.layout_generation ≡ (slot_at (slots_in l) p).layout_generation → AreSound l' chains generations waiting room keep
-    out_sound within nexts was now layout generation = queued waiting within (listed p s within layout generation (λ kept. absurd (true≢false (sym kept ∙ now.1 (s.layout + 2))))) nexts was.1 now.1 (out_queue (slots_in l) waiting h.queue p s within was.0 now.0)
+    pub out_sound : p < length (slots_in l) → nexts_in l' ≡ nexts_in l → (waits (slot_at (slots_in l) p) ≡ false) × ((k : ℕ) → is_in k (slot_at (slots_in l) p) ≡ false) → (waits s ≡ false) × ((k : ℕ) → is_in k s ≡ false) → s.layout ≡ (slot_at (slots_in l) p).layout → s.layout_generation ≡ (slot_at (slots_in l) p).layout_generation → (s.used ≡ Held → is_some s.set ≡ true) → AreSound l' chains generations waiting room keep
+    out_sound within nexts was now layout generation full = queued waiting within (listed p s within layout generation (λ kept. absurd (true≢false (sym kept ∙ now.1 (s.layout + 2)))) full) nexts was.1 now.1 (out_queue (slots_in l) waiting h.queue p s within was.0 now.0)
 
     -- the first slot of a list left it
     pub pick_sound : (k : ℕ) (c : Chain) (after : ℕ) → chain_at chains k ≡ c → c.count ≢ 0 → k < length chains → after ≡ get_or (nexts_in l) p 0 → p ≡ c.first → nexts_in l' ≡ nexts_in l → ((j : ℕ) → is_in j s ≡ false) → waits s ≡ false → IsListed (length chains) (generation_at generations) s → AreSound l' (set chains k (record { first = after; count = c.count - 1 })) generations waiting room keep
@@ -148,7 +149,8 @@ remove_sound {T} l chains generations waiting room keep h layout within none = r
       there = was.there;
       before = (let a = was.before in let b = ap (generation_at (set generations (layout + 2) (generation_at generations layout + 1))) e ∙ removed_here generations layout (generation_at generations layout + 1) within in let d = ap (generation_at generations) e in omega arith);
       kept = λ kept. absurd (true≢false (sym kept ∙ ap (λ n. is_in (n + 2) (slot_at (slots_in l) p)) e ∙ none p));
+      full = was.full;
     }
     by_layout p was (inr ne) =
         let same = removed_others generations layout (generation_at generations layout + 1) (slot_at (slots_in l) p).layout ne in
-        record { there = was.there; before = (let a = was.before in omega arith); kept = λ kept. was.kept kept ∙ sym same }
+        record { there = was.there; before = (let a = was.before in omega arith); kept = λ kept. was.kept kept ∙ sym same; full = was.full }

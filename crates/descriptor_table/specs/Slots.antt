@@ -175,11 +175,12 @@ module _ {T : Type 0} where
     -- along it no set waits for an earlier frame than the one before it
     pub rises : IsNonDecreasingBy (λ p. frame_of (slot_at slots p).used) places
 
-  -- the list of a slot's layout is there. Its set is of this layout, or of one that had the number before; a kept one is of this layout
+  -- the list of a slot's layout is there. Its set is of this layout, or of one that had the number before; a kept one is of this layout. A held one is there
   pub record IsListed (lists : ℕ) (generations : ℕ → ℕ) (s : Slot T) : Type 0 where
     pub there : s.layout + 2 < lists
     pub before : s.layout_generation ≤ generations s.layout
     pub kept : is_in (s.layout + 2) s ≡ true → s.layout_generation ≡ generations s.layout
+    pub full : s.used ≡ Held → is_some s.set ≡ true
 
   -- each slot has its list
   abbrev pub HasLists : Slots T → ℕ → (ℕ → ℕ) → Type 0

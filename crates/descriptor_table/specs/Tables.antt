@@ -156,9 +156,10 @@ module _ {T : Type 0} where
     pub taken : IsTaken p slots
     pub full : is_some (slot_at slots p).set ≡ true
 
-  -- a call has taken the slot, which can give another handle
+  -- a call has taken the set of the slot, which can give another handle
   pub record CanRenew (p : ℕ) (slots : Slots T) : Type 0 where
     pub taken : IsTaken p slots
+    pub full : is_some (slot_at slots p).set ≡ true
     pub next : (slot_at slots p).generation < 4294967295
 
   -- the slot passed the test, and left its list
@@ -290,7 +291,7 @@ module _ {T : Type 0} where
   -- the held sets of the first n handles were taken, and all else is as it was
   pub record TookEach (handles : List SetHandle) (n : ℕ) (old new : Slots T) : Type 0 where
     pub long : length new ≡ length old
-    pub held : (i : ℕ) → i < n → (slot_at old (place_at handles i)).used ≡ Held
+    pub held : (i : ℕ) → i < n → holds (slot_at old (place_at handles i)) ≡ true
     pub within : (i : ℕ) → i < n → place_at handles i < length old
     pub named : (i : ℕ) → i < n → slot_at new (place_at handles i) ≡ used_for Taken (slot_at old (place_at handles i))
     pub rest : (p : ℕ) → ((i : ℕ) → i < n → place_at handles i ≢ p) → slot_at new p ≡ slot_at old p

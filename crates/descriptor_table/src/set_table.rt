@@ -105,7 +105,7 @@ impl<T> SetTable<T> {
             return false;
         }
         match slot.used() {
-            Use::Held => slot.set.is_some(),
+            Use::Held => true,
             Use::InFrame(_) | Use::Waits(_) | Use::Kept | Use::Going | Use::Taken | Use::Vacant =>
                 false,
         }

@@ -189,11 +189,7 @@ impl<T> SetTable<T> {
     {
         let slot = self.slots.at(place);
         match slot.used() {
-            Use::Held => {
-                if slot.set.is_none() {
-                    return;
-                }
-            }
+            Use::Held => {}
             Use::InFrame(_) | Use::Waits(_) | Use::Kept | Use::Going | Use::Taken | Use::Vacant =>
                 return,
         }

@@ -1,5 +1,5 @@
 //! Sets that are taken by their names, all or none.
-ghost use Rattle.std.specs.Prelude.{◌≡◌, ◌<◌, ◌≤◌, ◌↔◌, List, IsTrue, IsFalse, length};
+ghost use Rattle.std.specs.Prelude.{◌≡◌, ◌<◌, ◌≤◌, ◌↔◌, List, IsTrue, IsFalse, is_some, length, true};
 
 use super::SetTable;
 use crate::handle::SetName;
@@ -18,6 +18,7 @@ impl<T> SetTable<T> {
         requires within { place < length (slots_of self.old) }
         requires was { IsNowhere (slot_at (slots_of self.old) place).used }
         requires used { IsNowhere used }
+        requires full { used ≡ Use.Held → is_some (slot_at (slots_of self.old) place).set ≡ true }
         ensures changes { Changes (At place (used_for used)) self.old self.new }
         ensures lists { KeepsLists self.old self.new }
     {

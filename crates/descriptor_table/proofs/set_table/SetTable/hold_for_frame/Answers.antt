@@ -2,7 +2,7 @@ use Rattle.std.proofs.Common.{refl, arith}
 use Rattle.descriptor_table.specs.Slots.{AreSound, chains_in, generations_in, slot_at, slots_in}
 use Rattle.descriptor_table.specs.Tables.{renewed}
 use Rattle.descriptor_table.specs.declared.slot.Use.TheVariants.{InFrame}
-use Rattle.descriptor_table.proofs.Chains.{taken_out, waits_unkept}
+use Rattle.descriptor_table.proofs.Chains.{taken_out, unheld, waits_unkept}
 use Rattle.descriptor_table.proofs.Entries.{in_place}
 use Rattle.descriptor_table.proofs.Sound.{listed, wait_sound}
 use Rattle.descriptor_table.proofs.Waiting.{few_wait}
@@ -25,5 +25,5 @@ invariant_of-self g c =
     let taken = c.requires.taken.taken in
     let new = renewed (InFrame c.args.frame) (slot_at (slots_in s.slots) p) in
     let at = c.place_of_frame-at in
-    let sound = wait_sound s.slots c.renew.new.self (chains_in s.lists.items) (generations_in s.lists.items) s.waiting.items s.waiting.cap s.keep s.sound p new c.renew.ensures.writes.slots c.args.frame at.result refl at.ensures.within at.ensures.place taken.within taken.taken c.requires.taken.full c.renew.ensures.nexts (listed s.slots s.slots (chains_in s.lists.items) (generations_in s.lists.items) s.waiting.items s.waiting.cap s.keep s.sound p new taken.within refl refl (waits_unkept new c.requires.taken.full)) in
+    let sound = wait_sound s.slots c.renew.new.self (chains_in s.lists.items) (generations_in s.lists.items) s.waiting.items s.waiting.cap s.keep s.sound p new c.renew.ensures.writes.slots c.args.frame at.result refl at.ensures.within at.ensures.place taken.within taken.taken c.requires.taken.full c.renew.ensures.nexts (listed s.slots s.slots (chains_in s.lists.items) (generations_in s.lists.items) s.waiting.items s.waiting.cap s.keep s.sound p new taken.within refl refl (waits_unkept new c.requires.taken.full) (unheld (InFrame c.args.frame) refl)) in
     record { sound = in_place (λ waiting room. AreSound c.renew.new.self (chains_in s.lists.items) (generations_in s.lists.items) waiting room s.keep) _ _ _ _ c.put_place.ensures.items c.put_place.ensures.capacity sound }

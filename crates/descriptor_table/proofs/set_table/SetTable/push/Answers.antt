@@ -4,6 +4,8 @@ use Rattle.descriptor_table.specs.Slots.{Slot, slots_in, taken_slot, chains_in, 
 use Rattle.descriptor_table.specs.Tables.{count, generations_of, is_usable}
 use Rattle.descriptor_table.proofs.Counts.{none_count}
 use Rattle.descriptor_table.proofs.Growing.{count_grown, puts_last}
+use Rattle.descriptor_table.specs.declared.slot.Use.TheVariants.{Taken}
+use Rattle.descriptor_table.proofs.Chains.{unheld}
 use Rattle.descriptor_table.proofs.Sound.{push_sound}
 use Rattle.descriptor_table.proofs.set_table.SetTable.push.Goals.{After-generation-layout_generation}
 use Rattle.descriptor_table.proofs.set_table.SetTable.push.Goals as goal
@@ -25,7 +27,7 @@ invariant_of-self g c =
     let few = c.requires.room.few in
     let room = c.requires.room.waiting in
     let generation = c.generation-layout_generation.ensures in
-    record { sound = push_sound s.slots c.push.new.self (chains_in s.lists.items) (generations_in s.lists.items) s.waiting.items s.waiting.cap s.keep s.sound (put_slot g (goal.at.invariant_of-self g c).After-generation-layout_generation) refl c.push.ensures.slots c.push.ensures.nexts (record { there = c.requires.layout; before = omega arith; kept = λ kept. generation }) (omega arith) (omega arith) }
+    record { sound = push_sound s.slots c.push.new.self (chains_in s.lists.items) (generations_in s.lists.items) s.waiting.items s.waiting.cap s.keep s.sound (put_slot g (goal.at.invariant_of-self g c).After-generation-layout_generation) refl c.push.ensures.slots c.push.ensures.nexts (record { there = c.requires.layout; before = omega arith; kept = λ kept. generation; full = unheld Taken refl }) (omega arith) (omega arith) }
 
 pub returns : goal.returns
 returns g c =

@@ -1,8 +1,8 @@
-use Rattle.std.proofs.Common.{◌≡◌, ◌<◌, length, sym, subst, arith}
+use Rattle.std.proofs.Common.{◌≡◌, ◌<◌, true, is_some, length, sym, subst, arith}
 use Rattle.descriptor_table.specs.Slots.{IsNowhere, slot_at}
 use Rattle.descriptor_table.specs.Tables.{At, place_at, slots_of, used_for}
 use Rattle.descriptor_table.specs.declared.slot.Use.TheVariants.{Held}
-use Rattle.descriptor_table.proofs.Holding.{PutSome, put_all, put_inside, put_more, put_nowhere}
+use Rattle.descriptor_table.proofs.Holding.{PutSome, put_all, put_full, put_inside, put_more, put_nowhere}
 use Rattle.descriptor_table.proofs.Names.{place_read}
 use Rattle.descriptor_table.proofs.Turning.{stays_more}
 use Rattle.descriptor_table.proofs.set_table.SetTable.put_back.Goals.{After-handle}
@@ -23,6 +23,12 @@ assign-requires-clause-was g c =
     let took = c.requires.took in
     subst (λ q. IsNowhere (slot_at (slots_of c.loop-index.self) q).used) (at g (goal.at.assign-requires-clause-was g c).After-handle)
     (put_nowhere (g.N.SetName.handles_of c.args.names.now) c.args.count c.loop-index.index took.0 (slots_of c.loop-index.self) (slots_of c.args.self.now) took.1 (c.loop-index.invariant.put took.0 took.1) c.loop-index-test.true)
+
+pub assign-requires-clause-full : goal.assign-requires-clause-full
+assign-requires-clause-full g c = λ held.
+    let took = c.requires.took in
+    subst (λ q. is_some (slot_at (slots_of c.loop-index.self) q).set ≡ true) (at g (goal.at.assign-requires-clause-full g c).After-handle)
+    (put_full (g.N.SetName.handles_of c.args.names.now) c.args.count c.loop-index.index took.0 (slots_of c.loop-index.self) (slots_of c.args.self.now) took.1 (c.loop-index.invariant.put took.0 took.1) c.loop-index-test.true)
 
 pub loop-index-preserved : goal.loop-index-preserved
 loop-index-preserved g c = record {

@@ -12,4 +12,4 @@ invariant_of-self g c =
     let was = slot_at (slots_in s.slots) p in
     let taken = c.requires.can.taken in
     let new = renewed c.args.used was in
-    record { sound = out_sound s.slots c.renew.new.self (chains_in s.lists.items) (generations_in s.lists.items) s.waiting.items s.waiting.cap s.keep s.sound p new c.renew.ensures.writes.slots taken.within c.renew.ensures.nexts (nowhere_out was (subst IsNowhere (sym taken.taken) tt)) (nowhere_out new c.requires.used) refl refl }
+    record { sound = out_sound s.slots c.renew.new.self (chains_in s.lists.items) (generations_in s.lists.items) s.waiting.items s.waiting.cap s.keep s.sound p new c.renew.ensures.writes.slots taken.within c.renew.ensures.nexts (nowhere_out was (subst IsNowhere (sym taken.taken) tt)) (nowhere_out new c.requires.used) refl refl (λ held. c.requires.can.full) }
