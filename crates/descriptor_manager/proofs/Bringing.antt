@@ -1,12 +1,11 @@
 -- Sets that were asked for, and are on their way.
-use Rattle.std.proofs.Common.{◌≡◌, ℕ, ◌+◌, ◌-◌, ◌<◌, ◌≤◌, ◌⊎◌, Bool, true, false, List, [], length, inl, inr, refl, sym, ap, subst, ◌∙◌, arith}
+use Rattle.std.proofs.Common.{◌≡◌, ℕ, ◌+◌, ◌-◌, ◌<◌, ◌≤◌, ◌⊎◌, Bool, true, false, List, length, inl, inr, refl, sym, ap, subst, ◌∙◌, arith}
 use Rattle.std.proofs.lemmas.Bool.{true≢false}
 use Rattle.gpu_descriptor_types.specs.declared.device.DescriptorDevice.{Ghosts}
 use Rattle.gpu_descriptor.specs.Caller.Sets.{AreOfLayout}
 use Rattle.descriptor_table.specs.Slots.{is_kept_of, slot_at}
 use Rattle.descriptor_table.specs.Tables.{count, is_kept}
 use Rattle.descriptor_table.specs.Slots.{Slot}
-use Rattle.descriptor_table.proofs.Counting.{below_or}
 use Rattle.descriptor_table.proofs.Counts.{count_none, none_count}
 use Rattle.descriptor_manager.specs.Stores.{AreCleaned, Asks, AsksAtLast, coming_in, kept_of, slots_in}
 use Rattle.descriptor_manager.specs.declared.store.Store.{Store}
@@ -44,28 +43,13 @@ module _ {L P S D : Type 0} {d : Ghosts D L P S} where
       own = asks.own;
     }
 
-  -- what `Store::bring` leaves: nothing changed if enough sets are kept, or the others were asked for
-  pub brought : (layout : L) (number many : ℕ) (old new : Store L P S D d) → coming_in old ≡ [] → (many ≤ kept_of number old → new ≡ old) → (kept_of number old < many → AsksAtLast layout (many - kept_of number old) many old new) → Brings layout number many old new
-  brought layout number many old new none kept asks = elim (below_or (kept_of number old) many) [
-    | inl few ↦ elim (asks few) [
-      | inl at_once ↦ asked layout number (many - kept_of number old) many old old new (λ q. same_clears (slot_at (slots_in old) q) (slot_at (slots_in old) q) refl) refl (inl refl) (omega arith) (λ i lt some. omega arith) at_once
-      | inr later ↦
-          let cleaned = cleared_of layout (many - kept_of number old) many old later.0 later.1 in
-          let long = cleared_long layout (many - kept_of number old) many old later.0 later.1 in
-          let none = none_left_of (slots_in old) (slots_in later.0) cleaned number in
-          asked layout number many many old later.0 new (clears (slots_in old) (slots_in later.0) cleaned) long (inr (later.1.some, cleaned)) (omega arith) (λ i lt some. absurd (omega arith)) later.2
-    ]
-    | inr enough ↦
-        let same = kept enough in
-        let empty = ap (λ s. coming_in s) same in
-        let long = ap length empty in
-        let short = ap length none in
-        record {
-          cleared = inl (ap slots_in same);
-          clear = λ q. same_clears (slot_at (slots_in old) q) (slot_at (slots_in new) q) (ap (λ s. slot_at (slots_in s) q) same);
-          long = ap (λ s. length (slots_in s)) same;
-          few = omega arith;
-          besides = λ i lt some. omega arith;
-          own = λ k e lt. absurd (omega arith);
-        }
+  -- what `Store::bring` leaves
+  pub brought : (layout : L) (number many : ℕ) (old new : Store L P S D d) → kept_of number old < many → AsksAtLast layout (many - kept_of number old) many old new → Brings layout number many old new
+  brought layout number many old new few asks = elim asks [
+    | inl at_once ↦ asked layout number (many - kept_of number old) many old old new (λ q. same_clears (slot_at (slots_in old) q) (slot_at (slots_in old) q) refl) refl (inl refl) (omega arith) (λ i lt some. omega arith) at_once
+    | inr later ↦
+        let cleaned = cleared_of layout (many - kept_of number old) many old later.0 later.1 in
+        let long = cleared_long layout (many - kept_of number old) many old later.0 later.1 in
+        let none = none_left_of (slots_in old) (slots_in later.0) cleaned number in
+        asked layout number many many old later.0 new (clears (slots_in old) (slots_in later.0) cleaned) long (inr (later.1.some, cleaned)) (omega arith) (λ i lt some. absurd (omega arith)) later.2
   ]

@@ -34,26 +34,23 @@ impl<L: Drop, P: Drop, S: Drop, D: DescriptorDevice<L, P, S>> Store<L, P, S, D> 
             .allocate_into(&mut self.device, known, many, &mut self.coming)
     }
 
-    /// Asks the allocator for those of `many` sets for which no set is kept. If it refuses them while
-    /// sets are kept, all kept sets return to their pools, empty pools are destroyed, and it retries
-    /// once, for all sets. It doesn't if all of them alone exceed the limit.
+    /// Asks the allocator for those of `many` sets for which no set is kept; there are some. If it
+    /// refuses them while sets are kept, all kept sets return to their pools, empty pools are destroyed,
+    /// and it retries once, for all sets. It doesn't if all of them alone exceed the limit.
     fn bring(&mut self, known: &SetLayout<L>, layout: u32, many: u32) -> Result<(), AllocationError>
-        requires { CanTake known.now layout self.old }
-        ensures kept { many ≤ kept_of layout self.old → (result ≡ Ok tt) × (self.new ≡ self.old) }
-        ensures asks { kept_of layout self.old < many → OnOk result (AsksAtLast known.now.layout
-            (many - kept_of layout self.old) many self.old self.new) }
+        requires can { CanTake known.now layout self.old }
+        requires short { kept_of layout self.old < many }
+        ensures asks { OnOk result (AsksAtLast known.now.layout (many - kept_of layout self.old) many
+            self.old self.new) }
         ensures refused { IfErr result (λ error. IsRefusedAtLast known.now.layout
             (many - kept_of layout self.old) many error self.old self.new) }
         ensures none { OnErr result (coming_in self.new ≡ []) }
         ensures table { OnOk result (HasRoom (length (coming_in self.new)) self.new.table) }
         ensures stays { KeepsStore self.old self.new }
     {
-        let kept = self.table.kept_count(layout);
-        if many <= kept {
-            return Ok(());
-        }
-        self.reserve(many - kept)?;
-        match self.ask_for(known, many - kept) {
+        let missing = many - self.table.kept_count(layout);
+        self.reserve(missing)?;
+        match self.ask_for(known, missing) {
             Ok(()) => Ok(()),
             Err(error) => {
                 if self.exceeds_limit(known, many) || self.table.kept_total() == 0 {
@@ -155,6 +152,41 @@ impl<L: Drop, P: Drop, S: Drop, D: DescriptorDevice<L, P, S>> Store<L, P, S, D> 
         ensures comes { kept_of layout self.old < length names.old → OnOk result (BringsAtLast
             known.now.layout (length names.old - kept_of layout self.old) (length names.old)
             self.old self.new) }
+        ensures refused { IfErr result (λ error. IsRefusedAtLast known.now.layout
+            (length names.old - kept_of layout self.old) (length names.old) error self.old
+            self.new) }
+        ensures long { length names.new ≡ length names.old }
+        ensures names { OnErr result (names.new ≡ names.old) }
+        ensures settles { Settles (ComesOf D.meaning known.now.layout layout) self.old self.new }
+        ensures grows { Grows (slots_in self.old) (slots_in self.new) }
+    {
+        if names.len() > self.table.kept_count(layout) as usize {
+            return self.allocate_with_new(known, layout, names);
+        }
+        self.hold_kept(layout, names);
+        Ok(())
+    }
+
+    /// Does that if fewer sets of the layout are kept. It is out of line, so that a call that finds
+    /// enough saves no registers for it.
+    #[inline(never)]
+    fn allocate_with_new<N: SetName<DescriptorSet<S>> + Drop>(
+        &mut self,
+        known: &SetLayout<L>,
+        layout: u32,
+        names: &mut [N],
+    ) -> Result<(), AllocationError>
+        requires can { CanTake known.now layout self.old }
+        requires few { length names.old ≤ 4294967295 }
+        requires short { kept_of layout self.old < length names.old }
+        ensures creates { OnOk result (((frame : ℕ) (opened : Bool) → NameEach
+            (N.handles_of names.new)
+            (sets_of (number_of self.old) frame opened (slots_in self.old))
+            (sets_of (number_of self.old) frame opened (slots_in self.new)))
+            × HoldAtLast (number_of self.old) (current_in layout self.old) (N.handles_of names.new)
+            (slots_in self.old) (slots_in self.new)) }
+        ensures comes { OnOk result (BringsAtLast known.now.layout
+            (length names.old - kept_of layout self.old) (length names.old) self.old self.new) }
         ensures refused { IfErr result (λ error. IsRefusedAtLast known.now.layout
             (length names.old - kept_of layout self.old) (length names.old) error self.old
             self.new) }

@@ -13,17 +13,14 @@ impl<L, P, S, D: DescriptorDevice<L, P, S>> Store<L, P, S, D> {
             .allocate_into(&mut self.device, known, many, &mut self.coming)
     }
 
-    /// Asks the allocator for those of `many` sets for which no set is kept. If it refuses them while
-    /// sets are kept, all kept sets return to their pools, empty pools are destroyed, and it retries
-    /// once, for all sets. It doesn't if all of them alone exceed the limit.
+    /// Asks the allocator for those of `many` sets for which no set is kept; there are some. If it
+    /// refuses them while sets are kept, all kept sets return to their pools, empty pools are destroyed,
+    /// and it retries once, for all sets. It doesn't if all of them alone exceed the limit.
     fn bring(&mut self, known: &SetLayout<L>, layout: u32, many: u32) -> Result<(), AllocationError>
     {
-        let kept = self.table.kept_count(layout);
-        if many <= kept {
-            return Ok(());
-        }
-        self.reserve(many - kept)?;
-        match self.ask_for(known, many - kept) {
+        let missing = many - self.table.kept_count(layout);
+        self.reserve(missing)?;
+        match self.ask_for(known, missing) {
             Ok(()) => Ok(()),
             Err(error) => {
                 if self.exceeds_limit(known, many) || self.table.kept_total() == 0 {
@@ -77,6 +74,23 @@ impl<L, P, S, D: DescriptorDevice<L, P, S>> Store<L, P, S, D> {
     /// Takes a set of a layout for each place of `names`, kept ones first, and writes their names. The
     /// sets are held. On an error none is taken.
     pub(crate) fn allocate_each<N: SetName<DescriptorSet<S>>>(
+        &mut self,
+        known: &SetLayout<L>,
+        layout: u32,
+        names: &mut [N],
+    ) -> Result<(), AllocationError>
+    {
+        if names.len() > self.table.kept_count(layout) as usize {
+            return self.allocate_with_new(known, layout, names);
+        }
+        self.hold_kept(layout, names);
+        Ok(())
+    }
+
+    /// Does that if fewer sets of the layout are kept. It is out of line, so that a call that finds
+    /// enough saves no registers for it.
+    #[inline(never)]
+    fn allocate_with_new<N: SetName<DescriptorSet<S>>>(
         &mut self,
         known: &SetLayout<L>,
         layout: u32,

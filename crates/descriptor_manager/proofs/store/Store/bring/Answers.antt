@@ -16,9 +16,9 @@ cleaned_up g c =
     let many = c.args.many in
     let old = c.args.self.now in
     let reserved = c.in_ok-reserve.ensures in
-    let first = refused_from layout old c.reserve.new.self c.ask_for.new.self reserved.contents (many - c.kept_count-kept.result) c.in-Err.error c.in-Err.ensures.refused in
+    let first = refused_from layout old c.reserve.new.self c.ask_for.new.self reserved.contents (many - c.kept_count.result) c.in-Err.error c.in-Err.ensures.refused in
     cleared layout (many - kept_of c.args.layout old) many c.in-Err.error old c.ask_for.new.self c.cleanup.new.self
-    (subst (λ n. IsRefused layout (many - n) c.in-Err.error old c.ask_for.new.self) c.kept_count-kept.ensures.count first)
+    (subst (λ n. IsRefused layout (many - n) c.in-Err.error old c.ask_for.new.self) c.kept_count.ensures.count first)
     (c.in-Err.ensures.stays.limit ∙ reserved.stays.limit)
     (λ above. false≢true (c.if-exceeds_limit.ensures.1 above)) (λ e. c.if-kept_total-eq0.false (c.kept_total.ensures ∙ e)) c.cleanup.ensures.cleaned c.cleanup.ensures.cleans
 
@@ -31,7 +31,7 @@ returns-in_err-reserve-in-Err-clause-refused g c =
     })
 
 pub returns-in_ok-reserve-in-Err-clause-asks : goal.returns-in_ok-reserve-in-Err-clause-asks
-returns-in_ok-reserve-in-Err-clause-asks g c = λ few.
+returns-in_ok-reserve-in-Err-clause-asks g c =
     let reserved = c.in_ok-reserve-in-Err.ensures in
     on_ok (Asks c.args.known.now.layout c.args.many c.reserve-in-Err.new.self c.ask_for-in-Err.new.self)
     (AsksAtLast c.args.known.now.layout (c.args.many - kept_of c.args.layout c.args.self.now) c.args.many

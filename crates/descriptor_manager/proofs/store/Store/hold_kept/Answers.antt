@@ -5,7 +5,7 @@ use Rattle.descriptor_table.specs.Tables.{place_at}
 use Rattle.descriptor_table.proofs.Names.{handles_long, handles_written}
 use Rattle.descriptor_manager.specs.Stores.{HoldEach, NoneComes, current_in, number_of, slots_in}
 use Rattle.descriptor_manager.proofs.Growing.{grow_more}
-use Rattle.descriptor_manager.proofs.Joining.{held_all, held_full, held_next, held_start, kept_then, stays_then, store_same, were_kept}
+use Rattle.descriptor_manager.proofs.Joining.{held_all, held_next, held_start, kept_then, stays_then, store_same, were_kept}
 use Rattle.descriptor_manager.proofs.store.Store.hold_kept.Goals as goal
 
 pub loop-index-init : goal.loop-index-init
