@@ -87,8 +87,8 @@ impl<L, P, S, D: DescriptorDevice<L, P, S>> Store<L, P, S, D> {
         Ok(())
     }
 
-    /// Does that if fewer sets of the layout are kept. It is out of line, so that a call that finds
-    /// enough saves no registers for it.
+    /// `allocate_each` of more sets than are kept. It is out of line, so that a call that finds enough
+    /// saves no registers for it.
     #[inline(never)]
     fn allocate_with_new<N: SetName<DescriptorSet<S>>>(
         &mut self,
