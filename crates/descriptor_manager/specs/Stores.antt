@@ -1,5 +1,5 @@
 -- What a set manager's store has (the table of its sets, and the allocator over a device), and what its calls do.
-use Rattle.std.specs.Prelude.{◌≡◌, ◌≢◌, ℕ, zero, suc, ◌+◌, ◌<◌, ◌⊎◌, ◌||◌, true, not, Bool, List, [], ◌∷◌, length, slice_index_or, if◌then◌else◌, is_some, Option, Result, Some, Ok, Err, None, IfOk, IfErr}
+use Rattle.std.specs.Prelude.{◌≡◌, ◌≢◌, ℕ, zero, suc, ◌+◌, ◌-◌, ◌<◌, ◌⊎◌, ◌||◌, true, not, Bool, List, [], ◌∷◌, length, slice_index_or, if◌then◌else◌, is_some, Option, Result, Some, Ok, Err, None, IfOk, IfErr, OnOk}
 use Rattle.gpu_descriptor_types.specs.Ledger.{Ledger, Pool}
 use Rattle.gpu_descriptor.specs.Caller.Others.{others_of}
 use Rattle.gpu_descriptor_types.specs.Meaning.{IsOfLayout, Meaning}
@@ -19,7 +19,7 @@ use Rattle.gpu_descriptor.specs.declared.errors.AllocationError.{AllocationError
 use Rattle.gpu_descriptor.specs.declared.errors.AllocationError.TheVariants.{OutOfHostMemory}
 use Rattle.gpu_descriptor.specs.declared.layout.SetLayout.{SetLayout}
 use Rattle.gpu_descriptor.specs.declared.set.DescriptorSet.{DescriptorSet}
-use Rattle.descriptor_table.specs.Sets.{Names, sets_in, sets_of}
+use Rattle.descriptor_table.specs.Sets.{NameEach, Names, sets_in, sets_of}
 use Rattle.descriptor_table.specs.Slots.{is_kept_of, is_live, slot_at, waits}
 use Rattle.descriptor_table.specs.Tables.{Grows, HasRoom, Picks, Puts, Renews, Turns, Becomes, aged, came_under, count, current, generations_of, holds, is_kept, is_usable, place_at, lists_of, removed_at, slots_of, vacated, MayBecome, IsBack, TurnEach}
 use Rattle.descriptor_table.specs.declared.handle.SetHandle.{SetHandle}
@@ -335,6 +335,13 @@ module _ {L P S D : Type 0} {d : Ghosts D L P S} where
     pub kept : 0 < kept_of layout old → (handle : SetHandle) × (result ≡ Ok handle) × HandlesKept layout u handle old new
     pub comes : kept_of layout old ≡ 0 → IfOk result (λ handle. HandlesNew known layout u handle old new)
     pub refused : IfErr result (λ error. IsRefusedAtLast known 1 1 error old new)
+    pub settles : Settles (ComesOf d.meaning known layout) old new
+    pub grows : Grows (slots_in old) (slots_in new)
+
+  -- sets of the layout are held by the handles: kept ones first, and then new ones; or the request for those that are missing is refused
+  pub record TakesEach (known : L) (layout many : ℕ) (handles : List SetHandle) (result : Result Unit AllocationError) (old new : StoreOver d) : Type 0 where
+    pub creates : OnOk result (((frame : ℕ) (opened : Bool) → NameEach handles (sets_of (number_of old) frame opened (slots_in old)) (sets_of (number_of old) frame opened (slots_in new))) × HoldAtLast (number_of old) (current_in layout old) handles (slots_in old) (slots_in new))
+    pub refused : IfErr result (λ error. IsRefusedAtLast known (many - kept_of layout old) many error old new)
     pub settles : Settles (ComesOf d.meaning known layout) old new
     pub grows : Grows (slots_in old) (slots_in new)
 

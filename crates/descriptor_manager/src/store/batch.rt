@@ -15,7 +15,7 @@ impl<L: Drop, P: Drop, S: Drop, D: DescriptorDevice<L, P, S>> Store<L, P, S, D> 
     ghost use Rattle.descriptor_manager.specs.Stores.{Asks, AsksAtLast, BringsAtLast, CanTake};
     ghost use Rattle.descriptor_manager.specs.Stores.{CanHold, ComesOf, HoldAtLast, HoldEach, HoldsComing, HoldsKept};
     ghost use Rattle.descriptor_manager.specs.Stores.{IsRefused, IsRefusedAtLast, KeepsStore};
-    ghost use Rattle.descriptor_manager.specs.Stores.{Settles, coming_in, current_in, kept_of, number_of};
+    ghost use Rattle.descriptor_manager.specs.Stores.{TakesEach, coming_in, current_in, kept_of, number_of};
     ghost use Rattle.descriptor_manager.specs.Stores.{side_of, slots_in};
 
     /// Asks the allocator for `many` sets of a layout. The table has room for them.
@@ -141,24 +141,15 @@ impl<L: Drop, P: Drop, S: Drop, D: DescriptorDevice<L, P, S>> Store<L, P, S, D> 
     ) -> Result<(), AllocationError>
         requires can { CanTake known.now layout self.old }
         requires few { length names.old ≤ 4294967295 }
-        ensures creates { OnOk result (((frame : ℕ) (opened : Bool) → NameEach
-            (N.handles_of names.new)
-            (sets_of (number_of self.old) frame opened (slots_in self.old))
-            (sets_of (number_of self.old) frame opened (slots_in self.new)))
-            × HoldAtLast (number_of self.old) (current_in layout self.old) (N.handles_of names.new)
-            (slots_in self.old) (slots_in self.new)) }
+        ensures takes { TakesEach known.now.layout layout (length names.old)
+            (N.handles_of names.new) result self.old self.new }
         ensures kept { length names.old ≤ kept_of layout self.old → (result ≡ Ok tt)
             × (side_of self.new ≡ side_of self.old) }
         ensures comes { kept_of layout self.old < length names.old → OnOk result (BringsAtLast
             known.now.layout (length names.old - kept_of layout self.old) (length names.old)
             self.old self.new) }
-        ensures refused { IfErr result (λ error. IsRefusedAtLast known.now.layout
-            (length names.old - kept_of layout self.old) (length names.old) error self.old
-            self.new) }
         ensures long { length names.new ≡ length names.old }
         ensures names { OnErr result (names.new ≡ names.old) }
-        ensures settles { Settles (ComesOf D.meaning known.now.layout layout) self.old self.new }
-        ensures grows { Grows (slots_in self.old) (slots_in self.new) }
     {
         if names.len() > self.table.kept_count(layout) as usize {
             return self.allocate_with_new(known, layout, names);
@@ -179,21 +170,12 @@ impl<L: Drop, P: Drop, S: Drop, D: DescriptorDevice<L, P, S>> Store<L, P, S, D> 
         requires can { CanTake known.now layout self.old }
         requires few { length names.old ≤ 4294967295 }
         requires short { kept_of layout self.old < length names.old }
-        ensures creates { OnOk result (((frame : ℕ) (opened : Bool) → NameEach
-            (N.handles_of names.new)
-            (sets_of (number_of self.old) frame opened (slots_in self.old))
-            (sets_of (number_of self.old) frame opened (slots_in self.new)))
-            × HoldAtLast (number_of self.old) (current_in layout self.old) (N.handles_of names.new)
-            (slots_in self.old) (slots_in self.new)) }
+        ensures takes { TakesEach known.now.layout layout (length names.old)
+            (N.handles_of names.new) result self.old self.new }
         ensures comes { OnOk result (BringsAtLast known.now.layout
             (length names.old - kept_of layout self.old) (length names.old) self.old self.new) }
-        ensures refused { IfErr result (λ error. IsRefusedAtLast known.now.layout
-            (length names.old - kept_of layout self.old) (length names.old) error self.old
-            self.new) }
         ensures long { length names.new ≡ length names.old }
         ensures names { OnErr result (names.new ≡ names.old) }
-        ensures settles { Settles (ComesOf D.meaning known.now.layout layout) self.old self.new }
-        ensures grows { Grows (slots_in self.old) (slots_in self.new) }
     {
         self.bring(known, layout, names.len() as u32)?;
         let (kept, new) = names.split_at_mut(names.len() - self.coming.len());

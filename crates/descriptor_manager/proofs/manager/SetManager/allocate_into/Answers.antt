@@ -24,7 +24,7 @@ sets g c =
     let old = c.args.self.now in
     let known = c.in-Some.known.now in
     sets_settle (ComesOf g.D.DescriptorDevice.meaning known.layout c.place.result)
-    (layout_slots old.layouts) old.manager old.store c.allocate_each.new.self c.allocate_each.ensures.settles
+    (layout_slots old.layouts) old.manager old.store c.allocate_each.new.self c.allocate_each.ensures.takes.settles
     (own_comes g.D.DescriptorDevice.meaning c.place.result (layout_slots old.layouts) known (layout_here old.layouts c.args.layout known c.place.result c.place.ensures (sym c.in-Some.ensures.layout))) old.sets
 
 pub invariant_of-self-2-clause-sets : goal.invariant_of-self-2-clause-sets
@@ -35,7 +35,7 @@ returns-in-Ok-clause-creates g c =
     let old = c.args.self.now in
     let known = c.in-Some.known.now in
     let here = layout_here old.layouts c.args.layout known c.place.result c.place.ensures (sym c.in-Some.ensures.layout) in
-    let creates = c.in-Ok.ensures.creates in
+    let creates = c.in-Ok.ensures.takes.creates in
     let given = g.N.SetName.handles_of c.allocate_each.new.names in
     let new = slots_in c.allocate_each.new.self in
     let names = subst (λ n. NameEach given (sets_of n old.frame old.is_open (slots_in old.store)) (sets_of n old.frame old.is_open new)) old.sets.number (creates.0 old.frame old.is_open) in
@@ -48,7 +48,7 @@ returns-in-Ok-clause-creates g c =
             own_known g.D.DescriptorDevice.meaning (generations_in c.allocate_each.new.self) (layout_slots old.layouts)
             new (sets g (goal.at.returns-in-Ok-clause-creates g c).After-allocate_each).own h.place c.place.result x known (found_set old.manager old.frame old.is_open new h x found)
             (ap (λ p. came_under (slot_at new p)) same ∙ creates.1.holds.of_layout i lt
-            ∙ ap (λ generations. current generations c.place.result) (sym c.allocate_each.ensures.settles.stays.generations))
+            ∙ ap (λ generations. current generations c.place.result) (sym c.allocate_each.ensures.takes.settles.stays.generations))
             here;
       },
       subst (λ n. HoldAtLast n (current_in c.args.layout.slot.place old.store) given (slots_in old.store) new) old.sets.number (subst (λ p. HoldAtLast (number_of old.store) (current_in p old.store) given (slots_in old.store) new) c.place.ensures creates.1),
@@ -57,7 +57,7 @@ returns-in-Ok-clause-creates g c =
 pub returns-in-Err-clause-sets : goal.returns-in-Err-clause-sets
 returns-in-Err-clause-sets g c =
     let old = c.args.self.now in
-    record { stay = refused_names c.in-Some.known.now.layout _ (length c.args.sets.now) c.in-Err.error old.store c.allocate_each.new.self c.in-Err.ensures.refused old.manager old.frame old.is_open; grows = search rules; rest = search rules }
+    record { stay = refused_names c.in-Some.known.now.layout _ (length c.args.sets.now) c.in-Err.error old.store c.allocate_each.new.self c.in-Err.ensures.takes.refused old.manager old.frame old.is_open; grows = c.allocate_each.ensures.takes.grows; rest = search rules }
 
 pub returns-in-Ok-clause-comes : goal.returns-in-Ok-clause-comes
 returns-in-Ok-clause-comes g c = λ few.

@@ -1,6 +1,7 @@
 use Rattle.std.proofs.Common.{◌≡◌, ℕ, ◌<◌, ◌++◌, ◌∙◌, true, length, sym, ap, subst, arith, rules}
 use Rattle.std.proofs.lemmas.List.{get_or_append_left, length-append}
 use Rattle.gpu_descriptor.specs.Caller.Sets.{AreOfLayout}
+use Rattle.gpu_descriptor.proofs.request.Passed.{passed}
 use Rattle.descriptor_table.specs.Slots.{is_kept_of, slot_at}
 use Rattle.descriptor_table.specs.Tables.{HasRoom, place_at}
 use Rattle.descriptor_table.specs.declared.handle.SetHandle.{SetHandle}
@@ -55,43 +56,44 @@ come g c =
     let own = subst (AreOfLayout g.D.DescriptorDevice.meaning c.args.known.now.layout) (sym c.hold_kept.ensures.keeps.stays.coming) (brings g c).own in
     kept_then (ComesOf g.D.DescriptorDevice.meaning c.args.known.now.layout c.args.layout) (slots_in c.bring.new.self) (slots_in c.hold_kept.new.self) (slots_in c.hold_coming.new.self) c.hold_kept.ensures.keeps.sets (c.hold_coming.ensures.keeps.sets c.args.known.now.layout own)
 
-pub returns-in_err-bring-clause-settles : goal.returns-in_err-bring-clause-settles
-returns-in_err-bring-clause-settles g c =
-    let comes = ComesOf g.D.DescriptorDevice.meaning c.args.known.now.layout c.args.layout in
-    arrived comes c.args.self.now c.bring.new.self (refused_arrives comes c.args.known.now.layout _ (length c.args.names.now) c.in_err-bring.field-0.0 c.args.self.now c.bring.new.self c.in_err-bring.ensures.refused) c.in_err-bring.ensures.none c.requires.can.rest (search rules)
-
 pub hold_coming-requires-clause-can : goal.hold_coming-requires-clause-can
 hold_coming-requires-clause-can g c =
     let same = ap length c.hold_kept.ensures.keeps.stays.coming in
     record { layout = search rules; table = subst (λ n. HasRoom n c.hold_kept.new.self.table) (sym same) (c.hold_kept.ensures.keeps.table (length (coming_in c.bring.new.self)) c.in_ok-bring.ensures.table) }
 
-pub returns-clause-creates : goal.returns-clause-creates
-returns-clause-creates g c =
-    let a = (goal.at.returns-clause-creates g c).After-hold_coming in
-    let h = g.N.SetName.handles_of (c.hold_kept.new.names ++ c.hold_coming.new.names) in (
-      are_named (number_of c.args.self.now) (current_in c.args.layout c.args.self.now) h (slots_in c.args.self.now) (slots_in c.bring.new.self) (slots_in c.hold_coming.new.self) (brings g a).clear (all_held g a),
-      record { mid = slots_in c.bring.new.self; cleared = (brings g a).cleared; kept_first = first g a; holds = all_held g a },
-    )
-
 pub returns-clause-comes : goal.returns-clause-comes
 returns-clause-comes g c = (c.bring.new.self, c.in_ok-bring.ensures.asks, c.hold_coming.ensures.keeps.side ∙ c.hold_kept.ensures.keeps.side)
 
-pub returns-clause-settles : goal.returns-clause-settles
-returns-clause-settles g c =
-    let comes = ComesOf g.D.DescriptorDevice.meaning c.args.known.now.layout c.args.layout in
-    let a = (goal.at.returns-clause-settles g c).After-hold_coming in
-    arrived comes c.args.self.now c.hold_coming.new.self
-    (holds_arrives (number_of c.args.self.now) (current_in c.args.layout c.args.self.now) (g.N.SetName.handles_of (c.hold_kept.new.names ++ c.hold_coming.new.names))
-    (slots_in c.args.self.now) (slots_in c.bring.new.self) (slots_in c.hold_coming.new.self) (brings g a).clear (all_held g a)
-    comes (come g a))
-    c.hold_coming.ensures.none c.requires.can.rest (search rules)
+pub returns-in_err-bring-clause-takes : goal.returns-in_err-bring-clause-takes
+returns-in_err-bring-clause-takes g c = rw (passed c.from_residual.result c.in_err-bring.field-0.0 c.from_residual.ensures.1) (record {
+  creates = tt;
+  refused = c.in_err-bring.ensures.refused;
+  settles =
+      let comes = ComesOf g.D.DescriptorDevice.meaning c.args.known.now.layout c.args.layout in
+      arrived comes c.args.self.now c.bring.new.self (refused_arrives comes c.args.known.now.layout _ (length c.args.names.now) c.in_err-bring.field-0.0 c.args.self.now c.bring.new.self c.in_err-bring.ensures.refused) c.in_err-bring.ensures.none c.requires.can.rest (search rules);
+  grows = grow_refused c.args.known.now.layout _ (length c.args.names.now) c.in_err-bring.field-0.0 c.args.self.now c.bring.new.self c.in_err-bring.ensures.refused;
+})
 
-pub returns-in_err-bring-clause-grows : goal.returns-in_err-bring-clause-grows
-returns-in_err-bring-clause-grows g c = grow_refused c.args.known.now.layout _ (length c.args.names.now) c.in_err-bring.field-0.0 c.args.self.now c.bring.new.self c.in_err-bring.ensures.refused
-
-pub returns-clause-grows : goal.returns-clause-grows
-returns-clause-grows g c =
-    let a = (goal.at.returns-clause-grows g c).After-hold_coming in
-    let brought = slots_in c.bring.new.self in
-    let held = slots_in c.hold_coming.new.self in
-    grow_from (slots_in c.args.self.now) brought held (brings g a).long (grow_more (number_of c.hold_kept.new.self) (current_in c.args.layout c.hold_kept.new.self) (g.N.SetName.handles_of c.hold_coming.new.names) brought (slots_in c.hold_kept.new.self) held c.hold_kept.ensures.keeps.grows c.hold_coming.ensures.keeps.grows c.hold_coming.ensures.holds)
+pub returns-clause-takes : goal.returns-clause-takes
+returns-clause-takes g c = record {
+  creates =
+      let a = (goal.at.returns-clause-takes g c).After-hold_coming in
+      let h = g.N.SetName.handles_of (c.hold_kept.new.names ++ c.hold_coming.new.names) in (
+        are_named (number_of c.args.self.now) (current_in c.args.layout c.args.self.now) h (slots_in c.args.self.now) (slots_in c.bring.new.self) (slots_in c.hold_coming.new.self) (brings g a).clear (all_held g a),
+        record { mid = slots_in c.bring.new.self; cleared = (brings g a).cleared; kept_first = first g a; holds = all_held g a },
+      );
+  refused = tt;
+  settles =
+      let comes = ComesOf g.D.DescriptorDevice.meaning c.args.known.now.layout c.args.layout in
+      let a = (goal.at.returns-clause-takes g c).After-hold_coming in
+      arrived comes c.args.self.now c.hold_coming.new.self
+      (holds_arrives (number_of c.args.self.now) (current_in c.args.layout c.args.self.now) (g.N.SetName.handles_of (c.hold_kept.new.names ++ c.hold_coming.new.names))
+      (slots_in c.args.self.now) (slots_in c.bring.new.self) (slots_in c.hold_coming.new.self) (brings g a).clear (all_held g a)
+      comes (come g a))
+      c.hold_coming.ensures.none c.requires.can.rest (search rules);
+  grows =
+      let a = (goal.at.returns-clause-takes g c).After-hold_coming in
+      let brought = slots_in c.bring.new.self in
+      let held = slots_in c.hold_coming.new.self in
+      grow_from (slots_in c.args.self.now) brought held (brings g a).long (grow_more (number_of c.hold_kept.new.self) (current_in c.args.layout c.hold_kept.new.self) (g.N.SetName.handles_of c.hold_coming.new.names) brought (slots_in c.hold_kept.new.self) held c.hold_kept.ensures.keeps.grows c.hold_coming.ensures.keeps.grows c.hold_coming.ensures.holds);
+}
