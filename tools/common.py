@@ -250,7 +250,7 @@ class Mutant(NamedTuple):
 
 
 # In a line of a mutant what it takes out, and what it writes.
-CHANGE = re.compile(r"\[-(.*?)-\]|\{\+(.*?)\+\}")
+CHANGE = re.compile(r"\[-(.*?)-\]|\{\+(.*?)\+\}", re.S)
 
 
 def no_lines():
@@ -260,7 +260,8 @@ def no_lines():
 def mutants_of(path):
     """The mutants of a list, if it is there. A line 'file: PATH' is for all that follows up to the next one. A mutant
     begins with '== NAME' or '== NAME: NOTE'. A line that it changes is '~ if count > [-1-]{+2+} {', with what goes
-    and what comes. Of several lines each begins with '- ', and what comes in their place with '+ '."""
+    and what comes; ⏎ is where a line ends, before the spaces of the next one. What goes may also be whole lines, each
+    after '- ', and what comes in their place one after '+ '."""
     found, file, last = [], None, None
     lines = read(path).splitlines() if os.path.isfile(path) else []
     for number, line in enumerate(lines, 1):
@@ -272,6 +273,7 @@ def mutants_of(path):
             name, _, note = text.partition(": ")
             found.append(Mutant(name, note, [], no_lines()))
         elif mark == "~" and pairs is not None and file:
+            text = text.replace("⏎", "\n")
             pairs.append((file, *(CHANGE.sub(lambda it: it[side] or "", text) for side in (1, 2))))
         elif mark == "-" and pairs is not None and file:
             pairs.append((file, f"{pairs.pop()[1]}\n{text}" if last == "-" else text, ""))
