@@ -1,12 +1,10 @@
 """The tables of `bench/compare --memory`: pools while traces are played, and the worst cases by name. The page has
 their rows, which are compared."""
-import importlib.machinery
-import importlib.util
 import os
 import sys
-from types import SimpleNamespace
 
 from common import TOP, Counts, account_of
+from picture import COLOURS, LEFT, OUT, Drawing
 from trace_table import HERE, build_columns, finish, traces, written
 
 # Whose pools are measured in a trace; `pools` are the program's own.
@@ -130,14 +128,6 @@ def print_cases(columns, checks):
             check_case(name, column, case, checks)
 
 
-def tool(name):
-    """A tool as a module."""
-    loader = importlib.machinery.SourceFileLoader(name, f"{TOP}/tools/{name}")
-    module = importlib.util.module_from_spec(importlib.util.spec_from_loader(name, loader))
-    loader.exec_module(module)
-    return module
-
-
 def room_by_frame(rows):
     """The sets that the pools have room for: the peak in each frame, and what is left after the last one."""
     most = {}
@@ -149,24 +139,19 @@ def room_by_frame(rows):
 
 def picture(pools, peak):
     """The program's own pools and the library's, frame by frame."""
-    drawing, frames = tool("picture"), pools["C"][-1][0]
-    left, right, top, base = drawing.LEFT, drawing.WIDTH - drawing.RIGHT, 70, 300
-    it = drawing.Picture(SimpleNamespace(length=frames + 1, pools={}, refused=[]))
-    it.height = base + 40
+    frames, base = pools["C"][-1][0], 300
+    it = Drawing(frames + 1, base + 40)
     own, ours = room_by_frame(pools["pools"]), room_by_frame(pools["C"])
     most = max(room for _, room in own + ours)
-    height = lambda room: base - room * (base - top) / most
-    it.say(left, 24, f"What the pools of {DRAWN} have room for. It has {peak} sets at most.", 16)
-    parts = (own, drawing.OUT, left, "its own"), (ours, drawing.COLOURS[0], left + 300, "the library's")
-    for steps, colour, x, whose in parts:
+    height = lambda room: base - room * (base - 70) / most
+    it.say(LEFT, 24, f"What the pools of {DRAWN} have room for. It has {peak} sets at most.", 16)
+    for steps, colour, x, whose in (own, OUT, LEFT, "its own"), (ours, COLOURS[0], LEFT + 300, "the library's"):
         it.area(it.stairs(steps, it.end, height), base, fill=colour)
         it.put("rect", x=x, y=36, width=22, height=11, fill=colour)
         it.say(x + 28, 46, f"{whose}: {max(room for _, room in steps)} sets at most, {steps[-1][1]} at the end")
-    for room in (0, most / 2, most):
-        it.rule(left, height(room), right, height(room), drawing.EMPTY)
-        it.say(left - 8, height(room) + 4, f"{room:g}", 11, drawing.FAINT, "end")
-    it.say((left + right) / 2, base + 28, f"{frames} frames, from left to right", 12, drawing.FAINT, "middle")
-    return f"{it.document()}\n"
+    it.scale(most, height)
+    it.below(f"{frames} frames")
+    return it.document()
 
 
 def run(given):
