@@ -1,6 +1,6 @@
 //! What was compared, and what was left out.
 
-use crate::device::{Call, Departure, Event, Outcome};
+use crate::device::{Call, Departure, Event, Refusal};
 use std::collections::BTreeMap;
 use std::panic::{UnwindSafe, catch_unwind};
 use std::process::ExitCode;
@@ -22,27 +22,22 @@ pub struct Counts {
     left_out: BTreeMap<&'static str, u64>,
 
     /// Refusals in the programs that passed.
-    refusals: BTreeMap<(Call, Outcome), u64>,
+    refusals: BTreeMap<(Call, Refusal), u64>,
 }
 
 impl Counts {
-    /// How many passed or failed: of programs that depart, those that differ before that.
-    pub fn compared(&self) -> u64 {
-        self.passed + self.failed
-    }
-
-    pub fn fail(&mut self, why: &str) {
+    fn fail(&mut self, why: &str) {
         self.failed += 1;
         if self.failed <= MAX_FAULTS {
             println!("FAILED: {why}");
         }
     }
 
-    /// Compares both. Where the original is about to depart, they are compared up to there. A panic of the
-    /// crate has a transcript of its own, and one of the original is a failure.
+    /// Compares both runs of a program. Where the original is about to depart, they are compared up to there. A panic
+    /// of the crate has a transcript of its own, and one of the original is a failure.
     pub fn compare(
         &mut self,
-        name: &str,
+        seed: u64,
         there: impl FnOnce() -> Vec<Event> + UnwindSafe,
         here: impl FnOnce() -> Vec<Event> + UnwindSafe,
     ) {
@@ -51,28 +46,20 @@ impl Counts {
         match there {
             Ok(there) if there == here => {
                 self.passed += 1;
-                self.note_refusals(&there);
+                for event in there {
+                    if let Event::Ended(call, Some(refusal)) = event {
+                        *self.refusals.entry((call, refusal)).or_default() += 1;
+                    }
+                }
             }
-            Ok(there) => self.fail(&difference(name, &there, &here)),
+            Ok(there) => self.fail(&difference(seed, &there, &here)),
             Err(Ok(departure)) => {
                 *self.left_out.entry(departure.why).or_default() += 1;
                 if !here.starts_with(&departure.before) {
-                    self.fail(&difference(name, &departure.before, &here));
+                    self.fail(&difference(seed, &departure.before, &here));
                 }
             }
-            Err(Err(_)) => self.fail(&format!("{name}: the original panics")),
-        }
-    }
-
-    fn note_refusals(&mut self, transcript: &[Event]) {
-        for event in transcript {
-            match event {
-                Event::Ended(_, Outcome::Granted) => {}
-                Event::Ended(call, refusal) => {
-                    *self.refusals.entry((*call, *refusal)).or_default() += 1;
-                }
-                _ => {}
-            }
+            Err(Err(_)) => self.fail(&format!("random program {seed}: the original panics")),
         }
     }
 
@@ -87,22 +74,19 @@ impl Counts {
         }
     }
 
-    /// Prints what the programs met.
-    pub fn print(&self) {
+    /// Prints what the programs met, and the last line. Of many programs, some have to meet each refusal.
+    pub fn end(mut self, programs: u64) -> ExitCode {
+        // Of programs that depart, those that differ before that are among the failed ones.
+        let compared = self.passed + self.failed;
+        println!("compared: {compared} of {programs}");
         for (departure, count) in &self.left_out {
             println!("left out: {count}, once they were compared up to there: {departure}");
         }
-        for ((call, refusal), count) in &self.refusals {
-            println!("refused: {count} times, {call:?}: {refusal:?}");
-        }
-    }
-
-    /// Prints the last line. Of many programs, some have to meet each refusal.
-    pub fn end(mut self) -> ExitCode {
         for call in Call::ALL {
             for refusal in call.refusals() {
-                let is_met = self.refusals.contains_key(&(call, *refusal));
-                if self.compared() >= MANY_PROGRAMS && !is_met {
+                let count = self.refusals.get(&(call, *refusal)).copied().unwrap_or(0);
+                println!("refused: {count} times, {call:?}: {refusal:?}");
+                if compared >= MANY_PROGRAMS && count == 0 {
                     self.fail(&format!("no program met {call:?}: {refusal:?}"));
                 }
             }
@@ -113,14 +97,10 @@ impl Counts {
 }
 
 /// The first line that differs.
-fn difference(name: &str, there: &[Event], here: &[Event]) -> String {
-    let same = there
-        .iter()
-        .zip(here)
-        .take_while(|(one, other)| one == other);
-    let place = same.count();
+fn difference(seed: u64, there: &[Event], here: &[Event]) -> String {
+    let place = there.iter().zip(here).take_while(|(one, other)| one == other).count();
     format!(
-        "{name}, line {place}:\n  the original: {:?}\n  the crate: {:?}",
+        "random program {seed}, line {place}:\n  the original: {:?}\n  the crate: {:?}",
         there.get(place),
         here.get(place)
     )

@@ -1,14 +1,13 @@
-//! A device that follows a script, notes each call, and sees whether it is called rightly.
+//! A device that refuses by chance, notes each call, and sees whether it is called rightly.
 
 use crate::random::Random;
-use std::collections::{HashMap, VecDeque};
+use std::collections::HashMap;
 use std::ops::Range;
 use std::panic::resume_unwind;
 
-/// How a call ends: granted, or refused for memory of the device or the host, as fragmented, or as full.
+/// Why a call is refused: for memory of the device or the host, as fragmented, or as full.
 #[derive(Clone, Copy, Debug, PartialEq, Eq, PartialOrd, Ord)]
-pub enum Outcome {
-    Granted,
+pub enum Refusal {
     Device,
     Host,
     Fragmented,
@@ -20,13 +19,6 @@ pub enum Outcome {
 pub struct Kind {
     pub counts: [u32; 14],
     pub is_marked: bool,
-}
-
-impl Kind {
-    /// How many descriptors a set has.
-    pub fn total(&self) -> u64 {
-        sum(&self.counts)
-    }
 }
 
 fn sum(counts: &[u32; 14]) -> u64 {
@@ -42,15 +34,11 @@ pub enum Call {
 }
 
 impl Call {
-    pub const ALL: [Call; 3] = [
-        Call::Create,
-        Call::AllocateFromOldPool,
-        Call::AllocateFromNewPool,
-    ];
+    pub const ALL: [Call; 3] = [Call::Create, Call::AllocateFromOldPool, Call::AllocateFromNewPool];
 
     /// How it may be refused. A new pool that refuses for its own sake is a departure.
-    pub fn refusals(self) -> &'static [Outcome] {
-        use Outcome::{Device, Fragmented, Full, Host};
+    pub fn refusals(self) -> &'static [Refusal] {
+        use Refusal::{Device, Fragmented, Full, Host};
         match self {
             Call::Create => &[Device, Host, Fragmented],
             Call::AllocateFromOldPool => &[Device, Host, Fragmented, Full],
@@ -59,38 +47,15 @@ impl Call {
     }
 }
 
-/// Numbers, those of a range by its ends.
-#[derive(Debug, PartialEq, Eq, PartialOrd, Ord)]
-pub struct Ranges(Vec<(u64, u64)>);
-
-impl Ranges {
-    pub fn new(numbers: &[u64]) -> Self {
-        let ranges = numbers.chunk_by(|one, next| one + 1 == *next);
-        Ranges(ranges.map(|it| (it[0], it[it.len() - 1])).collect())
-    }
-}
-
 /// A line of a transcript: a call of the device, how it ended, or what a request returned.
 #[derive(Debug, PartialEq, Eq, PartialOrd, Ord)]
 pub enum Event {
-    Create {
-        counts: [u32; 14],
-        places: u32,
-        flags: u32,
-    },
-    Allocate {
-        pool: u64,
-        count: usize,
-    },
-    Ended(Call, Outcome),
-    Free {
-        pool: u64,
-        sets: Ranges,
-    },
-    Destroy {
-        pool: u64,
-    },
-    Sets(Ranges),
+    Create { counts: [u32; 14], places: u32, flags: u32 },
+    Allocate { pool: u64, count: usize },
+    Ended(Call, Option<Refusal>),
+    Free { pool: u64, sets: Vec<u64> },
+    Destroy { pool: u64 },
+    Sets(Vec<u64>),
     Refused(String),
     Panicked,
 }
@@ -117,15 +82,12 @@ pub struct Device {
     /// Each call so far, with its outcome.
     pub transcript: Vec<Event>,
 
-    /// The outcomes to come. After them all is granted.
-    pub script: VecDeque<Outcome>,
-
-    /// Refuses by chance, one call in so many, where it is not 0, for each reason of `Call::refusals`.
+    /// One call in so many is refused, where it is not 0, for each reason of `Call::refusals`.
     pub odds: usize,
 
     chance: Random,
 
-    /// The limit that the original is held to: where it is about to pass it the run ends.
+    /// The limit that the original is held to: where it is about to pass it the run ends. Another allocator has none.
     limit: Option<u32>,
 
     pools: HashMap<u64, Pool>,
@@ -138,13 +100,11 @@ pub struct Device {
 }
 
 impl Device {
-    /// A device over which the original departs, under this limit, or another allocator doesn't.
-    pub fn new(limit: Option<u32>) -> Self {
+    pub fn new(limit: Option<u32>, odds: usize, seed: u64) -> Self {
         Device {
             transcript: Vec::new(),
-            script: VecDeque::new(),
-            odds: 0,
-            chance: Random(1),
+            odds,
+            chance: Random::new(seed),
             limit,
             pools: HashMap::new(),
             created: 0,
@@ -162,80 +122,44 @@ impl Device {
         resume_unwind(Box::new(Departure { why, before }))
     }
 
-    /// An outcome by chance, one of these if it is a refusal.
-    fn by_chance(&mut self, refusals: &[Outcome]) -> Outcome {
-        if self.odds == 0 || self.chance.below(self.odds) > 0 {
-            return Outcome::Granted;
-        }
-        self.chance.one_of(refusals)
-    }
-
-    fn outcome(&mut self, call: Call) -> Result<(), Outcome> {
-        let by_chance = self.by_chance(call.refusals());
-        let outcome = self.script.pop_front().unwrap_or(by_chance);
-        self.note(Event::Ended(call, outcome));
-        match outcome {
-            Outcome::Granted => Ok(()),
-            _ => Err(outcome),
-        }
+    /// How a call ends.
+    fn outcome(&mut self, call: Call) -> Result<(), Refusal> {
+        let is_refused = self.odds > 0 && self.chance.below(self.odds) == 0;
+        let refusal = is_refused.then(|| self.chance.one_of(call.refusals()));
+        self.note(Event::Ended(call, refusal));
+        refusal.map_or(Ok(()), Err)
     }
 
     /// Whether the marked pools, with one of these counts, have more descriptors than the limit.
     fn passes_limit(&self, counts: &[u32; 14]) -> bool {
         let marked = self.pools.values().filter(|pool| pool.is_marked);
         let load: u64 = marked.map(|pool| sum(&pool.counts)).sum();
-        self.limit
-            .is_some_and(|limit| load + sum(counts) > u64::from(limit))
+        self.limit.is_some_and(|limit| load + sum(counts) > u64::from(limit))
     }
 
-    pub fn create(&mut self, counts: [u32; 14], places: u32, flags: u32) -> Result<u64, Outcome> {
+    pub fn create(&mut self, counts: [u32; 14], places: u32, flags: u32) -> Result<u64, Refusal> {
         // FREE_DESCRIPTOR_SET is 1, and UPDATE_AFTER_BIND, for marked sets, is 2.
         let is_marked = flags == 3;
         assert!(is_marked || flags == 1, "flags {flags}");
         if is_marked && self.passes_limit(&counts) {
             self.depart("a pool for marked sets passes the limit");
         }
-        self.note(Event::Create {
-            counts,
-            places,
-            flags,
-        });
+        self.note(Event::Create { counts, places, flags });
         self.outcome(Call::Create)?;
-        let pool = Pool {
-            counts,
-            is_marked,
-            places: places as usize,
-            live: 0,
-            was_asked: false,
-        };
+        let pool = Pool { counts, is_marked, places: places as usize, live: 0, was_asked: false };
         self.pools.insert(self.created, pool);
         self.created += 1;
         Ok(self.created - 1)
     }
 
-    pub fn allocate(
-        &mut self,
-        pool: u64,
-        kind: &Kind,
-        count: usize,
-    ) -> Result<Range<u64>, Outcome> {
+    pub fn allocate(&mut self, pool: u64, kind: &Kind, count: usize) -> Result<Range<u64>, Refusal> {
         let asked = self.pools.get_mut(&pool).expect("the pool is there");
-        let is_new = !std::mem::replace(&mut asked.was_asked, true);
+        let was_asked = std::mem::replace(&mut asked.was_asked, true);
         assert!(asked.live + count <= asked.places, "too many sets");
         assert_eq!(asked.is_marked, kind.is_marked);
         self.note(Event::Allocate { pool, count });
-        let outcome = self.outcome(if is_new {
-            Call::AllocateFromNewPool
-        } else {
-            Call::AllocateFromOldPool
-        });
-        let refuses = matches!(outcome, Err(Outcome::Fragmented | Outcome::Full));
-        if self.limit.is_some() && is_new && refuses {
-            self.depart("a new pool refuses for its own sake");
-        }
-        outcome?;
-        let asked = self.pools.get_mut(&pool).expect("the pool is there");
-        asked.live += count;
+        self.outcome(if was_asked { Call::AllocateFromOldPool } else { Call::AllocateFromNewPool })?;
+        self.pools.get_mut(&pool).expect("the pool is there").live += count;
         let first = self.owners.len();
         self.owners.resize(first + count, Some(pool));
         Ok(first as u64..(first + count) as u64)
@@ -243,16 +167,12 @@ impl Device {
 
     pub fn free(&mut self, pool: u64, sets: impl Iterator<Item = u64>) {
         let sets: Vec<u64> = sets.collect();
-        self.note(Event::Free {
-            pool,
-            sets: Ranges::new(&sets),
-        });
-        let live = &mut self.pools.get_mut(&pool).expect("the pool is there").live;
-        for set in sets {
-            let owner = self.owners[set as usize].take();
+        for set in &sets {
+            let owner = self.owners[*set as usize].take();
             assert_eq!(owner, Some(pool), "set {set} is not there");
-            *live -= 1;
         }
+        self.pools.get_mut(&pool).expect("the pool is there").live -= sets.len();
+        self.note(Event::Free { pool, sets });
     }
 
     pub fn destroy(&mut self, pool: u64) {

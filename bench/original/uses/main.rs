@@ -26,53 +26,27 @@ mod here {
 }
 
 use counts::Counts;
-use std::ops::Range;
 use std::process::ExitCode;
-use std::sync::atomic::{AtomicU64, Ordering};
 use std::thread::{available_parallelism, scope};
 
-/// So many programs a thread takes at once.
-const BATCH: u64 = 100;
-
-/// Compares the random programs of these seeds, by as many threads as there are processors.
-fn compare_programs(seeds: Range<u64>) -> Counts {
-    let next = AtomicU64::new(seeds.start);
-    let run = || {
-        let mut counts = Counts::default();
-        loop {
-            let first = next.fetch_add(BATCH, Ordering::Relaxed);
-            for seed in first..seeds.end.min(first + BATCH) {
-                counts.compare(
-                    &format!("random program {seed}"),
-                    || there::run(seed),
-                    || here::run(seed),
-                );
-            }
-            if first >= seeds.end {
-                return counts;
-            }
-        }
+fn main() -> ExitCode {
+    let words = std::env::args().skip(1).map(|word| word.parse::<u64>().expect("a number"));
+    let [programs, first] = words.collect::<Vec<_>>()[..] else {
+        panic!("the arguments are how many programs, and the first seed");
     };
     let threads = available_parallelism().map_or(1, usize::from);
+    // Each thread compares the programs of its share of the seeds.
+    let compare = |share: usize| {
+        let mut counts = Counts::default();
+        for seed in (first..first + programs).skip(share).step_by(threads) {
+            counts.compare(seed, || there::run(seed), || here::run(seed));
+        }
+        counts
+    };
+    let mut counts = Counts::default();
     scope(|scope| {
-        let running: Vec<_> = (0..threads).map(|_| scope.spawn(run)).collect();
-        let ended = running.into_iter().map(|it| it.join());
-        let mut all = Counts::default();
-        ended.for_each(|it| all.add(it.expect("no thread panics")));
-        all
-    })
-}
-
-/// An argument of the program, or else this number.
-fn number(place: usize, otherwise: u64) -> u64 {
-    let word = std::env::args().nth(place);
-    word.map_or(otherwise, |word| word.parse().expect("a number"))
-}
-
-fn main() -> ExitCode {
-    let (programs, first) = (number(1, 1000), number(2, 1));
-    let counts = compare_programs(first..first + programs);
-    println!("compared: {} of {programs}", counts.compared());
-    counts.print();
-    counts.end()
+        let running: Vec<_> = (0..threads).map(|share| scope.spawn(move || compare(share))).collect();
+        running.into_iter().for_each(|it| counts.add(it.join().expect("no thread panics")));
+    });
+    counts.end(programs)
 }

@@ -1,8 +1,8 @@
 // A random program over an allocator with the interface of gpu-descriptor 0.3.2: a seed gives the same one each time.
 // This file is compiled over `under_test`, once for the original and once for the new crate.
 
-use crate::device::{Device, Event, Kind, Outcome, Ranges};
-use crate::random::{COUNTS, FEW, LIMITS, OUTCOMES, Random};
+use crate::device::{Device, Event, Kind, Refusal};
+use crate::random::{COUNTS, FEW, LIMITS, ODDS, Random};
 use std::cell::RefCell;
 use under_test::*;
 
@@ -24,9 +24,9 @@ impl DescriptorDevice<Kind, u64, RawSet> for RefCell<Device> {
     ) -> Result<u64, CreatePoolError> {
         let mut device = self.borrow_mut();
         let created = device.create(to_array(counts), max_sets, flags.bits());
-        created.map_err(|outcome| match outcome {
-            Outcome::Device => CreatePoolError::OutOfDeviceMemory,
-            Outcome::Host => CreatePoolError::OutOfHostMemory,
+        created.map_err(|refusal| match refusal {
+            Refusal::Device => CreatePoolError::OutOfDeviceMemory,
+            Refusal::Host => CreatePoolError::OutOfHostMemory,
             _ => CreatePoolError::Fragmentation,
         })
     }
@@ -45,10 +45,10 @@ impl DescriptorDevice<Kind, u64, RawSet> for RefCell<Device> {
         let kind = layouts.next().expect("there is a layout");
         assert_eq!(layouts.count(), count - 1);
         let given = self.borrow_mut().allocate(*pool, kind, count);
-        let given = given.map_err(|outcome| match outcome {
-            Outcome::Device => DeviceAllocationError::OutOfDeviceMemory,
-            Outcome::Host => DeviceAllocationError::OutOfHostMemory,
-            Outcome::Full => DeviceAllocationError::OutOfPoolMemory,
+        let given = given.map_err(|refusal| match refusal {
+            Refusal::Device => DeviceAllocationError::OutOfDeviceMemory,
+            Refusal::Host => DeviceAllocationError::OutOfHostMemory,
+            Refusal::Full => DeviceAllocationError::OutOfPoolMemory,
             _ => DeviceAllocationError::FragmentedPool,
         })?;
         let is_marked = kind.is_marked;
@@ -69,26 +69,20 @@ struct Program {
 
     /// The held sets, by the place of their layout.
     held: Vec<Vec<DescriptorSet<RawSet>>>,
-
-    /// Whether calls are refused by scripts, or else by chance.
-    is_scripted: bool,
 }
 
 /// The transcript of a program.
 pub fn run(seed: u64) -> Vec<Event> {
     let mut random = Random::new(seed);
     let limit = random.one_of(&LIMITS);
+    let odds = random.one_of(&ODDS);
     let mut program = Program {
         allocator: DescriptorAllocator::new(limit),
-        device: RefCell::new(Device::new(DEPARTS.then_some(limit))),
-        is_scripted: random.below(2) == 0,
+        device: RefCell::new(Device::new(DEPARTS.then_some(limit), odds, seed)),
         random,
         layouts: Vec::new(),
         held: Vec::new(),
     };
-    if !program.is_scripted {
-        program.device.get_mut().odds = program.random.one_of(&[0, 3, 6, 20]);
-    }
     program.layout();
     for _ in 0..10 + program.random.below(50) {
         program.step();
@@ -102,7 +96,6 @@ impl Program {
             0 => self.layout(),
             1..=9 => self.take(),
             10..=16 => self.free(),
-            17..=18 if self.is_scripted => self.script(),
             _ => self.clean_up(),
         }
     }
@@ -123,11 +116,6 @@ impl Program {
         let most = self.random.one_of(&[2, 10, 70, 700]);
         let count = self.random.below(most) as u32;
         let kind = self.layouts[place];
-        let wanted = u128::from(count) * u128::from(kind.total());
-        if DEPARTS && kind.is_marked && wanted > u128::from(u32::MAX) {
-            let why = "a request for marked sets has more descriptors than 32 bits count";
-            self.device.get_mut().depart(why);
-        }
         let mut flags = DescriptorSetLayoutCreateFlags::empty();
         flags.set(DescriptorSetLayoutCreateFlags::UPDATE_AFTER_BIND, kind.is_marked);
         let counts = total_count(&kind.counts);
@@ -135,9 +123,9 @@ impl Program {
         let outcome = unsafe { self.allocator.allocate(&self.device, &kind, flags, &counts, count) };
         let event = match outcome {
             Ok(sets) => {
-                let numbers: Vec<u64> = sets.iter().map(|set| set.raw().number).collect();
+                let numbers = sets.iter().map(|set| set.raw().number).collect();
                 self.held[place].extend(sets);
-                Event::Sets(Ranges::new(&numbers))
+                Event::Sets(numbers)
             }
             Err(error) => Event::Refused(error.to_string()),
         };
@@ -186,15 +174,8 @@ impl Program {
         self.device.get_mut().transcript[first..].sort();
     }
 
-    fn script(&mut self) {
-        let count = self.random.below(6);
-        let script = (0..count).map(|_| self.random.one_of(&OUTCOMES)).collect();
-        self.device.get_mut().script = script;
-    }
-
     /// Frees all, cleans up, and returns the transcript.
     fn finish(mut self) -> Vec<Event> {
-        self.device.get_mut().script.clear();
         self.device.get_mut().odds = 0;
         for sets in std::mem::take(&mut self.held) {
             self.give_back(sets);

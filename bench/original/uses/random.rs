@@ -1,7 +1,5 @@
 //! What the random programs draw from.
 
-use crate::device::Outcome;
-
 /// Limits on marked descriptors: half of the programs have the greatest.
 pub const LIMITS: [u32; 6] = [u32::MAX, u32::MAX, u32::MAX, 100_000, 3000, 128];
 
@@ -12,20 +10,11 @@ pub const COUNTS: [u32; 8] = [0, 1, 2, 6, 100, u32::MAX / 100, u32::MAX / 3, u32
 /// descriptors, and so has the second kind of any layout.
 pub const FEW: usize = 5;
 
-/// What a script has: three calls in eight are granted.
-pub const OUTCOMES: [Outcome; 8] = [
-    Outcome::Granted,
-    Outcome::Granted,
-    Outcome::Granted,
-    Outcome::Device,
-    Outcome::Host,
-    Outcome::Fragmented,
-    Outcome::Full,
-    Outcome::Full,
-];
+/// One call of the device in so many is refused, or none with 0.
+pub const ODDS: [usize; 5] = [0, 2, 3, 6, 20];
 
 /// Numbers that look random.
-pub struct Random(pub u64);
+pub struct Random(u64);
 
 impl Random {
     pub fn new(seed: u64) -> Self {
@@ -37,10 +26,7 @@ impl Random {
     }
 
     pub fn below(&mut self, end: usize) -> usize {
-        self.0 = self
-            .0
-            .wrapping_mul(6364136223846793005)
-            .wrapping_add(1442695040888963407);
+        self.0 = self.0.wrapping_mul(6364136223846793005).wrapping_add(1442695040888963407);
         (self.0 >> 33) as usize % end
     }
 
