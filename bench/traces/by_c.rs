@@ -68,24 +68,13 @@ pub struct Library<G> {
     gpu: PhantomData<G>,
 }
 
-#[cfg(feature = "memory")]
-impl<G> Library<G> {
-    pub fn cleanup(&mut self) {
-        // SAFETY: it has no condition.
-        unsafe { c_cleanup() }
-    }
-}
-
 impl<G: GpuOfC> Player<G> for Library<G> {
     type Set = Set;
 
     fn new(gpu: G) -> Self {
         // SAFETY: this is the player.
         unsafe { gpu.create() };
-        Library {
-            layouts: Vec::new(),
-            gpu: PhantomData,
-        }
+        Library { layouts: Vec::new(), gpu: PhantomData }
     }
 
     fn add_layout(&mut self, layout: usize, handle: G::Layout, of: &Descriptors) {
@@ -117,6 +106,12 @@ impl<G: GpuOfC> Player<G> for Library<G> {
         // SAFETY: the sets are of the allocator, and each goes back once.
         unsafe { c_free(sets.as_ptr(), sets.len() as u32) };
         sets.clear();
+    }
+
+    #[cfg(feature = "memory")]
+    fn trim(&mut self) {
+        // SAFETY: it has no condition.
+        unsafe { c_cleanup() }
     }
 
     fn outstanding(&self) -> Option<u64> {

@@ -63,11 +63,7 @@ impl<G: Gpu> Player<G> for Lists<G> {
     type Set = (G::Set, u32);
 
     fn new(gpu: G) -> Self {
-        Lists {
-            gpu,
-            layouts: Vec::new(),
-            places: Vec::new(),
-        }
+        Lists { gpu, layouts: Vec::new(), places: Vec::new() }
     }
 
     fn add_layout(&mut self, layout: usize, handle: G::Layout, of: &Descriptors) {

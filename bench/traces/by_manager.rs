@@ -4,10 +4,10 @@ use crate::by_allocator::{layout_flags, total_count};
 use crate::gpu::Gpu;
 use crate::play::{Descriptors, Player};
 use gpu_descriptor::SetLayout;
-use gpu_descriptor::manager::{LayoutHandle, SetManager, SetHandle};
+use gpu_descriptor::manager::{LayoutHandle, SetHandle, SetManager};
 
 pub struct Keeping<G: Gpu> {
-    pub manager: SetManager<G::Layout, G::Pool, G::Set, G>,
+    manager: SetManager<G::Layout, G::Pool, G::Set, G>,
     layouts: Vec<LayoutHandle>,
 }
 
@@ -22,22 +22,14 @@ impl<G: Gpu> Player<G> for Keeping<G> {
 
     fn new(gpu: G) -> Self {
         let limit = gpu.limit();
-        Keeping {
-            manager: SetManager::new(gpu, limit),
-            layouts: Vec::new(),
-        }
+        Keeping { manager: SetManager::new(gpu, limit), layouts: Vec::new() }
     }
 
     fn add_layout(&mut self, layout: usize, handle: G::Layout, of: &Descriptors) {
-        let added = SetLayout {
-            layout: handle,
-            counts: total_count(&of.counts),
-            flags: layout_flags(of.flags),
-        };
+        let added = SetLayout { layout: handle, counts: total_count(&of.counts), flags: layout_flags(of.flags) };
         self.layouts.truncate(layout);
         // SAFETY: the layout has these counts, and lives as long as the device.
-        self.layouts
-            .push(unsafe { self.manager.add_layout(added) }.unwrap());
+        self.layouts.push(unsafe { self.manager.add_layout(added) }.unwrap());
     }
 
     fn remove_layout(&mut self, layout: usize) {
@@ -51,9 +43,7 @@ impl<G: Gpu> Player<G> for Keeping<G> {
         }
         let first = sets.len();
         sets.resize(first + count as usize, SetHandle::NONE);
-        let taken = self
-            .manager
-            .allocate_into(self.layouts[layout], &mut sets[first..]);
+        let taken = self.manager.allocate_into(self.layouts[layout], &mut sets[first..]);
         if taken.is_err() {
             sets.truncate(first);
         }
@@ -64,6 +54,11 @@ impl<G: Gpu> Player<G> for Keeping<G> {
         // SAFETY: the device uses no set.
         unsafe { self.manager.free(sets) }.unwrap();
         sets.clear();
+    }
+
+    #[cfg(feature = "memory")]
+    fn trim(&mut self) {
+        self.manager.cleanup();
     }
 
     fn outstanding(&self) -> Option<u64> {

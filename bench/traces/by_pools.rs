@@ -26,11 +26,7 @@ impl<G: Gpu> Player<G> for Pools<G> {
     type Set = G::Set;
 
     fn new(gpu: G) -> Self {
-        Pools {
-            gpu,
-            layouts: Vec::new(),
-            pools: Vec::new(),
-        }
+        Pools { gpu, layouts: Vec::new(), pools: Vec::new() }
     }
 
     fn add_layout(&mut self, layout: usize, handle: G::Layout, _of: &Descriptors) {

@@ -6,9 +6,7 @@ mod device;
 
 use device::CountingDevice;
 use gpu_descriptor::manager::{LayoutHandle, SetHandle, SetManager};
-use gpu_descriptor::{
-    DescriptorAllocator, DescriptorSetLayoutCreateFlags, DescriptorTotalCount, SetLayout,
-};
+use gpu_descriptor::{DescriptorAllocator, DescriptorSetLayoutCreateFlags, DescriptorTotalCount, SetLayout};
 
 struct Scene<'a> {
     manager: SetManager<(), u64, u64, &'a CountingDevice>,
@@ -23,11 +21,7 @@ impl<'a> Scene<'a> {
         let layouts: Vec<_> = (0..size).map(|at| add_layout(&mut manager, at)).collect();
         let live = layouts.iter().map(|it| manager.allocate(*it).unwrap());
         let live = live.collect();
-        Scene {
-            manager,
-            layouts,
-            live,
-        }
+        Scene { manager, layouts, live }
     }
 
     fn free(&mut self, sets: &[SetHandle]) {
@@ -37,9 +31,7 @@ impl<'a> Scene<'a> {
 
     /// A set of the last layout is allocated, and freed.
     fn kept(&mut self) {
-        let set = self
-            .manager
-            .allocate(self.layouts[self.layouts.len() - 1]);
+        let set = self.manager.allocate(self.layouts[self.layouts.len() - 1]);
         self.free(&[set.unwrap()]);
     }
 
@@ -81,22 +73,11 @@ impl<'a> Scene<'a> {
 }
 
 fn set_layout(sampler: u32, uniform_buffer: u32) -> SetLayout<()> {
-    let counts = DescriptorTotalCount {
-        sampler,
-        uniform_buffer,
-        ..Default::default()
-    };
-    SetLayout {
-        layout: (),
-        counts,
-        flags: DescriptorSetLayoutCreateFlags::empty(),
-    }
+    let counts = DescriptorTotalCount { sampler, uniform_buffer, ..Default::default() };
+    SetLayout { layout: (), counts, flags: DescriptorSetLayoutCreateFlags::empty() }
 }
 
-fn add_layout(
-    manager: &mut SetManager<(), u64, u64, &CountingDevice>,
-    samplers: u32,
-) -> LayoutHandle {
+fn add_layout(manager: &mut SetManager<(), u64, u64, &CountingDevice>, samplers: u32) -> LayoutHandle {
     // SAFETY: the device only counts.
     unsafe { manager.add_layout(set_layout(samplers, 1)) }.unwrap()
 }
@@ -106,9 +87,7 @@ fn keys(device: &CountingDevice, size: u32, operations: u32) {
     let mut allocator: DescriptorAllocator<u64, u64> = DescriptorAllocator::new(u32::MAX);
     let layouts: Vec<_> = (0..size).map(|samplers| set_layout(samplers, 0)).collect();
     // SAFETY: the device only counts.
-    let mut sets: Vec<_> = (layouts.iter())
-        .map(|it| unsafe { allocator.allocate_one(device, it) }.unwrap())
-        .collect();
+    let mut sets: Vec<_> = (layouts.iter()).map(|it| unsafe { allocator.allocate_one(device, it) }.unwrap()).collect();
     for _ in 0..operations {
         for layout in [&layouts[0], &layouts[layouts.len() - 1]] {
             // SAFETY: the device only counts.

@@ -1,8 +1,7 @@
 //! A device that only counts, so that what is timed is the allocator.
 
 use gpu_descriptor::{
-    CreatePoolError, DescriptorDevice, DescriptorPoolCreateFlags, DescriptorTotalCount,
-    DeviceAllocationError,
+    CreatePoolError, DescriptorDevice, DescriptorPoolCreateFlags, DescriptorTotalCount, DeviceAllocationError,
 };
 use std::cell::Cell;
 

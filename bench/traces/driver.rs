@@ -3,9 +3,7 @@
 use crate::gpu::Gpu;
 use crate::play::Descriptors;
 use crate::vulkan::raw::VoidFunction;
-use crate::vulkan::{
-    DescriptorPool, DescriptorSet, DescriptorSetLayout, Device, DeviceHandle, Functions,
-};
+use crate::vulkan::{DescriptorPool, DescriptorSet, DescriptorSetLayout, Device, DeviceHandle, Functions};
 use std::ffi::{c_char, c_void};
 
 unsafe extern "C" {

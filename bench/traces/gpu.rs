@@ -6,9 +6,7 @@ use gpu_descriptor::DescriptorDevice;
 use std::fmt::Debug;
 
 /// A device, with what no allocator asks of it.
-pub trait Gpu:
-    DescriptorDevice<<Self as Gpu>::Layout, <Self as Gpu>::Pool, <Self as Gpu>::Set>
-{
+pub trait Gpu: DescriptorDevice<<Self as Gpu>::Layout, <Self as Gpu>::Pool, <Self as Gpu>::Set> {
     type Layout: Copy + Debug;
     type Pool: Copy;
     type Set: Copy + Debug;

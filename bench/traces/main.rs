@@ -26,9 +26,9 @@ mod worst;
 
 #[cfg(all(feature = "driver", not(feature = "original")))]
 use gpu_descriptor::vulkan;
+use play::Asked;
 #[cfg(all(feature = "driver", feature = "original"))]
 use {gpu_descriptor::*, of_the_crate::vulkan};
-use play::Asked;
 
 /// The crate's device for Vulkan, over the original's types.
 #[cfg(all(feature = "driver", feature = "original"))]

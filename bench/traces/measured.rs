@@ -6,33 +6,21 @@ use crate::device::CountingDevice;
 use crate::gpu::Gpu;
 use crate::play::Descriptors;
 use gpu_descriptor::{
-    CreatePoolError, DescriptorDevice, DescriptorPoolCreateFlags, DescriptorTotalCount,
-    DeviceAllocationError,
+    CreatePoolError, DescriptorDevice, DescriptorPoolCreateFlags, DescriptorTotalCount, DeviceAllocationError,
 };
 use std::cell::Cell;
 
 /// How many pools there are, with room for how many sets, and how many descriptors.
-#[derive(Clone, Copy, PartialEq)]
-pub struct Account {
-    pub pools: u64,
-    pub sets: u64,
-    pub descriptors: u64,
-}
+pub type Account = [u64; 3];
 
 // What all pools have, now and at most; the descriptors of update-after-bind pools, and how many they may have. The
 // library for C creates pools by two functions, so it stands outside of the device.
 thread_local! {
-    static NOW: Cell<Account> = const { Cell::new(NONE) };
-    static MOST: Cell<Account> = const { Cell::new(NONE) };
+    static NOW: Cell<Account> = const { Cell::new([0; 3]) };
+    static MOST: Cell<Account> = const { Cell::new([0; 3]) };
     static MARKED: Cell<u64> = const { Cell::new(0) };
     static LIMIT: Cell<u32> = const { Cell::new(0) };
 }
-
-const NONE: Account = Account {
-    pools: 0,
-    sets: 0,
-    descriptors: 0,
-};
 
 /// A pool's handle: bit 0 says whether it is for update-after-bind, then its descriptors, then its sets.
 const DESCRIPTORS_SHIFT: u32 = 1;
@@ -45,30 +33,18 @@ fn create(sets: u32, descriptors: u64, is_marked: bool) -> u64 {
         return 0;
     }
     MARKED.set(load);
-    let (now, most) = (NOW.get(), MOST.get());
-    let now = Account {
-        pools: now.pools + 1,
-        sets: now.sets + u64::from(sets),
-        descriptors: now.descriptors + descriptors,
-    };
+    let ([pools, places, all], most) = (NOW.get(), MOST.get());
+    let now = [pools + 1, places + u64::from(sets), all + descriptors];
     NOW.set(now);
-    MOST.set(Account {
-        pools: now.pools.max(most.pools),
-        sets: now.sets.max(most.sets),
-        descriptors: now.descriptors.max(most.descriptors),
-    });
+    MOST.set([0, 1, 2].map(|at| now[at].max(most[at])));
     u64::from(sets) << SETS_SHIFT | descriptors << DESCRIPTORS_SHIFT | u64::from(is_marked)
 }
 
 fn destroy(pool: u64) {
     let descriptors = pool >> DESCRIPTORS_SHIFT & ((1 << (SETS_SHIFT - DESCRIPTORS_SHIFT)) - 1);
     MARKED.set(MARKED.get() - if pool & 1 == 1 { descriptors } else { 0 });
-    let now = NOW.get();
-    NOW.set(Account {
-        pools: now.pools - 1,
-        sets: now.sets - (pool >> SETS_SHIFT),
-        descriptors: now.descriptors - descriptors,
-    });
+    let [pools, places, all] = NOW.get();
+    NOW.set([pools - 1, places - (pool >> SETS_SHIFT), all - descriptors]);
 }
 
 unsafe extern "C" fn create_pool(_user: u64, info: &PoolInfo, pool: &mut u64) -> u32 {
@@ -165,8 +141,8 @@ impl Gpu for Measured {
     fn reset(&self, _pool: u64) {}
 
     fn at(frame: u32) {
-        let of = Self::now();
-        println!("at {frame} {} {} {}", of.pools, of.sets, of.descriptors);
+        let [pools, sets, descriptors] = Self::now();
+        println!("at {frame} {pools} {sets} {descriptors}");
     }
 }
 

@@ -45,6 +45,10 @@ pub trait Player<G: Gpu> {
         self.free(pool, sets);
     }
 
+    /// Frees what it can.
+    #[cfg(feature = "memory")]
+    fn trim(&mut self) {}
+
     /// How many sets are live, if it counts them.
     fn outstanding(&self) -> Option<u64> {
         None
@@ -83,11 +87,7 @@ impl Asked {
         let [file, times, words @ ..] = words else {
             panic!("the arguments are a column, a trace, how often it is played, and words");
         };
-        Asked {
-            file: file.clone(),
-            times: times.parse().expect("a number"),
-            words: words.to_vec(),
-        }
+        Asked { file: file.clone(), times: times.parse().expect("a number"), words: words.to_vec() }
     }
 
     pub fn has(&self, word: &str) -> bool {
@@ -133,11 +133,7 @@ fn requests(words: &[&str], held: &mut Held, calls: &mut Vec<Call>) {
     let pool = number(pool);
     held[pool].extend((number(first)..).take(number(count)));
     for stretch in rest.chunk_by(|one, next| one == next) {
-        calls.push(Call::Request(
-            pool,
-            number(stretch[0]),
-            stretch.len() as u32,
-        ));
+        calls.push(Call::Request(pool, number(stretch[0]), stretch.len() as u32));
     }
 }
 
@@ -178,11 +174,7 @@ impl Trace {
             frames.resize(calls.len(), frame);
         }
         let pools = held.len();
-        Trace {
-            calls,
-            frames,
-            pools,
-        }
+        Trace { calls, frames, pools }
     }
 
     fn layouts(&self) -> impl Iterator<Item = (usize, &Descriptors)> {
@@ -204,12 +196,7 @@ impl Trace {
     }
 
     /// Plays all calls once: how many sets were allocated, freed, and left.
-    fn play<G: Gpu, P: Player<G>>(
-        &self,
-        player: &mut P,
-        handles: &[G::Layout],
-        pools: &mut [Vec<P::Set>],
-    ) -> [u64; 3] {
+    fn play<G: Gpu, P: Player<G>>(&self, player: &mut P, handles: &[G::Layout], pools: &mut [Vec<P::Set>]) -> [u64; 3] {
         let (mut allocated, mut freed, mut some) = (0, 0, Vec::new());
         for (place, call) in self.calls.iter().enumerate() {
             match call {
@@ -234,11 +221,7 @@ impl Trace {
                 G::at(*frame);
             }
         }
-        [
-            allocated,
-            freed,
-            pools.iter().map(|sets| sets.len() as u64).sum(),
-        ]
+        [allocated, freed, pools.iter().map(|sets| sets.len() as u64).sum()]
     }
 }
 

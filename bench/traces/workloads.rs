@@ -7,8 +7,7 @@ mod device;
 
 use device::CountingDevice;
 use gpu_descriptor::{
-    AllocationError, DescriptorAllocator, DescriptorSet, DescriptorSetLayoutCreateFlags,
-    DescriptorTotalCount,
+    AllocationError, DescriptorAllocator, DescriptorSet, DescriptorSetLayoutCreateFlags, DescriptorTotalCount,
 };
 
 /// How many sets a frame takes.
@@ -30,11 +29,7 @@ struct Layout {
 fn layout(samplers: u32, uniform_buffers: u32, is_marked: bool) -> Layout {
     let mut flags = DescriptorSetLayoutCreateFlags::empty();
     flags.set(DescriptorSetLayoutCreateFlags::UPDATE_AFTER_BIND, is_marked);
-    let counts = DescriptorTotalCount {
-        sampler: samplers,
-        uniform_buffer: uniform_buffers,
-        ..Default::default()
-    };
+    let counts = DescriptorTotalCount { sampler: samplers, uniform_buffer: uniform_buffers, ..Default::default() };
     Layout { counts, flags }
 }
 
@@ -47,10 +42,7 @@ struct Bench {
 impl Bench {
     fn take(&mut self, layout: &Layout, count: u32) -> Result<Sets, AllocationError> {
         // SAFETY: the device is the same in all calls, and the layout has these counts.
-        unsafe {
-            self.allocator
-                .allocate(&self.device, &(), layout.flags, &layout.counts, count)
-        }
+        unsafe { self.allocator.allocate(&self.device, &(), layout.flags, &layout.counts, count) }
     }
 
     fn give_back(&mut self, sets: Sets) {
@@ -116,9 +108,7 @@ fn drained(bench: &mut Bench, n: u32) {
 fn shuffle<S>(held: &mut [S]) {
     let mut random: u64 = 1;
     for i in (1..held.len()).rev() {
-        random = random
-            .wrapping_mul(6364136223846793005)
-            .wrapping_add(1442695040888963407);
+        random = random.wrapping_mul(6364136223846793005).wrapping_add(1442695040888963407);
         held.swap(i, (random >> 33) as usize % (i + 1));
     }
 }

@@ -28,37 +28,8 @@ const LIMIT: u32 = 500_000;
 /// How many images a set has of which the limit leaves five hundred.
 const PART: u32 = 1_000;
 
-/// A player that frees what it can.
-pub trait Trim: Player<Measured> {
-    fn trim(&mut self);
-}
-
-impl Trim for Allocator<Measured> {
-    fn trim(&mut self) {
-        // SAFETY: the device is the same in all calls.
-        unsafe { self.allocator.trim(&self.gpu) }
-    }
-}
-
-impl Trim for Keeping<Measured> {
-    fn trim(&mut self) {
-        self.manager.cleanup();
-    }
-}
-
-impl Trim for Library<Measured> {
-    fn trim(&mut self) {
-        self.cleanup();
-    }
-}
-
-/// It keeps everything.
-impl Trim for Lists<Measured> {
-    fn trim(&mut self) {}
-}
-
 /// A player, and the sets of its program.
-struct Case<P: Trim> {
+struct Case<P: Player<Measured>> {
     player: P,
     sets: Vec<P::Set>,
     bytes_before: u64,
@@ -68,10 +39,7 @@ struct Case<P: Trim> {
 fn of_images(count: u32) -> Descriptors {
     let mut counts = [0; KINDS];
     counts[SAMPLED_IMAGE] = count;
-    Descriptors {
-        counts,
-        flags: MARKED,
-    }
+    Descriptors { counts, flags: MARKED }
 }
 
 fn of_buffers(count: u32, images: u32) -> Descriptors {
@@ -81,17 +49,12 @@ fn of_buffers(count: u32, images: u32) -> Descriptors {
     Descriptors { counts, flags: 0 }
 }
 
-impl<P: Trim> Case<P> {
+impl<P: Player<Measured>> Case<P> {
     fn new(limit: u32) -> Self {
         // The first line takes memory for all.
         println!("case");
         let bytes_before = Measured::bytes();
-        Case {
-            player: P::new(Measured::new(limit)),
-            sets: Vec::new(),
-            bytes_before,
-            max_bytes: 0,
-        }
+        Case { player: P::new(Measured::new(limit)), sets: Vec::new(), bytes_before, max_bytes: 0 }
     }
 
     fn bytes(&self) -> u64 {
@@ -172,15 +135,11 @@ impl<P: Trim> Case<P> {
 }
 
 fn say(word: &str, of: Account, bytes: u64) {
-    let Account {
-        pools,
-        sets,
-        descriptors,
-    } = of;
+    let [pools, sets, descriptors] = of;
     println!("{word} {pools} {sets} {descriptors} {bytes}");
 }
 
-fn run<P: Trim>(name: &str) {
+fn run<P: Player<Measured>>(name: &str) {
     let mut case: Case<P> = Case::new(if name == "limit" { LIMIT } else { u32::MAX });
     match name {
         "first" => case.spike(0),
