@@ -253,31 +253,44 @@ class Mutant(NamedTuple):
 CHANGE = re.compile(r"\[-(.*?)-\]|\{\+(.*?)\+\}", re.S)
 
 
-def no_lines():
-    return {"error": [], "function": [], "clause": [], "rust": []}
-
-
 def mutants_of(path):
     """The mutants of a list, if it is there. A line 'file: PATH' is for all that follows up to the next one. A mutant
     begins with '== NAME' or '== NAME: NOTE'. A line that it changes is '~ if count > [-1-]{+2+} {', with what goes
     and what comes; ⏎ is where a line ends, before the spaces of the next one. What goes may also be whole lines, each
     after '- ', and what comes in their place one after '+ '."""
-    found, file, last = [], None, None
-    lines = read(path).splitlines() if os.path.isfile(path) else []
-    for number, line in enumerate(lines, 1):
+    return read_mutants(path, []) if os.path.isfile(path) else []
+
+
+def edits_of(folder):
+    """The mutants of a folder, as rt must-fail takes them: each file is one, whatever its name, so that none is passed
+    over. It has lines 'file: PATH', and for each replacement 'old: TEXT' and 'new: TEXT'."""
+    for path in sorted(it for it in glob.glob(f"{folder}/**", recursive=True) if os.path.isfile(it)):
+        yield from read_mutants(path, [Mutant(os.path.basename(path).removesuffix(".edit"), "", [], no_lines())])
+
+
+def no_lines():
+    return {"error": [], "function": [], "clause": [], "rust": []}
+
+
+def read_mutants(path, found):
+    """The mutants of a file, with those that it begins in."""
+    file, last = None, None
+    for number, line in enumerate([*read(path).splitlines(), ""], 1):
         mark, _, text = line.partition(" ")
-        pairs = found[-1].pairs if found else None
-        if mark == "file:":
+        pairs = found[-1].pairs if found and file else None
+        if last == "old:" and mark != "new:":
+            refuse(f"{path}:{number}: no 'new:' is after 'old:'")
+        elif mark == "file:":
             file = text
         elif mark == "==":
             name, _, note = text.partition(": ")
             found.append(Mutant(name, note, [], no_lines()))
-        elif mark == "~" and pairs is not None and file:
+        elif mark == "~" and pairs is not None:
             text = text.replace("⏎", "\n")
             pairs.append((file, *(CHANGE.sub(lambda it: it[side] or "", text) for side in (1, 2))))
-        elif mark == "-" and pairs is not None and file:
+        elif mark in ("-", "old:") and pairs is not None:
             pairs.append((file, f"{pairs.pop()[1]}\n{text}" if last == "-" else text, ""))
-        elif mark == "+" and last == "-":
+        elif (last, mark) in (("-", "+"), ("old:", "new:")):
             pairs[-1] = (*pairs[-1][:2], text)
         elif found and mark[:-1] in found[-1].lines:
             found[-1].lines[mark[:-1]].append(text)
@@ -285,30 +298,6 @@ def mutants_of(path):
             refuse(f"{path}:{number}: this line is out of place: {line}")
         last = mark
     return found
-
-
-def edits_of(folder):
-    """The mutants of a folder, as rt must-fail takes them: each file is one, whatever its name, so that none is passed
-    over. It has lines 'file: PATH', and for each replacement 'old: TEXT' and 'new: TEXT'."""
-    for path in sorted(it for it in glob.glob(f"{folder}/**", recursive=True) if os.path.isfile(it)):
-        found, file, old = Mutant(os.path.basename(path).removesuffix(".edit"), "", [], no_lines()), None, None
-        for number, line in enumerate(read(path).splitlines(), 1):
-            word, _, text = line.partition(":")
-            text = text.removeprefix(" ")
-            if word == "file":
-                file = text
-            elif word == "old" and file and old is None:
-                old = text
-            elif word == "new" and old is not None:
-                found.pairs.append((file, old, text))
-                old = None
-            elif word in found.lines:
-                found.lines[word].append(text)
-            elif line:
-                refuse(f"{path}:{number}: this line is out of place: {line}")
-        if old is not None:
-            refuse(f"{path}: no 'new:' is after its last 'old:'")
-        yield found
 
 
 def rust_mutants():
