@@ -23,8 +23,13 @@ def read(path):
         return it.read()
 
 
-def same(first, second):
-    return os.path.isfile(first) and os.path.isfile(second) and read(first) == read(second)
+def other_fault(names, first, second):
+    """A file that two folders have not alike."""
+    for name in names:
+        files = f"{first}/{name}", f"{second}/{name}"
+        if not all(map(os.path.isfile, files)) or read(files[0]) != read(files[1]):
+            return f"{name} is missing, or another one"
+    return None
 
 
 def files_of(folder):
@@ -37,22 +42,16 @@ def run(*words, cwd=None, **environment):
     return f"it ended with {ran.returncode}: {(ran.stdout + ran.stderr)[-1500:]}" if ran.returncode else None
 
 
-def unpacked(archive, room, name):
-    """The only folder of an archive, which has this name."""
-    os.makedirs(room)
+def unpacked(counts, part, archive, room):
+    """The folder that an archive has, if it has only that, by the archive's name. It has the licences."""
+    name = re.sub(r"\.crate$|\.tar\.gz$", "", os.path.basename(archive))
     with tarfile.open(archive) as it:
-        it.extractall(room, filter="data")
-    return f"{room}/{name}" if os.listdir(room) == [name] else None
-
-
-def licence_fault(folder):
-    for name in LICENCES:
-        if not same(f"{folder}/{name}", f"{TOP}/rust/gpu-descriptor/{name}"):
-            return f"{name} is missing, or another one"
-    return None
-
-
-# ---- the crate ----
+        it.extractall(f"{room}/{part}", filter="data")
+    if not counts.check(f"the {part} is one folder", os.listdir(f"{room}/{part}") != [name] and "it is not"):
+        return None
+    folder = f"{room}/{part}/{name}"
+    counts.check(f"licences of the {part}", other_fault(LICENCES, folder, f"{TOP}/rust/gpu-descriptor"))
+    return folder
 
 
 def manifest_fault(folder, fields):
@@ -88,18 +87,12 @@ def docs_fault(folder):
 
 
 def check_crate(counts, out, room, version, fields):
-    name = f"gpu-descriptor-proved-{version}"
-    folder = unpacked(f"{out}/{name}.crate", f"{room}/crate", name)
-    if counts.check("the package is one folder", None if folder else "it is not"):
-        counts.check("licences of the package", licence_fault(folder))
+    if folder := unpacked(counts, "package", f"{out}/gpu-descriptor-proved-{version}.crate", room):
         counts.check("addresses of the package", manifest_fault(folder, fields))
         counts.check("links of the package", link_fault(folder))
         counts.check("docs of the package", docs_fault(folder))
     publish = ["cargo", "package", "--offline", "--allow-dirty", "--no-verify", "--list"]
     counts.check("the folder for cargo publish", run(*publish, cwd=f"{out}/crate"))
-
-
-# ---- the sources ----
 
 
 def source_fault(folder):
@@ -110,15 +103,9 @@ def source_fault(folder):
 
 
 def check_source(counts, out, room, version, _):
-    name = f"gpu_descriptor-{version}"
-    folder = unpacked(f"{out}/{name}.tar.gz", f"{room}/source", name)
-    if counts.check("the sources are one folder", None if folder else "they are not"):
+    if folder := unpacked(counts, "source", f"{out}/gpu_descriptor-{version}.tar.gz", room):
         counts.check("files of the sources", source_fault(folder))
-        counts.check("licences of the sources", licence_fault(folder))
         counts.check("the sources build", run("cargo", "build", "--offline", "--workspace", cwd=folder))
-
-
-# ---- the library for C ----
 
 
 def without_cargo(room):
@@ -132,13 +119,6 @@ def without_cargo(room):
     return folder
 
 
-def header_fault(folder):
-    for name in {*os.listdir(INCLUDE), *os.listdir(f"{folder}/include")}:
-        if not same(f"{folder}/include/{name}", f"{INCLUDE}/{name}"):
-            return f"{name} is missing, or another one"
-    return None
-
-
 def path_fault(folder):
     """A path of the machine that built the library, in one of its files."""
     for name in sorted(files_of(folder)):
@@ -150,11 +130,10 @@ def path_fault(folder):
 
 def check_library(counts, out, room, version, _):
     archive, = (it for it in os.listdir(out) if it.startswith("gpu_descriptor-c-"))
-    folder = unpacked(f"{out}/{archive}", f"{room}/library", archive.removesuffix(".tar.gz"))
-    if not counts.check("the library is one folder", None if folder else "it is not"):
+    if not (folder := unpacked(counts, "library", f"{out}/{archive}", room)):
         return
-    counts.check("licences of the library", licence_fault(folder))
-    counts.check("headers of the library", header_fault(folder))
+    headers = {*os.listdir(INCLUDE), *os.listdir(f"{folder}/include")}
+    counts.check("headers of the library", other_fault(headers, f"{folder}/include", INCLUDE))
     counts.check("paths in the library", path_fault(folder))
     readme = read(f"{folder}/README.txt")
     counts.check("README of the library", None if version in readme and "@" not in readme else readme)
