@@ -1,5 +1,5 @@
-"""The tables of `bench/compare --memory`: pools while traces are played, and the worst cases by name. The page has
-their rows, which are compared."""
+"""The checks of `bench/compare --memory`: pools while traces are played, and the worst cases by name. The page has their
+numbers, which are compared."""
 import os
 import sys
 
@@ -72,16 +72,16 @@ def check_case_rows(name, cases, checks):
         has_row(checks, f"`{name}`", ", ".join(names), *cells)
 
 
-def print_traces(pools_by_trace, checks):
-    print("pools of a trace, at most and at its end\n"
-          f"{'trace':16}{'sets':>6} {'of':10}{'pools':>10}{'their sets':>16}{'descriptors':>18}")
-    for name, trace, pools in pools_by_trace:
-        for player, rows in pools.items():
-            cells = [f"{max(values)} {values[-1]}" for values in list(zip(*rows))[1:]]
-            print(f"{name:16}{account_of(trace)['peak']:6} {player:10}{cells[0]:>10}{cells[1]:>16}{cells[2]:>18}")
+def check_traces(columns, checks):
+    """Checks the pools of each trace, and the picture of one."""
+    for name, trace, pools in played(columns):
+        peak = account_of(trace)["peak"]
         checks.equal(f"{name}: the program's own pools at the end", pools["pools"][-1][1], 0)
         checks.equal(f"{name}: the pools of C are the manager's", pools["C"] == pools["manager"], True)
-        check_trace_row(name, account_of(trace)["peak"], pools, checks)
+        check_trace_row(name, peak, pools, checks)
+        if name == DRAWN:
+            with open(PICTURE, encoding="utf-8") as it:
+                checks.equal(f"{os.path.relpath(PICTURE, TOP)} is what it draws", it.read() == picture(pools, peak), True)
 
 
 def case_of(words, name):
@@ -113,18 +113,13 @@ def check_case(name, column, case, checks):
         check("sets of the second, beside kept ones", column == "crate" or case["got"][1] == 500, True)
 
 
-def print_cases(columns, checks):
-    print("\nworst cases, at most and once all that can be was freed\n"
-          f"{'':10}{'pools':>14}{'their sets':>18}{'descriptors':>20}{'kB':>18}")
+def check_cases(columns, checks):
     for name, about in CASES.items():
         print(about)
         cases = {column: case_of(columns[column], name) for column in PLAYERS[1:]}
         check_case_rows(name, cases, checks)
         for column, case in cases.items():
-            cells = [f"{most} {end}" for most, end in zip(case["most"][:3], case["end"])]
-            cells.append(" ".join(f"{case[when][3] / 1000:.1f}" for when in ("most", "end")))
-            got = f", sets: {' '.join(map(str, case['got']))}" if case["got"] else ""
-            print(f"{column:10}{cells[0]:>14}{cells[1]:>18}{cells[2]:>20}{cells[3]:>18}{got}")
+            print(f"{column}: {case['most'][3]:,} bytes at most, {case['end'][3]:,} at the end, sets: {case['got']}")
             check_case(name, column, case, checks)
 
 
@@ -155,17 +150,14 @@ def picture(pools, peak):
 
 
 def run(given):
-    """Both tables and what must be in them, or the picture alone."""
+    """What must be in the tables of the page, or the picture alone."""
     # Freed memory that malloc holds back for a thread would count as given.
     os.environ["GLIBC_TUNABLES"] = "glibc.malloc.tcache_count=0"
     columns, checks = build_columns(None, "memory"), Checks()
-    pools_by_trace = list(played(columns))
-    drawn = next(picture(pools, account_of(trace)["peak"]) for name, trace, pools in pools_by_trace if name == DRAWN)
     if given.picture:
-        sys.stdout.write(drawn)
+        trace, pools = next(it[1:] for it in played(columns) if it[0] == DRAWN)
+        sys.stdout.write(picture(pools, account_of(trace)["peak"]))
         return 0
-    print_traces(pools_by_trace, checks)
-    print_cases(columns, checks)
-    with open(PICTURE, encoding="utf-8") as it:
-        checks.equal(f"{os.path.relpath(PICTURE, TOP)} is what it draws", it.read() == drawn, True)
+    check_traces(columns, checks)
+    check_cases(columns, checks)
     return checks.end()
