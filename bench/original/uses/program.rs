@@ -165,8 +165,7 @@ impl Program {
         unsafe { self.allocator.free(&self.device, sets) }
     }
 
-    /// Destroys empty pools. They are noted in order, as the original goes by its layouts in the
-    /// order of a hash map.
+    /// Destroys empty pools. They are noted in order, as the original goes by its layouts in the order of a hash map.
     fn clean_up(&mut self) {
         let first = self.device.get_mut().transcript.len();
         // The device is the same in all calls.
