@@ -123,33 +123,22 @@ def builds_of(crate):
     return [it for it in files if is_built(it)]
 
 
-def original_source(path):
-    """The original's file src/allocator.rs, as it compiles with bitflags 1."""
+def write_original(path):
+    """The original as a package of its name and version, in tools/out, of its file src/allocator.rs. The repository has its
+    manifest under another name, or cargo finds two packages gpu-descriptor there: the other one is in rust/patch."""
+    need("cargo", "it builds the original")
+    if missing := {crate: package for crate, package in PACKAGES.items() if not glob.glob(f"{REGISTRY}/{crate}*")}:
+        skip(f"no {' and no '.join(missing)}: apt-get install {' '.join(missing.values())}")
+    folder, source = f"{TOOLS}/out/gpu-descriptor", f"{TOP}/bench/original/crate"
+    os.makedirs(folder, exist_ok=True)
     try:
-        with open(path, encoding="utf-8") as it:
-            text = it.read()
+        text = read(path)
     except (OSError, UnicodeDecodeError) as error:
         refuse(f"the original's src/allocator.rs cannot be read: {error}")
     if text.count(DERIVES + NAME) != 1:
         refuse(f"{path} is not src/allocator.rs of gpu-descriptor 0.3.2")
-    return text.replace(DERIVES + NAME, NAME)
-
-
-def missing_crates():
-    """Which crates of Debian's are missing, and the packages that have them; empty if none is."""
-    missing = {crate: package for crate, package in PACKAGES.items() if not glob.glob(f"{REGISTRY}/{crate}*")}
-    return f"no {' and no '.join(missing)}: apt-get install {' '.join(missing.values())}" if missing else ""
-
-
-def write_original(path):
-    """The original as a package of its name and version, in tools/out. The repository has its manifest under
-    another name, or cargo finds two packages gpu-descriptor there: the other one is in rust/patch."""
-    need("cargo", "it builds the original")
-    if missing := missing_crates():
-        skip(missing)
-    folder, source = f"{TOOLS}/out/gpu-descriptor", f"{TOP}/bench/original/crate"
-    os.makedirs(folder, exist_ok=True)
-    texts = {"Cargo.toml": read(f"{source}/package.toml"), "allocator.rs": original_source(path),
+    # As it compiles with bitflags 1.
+    texts = {"Cargo.toml": read(f"{source}/package.toml"), "allocator.rs": text.replace(DERIVES + NAME, NAME),
              **{name: read(f"{source}/{name}") for name in ("lib.rs", "types.rs")}}
     for name, text in texts.items():
         with open(f"{folder}/{name}", "w", encoding="utf-8") as it:

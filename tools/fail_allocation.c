@@ -1,6 +1,6 @@
 /* Replaces the C library's malloc in a program that is run with it (LD_PRELOAD), and lets allocations
  * fail. They are counted from 1, and only once the C library itself has started. A realloc is an
- * allocation, too. It also counts the blocks that are freed.
+ * allocation, too. It also counts the blocks that are freed. A program in Rattle calls no other allocation.
  *
  * FAIL_AT=N       the Nth allocation fails; 0, or nothing: none does
  * FAIL_AFTER=1    so does each allocation after it
@@ -14,7 +14,6 @@
 extern void *__libc_malloc(size_t size);
 extern void *__libc_calloc(size_t count, size_t size);
 extern void *__libc_realloc(void *old, size_t size);
-extern void *__libc_memalign(size_t alignment, size_t size);
 extern void __libc_free(void *block);
 
 static unsigned long fail_at, allocations, blocks;
@@ -50,20 +49,6 @@ void *realloc(void *old, size_t size) {
     if (fails())
         return NULL;
     return old ? __libc_realloc(old, size) : counted(__libc_realloc(old, size));
-}
-
-void *memalign(size_t alignment, size_t size) {
-    return fails() ? NULL : counted(__libc_memalign(alignment, size));
-}
-
-void *aligned_alloc(size_t alignment, size_t size) {
-    return memalign(alignment, size);
-}
-
-int posix_memalign(void **place, size_t alignment, size_t size) {
-    void *made = memalign(alignment, size);
-    *place = made ? made : *place;
-    return made ? 0 : ENOMEM;
 }
 
 void free(void *block) {
