@@ -1,12 +1,14 @@
-//! What single calls of the crate cost (`bench/compare --costs`), by name: over so many layouts and sets that stay,
-//! so many operations. A cost that grows with what stays is a walk over all of it.
+//! What single calls of the crate's set manager cost (`bench/compare --costs`), by name, so many operations: while many
+//! layouts with a live set stay, or one. A cost that grows with what stays is a walk over all of it.
 
 #[allow(dead_code)]
 mod device;
 
 use device::CountingDevice;
 use gpu_descriptor::manager::{LayoutHandle, SetHandle, SetManager};
-use gpu_descriptor::{DescriptorAllocator, DescriptorSetLayoutCreateFlags, DescriptorTotalCount, SetLayout};
+use gpu_descriptor::{DescriptorSetLayoutCreateFlags, DescriptorTotalCount, SetLayout};
+
+const MANY: u32 = 2000;
 
 struct Scene<'a> {
     manager: SetManager<(), u64, u64, &'a CountingDevice>,
@@ -72,67 +74,22 @@ impl<'a> Scene<'a> {
     }
 }
 
-fn set_layout(sampler: u32, uniform_buffer: u32) -> SetLayout<()> {
-    let counts = DescriptorTotalCount { sampler, uniform_buffer, ..Default::default() };
-    SetLayout { layout: (), counts, flags: DescriptorSetLayoutCreateFlags::empty() }
-}
-
-fn add_layout(manager: &mut SetManager<(), u64, u64, &CountingDevice>, samplers: u32) -> LayoutHandle {
+fn add_layout(manager: &mut SetManager<(), u64, u64, &CountingDevice>, sampler: u32) -> LayoutHandle {
+    let counts = DescriptorTotalCount { sampler, uniform_buffer: 1, ..Default::default() };
+    let layout = SetLayout { layout: (), counts, flags: DescriptorSetLayoutCreateFlags::empty() };
     // SAFETY: the device only counts.
-    unsafe { manager.add_layout(set_layout(samplers, 1)) }.unwrap()
-}
-
-/// A set of the first key and one of the last are allocated, and freed, by an allocator with so many keys.
-fn keys(device: &CountingDevice, size: u32, operations: u32) {
-    let mut allocator: DescriptorAllocator<u64, u64> = DescriptorAllocator::new(u32::MAX);
-    let layouts: Vec<_> = (0..size).map(|samplers| set_layout(samplers, 0)).collect();
-    // SAFETY: the device only counts.
-    let mut sets: Vec<_> = (layouts.iter()).map(|it| unsafe { allocator.allocate_one(device, it) }.unwrap()).collect();
-    for _ in 0..operations {
-        for layout in [&layouts[0], &layouts[layouts.len() - 1]] {
-            // SAFETY: the device only counts.
-            unsafe {
-                let set = allocator.allocate_one(device, layout).unwrap();
-                allocator.free(device, [set]);
-            }
-        }
-    }
-    // SAFETY: the device only counts.
-    unsafe {
-        allocator.free(device, sets.drain(..));
-        allocator.cleanup(device);
-    }
-}
-
-/// Two sets of a key that has so many full pools are allocated, and freed.
-fn full(device: &CountingDevice, size: u32, operations: u32) {
-    let mut allocator: DescriptorAllocator<u64, u64> = DescriptorAllocator::new(u32::MAX);
-    let layout = set_layout(u32::MAX / 2, 0);
-    // SAFETY: the device only counts.
-    unsafe {
-        let filling = allocator.allocate_for(device, &layout, 2 * size).unwrap();
-        for _ in 0..operations {
-            let sets = allocator.allocate_for(device, &layout, 2).unwrap();
-            allocator.free(device, sets);
-        }
-        allocator.free(device, filling);
-        allocator.cleanup(device);
-    }
+    unsafe { manager.add_layout(layout) }.unwrap()
 }
 
 fn main() {
     let words: Vec<_> = std::env::args().skip(1).collect();
-    let [name, size, operations] = &words[..] else {
-        panic!("the arguments are a name and two numbers");
+    let [name, operations] = &words[..] else {
+        panic!("the arguments are a name and a number");
     };
-    let (size, operations) = (size.parse().unwrap(), operations.parse().unwrap());
+    let operations: u32 = operations.parse().expect("a number");
     let device = CountingDevice::new(u64::MAX);
-    match name.as_str() {
-        "keys" => return keys(&device, size, operations),
-        "full" => return full(&device, size, operations),
-        _ => {}
-    }
-    let mut scene = Scene::new(&device, size);
+    let are_few = matches!(name.as_str(), "waits" | "grown" | "layout");
+    let mut scene = Scene::new(&device, if are_few { 1 } else { MANY });
     let operation = match name.as_str() {
         "kept" => Scene::kept,
         "frame" => Scene::frame,

@@ -19,6 +19,9 @@ const ROUNDS: u32 = 100;
 /// Sets of this many samplers go two to a pool.
 const TWO_A_POOL: u32 = u32::MAX / 2;
 
+/// How many keys, or full pools, stay in `ends` and `full`.
+const MANY: u32 = 2000;
+
 type Sets = Vec<DescriptorSet<u64>>;
 
 struct Layout {
@@ -87,6 +90,26 @@ fn keys(bench: &mut Bench, n: u32) {
     }
 }
 
+/// A set of the first key and one of the last, while many keys have a live set.
+fn ends(bench: &mut Bench, n: u32) {
+    let layouts: Vec<_> = (0..MANY).map(|samplers| layout(samplers, 0, false)).collect();
+    let mut held = Vec::new();
+    layouts.iter().for_each(|it| take_each(bench, it, 1, 1, &mut held));
+    for _ in 0..n {
+        round(bench, &layouts[0], 1).unwrap();
+        round(bench, &layouts[layouts.len() - 1], 1).unwrap();
+    }
+    bench.give_back(held);
+}
+
+/// Two sets of a key that has many full pools.
+fn full(bench: &mut Bench, n: u32) {
+    let layout = layout(TWO_A_POOL, 0, false);
+    let held = bench.take(&layout, 2 * MANY).unwrap();
+    (0..n).for_each(|_| round(bench, &layout, 2).unwrap());
+    bench.give_back(held);
+}
+
 /// Each request needs nine pools, and the device has memory for eight: all go back.
 fn rollback(bench: &mut Bench, n: u32) {
     let layout = layout(TWO_A_POOL, 0, false);
@@ -140,6 +163,8 @@ fn main() {
         "marked" => rounds(&mut bench, true, 1, n),
         "rollback" => rollback(&mut bench, n),
         "drained" => drained(&mut bench, n),
+        "ends" => ends(&mut bench, n),
+        "full" => full(&mut bench, n),
         _ => panic!("no workload has this name"),
     }
     let operations = u64::from(n) * u64::from(sets);
