@@ -36,17 +36,12 @@ struct Case<P: Player<Measured>> {
     max_bytes: u64,
 }
 
-fn of_images(count: u32) -> Descriptors {
+/// A layout, which is for update-after-bind if it has images alone.
+fn layout(buffers: u32, images: u32) -> Descriptors {
     let mut counts = [0; KINDS];
-    counts[SAMPLED_IMAGE] = count;
-    Descriptors { counts, flags: MARKED }
-}
-
-fn of_buffers(count: u32, images: u32) -> Descriptors {
-    let mut counts = [0; KINDS];
-    counts[UNIFORM_BUFFER] = count;
+    counts[UNIFORM_BUFFER] = buffers;
     counts[SAMPLED_IMAGE] = images;
-    Descriptors { counts, flags: 0 }
+    Descriptors { counts, flags: if buffers == 0 { MARKED } else { 0 } }
 }
 
 impl<P: Player<Measured>> Case<P> {
@@ -68,9 +63,7 @@ impl<P: Player<Measured>> Case<P> {
 
     /// Takes so many sets, one by one, until one is refused: how many it got.
     fn take(&mut self, layout: usize, count: u32) -> u32 {
-        let player = &mut self.player;
-        let got = (0..count).take_while(|_| player.take(0, layout, 1, &mut self.sets));
-        let got = got.count() as u32;
+        let got = (0..count).take_while(|_| self.player.take(0, layout, 1, &mut self.sets)).count() as u32;
         self.look();
         got
     }
@@ -82,7 +75,7 @@ impl<P: Player<Measured>> Case<P> {
 
     /// So many sets, beside one that stays and comes after some of them.
     fn spike(&mut self, before: u32) {
-        self.player.add_layout(0, (), &of_buffers(1, 2));
+        self.player.add_layout(0, (), &layout(1, 2));
         self.take(0, before + 1);
         let stays = self.sets.pop();
         self.take(0, SPIKE - before);
@@ -92,7 +85,7 @@ impl<P: Player<Measured>> Case<P> {
 
     /// One set of very many images. Without a bound its pool is for 64 of them.
     fn bindless(&mut self) {
-        self.player.add_layout(0, (), &of_images(IMAGES));
+        self.player.add_layout(0, (), &layout(0, IMAGES));
         self.take(0, 1);
     }
 
@@ -100,8 +93,7 @@ impl<P: Player<Measured>> Case<P> {
     fn layouts(&mut self, are_different: bool) {
         for number in 0..LAYOUTS {
             let number = if are_different { number } else { 0 };
-            let of = of_buffers(1 + number / 100, number % 100);
-            self.player.add_layout(0, (), &of);
+            self.player.add_layout(0, (), &layout(1 + number / 100, number % 100));
             self.take(0, 2);
             self.free();
             self.player.remove_layout(0);
@@ -111,9 +103,8 @@ impl<P: Player<Measured>> Case<P> {
     /// Sets of a layout until one is refused. Once they are freed, sets of another one, and these once more when
     /// it gave back what it can.
     fn limit(&mut self) {
-        let of = [of_images(PART), of_images(PART - 1)];
-        self.player.add_layout(0, (), &of[0]);
-        self.player.add_layout(1, (), &of[1]);
+        self.player.add_layout(0, (), &layout(0, PART));
+        self.player.add_layout(1, (), &layout(0, PART - 1));
         for layout in [0, 1, 1] {
             println!("got {}", self.take(layout, LIMIT / PART));
             self.free();
