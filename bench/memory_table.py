@@ -3,9 +3,9 @@ numbers, which are compared."""
 import os
 import sys
 
-from common import TOP, Counts, account_of
+from common import TOP, Counts, account_of, read
 from picture import COLOURS, LEFT, OUT, Drawing
-from trace_table import HERE, build_columns, finish, traces, written
+from trace_table import HERE, build_columns, finish, traces
 
 # Whose pools are measured in a trace; `pools` are the program's own.
 PLAYERS = ["pools", "crate", "manager", "C", "lists"]
@@ -40,16 +40,14 @@ def pools_of(words, file):
 
 def played(columns):
     """Of each trace the pools of each player."""
-    for name, trace in traces():
-        with written(trace) as file:
-            yield name, trace, {player: pools_of(columns[player], file) for player in PLAYERS}
+    for name, trace, file in traces():
+        yield name, trace, {player: pools_of(columns[player], file) for player in PLAYERS}
 
 
 def has_row(checks, *cells):
     """The page has this row of a table."""
-    with open(PAGE, encoding="utf-8") as it:
-        row = " | ".join(cells)
-        checks.equal(f"bench/README.md has the row '{row}'", row in it.read().splitlines(), True)
+    row = " | ".join(cells)
+    checks.equal(f"bench/README.md has the row '{row}'", row in read(PAGE).splitlines(), True)
 
 
 def check_trace_row(name, peak, pools, checks):
@@ -79,8 +77,7 @@ def check_traces(columns, checks):
         checks.equal(f"{name}: the pools of C are the manager's", pools["C"] == pools["manager"], True)
         check_trace_row(name, peak, pools, checks)
         if name == DRAWN:
-            with open(PICTURE, encoding="utf-8") as it:
-                checks.equal(f"{os.path.relpath(PICTURE, TOP)} is what it draws", it.read() == picture(pools, peak), True)
+            checks.equal(f"{os.path.relpath(PICTURE, TOP)} is what it draws", read(PICTURE) == picture(pools, peak), True)
 
 
 def case_of(words, name):

@@ -1,5 +1,4 @@
 """The table of `bench/compare --traces`: what programs asked of their descriptor pools, played by each column."""
-import contextlib
 import glob
 import gzip
 import os
@@ -7,7 +6,7 @@ import re
 import subprocess
 import tempfile
 
-from common import OF_DEBIAN, SKIPPED, TOP, account_of, cargo_build, need, refuse, report, skip, write_original
+from common import OF_DEBIAN, SKIPPED, TOP, account_of, cargo_build, need, read, refuse, report, skip, write_original
 
 HERE = os.path.dirname(os.path.abspath(__file__))
 TRACES = f"{HERE}/traces"
@@ -50,8 +49,8 @@ def build_columns(allocator, over="counts"):
     need("cc", "it compiles the calls of the library for C: apt-get install gcc")
     if over == "driver" and not os.path.exists("/usr/include/vulkan/vulkan.h"):
         skip("no headers of Vulkan: apt-get install libvulkan-dev")
-    sources, features = {"counts": ([], []), "driver": (["-DWITH_DRIVER", f"{TRACES}/driver.c", "-lvulkan"], [over]),
-                         "memory": ([], [over])}[over]
+    sources = ["-DWITH_DRIVER", f"{TRACES}/driver.c", "-lvulkan"] if over == "driver" else []
+    features = [] if over == "counts" else [f"--features={over}"]
     folder = f"{BUILD}/{over}"
     os.makedirs(folder, exist_ok=True)
     # A shared library, as cargo doesn't see whether what it links has changed.
@@ -62,7 +61,6 @@ def build_columns(allocator, over="counts"):
         if subprocess.run(command, stdout=subprocess.DEVNULL).returncode:
             refuse(f"{command[0]} failed", 1)
     flags = f"-L native={folder} -l dylib=by_c -C link-arg=-Wl,-rpath,{folder}"
-    features = [f"--features={it}" for it in features]
     columns = {}
     if allocator:
         own = flags if features else ""
@@ -130,30 +128,22 @@ def instructions(words, name, trace, file, how):
 def checks(columns, over_driver):
     """What each column does otherwise than a trace says. Over a driver a manager with layouts that stay must make no
     call after the first passes."""
-    for name, trace in traces():
-        with written(trace) as file:
-            for column, words in columns.items():
-                said, _ = finish([*words, file, "1"])
-                yield f"{name} by {column}", None if said == expected(trace, 1) else f"{said}, not {expected(trace, 1)}"
-                if over_driver and column in ("manager", "C"):
-                    _, calls, _ = timed(words, name, trace, file, "timed", "stay")
-                    yield f"{name} by {column}, layouts stay", f"{calls} calls a set" if calls else None
+    for name, trace, file in traces():
+        for column, words in columns.items():
+            said, _ = finish([*words, file, "1"])
+            yield f"{name} by {column}", None if said == expected(trace, 1) else f"{said}, not {expected(trace, 1)}"
+            if over_driver and column in ("manager", "C"):
+                _, calls, _ = timed(words, name, trace, file, "timed", "stay")
+                yield f"{name} by {column}, layouts stay", f"{calls} calls a set" if calls else None
 
 
 def traces():
-    """Name and text of each trace."""
+    """Name and text of each trace, and a file with it."""
     for path in sorted(glob.glob(f"{TRACES}/*.trace.gz")):
-        with gzip.open(path, "rt", encoding="utf-8") as it:
-            yield os.path.basename(path).removesuffix(".trace.gz"), it.read()
-
-
-@contextlib.contextmanager
-def written(trace):
-    """A file with a trace."""
-    with tempfile.NamedTemporaryFile("w", encoding="utf-8") as it:
-        it.write(trace)
-        it.flush()
-        yield it.name
+        with gzip.open(path) as packed, tempfile.NamedTemporaryFile() as it:
+            it.write(packed.read())
+            it.flush()
+            yield os.path.basename(path).removesuffix(".trace.gz"), read(it.name), it.name
 
 
 def over_driver(words, name, trace, file, how):
@@ -174,10 +164,9 @@ def print_rows(columns, row, unit, width):
     """Of each trace the row as it is, and the one with layouts that stay. Returns the cells by the row's name."""
     rows = {}
     print(f"{unit} a set\n{'trace':16}{'sets':>8}" + "".join(f"{name:>{width}}" for name in columns))
-    for name, trace in traces():
+    for name, trace, file in traces():
         for how in ((), ("stay",)):
-            with written(trace) as file:
-                cells = row(name, trace, file, how)
+            cells = row(name, trace, file, how)
             stay = ", layouts stay" if how else ""
             print(f"{name:16}{account_of(trace)['allocated']:8}{''.join(cells)}{stay}", flush=True)
             rows[name + stay] = cells
@@ -186,8 +175,7 @@ def print_rows(columns, row, unit, width):
 
 def page_checks(rows):
     """Whether the page's table of instructions has these rows, within one per cent."""
-    with open(f"{HERE}/README.md", encoding="utf-8") as it:
-        lines = [line.split(" | ") for line in it.read().split("Instructions per set")[1].splitlines()]
+    lines = [line.split(" | ") for line in read(f"{HERE}/README.md").split("Instructions per set")[1].splitlines()]
     page = {name.lower().replace(" ", ""): cells for name, _, *cells in (line for line in lines if len(line) > 2)}
     for name, cells in rows.items():
         there = page.get(name.lower().replace("_", ",", name.startswith("firefox")).replace("_", "").replace(" ", ""), [])

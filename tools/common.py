@@ -108,6 +108,12 @@ def read(path):
         return it.read()
 
 
+def write(path, text):
+    os.makedirs(os.path.dirname(path), exist_ok=True)
+    with open(path, "w", encoding="utf-8") as it:
+        it.write(text)
+
+
 def is_built(file):
     """Whether a file is there, and newer than all sources of the crates."""
     sources = [f"{TOP}/crates.txt", *glob.glob(f"{TOP}/crates/*/src/**/*.rt", recursive=True)]
@@ -130,7 +136,6 @@ def write_original(path):
     if missing := {crate: package for crate, package in PACKAGES.items() if not glob.glob(f"{REGISTRY}/{crate}*")}:
         skip(f"no {' and no '.join(missing)}: apt-get install {' '.join(missing.values())}")
     folder, source = f"{TOOLS}/out/gpu-descriptor", f"{TOP}/bench/original/crate"
-    os.makedirs(folder, exist_ok=True)
     try:
         text = read(path)
     except (OSError, UnicodeDecodeError) as error:
@@ -141,8 +146,7 @@ def write_original(path):
     texts = {"Cargo.toml": read(f"{source}/package.toml"), "allocator.rs": text.replace(DERIVES + NAME, NAME),
              **{name: read(f"{source}/{name}") for name in ("lib.rs", "types.rs")}}
     for name, text in texts.items():
-        with open(f"{folder}/{name}", "w", encoding="utf-8") as it:
-            it.write(text)
+        write(f"{folder}/{name}", text)
     return folder
 
 
@@ -301,8 +305,7 @@ def edited(crate, pairs, texts=()):
     texts, written = dict(texts), set()
     for file, old, new in pairs:
         if file not in texts:
-            with open(f"{crate}/{file}", encoding="utf-8") as it:
-                texts[file] = it.read()
+            texts[file] = read(f"{crate}/{file}")
         before, found, after = texts[file].partition(old)
         if not found or old in after:
             raise BadEdit(f"an 'old:' text is in {file} {texts[file].count(old)} times, and not once")
@@ -313,13 +316,9 @@ def edited(crate, pairs, texts=()):
 
 def replace(folder, texts):
     """Writes files of a folder, and returns their old texts."""
-    kept = {}
+    kept = {file: read(f"{folder}/{file}") for file in texts}
     for file, text in texts.items():
-        with open(f"{folder}/{file}", "r+", encoding="utf-8") as it:
-            kept[file] = it.read()
-            it.seek(0)
-            it.truncate()
-            it.write(text)
+        write(f"{folder}/{file}", text)
     return kept
 
 
