@@ -19,8 +19,6 @@ CASES = {
     "limit": "under a limit of 500,000 the 500 sets of 1000 images that it has room for, then as many of 999",
 }
 
-PAGE = f"{HERE}/README.md"
-
 # The trace of the picture.
 DRAWN, PICTURE = "glmark2", f"{HERE}/memory.svg"
 
@@ -47,7 +45,7 @@ def played(columns):
 def has_row(checks, *cells):
     """The page has this row of a table."""
     row = " | ".join(cells)
-    checks.equal(f"bench/README.md has the row '{row}'", row in read(PAGE).splitlines(), True)
+    checks.equal(f"bench/README.md has the row '{row}'", row in read(f"{HERE}/README.md").splitlines(), True)
 
 
 def check_trace_row(name, peak, pools, checks):

@@ -110,8 +110,7 @@ class Program:
         self.lines.append(f"size {pick.choice(self.names)} {total} {wanted}")
 
     def other(self):
-        line = self.random.choice(["cleanup", "cleanup", "show", "# a note", ""])
-        self.lines.append(line)
+        self.lines.append(self.random.choice(["cleanup", "cleanup", "show", "# a note", ""]))
 
     def text(self):
         pick = self.random
