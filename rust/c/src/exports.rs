@@ -14,40 +14,29 @@ use crate::pool_created::OnPoolCreated;
 use crate::slot::{self, GdAllocator};
 use core::ffi::{c_char, c_void};
 use core::mem::MaybeUninit;
+use core::ptr::NonNull;
 use core::slice;
 
-/// Zeroes an array of the host, so that a failed request leaves no set there.
-///
-/// # Safety
-///
-/// It is `NULL` or has `count` elements.
-unsafe fn zero(sets: *mut GdSet, count: u32) {
-    if !sets.is_null() {
-        for at in 0..count as usize {
-            // SAFETY: as above.
-            unsafe { sets.add(at).write(GdSet::NONE) };
-        }
-    }
+/// The host's array of `count` elements, `None` if it is `NULL`. Any pointer will do for no elements.
+#[inline]
+fn start_of(sets: *const GdSet, count: u32) -> Option<NonNull<GdSet>> {
+    let none = NonNull::dangling().as_ptr();
+    NonNull::new(if count == 0 { none } else { sets.cast_mut() })
 }
 
-/// The host's array.
-///
-/// # Safety
-///
-/// It has `count` elements, which nobody writes while it is used.
-unsafe fn array<'a>(sets: *const GdSet, count: u32) -> &'a [GdSet] {
-    if count == 0 {
-        return &[];
-    }
-    // SAFETY: as above.
-    unsafe { slice::from_raw_parts(sets, count as usize) }
+/// A failed request leaves no set in the host's array.
+#[cold]
+#[inline(never)]
+fn write_none(places: &mut [MaybeUninit<GdSet>]) {
+    places.fill(MaybeUninit::new(GdSet::NONE));
 }
 
 /// Passes the host's array to a call. It isn't read if it is longer than the number of held sets.
 ///
 /// # Safety
 ///
-/// Same as `array` and `slot::enter`.
+/// It is `NULL`, or has `count` elements, which nobody writes while it is used. The allocator is as for
+/// `slot::enter`.
 #[inline]
 unsafe fn release(
     allocator: GdAllocator,
@@ -55,33 +44,20 @@ unsafe fn release(
     count: u32,
     call: impl FnOnce(&mut Allocator, &[GdSet]) -> GdStatus,
 ) -> GdStatus {
+    let Some(sets) = start_of(sets, count) else {
+        return GdStatus::NULL_POINTER;
+    };
     let call = |it: &mut Allocator| {
         if count as usize > it.held() {
             return GdStatus::BAD_SET;
         }
         // SAFETY: the caller's.
-        call(it, unsafe { array(sets, count) })
+        call(it, unsafe {
+            slice::from_raw_parts(sets.as_ptr(), count as usize)
+        })
     };
     // SAFETY: the caller's.
     unsafe { slot::enter(allocator, call) }
-}
-
-/// The host's array, whose elements may never have been written.
-///
-/// # Safety
-///
-/// There is memory for `count` elements, which nobody else uses while it is used.
-unsafe fn places<'a>(sets: *mut GdSet, count: u32) -> &'a mut [MaybeUninit<GdSet>] {
-    if count == 0 {
-        return &mut [];
-    }
-    // SAFETY: as above.
-    unsafe { slice::from_raw_parts_mut(sets.cast(), count as usize) }
-}
-
-/// Whether a pointer to `count` elements is one that the header forbids.
-fn is_missing(sets: *const GdSet, count: u32) -> bool {
-    sets.is_null() && count > 0
 }
 
 /// Makes a call that an allocator never refuses.
@@ -300,14 +276,17 @@ pub unsafe extern "C" fn gd_allocate(
     count: u32,
     sets: *mut GdSet,
 ) -> GdStatus {
-    if is_missing(sets, count) {
+    let Some(sets) = start_of(sets, count) else {
         return GdStatus::NULL_POINTER;
-    }
+    };
+    // The places may never have been written.
+    let places = sets.as_ptr().cast::<MaybeUninit<GdSet>>();
     // SAFETY: the header's.
-    let status = unsafe { slot::enter(allocator, |it| it.allocate(layout, places(sets, count))) };
+    let places = unsafe { slice::from_raw_parts_mut(places, count as usize) };
+    // SAFETY: the header's.
+    let status = unsafe { slot::enter(allocator, |it| it.allocate(layout, places)) };
     if status != GdStatus::OK {
-        // SAFETY: the header's.
-        unsafe { zero(sets, count) };
+        write_none(places);
     }
     status
 }
@@ -318,9 +297,6 @@ pub unsafe extern "C" fn gd_free(
     sets: *const GdSet,
     count: u32,
 ) -> GdStatus {
-    if is_missing(sets, count) {
-        return GdStatus::NULL_POINTER;
-    }
     // SAFETY: the header's.
     unsafe { release(allocator, sets, count, |it, sets| it.free(sets)) }
 }
@@ -338,9 +314,6 @@ pub unsafe extern "C" fn gd_free_after(
     count: u32,
     frame: u64,
 ) -> GdStatus {
-    if is_missing(sets, count) {
-        return GdStatus::NULL_POINTER;
-    }
     // SAFETY: the header's.
     unsafe {
         release(allocator, sets, count, |it, sets| {
@@ -361,9 +334,6 @@ pub unsafe extern "C" fn gd_free_after_current(
     sets: *const GdSet,
     count: u32,
 ) -> GdStatus {
-    if is_missing(sets, count) {
-        return GdStatus::NULL_POINTER;
-    }
     // SAFETY: the header's.
     unsafe {
         release(allocator, sets, count, |it, sets| {

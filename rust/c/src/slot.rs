@@ -173,7 +173,7 @@ fn catch(call: impl FnOnce() -> GdStatus) -> Option<GdStatus> {
 /// # Safety
 ///
 /// The allocator is zeroed, or `gd_create` wrote it.
-#[inline]
+#[inline(always)]
 pub unsafe fn enter(
     allocator: GdAllocator,
     call: impl FnOnce(&mut Allocator) -> GdStatus,
