@@ -18,10 +18,7 @@ use Rattle.descriptor_manager.proofs.Settling.{Follows}
 
 module _ {T : Type 0} where
   pub aged_sets : (old new : List (Slot T)) → AreAged old new → sets_in new ≡ sets_in old
-  aged_sets old new a = same_sets old new a.long (λ p. elim (below_or p (length old)) [
-    | inl lt ↦ ap (λ (s : Slot T). s.set) (a.each p lt)
-    | inr le ↦ (let long = a.long in ap (λ (s : Slot T). s.set) (past_end new p (omega arith)) ∙ sym (ap (λ (s : Slot T). s.set) (past_end old p le)))
-  ])
+  aged_sets old new a = turned_sets (λ s. true) (Becomes aged) old new a (λ o n e. ap (λ (s : Slot T). s.set) e)
 
   -- sets that go are in their slots still
   pub gone_sets : (test : Slot T → Bool) (old new : List (Slot T)) → Turns test (MayBecome (used_for Going)) old new → sets_in new ≡ sets_in old
@@ -40,12 +37,12 @@ module _ {T : Type 0} where
       -- a slot whose set isn't kept is aged; a kept one is aged, goes, and is returned
       by_test : (p : ℕ) → p < length old → (c : Bool) → is_kept (slot_at old p) ≡ c → slot_at new p ≡ (if is_kept (slot_at old p) then vacated (aged (slot_at old p)) else aged (slot_at old p))
       by_test p lt false e =
-          let here = aged_all.each p lt in
+          let here = aged_all.here p refl in
           let same : slot_at b p ≡ slot_at a p = trims.rest p (ap is_kept here ∙ e) in
           let stays : slot_at new p ≡ slot_at b p = gives.rest p (ap goes (same ∙ here) ∙ none_goes old placed p) in
           stays ∙ same ∙ here ∙ sym (ap (λ c. if c then vacated (aged (slot_at old p)) else aged (slot_at old p)) e)
       by_test p lt true e =
-          let here = aged_all.each p lt in
+          let here = aged_all.here p refl in
           let kept : is_kept (slot_at a p) ≡ true = ap is_kept here ∙ e in
           let leaves : slot_at b p ≡ used_for Going (slot_at a p) = elim (trims.here p kept) [
             | inl same ↦ absurd (let k = (slot_at a p).layout in let out = count_none (is_in (k + 2)) b refl (let f = few k in omega arith) p in true≢false (sym kept ∙ ap (is_in (k + 2)) (sym same) ∙ out))

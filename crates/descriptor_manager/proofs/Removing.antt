@@ -1,64 +1,40 @@
 -- What slots become when a layout is removed: for `Store::remove_layout` and `SetManager::remove_layout`.
--- `layout` is its number; `layouts` are the slots of layouts before, `fewer` those after. A slot of sets is first let go, then vacated.
+-- `layout` is its number; `layouts` are the slots of layouts before, `fewer` those after.
 use Rattle.std.proofs.lemmas.Grind.{common_steps}
-use Rattle.std.proofs.Common.{◌≡◌, ◌≢◌, ℕ, ◌+◌, ◌<◌, ◌&&◌, nat_lt, Bool, true, false, if◌then◌else◌, List, is_some, inl, inr, refl, sym, ap, subst, ◌∙◌, arith, eq-eqb, ne_eqb}
+use Rattle.std.proofs.Common.{◌≡◌, ◌≢◌, ℕ, ◌+◌, ◌<◌, Bool, true, false, if◌then◌else◌, List, is_some, inl, inr, refl, sym, ap, subst, ◌∙◌, arith, eq-eqb, ne_eqb}
 use Rattle.std.proofs.lemmas.Bool.{cases_eq}
 use Rattle.std.proofs.lemmas.Option.{none-some}
 use Rattle.gpu_descriptor_types.specs.Meaning.{Meaning}
 use Rattle.gpu_descriptor.specs.declared.layout.SetLayout.{SetLayout}
 use Rattle.gpu_descriptor.specs.declared.set.DescriptorSet.{DescriptorSet}
-use Rattle.descriptor_table.specs.Sets.{sets_in, sets_of}
-use Rattle.descriptor_table.specs.Slots.{goes, is_kept_of, is_live, slot_at}
-use Rattle.descriptor_table.specs.Tables.{Becomes, Turns, came_under, count, removed_at, vacated, used_for}
+use Rattle.descriptor_table.specs.Sets.{sets_of}
+use Rattle.descriptor_table.specs.Slots.{is_kept_of, is_live, slot_at}
+use Rattle.descriptor_table.specs.Tables.{Becomes, Turns, came_under, count, removed_at, vacated}
 use Rattle.descriptor_table.specs.Slots.{Slot}
+use Rattle.descriptor_table.specs.declared.giving.Group.TheVariants.{KeptOf}
 use Rattle.descriptor_table.proofs.Counts.{none_count}
+use Rattle.descriptor_table.proofs.Leaving.{group_out}
 use Rattle.descriptor_table.proofs.Naming.{names_kept}
-use Rattle.descriptor_table.proofs.Renewing.{kept_is}
 use Rattle.descriptor_manager.specs.Own.{AreCounted, AreOwn, IsCounted, IsOwn}
-use Rattle.descriptor_manager.proofs.Back.{turned_sets}
-use Rattle.descriptor_manager.proofs.Following.{ArePlaced, none_goes}
 use Rattle.descriptor_manager.proofs.Naming.{kept_as}
-use Rattle.descriptor_table.specs.declared.slot.Use.TheVariants.{Going}
 use Rattle.descriptor_manager.proofs.Showing.{quiet_shown, turned}
 
 module _ {T : Type 0} (layout : ℕ) where
-  -- sets that go are in their slots still
-  pub left_sets : (old new : List (Slot T)) → Turns (is_kept_of layout) (Becomes (used_for Going)) old new → sets_in new ≡ sets_in old
-  left_sets old new t = turned_sets (is_kept_of layout) (Becomes (used_for Going)) old new t (λ o n e. ap (λ (s : Slot T). s.set) e)
-
-  -- the kept sets of the layout were returned to their pools, and all other slots are as they were
-  pub removed_turns : (old mid new : List (Slot T)) → ArePlaced old → Turns (is_kept_of layout) (Becomes (used_for Going)) old mid → Turns goes (Becomes vacated) mid new → Turns (is_kept_of layout) (Becomes vacated) old new
-  removed_turns old mid new placed lets gives = record {
-    long = gives.long ∙ lets.long;
-    rest = λ p out. (let same = lets.rest p out in gives.rest p (ap goes same ∙ none_goes old placed p) ∙ same);
-    here = λ p kept.
-        let going = lets.here p kept in
-        let full = (kept_is (layout + 2) (slot_at old p) (omega arith) kept).1 in
-        gives.here p (ap goes going ∙ full) ∙ ap vacated going;
-  }
-
-  -- a returned set leaves its slot's layout
-  pub given_under : (mid new : List (Slot T)) → Turns goes (Becomes vacated) mid new → (p : ℕ) → came_under (slot_at new p) ≡ came_under (slot_at mid p)
-  given_under mid new gives p = by_test (goes (slot_at mid p)) refl
-    where
-      by_test : (b : Bool) → goes (slot_at mid p) ≡ b → came_under (slot_at new p) ≡ came_under (slot_at mid p)
-      by_test true e = ap came_under (gives.here p e)
-      by_test false e = ap came_under (gives.rest p e)
-
   module _ (old new : List (Slot T)) (turns : Turns (is_kept_of layout) (Becomes vacated) old new) where
     -- all handles name what they named, as a kept set has none; and no set of the layout is kept then
     pub removed_names : (number frame : ℕ) (opened : Bool) → sets_of number frame opened new ≡ sets_of number frame opened old
     removed_names number frame opened = names_kept number frame opened old new (turned frame opened (is_kept_of layout) (Becomes vacated) old new turns (λ o n e left.
         quiet_shown frame opened o n (ap (λ (s : Slot T). s.generation) left) (ap (is_live frame opened) (kept_as layout o e).0) (ap (λ (s : Slot T). is_live frame opened s.used) left)))
 
-    pub removed_none : count (is_kept_of layout) new ≡ 0
-    removed_none = none_count (is_kept_of layout) new (λ p. by_test p (is_kept_of layout (slot_at old p)) refl)
+    pub removed_out : (p : ℕ) → is_kept_of layout (slot_at new p) ≡ false
+    removed_out p = by_test (is_kept_of layout (slot_at old p)) refl
       where
-        vacant_out : (s : Slot T) → is_kept_of layout (vacated s) ≡ false
-        vacant_out s = ap (λ b. b && (nat_lt s.generation 4294967295 && true)) (ne_eqb (layout + 2) 0 (λ e. omega arith))
+        by_test : (b : Bool) → is_kept_of layout (slot_at old p) ≡ b → is_kept_of layout (slot_at new p) ≡ false
+        by_test true e = ap (is_kept_of layout) (turns.here p e) ∙ group_out (KeptOf layout) (slot_at old p)
+        by_test false e = ap (is_kept_of layout) (turns.rest p e) ∙ e
 
-        by_test : (p : ℕ) (b : Bool) → is_kept_of layout (slot_at old p) ≡ b → is_kept_of layout (slot_at new p) ≡ false
-        by_test p x1 e = grind (arith, common_steps)
+    pub removed_none : count (is_kept_of layout) new ≡ 0
+    removed_none = none_count (is_kept_of layout) new removed_out
 
 -- another number counts what it counted
 removed_other : (layout : ℕ) (generations : ℕ → ℕ) (n : ℕ) → n ≢ layout → removed_at layout generations n ≡ generations n

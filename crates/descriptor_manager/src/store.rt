@@ -50,7 +50,7 @@ pub(crate) struct Store<L, P, S, D: DescriptorDevice<L, P, S>> {
 }
 
 impl<L: Drop, P: Drop, S: Drop, D: DescriptorDevice<L, P, S>> Store<L, P, S, D> {
-    ghost use Rattle.descriptor_manager.specs.Stores.{IsAtRest, KeepsContents, KeepsStore, coming_in, kept_of, ledger_of};
+    ghost use Rattle.descriptor_manager.specs.Stores.{HasLayout, IsAtRest, KeepsContents, KeepsStore, coming_in, kept_of, ledger_of};
     ghost use Rattle.descriptor_manager.specs.Stores.{ExceedsLimitAlone, LacksRoom};
     ghost use Rattle.descriptor_manager.specs.Stores.{bound_of, keep_of, limit_of, lists_in, number_of};
     ghost use Rattle.descriptor_manager.specs.Stores.{pools_besides, side_of, slots_in};
@@ -157,6 +157,7 @@ impl<L: Drop, P: Drop, S: Drop, D: DescriptorDevice<L, P, S>> Store<L, P, S, D> 
 
     /// How many sets of a layout are kept.
     pub(crate) fn kept_count(&self, layout: u32) -> u32
+        requires { HasLayout layout self.now }
         ensures count { result ≡ kept_of layout self.now }
         ensures few { result ≤ keep_of self.now }
     {

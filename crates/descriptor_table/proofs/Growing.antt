@@ -45,10 +45,11 @@ module _ {T : Type 0} where
   pub linked_grown : (slots : List (Slot T)) (next : List ℕ) (chains : List Chain) (s : Slot T) → s.used ≡ Taken → AreLinked slots next chains → AreLinked (slots ++ s ∷ []) (next ++ 0 ∷ []) chains
   linked_grown slots next chains s taken h k q = ap (times q) (walk_grown (chain_at chains k).count next (chain_at chains k).first) ∙ h k q ∙ ap (λ b. if b then 1 else 0) (sym (grown (is_in k) slots s q (taken_no_list s taken k)))
 
-  pub queue_grown : (slots : List (Slot T)) (l : List ℕ) (s : Slot T) → s.used ≡ Taken → IsQueue slots l → IsQueue (slots ++ s ∷ []) l
-  queue_grown slots l s taken h = record {
+  pub queue_grown : (slots : List (Slot T)) (l : List ℕ) (newest : ℕ) (s : Slot T) → s.used ≡ Taken → IsQueue slots l newest → IsQueue (slots ++ s ∷ []) l newest
+  queue_grown slots l newest s taken h = record {
     has = λ q. h.has q ∙ ap (λ b. if b then 1 else 0) (sym (grown waits slots s q (taken_out s taken)));
     rises = λ i j d le lt. (let a = frame (get_or l i d) in let b = frame (get_or l j d) in let c = h.rises i j d le lt in omega arith);
+    bound = λ q w. (let a = frame q in let b = h.bound q (sym (grown waits slots s q (taken_out s taken)) ∙ w) in omega arith);
   }
     where
       frame : (q : ℕ) → frame_of (slot_at (slots ++ s ∷ []) q).used ≡ frame_of (slot_at slots q).used
@@ -80,13 +81,13 @@ module _ {T : Type 0} where
         layout = layout;
         layout_generation = generations layout;
         used = Taken;
-        leaves = false;
+        kept_below = 4294967295;
         set = Some x;
       }
       ∷ []
       → ((q : ℕ) → is_usable (slot_at old q) ≡ false) → Puts generations layout x p old new
   puts_last generations layout x old new p at is full =
-      let s : Slot T = record { generation = 0; layout = layout; layout_generation = generations layout; used = Taken; leaves = false; set = Some x } in
+      let s : Slot T = record { generation = 0; layout = layout; layout_generation = generations layout; used = Taken; kept_below = 4294967295; set = Some x } in
       let none : slot_at old p ≡ no_slot = ap (slot_at old) at ∙ past old in
       let long = ap length is ∙ long_grown old s in
       let generation = ap (λ (o : Slot T). o.generation) none in
@@ -94,7 +95,7 @@ module _ {T : Type 0} where
         empty = ap (λ (o : Slot T). o.set) none;
         within = omega arith;
         next = omega arith;
-        here = ap (λ l. slot_at l p) is ∙ ap (λ q. slot_at (old ++ s ∷ []) q) at ∙ last_slot old s ∙ (λ i. record { generation = sym generation i; layout = layout; layout_generation = generations layout; used = Taken; leaves = false; set = Some x });
+        here = ap (λ l. slot_at l p) is ∙ ap (λ q. slot_at (old ++ s ∷ []) q) at ∙ last_slot old s ∙ (λ i. record { generation = sym generation i; layout = layout; layout_generation = generations layout; used = Taken; kept_below = 4294967295; set = Some x });
         others = λ q ne. ap (λ l. slot_at l q) is ∙ slots_before old s q (λ e. ne (e ∙ sym at));
         grows = inr (long, full);
       }

@@ -1,20 +1,22 @@
--- Sets that leave their slots, and how many are left: for the iterators `Giving` and `Due`, and what is left once they gave all that they have.
+-- Sets that leave their slots, and how many are left: for the iterator `Giving`, and what is left once it gave all that it has.
 -- Sets are counted by a weight that each has: with weight 1 it is their number, and for `Given` and `Returned` of the set manager how often
 -- an item is among them. `xs` are the sets that were given, `s` and `t` the iterator, or its table, before and after.
 use Rattle.std.proofs.lemmas.Grind.{common_steps}
-use Rattle.std.proofs.Common.{◌≡◌, ℕ, zero, suc, ◌+◌, ◌<◌, Bool, false, List, [], ◌∷◌, length, set, zero-add, Option, Some, None, refl, sym, ap, subst, ◌∙◌, arith}
+use Rattle.std.proofs.Common.{◌≡◌, ℕ, zero, suc, ◌+◌, ◌<◌, ◌&&◌, nat_lt, ne_eqb, Bool, true, false, is_some, List, [], ◌∷◌, length, set, zero-add, Option, Some, None, refl, sym, ap, subst, ◌∙◌, arith}
 use Rattle.std.specs.Borrow.{MutBor}
 use Rattle.std.specs.Iterator.{MakesProgress, Yields, YieldsThen, at_most}
 use Rattle.std.specs.declared.iter.Iterator.{can_next-default}
-use Rattle.descriptor_table.specs.Giving.{GivesDue, GivesFrom, GivesNext, sets_left}
+use Rattle.descriptor_table.specs.Giving.{GivesFrom, GivesNext, is_of, sets_left}
 use Rattle.descriptor_table.specs.Sets.{joined, sets_in}
-use Rattle.descriptor_table.specs.Slots.{goes, is_due, slot_at}
+use Rattle.descriptor_table.specs.Slots.{slot_at}
 use Rattle.descriptor_table.specs.Tables.{Gives, GivesAny, Stays, Turns, Becomes, slots_of, vacated}
-use Rattle.descriptor_table.specs.declared.giving.Due.{Due}
 use Rattle.descriptor_table.specs.declared.giving.Giving.{Giving}
+use Rattle.descriptor_table.specs.declared.giving.Group.{Group}
+use Rattle.descriptor_table.specs.declared.giving.Group.TheVariants.{Going, Due, KeptOf}
 use Rattle.descriptor_table.specs.declared.set_table.SetTable.{SetTable}
 use Rattle.descriptor_table.specs.Slots.{Slot}
-use Rattle.descriptor_table.proofs.Turning.{Turning, stays_more, stays_same, turn_end, turn_start, turn_step}
+use Rattle.descriptor_table.proofs.Renewing.{goes_full, kept_is}
+use Rattle.descriptor_table.proofs.Turning.{Turning, due_full, stays_more, stays_same, turn_end, turn_start, turn_step}
 
 -- what sets weigh
 abbrev pub tally : {T : Type 0} → (T → ℕ) → List T → ℕ
@@ -106,21 +108,26 @@ module _ {T : Type 0} where
         let stays = given_stays xs s v d.1 in
         (subst (Turns test (Becomes vacated) old) (sym none.slots) (turn_end test (Becomes vacated) old now turning none.none), last.same ∙ stays.0, stays_more s.now v.now u.now stays.1 last.gives.stays)
 
-  -- the steps of each iterator are steps of its table
-  pub going_steps : (xs : List T) (s t : Giving T) → Yields GivesNext s xs t → Yields (GivesFrom goes) s.table xs t.table
-  going_steps [] s t y = ap (λ (u : Giving T). u.table) y
-  going_steps (x ∷ xs) s t y = (y.0.table, y.1.first, going_steps xs y.0 t y.2)
+  -- a set of a group is there
+  pub group_full : (group : Group) (s : Slot T) → is_of group s ≡ true → is_some s.set ≡ true
+  group_full Going s e = goes_full s e
+  group_full (Due frame) s e = due_full frame s e
+  group_full (KeptOf layout) s e = (kept_is (layout + 2) s (omega arith) e).1
 
-  pub due_steps : (frame : ℕ) (xs : List T) (s t : Due T) → s.frame ≡ frame → Yields GivesDue s xs t → Yields (GivesFrom (is_due frame)) s.table xs t.table × (t.frame ≡ frame)
-  due_steps frame [] s t is y = (ap (λ (u : Due T). u.table) y, ap (λ (u : Due T). u.frame) (sym y) ∙ is)
-  due_steps frame (x ∷ xs) s t is y =
-      let rest = due_steps frame xs y.0 t (y.1.frame ∙ is) y.2 in
-      ((y.0.table, subst (λ f. GivesFrom (is_due f) s.table (Some x) y.0.table) is y.1.first, rest.0), rest.1)
+  -- and a vacant slot has none
+  pub group_out : (group : Group) (s : Slot T) → is_of group (vacated s) ≡ false
+  group_out Going s = refl
+  group_out (Due frame) s = refl
+  group_out (KeptOf layout) s = ap (λ b. b && (nat_lt s.generation 4294967295 && true)) (ne_eqb (layout + 2) 0 (λ e. omega arith))
 
-  pub going_all : (xs : List T) (s u : Giving T) → YieldsThen GivesNext s xs None u → YieldsThen (GivesFrom goes) s.table xs None u.table
-  going_all xs s u d = (d.0.table, going_steps xs s d.0 d.1, d.2.first)
+  -- the steps of the iterator are steps of its table
+  pub group_steps : (group : Group) (xs : List T) (s t : Giving T) → s.group ≡ group → Yields GivesNext s xs t → Yields (GivesFrom (is_of group)) s.table xs t.table × (t.group ≡ group)
+  group_steps group [] s t is y = (ap (λ (u : Giving T). u.table) y, ap (λ (u : Giving T). u.group) (sym y) ∙ is)
+  group_steps group (x ∷ xs) s t is y =
+      let rest = group_steps group xs y.0 t (y.1.group ∙ is) y.2 in
+      ((y.0.table, subst (λ g. GivesFrom (is_of g) s.table (Some x) y.0.table) is y.1.first, rest.0), rest.1)
 
-  pub due_all : (frame : ℕ) (xs : List T) (s u : Due T) → s.frame ≡ frame → YieldsThen GivesDue s xs None u → YieldsThen (GivesFrom (is_due frame)) s.table xs None u.table
-  due_all frame xs s u is d =
-      let steps = due_steps frame xs s d.0 is d.1 in
-      (d.0.table, steps.0, subst (λ f. GivesFrom (is_due f) d.0.table None u.table) steps.1 d.2.first)
+  pub group_all : (group : Group) (xs : List T) (s u : Giving T) → s.group ≡ group → YieldsThen GivesNext s xs None u → YieldsThen (GivesFrom (is_of group)) s.table xs None u.table
+  group_all group xs s u is d =
+      let steps = group_steps group xs s d.0 is d.1 in
+      (d.0.table, steps.0, subst (λ g. GivesFrom (is_of g) d.0.table None u.table) steps.1 d.2.first)

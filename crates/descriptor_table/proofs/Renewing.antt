@@ -35,15 +35,15 @@ module _ {T : Type 0} where
         layout = layout;
         layout_generation = generations layout;
         used = Taken;
-        leaves = false;
+        kept_below = 4294967295;
         set = Some x;
       })
       → Puts generations layout x p old new
   puts_again generations layout p x old mid new within was left is =
       let o = slot_at old p in
-      let s : Slot T = record { generation = o.generation; layout = layout; layout_generation = generations layout; used = Taken; leaves = false; set = Some x } in
+      let s : Slot T = record { generation = o.generation; layout = layout; layout_generation = generations layout; used = Taken; kept_below = 4294967295; set = Some x } in
       let slot : slot_at mid p ≡ used_for Taken o = ap (λ l. slot_at l p) left ∙ slot_set old p (used_for Taken o) within in
-      let all : new ≡ set old p s = is ∙ ap (λ (w : Slot T). set mid p (record { generation = w.generation; layout = layout; layout_generation = generations layout; used = Taken; leaves = false; set = Some x })) slot ∙ ap (λ l. set l p s) left ∙ set-set old p (used_for Taken o) s in
+      let all : new ≡ set old p s = is ∙ ap (λ (w : Slot T). set mid p (record { generation = w.generation; layout = layout; layout_generation = generations layout; used = Taken; kept_below = 4294967295; set = Some x })) slot ∙ ap (λ l. set l p s) left ∙ set-set old p (used_for Taken o) s in
       let long = ap length all ∙ length-set old p s in
       record {
         empty = (vacant_is o was).0;

@@ -20,16 +20,17 @@ use Rattle.descriptor_table.proofs.Waiting.{first_waits, out_queue, pop_queue, p
 pub same_long : {T : Type 0} (l : SlotList T) → length (nexts_in l) ≡ length (slots_in l)
 same_long l = length-map l.entries.items (λ (e : Entry _). e.next) ∙ sym (length-map l.entries.items slot_of)
 
-module _ {T : Type 0} (l l' : SlotList T) (chains : List Chain) (generations waiting : List ℕ) (room keep : ℕ) (h : AreSound l chains generations waiting room keep) where
+module _ {T : Type 0} (l l' : SlotList T) (chains : List Chain) (generations waiting : List ℕ) (room keep newest : ℕ) (h : AreSound l chains generations waiting room keep newest) where
   -- a slot with another use keeps its layout, which has its number still if the set is kept
-  pub listed : (p : ℕ) (s : Slot T) → p < length (slots_in l) → s.layout ≡ (slot_at (slots_in l) p).layout → s.layout_generation ≡ (slot_at (slots_in l) p).layout_generation → (is_kept s ≡ true → s.layout_generation ≡ generation_at generations s.layout) → (s.used ≡ Held → is_some s.set ≡ true) → IsListed (length chains) (generation_at generations) s
-  listed p s within layout generation kept full =
+  pub listed : (p : ℕ) (s : Slot T) → p < length (slots_in l) → s.layout ≡ (slot_at (slots_in l) p).layout → s.layout_generation ≡ (slot_at (slots_in l) p).layout_generation → s.kept_below ≡ (slot_at (slots_in l) p).kept_below → (is_kept s ≡ true → s.layout_generation ≡ generation_at generations s.layout) → (s.used ≡ Held → is_some s.set ≡ true) → IsListed (length chains) (generation_at generations) s
+  listed p s within layout generation below kept full =
       let was = h.known p within in
       record {
         there = (let a = was.there in omega arith);
         before = subst (λ n. s.layout_generation ≤ generation_at generations n) (sym layout) (let a = was.before in omega arith);
         kept = kept;
         full = full;
+        kept_below = (let a = was.kept_below in omega arith);
       }
 
   module _ (p : ℕ) (s : Slot T) (slots : slots_in l' ≡ set (slots_in l) p s) where
@@ -41,31 +42,31 @@ module _ {T : Type 0} (l l' : SlotList T) (chains : List Chain) (generations wai
     known within here = subst (λ l. HasLists l (length chains) (generation_at generations)) (sym slots) (lists_set (slots_in l) p s (length chains) (generation_at generations) h.known within here)
 
     -- one list changed
-    changed : (k : ℕ) (d : Chain) → k < length chains → p < length (slots_in l) → IsListed (length chains) (generation_at generations) s → (2 ≤ k → d.count ≤ keep) → AreLinked (slots_in l') (nexts_in l') (set chains k d) → waits (slot_at (slots_in l) p) ≡ false → waits s ≡ false → AreSound l' (set chains k d) generations waiting room keep
+    changed : (k : ℕ) (d : Chain) → k < length chains → p < length (slots_in l) → IsListed (length chains) (generation_at generations) s → (2 ≤ k → d.count ≤ keep) → AreLinked (slots_in l') (nexts_in l') (set chains k d) → waits (slot_at (slots_in l) p) ≡ false → waits s ≡ false → AreSound l' (set chains k d) generations waiting room keep newest
     changed k d there within here few linked was now = record {
       sized = sized;
       linked = linked;
-      queue = subst (λ l. IsQueue l waiting) (sym slots) (out_queue (slots_in l) waiting h.queue p s within was now);
+      queue = subst (λ l. IsQueue l waiting newest) (sym slots) (out_queue (slots_in l) waiting newest h.queue p s within was now);
       known = known_chains (slots_in l') chains k d (generation_at generations) (known within here);
       few = few_set keep chains k d h.few there few;
     }
 
     -- the queue changed
-    queued : (waiting' : List ℕ) → p < length (slots_in l) → IsListed (length chains) (generation_at generations) s → nexts_in l' ≡ nexts_in l → ((k : ℕ) → is_in k (slot_at (slots_in l) p) ≡ false) → ((k : ℕ) → is_in k s ≡ false) → IsQueue (set (slots_in l) p s) waiting' → AreSound l' chains generations waiting' room keep
-    queued waiting' within here nexts was now queue = record {
+    queued : (waiting' : List ℕ) (newest' : ℕ) → p < length (slots_in l) → IsListed (length chains) (generation_at generations) s → nexts_in l' ≡ nexts_in l → ((k : ℕ) → is_in k (slot_at (slots_in l) p) ≡ false) → ((k : ℕ) → is_in k s ≡ false) → IsQueue (set (slots_in l) p s) waiting' newest' → AreSound l' chains generations waiting' room keep newest'
+    queued waiting' newest' within here nexts was now queue = record {
       sized = sized;
       linked = in_place (λ l n. AreLinked l n chains) _ _ _ _ slots nexts (out_linked (slots_in l) (nexts_in l) chains h.linked p s within was now);
-      queue = subst (λ l. IsQueue l waiting') (sym slots) queue;
+      queue = subst (λ l. IsQueue l waiting' newest') (sym slots) queue;
       known = known within here;
       few = h.few;
     }
 
     -- a slot that is in no list, and not in the queue, came to neither
-    pub out_sound : p < length (slots_in l) → nexts_in l' ≡ nexts_in l → (waits (slot_at (slots_in l) p) ≡ false) × ((k : ℕ) → is_in k (slot_at (slots_in l) p) ≡ false) → (waits s ≡ false) × ((k : ℕ) → is_in k s ≡ false) → s.layout ≡ (slot_at (slots_in l) p).layout → s.layout_generation ≡ (slot_at (slots_in l) p).layout_generation → (s.used ≡ Held → is_some s.set ≡ true) → AreSound l' chains generations waiting room keep
-    out_sound within nexts was now layout generation full = queued waiting within (listed p s within layout generation (λ kept. absurd (true≢false (sym kept ∙ now.1 (s.layout + 2)))) full) nexts was.1 now.1 (out_queue (slots_in l) waiting h.queue p s within was.0 now.0)
+    pub out_sound : p < length (slots_in l) → nexts_in l' ≡ nexts_in l → (waits (slot_at (slots_in l) p) ≡ false) × ((k : ℕ) → is_in k (slot_at (slots_in l) p) ≡ false) → (waits s ≡ false) × ((k : ℕ) → is_in k s ≡ false) → s.layout ≡ (slot_at (slots_in l) p).layout → s.layout_generation ≡ (slot_at (slots_in l) p).layout_generation → s.kept_below ≡ (slot_at (slots_in l) p).kept_below → (s.used ≡ Held → is_some s.set ≡ true) → AreSound l' chains generations waiting room keep newest
+    out_sound within nexts was now layout generation below full = queued waiting newest within (listed p s within layout generation below (λ kept. absurd (true≢false (sym kept ∙ now.1 (s.layout + 2)))) full) nexts was.1 now.1 (out_queue (slots_in l) waiting newest h.queue p s within was.0 now.0)
 
     -- the first slot of a list left it
-    pub pick_sound : (k : ℕ) (c : Chain) (after : ℕ) → chain_at chains k ≡ c → c.count ≢ 0 → k < length chains → after ≡ get_or (nexts_in l) p 0 → p ≡ c.first → nexts_in l' ≡ nexts_in l → ((j : ℕ) → is_in j s ≡ false) → waits s ≡ false → IsListed (length chains) (generation_at generations) s → AreSound l' (set chains k (record { first = after; count = c.count - 1 })) generations waiting room keep
+    pub pick_sound : (k : ℕ) (c : Chain) (after : ℕ) → chain_at chains k ≡ c → c.count ≢ 0 → k < length chains → after ≡ get_or (nexts_in l) p 0 → p ≡ c.first → nexts_in l' ≡ nexts_in l → ((j : ℕ) → is_in j s ≡ false) → waits s ≡ false → IsListed (length chains) (generation_at generations) s → AreSound l' (set chains k (record { first = after; count = c.count - 1 })) generations waiting room keep newest
     pick_sound k c after is some there told at nexts out now here =
         let first = picked (slots_in l) (nexts_in l) chains h.linked k c is some in
         let d : Chain = record { first = after; count = c.count - 1 } in
@@ -78,7 +79,7 @@ module _ {T : Type 0} (l l' : SlotList T) (chains : List Chain) (generations wai
         (listed_out k (slot_at (slots_in l) p) was) now
 
     -- a slot that a call had came first in a list
-    pub link_sound : (k : ℕ) (c : Chain) → chain_at chains k ≡ c → k < length chains → p < length (slots_in l) → IsNowhere (slot_at (slots_in l) p).used → is_in k s ≡ true → nexts_in l' ≡ set (nexts_in l) p c.first → IsListed (length chains) (generation_at generations) s → (2 ≤ k → c.count < keep) → AreSound l' (set chains k (record { first = p; count = c.count + 1 })) generations waiting room keep
+    pub link_sound : (k : ℕ) (c : Chain) → chain_at chains k ≡ c → k < length chains → p < length (slots_in l) → IsNowhere (slot_at (slots_in l) p).used → is_in k s ≡ true → nexts_in l' ≡ set (nexts_in l) p c.first → IsListed (length chains) (generation_at generations) s → (2 ≤ k → c.count < keep) → AreSound l' (set chains k (record { first = p; count = c.count + 1 })) generations waiting room keep newest
     link_sound k c is there within idle goes nexts here few =
         let d : Chain = record { first = p; count = c.count + 1 } in
         changed k d there within here
@@ -87,36 +88,36 @@ module _ {T : Type 0} (l l' : SlotList T) (chains : List Chain) (generations wai
         (nowhere_out (slot_at (slots_in l) p) idle).0 (listed_out k s goes)
 
     -- a set came to wait
-    pub wait_sound : (f i : ℕ) → frame_of s.used ≡ f → i ≤ length waiting → IsPartitionPoint (λ q. frame_of (slot_at (slots_in l) q).used ≤ f) (λ q. f < frame_of (slot_at (slots_in l) q).used) waiting i → p < length (slots_in l) → (slot_at (slots_in l) p).used ≡ Taken → waits s ≡ true → nexts_in l' ≡ nexts_in l → IsListed (length chains) (generation_at generations) s → AreSound l' chains generations (insert waiting i p) room keep
-    wait_sound f i of le point within taken goes nexts here =
+    pub wait_sound : (f i newest' : ℕ) → newest ≤ newest' → f ≤ newest' → frame_of s.used ≡ f → i ≤ length waiting → IsPartitionPoint (λ q. frame_of (slot_at (slots_in l) q).used ≤ f) (λ q. f < frame_of (slot_at (slots_in l) q).used) waiting i → p < length (slots_in l) → (slot_at (slots_in l) p).used ≡ Taken → waits s ≡ true → nexts_in l' ≡ nexts_in l → IsListed (length chains) (generation_at generations) s → AreSound l' chains generations (insert waiting i p) room keep newest'
+    wait_sound f i newest' more is of le point within taken goes nexts here =
         let was = slot_at (slots_in l) p in
-        queued (insert waiting i p) within here nexts (taken_no_list was taken) (waits_no_list s goes) (put_queue (slots_in l) waiting h.queue p s within (taken_out was taken) goes f i of le point)
+        queued (insert waiting i p) newest' within here nexts (taken_no_list was taken) (waits_no_list s goes) (put_queue (slots_in l) waiting newest h.queue p s within (taken_out was taken) goes f i newest' of le point more is)
 
     -- the first set that waits leaves the queue
-    pub leave_sound : (rest : List ℕ) → waiting ≡ p ∷ rest → nexts_in l' ≡ nexts_in l → ((k : ℕ) → is_in k s ≡ false) → waits s ≡ false → IsListed (length chains) (generation_at generations) s → AreSound l' chains generations rest room keep
+    pub leave_sound : (rest : List ℕ) → waiting ≡ p ∷ rest → nexts_in l' ≡ nexts_in l → ((k : ℕ) → is_in k s ≡ false) → waits s ≡ false → IsListed (length chains) (generation_at generations) s → AreSound l' chains generations rest room keep newest
     leave_sound rest all nexts out now here =
-        let queue = subst (IsQueue (slots_in l)) all h.queue in
-        let first = first_waits (slots_in l) p rest queue in
-        queued rest first.0 here nexts (waits_no_list (slot_at (slots_in l) p) first.1) out (pop_queue (slots_in l) p rest queue s now)
+        let queue = subst (λ l'. IsQueue (slots_in l) l' newest) all h.queue in
+        let first = first_waits (slots_in l) p rest newest queue in
+        queued rest newest first.0 here nexts (waits_no_list (slot_at (slots_in l) p) first.1) out (pop_queue (slots_in l) p rest newest queue s now)
 
   -- a slot came at the end, whose set a call has
-  pub push_sound : (s : Slot T) → s.used ≡ Taken → slots_in l' ≡ slots_in l ++ s ∷ [] → nexts_in l' ≡ nexts_in l ++ 0 ∷ [] → IsListed (length chains) (generation_at generations) s → length (slots_in l) + 1 < 4294967296 → length (slots_in l) + 1 ≤ room → AreSound l' chains generations waiting room keep
+  pub push_sound : (s : Slot T) → s.used ≡ Taken → slots_in l' ≡ slots_in l ++ s ∷ [] → nexts_in l' ≡ nexts_in l ++ 0 ∷ [] → IsListed (length chains) (generation_at generations) s → length (slots_in l) + 1 < 4294967296 → length (slots_in l) + 1 ≤ room → AreSound l' chains generations waiting room keep newest
   push_sound s taken slots nexts here few space =
       let long = ap length slots ∙ length_push (slots_in l) s in
       record {
         sized = record { few = omega arith; room = omega arith };
         linked = in_place (λ l n. AreLinked l n chains) _ _ _ _ slots nexts (linked_grown (slots_in l) (nexts_in l) chains s taken h.linked);
-        queue = subst (λ l. IsQueue l waiting) (sym slots) (queue_grown (slots_in l) waiting s taken h.queue);
+        queue = subst (λ l. IsQueue l waiting newest) (sym slots) (queue_grown (slots_in l) waiting newest s taken h.queue);
         known = subst (λ l. HasLists l (length chains) (generation_at generations)) (sym slots) (known_grown (slots_in l) s (length chains) (generation_at generations) here h.known (length_push (slots_in l) s));
         few = h.few;
       }
 
   -- a slot that a call has changed
-  pub fill_sound : (p x : ℕ) (s : Slot T) → p < length (slots_in l) → (slot_at (slots_in l) p).used ≡ Taken → s.used ≡ Taken → slots_in l' ≡ set (slots_in l) p s → nexts_in l' ≡ set (nexts_in l) p x → IsListed (length chains) (generation_at generations) s → AreSound l' chains generations waiting room keep
+  pub fill_sound : (p x : ℕ) (s : Slot T) → p < length (slots_in l) → (slot_at (slots_in l) p).used ≡ Taken → s.used ≡ Taken → slots_in l' ≡ set (slots_in l) p s → nexts_in l' ≡ set (nexts_in l) p x → IsListed (length chains) (generation_at generations) s → AreSound l' chains generations waiting room keep newest
   fill_sound p x s within was taken slots nexts here = record {
     sized = sized p s slots;
     linked = in_place (λ l n. AreLinked l n chains) _ _ _ _ slots nexts (filled_linked (slots_in l) (nexts_in l) chains h.linked p s within (subst IsNowhere (sym was) tt) x (taken_no_list s taken));
-    queue = subst (λ l. IsQueue l waiting) (sym slots) (out_queue (slots_in l) waiting h.queue p s within (taken_out (slot_at (slots_in l) p) was) (taken_out s taken));
+    queue = subst (λ l. IsQueue l waiting newest) (sym slots) (out_queue (slots_in l) waiting newest h.queue p s within (taken_out (slot_at (slots_in l) p) was) (taken_out s taken));
     known = known p s slots within here;
     few = h.few;
   }
@@ -135,8 +136,8 @@ removed_is generations layout within n = elim (same_or n layout) [
 ]
 
 -- a layout was removed, of which no set is kept
-pub remove_sound : {T : Type 0} (l : SlotList T) (chains : List Chain) (generations waiting : List ℕ) (room keep : ℕ) → AreSound l chains generations waiting room keep → (layout : ℕ) → layout + 2 < length generations → ((p : ℕ) → is_in (layout + 2) (slot_at (slots_in l) p) ≡ false) → AreSound l chains (set generations (layout + 2) (generation_at generations layout + 1)) waiting room keep
-remove_sound {T} l chains generations waiting room keep h layout within none = record {
+pub remove_sound : {T : Type 0} (l : SlotList T) (chains : List Chain) (generations waiting : List ℕ) (room keep newest : ℕ) → AreSound l chains generations waiting room keep newest → (layout : ℕ) → layout + 2 < length generations → ((p : ℕ) → is_in (layout + 2) (slot_at (slots_in l) p) ≡ false) → AreSound l chains (set generations (layout + 2) (generation_at generations layout + 1)) waiting room keep newest
+remove_sound {T} l chains generations waiting room keep newest h layout within none = record {
   sized = h.sized;
   linked = h.linked;
   queue = h.queue;
@@ -150,7 +151,8 @@ remove_sound {T} l chains generations waiting room keep h layout within none = r
       before = (let a = was.before in let b = ap (generation_at (set generations (layout + 2) (generation_at generations layout + 1))) e ∙ removed_here generations layout (generation_at generations layout + 1) within in let d = ap (generation_at generations) e in omega arith);
       kept = λ kept. absurd (true≢false (sym kept ∙ ap (λ n. is_in (n + 2) (slot_at (slots_in l) p)) e ∙ none p));
       full = was.full;
+      kept_below = was.kept_below;
     }
     by_layout p was (inr ne) =
         let same = removed_others generations layout (generation_at generations layout + 1) (slot_at (slots_in l) p).layout ne in
-        record { there = was.there; before = (let a = was.before in omega arith); kept = λ kept. was.kept kept ∙ sym same; full = was.full }
+        record { there = was.there; before = (let a = was.before in omega arith); kept = λ kept. was.kept kept ∙ sym same; full = was.full; kept_below = was.kept_below }

@@ -70,7 +70,14 @@ module _ {T : Type 0} where
     other_rises : IsNonDecreasingBy (frame slots) l → IsNonDecreasingBy (frame (set slots p s)) l
     other_rises rises i j d le lt = (let a = other_frame i d (omega arith) in let b = other_frame j d lt in let h = rises i j d le lt in omega arith)
 
-  module _ (slots : List (Slot T)) (l : List ℕ) (queue : IsQueue slots l) where
+  -- a slot changed: no set waits for a later frame still
+  bound_set : (slots : List (Slot T)) (p newest : ℕ) (s : Slot T) → p < length slots → ((q : ℕ) → waits (slot_at slots q) ≡ true → frame slots q ≤ newest) → (waits s ≡ true → frame_of s.used ≤ newest) → (q : ℕ) → waits (slot_at (set slots p s) q) ≡ true → frame (set slots p s) q ≤ newest
+  bound_set slots p newest s within before here q w = elim (same_or q p) [
+    | inl e ↦ (let is = ap (slot_at (set slots p s)) e ∙ slot_set slots p s within in let le = here (ap waits (sym is) ∙ w) in let at = ap (λ (s : Slot T). frame_of s.used) is in omega arith)
+    | inr ne ↦ (let is = other_slots slots p s q ne in let le = before q (ap waits (sym is) ∙ w) in let at = ap (λ (s : Slot T). frame_of s.used) is in omega arith)
+  ]
+
+  module _ (slots : List (Slot T)) (l : List ℕ) (newest : ℕ) (queue : IsQueue slots l newest) where
     -- no set is due if the first one waits for a later frame
     pub none_due : (f d : ℕ) → f < frame slots (get_or l 0 d) → (p : ℕ) → is_due f (slot_at slots p) ≡ false
     none_due f d late p = not_due f (slot_at slots p) (λ e. along (λ p. f < frame slots p) l d (λ i lt. let a = queue.rises 0 i d (omega arith) lt in omega arith) p (λ none. true≢false (sym e ∙ one_none (waits (slot_at slots p)) (sym (queue.has p) ∙ none))))
@@ -84,10 +91,11 @@ module _ {T : Type 0} where
         by_test false e = absurd (apart_at (get_or l i d) l i d (not_listed waits slots l (get_or l i d) queue.has e) lt refl)
 
     -- a slot changed that isn't in the queue
-    pub out_queue : (p : ℕ) (s : Slot T) → p < length slots → waits (slot_at slots p) ≡ false → waits s ≡ false → IsQueue (set slots p s) l
+    pub out_queue : (p : ℕ) (s : Slot T) → p < length slots → waits (slot_at slots p) ≡ false → waits s ≡ false → IsQueue (set slots p s) l newest
     out_queue p s within was now = record {
       has = lists_other waits slots p s l queue.has within (now ∙ sym was);
       rises = other_rises slots p s l (not_listed waits slots l p queue.has was) queue.rises;
+      bound = bound_set slots p newest s within queue.bound (λ w. absurd (true≢false (sym w ∙ now)));
     }
 
     module _ (p : ℕ) (s : Slot T) (within : p < length slots) (was : waits (slot_at slots p) ≡ false) (now : waits s ≡ true) where
@@ -96,8 +104,8 @@ module _ {T : Type 0} where
       few_wait = (let few = lists_few waits (set slots p s) (p ∷ l) refl (lists_push waits slots p s l queue.has within was now) in let size = length-set slots p s in omega arith)
 
       -- a set came to wait
-      pub put_queue : (f i : ℕ) → frame_of s.used ≡ f → i ≤ length l → IsPartitionPoint (λ q. frame slots q ≤ f) (λ q. f < frame slots q) l i → IsQueue (set slots p s) (insert l i p)
-      put_queue f i of le point = record {
+      pub put_queue : (f i newest' : ℕ) → frame_of s.used ≡ f → i ≤ length l → IsPartitionPoint (λ q. frame slots q ≤ f) (λ q. f < frame slots q) l i → newest ≤ newest' → f ≤ newest' → IsQueue (set slots p s) (insert l i p) newest'
+      put_queue f i newest' of le point more is = record {
         has = λ q. times_insert q p l i ∙ lists_push waits slots p s l queue.has within was now q;
         rises =
             let none = not_listed waits slots l p queue.has was in
@@ -105,15 +113,17 @@ module _ {T : Type 0} where
             IsNonDecreasingBy-insert (frame (set slots p s)) l i p (other_rises slots p s l none queue.rises) le
             (λ k d lt. (let a = other_frame slots p s l none k d (omega arith) in let b = point.0 k d (omega arith) lt in omega arith))
             (λ k d from lt. (let a = other_frame slots p s l none k d lt in let b = point.1 k d from lt in omega arith));
+        bound = bound_set slots p newest' s within (λ q w. (let b = queue.bound q w in omega arith)) (λ w. omega arith);
       }
 
   -- the first set leaves the queue
-  module _ (slots : List (Slot T)) (p : ℕ) (l : List ℕ) (queue : IsQueue slots (p ∷ l)) where
+  module _ (slots : List (Slot T)) (p : ℕ) (l : List ℕ) (newest : ℕ) (queue : IsQueue slots (p ∷ l) newest) where
     pub first_waits : (p < length slots) × (waits (slot_at slots p) ≡ true)
     first_waits = (let is = (first_passes waits slots p l queue.has).1 in (test_within waits slots p refl is, is))
 
-    pub pop_queue : (s : Slot T) → waits s ≡ false → IsQueue (set slots p s) l
+    pub pop_queue : (s : Slot T) → waits s ≡ false → IsQueue (set slots p s) l newest
     pop_queue s now = record {
       has = lists_pop waits slots p s l queue.has first_waits.0 now;
       rises = other_rises slots p s l (first_passes waits slots p l queue.has).0 (IsNonDecreasingBy-drop (frame slots) 1 (p ∷ l) queue.rises);
+      bound = bound_set slots p newest s first_waits.0 queue.bound (λ w. absurd (true≢false (sym w ∙ now)));
     }

@@ -2,26 +2,29 @@
 use Rattle.std.specs.Prelude.{◌≡◌, ℕ, length, Bool, Option}
 use Rattle.std.specs.Borrow.{MutBor}
 use Rattle.descriptor_table.specs.Sets.{sets_in}
-use Rattle.descriptor_table.specs.Slots.{Slot, goes, is_due}
+use Rattle.descriptor_table.specs.Slots.{Slot, goes, is_due, is_kept_of}
 use Rattle.descriptor_table.specs.Tables.{Changes, GivesAny, slots_of}
-use Rattle.descriptor_table.specs.declared.giving.Due.{Due}
 use Rattle.descriptor_table.specs.declared.giving.Giving.{Giving}
+use Rattle.descriptor_table.specs.declared.giving.Group.{Group}
+use Rattle.descriptor_table.specs.declared.giving.Group.TheVariants.{Going, Due, KeptOf}
 use Rattle.descriptor_table.specs.declared.set_table.SetTable.{SetTable}
 
 module _ {T : Type 0} where
+  -- whether a slot has a set of the group
+  abbrev pub is_of : Group → Slot T → Bool
+  is_of Going = goes
+  is_of (Due frame) = is_due frame
+  is_of (KeptOf layout) = is_kept_of layout
+
   -- one of the sets that pass the test was taken out of its slot, if there was one
   pub record GivesFrom (test : Slot T → Bool) (s : MutBor (SetTable T)) (r : Option T) (t : MutBor (SetTable T)) : Type 0 where
     pub same : t.ghost_name ≡ s.ghost_name
     pub gives : Changes (GivesAny test r) s.now t.now
 
-  -- one of those that go
+  -- one of the group
   pub record GivesNext (s : Giving T) (r : Option T) (t : Giving T) : Type 0 where
-    pub first : GivesFrom goes s.table r t.table
-
-  -- one of those that wait for this frame or an earlier one
-  pub record GivesDue (s : Due T) (r : Option T) (t : Due T) : Type 0 where
-    pub frame : t.frame ≡ s.frame
-    pub first : GivesFrom (is_due s.frame) s.table r t.table
+    pub group : t.group ≡ s.group
+    pub first : GivesFrom (is_of s.group) s.table r t.table
 
   -- how many sets there are
   abbrev pub sets_left : MutBor (SetTable T) → ℕ

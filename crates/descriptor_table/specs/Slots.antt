@@ -19,8 +19,8 @@ pub record Slot (T : Type 0) : Type 0 where
   -- how many layouts had this number before the set's layout
   pub layout_generation : ℕ
   pub used : Use
-  -- whether the set isn't kept once it is freed: it was there at the last cleanup
-  pub leaves : Bool
+  -- below this generation the set may be kept once it is freed: 0 if it was there at the last cleanup
+  pub kept_below : ℕ
   pub set : Option T
 
 -- a use without its frame
@@ -106,7 +106,7 @@ Slots T = List (Slot T)
 module _ {T : Type 0} where
   -- the slot past the end, which never had a set
   abbrev pub no_slot : Slot T
-  no_slot = record { generation = 0; layout = 0; layout_generation = 0; used = Taken; leaves = false; set = None }
+  no_slot = record { generation = 0; layout = 0; layout_generation = 0; used = Taken; kept_below = 0; set = None }
 
   -- the slot at a place, or else the slot past the end
   abbrev pub slot_at : Slots T → ℕ → Slot T
@@ -114,7 +114,7 @@ module _ {T : Type 0} where
 
   -- a set that a call has taken, in a slot of this generation
   abbrev pub taken_slot : ℕ → ℕ → ℕ → T → Slot T
-  taken_slot generation layout layout_generation set = record { generation = generation; layout = layout; layout_generation = layout_generation; used = Taken; leaves = false; set = Some set }
+  taken_slot generation layout layout_generation set = record { generation = generation; layout = layout; layout_generation = layout_generation; used = Taken; kept_below = 4294967295; set = Some set }
 
   -- the slot with this set, which a call has taken
   abbrev pub filled : ℕ → ℕ → T → Slot T → Slot T
@@ -122,7 +122,7 @@ module _ {T : Type 0} where
 
   -- the slot that an entry stands for. Contracts see slots, so how an entry packs one is proved in the file of SlotList alone
   abbrev pub slot_of : Entry T → Slot T
-  slot_of e = record { generation = e.generation; layout = e.layout; layout_generation = e.layout_generation; used = use_of e.frame e.state; leaves = e.leaves; set = e.set }
+  slot_of e = record { generation = e.generation; layout = e.layout; layout_generation = e.layout_generation; used = use_of e.frame e.state; kept_below = e.kept_below; set = e.set }
 
   -- the slots of a list
   abbrev pub slots_in : SlotList T → Slots T
@@ -169,11 +169,12 @@ module _ {T : Type 0} where
   abbrev pub AreLinked : Slots T → List ℕ → List Chain → Type 0
   AreLinked slots next chains = (k : ℕ) → Lists (is_in k) slots (walk (chain_at chains k).count next (chain_at chains k).first)
 
-  -- the queue of the sets that wait for a frame
-  pub record IsQueue (slots : Slots T) (places : List ℕ) : Type 0 where
+  -- the queue of the sets that wait for a frame, none for a later one than `newest`
+  pub record IsQueue (slots : Slots T) (places : List ℕ) (newest : ℕ) : Type 0 where
     pub has : Lists waits slots places
     -- along it no set waits for an earlier frame than the one before it
     pub rises : IsNonDecreasingBy (λ p. frame_of (slot_at slots p).used) places
+    pub bound : (p : ℕ) → waits (slot_at slots p) ≡ true → frame_of (slot_at slots p).used ≤ newest
 
   -- the list of a slot's layout is there. Its set is of this layout, or of one that had the number before; a kept one is of this layout. A held one is there
   pub record IsListed (lists : ℕ) (generations : ℕ → ℕ) (s : Slot T) : Type 0 where
@@ -181,15 +182,16 @@ module _ {T : Type 0} where
     pub before : s.layout_generation ≤ generations s.layout
     pub kept : is_in (s.layout + 2) s ≡ true → s.layout_generation ≡ generations s.layout
     pub full : s.used ≡ Held → is_some s.set ≡ true
+    pub kept_below : s.kept_below ≤ 4294967295
 
   -- each slot has its list
   abbrev pub HasLists : Slots T → ℕ → (ℕ → ℕ) → Type 0
   HasLists slots lists generations = (p : ℕ) → p < length slots → IsListed lists generations (slot_at slots p)
 
   -- slots, lists and queue of a table agree
-  pub record AreSound (l : SlotList T) (chains : List Chain) (generations waiting : List ℕ) (room keep : ℕ) : Type 0 where
+  pub record AreSound (l : SlotList T) (chains : List Chain) (generations waiting : List ℕ) (room keep newest : ℕ) : Type 0 where
     pub sized : AreSized (length (slots_in l)) room
     pub linked : AreLinked (slots_in l) (nexts_in l) chains
-    pub queue : IsQueue (slots_in l) waiting
+    pub queue : IsQueue (slots_in l) waiting newest
     pub known : HasLists (slots_in l) (length chains) (generation_at generations)
     pub few : AreFew keep chains

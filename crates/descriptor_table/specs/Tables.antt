@@ -1,5 +1,5 @@
 -- How calls change the slots of a table.
-use Rattle.std.specs.Prelude.{◌≡◌, ◌≢◌, ℕ, zero, suc, ◌+◌, ◌-◌, ◌<◌, ◌≤◌, ◌⊎◌, ◌==◌, ◌&&◌, nat_lt, Bool, true, false, not, List, [], ◌∷◌, length, slice_index_or, slice_set, vec_capacity, is_some, if◌then◌else◌, Option, Some, None, MatchOption}
+use Rattle.std.specs.Prelude.{◌≡◌, ◌≢◌, ℕ, zero, suc, ◌+◌, ◌-◌, ◌<◌, ◌≤◌, ◌⊎◌, ◌==◌, ◌&&◌, nat_lt, Bool, true, false, List, [], ◌∷◌, length, slice_index_or, slice_set, vec_capacity, is_some, if◌then◌else◌, Option, Some, None, MatchOption}
 use Rattle.std.specs.VecDeque.{deque_capacity}
 use Rattle.descriptor_table.specs.Slots.{Slot, Slots, chains_in, generations_in, nexts_in, slots_in, space_in, taken_slot, chain_at, generation_at, is_in, is_kept_of, slot_at}
 use Rattle.descriptor_table.specs.declared.handle.SetHandle.{SetHandle}
@@ -156,12 +156,6 @@ module _ {T : Type 0} where
     pub taken : IsTaken p slots
     pub full : is_some (slot_at slots p).set ≡ true
 
-  -- a call has taken the set of the slot, which can give another handle
-  pub record CanRenew (p : ℕ) (slots : Slots T) : Type 0 where
-    pub taken : IsTaken p slots
-    pub full : is_some (slot_at slots p).set ≡ true
-    pub next : (slot_at slots p).generation < 4294967295
-
   -- the slot passed the test, and left its list
   pub record Picks (test : Slot T → Bool) (p : ℕ) (old new : Slots T) : Type 0 where
     pub was : test (slot_at old p) ≡ true
@@ -185,13 +179,9 @@ module _ {T : Type 0} where
   abbrev pub came_under : Slot T → ℕ × ℕ
   came_under s = (s.layout, s.layout_generation)
 
-  -- whether the layout of a set has not been removed
-  abbrev pub is_current : (ℕ → ℕ) → Slot T → Bool
-  is_current generations s = s.layout_generation == generations s.layout
-
   -- whether a set may be kept: it is newer than the last cleanup, its place has a generation left, and its layout was not removed
   abbrev pub stays : (ℕ → ℕ) → Slot T → Bool
-  stays generations s = (not s.leaves && nat_lt s.generation 4294967295) && is_current generations s
+  stays generations s = (nat_lt s.generation 4294967295 && nat_lt s.generation s.kept_below) && (s.layout_generation == generations s.layout)
 
   -- whether a set is kept, if at most `max` of its layout are
   abbrev pub may_stay : (ℕ → ℕ) → ℕ → Slots T → Slot T → Bool
@@ -237,7 +227,7 @@ module _ {T : Type 0} where
 
   -- the slot, whose set isn't kept once it is freed
   abbrev pub aged : Slot T → Slot T
-  aged s = record s { leaves = true }
+  aged s = record s { kept_below = 0 }
 
   -- each slot has a set, or had its last generation
   abbrev pub AreAllUsed : Slots T → Type 0
@@ -307,10 +297,9 @@ module _ {T : Type 0} where
     pub within : (i : ℕ) → i < length handles → place_at handles i < length slots
     pub all : (p : ℕ) → is_taken (slot_at slots p) ≡ true → (i : ℕ) × (i < length handles) × (place_at handles i ≡ p)
 
-  -- no set that is there is kept once it is freed
-  pub record AreAged (old new : Slots T) : Type 0 where
-    pub long : length new ≡ length old
-    pub each : (p : ℕ) → p < length old → slot_at new p ≡ aged (slot_at old p)
+  -- no set is kept once it is freed
+  abbrev pub AreAged : Slots T → Slots T → Type 0
+  AreAged = Turns (λ s. true) (Becomes aged)
 
   -- the list of a set that is kept or goes
   abbrev pub list_of : Slot T → ℕ

@@ -8,6 +8,6 @@ mod set_table;
 mod slot;
 mod slot_list;
 
-pub use giving::{Due, Giving};
+pub use giving::{Giving, Group};
 pub use handle::{SetHandle, SetName, place_of};
 pub use set_table::SetTable;

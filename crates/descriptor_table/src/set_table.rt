@@ -46,8 +46,11 @@ pub struct SetTable<T> {
 
     /// The max of the kept sets of a layout.
     pub(crate) keep: u32,
+
+    /// No set waits for a later frame than this.
+    pub(crate) newest: u64,
     ghost sound: { AreSound slots (chains_in lists.items) (generations_in lists.items) waiting.items
-        (deque_capacity waiting) keep },
+        (deque_capacity waiting) keep newest },
 }
 
 impl<T> SetTable<T> {
@@ -71,6 +74,7 @@ impl<T> SetTable<T> {
             lists: Vec::new(alloc),
             waiting: VecDeque::new(alloc),
             keep: u32::MAX,
+            newest: 0,
         }
     }
 

@@ -4,12 +4,13 @@ ghost use Rattle.gpu_descriptor.specs.Caller.CleansUp.{TrimsPools};
 ghost use Rattle.gpu_descriptor.specs.Caller.SetLayouts.{IsMeant};
 
 use super::Store;
-use descriptor_table::{Due, Giving, SetName};
+use descriptor_table::{Giving, Group, SetName};
 use gpu_descriptor::{DescriptorDevice, DescriptorSet, SetLayout};
 
 impl<L: Drop, P: Drop, S: Drop, D: DescriptorDevice<L, P, S>> Store<L, P, S, D> {
+    ghost use Rattle.descriptor_table.specs.Giving.{is_of};
     ghost use Rattle.descriptor_table.specs.Sets.{AreHeldOnce, sets_in};
-    ghost use Rattle.descriptor_table.specs.Slots.{goes, is_due, is_kept_of, slot_at};
+    ghost use Rattle.descriptor_table.specs.Slots.{is_due, is_kept_of, slot_at};
     ghost use Rattle.descriptor_table.specs.Tables.{Becomes, KeepsUpTo, TurnEach, removed_at, used_for};
     ghost use Rattle.descriptor_table.specs.declared.slot.Use.{Use};
     ghost use Rattle.descriptor_manager.specs.Stores.{AreCleaned, Cleans, ComeBack, FreesAll, FreesEach};
@@ -18,38 +19,27 @@ impl<L: Drop, P: Drop, S: Drop, D: DescriptorDevice<L, P, S>> Store<L, P, S, D> 
     ghost use Rattle.descriptor_manager.specs.Stores.{coming_in, generations_in, kept_of, ledger_of};
     ghost use Rattle.descriptor_manager.specs.Stores.{keep_of, number_of, pools_besides, side_of, slots_in};
 
-    /// Returns the sets on the table's list of those that go. In most frames it is empty.
+    /// Returns the sets of a group to their pools. In most frames none goes.
     #[inline]
-    fn give(&mut self)
-        ensures { GivesBack goes self.old self.new }
+    fn give(&mut self, group: Group)
+        ensures { GivesBack (is_of group) self.old self.new }
     {
-        if self.table.none_goes() {
+        if self.table.is_empty(group) {
             // A proof knows the allocator's invariant only from what its readers promise.
             prove!(self.allocator.update_after_bind_descriptors() <= u32::MAX);
             prove!(self.allocator.update_after_bind_capacity() <= u32::MAX);
             return;
         }
-        self.give_each();
+        self.give_each(group);
     }
 
-    /// Returns the sets on the table's list of those that go, run by run.
-    fn give_each(&mut self)
-        ensures { GivesBack goes self.old self.new }
+    /// Returns the sets of a group to their pools, run by run.
+    fn give_each(&mut self, group: Group)
+        ensures { GivesBack (is_of group) self.old self.new }
     {
         let mut giving = Giving {
             table: &mut self.table,
-        };
-        self.allocator.free_from(&mut self.device, &mut giving);
-        giving.end();
-    }
-
-    /// Returns the sets that wait for `frame` or an earlier one to their pools.
-    fn give_due(&mut self, frame: u64)
-        ensures { GivesBack (is_due frame) self.old self.new }
-    {
-        let mut giving = Due {
-            table: &mut self.table,
-            frame,
+            group,
         };
         self.allocator.free_from(&mut self.device, &mut giving);
         giving.end();
@@ -69,7 +59,7 @@ impl<L: Drop, P: Drop, S: Drop, D: DescriptorDevice<L, P, S>> Store<L, P, S, D> 
     {
         self.table.age();
         self.table.trim(0);
-        self.give();
+        self.give(Group::Going);
         self.allocator.trim(&mut self.device);
     }
 
@@ -91,11 +81,11 @@ impl<L: Drop, P: Drop, S: Drop, D: DescriptorDevice<L, P, S>> Store<L, P, S, D> 
         ensures settles { Settles NoneComes self.old self.new }
     {
         if self.table.keep() == 0 {
-            self.give_due(frame);
+            self.give(Group::Due(frame));
             return;
         }
         self.table.settle_due(frame);
-        self.give();
+        self.give(Group::Going);
     }
 
     /// Frees the held sets of `names` at once: each is kept, or returns to its pool. If a name has no
@@ -112,7 +102,7 @@ impl<L: Drop, P: Drop, S: Drop, D: DescriptorDevice<L, P, S>> Store<L, P, S, D> 
         if !self.table.settle_held(names) {
             return false;
         }
-        self.give();
+        self.give(Group::Going);
         true
     }
 
@@ -150,7 +140,7 @@ impl<L: Drop, P: Drop, S: Drop, D: DescriptorDevice<L, P, S>> Store<L, P, S, D> 
     {
         self.table.trim(max);
         self.table.set_max_kept(max);
-        self.give();
+        self.give(Group::Going);
     }
 
     /// Removes a layout: its kept sets return to their pools, and its other sets aren't kept once they
@@ -164,9 +154,8 @@ impl<L: Drop, P: Drop, S: Drop, D: DescriptorDevice<L, P, S>> Store<L, P, S, D> 
         ensures settles { SettlesTo (removed_at layout (generations_in self.old)) (keep_of self.old)
             NoneComes self.old self.new }
     {
-        self.table.let_kept_go(layout);
+        self.give(Group::KeptOf(layout));
         self.table.remove_layout(layout);
-        self.give();
         self.allocator.trim_layout(&mut self.device, known);
     }
 
@@ -180,6 +169,6 @@ impl<L: Drop, P: Drop, S: Drop, D: DescriptorDevice<L, P, S>> Store<L, P, S, D> 
         self.table.let_waiting_go();
         self.table.let_held_go();
         self.table.trim(0);
-        self.give();
+        self.give(Group::Going);
     }
 }

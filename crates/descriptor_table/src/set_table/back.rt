@@ -19,10 +19,11 @@ impl<T> SetTable<T> {
 
     /// The list of a layout's kept sets.
     #[inline]
-    fn kept_list(&self, layout: u32) -> &ListHead
+    pub(super) fn kept_list(&self, layout: u32) -> &ListHead
         requires { layout + 2 < lists_of self.now }
         ensures generation { result.now.generation ≡ generations_of self.now layout }
         ensures count { result.now.chain.count ≡ count (is_kept_of layout) (slots_of self.now) }
+        ensures few { result.now.chain.count ≤ keep_of self.now }
     {
         &self.lists[layout as usize + KEPT]
     }
@@ -36,8 +37,7 @@ impl<T> SetTable<T> {
     {
         let slot = self.slots.at(place);
         let list = self.kept_list(slot.layout);
-        !slot.leaves
-            && slot.generation < u32::MAX
+        slot.generation < slot.kept_below
             && slot.layout_generation == list.generation
             && list.chain.count < self.keep
     }
@@ -227,16 +227,6 @@ impl<T> SetTable<T> {
         while let Some(place) = self.pick_above(list, max) {
             self.link(GOING, place, Use::Going);
         }
-    }
-
-    /// Lets the kept sets of a layout go.
-    pub fn let_kept_go(&mut self, layout: u32)
-        requires { layout + 2 < lists_of self.old }
-        ensures turns { Changes (Turns (is_kept_of layout) (Becomes (used_for Use.Going)))
-            self.old self.new }
-        ensures none { (p : ℕ) → is_kept_of layout (slot_at (slots_of self.new) p) ≡ false }
-    {
-        self.trim_list(layout as usize + KEPT, 0);
     }
 
     /// Lets kept sets go, until at most `max` of each layout are left.

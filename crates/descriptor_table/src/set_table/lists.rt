@@ -2,11 +2,13 @@
 ghost use Rattle.std.specs.Prelude.{◌≡◌, ◌+◌, ◌<◌, ◌≤◌, IfSome, IsTrue, length, true, false, ℕ};
 
 use super::{GOING, KEPT, SetTable};
+use crate::giving::Group;
 use crate::handle::{SetHandle, SetName};
 use crate::slot::{Chain, Use};
 
 impl<T> SetTable<T> {
-    ghost use Rattle.descriptor_table.specs.Slots.{IsNowhere, chain_at, chains_in, goes, is_in, is_kept_of, slot_at};
+    ghost use Rattle.descriptor_table.specs.Giving.{is_of};
+    ghost use Rattle.descriptor_table.specs.Slots.{IsNowhere, chain_at, chains_in, is_in, is_kept_of, slot_at};
     ghost use Rattle.descriptor_table.specs.Tables.{At, Changes, PicksAny, Pops, Pushes, Renews, Stays, count, count_of};
     ghost use Rattle.descriptor_table.specs.Tables.{generations_of, is_kept, lists_of};
     ghost use Rattle.descriptor_table.specs.Tables.{keep_of, number_of, slots_of, used_for};
@@ -105,17 +107,22 @@ impl<T> SetTable<T> {
     /// How many sets of a layout are kept.
     #[inline]
     pub fn kept_count(&self, layout: u32) -> u32
+        requires { layout + 2 < lists_of self.now }
         ensures count { result ≡ count (is_kept_of layout) (slots_of self.now) }
         ensures few { result ≤ keep_of self.now }
     {
-        self.chain(layout as usize + KEPT).count
+        self.kept_list(layout).chain.count
     }
 
-    /// Whether no set goes back to its pool.
+    /// Whether a group's list is empty. It isn't known of the sets that wait.
     #[inline]
-    pub fn none_goes(&self) -> bool
-        ensures { IsTrue result → (p : ℕ) → goes (slot_at (slots_of self.now) p) ≡ false }
+    pub fn is_empty(&self, group: Group) -> bool
+        ensures { IsTrue result → (p : ℕ) → is_of group (slot_at (slots_of self.now) p) ≡ false }
     {
-        self.chain(GOING).count == 0
+        match group {
+            Group::Going => self.chain(GOING).count == 0,
+            Group::KeptOf(layout) => self.chain(layout as usize + KEPT).count == 0,
+            Group::Due(_) => false,
+        }
     }
 }

@@ -2,14 +2,16 @@
 ghost use Rattle.std.specs.Prelude.{◌≡◌, ◌+◌, ◌<◌, true, false, is_some, IsSome, None, Some};
 
 use super::{GOING, SetTable, VACANT};
+use crate::giving::Group;
 use crate::handle::{SetHandle, SetName};
 use crate::slot::Use;
 
 impl<T> SetTable<T> {
+    ghost use Rattle.descriptor_table.specs.Giving.{is_of};
     ghost use Rattle.descriptor_table.specs.Sets.{find, is_held};
-    ghost use Rattle.descriptor_table.specs.Slots.{IsNowhere, filled, goes, is_due, slot_at};
-    ghost use Rattle.descriptor_table.specs.Tables.{AreAllUsed, At, CanRenew, Changes, GivesAny};
-    ghost use Rattle.descriptor_table.specs.Tables.{HasRoom, HasTaken, IsTaken, PutsInto, Renews, Stays};
+    ghost use Rattle.descriptor_table.specs.Slots.{IsNowhere, filled, slot_at};
+    ghost use Rattle.descriptor_table.specs.Tables.{AreAllUsed, At, Changes, GivesAny};
+    ghost use Rattle.descriptor_table.specs.Tables.{HasRoom, HasTaken, IsTaken, PicksAny, PutsInto, Renews, Stays};
     ghost use Rattle.descriptor_table.specs.Tables.{generations_of, lists_of, number_of};
     ghost use Rattle.descriptor_table.specs.Tables.{slots_of, used_for, vacated};
 
@@ -58,7 +60,8 @@ impl<T> SetTable<T> {
     /// generation rises.
     #[inline]
     fn renew(&mut self, place: usize, used: Use) -> SetHandle
-        requires can { CanRenew place (slots_of self.old) }
+        requires taken { HasTaken place (slots_of self.old) }
+        requires next { (slot_at (slots_of self.old) place).generation < 4294967295 }
         requires used { IsNowhere used }
         ensures { Changes (Renews (number_of self.old) place used result) self.old self.new }
     {
@@ -72,7 +75,8 @@ impl<T> SetTable<T> {
     /// Holds the set at a place, which a call has taken.
     #[inline]
     pub fn hold(&mut self, place: usize) -> SetHandle
-        requires { CanRenew place (slots_of self.old) }
+        requires taken { HasTaken place (slots_of self.old) }
+        requires next { (slot_at (slots_of self.old) place).generation < 4294967295 }
         ensures { Changes (Renews (number_of self.old) place Use.Held result) self.old
             self.new }
     {
@@ -126,21 +130,24 @@ impl<T> SetTable<T> {
         Some(set)
     }
 
-    /// Takes a set that goes back to its pool out of its slot.
+    /// Takes a set of a group out of its list, or out of the queue.
     #[inline]
-    pub(crate) fn take_going(&mut self) -> Option<T>
-        ensures { Changes (GivesAny goes result) self.old self.new }
+    fn pick_of(&mut self, group: Group) -> Option<usize>
+        ensures { Changes (PicksAny (is_of group) result) self.old self.new }
     {
-        let place = self.pick(GOING)?;
-        self.take_out(place)
+        match group {
+            Group::Going => self.pick(GOING),
+            Group::Due(frame) => self.pick_due(frame),
+            Group::KeptOf(layout) => self.take_kept(layout),
+        }
     }
 
-    /// Takes a set that waits for `frame` or an earlier one out of its slot.
+    /// Takes a set of a group out of its slot.
     #[inline]
-    pub(crate) fn take_due(&mut self, frame: u64) -> Option<T>
-        ensures { Changes (GivesAny (is_due frame) result) self.old self.new }
+    pub(crate) fn take_of(&mut self, group: Group) -> Option<T>
+        ensures { Changes (GivesAny (is_of group) result) self.old self.new }
     {
-        let place = self.pick_due(frame)?;
+        let place = self.pick_of(group)?;
         self.take_out(place)
     }
 

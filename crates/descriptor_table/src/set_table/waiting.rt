@@ -49,6 +49,20 @@ impl<T> SetTable<T> {
         ensures place { IsPartitionPoint (λ p. frame_of (slot_at (slots_of self.now) p).used ≤ frame)
             (λ p. frame < frame_of (slot_at (slots_of self.now) p).used) self.now.waiting.items result }
     {
+        if self.newest <= frame {
+            return self.waiting.len();
+        }
+        self.place_before(frame)
+    }
+
+    /// `place_of_frame` of a frame that may not be the newest. It is out of line, so that a set for the
+    /// newest saves no registers for it.
+    #[inline(never)]
+    fn place_before(&self, frame: u64) -> usize
+        ensures within { result ≤ length self.now.waiting.items }
+        ensures place { IsPartitionPoint (λ p. frame_of (slot_at (slots_of self.now) p).used ≤ frame)
+            (λ p. frame < frame_of (slot_at (slots_of self.now) p).used) self.now.waiting.items result }
+    {
         match self.waiting.back() {
             None => 0,
             Some(last) => {
@@ -69,6 +83,7 @@ impl<T> SetTable<T> {
     {
         let at = self.place_of_frame(frame);
         put_place(&mut self.waiting, at, place as u32);
+        self.newest = self.newest.max(frame);
         self.slots.set_use(place, Use::Waits(frame));
     }
 
@@ -82,6 +97,7 @@ impl<T> SetTable<T> {
     {
         let at = self.place_of_frame(frame);
         put_place(&mut self.waiting, at, place as u32);
+        self.newest = self.newest.max(frame);
         SetHandle {
             manager: self.number,
             place: place as u32,

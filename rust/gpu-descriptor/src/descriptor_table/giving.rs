@@ -3,9 +3,23 @@
 
 use crate::descriptor_table::set_table::SetTable;
 
-/// Takes the sets that go out of their slots, one by one, until none is left.
+/// Which sets of a table return to their pools.
+#[derive(Clone, Copy)]
+pub enum Group {
+    /// Those that go.
+    Going,
+
+    /// Those that wait for this frame or an earlier one.
+    Due(u64),
+
+    /// The kept ones of a layout.
+    KeptOf(u32),
+}
+
+/// Takes the sets of a group out of their slots, one by one, until none is left.
 pub struct Giving<'a, T> {
     pub table: &'a mut SetTable<T>,
+    pub group: Group,
 }
 
 impl<T> Iterator for Giving<'_, T> {
@@ -13,33 +27,11 @@ impl<T> Iterator for Giving<'_, T> {
 
     #[inline]
     fn next(&mut self) -> Option<T> {
-        self.table.take_going()
+        self.table.take_of(self.group)
     }
 }
 
 impl<T> Giving<'_, T> {
-    /// Ends the borrow of the table.
-    pub fn end(self)
-    {}
-}
-
-/// Takes the sets that wait for `frame` or an earlier one out of their slots, one by one, until none is
-/// left.
-pub struct Due<'a, T> {
-    pub table: &'a mut SetTable<T>,
-    pub frame: u64,
-}
-
-impl<T> Iterator for Due<'_, T> {
-    type Item = T;
-
-    #[inline]
-    fn next(&mut self) -> Option<T> {
-        self.table.take_due(self.frame)
-    }
-}
-
-impl<T> Due<'_, T> {
     /// Ends the borrow of the table.
     pub fn end(self)
     {}

@@ -42,6 +42,9 @@ pub struct SetTable<T> {
 
     /// The max of the kept sets of a layout.
     pub(crate) keep: u32,
+
+    /// No set waits for a later frame than this.
+    pub(crate) newest: u64,
 }
 
 impl<T> SetTable<T> {
@@ -54,6 +57,7 @@ impl<T> SetTable<T> {
             lists: Vec::new(alloc),
             waiting: VecDeque::new(alloc),
             keep: u32::MAX,
+            newest: 0,
         }
     }
 

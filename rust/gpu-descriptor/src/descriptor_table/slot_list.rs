@@ -23,8 +23,9 @@ pub struct Entry<T> {
     pub(crate) frame: u64,
     pub(crate) state: State,
 
-    /// Whether the set isn't kept once it is freed: it was there at the last cleanup.
-    pub(crate) leaves: bool,
+    /// The set is kept once it is freed only if its generation is below this: `u32::MAX`, since a kept set
+    /// needs a next one, or 0 if it was there at the last cleanup.
+    pub(crate) kept_below: u32,
     pub(crate) set: Option<T>,
 }
 
@@ -40,7 +41,7 @@ impl<T> Entry<T> {
             next: 0,
             frame: 0,
             state: State::Taken,
-            leaves: false,
+            kept_below: u32::MAX,
             set: Some(set),
         }
     }
@@ -150,7 +151,7 @@ impl<T> SlotList<T> {
     #[inline]
     pub(crate) fn age(&mut self, place: usize)
     {
-        self.entries[place].leaves = true;
+        self.entries[place].kept_below = 0;
     }
 
     /// Takes the set out of a slot.
@@ -173,7 +174,7 @@ impl<T> SlotList<T> {
             next: _,
             frame: _,
             state: _,
-            leaves: _,
+            kept_below: _,
             set: before,
         } = mem::replace(&mut self.entries[place], entry);
         match before {

@@ -2,36 +2,26 @@
 //! Sets that are freed: each is kept, or returns to its pool.
 
 use super::Store;
-use crate::descriptor_table::{Due, Giving, SetName};
+use crate::descriptor_table::{Giving, Group, SetName};
 use crate::gpu_descriptor::{DescriptorDevice, DescriptorSet, SetLayout};
 
 impl<L, P, S, D: DescriptorDevice<L, P, S>> Store<L, P, S, D> {
-    /// Returns the sets on the table's list of those that go. In most frames it is empty.
+    /// Returns the sets of a group to their pools. In most frames none goes.
     #[inline]
-    fn give(&mut self)
+    fn give(&mut self, group: Group)
     {
-        if self.table.none_goes() {
+        if self.table.is_empty(group) {
             return;
         }
-        self.give_each();
+        self.give_each(group);
     }
 
-    /// Returns the sets on the table's list of those that go, run by run.
-    fn give_each(&mut self)
+    /// Returns the sets of a group to their pools, run by run.
+    fn give_each(&mut self, group: Group)
     {
         let mut giving = Giving {
             table: &mut self.table,
-        };
-        self.allocator.free_from(&mut self.device, &mut giving);
-        giving.end();
-    }
-
-    /// Returns the sets that wait for `frame` or an earlier one to their pools.
-    fn give_due(&mut self, frame: u64)
-    {
-        let mut giving = Due {
-            table: &mut self.table,
-            frame,
+            group,
         };
         self.allocator.free_from(&mut self.device, &mut giving);
         giving.end();
@@ -44,7 +34,7 @@ impl<L, P, S, D: DescriptorDevice<L, P, S>> Store<L, P, S, D> {
     {
         self.table.age();
         self.table.trim(0);
-        self.give();
+        self.give(Group::Going);
         self.allocator.trim(&mut self.device);
     }
 
@@ -58,11 +48,11 @@ impl<L, P, S, D: DescriptorDevice<L, P, S>> Store<L, P, S, D> {
     pub(crate) fn finish(&mut self, frame: u64)
     {
         if self.table.keep() == 0 {
-            self.give_due(frame);
+            self.give(Group::Due(frame));
             return;
         }
         self.table.settle_due(frame);
-        self.give();
+        self.give(Group::Going);
     }
 
     /// Frees the held sets of `names` at once: each is kept, or returns to its pool. If a name has no
@@ -72,7 +62,7 @@ impl<L, P, S, D: DescriptorDevice<L, P, S>> Store<L, P, S, D> {
         if !self.table.settle_held(names) {
             return false;
         }
-        self.give();
+        self.give(Group::Going);
         true
     }
 
@@ -96,16 +86,15 @@ impl<L, P, S, D: DescriptorDevice<L, P, S>> Store<L, P, S, D> {
     {
         self.table.trim(max);
         self.table.set_max_kept(max);
-        self.give();
+        self.give(Group::Going);
     }
 
     /// Removes a layout: its kept sets return to their pools, and its other sets aren't kept once they
     /// are freed, not even when another layout has its number. Then the empty pools of its key are destroyed.
     pub(crate) fn remove_layout(&mut self, known: &SetLayout<L>, layout: u32)
     {
-        self.table.let_kept_go(layout);
+        self.give(Group::KeptOf(layout));
         self.table.remove_layout(layout);
-        self.give();
         self.allocator.trim_layout(&mut self.device, known);
     }
 
@@ -116,6 +105,6 @@ impl<L, P, S, D: DescriptorDevice<L, P, S>> Store<L, P, S, D> {
         self.table.let_waiting_go();
         self.table.let_held_go();
         self.table.trim(0);
-        self.give();
+        self.give(Group::Going);
     }
 }

@@ -9,7 +9,7 @@ use crate::descriptor_table::slot::{ListHead, Use};
 impl<T> SetTable<T> {
     /// The list of a layout's kept sets.
     #[inline]
-    fn kept_list(&self, layout: u32) -> &ListHead
+    pub(super) fn kept_list(&self, layout: u32) -> &ListHead
     {
         &self.lists[layout as usize + KEPT]
     }
@@ -20,8 +20,7 @@ impl<T> SetTable<T> {
     {
         let slot = self.slots.at(place);
         let list = self.kept_list(slot.layout);
-        !slot.leaves
-            && slot.generation < u32::MAX
+        slot.generation < slot.kept_below
             && slot.layout_generation == list.generation
             && list.chain.count < self.keep
     }
@@ -167,12 +166,6 @@ impl<T> SetTable<T> {
         while let Some(place) = self.pick_above(list, max) {
             self.link(GOING, place, Use::Going);
         }
-    }
-
-    /// Lets the kept sets of a layout go.
-    pub fn let_kept_go(&mut self, layout: u32)
-    {
-        self.trim_list(layout as usize + KEPT, 0);
     }
 
     /// Lets kept sets go, until at most `max` of each layout are left.

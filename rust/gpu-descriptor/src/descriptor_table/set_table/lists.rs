@@ -2,6 +2,7 @@
 //! The lists of slots without a set, of sets that go back to their pools, and of kept sets.
 
 use super::{GOING, KEPT, SetTable};
+use crate::descriptor_table::giving::Group;
 use crate::descriptor_table::handle::{SetHandle, SetName};
 use crate::descriptor_table::slot::{Chain, Use};
 
@@ -80,13 +81,17 @@ impl<T> SetTable<T> {
     #[inline]
     pub fn kept_count(&self, layout: u32) -> u32
     {
-        self.chain(layout as usize + KEPT).count
+        self.kept_list(layout).chain.count
     }
 
-    /// Whether no set goes back to its pool.
+    /// Whether a group's list is empty. It isn't known of the sets that wait.
     #[inline]
-    pub fn none_goes(&self) -> bool
+    pub fn is_empty(&self, group: Group) -> bool
     {
-        self.chain(GOING).count == 0
+        match group {
+            Group::Going => self.chain(GOING).count == 0,
+            Group::KeptOf(layout) => self.chain(layout as usize + KEPT).count == 0,
+            Group::Due(_) => false,
+        }
     }
 }

@@ -2,6 +2,7 @@
 //! Sets that are put into slots, get handles, and leave.
 
 use super::{GOING, SetTable, VACANT};
+use crate::descriptor_table::giving::Group;
 use crate::descriptor_table::handle::{SetHandle, SetName};
 use crate::descriptor_table::slot::Use;
 
@@ -89,19 +90,22 @@ impl<T> SetTable<T> {
         Some(set)
     }
 
-    /// Takes a set that goes back to its pool out of its slot.
+    /// Takes a set of a group out of its list, or out of the queue.
     #[inline]
-    pub(crate) fn take_going(&mut self) -> Option<T>
+    fn pick_of(&mut self, group: Group) -> Option<usize>
     {
-        let place = self.pick(GOING)?;
-        self.take_out(place)
+        match group {
+            Group::Going => self.pick(GOING),
+            Group::Due(frame) => self.pick_due(frame),
+            Group::KeptOf(layout) => self.take_kept(layout),
+        }
     }
 
-    /// Takes a set that waits for `frame` or an earlier one out of its slot.
+    /// Takes a set of a group out of its slot.
     #[inline]
-    pub(crate) fn take_due(&mut self, frame: u64) -> Option<T>
+    pub(crate) fn take_of(&mut self, group: Group) -> Option<T>
     {
-        let place = self.pick_due(frame)?;
+        let place = self.pick_of(group)?;
         self.take_out(place)
     }
 

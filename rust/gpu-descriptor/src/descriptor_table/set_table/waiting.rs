@@ -35,6 +35,17 @@ impl<T> SetTable<T> {
     #[inline]
     fn place_of_frame(&self, frame: u64) -> usize
     {
+        if self.newest <= frame {
+            return self.waiting.len();
+        }
+        self.place_before(frame)
+    }
+
+    /// `place_of_frame` of a frame that may not be the newest. It is out of line, so that a set for the
+    /// newest saves no registers for it.
+    #[inline(never)]
+    fn place_before(&self, frame: u64) -> usize
+    {
         match self.waiting.back() {
             None => 0,
             Some(last) => {
@@ -53,6 +64,7 @@ impl<T> SetTable<T> {
     {
         let at = self.place_of_frame(frame);
         put_place(&mut self.waiting, at, place as u32);
+        self.newest = self.newest.max(frame);
         self.slots.set_use(place, Use::Waits(frame));
     }
 
@@ -62,6 +74,7 @@ impl<T> SetTable<T> {
     {
         let at = self.place_of_frame(frame);
         put_place(&mut self.waiting, at, place as u32);
+        self.newest = self.newest.max(frame);
         SetHandle {
             manager: self.number,
             place: place as u32,

@@ -8,7 +8,7 @@ use Rattle.descriptor_manager.proofs.Back.{back_not_due, came_back, settled_sets
 use Rattle.descriptor_manager.proofs.Following.{follow_turns, follows_back, none_goes}
 use Rattle.descriptor_manager.proofs.Settling.{settled}
 use Rattle.descriptor_manager.proofs.store.Store.finish.Given.{Over}
-use Rattle.descriptor_manager.proofs.store.Store.finish.Goals.{After-give, After-settle_due}
+use Rattle.descriptor_manager.proofs.store.Store.finish.Goals.{After-give-2, After-settle_due}
 use Rattle.descriptor_manager.proofs.store.Store.finish.Goals as goal
 
 -- the sets are as they were
@@ -23,22 +23,22 @@ pub invariant_of-self-clause-accounted : goal.invariant_of-self-clause-accounted
 invariant_of-self-clause-accounted g c = accounted_as c.args.self.now (same_sets g (goal.at.invariant_of-self-clause-accounted g c).After-settle_due)
 
 -- those that were due were freed
-turns : (g : Over) (c : After-give g) → Turns (is_due c.args.frame) (IsBack vacated (generations_of c.args.self.now.table) c.args.self.now.table.keep) (slots_of c.args.self.now.table) (slots_of c.give.new.self.table)
+turns : (g : Over) (c : After-give-2 g) → Turns (is_due c.args.frame) (IsBack vacated (generations_of c.args.self.now.table) c.args.self.now.table.keep) (slots_of c.args.self.now.table) (slots_of c.give-2.new.self.table)
 turns g c =
     let old = slots_of c.args.self.now.table in
-    came_back (is_due c.args.frame) (generations_of c.args.self.now.table) c.args.self.now.table.keep old (slots_of c.settle_due.new.self) (slots_of c.give.new.self.table) (due_full c.args.frame) (none_goes old c.requires.rest.placed) c.settle_due.ensures.slots c.give.ensures.turns
+    came_back (is_due c.args.frame) (generations_of c.args.self.now.table) c.args.self.now.table.keep old (slots_of c.settle_due.new.self) (slots_of c.give-2.new.self.table) (due_full c.args.frame) (none_goes old c.requires.rest.placed) c.settle_due.ensures.slots c.give-2.ensures.turns
 
 pub returns-clause-back : goal.returns-clause-back
-returns-clause-back g c = record { turns = turns g c; back = c.give.ensures.back }
+returns-clause-back g c = record { turns = turns g c; back = c.give-2.ensures.back }
 
 pub returns-clause-none_due : goal.returns-clause-none_due
-returns-clause-none_due g c = back_not_due (generations_of c.args.self.now.table) c.args.frame c.args.self.now.table.keep (slots_of c.args.self.now.table) (slots_of c.give.new.self.table) (turns g c)
+returns-clause-none_due g c = back_not_due (generations_of c.args.self.now.table) c.args.frame c.args.self.now.table.keep (slots_of c.args.self.now.table) (slots_of c.give-2.new.self.table) (turns g c)
 
 pub returns-clause-settles : goal.returns-clause-settles
 returns-clause-settles g c =
     let old = slots_of c.args.self.now.table in
-    let new = slots_of c.give.new.self.table in
+    let new = slots_of c.give-2.new.self.table in
     let max = c.args.self.now.table.keep in
-    settled c.args.self.now c.give.new.self
+    settled c.args.self.now c.give-2.new.self
     (follow_turns (is_due c.args.frame) (IsBack vacated (generations_of c.args.self.now.table) max) old new (turns g c) (follows_back (generations_of c.args.self.now.table) max new))
-    (c.give.ensures.stays.coming ∙ c.requires.rest.none_coming) c.requires.rest (search rules)
+    (c.give-2.ensures.stays.coming ∙ c.requires.rest.none_coming) c.requires.rest (search rules)

@@ -11,4 +11,4 @@ invariant_of-self g c =
     let p = c.args.place in
     let was = slot_at (slots_in s.slots) p in
     let new = used_for c.args.used was in
-    record { sound = out_sound s.slots c.set_use.new.self (chains_in s.lists.items) (generations_in s.lists.items) s.waiting.items s.waiting.cap s.keep s.sound p new c.set_use.ensures.writes.slots c.requires.within c.set_use.ensures.nexts (nowhere_out was c.requires.was) (nowhere_out new c.requires.used) refl refl c.requires.full }
+    record { sound = out_sound s.slots c.set_use.new.self (chains_in s.lists.items) (generations_in s.lists.items) s.waiting.items s.waiting.cap s.keep s.newest s.sound p new c.set_use.ensures.writes.slots c.requires.within c.set_use.ensures.nexts (nowhere_out was c.requires.was) (nowhere_out new c.requires.used) refl refl refl c.requires.full }

@@ -11,4 +11,4 @@ invariant_of-self g c =
     let p = c.args.place in
     let taken = c.requires.taken in
     let generation = c.generation-layout_generation.ensures in
-    record { sound = fill_sound s.slots c.fill.new.self (chains_in s.lists.items) (generations_in s.lists.items) s.waiting.items s.waiting.cap s.keep s.sound p 0 (filled c.args.layout c.generation-layout_generation.result c.args.set (slot_at (slots_in s.slots) p)) taken.within taken.taken refl c.fill.ensures.writes.slots c.fill.ensures.nexts (record { there = c.requires.layout; before = omega arith; kept = λ kept. generation; full = unheld Taken refl }) }
+    record { sound = fill_sound s.slots c.fill.new.self (chains_in s.lists.items) (generations_in s.lists.items) s.waiting.items s.waiting.cap s.keep s.newest s.sound p 0 (filled c.args.layout c.generation-layout_generation.result c.args.set (slot_at (slots_in s.slots) p)) taken.within taken.taken refl c.fill.ensures.writes.slots c.fill.ensures.nexts (record { there = c.requires.layout; before = omega arith; kept = λ kept. generation; full = unheld Taken refl; kept_below = omega arith }) }

@@ -80,8 +80,8 @@ invariant_of-self g c =
     let at = c.index_mut-head.result.now.chain.first in
     let p = first g d in
     let new = renewed Held (slot_at (slots_in s.slots) at) in
-    let sound = pick_sound s.slots c.renew-generation.new.self (chains_in s.lists.items) (generations_in s.lists.items) s.waiting.items s.waiting.cap s.keep s.sound at new c.renew-generation.ensures.writes.slots (c.args.layout + 2) c.index_mut-head.result.now.chain c.at.result.now.next (is_list g d) (some g d) (there s c.args.layout c.requires) c.at.ensures.next refl c.renew-generation.ensures.nexts (λ j. refl) refl (listed s.slots s.slots (chains_in s.lists.items) (generations_in s.lists.items) s.waiting.items s.waiting.cap s.keep s.sound at new p.0 refl refl (λ e. absurd (false≢true e)) (λ held. (kept_is (c.args.layout + 2) (slot_at (slots_in s.slots) at) (omega arith) p.1).1)) in
-    record { sound = in_place (λ chains generations. AreSound c.renew-generation.new.self chains generations s.waiting.items s.waiting.cap s.keep) _ _ _ _ (chains g a) (generations g a) sound }
+    let sound = pick_sound s.slots c.renew-generation.new.self (chains_in s.lists.items) (generations_in s.lists.items) s.waiting.items s.waiting.cap s.keep s.newest s.sound at new c.renew-generation.ensures.writes.slots (c.args.layout + 2) c.index_mut-head.result.now.chain c.at.result.now.next (is_list g d) (some g d) (there s c.args.layout c.requires) c.at.ensures.next refl c.renew-generation.ensures.nexts (λ j. refl) refl (listed s.slots s.slots (chains_in s.lists.items) (generations_in s.lists.items) s.waiting.items s.waiting.cap s.keep s.newest s.sound at new p.0 refl refl refl (λ e. absurd (false≢true e)) (λ held. (kept_is (c.args.layout + 2) (slot_at (slots_in s.slots) at) (omega arith) p.1).1)) in
+    record { sound = in_place (λ chains generations. AreSound c.renew-generation.new.self chains generations s.waiting.items s.waiting.cap s.keep s.newest) _ _ _ _ (chains g a) (generations g a) sound }
 
 pub name_of-requires : goal.name_of-requires
 name_of-requires g c =

@@ -39,8 +39,8 @@ invariant_of-self g c =
     let is = is_list g d in
     let p = c.args.place in
     let new = used_for c.args.used (slot_at (slots_in s.slots) p) in
-    let sound = link_sound s.slots c.link.new.self (chains_in s.lists.items) (generations_in s.lists.items) s.waiting.items s.waiting.cap s.keep s.sound p new c.link.ensures.writes.slots c.args.list c.index_mut-head.result.now.chain (sym is) c.requires.list c.requires.within c.requires.idle c.requires.goes c.link.ensures.nexts (listed s.slots s.slots (chains_in s.lists.items) (generations_in s.lists.items) s.waiting.items s.waiting.cap s.keep s.sound p new c.requires.within refl refl c.requires.current (λ held. absurd (held_nowhere new c.args.list c.requires.goes held))) (λ two. let few = c.requires.few two in let same = ap (λ (d : Chain). d.count) is in omega arith) in
-    record { sound = in_place (λ chains generations. AreSound c.link.new.self chains generations s.waiting.items s.waiting.cap s.keep) _ _ _ _ (chains g d) (generations g d) sound }
+    let sound = link_sound s.slots c.link.new.self (chains_in s.lists.items) (generations_in s.lists.items) s.waiting.items s.waiting.cap s.keep s.newest s.sound p new c.link.ensures.writes.slots c.args.list c.index_mut-head.result.now.chain (sym is) c.requires.list c.requires.within c.requires.idle c.requires.goes c.link.ensures.nexts (listed s.slots s.slots (chains_in s.lists.items) (generations_in s.lists.items) s.waiting.items s.waiting.cap s.keep s.newest s.sound p new c.requires.within refl refl refl c.requires.current (λ held. absurd (held_nowhere new c.args.list c.requires.goes held))) (λ two. let few = c.requires.few two in let same = ap (λ (d : Chain). d.count) is in omega arith) in
+    record { sound = in_place (λ chains generations. AreSound c.link.new.self chains generations s.waiting.items s.waiting.cap s.keep s.newest) _ _ _ _ (chains g d) (generations g d) sound }
 
 pub returns-clause-changes : goal.returns-clause-changes
 returns-clause-changes g c =

@@ -48,8 +48,8 @@ invariant_of-self-2 g c =
     let at = c.in_ok-head.head.now.chain.first in
     let p = first g d in
     let new = used_for Taken (slot_at (slots_in s.slots) at) in
-    let sound = pick_sound s.slots c.set_use.new.self (chains_in s.lists.items) (generations_in s.lists.items) s.waiting.items s.waiting.cap s.keep s.sound at new c.set_use.ensures.writes.slots c.args.list c.in_ok-head.head.now.chain c.at.result.now.next (is_list g d) c.if-head-eq0.false (there g d) c.at.ensures.next refl c.set_use.ensures.nexts (λ j. refl) refl (listed s.slots s.slots (chains_in s.lists.items) (generations_in s.lists.items) s.waiting.items s.waiting.cap s.keep s.sound at new p.0 refl refl (taken_unkept new) (unheld Taken refl)) in
-    record { sound = in_place (λ chains generations. AreSound c.set_use.new.self chains generations s.waiting.items s.waiting.cap s.keep) _ _ _ _ (chains g a) (generations g a) sound }
+    let sound = pick_sound s.slots c.set_use.new.self (chains_in s.lists.items) (generations_in s.lists.items) s.waiting.items s.waiting.cap s.keep s.newest s.sound at new c.set_use.ensures.writes.slots c.args.list c.in_ok-head.head.now.chain c.at.result.now.next (is_list g d) c.if-head-eq0.false (there g d) c.at.ensures.next refl c.set_use.ensures.nexts (λ j. refl) refl (listed s.slots s.slots (chains_in s.lists.items) (generations_in s.lists.items) s.waiting.items s.waiting.cap s.keep s.newest s.sound at new p.0 refl refl refl (taken_unkept new) (unheld Taken refl)) in
+    record { sound = in_place (λ chains generations. AreSound c.set_use.new.self chains generations s.waiting.items s.waiting.cap s.keep s.newest) _ _ _ _ (chains g a) (generations g a) sound }
 
 pub returns-clause-picks : goal.returns-clause-picks
 returns-clause-picks g c =

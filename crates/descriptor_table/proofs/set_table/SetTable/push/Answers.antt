@@ -27,7 +27,7 @@ invariant_of-self g c =
     let few = c.requires.room.few in
     let room = c.requires.room.waiting in
     let generation = c.generation-layout_generation.ensures in
-    record { sound = push_sound s.slots c.push.new.self (chains_in s.lists.items) (generations_in s.lists.items) s.waiting.items s.waiting.cap s.keep s.sound (put_slot g (goal.at.invariant_of-self g c).After-generation-layout_generation) refl c.push.ensures.slots c.push.ensures.nexts (record { there = c.requires.layout; before = omega arith; kept = λ kept. generation; full = unheld Taken refl }) (omega arith) (omega arith) }
+    record { sound = push_sound s.slots c.push.new.self (chains_in s.lists.items) (generations_in s.lists.items) s.waiting.items s.waiting.cap s.keep s.newest s.sound (put_slot g (goal.at.invariant_of-self g c).After-generation-layout_generation) refl c.push.ensures.slots c.push.ensures.nexts (record { there = c.requires.layout; before = omega arith; kept = λ kept. generation; full = unheld Taken refl; kept_below = omega arith }) (omega arith) (omega arith) }
 
 pub returns : goal.returns
 returns g c =

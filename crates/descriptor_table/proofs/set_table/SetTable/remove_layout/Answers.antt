@@ -31,7 +31,7 @@ pub invariant_of-self : goal.invariant_of-self
 invariant_of-self g c =
     let s = c.args.self.now in
     let a = (goal.at.invariant_of-self g c).After-index_mut in
-    record { sound = in_place (λ chains generations. AreSound s.slots chains generations s.waiting.items s.waiting.cap s.keep) _ _ _ _ (chains g a) (generations g a) (remove_sound s.slots (chains_in s.lists.items) (generations_in s.lists.items) s.waiting.items s.waiting.cap s.keep s.sound c.args.layout (within g a) c.requires.none_kept) }
+    record { sound = in_place (λ chains generations. AreSound s.slots chains generations s.waiting.items s.waiting.cap s.keep s.newest) _ _ _ _ (chains g a) (generations g a) (remove_sound s.slots (chains_in s.lists.items) (generations_in s.lists.items) s.waiting.items s.waiting.cap s.keep s.newest s.sound c.args.layout (within g a) c.requires.none_kept) }
 
 pub returns-clause-only : goal.returns-clause-only
 returns-clause-only g c =

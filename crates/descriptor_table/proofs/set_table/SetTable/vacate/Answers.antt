@@ -16,4 +16,4 @@ invariant_of-self g c =
     let generation = ap (λ o. o.generation) c.at.ensures.slot in
     let no_more = c.if-at-lt4294967295.false in
     let last : nat_lt was.generation 4294967295 ≡ false = le-ltb was.generation 4294967295 (omega arith) in
-    record { sound = out_sound s.slots c.set_use.new.self (chains_in s.lists.items) (generations_in s.lists.items) s.waiting.items s.waiting.cap s.keep s.sound p (used_for Vacant was) c.set_use.ensures.writes.slots taken.within c.set_use.ensures.nexts (nowhere_out was (subst IsNowhere (sym taken.taken) tt)) (refl, λ k. and_right (k == 0) (nat_lt was.generation 4294967295 && not (is_some was.set)) (ap (λ b. b && not (is_some was.set)) last)) refl refl (unheld Vacant refl) }
+    record { sound = out_sound s.slots c.set_use.new.self (chains_in s.lists.items) (generations_in s.lists.items) s.waiting.items s.waiting.cap s.keep s.newest s.sound p (used_for Vacant was) c.set_use.ensures.writes.slots taken.within c.set_use.ensures.nexts (nowhere_out was (subst IsNowhere (sym taken.taken) tt)) (refl, λ k. and_right (k == 0) (nat_lt was.generation 4294967295 && not (is_some was.set)) (ap (λ b. b && not (is_some was.set)) last)) refl refl refl (unheld Vacant refl) }
