@@ -249,8 +249,7 @@ CHANGE = re.compile(r"\[-(.*?)-\]|\{\+(.*?)\+\}", re.S)
 def mutants_of(path):
     """The mutants of a list, if it is there. A line 'file: PATH' is for all that follows up to the next one. A mutant
     begins with '== NAME' or '== NAME: NOTE'. A line that it changes is '~ if count > [-1-]{+2+} {', with what goes
-    and what comes; ⏎ is where a line ends, before the spaces of the next one. What goes may also be whole lines, each
-    after '- ', and what comes in their place one after '+ '."""
+    and what comes; ⏎ is where a line ends, before the spaces of the next one."""
     return read_mutants(path, []) if os.path.isfile(path) else []
 
 
@@ -281,9 +280,9 @@ def read_mutants(path, found):
         elif mark == "~" and pairs is not None:
             text = text.replace("⏎", "\n")
             pairs.append((file, *(CHANGE.sub(lambda it: it[side] or "", text) for side in (1, 2))))
-        elif mark in ("-", "old:") and pairs is not None:
-            pairs.append((file, f"{pairs.pop()[1]}\n{text}" if last == "-" else text, ""))
-        elif (last, mark) in (("-", "+"), ("old:", "new:")):
+        elif mark == "old:" and pairs is not None:
+            pairs.append((file, text, ""))
+        elif (last, mark) == ("old:", "new:"):
             pairs[-1] = (*pairs[-1][:2], text)
         elif found and mark[:-1] in found[-1].lines:
             found[-1].lines[mark[:-1]].append(text)
