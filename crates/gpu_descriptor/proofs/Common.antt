@@ -52,13 +52,12 @@ pub use Rattle.gpu_descriptor.specs.Inner.Buckets.{AreBookedIn, IsBookedIn, has_
 pub use Rattle.gpu_descriptor.specs.Inner.Grow.{IsGrown, IsTaken}
 pub use Rattle.gpu_descriptor.specs.Inner.Ids.{is_of, stored_ids}
 pub use Rattle.gpu_descriptor.specs.Inner.OpenOrdinals.{IsEntered, first_ordinal, free_in, open_ordinals}
-pub use Rattle.gpu_descriptor.specs.Inner.OpenPools.{CountsLooks, KeepsView, bucket_in, looked_at, newest_place}
 pub use Rattle.gpu_descriptor.specs.Inner.Releases.{Compares, FreesRun, IsTakenAt, Releases, bucket_back, names_of}
 pub use Rattle.gpu_descriptor.specs.Inner.RunSteps.{EndsRun, RunStep}
-pub use Rattle.gpu_descriptor.specs.Inner.Serves.{IsDeclined, IsServed, IsUnserved, ServesKey, Takes}
+pub use Rattle.gpu_descriptor.specs.Inner.Serves.{Appends, IsDeclined, IsServed, IsUnserved, ServesKey, Takes}
 pub use Rattle.gpu_descriptor.specs.Inner.SetAt.{set_at}
 pub use Rattle.gpu_descriptor.specs.Inner.Stored.{IsConsistent, books_in, bucket_of, kept_in, row_of, stored_keys}
-pub use Rattle.gpu_descriptor.specs.Inner.Walk.{Adds, HasTaken, IsAsked, IsNoMemory, IsRefused, IsWalked}
+pub use Rattle.gpu_descriptor.specs.Inner.Walk.{Adds, CountsLooks, HasTaken, IsAsked, IsNoMemory, IsRefused, IsWalked}
 pub use Rattle.gpu_descriptor.specs.Model.Cleanup.{LosesEmpty, are_named, gone_of, left_of, pools_lost, with_pools, without_empty}
 pub use Rattle.gpu_descriptor.specs.Model.Foreign.{IsForeign, IsNamed, KeepsForeign}
 pub use Rattle.gpu_descriptor.specs.Model.FreshPools.{AreFull, AreNew, AreSized, Fresh, IsFreshPrefix, IsFreshList, IsNextSize, fresh_entries, fresh_entry, fresh_portions, given_by, room_after}

@@ -4,7 +4,6 @@ pub mod Grow
 pub mod Ids
 pub mod KeyOf
 pub mod OpenOrdinals
-pub mod OpenPools
 pub mod Releases
 pub mod RunSteps
 pub mod Serves

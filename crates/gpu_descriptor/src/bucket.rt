@@ -10,7 +10,6 @@ mod existing;
 mod front;
 mod growth;
 mod numbers;
-mod open_pools;
 mod release;
 pub(crate) mod request;
 pub(crate) mod request_sink;

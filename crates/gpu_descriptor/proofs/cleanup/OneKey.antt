@@ -1,6 +1,6 @@
 -- A trim of one key, k, in the table: for `trim_layout`. es and fs are the map's entries before and after, v and w the key's bucket then.
 use Rattle.gpu_descriptor.proofs.Common.{IsDistinct, ◌≡◌, ℕ, true, if◌then◌else◌, List, length, map, slice_get, slice_get-map, option_map, None, Some, inl, inr, refl, sym, ap, ◌∙◌, cases_Bool, same_Some, Counters, Ledger, BucketKey, DescriptorBucket, State, Key, key_eq, key_of, Bucket, no_pools, Allocations}
-use Rattle.gpu_descriptor.proofs.Common.{are_named, gone_of, left_of, ledger_but, more_destroyed, without_empty, books_in, bucket_of, row_of, state_of, stored_keys}
+use Rattle.gpu_descriptor.proofs.Common.{are_named, gone_of, left_of, ledger_but, more_destroyed, without_empty, bucket_of, row_of, state_of, stored_keys}
 use Rattle.indexmap.specs.Layout.{set_value_at}
 use Rattle.gpu_descriptor.proofs.cleanup.Rotation.{none_destroyed}
 use Rattle.gpu_descriptor.proofs.request.Requested.{books_at}

@@ -1,7 +1,7 @@
 -- Cleaning up and trimming, row by row.
 -- For `sweep`, whose loop *clears* the rows of the table one after another: pools of a row that go are destroyed. Then the rows
 -- without pools are dropped. es, now and fs are the map's entries before, between and after. everywhere is true for a trim.
-use Rattle.gpu_descriptor.proofs.Common.{◌≡◌, ℕ, zero, suc, ◌+◌, ◌<◌, ◌≤◌, Bool, true, false, not, ◌==◌, List, [], ◌∷◌, ◌++◌, length, map, filter, set, take, drop, sum_by, slice_get, Option, Some, None, option_map, inl, inr, refl, sym, ap, subst, ◌∙◌, arith, eq-eqb, ne_eqb, if◌then◌else◌, fun_ext}
+use Rattle.gpu_descriptor.proofs.Common.{◌≡◌, ℕ, zero, suc, ◌+◌, ◌<◌, ◌≤◌, Bool, true, false, not, ◌==◌, List, [], ◌∷◌, ◌++◌, length, map, filter, set, take, drop, sum_by, slice_get, Option, Some, None, inl, inr, refl, sym, ap, subst, ◌∙◌, arith, eq-eqb, ne_eqb, if◌then◌else◌, fun_ext}
 use Rattle.gpu_descriptor.proofs.Common.{list_any, cases_Bool, false_from_ne_true, append-nil, drop_all, length-map, take_all, sum_by-cons, sum_by_more, get_or_from_slice_get, slice_get_within, Pool, Ledger, BucketKey, DescriptorPool, DescriptorBucket, State, Agree, Key, key_eq}
 use Rattle.gpu_descriptor.proofs.Common.{Bucket, Entry, no_pools, books_of, HasDistinctKeys, key_of, Allocations, common_steps, list_any_more, AreBookedIn, has_pools, ledger_but, more_destroyed, LosesEmpty, are_named, gone_of, left_of, pools_lost, with_pools, named_row, state_of, row_of}
 use Rattle.gpu_descriptor.proofs.Common.{bucket_of, IsConsistent, none-some, same_Some, true≢false}

@@ -1,6 +1,6 @@
 -- One run: what the device may take of the caller's iterator, and what it took.
 -- For `release_sets`. x is the run's first set, s and u are the Run before and after; e is the entry of its pool, at place p of b.
-use Rattle.gpu_descriptor.proofs.Common.{entry_at, greatest_pool_size, ◌≡◌, ℕ, ◌+◌, ◌≤◌, true, List, [], ◌∷◌, length, map, slice_get, refl, sym, ap, subst, ◌∙◌, arith, eq-eqb, Option, Some, None, Count, HoldsAlong, Yields, YieldsThen, and_from, length-map, Pool}
+use Rattle.gpu_descriptor.proofs.Common.{entry_at, ◌≡◌, ℕ, ◌≤◌, true, List, [], ◌∷◌, length, map, slice_get, refl, sym, ap, subst, ◌∙◌, arith, eq-eqb, Option, Some, None, Count, HoldsAlong, Yields, YieldsThen, and_from, length-map, Pool}
 use Rattle.gpu_descriptor.proofs.Common.{Ledger, AreLive, live_sets, CanFree, LiveSet, DescriptorSet, live_in, Key, Entry, Bucket, Run, AreBookedIn, IsTakenAt, names_of, RunStep, EndsRun, AllByRecursion, IsFinite, IsNearerEnd, OnSome, flags_of}
 use Rattle.gpu_descriptor.specs.Inner.RunSteps.{at_place}
 use Rattle.gpu_descriptor.proofs.release.BucketRun.{AreTaken, can_take, took_these, length_names, place_fits}

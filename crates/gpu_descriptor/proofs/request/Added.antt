@@ -1,7 +1,7 @@
 -- Sets that come to a key's pools keep books and ledger in agreement, and exactly they are outstanding besides (`Adds`).
 -- For request.Walking and request.Growing, which add one pool's sets after another (`added_both`): those of a pool that was asked
 -- (`added_asked`), or of a new one (`added_grown`); and for request.Outcomes, which reads the whole off them (`added_agree` ..).
-use Rattle.gpu_descriptor.proofs.Common.{common_steps, ◌≡◌, ◌≢◌, ℕ, zero, suc, ◌+◌, ◌-◌, ◌<◌, inl, inr, List, [], ◌∷◌, ◌++◌, length, Bool, true, false, ◌==◌, ◌||◌, false_from_ne_true, or_cases, or_left, list_any-append, are_named, Option, Some, None, slice_get, slice_set, option_map, refl, sym, ap, ◌∙◌, subst, arith, cases_Bool, cases_eq, cases_lt, eqb-true}
+use Rattle.gpu_descriptor.proofs.Common.{common_steps, ◌≡◌, ◌≢◌, ℕ, zero, suc, ◌+◌, ◌<◌, inl, inr, List, [], ◌∷◌, ◌++◌, length, Bool, true, false, ◌==◌, ◌||◌, false_from_ne_true, or_cases, or_left, list_any-append, are_named, Option, Some, None, slice_get, slice_set, option_map, refl, sym, ap, ◌∙◌, subst, arith, cases_Bool, cases_eq, cases_lt, eqb-true}
 use Rattle.gpu_descriptor.proofs.Common.{eqb-false, ne_eqb, if◌then◌else◌, map-set, slice_get_within, none-some, same_Some, update, update_apart, update_here, nat_eq, true≢false, Key, key_eq, Entry, Bucket, Pool, State, Item, Ledger, fresh, pool_counts, flags_of, live_sets, live_at, live_in, on_pool, times, set_of, count_of}
 use Rattle.gpu_descriptor.proofs.Common.{outstanding, entry_at, numbers_of, number_after, rises, Agree, IsAsBooked, AreBookedIn, IsBookedIn, Fresh, fresh_entry, items_at, pool_with, Adds, IsAsked, IsGrown, KeepsForeign, KeepsOtherKeys}
 use Rattle.std.specs.List.{find}

@@ -1,7 +1,7 @@
 -- What a request takes of one key, in the table of keys.
 -- For `serve`, if the key has a row, and `serve_absent`, if it has none. v and w are the key's bucket before and after.
 use Rattle.gpu_descriptor.proofs.Common.{bool_iff, ltb-true, ◌≡◌, ℕ, ◌+◌, ◌≤◌, Bool, true, false, List, [], ◌∷◌, ◌++◌, length, Option, Some, None, Result, Ok, Err, inl, inr, refl, sym, ap, ◌∙◌, subst, arith, ◌-◌, ◌&&◌, lt-ltb, map, lookup, option_map_or, nat_lt, sum_by, IsDistinct}
-use Rattle.gpu_descriptor.proofs.Common.{if◌then◌else◌, cases_Bool, sum_by-append, Meaning, Ledger, Pool, BucketKey, DescriptorSet, DescriptorBucket, Stop, Key, key_eq, Bucket, no_pools, key_of, Item, set_descriptors, books_in, bucket_of, kept_in, named_bucket, row_of, stored_keys, HasTaken, Grant, IsGrantOf, IsServed, ServesKey}
+use Rattle.gpu_descriptor.proofs.Common.{cases_Bool, sum_by-append, Meaning, Ledger, Pool, BucketKey, DescriptorSet, DescriptorBucket, Stop, Key, key_eq, Bucket, no_pools, key_of, Item, set_descriptors, books_in, bucket_of, kept_in, named_bucket, row_of, stored_keys, HasTaken, Grant, IsGrantOf, IsServed, ServesKey}
 use Rattle.gpu_descriptor.proofs.table.Exact.{key_exact}
 use Rattle.indexmap.specs.Layout.{set_value_at}
 use Rattle.gpu_descriptor.proofs.sums.Loads.{load_in, sum_put, set_descriptors-add, rows_out, rows_load}

@@ -3,7 +3,6 @@
 use Rattle.gpu_descriptor.proofs.Common.{common_steps, ◌≡◌, ℕ, ◌+◌, List, [], ◌∷◌, length, map, Bool, false, ◌==◌, Option, refl, arith, or_parts}
 use Rattle.gpu_descriptor.proofs.Common.{sum_by, sum_by-cons, sum_by-append, list_any, if◌then◌else◌, Key, Entry, Pool, Fresh, fresh_portions, Part, portion_of, came, fresh_or, Portion}
 use Rattle.gpu_descriptor.proofs.Common.{portions_of}
-use Rattle.gpu_descriptor_types.specs.Ledger as ledgers
 use Rattle.gpu_descriptor.proofs.request.Shares.{IsApart}
 
 -- ---- how many sets came from the pool of a name

@@ -1,6 +1,6 @@
 -- The books of a table, read off the entries of the map, es.
 use Rattle.gpu_descriptor.proofs.Common.{◌≡◌, ℕ, Bool, false, List, [], ◌∷◌, map, refl, sym, ap, ◌∙◌, if◌then◌else◌, list_any, IsDistinct, AllByRecursion, or_from}
-use Rattle.gpu_descriptor.proofs.Common.{BucketKey, DescriptorPool, DescriptorBucket, Key, key_eq, Entry, Bucket, HasDistinctKeys, key_of, Allocations, named_row, row_of, stored_keys}
+use Rattle.gpu_descriptor.proofs.Common.{BucketKey, DescriptorBucket, Key, key_eq, Bucket, HasDistinctKeys, key_of, Allocations, named_row, row_of, stored_keys}
 use Rattle.std.specs.Map.{keys_of as map_keys}
 use Rattle.gpu_descriptor.specs.Caller.States.{keys_of}
 use Rattle.gpu_descriptor.proofs.table.Tables.{key_eq_symm}

@@ -19,7 +19,7 @@ use Rattle.gpu_descriptor.specs.Caller.SetLists.{appended}
 use Rattle.gpu_descriptor.specs.Caller.Sets.{PutsOfLayout, items_of}
 use Rattle.gpu_descriptor.specs.Caller.States.{outstanding_of, marked_load_of, pool_load_of}
 use Rattle.gpu_descriptor.specs.Caller.Values.{Allocations}
-use Rattle.gpu_descriptor.specs.Inner.OpenPools.{CountsLooks}
+use Rattle.gpu_descriptor.specs.Inner.Walk.{CountsLooks}
 use Rattle.gpu_descriptor.specs.Inner.Stored.{books_in, row_of, stored_keys}
 use Rattle.gpu_descriptor.specs.Inner.Grow.{IsTaken}
 

@@ -12,6 +12,10 @@ use Rattle.gpu_descriptor.specs.Model.Cleanup.{are_named}
 use Rattle.gpu_descriptor.specs.Model.Grants.{Grant, IsGrantOf, items_in, bucket_with, ledger_with, pool_with}
 use Rattle.gpu_descriptor.specs.Model.Outcomes.{risen, grant_rise, stop_rise}
 
+-- looks rise by the number of pools that were asked
+abbrev pub CountsLooks : ℕ → ℕ → Ledger → Ledger → Type 0
+CountsLooks old new before after = new + before.counters.asked ≡ old + after.counters.asked
+
 -- a pool was asked for the sets still needed, or for as many as it has; or skipped, if it has no places or none is needed
 pub record IsAsked (k : Key) (wanted : ℕ) (names : List ℕ) (old new : Entry) (before after : Ledger) : Type 0 where
   -- whether it refused as fragmented or full, which only a pool that was asked does

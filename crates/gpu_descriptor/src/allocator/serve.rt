@@ -10,7 +10,7 @@ ghost use Rattle.gpu_descriptor.specs.Caller.Keys.{with_key};
 ghost use Rattle.gpu_descriptor.specs.Caller.SetLists.{appended};
 ghost use Rattle.gpu_descriptor.specs.Caller.States.{Agrees, keys_of, marked_load_of};
 ghost use Rattle.gpu_descriptor.specs.Inner.KeyOf.{key_of};
-ghost use Rattle.gpu_descriptor.specs.Inner.OpenPools.{CountsLooks};
+ghost use Rattle.gpu_descriptor.specs.Inner.Walk.{CountsLooks};
 ghost use Rattle.gpu_descriptor.specs.Inner.Serves.{Appends, IsDeclined, Takes};
 ghost use Rattle.gpu_descriptor.specs.Model.Load.{set_descriptors};
 

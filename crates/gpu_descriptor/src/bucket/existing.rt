@@ -1,8 +1,7 @@
 //! How a request takes sets from the existing pools of its key.
-ghost use Rattle.std.specs.Prelude.{◌≡◌, ◌+◌, ◌<◌, ◌++◌, ◌^◌, List, length, map};
-ghost use Rattle.std.specs.Prelude.{IfErr, OnOk, Err, None, true};
+ghost use Rattle.std.specs.Prelude.{◌≡◌, ◌+◌, ◌-◌, ◌<◌, ◌≤◌, ◌++◌, ◌∷◌, ◌^◌, List, [], length, map, take};
+ghost use Rattle.std.specs.Prelude.{IfErr, IfNone, IfSome, OnOk, Err, None, false, true};
 ghost use Rattle.std.specs.VecDeque.{deque_capacity};
-ghost use Rattle.gpu_descriptor.specs.declared.set.DescriptorSet.{DescriptorSet};
 ghost use Rattle.gpu_descriptor.specs.declared.bucket.stop.Stop.TheVariants.{ExistingPoolWithoutMemory};
 ghost use Rattle.gpu_descriptor.specs.Caller.SetLists.{appended};
 ghost use Rattle.gpu_descriptor.specs.Caller.Sets.{PutsOfLayout, items_of};
@@ -10,20 +9,20 @@ ghost use Rattle.gpu_descriptor.specs.Caller.States.{entry_of};
 ghost use Rattle.gpu_descriptor.specs.Inner.Buckets.{IsBookedIn, AreBookedIn};
 ghost use Rattle.gpu_descriptor.specs.Inner.Grow.{IsTaken};
 ghost use Rattle.gpu_descriptor.specs.Inner.KeyOf.{key_of};
-ghost use Rattle.gpu_descriptor.specs.Inner.OpenPools.{CountsLooks, IsListed, KeepsView, bucket_in};
+ghost use Rattle.gpu_descriptor.specs.Inner.OpenOrdinals.{first_ordinal};
 ghost use Rattle.gpu_descriptor.specs.Inner.Serves.{Appends};
 ghost use Rattle.gpu_descriptor.specs.Inner.SetAt.{set_at};
 ghost use Rattle.gpu_descriptor.specs.Inner.Stored.{bucket_of};
-ghost use Rattle.gpu_descriptor.specs.Inner.Walk.{IsAsked, IsNoMemory, IsWalked};
-ghost use Rattle.gpu_descriptor.specs.Model.Books.{numbers_of, rises};
+ghost use Rattle.gpu_descriptor.specs.Inner.Walk.{CountsLooks, IsAsked, IsNoMemory, IsWalked};
+ghost use Rattle.gpu_descriptor.specs.Model.Books.{numbers_of};
 
-use crate::bucket::open_pools::OpenPools;
 use crate::bucket::request::SetRequest;
 use crate::bucket::request_sink::RequestSink;
 use crate::bucket::stop::is_of_pool;
 use crate::bucket::{DescriptorBucket, DescriptorPool};
 use crate::places::SetPlaces;
 use gpu_descriptor_types::{DescriptorDevice, DeviceAllocationError, Layouts, Tally};
+use std::collections::VecDeque;
 
 /// Asks a pool with known free places for the sets still needed, or for as many as it is known to have.
 ///
@@ -48,6 +47,9 @@ fn ask<L, P, S, D: DescriptorDevice<L, P, S>, K: SetPlaces<S>>(
         (D.ledger device.old) (D.ledger device.new)) }
     ensures own { PutsOfLayout D.meaning request.now.layout.now (K.items sink.old.sets)
         (K.items sink.new.sets) }
+    ensures number { pool.new.number ≡ pool.old.number }
+    ensures left { sink.new.left ≤ sink.old.left }
+    ensures allocated { pool.new.allocated + sink.new.left ≡ pool.old.allocated + sink.old.left }
     ensures err { IfErr result (λ e. (K.items sink.new.sets ≡ K.items sink.old.sets) ×
         (sink.new.left ≡ sink.old.left) × (entry_of D.meaning.pool_name pool.new
         ≡ entry_of D.meaning.pool_name pool.old) × IsNoMemory sink.old.left
@@ -71,55 +73,23 @@ fn ask<L, P, S, D: DescriptorDevice<L, P, S>, K: SetPlaces<S>>(
     }
 }
 
-/// Asks the pools with known free places, the newest first, until no set is needed or no such pool is
-/// left.
-#[inline(always)]
-fn walk<'k, L, P, S, D: DescriptorDevice<L, P, S>, K: SetPlaces<S>>(
-    device: &mut D,
-    view: &mut OpenPools<'_, '_, '_, P>,
-    request: &'k SetRequest<'_, L, P, S, D>,
-    sink: &mut RequestSink<'k, S, K>,
-) -> Result<(), DeviceAllocationError>
-    requires booked { AreBookedIn (key_of request.now.key) (D.ledger device.old).pools
-        (map (entry_of D.meaning.pool_name) view.old.pools.now.items) }
-    requires rising { rises (numbers_of view.old.pools.now.items) ≡ true }
-    requires listed { IsListed view.old }
-    requires left { sink.old.left ≡ request.now.count }
-    ensures walked { OnOk result ((put : List (DescriptorSet S)) ×
-        (K.items sink.new.sets ≡ K.items sink.old.sets ++ put) ×
-        (length put + sink.new.left ≡ request.now.count) × IsWalked (key_of request.now.key)
-        request.now.count sink.new.left (items_of D.meaning.set_name put)
-        (bucket_in D.meaning.pool_name view.old) (bucket_in D.meaning.pool_name view.new)
-        (D.ledger device.old) (D.ledger device.new)) }
-    ensures stopped { IfErr result (λ e. (put : List (DescriptorSet S)) ×
-        (K.items sink.new.sets ≡ K.items sink.old.sets ++ put) ×
-        (length put + sink.new.left ≡ request.now.count) × IsTaken (Err (ExistingPoolWithoutMemory e))
-        None (key_of request.now.key) 0 request.now.count (items_of D.meaning.set_name put)
-        (bucket_in D.meaning.pool_name view.old) (bucket_in D.meaning.pool_name view.new)
-        (D.ledger device.old) (D.ledger device.new)) }
-    ensures own { PutsOfLayout D.meaning request.now.layout.now (K.items sink.old.sets)
-        (K.items sink.new.sets) }
-    ensures pools { length view.new.pools.now.items ≡ length view.old.pools.now.items }
-    ensures capacity { deque_capacity view.new.listed.now ≡ deque_capacity view.old.listed.now }
-    ensures listed { IsListed view.new }
-    ensures kept { KeepsView view.old view.new }
-    ensures looks { CountsLooks view.old.looks.now.count view.new.looks.now.count
-        (D.ledger device.old) (D.ledger device.new) }
+/// Takes the last ordinal out if the test holds.
+#[inline]
+fn pop_back_if(listed: &mut VecDeque<u64>, is_closed: bool)
+    ensures popped { is_closed ≡ true → listed.new.items
+        ≡ take (length listed.old.items - 1) listed.old.items }
+    ensures stays { is_closed ≡ false → listed.new.items ≡ listed.old.items }
+    ensures capacity { deque_capacity listed.new ≡ deque_capacity listed.old }
 {
-    while sink.left > 0 {
-        let Some(pool) = view.newest(&request.key, sink) else {
-            return Ok(());
-        };
-        ask(device, pool, request, sink)?;
-        if pool.available == 0 {
-            view.close_newest();
-        }
+    if is_closed {
+        let _ordinal = listed.pop_back();
     }
-    Ok(())
 }
 
 impl<P> DescriptorBucket<P> {
-    /// Takes the sets that the existing pools are known to have.
+    /// Takes the sets that the existing pools are known to have: asks those with known free places, the
+    /// newest first, until no set is needed or no such pool is left.
+    #[inline(always)]
     pub(crate) fn take_from_existing<'k, L, S, D: DescriptorDevice<L, P, S>, K: SetPlaces<S>>(
         &mut self,
         device: &mut D,
@@ -152,15 +122,33 @@ impl<P> DescriptorBucket<P> {
         ensures looks { CountsLooks looks.old.count looks.new.count
             (D.ledger device.old) (D.ledger device.new) }
     {
-        let mut view = OpenPools::new(
-            self.id,
-            self.first_ordinal(),
-            &mut self.pools,
-            &mut self.listed,
-            looks,
-        );
-        let walked = walk(device, &mut view, request, sink);
-        self.total += u64::from(request.count - sink.left);
-        walked
+        while sink.left > 0 {
+            let Some(place) = self.newest_open() else {
+                return Ok(());
+            };
+            *looks = Tally::next(looks);
+            let wanted = sink.left;
+            let pool = &mut self.pools[place];
+            sink.aim(&request.key, self.id, pool.number);
+            let asked = ask(device, pool, request, sink);
+            pop_back_if(&mut self.listed, pool.available == 0);
+            self.total += u64::from(wanted - sink.left);
+            asked?;
+        }
+        Ok(())
+    }
+
+    /// The place of the newest pool with known free places.
+    #[inline]
+    fn newest_open(&self) -> Option<usize>
+        ensures none { IfNone result (self.now.listed.items ≡ []) }
+        ensures last { IfSome result (λ place. self.now.listed.items
+            ≡ take (length self.now.listed.items - 1) self.now.listed.items
+            ++ (first_ordinal self.now.pools.items + place) ∷ []) }
+    {
+        match self.listed.back() {
+            Some(ordinal) => Some((*ordinal - self.first_ordinal()) as usize),
+            None => None,
+        }
     }
 }

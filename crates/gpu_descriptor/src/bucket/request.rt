@@ -6,7 +6,7 @@ ghost use Rattle.gpu_descriptor.specs.Caller.Sets.{items_of};
 ghost use Rattle.gpu_descriptor.specs.Inner.Buckets.{AreBookedIn};
 ghost use Rattle.gpu_descriptor.specs.Inner.Grow.{IsTaken};
 ghost use Rattle.gpu_descriptor.specs.Inner.KeyOf.{key_of};
-ghost use Rattle.gpu_descriptor.specs.Inner.OpenPools.{CountsLooks};
+ghost use Rattle.gpu_descriptor.specs.Inner.Walk.{CountsLooks};
 ghost use Rattle.gpu_descriptor.specs.Inner.Serves.{Appends, IsUnserved};
 ghost use Rattle.gpu_descriptor.specs.Inner.Stored.{bucket_of};
 ghost use Rattle.gpu_descriptor.specs.Model.Books.{number_after, numbers_of};

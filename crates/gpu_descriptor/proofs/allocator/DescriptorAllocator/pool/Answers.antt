@@ -1,4 +1,4 @@
-use Rattle.gpu_descriptor.proofs.Common.{map, option_map, ◌<◌, ◌≤◌, arith, rules, ap, sym, ◌∙◌, length, refl, inl, inr, cases_lt, slice_get_past, slice_get_read, option_copied, Allocations, Key, BucketOf, DescriptorPool, key_of, false≢true}
+use Rattle.gpu_descriptor.proofs.Common.{option_map, ◌<◌, ◌≤◌, arith, rules, ap, sym, ◌∙◌, length, refl, inl, inr, cases_lt, slice_get_past, slice_get_read, option_copied, Allocations, Key, BucketOf, DescriptorPool, key_of, false≢true}
 use Rattle.gpu_descriptor.specs.Caller.Views.{view_in}
 use Rattle.gpu_descriptor.proofs.table.Readings.{seen_at}
 use Rattle.gpu_descriptor.proofs.allocator.DescriptorAllocator.pool.Goals as goal

@@ -1,4 +1,4 @@
-use Rattle.gpu_descriptor.proofs.Common.{Agree, side, ◌≡◌, ◌++◌, ◌∷◌, [], ℕ, List, length-map, map, slice_get_within, refl, sym, ap, subst, ◌∙◌, arith, IsDistinct, Key, key_eq, key_of, layout_key, Bucket, Allocations, AreBookedIn, KeepsOutstanding, outstanding_of, marked_load_of, is_of, rises, row_of, state_of, stored_keys, without_empty}
+use Rattle.gpu_descriptor.proofs.Common.{Agree, side, ◌≡◌, ◌++◌, ◌∷◌, [], ℕ, List, length-map, map, slice_get_within, refl, sym, ap, subst, ◌∙◌, arith, IsDistinct, Key, key_eq, key_of, layout_key, Bucket, Allocations, AreBookedIn, KeepsOutstanding, outstanding_of, marked_load_of, is_of, rises, row_of, state_of, stored_keys}
 use Rattle.indexmap.specs.Layout.{set_value_at}
 use Rattle.gpu_descriptor.specs.Caller.CleansUp.{TrimsKey}
 use Rattle.gpu_descriptor.proofs.cleanup.Cleaning.{emptied_key}

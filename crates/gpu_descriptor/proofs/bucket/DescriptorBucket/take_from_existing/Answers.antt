@@ -1,131 +1,130 @@
-use Rattle.gpu_descriptor.proofs.Common.{◌≡◌, ℕ, Global, ◌+◌, ◌++◌, arith, length, sum_by, List, None, Result, Ok, Err, sym, ap, ◌∙◌, subst, map, OnOk, IfErr, length-map, Ledger, DeviceAllocationError, DescriptorSet, DescriptorPool, Bucket, Key, key_of, allocated_in, items_of, item_of}
-use Rattle.gpu_descriptor.proofs.Common.{AreBookedIn, IsTaken, bucket_in, bucket_of, entry_of, free_in, number_after, numbers_of, open_ordinals, rises, IsWalked}
-use Rattle.std.specs.declared.collections.VecDeque.{VecDeque}
-use Rattle.std.proofs.lemmas.Result.{IfErr-weaker, on_ok_weaker}
-use Rattle.gpu_descriptor.specs.declared.bucket.stop.Stop.TheVariants.{ExistingPoolWithoutMemory}
-use Rattle.gpu_descriptor.proofs.request.FreshNumbers.{numbers_walked}
-use Rattle.gpu_descriptor.proofs.request.Growing.{allocated_walked}
-use Rattle.gpu_descriptor.proofs.lists.Appended.{appended_is}
-use Rattle.gpu_descriptor.proofs.lists.Ordinals.{first_stays}
-use Rattle.gpu_descriptor.proofs.release.StoredNumbers.{numbers_stored}
+use Rattle.gpu_descriptor.proofs.Common.{◌≡◌, ℕ, ◌+◌, ◌-◌, ◌++◌, ◌∷◌, List, [], length, length-append, length-map, length-set, map, map-append, append-nil, take, slice_get, slice_set, slice_get_read, Some, refl, sym, ap, ◌∙◌, arith, inl, inr, nat_eq, cases_Bool, eqb-false, DescriptorPool, DescriptorSet, Entry, key_of, set_at, items_of, first_ordinal, number_after, numbers_of, rises}
+use Rattle.std.proofs.lemmas.List.Sums.{sum_by-set}
 use Rattle.gpu_descriptor.specs.Caller.SetLists.{appended}
-use Rattle.gpu_descriptor.proofs.table.Exact.{bucket}
-use Rattle.gpu_descriptor.proofs.sums.StoredPools.{allocated_entries}
-use Rattle.gpu_descriptor.proofs.bucket.DescriptorBucket.take_from_existing.Goals.{After-walk-walked}
+use Rattle.gpu_descriptor.proofs.lists.Appended.{appended_is, appended_more, front_more, front_stays}
+use Rattle.gpu_descriptor.proofs.request.OpenWalk.{inside, has_free, numbers_now, first_now, listed_now, open_walk_start, open_walk_more, open_walk_stop, walk_sated, walk_empty, next_is_booked, one_asked}
+use Rattle.gpu_descriptor.proofs.request.OwnLayout.{none_own}
+use Rattle.gpu_descriptor.proofs.request.Passed.{passed}
+use Rattle.gpu_descriptor.proofs.request.Walking.{walk_end, items_of-sets_at}
+use Rattle.gpu_descriptor.proofs.bucket.DescriptorBucket.take_from_existing.Goals.{After-index_mut-pool}
 use Rattle.gpu_descriptor.proofs.bucket.DescriptorBucket.take_from_existing.Goals as goal
 
-module _ {S : Type 0} (name : S → ℕ) (was : List (DescriptorSet S)) {now : List (DescriptorSet S)} (put : List (DescriptorSet S)) (is : now ≡ was ++ put) where
-  all : put ≡ appended was now
-  all = sym (appended_is was put is)
+pub loop-sink-init : goal.loop-sink-init
+loop-sink-init g c =
+    let was : List (DescriptorSet g.row.S.Denot) = g.K.SetPlaces.items c.args.sink.now.sets in
+    let none : appended was was ≡ [] = appended_is was [] (sym (append-nil was)) in
+    record {
+      appends = record { front = front_stays was [] (sym (append-nil was)); own = λ first before. before; rest = rw none (let left = c.requires.left in omega arith) };
+      id_stays = refl;
+      numbers_stay = refl;
+      total = rw none (omega arith);
+      walk = rw (none, c.requires.left) (open_walk_start g.D.DescriptorDevice.meaning.pool_name (key_of c.args.request.now.key) c.args.request.now.count c.args.self.now (g.D.DescriptorDevice.ledger c.args.device.now) c.requires.booked);
+      looks = refl;
+    }
 
-  module _ {k : Key} {n : ℕ} {old older new newer : Bucket} {l m : Ledger} (first : old ≡ older) (last : new ≡ newer) where
-    walked_as : {needed : ℕ} → IsWalked k n needed (items_of name put) old new l m → IsWalked k n needed (items_of name (appended was now)) older newer l m
-    walked_as w = rw (sym first, sym last, sym all) w
-
-    stopped_as : {error : DeviceAllocationError} → IsTaken (Err (ExistingPoolWithoutMemory error)) None k 0 n (items_of name put) old new l m → IsTaken (Err (ExistingPoolWithoutMemory error)) None k 0 n (items_of name (appended was now)) older newer l m
-    stopped_as t = rw (sym first, sym last, sym all) t
-
--- the bucket before and after, as the view has it
-was_bucket : (g : _) (c : After-walk-walked g) → bucket_in g.D.DescriptorDevice.meaning.pool_name c.new-view.result ≡ bucket_of g.D.DescriptorDevice.meaning.pool_name c.args.self.now
-was_bucket g c = λ i. bucket (c.new-view.ensures.id i) (map (entry_of g.D.DescriptorDevice.meaning.pool_name) (c.new-view.ensures.pools i).items)
-
-is_bucket : (g : _) (c : After-walk-walked g) → bucket_in g.D.DescriptorDevice.meaning.pool_name c.walk-walked.new.view ≡ bucket c.args.self.now.id (map (entry_of g.D.DescriptorDevice.meaning.pool_name) c.walk-walked.new.view.pools.now.items)
-is_bucket g c = λ i. bucket ((c.walk-walked.ensures.kept.4 ∙ c.new-view.ensures.id) i) (map (entry_of g.D.DescriptorDevice.meaning.pool_name) c.walk-walked.new.view.pools.now.items)
-
-pub walk-walked-requires-clause-booked : goal.walk-walked-requires-clause-booked
-walk-walked-requires-clause-booked g c =
-    subst
-    (λ (q : VecDeque (DescriptorPool g.row.P.Denot) Global).
-    AreBookedIn (key_of c.args.request.now.key) (g.D.DescriptorDevice.ledger c.args.device.now).pools
-    (map (entry_of g.D.DescriptorDevice.meaning.pool_name) q.items))
-    (sym c.new-view.ensures.pools) c.requires.booked
-
-pub walk-walked-requires-clause-rising : goal.walk-walked-requires-clause-rising
-walk-walked-requires-clause-rising g c = ap (λ (q : VecDeque (DescriptorPool g.row.P.Denot) Global). rises (numbers_of q.items)) c.new-view.ensures.pools ∙ c.args.self.now.rising
+pub returns-in_default-clause-walked : goal.returns-in_default-clause-walked
+returns-in_default-clause-walked g c = walk_end c.loop-sink.invariant.id_stays (walk_empty c.requires.booked c.loop-sink.invariant.walk c.in_default.ensures.none)
 
 pub returns-clause-walked : goal.returns-clause-walked
-returns-clause-walked g c =
-    let at = (goal.at.returns-clause-walked g c).After-walk-walked in
-    on_ok_weaker c.walk-walked.result (λ p. walked_as g.D.DescriptorDevice.meaning.set_name (g.K.SetPlaces.items c.args.sink.now.sets) p.0 p.1 (was_bucket g at) (is_bucket g at) p.3) c.walk-walked.ensures.walked
+returns-clause-walked g c = walk_end c.loop-sink.invariant.id_stays (walk_sated c.requires.booked c.loop-sink.invariant.walk (let none = c.loop-sink-test.false in omega arith))
 
-pub returns-clause-stopped : goal.returns-clause-stopped
-returns-clause-stopped g c =
-    let at = (goal.at.returns-clause-stopped g c).After-walk-walked in
-    IfErr-weaker c.walk-walked.result _ _ (λ error p. stopped_as g.D.DescriptorDevice.meaning.set_name (g.K.SetPlaces.items c.args.sink.now.sets) p.0 p.1 (was_bucket g at) (is_bucket g at) p.3) c.walk-walked.ensures.stopped
+pub index_mut-pool-requires : goal.index_mut-pool-requires
+index_mut-pool-requires g c = (let here = inside c.loop-sink.self _ _ c.in-Some.ensures.last in omega (arith, c.loop-sink.self.pools.ok.0))
 
--- as many more are allocated as came, and the pools keep their numbers
-module _ {S : Type 0} (name : S → ℕ) (was now : List (DescriptorSet S)) where
-  long : (put : List (DescriptorSet S)) → now ≡ was ++ put → length (items_of name put) ≡ length (appended was now)
-  long put is = length-map put (item_of name) ∙ ap length (all name was put is)
+-- the pool that is asked
+module _ (g : _) (c : After-index_mut-pool g) where
+  at : slice_get c.loop-sink.self.pools.items c.in-Some.place ≡ Some c.index_mut-pool.result.now
+  at = slice_get_read c.loop-sink.self.pools.items (length c.loop-sink.self.pools.items) c.in-Some.place c.index_mut-pool.result.now refl (inside c.loop-sink.self _ _ c.in-Some.ensures.last) c.index_mut-pool.ensures.value
 
-  module _ (k : Key) (n left : ℕ) (old new : Bucket) (l m : Ledger) where
-    more : (r : Result (Unit {0}) DeviceAllocationError)
-        → OnOk r ((put : List (DescriptorSet S)) × (now ≡ was ++ put) × (length put + left ≡ n) × IsWalked k n left (items_of name put) old new l m)
-        → IfErr r (λ e. (put : List (DescriptorSet S)) × (now ≡ was ++ put) × (length put + left ≡ n) × IsTaken (Err (ExistingPoolWithoutMemory e)) None k 0 n (items_of name put) old new l m)
-        → (allocated_in new.pools ≡ allocated_in old.pools + length (appended was now)) × (length (appended was now) + left ≡ n) × (numbers_of new.pools ≡ numbers_of old.pools)
-    more (Ok done) walked stopped = (
-      allocated_walked k n walked.3.grant old new l m _ walked.3.taken walked.3.no_fresh ∙ ap (λ j. allocated_in old.pools + j) (long walked.0 walked.1),
-      ap (λ (xs : List (DescriptorSet S)). length xs + left) (sym (all name was walked.0 walked.1)) ∙ walked.2,
-      numbers_walked k n walked.3.grant _ old new l m walked.3.taken walked.3.no_fresh,
-    )
-    more (Err e) walked stopped = (
-      allocated_walked k n stopped.3.0 old new l _ _ stopped.3.2 stopped.3.3.no_fresh ∙ ap (λ j. allocated_in old.pools + j) (long stopped.0 stopped.1),
-      ap (λ (xs : List (DescriptorSet S)). length xs + left) (sym (all name was stopped.0 stopped.1)) ∙ stopped.2,
-      numbers_walked k n stopped.3.0 _ old new l _ stopped.3.2 stopped.3.3.no_fresh,
-    )
+  same : (q : DescriptorPool g.row.P.Denot) → q.number ≡ c.index_mut-pool.result.now.number → numbers_of (slice_set c.loop-sink.self.pools.items c.in-Some.place q) ≡ numbers_of c.loop-sink.self.pools.items
+  same q number = numbers_now c.loop-sink.self _ _ c.in-Some.ensures.last _ at q number
 
-module _ (g : _) (c : After-walk-walked g) where
-  abbrev pool_name : g.row.P.Denot → ℕ
-  pool_name = g.D.DescriptorDevice.meaning.pool_name
+pub ask-asked-requires-clause-booked : goal.ask-asked-requires-clause-booked
+ask-asked-requires-clause-booked g c = next_is_booked c.requires.booked c.loop-sink.invariant.walk c.loop-sink-test.true _ _ c.in-Some.ensures.last _ (at g (goal.at.ask-asked-requires-clause-booked g c).After-index_mut-pool)
 
-  abbrev new : List (DescriptorPool g.row.P.Denot)
-  new = c.walk-walked.new.view.pools.now.items
+pub ask-asked-requires-clause-free : goal.ask-asked-requires-clause-free
+ask-asked-requires-clause-free g c = has_free c.loop-sink.self _ _ c.in-Some.ensures.last _ (at g (goal.at.ask-asked-requires-clause-free g c).After-index_mut-pool)
 
-  abbrev came : ℕ
-  came = length (appended (g.K.SetPlaces.items c.args.sink.now.sets) (g.K.SetPlaces.items c.walk-walked.new.sink.sets))
+pub invariant_of-self : goal.invariant_of-self
+invariant_of-self g c =
+    let at = at g (goal.at.invariant_of-self g c).After-index_mut-pool in
+    let b = c.loop-sink.self in
+    let last = c.in-Some.ensures.last in
+    let p = c.index_mut-pool.result.now in
+    let q = c.ask-asked.new.pool in
+    let number = c.ask-asked.ensures.number in
+    let same = numbers_now b _ _ last p at q number in
+    record {
+      ordinal = b.ordinal ∙ sym (first_now b _ _ last p at q number);
+      numbered = (let next = ap number_after same in let fits = b.numbered in omega arith);
+      rising = ap rises same ∙ b.rising;
+      counted = (
+          let put = sum_by-set (λ (p : DescriptorPool g.row.P.Denot). p.allocated) b.pools.items c.in-Some.place q p (inside b _ _ last) in
+          let is = ap (λ (p : DescriptorPool g.row.P.Denot). p.allocated) c.index_mut-pool.ensures.value in
+          let total = b.counted in
+          let came = c.from.ensures in
+          let more = c.ask-asked.ensures.allocated in
+          let few = c.ask-asked.ensures.left in
+          let left = c.aim.ensures.left in
+          omega arith);
+      «open» = listed_now b _ _ last p at q number c.pop_back_if.new.listed.items c.pop_back_if.ensures.popped c.pop_back_if.ensures.stays;
+      capacity = (let long = length-set b.pools.items c.in-Some.place q in let is = c.pop_back_if.ensures.capacity in let fits = b.capacity in omega arith);
+    }
 
-  given : (allocated_in (map (entry_of pool_name) new) ≡ allocated_in (map (entry_of pool_name) c.new-view.result.pools.now.items) + came) × (came + c.walk-walked.new.sink.left ≡ c.args.request.now.count)
-      × (numbers_of (map (entry_of pool_name) new) ≡ numbers_of (map (entry_of pool_name) c.new-view.result.pools.now.items))
-  given =
-      more g.D.DescriptorDevice.meaning.set_name (g.K.SetPlaces.items c.args.sink.now.sets) (g.K.SetPlaces.items c.walk-walked.new.sink.sets) (key_of c.args.request.now.key) c.args.request.now.count c.walk-walked.new.sink.left
-      (bucket_in pool_name c.new-view.result) (bucket_in pool_name c.walk-walked.new.view) (g.D.DescriptorDevice.ledger c.args.device.now) (g.D.DescriptorDevice.ledger c.walk-walked.new.device) c.walk-walked.result c.walk-walked.ensures.walked c.walk-walked.ensures.stopped
+pub loop-sink-smaller : goal.loop-sink-smaller
+loop-sink-smaller g c =
+    let q = c.ask-asked.new.pool in
+    let last = c.in-Some.ensures.last in
+    let long = ap length last ∙ length-append (take (length c.loop-sink.self.listed.items - 1) c.loop-sink.self.listed.items) ((first_ordinal c.loop-sink.self.pools.items + c.in-Some.place) ∷ []) in
+    let got = rw c.aim.ensures.left at c.in_ok-asked.ensures.asked in
+    let less = got.2 in
+    let each = length-map got.0 g.D.DescriptorDevice.meaning.set_name in
+    let many = got.3.many in
+    let is = ap (λ (e : Entry). e.available) got.3.entry in
+    elim (cases_Bool (nat_eq q.available 0)) [
+      | inl none ↦ (let now = ap length (c.pop_back_if.ensures.popped none) in omega arith)
+      | inr some ↦ (let now = ap length (c.pop_back_if.ensures.stays some) in let has = eqb-false q.available 0 some in omega arith)
+    ]
 
-  numbers_stay : numbers_of new ≡ numbers_of c.args.self.now.pools.items
-  numbers_stay =
-      sym (numbers_stored pool_name new) ∙ given.2 ∙ numbers_stored pool_name c.new-view.result.pools.now.items
-      ∙ ap (λ (q : VecDeque (DescriptorPool g.row.P.Denot) Global). numbers_of q.items) c.new-view.ensures.pools
+pub loop-sink-preserved : goal.loop-sink-preserved
+loop-sink-preserved g c =
+    let r = (goal.at.loop-sink-preserved g c).After-index_mut-pool in
+    let inv = c.loop-sink.invariant in
+    let b = c.loop-sink.self in
+    let p = c.index_mut-pool.result.now in
+    let name = g.D.DescriptorDevice.meaning.set_name in
+    let aim = c.aim.ensures in
+    let got = rw (aim.sets, aim.left, aim.key, aim.id, aim.number) at c.in_ok-asked.ensures.asked in
+    let was : List (DescriptorSet g.row.S.Denot) = g.K.SetPlaces.items c.args.sink.now.sets in
+    let now : List (DescriptorSet g.row.S.Denot) = g.K.SetPlaces.items c.loop-sink.sink.sets in
+    let put : List (DescriptorSet g.row.S.Denot) = map (set_at (key_of c.args.request.now.key) b.id p.number) got.0 in
+    let more = appended_more was now put inv.appends.front got.1 in
+    let long = ap length more ∙ length-append (appended was now) put in
+    let each = length-map got.0 (set_at (key_of c.args.request.now.key) b.id p.number) in
+    let asked_one = one_asked c.requires.booked inv.walk c.loop-sink-test.true _ _ c.in-Some.ensures.last p (at g r) c.ask-asked.new.pool got.3 in
+    record {
+      appends = record {
+        front = front_more was now put inv.appends.front got.1;
+        own = λ first before. c.in_ok-asked.ensures.own first (none_own g.D.DescriptorDevice.meaning c.args.request.now.layout.now (ap g.K.SetPlaces.items aim.sets) first (inv.appends.own first before));
+        rest = (let a = inv.appends.rest in let less = got.2 in omega arith);
+      };
+      id_stays = inv.id_stays;
+      numbers_stay = same g r c.ask-asked.new.pool c.in_ok-asked.ensures.number ∙ inv.numbers_stay;
+      total = (let a = inv.total in let less = got.2 in let came = c.from.ensures in omega arith);
+      walk = open_walk_more c.requires.booked inv.walk c.loop-sink-test.true _ _ c.in-Some.ensures.last p (at g r) c.ask-asked.new.pool _ refl refl
+          (ap (items_of name) more ∙ map-append _ (appended was now) put ∙ ap (λ x. items_of name (appended was now) ++ x) (items_of-sets_at name (key_of c.args.request.now.key) b.id p.number got.0)) got.3
+          (ap (λ (n : ℕ). c.ask-asked.new.sink.left + n) (length-map got.0 name) ∙ got.2);
+      looks = (let a = inv.looks in let b = c.next.ensures in omega arith);
+    }
 
-pub returns-clause-numbers_stay : goal.returns-clause-numbers_stay
-returns-clause-numbers_stay g c = numbers_stay g (goal.at.returns-clause-numbers_stay g c).After-walk-walked
+pub returns-in_err-asked-clause-stopped : goal.returns-in_err-asked-clause-stopped
+returns-in_err-asked-clause-stopped g c =
+    let r = (goal.at.returns-in_err-asked-clause-stopped g c).After-index_mut-pool in
+    let inv = c.loop-sink.invariant in
+    let aim = c.aim.ensures in
+    let err = rw (aim.sets, aim.left) at c.in_err-asked.ensures.err in
+    rw (passed c.from_residual.result c.in_err-asked.field-0.0 c.from_residual.ensures.1, err.0)
+    (open_walk_stop c.requires.booked inv.walk c.loop-sink-test.true _ _ c.in-Some.ensures.last _ (at g r) c.ask-asked.new.pool inv.id_stays err.2 err.3)
 
-pub invariant_of-self-clause-ordinal : goal.invariant_of-self-clause-ordinal
-invariant_of-self-clause-ordinal g c =
-    let at = (goal.at.invariant_of-self-clause-ordinal g c).After-walk-walked in
-    c.args.self.now.ordinal ∙ sym (first_stays c.args.self.now.pools.items (new g at) (numbers_stay g at))
-
-pub invariant_of-self-clause-numbered : goal.invariant_of-self-clause-numbered
-invariant_of-self-clause-numbered g c =
-    let same = ap number_after (numbers_stay g (goal.at.invariant_of-self-clause-numbered g c).After-walk-walked) in
-    let fits = c.args.self.now.numbered in
-    omega arith
-
-pub invariant_of-self-clause-rising : goal.invariant_of-self-clause-rising
-invariant_of-self-clause-rising g c = ap rises (numbers_stay g (goal.at.invariant_of-self-clause-rising g c).After-walk-walked) ∙ c.args.self.now.rising
-
-pub invariant_of-self-clause-open : goal.invariant_of-self-clause-open
-invariant_of-self-clause-open g c =
-    let at = (goal.at.invariant_of-self-clause-open g c).After-walk-walked in
-    let first = c.walk-walked.ensures.kept.0 ∙ c.new-view.ensures.offset ∙ c.first_ordinal.ensures.first ∙ sym (first_stays c.args.self.now.pools.items (new g at) (numbers_stay g at)) in
-    c.walk-walked.ensures.listed ∙ ap (λ (i : ℕ). open_ordinals i (free_in (new g at))) first
-
-pub invariant_of-self-clause-counted : goal.invariant_of-self-clause-counted
-invariant_of-self-clause-counted g c =
-    let name = g.D.DescriptorDevice.meaning.pool_name in
-    let given = given g (goal.at.invariant_of-self-clause-counted g c).After-walk-walked in
-    let was = allocated_entries name c.new-view.result.pools.now.items ∙ ap (λ (q : VecDeque (DescriptorPool g.row.P.Denot) Global). sum_by (λ (p : DescriptorPool g.row.P.Denot). p.allocated) q.items) c.new-view.ensures.pools in
-    let is = allocated_entries name c.walk-walked.new.view.pools.now.items in
-    let total = c.args.self.now.counted in
-    let came = c.from.ensures in
-    let many = given.1 in
-    let rise = given.0 in
-    omega arith
+pub returns-in_err-asked-clause-numbers_stay : goal.returns-in_err-asked-clause-numbers_stay
+returns-in_err-asked-clause-numbers_stay g c = same g (goal.at.returns-in_err-asked-clause-numbers_stay g c).After-index_mut-pool c.ask-asked.new.pool c.in_err-asked.ensures.number ∙ c.loop-sink.invariant.numbers_stay
