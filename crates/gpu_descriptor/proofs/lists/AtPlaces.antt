@@ -1,7 +1,7 @@
 -- What stands at the places of a list.
-use Rattle.gpu_descriptor.proofs.Common.{common_steps, ◌≡◌, ◌≢◌, ℕ, zero, suc, ◌-◌, ◌<◌, slice_index, inl, inr, List, [], ◌∷◌, ◌++◌, length, take, slice_set, Bool, true, false, Some, None, refl, sym, ap, ◌∙◌, arith, drop, ◌+◌, or_cases, or_left, or_right, slice_get, list_any, ◌⊎◌, true≢false}
+use Rattle.gpu_descriptor.proofs.Common.{◌≡◌, ◌≢◌, ℕ, zero, suc, ◌<◌, inl, inr, List, [], ◌∷◌, ◌++◌, length, take, slice_set, Bool, true, false, Some, None, refl, sym, ap, ◌∙◌, arith, drop, ◌+◌, or_cases, or_left, or_right, slice_get, list_any, ◌⊎◌, true≢false}
 use Rattle.gpu_descriptor.proofs.Common.{get_or_from_slice_get, slice_get_within, length-take-le, set-get_or, ◌≤◌, count_by, count_by_no, count_by_yes, Option, cases_Bool, or_from, if◌then◌else◌}
-use Rattle.std.proofs.Math.Seq.{get_or-append_seam, take-suc}
+use Rattle.std.proofs.Math.Seq.{take-suc}
 
 pub cases_option : {A : Type 0} (o : Option A) → (o ≡ None) ⊎ ((x : A) × (o ≡ Some x))
 cases_option None = inl refl
@@ -102,7 +102,3 @@ pub get_some : {A : Type 0} (xs : List A) (i : ℕ) → i < length xs → (x : A
 get_some [] i lt = absurd (omega arith)
 get_some (x ∷ xs) zero lt = (x, refl)
 get_some (x ∷ xs) (suc i) lt = get_some xs i (omega arith)
-
--- the last of some numbers
-pub last_index : (xs front : List ℕ) (n : ℕ) → xs ≡ front ++ n ∷ [] → slice_index xs (length xs - 1) ≡ n
-last_index xs front n is = grind (arith, common_steps, get_or-append_seam)

@@ -42,7 +42,3 @@ module _ (k : Key) (n : ℕ) (g : Grant) (items : List Item) (old new : Bucket) 
   -- each new pool takes one number
   pub next_taken : next_number new ≡ next_number old + length g.fresh
   next_taken = ap number_after numbers_now ∙ next_fresh (next_number old) g.fresh (numbers_of old.pools) refl
-
-  -- a walk adds no pool
-  pub numbers_walked : g.fresh ≡ [] → numbers_of new.pools ≡ numbers_of old.pools
-  numbers_walked none = numbers_now ∙ ap (λ (fs : List Fresh). numbers_of old.pools ++ numbers_of (fresh_entries (next_number old) fs)) none ∙ append-nil (numbers_of old.pools)

@@ -1,8 +1,8 @@
 -- The new pools of a request, as far as it has come.
 -- For `take`: Growing is the invariant of its loop, from after the walk (`grow_start`) to the end or a stop.
 -- `_more`: with one new pool more at the end. `_now`: with the new pool f, named q, which gave the sets more; m' is the ledger then.
-use Rattle.gpu_descriptor.proofs.Common.{common_steps, ◌≡◌, ℕ, zero, suc, take, drop, ◌+◌, ◌-◌, ◌<◌, List, [], ◌∷◌, ◌++◌, length, map, Bool, true, false, cond, ◌==◌, nat_eq, Option, Some, None, Ok, Err, refl, sym, ap, ◌∙◌, subst, arith, eqb-true, eq-eqb, fun_ext, nil_from_length, eqb-false, pools_load}
-use Rattle.gpu_descriptor.proofs.Common.{map-append, append-nil, sum_by-cons, sum_by-append, list_any, update, if◌then◌else◌, option_map, Item, flags_of, Key, Entry, Bucket, Pool, Ledger, live_sets, on_pool, or_from, or_parts, pool_counts, Stop, list_any-append, Fresh, fresh_portions}
+use Rattle.gpu_descriptor.proofs.Common.{common_steps, ◌≡◌, ℕ, take, drop, ◌+◌, ◌-◌, ◌<◌, List, [], ◌∷◌, ◌++◌, length, map, Bool, true, false, cond, ◌==◌, nat_eq, Option, Some, None, Ok, Err, refl, sym, ap, ◌∙◌, subst, arith, eqb-true, eq-eqb, fun_ext, nil_from_length, eqb-false, pools_load}
+use Rattle.gpu_descriptor.proofs.Common.{map-append, sum_by-cons, sum_by-append, list_any, update, if◌then◌else◌, option_map, Item, flags_of, Key, Entry, Bucket, Pool, Ledger, live_sets, on_pool, or_from, or_parts, pool_counts, Stop, list_any-append, Fresh, fresh_portions}
 use Rattle.gpu_descriptor.proofs.Common.{fresh_entries, fresh_entry, number_after, numbers_of, given_by, IsNextSize, room_after, AreSized, AreFull, AreNew, IsFreshPrefix, IsFreshList, Grant, Part, items_at, portion_of, came, pool_with, ledger_with, fresh_or, IsGrown, IsTaken, IsRefused}
 use Rattle.gpu_descriptor.proofs.Common.{allocated_in, pool_descriptors, risen, grant_rise, StopsAtNew, StopsAt, rest, all_shared, portions_of, Adds, AreBookedIn, HasTaken, IsWalked}
 use Rattle.gpu_descriptor.specs.declared.bucket.stop.Stop.TheVariants as stop
@@ -10,7 +10,6 @@ use Rattle.gpu_descriptor_types.specs.Ledger as ledgers
 use Rattle.gpu_descriptor.specs.Model.FreshPools as grants
 use Rattle.gpu_descriptor.proofs.request.FreshNumbers.{fresh_entries_more, next_taken}
 use Rattle.gpu_descriptor.proofs.request.NextSize.{room_more}
-use Rattle.gpu_descriptor.proofs.request.Promises.{length_items, shares_sum, sum_given}
 use Rattle.gpu_descriptor.proofs.table.Exact.{bucket}
 use Rattle.gpu_descriptor.proofs.request.Added.{added_both, added_grown}
 use Rattle.gpu_descriptor.proofs.request.Asks.{none_with, same_counters}
@@ -217,31 +216,6 @@ grow_stop why {bound} {k} {start} {n} {id} {old = old} {m = m} some s same_sets 
     stops_at (stop.ExistingPoolWithoutMemory e) front none = absurd none
     stops_at why front none = (refl, front, none)
 
--- ---- the descriptors of a key's pools, as a request goes on
-
--- a new pool adds its descriptors, and what existing ones give adds none
+-- a new pool adds its descriptors to those of the key's pools
 pub load_more : (k : Key) (number : ℕ) (es : List Entry) (f : Fresh) → pools_load k (es ++ fresh_entry number f ∷ []) ≡ pools_load k es + pool_descriptors k f.size
 load_more k number es f = sum_by-append (λ (e : Entry). pool_descriptors k e.capacity) es (fresh_entry number f ∷ []) ∙ (let one : pools_load k (fresh_entry number f ∷ []) ≡ pool_descriptors k f.size = omega arith in omega arith)
-
-load_split : (k : Key) (refused : ℕ → Bool) (n i : ℕ) (es : List Entry) → pools_load k (take i es ++ all_shared refused n (drop i es)) ≡ pools_load k es
-load_split k refused n zero [] = refl
-load_split k refused n zero (e ∷ newer) = grind (arith, common_steps, sum_by-cons, (load_split k refused n zero newer))
-load_split k refused n (suc i) [] = refl
-load_split k refused n (suc i) (e ∷ es) = grind (arith, common_steps, sum_by-cons, (load_split k refused n i es))
-
--- a walk adds no pool
-walked_entries : (k : Key) (n : ℕ) (g : Grant) (old new : Bucket) (l m : Ledger) (items : List Item) → HasTaken k n g items old new l m → g.fresh ≡ [] → new.pools ≡ take g.skipped old.pools ++ all_shared g.refused n (drop g.skipped old.pools)
-walked_entries k n g old new l m items taken none = ap (λ (b : Bucket). b.pools) taken.bucket ∙ rw none (append-nil (take g.skipped old.pools ++ all_shared g.refused n (drop g.skipped old.pools)))
-
--- a walk leaves it
-pub load_walked : (k : Key) (n : ℕ) (g : Grant) (old new : Bucket) (l m : Ledger) (items : List Item) → HasTaken k n g items old new l m → g.fresh ≡ [] → pools_load k new.pools ≡ pools_load k old.pools
-load_walked k n g old new l m items taken none = ap (pools_load k) (walked_entries k n g old new l m items taken none) ∙ load_split k g.refused n g.skipped old.pools
-
--- and as many more are allocated as came
-allocated_split : (refused : ℕ → Bool) (n i : ℕ) (es : List Entry) → allocated_in (take i es ++ all_shared refused n (drop i es)) ≡ allocated_in es + sum_given (portions_of refused n (drop i es))
-allocated_split refused n zero es = (let a = allocated_shared refused n es in let b = shares_sum refused n es in omega arith)
-allocated_split refused n (suc i) [] = refl
-allocated_split refused n (suc i) (e ∷ es) = grind (arith, common_steps, sum_by-cons, (allocated_split refused n i es))
-
-pub allocated_walked : (k : Key) (n : ℕ) (g : Grant) (old new : Bucket) (l m : Ledger) (items : List Item) → HasTaken k n g items old new l m → g.fresh ≡ [] → allocated_in new.pools ≡ allocated_in old.pools + length items
-allocated_walked k n g old new l m items taken none = grind (arith, common_steps, allocated_split, append-nil, length_items, walked_entries)

@@ -1,5 +1,6 @@
 -- The descriptors of a key's pools, as the code has them.
-use Rattle.gpu_descriptor.proofs.Common.{◌++◌, sum_by-append, ◌≡◌, ◌+◌, ◌<◌, List, [], ◌∷◌, length, drop, get_or, ap, arith, sum_by-cons, DescriptorPool, Key, pool_descriptors, pools_load, ℕ, zero, suc, set, common_steps}
+use Rattle.gpu_descriptor.proofs.Common.{◌++◌, sum_by-append, ◌≡◌, ◌+◌, ◌<◌, List, [], ◌∷◌, length, drop, get_or, ap, arith, sum_by-cons, DescriptorPool, Key, pool_descriptors, pools_load, ℕ, set}
+use Rattle.std.proofs.lemmas.List.Sums.{sum_by-set}
 
 module _ {P : Type 0} (k : Key) where
   cons : (p : DescriptorPool P) (ps : List (DescriptorPool P)) → pools_load k (p ∷ ps) ≡ pool_descriptors k p.capacity + pools_load k ps
@@ -16,8 +17,9 @@ module _ {P : Type 0} (k : Key) where
   stored_one p = (let sum = cons p [] in omega arith)
 
   -- counts move
-  pub stored_put : (items : List (DescriptorPool P)) (i : ℕ) (q : DescriptorPool P) (raw : P) (allocated available : ℕ) → i < length items → q ≡ get_or items i q
-      → pools_load k (set items i (record { pool = raw; number = q.number; capacity = q.capacity; allocated = allocated; available = available })) ≡ pools_load k items
-  stored_put [] i q raw allocated available within is = absurd (omega arith)
-  stored_put (x ∷ items) zero q raw allocated available within is = grind arith
-  stored_put (x ∷ items) (suc i) q raw allocated available within is = grind (arith, common_steps)
+  pub stored_put : (items : List (DescriptorPool P)) (i : ℕ) (q new : DescriptorPool P) → i < length items → q ≡ get_or items i q → new.capacity ≡ q.capacity → pools_load k (set items i new) ≡ pools_load k items
+  stored_put items i q new within is same =
+      let put = sum_by-set (λ (p : DescriptorPool P). pool_descriptors k p.capacity) items i new q within in
+      let was : pool_descriptors k q.capacity ≡ pool_descriptors k (get_or items i q).capacity = ap (λ (p : DescriptorPool P). pool_descriptors k p.capacity) is in
+      let now = ap (pool_descriptors k) same in
+      omega arith

@@ -15,6 +15,7 @@ ghost use Rattle.gpu_descriptor.specs.Inner.SetAt.{set_at};
 ghost use Rattle.gpu_descriptor.specs.Inner.Stored.{bucket_of};
 ghost use Rattle.gpu_descriptor.specs.Inner.Walk.{CountsLooks, IsAsked, IsNoMemory, IsWalked};
 ghost use Rattle.gpu_descriptor.specs.Model.Books.{numbers_of};
+ghost use Rattle.gpu_descriptor.specs.Model.Load.{pools_load};
 
 use crate::bucket::request::SetRequest;
 use crate::bucket::request_sink::RequestSink;
@@ -48,6 +49,7 @@ fn ask<L, P, S, D: DescriptorDevice<L, P, S>, K: SetPlaces<S>>(
     ensures own { PutsOfLayout D.meaning request.now.layout.now (K.items sink.old.sets)
         (K.items sink.new.sets) }
     ensures number { pool.new.number ≡ pool.old.number }
+    ensures capacity { pool.new.capacity ≡ pool.old.capacity }
     ensures left { sink.new.left ≤ sink.old.left }
     ensures allocated { pool.new.allocated + sink.new.left ≡ pool.old.allocated + sink.old.left }
     ensures err { IfErr result (λ e. (K.items sink.new.sets ≡ K.items sink.old.sets) ×
@@ -119,6 +121,8 @@ impl<P> DescriptorBucket<P> {
             ≡ numbers_of self.old.pools.items }
         ensures total { self.new.total ≡ self.old.total
             + length (appended (K.items sink.old.sets) (K.items sink.new.sets)) }
+        ensures load { pools_load (key_of request.now.key) self.new.pools.items
+            ≡ pools_load (key_of request.now.key) self.old.pools.items }
         ensures looks { CountsLooks looks.old.count looks.new.count
             (D.ledger device.old) (D.ledger device.new) }
     {

@@ -230,6 +230,4 @@ returns-clause-compares g c =
 pub returns-clause-load : goal.returns-clause-load
 returns-clause-load g c = λ k.
     let r = (goal.at.returns-clause-load g c).After-index_mut-pool in
-    stored_put k c.args.self.now.pools.items c.place_of_pool-place.result c.index_mut-pool.result.now
-    c.dealloc_descriptor_sets.new.pool (c.index_mut-pool.result.now.allocated - c.finish-count.result)
-    (c.index_mut-pool.result.now.available + c.finish-count.result) (is_at g r).within c.index_mut-pool.ensures.value
+    stored_put k c.args.self.now.pools.items c.place_of_pool-place.result c.index_mut-pool.result.now _ (is_at g r).within c.index_mut-pool.ensures.value refl

@@ -1,35 +1,21 @@
-use Rattle.gpu_descriptor.proofs.Common.{◌≡◌, ℕ, ◌+◌, ◌≤◌, ◌++◌, List, length, map, sym, ap, ◌∙◌, arith, Result, Ok, OnOk, IfErr, true, false, length-append, [], ◌∷◌, None, Err, length-map, map-append, Ledger, DeviceAllocationError, DescriptorPool, DescriptorSet, Item, Entry, Key}
-use Rattle.gpu_descriptor.proofs.Common.{key_of, set_at, fresh_entry, items_at, items_of, IsTaken, entry_of, number_after, numbers_of, pools_load, IsWalked}
+use Rattle.gpu_descriptor.proofs.Common.{◌≡◌, ℕ, ◌+◌, ◌≤◌, ◌++◌, List, length, map, sym, ap, ◌∙◌, arith, Result, Ok, OnOk, true, length-append, [], ◌∷◌, Err, length-map, map-append, DescriptorPool, DescriptorSet, Item, Entry, Key}
+use Rattle.gpu_descriptor.proofs.Common.{key_of, set_at, fresh_entry, items_at, items_of, entry_of, number_after, numbers_of, pools_load}
 use Rattle.std.specs.Result.{is_ok}
 use mathlib.Core.Bool.{true≢false}
-use Rattle.gpu_descriptor.specs.declared.bucket.stop.Stop.TheVariants.{ExistingPoolWithoutMemory}
 use Rattle.gpu_descriptor.proofs.lists.Appended.{appended_more, front_more}
 use Rattle.gpu_descriptor.proofs.lists.Numbers.{next_push}
 use Rattle.gpu_descriptor.proofs.release.StoredNumbers.{numbers_stored}
 use Rattle.gpu_descriptor.specs.Caller.SetLists.{appended}
-use Rattle.gpu_descriptor.proofs.table.Exact.{bucket}
-use Rattle.gpu_descriptor.proofs.request.Growing.{grow_start, grow_more, grow_end, grow_stop, load_more, load_walked}
+use Rattle.gpu_descriptor.proofs.request.Growing.{grow_start, grow_more, grow_end, grow_stop, load_more}
 use Rattle.gpu_descriptor.proofs.sums.StoredPools.{allocated_entries, load_entries}
 use Rattle.gpu_descriptor.proofs.request.Passed.{passed}
 use Rattle.gpu_descriptor.proofs.request.Walking.{items_of-sets_at}
 use Rattle.gpu_descriptor.proofs.bucket.DescriptorBucket.take.Goals as goal
 
--- a walk leaves the load of the key's pools
-module _ {P : Type 0} (name : P → ℕ) {k : Key} {n id own : ℕ} {items : List Item} (old new : List (DescriptorPool P)) {l m : Ledger} where
-  walked_load : {needed : ℕ} → IsWalked k n needed items (bucket id (map (entry_of name) old)) (bucket own (map (entry_of name) new)) l m → pools_load k new ≡ pools_load k old
-  walked_load w = (let a = load_entries name k old in let b = load_entries name k new in let same = load_walked k n w.grant (bucket id (map (entry_of name) old)) (bucket own (map (entry_of name) new)) l m items w.taken w.no_fresh in omega arith)
-
-  stopped_load : {error : DeviceAllocationError} → IsTaken (Err (ExistingPoolWithoutMemory error)) None k 0 n items (bucket id (map (entry_of name) old)) (bucket own (map (entry_of name) new)) l m → pools_load k new ≡ pools_load k old
-  stopped_load t = (let a = load_entries name k old in let b = load_entries name k new in let same = load_walked k n t.0 (bucket id (map (entry_of name) old)) (bucket own (map (entry_of name) new)) l t.1 items t.2 t.3.no_fresh in omega arith)
-
--- what is known of an Ok, and of an Err
+-- what is known of an Ok
 on_ok : {T E X : Type 0} (r : Result T E) → OnOk r X → is_ok r ≡ true → X
 on_ok (Ok done) known is = known
 on_ok (Err e) known is = absurd (true≢false (sym is))
-
-on_err : {T E X : Type 0} {P : E → Type 0} (r : Result T E) → ((e : E) → P e → X) → IfErr r P → is_ok r ≡ false → X
-on_err (Ok done) says known is = absurd (true≢false is)
-on_err (Err e) says known is = says e known
 
 pub loop-sink-init : goal.loop-sink-init
 loop-sink-init g c =
@@ -43,7 +29,7 @@ loop-sink-init g c =
       id_stays = c.take_from_existing.ensures.id_stays;
       numbers = (let same = ap number_after c.take_from_existing.ensures.numbers_stay in let all = c.take_from_existing.ensures.appends.rest in omega arith);
       growing = grow_start known c.take_from_existing.ensures.id_stays (let out = allocated_entries name c.args.self.now.pools.items in let counted = c.args.self.now.counted in let all = c.take_from_existing.ensures.appends.rest in omega arith);
-      load = ap (λ n. c.args.budget.now.room + n) (walked_load name c.args.self.now.pools.items c.take_from_existing.new.self.pools.items known);
+      load = ap (λ n. c.args.budget.now.room + n) c.take_from_existing.ensures.load;
       own = c.take_from_existing.ensures.appends.own;
       bound = λ i. c.args.budget.now.bound;
       looks = c.take_from_existing.ensures.looks;
@@ -108,12 +94,3 @@ loop-sink-preserved g c =
       bound = c.in_ok-take_from_new.ensures.bound ∙ inv.bound;
       looks = (let a = inv.looks in let b = c.in_ok-take_from_new.ensures.looks in omega arith);
     }
-
-pub returns-in_err-map_err-clause-room : goal.returns-in_err-map_err-clause-room
-returns-in_err-map_err-clause-room g c =
-    ap (λ n. c.args.budget.now.room + n)
-    (on_err c.take_from_existing.result
-    (λ e.
-    stopped_load g.D.DescriptorDevice.meaning.pool_name c.args.self.now.pools.items
-    c.take_from_existing.new.self.pools.items {error = e})
-    c.take_from_existing.ensures.stopped (sym c.in_err-map_err.ensures.variant))

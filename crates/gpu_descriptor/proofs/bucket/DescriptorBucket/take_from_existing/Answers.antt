@@ -1,4 +1,4 @@
-use Rattle.gpu_descriptor.proofs.Common.{◌≡◌, ℕ, ◌+◌, ◌-◌, ◌++◌, ◌∷◌, List, [], length, length-append, length-map, length-set, map, map-append, append-nil, take, slice_get, slice_set, slice_get_read, Some, refl, sym, ap, ◌∙◌, arith, inl, inr, nat_eq, cases_Bool, eqb-false, DescriptorPool, DescriptorSet, Entry, key_of, set_at, items_of, first_ordinal, number_after, numbers_of, rises}
+use Rattle.gpu_descriptor.proofs.Common.{◌≡◌, ℕ, ◌+◌, ◌-◌, ◌++◌, ◌∷◌, List, [], length, length-append, length-map, length-set, map, map-append, append-nil, take, slice_get, slice_set, slice_get_read, Some, refl, sym, ap, ◌∙◌, arith, inl, inr, nat_eq, cases_Bool, eqb-false, DescriptorPool, DescriptorSet, Entry, key_of, set_at, items_of, first_ordinal, number_after, numbers_of, pools_load, rises}
 use Rattle.std.proofs.lemmas.List.Sums.{sum_by-set}
 use Rattle.gpu_descriptor.specs.Caller.SetLists.{appended}
 use Rattle.gpu_descriptor.proofs.lists.Appended.{appended_is, appended_more, front_more, front_stays}
@@ -6,6 +6,7 @@ use Rattle.gpu_descriptor.proofs.request.OpenWalk.{inside, has_free, numbers_now
 use Rattle.gpu_descriptor.proofs.request.OwnLayout.{none_own}
 use Rattle.gpu_descriptor.proofs.request.Passed.{passed}
 use Rattle.gpu_descriptor.proofs.request.Walking.{walk_end, items_of-sets_at}
+use Rattle.gpu_descriptor.proofs.sums.PoolLoads.{stored_put}
 use Rattle.gpu_descriptor.proofs.bucket.DescriptorBucket.take_from_existing.Goals.{After-index_mut-pool}
 use Rattle.gpu_descriptor.proofs.bucket.DescriptorBucket.take_from_existing.Goals as goal
 
@@ -19,6 +20,7 @@ loop-sink-init g c =
       numbers_stay = refl;
       total = rw none (omega arith);
       walk = rw (none, c.requires.left) (open_walk_start g.D.DescriptorDevice.meaning.pool_name (key_of c.args.request.now.key) c.args.request.now.count c.args.self.now (g.D.DescriptorDevice.ledger c.args.device.now) c.requires.booked);
+      load = refl;
       looks = refl;
     }
 
@@ -38,6 +40,9 @@ module _ (g : _) (c : After-index_mut-pool g) where
 
   same : (q : DescriptorPool g.row.P.Denot) → q.number ≡ c.index_mut-pool.result.now.number → numbers_of (slice_set c.loop-sink.self.pools.items c.in-Some.place q) ≡ numbers_of c.loop-sink.self.pools.items
   same q number = numbers_now c.loop-sink.self _ _ c.in-Some.ensures.last _ at q number
+
+  stays : (q : DescriptorPool g.row.P.Denot) → q.capacity ≡ c.index_mut-pool.result.now.capacity → pools_load (key_of c.args.request.now.key) (slice_set c.loop-sink.self.pools.items c.in-Some.place q) ≡ pools_load (key_of c.args.request.now.key) c.loop-sink.self.pools.items
+  stays q capacity = stored_put (key_of c.args.request.now.key) c.loop-sink.self.pools.items c.in-Some.place c.index_mut-pool.result.now q (inside c.loop-sink.self _ _ c.in-Some.ensures.last) c.index_mut-pool.ensures.value capacity
 
 pub ask-asked-requires-clause-booked : goal.ask-asked-requires-clause-booked
 ask-asked-requires-clause-booked g c = next_is_booked c.requires.booked c.loop-sink.invariant.walk c.loop-sink-test.true _ _ c.in-Some.ensures.last _ (at g (goal.at.ask-asked-requires-clause-booked g c).After-index_mut-pool)
@@ -114,6 +119,7 @@ loop-sink-preserved g c =
       walk = open_walk_more c.requires.booked inv.walk c.loop-sink-test.true _ _ c.in-Some.ensures.last p (at g r) c.ask-asked.new.pool _ refl refl
           (ap (items_of name) more ∙ map-append _ (appended was now) put ∙ ap (λ x. items_of name (appended was now) ++ x) (items_of-sets_at name (key_of c.args.request.now.key) b.id p.number got.0)) got.3
           (ap (λ (n : ℕ). c.ask-asked.new.sink.left + n) (length-map got.0 name) ∙ got.2);
+      load = stays g r c.ask-asked.new.pool c.in_ok-asked.ensures.capacity ∙ inv.load;
       looks = (let a = inv.looks in let b = c.next.ensures in omega arith);
     }
 
@@ -128,3 +134,6 @@ returns-in_err-asked-clause-stopped g c =
 
 pub returns-in_err-asked-clause-numbers_stay : goal.returns-in_err-asked-clause-numbers_stay
 returns-in_err-asked-clause-numbers_stay g c = same g (goal.at.returns-in_err-asked-clause-numbers_stay g c).After-index_mut-pool c.ask-asked.new.pool c.in_err-asked.ensures.number ∙ c.loop-sink.invariant.numbers_stay
+
+pub returns-in_err-asked-clause-load : goal.returns-in_err-asked-clause-load
+returns-in_err-asked-clause-load g c = stays g (goal.at.returns-in_err-asked-clause-load g c).After-index_mut-pool c.ask-asked.new.pool c.in_err-asked.ensures.capacity ∙ c.loop-sink.invariant.load

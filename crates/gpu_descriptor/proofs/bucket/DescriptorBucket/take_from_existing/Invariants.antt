@@ -1,5 +1,5 @@
 -- What came stands behind what was there, and each pool that was asked was looked at once.
-use Rattle.gpu_descriptor.proofs.Common.{◌≡◌, ◌+◌, length, map, Appends, key_of, entry_of, CountsLooks, items_of, numbers_of}
+use Rattle.gpu_descriptor.proofs.Common.{◌≡◌, ◌+◌, length, map, Appends, key_of, entry_of, CountsLooks, items_of, numbers_of, pools_load}
 use Rattle.gpu_descriptor.specs.Caller.SetLists.{appended}
 use Rattle.gpu_descriptor.proofs.request.OpenWalk.{OpenWalk}
 use Rattle.gpu_descriptor.proofs.bucket.DescriptorBucket.take_from_existing.Given as goal
@@ -14,6 +14,7 @@ invariant-loop-sink g l =
       total : l.self.total ≡ l.fn.self.total + length came;
       walk : OpenWalk g.D.DescriptorDevice.meaning.pool_name (key_of l.fn.request.key) l.fn.request.count l.sink.left (items_of g.D.DescriptorDevice.meaning.set_name came)
           (map (entry_of g.D.DescriptorDevice.meaning.pool_name) l.fn.self.pools.items) l.self (g.D.DescriptorDevice.ledger l.fn.device) (g.D.DescriptorDevice.ledger l.device);
+      load : pools_load (key_of l.fn.request.key) l.self.pools.items ≡ pools_load (key_of l.fn.request.key) l.fn.self.pools.items;
       looks : CountsLooks l.fn.looks.count l.looks.count (g.D.DescriptorDevice.ledger l.fn.device) (g.D.DescriptorDevice.ledger l.device);
     }
 
