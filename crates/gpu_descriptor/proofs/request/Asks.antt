@@ -1,7 +1,7 @@
 -- What asking one pool does, from what the device did.
 -- For `ask`; `same_counters` for whatever counts calls. e is the pool's entry, l and m are the ledgers before and after.
 use Rattle.gpu_descriptor.proofs.Common.{◌≡◌, ℕ, ◌+◌, ◌-◌, ◌<◌, min, List, [], length, Bool, true, false, cond, ◌&&◌, Option, Some, None, nat_eq, nat_lt, refl, sym, ap, ◌∙◌, arith, lt-ltb, eqb-true, fun_ext, and_from, Key, Entry, Pool, Ledger, Counters, live_sets, on_pool, option_map, after_alloc}
-use Rattle.gpu_descriptor.proofs.Common.{after_no_alloc, alloc_refused, pool_refusals, no_rise, LiveSet, DeviceAllocationError, pool_with, risen, IsAsked, IsNoMemory}
+use Rattle.gpu_descriptor.proofs.Common.{after_no_alloc, alloc_refused, pool_refusals, no_rise, LiveSet, DeviceAllocationError, pool_with, risen, IsAsked}
 
 -- entries, and counters, with equal fields are equal
 pub same_entry : (a b : Entry) → a.number ≡ b.number → a.pool ≡ b.pool → a.capacity ≡ b.capacity → a.allocated ≡ b.allocated → a.available ≡ b.available → a ≡ b
@@ -51,7 +51,7 @@ skipped k wanted e l h = record {
   counters = (let t = asks_none e.available wanted h in rw t (let n = l.counters in same_counters _ _ (omega arith) (omega arith) (omega arith) (omega arith) (omega arith) (omega arith) (omega arith) (omega arith)));
 }
 
--- it gave what is still needed or all it has; it refused as fragmented or full; it returned a memory error (`no_memory`)
+-- it gave what is still needed or all it has; it refused as fragmented or full
 pub given :
     (k : Key) (wanted : ℕ) (names : List ℕ) (e : Entry) (l m : Ledger) → 0 < min wanted e.available
     → length names ≡ min wanted e.available → m ≡ after_alloc e.pool (live_sets k.counts names) l
@@ -90,11 +90,4 @@ refuses k wanted error e l m some pool_error is = record {
         refusals = (let a : p.refusals + pool_refusals error ≡ p.refusals + 1 = omega arith in a) i;
       }));
   counters = ap (λ (x : Ledger). x.counters) is ∙ (let t = asks_some e.available wanted some in rw t (refused_counters error l.counters pool_error));
-}
-
-pub no_memory : (wanted : ℕ) (error : DeviceAllocationError) (e : Entry) (l m : Ledger) → 0 < min wanted e.available → pool_refusals error ≡ 0 → m ≡ after_no_alloc e.pool error l → IsNoMemory wanted e error l m
-no_memory wanted error e l m some memory is = record {
-  asked = asks_some e.available wanted some;
-  memory = memory;
-  refused = record { pools = ap (λ (x : Ledger). x.pools) is ∙ on_id e.pool l.pools _ (λ p i. record p { refusals = (let a : p.refusals + pool_refusals error ≡ p.refusals = omega arith in a) i }); counters = ap (λ (x : Ledger). x.counters) is ∙ alloc_rise error l.counters };
 }

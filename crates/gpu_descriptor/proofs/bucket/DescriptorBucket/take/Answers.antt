@@ -1,15 +1,14 @@
-use Rattle.gpu_descriptor.proofs.Common.{◌≡◌, ℕ, ◌+◌, ◌≤◌, ◌++◌, List, length, map, sym, ap, ◌∙◌, arith, Result, Ok, OnOk, true, length-append, [], ◌∷◌, Err, length-map, map-append, DescriptorPool, DescriptorSet, Item, Entry, Key}
-use Rattle.gpu_descriptor.proofs.Common.{key_of, set_at, fresh_entry, items_at, items_of, entry_of, number_after, numbers_of, pools_load}
+use Rattle.gpu_descriptor.proofs.Common.{◌≡◌, ℕ, ◌+◌, ◌≤◌, ◌++◌, List, length, map, sym, ap, ◌∙◌, arith, Result, Ok, OnOk, true, [], ◌∷◌, Err, length-map, map-append, DescriptorPool, DescriptorSet, Item, Entry, Key}
+use Rattle.gpu_descriptor.proofs.Common.{key_of, fresh_entry, items_at, items_of, entry_of, number_after, numbers_of, pools_load}
 use Rattle.std.specs.Result.{is_ok}
 use mathlib.Core.Bool.{true≢false}
-use Rattle.gpu_descriptor.proofs.lists.Appended.{appended_more, front_more}
 use Rattle.gpu_descriptor.proofs.lists.Numbers.{next_push}
 use Rattle.gpu_descriptor.proofs.release.StoredNumbers.{numbers_stored}
 use Rattle.gpu_descriptor.specs.Caller.SetLists.{appended}
 use Rattle.gpu_descriptor.proofs.request.Growing.{grow_start, grow_more, grow_end, grow_stop, load_more}
 use Rattle.gpu_descriptor.proofs.sums.StoredPools.{allocated_entries, load_entries}
 use Rattle.gpu_descriptor.proofs.request.Passed.{passed}
-use Rattle.gpu_descriptor.proofs.request.Walking.{items_of-sets_at}
+use Rattle.gpu_descriptor.proofs.request.OwnLayout.{appends_more, items_behind, long_more}
 use Rattle.gpu_descriptor.proofs.bucket.DescriptorBucket.take.Goals as goal
 
 -- what is known of an Ok
@@ -23,14 +22,12 @@ loop-sink-init g c =
     let known = on_ok c.take_from_existing.result c.take_from_existing.ensures.walked (sym c.in_ok-map_err.ensures.variant) in
     let total = c.take_from_existing.ensures.total in
     record {
-      given = c.take_from_existing.ensures.appends.rest;
+      appends = c.take_from_existing.ensures.appends;
       total = total;
-      front = c.take_from_existing.ensures.appends.front;
       id_stays = c.take_from_existing.ensures.id_stays;
       numbers = (let same = ap number_after c.take_from_existing.ensures.numbers_stay in let all = c.take_from_existing.ensures.appends.rest in omega arith);
       growing = grow_start known c.take_from_existing.ensures.id_stays (let out = allocated_entries name c.args.self.now.pools.items in let counted = c.args.self.now.counted in let all = c.take_from_existing.ensures.appends.rest in omega arith);
       load = ap (λ n. c.args.budget.now.room + n) c.take_from_existing.ensures.load;
-      own = c.take_from_existing.ensures.appends.own;
       bound = λ i. c.args.budget.now.bound;
       looks = c.take_from_existing.ensures.looks;
     }
@@ -62,17 +59,12 @@ loop-sink-preserved g c =
     let given : length got.0 ≡ length more = sym (length-map got.0 g.D.DescriptorDevice.meaning.set_name) in
     let few : length more ≤ c.loop-sink.sink.left = (let a = grown.many in let b = grown.given in omega arith) in
     let number : ℕ = number_after (numbers_of items) in
-    let fresh : List (DescriptorSet g.row.S.Denot) = map (set_at key c.loop-sink.self.id number) got.0 in
-    let came : appended was (g.K.SetPlaces.items c.take_from_new.new.sink.sets) ≡ sets ++ fresh = appended_more was (g.K.SetPlaces.items c.loop-sink.sink.sets) fresh inv.front got.1 in
-    let seen : items_of g.D.DescriptorDevice.meaning.set_name (appended was (g.K.SetPlaces.items c.take_from_new.new.sink.sets)) ≡ put ++ items_at key c.args.self.now.id number more =
-    ap (items_of g.D.DescriptorDevice.meaning.set_name) came ∙ map-append _ sets fresh ∙ ap (λ x. put ++ x) (items_of-sets_at g.D.DescriptorDevice.meaning.set_name key c.loop-sink.self.id number got.0 ∙ ap (λ i. items_at key i number more) inv.id_stays) in
-    let long = ap length came ∙ length-append sets fresh in
-    let raws = length-map got.0 (λ raw. set_at key c.loop-sink.self.id number raw) in
+    let seen = items_behind inv.appends key c.loop-sink.self.id number got.0 got.1 ∙ ap (λ (i : ℕ). put ++ items_at key i number more) inv.id_stays in
+    let long = long_more inv.appends key c.loop-sink.self.id number got.0 got.1 in
     let numbered : number_after (numbers_of new) ≡ number = ap number_after (numbers_stored g.D.DescriptorDevice.meaning.pool_name items) in
     record {
-      given = (let a = inv.given in let b = got.2 in omega arith);
+      appends = appends_more inv.appends key c.loop-sink.self.id number got.0 got.1 got.2 c.in_ok-take_from_new.ensures.own;
       total = (let a = inv.total in let b = got.3 in omega arith);
-      front = front_more was (g.K.SetPlaces.items c.loop-sink.sink.sets) fresh inv.front got.1;
       id_stays = c.in_ok-take_from_new.ensures.id_stays ∙ inv.id_stays;
       numbers = (
           let a = inv.numbers in
@@ -90,7 +82,6 @@ loop-sink-preserved g c =
           let is = load_entries g.D.DescriptorDevice.meaning.pool_name key c.take_from_new.new.self.pools.items in
           let less = grown.less in
           omega arith);
-      own = λ first before. c.in_ok-take_from_new.ensures.own first (inv.own first before);
       bound = c.in_ok-take_from_new.ensures.bound ∙ inv.bound;
       looks = (let a = inv.looks in let b = c.in_ok-take_from_new.ensures.looks in omega arith);
     }

@@ -1,11 +1,12 @@
-use Rattle.gpu_descriptor.proofs.Common.{◌≡◌, ℕ, ◌+◌, ◌-◌, ◌++◌, ◌∷◌, List, [], length, length-append, length-map, length-set, map, map-append, append-nil, take, slice_get, slice_set, slice_get_read, Some, refl, sym, ap, ◌∙◌, arith, inl, inr, nat_eq, cases_Bool, eqb-false, DescriptorPool, DescriptorSet, Entry, key_of, set_at, items_of, first_ordinal, number_after, numbers_of, pools_load, rises}
+use Rattle.gpu_descriptor.proofs.Common.{◌≡◌, ℕ, ◌+◌, ◌-◌, ◌∷◌, List, [], length, length-append, length-map, length-set, append-nil, take, slice_get, slice_set, slice_get_read, Some, refl, sym, ap, ◌∙◌, arith, inl, inr, nat_eq, cases_Bool, eqb-false, DescriptorPool, DescriptorSet, Entry, key_of, first_ordinal, number_after, numbers_of, pools_load, rises}
 use Rattle.std.proofs.lemmas.List.Sums.{sum_by-set}
 use Rattle.gpu_descriptor.specs.Caller.SetLists.{appended}
-use Rattle.gpu_descriptor.proofs.lists.Appended.{appended_is, appended_more, front_more, front_stays}
+use Rattle.gpu_descriptor.specs.Caller.Sets.{PutsOfLayout}
+use Rattle.gpu_descriptor.proofs.lists.Appended.{appended_is, front_stays}
 use Rattle.gpu_descriptor.proofs.request.OpenWalk.{inside, has_free, numbers_now, first_now, listed_now, open_walk_start, open_walk_more, open_walk_stop, walk_sated, walk_empty, next_is_booked, one_asked}
-use Rattle.gpu_descriptor.proofs.request.OwnLayout.{none_own}
+use Rattle.gpu_descriptor.proofs.request.OwnLayout.{appends_more, items_behind, long_more, none_own}
 use Rattle.gpu_descriptor.proofs.request.Passed.{passed}
-use Rattle.gpu_descriptor.proofs.request.Walking.{walk_end, items_of-sets_at}
+use Rattle.gpu_descriptor.proofs.request.Walking.{walk_end}
 use Rattle.gpu_descriptor.proofs.sums.PoolLoads.{stored_put}
 use Rattle.gpu_descriptor.proofs.bucket.DescriptorBucket.take_from_existing.Goals.{After-index_mut-pool}
 use Rattle.gpu_descriptor.proofs.bucket.DescriptorBucket.take_from_existing.Goals as goal
@@ -100,24 +101,15 @@ loop-sink-preserved g c =
     let name = g.D.DescriptorDevice.meaning.set_name in
     let aim = c.aim.ensures in
     let got = rw (aim.sets, aim.left, aim.key, aim.id, aim.number) at c.in_ok-asked.ensures.asked in
-    let was : List (DescriptorSet g.row.S.Denot) = g.K.SetPlaces.items c.args.sink.now.sets in
-    let now : List (DescriptorSet g.row.S.Denot) = g.K.SetPlaces.items c.loop-sink.sink.sets in
-    let put : List (DescriptorSet g.row.S.Denot) = map (set_at (key_of c.args.request.now.key) b.id p.number) got.0 in
-    let more = appended_more was now put inv.appends.front got.1 in
-    let long = ap length more ∙ length-append (appended was now) put in
-    let each = length-map got.0 (set_at (key_of c.args.request.now.key) b.id p.number) in
+    let own : PutsOfLayout g.D.DescriptorDevice.meaning c.args.request.now.layout.now (g.K.SetPlaces.items c.loop-sink.sink.sets) (g.K.SetPlaces.items c.ask-asked.new.sink.sets) = λ first before. c.in_ok-asked.ensures.own first (none_own g.D.DescriptorDevice.meaning c.args.request.now.layout.now (ap g.K.SetPlaces.items aim.sets) first before) in
     let asked_one = one_asked c.requires.booked inv.walk c.loop-sink-test.true _ _ c.in-Some.ensures.last p (at g r) c.ask-asked.new.pool got.3 in
     record {
-      appends = record {
-        front = front_more was now put inv.appends.front got.1;
-        own = λ first before. c.in_ok-asked.ensures.own first (none_own g.D.DescriptorDevice.meaning c.args.request.now.layout.now (ap g.K.SetPlaces.items aim.sets) first (inv.appends.own first before));
-        rest = (let a = inv.appends.rest in let less = got.2 in omega arith);
-      };
+      appends = appends_more inv.appends (key_of c.args.request.now.key) b.id p.number got.0 got.1 got.2 own;
       id_stays = inv.id_stays;
       numbers_stay = same g r c.ask-asked.new.pool c.in_ok-asked.ensures.number ∙ inv.numbers_stay;
-      total = (let a = inv.total in let less = got.2 in let came = c.from.ensures in omega arith);
+      total = (let a = inv.total in let long = long_more inv.appends (key_of c.args.request.now.key) b.id p.number got.0 got.1 in let less = got.2 in let came = c.from.ensures in omega arith);
       walk = open_walk_more c.requires.booked inv.walk c.loop-sink-test.true _ _ c.in-Some.ensures.last p (at g r) c.ask-asked.new.pool _ refl refl
-          (ap (items_of name) more ∙ map-append _ (appended was now) put ∙ ap (λ x. items_of name (appended was now) ++ x) (items_of-sets_at name (key_of c.args.request.now.key) b.id p.number got.0)) got.3
+          (items_behind inv.appends (key_of c.args.request.now.key) b.id p.number got.0 got.1) got.3
           (ap (λ (n : ℕ). c.ask-asked.new.sink.left + n) (length-map got.0 name) ∙ got.2);
       load = stays g r c.ask-asked.new.pool c.in_ok-asked.ensures.capacity ∙ inv.load;
       looks = (let a = inv.looks in let b = c.next.ensures in omega arith);
