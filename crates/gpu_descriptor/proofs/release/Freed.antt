@@ -3,7 +3,7 @@
 -- ledger then; now and mid are those of this turn; x is in hand and begins the next run, and rest is the iterator after it.
 use Rattle.gpu_descriptor.proofs.Common.{search_digits, ◌≡◌, ℕ, ◌+◌, ◌<◌, true, false, ◌&&◌, ◌==◌, List, [], ◌∷◌, ◌++◌, sum_by, refl, sym, ap, subst, ◌∙◌, arith, append_assoc, append-nil, length-append, Option, Some, None, MatchOption, OnSome, IfSome, Count, HoldsAlong, IsFinite, IsNearerEnd}
 use Rattle.gpu_descriptor.proofs.Common.{MakesProgress, size, Yields, YieldsThen, and_parts, and_from, map-append, sum_by-append, side, Meaning, Counters, Ledger, bool_iff, DescriptorSet, State, Item, AreOutstanding, Agree, count_of, Key, key_eq, Allocations, common_steps, set_descriptors}
-use Rattle.gpu_descriptor.proofs.Common.{more_released, more_destroyed, released, given_back, pools_gone, run_digits, GivesBack, FreesRun, runs, item_of, items_of, AllByRecursion, state_of, Compares}
+use Rattle.gpu_descriptor.proofs.Common.{more_released, more_destroyed, released, given_back, pools_gone, run_digits, GivesBack, EndsRun, runs, item_of, items_of, AllByRecursion, state_of, Compares}
 use Rattle.std.proofs.iter.Next.{Yields-more}
 use Rattle.gpu_descriptor.specs.Inner.RunSteps.{lies_at}
 use Rattle.gpu_descriptor.specs.Caller.States.{keys_of}
@@ -142,23 +142,20 @@ module _ {L P S : Type 0} (means : Meaning L P S) where
       call_out zs t z = grind (arith, common_steps, agree, all_out, came_out, count_of-append, takes)
 
       -- one turn of the loop: the next run went back, too
-      pub freed_more : (new : Allocations P) (after : Ledger) (a : Option (DescriptorSet S)) (t : T) → FreesRun steps means x rest a t (side now mid) (side new after) → keys_of new ≡ keys_of now → OnSome a (IsNearerEnd can left rest t)
+      pub freed_more : (new : Allocations P) (after : Ledger) (a : Option (DescriptorSet S)) (t : T) → (xs : List (DescriptorSet S)) → EndsRun steps (lies_at x.key.is x.number) rest xs a t → GivesBack means (x ∷ xs) 1 (side now mid) (side new after) → keys_of new ≡ keys_of now → OnSome a (IsNearerEnd can left rest t)
           → Compares (search_digits ((state_of means.pool_name now mid).books x.key.is)) now.comparisons new.comparisons → Freed first old before new after a t
-      freed_more new after a t run same n more = record {
+      freed_more new after a t xs ran gone same n more = record {
         sets = r.sets ++ x ∷ xs;
-        back = subst (λ (m : ℕ). GivesBack means (r.sets ++ x ∷ xs) m (side old before) (side new after)) (sym count) (gives_both r.sets (x ∷ xs) (runs (items r.sets)) 1 old now new before mid after agree (all_out xs run.came.1.0 run.came.1.1) r.keys r.back run.back);
-        agree = rw run.back.state (agrees (items (x ∷ xs)) (state_of means.pool_name now mid) r.agree (call_out xs run.came.1.0 run.came.1.1));
+        back = subst (λ (m : ℕ). GivesBack means (r.sets ++ x ∷ xs) m (side old before) (side new after)) (sym count) (gives_both r.sets (x ∷ xs) (runs (items r.sets)) 1 old now new before mid after agree (all_out xs ran.1.0 ran.1.1) r.keys r.back gone);
+        agree = rw gone.state (agrees (items (x ∷ xs)) (state_of means.pool_name now mid) r.agree (call_out xs ran.1.0 ran.1.1));
         keys = same ∙ r.keys;
         compares = (let was = r.compares in let digits = cost in record { rises = omega arith; few = omega arith });
-        comes = stop a run.came.1.2 run.came.2 n;
+        comes = stop a ran.1.2 ran.2 n;
       }
         where
-          xs : List (DescriptorSet S)
-          xs = run.sets
-
           -- the run, and what follows in another place
           behind_it : (zs : List (DescriptorSet S)) → BeginsApart x.key.is x.number zs → runs (items (x ∷ (xs ++ zs))) ≡ 1 + runs (items zs)
-          behind_it zs b = run_then x.key.is x.number x xs zs (lies_own x) run.came.0 b
+          behind_it zs b = run_then x.key.is x.number x xs zs (lies_own x) ran.0 b
 
           -- this run is one, and one more than the runs before it
           alone : runs (items (x ∷ xs)) ≡ 1
@@ -175,8 +172,8 @@ module _ {L P S : Type 0} (means : Meaning L P S) where
               ap (run_digits s) whole ∙ run_digits_more s (items r.sets) (item_of means.set_name x) (items xs) (ap runs (sym whole) ∙ count) alone
               ∙ ap (λ (t : State). run_digits s (items r.sets) + search_digits (t.books x.key.is)) (sym r.back.state)
 
-          came : Yields steps first (r.sets ++ x ∷ xs) run.came.1.0
-          came = appended first r.sets x xs rest run.came.1.0 r.comes.0 run.came.1.1
+          came : Yields steps first (r.sets ++ x ∷ xs) ran.1.0
+          came = appended first r.sets x xs rest ran.1.0 r.comes.0 ran.1.1
 
           -- a set of another place begins the next run
           parted : (y : DescriptorSet S) → lies_at x.key.is x.number y ≡ false → Splits (r.sets ++ x ∷ xs) y
@@ -187,9 +184,9 @@ module _ {L P S : Type 0} (means : Meaning L P S) where
               let so = count in
               omega arith
 
-          stop : (a : Option (DescriptorSet S)) → steps run.came.1.0 a t → IfSome a (λ y. lies_at x.key.is x.number y ≡ false) → OnSome a (IsNearerEnd can left rest t) → Comes first (r.sets ++ x ∷ xs) a t
-          stop None s b n = (run.came.1.0, came, s)
-          stop (Some y) s b n = (Yields-more steps first (r.sets ++ x ∷ xs) run.came.1.0 y t came s, parted y b, n.0, n.1)
+          stop : (a : Option (DescriptorSet S)) → steps ran.1.0 a t → IfSome a (λ y. lies_at x.key.is x.number y ≡ false) → OnSome a (IsNearerEnd can left rest t) → Comes first (r.sets ++ x ∷ xs) a t
+          stop None s b n = (ran.1.0, came, s)
+          stop (Some y) s b n = (Yields-more steps first (r.sets ++ x ∷ xs) ran.1.0 y t came s, parted y b, n.0, n.1)
 
     -- with each turn fewer sets are to come, so the loop ends
     pub less : (rest : T) (a : Option (DescriptorSet S)) (t : T) → OnSome a (IsNearerEnd can left rest t) → weight a (size (left t)) < size (left rest) + 1

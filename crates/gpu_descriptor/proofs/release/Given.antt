@@ -1,7 +1,7 @@
 -- What giving sets back leaves before any front goes (`given_back`); and that then only empty pools go.
 -- For the laws of `released` in release.ReleaseAgrees and release.Parts. The items m go back to the state s.
 use Rattle.gpu_descriptor.proofs.Common.{◌≡◌, ℕ, ◌+◌, ◌<◌, ◌≤◌, Bool, true, false, ◌&&◌, ◌==◌, List, drop, take, slice_get, slice_get-map, Some, None, option_map, inl, inr, refl, sym, ap, ◌∙◌, subst, arith, ne_eqb, if◌then◌else◌, list_any, prefix_len, cases_Bool, cases_eq, and_from, and_parts}
-use Rattle.gpu_descriptor.proofs.Common.{false_from_ne_true, any_found, any_from, set_of, State, Item, count_of, live_in, outstanding, AreOutstanding, IsAsBooked, Agree, Key, key_eq, Entry, Bucket, entry_at, rises, Pool, common_steps, lies_in, entry_less, pool_less, given_back, fronts_gone, in_front, is_empty, spent_front, released}
+use Rattle.gpu_descriptor.proofs.Common.{false_from_ne_true, any_found, any_from, set_of, State, Item, count_of, live_in, outstanding, AreOutstanding, IsAsBooked, Agree, Key, key_eq, Entry, Bucket, entry_at, rises, Pool, common_steps, lies_in, entry_less, pool_less, given_back, fronts_gone, are_named, is_empty, spent_front, released}
 use Rattle.gpu_descriptor.proofs.Common.{same_Some, true≢false}
 use Rattle.gpu_descriptor.proofs.cleanup.Emptied.{Empties, still_there}
 use Rattle.gpu_descriptor.proofs.cleanup.Splitting.{split_cut}
@@ -35,7 +35,7 @@ key_any test m k h =
 
 -- whether a pool is in the front that goes
 abbrev pub goes : Bucket → ℕ → Bool
-goes b pool = in_front (spent_front b) b pool
+goes b pool = are_named (take (spent_front b) b.pools) pool
 
 -- where fronts go empty pools go
 pub emptied_front : (m : List Item) (s : State) → Empties s (fronts_gone m s)

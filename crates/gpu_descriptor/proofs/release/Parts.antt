@@ -3,7 +3,7 @@
 -- name a key, f and g how many sets they free in a pool. `quiet`: a part that doesn't name the key gives its pools nothing.
 use Rattle.gpu_descriptor.proofs.Common.{common_steps, ◌≡◌, ℕ, suc, ◌+◌, ◌<◌, Bool, true, false, ◌&&◌, ◌||◌, ◌==◌, List, [], ◌∷◌, ◌++◌, map, take, drop, slice_get, Option, Some, None, option_map, refl, sym, ap, ◌∙◌, arith, take-add, if◌then◌else◌, fun_ext, list_any, true≢false}
 use Rattle.gpu_descriptor.proofs.Common.{false_from_ne_true, take-map, set_of, State, Item, item_eq, count_of, AreOutstanding, Agree, Key, key_eq, Entry, Bucket, Pool, LiveSet, set_eq, count_by-append, count_by_alike, count_by_none, any_from, list_any-append, bucket_but_front, lies_in}
-use Rattle.gpu_descriptor.proofs.Common.{entry_less, bucket_less, pool_less, spent_front, without_front, in_front, released}
+use Rattle.gpu_descriptor.proofs.Common.{entry_less, bucket_less, pool_less, spent_front, without_front, are_named, released}
 use Rattle.gpu_descriptor.proofs.lists.Numbers.{entry_at-found}
 use Rattle.gpu_descriptor.proofs.release.Fronts.{less-less, less-without, one_key, spent_front-less}
 use Rattle.gpu_descriptor.proofs.table.Exact.{key_exact, item_exact}
@@ -29,11 +29,11 @@ same_names : (g : ℕ → ℕ) (pool : ℕ) (es : List Entry) → list_any (λ e
 same_names g pool [] = refl
 same_names g pool (e ∷ es) = ap (λ (b : Bool). (e.pool == pool) || b) (same_names g pool es)
 
-in_front-less : (g : ℕ → ℕ) (n : ℕ) (b : Bucket) (pool : ℕ) → in_front n (bucket_less g b) pool ≡ in_front n b pool
-in_front-less g n b pool = ap (list_any (λ e. e.pool == pool)) (take-map (λ (e : Entry). entry_less (g e.pool) e) n b.pools) ∙ same_names g pool (take n b.pools)
+front-less : (g : ℕ → ℕ) (n : ℕ) (b : Bucket) (pool : ℕ) → are_named (take n (bucket_less g b).pools) pool ≡ are_named (take n b.pools) pool
+front-less g n b pool = ap (list_any (λ e. e.pool == pool)) (take-map (λ (e : Entry). entry_less (g e.pool) e) n b.pools) ∙ same_names g pool (take n b.pools)
 
-in_front-add : (m n : ℕ) (b : Bucket) (pool : ℕ) → in_front (m + n) b pool ≡ (in_front m b pool || in_front n (without_front m b) pool)
-in_front-add m n b pool = ap (list_any (λ e. e.pool == pool)) (take-add m n b.pools) ∙ list_any-append (λ e. e.pool == pool) (take m b.pools) (take n (drop m b.pools))
+front-add : (m n : ℕ) (b : Bucket) (pool : ℕ) → are_named (take (m + n) b.pools) pool ≡ (are_named (take m b.pools) pool || are_named (take n (drop m b.pools)) pool)
+front-add m n b pool = ap (list_any (λ e. e.pool == pool)) (take-add m n b.pools) ∙ list_any-append (λ e. e.pool == pool) (take m b.pools) (take n (drop m b.pools))
 
 pub or-false : (a : Bool) → a ≡ (a || false)
 or-false true = refl
@@ -48,11 +48,11 @@ goes_law true true f g b pool quiet =
     let twice : bucket_less g c ≡ d = less-less f g b in
     let sizes : spent_front d ≡ spent_front c + spent_front (bucket_less g (bucket_but_front 1 c)) = ap spent_front (sym twice) ∙ spent_front-less g c in
     let rest : without_front (spent_front c) d ≡ bucket_less g (bucket_but_front 1 c) = ap (without_front (spent_front c)) (sym twice) ∙ sym (less-without g (spent_front c) c) in
-    ap (λ (n : ℕ). in_front n d pool) sizes
-    ∙ in_front-add (spent_front c) (spent_front (bucket_less g (bucket_but_front 1 c))) d pool
-    ∙ ap (λ (x : Bool). x || in_front (spent_front (bucket_less g (bucket_but_front 1 c))) (without_front (spent_front c) d) pool)
-    (ap (λ (x : Bucket). in_front (spent_front c) x pool) (sym twice) ∙ in_front-less g (spent_front c) c pool)
-    ∙ ap (λ (x : Bucket). goes c pool || in_front (spent_front (bucket_less g (bucket_but_front 1 c))) x pool) rest
+    ap (λ (n : ℕ). are_named (take n d.pools) pool) sizes
+    ∙ front-add (spent_front c) (spent_front (bucket_less g (bucket_but_front 1 c))) d pool
+    ∙ ap (λ (x : Bool). x || are_named (take (spent_front (bucket_less g (bucket_but_front 1 c))) (drop (spent_front c) d.pools)) pool)
+    (ap (λ (x : Bucket). are_named (take (spent_front c) x.pools) pool) (sym twice) ∙ front-less g (spent_front c) c pool)
+    ∙ ap (λ (x : Bucket). goes c pool || are_named (take (spent_front (bucket_less g (bucket_but_front 1 c))) x.pools) pool) rest
 goes_law true false f g b pool quiet = ap (λ (x : Bucket). goes x pool) (quiet refl) ∙ or-false (goes (bucket_less f b) pool)
 goes_law false true f g b pool quiet = ap (λ (x : Bucket). goes x pool) (sym (less-less f g b))
 goes_law false false f g b pool quiet = refl

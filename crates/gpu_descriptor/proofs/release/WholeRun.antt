@@ -3,7 +3,7 @@
 -- one key and pool number; m are their items; e is the entry of their pool, at place i of the key's bucket.
 use Rattle.gpu_descriptor.proofs.Common.{slice_get, ◌≡◌, ℕ, suc, ◌<◌, ◌≤◌, Bool, true, false, ◌==◌, List, [], ◌∷◌, length, map, count_by, Option, Some, None, option_map, inl, inr, refl, sym, ap, ◌∙◌, arith, eq-eqb, ne_eqb, if◌then◌else◌, fun_ext, list_any, cases_Bool, cases_eq, and_parts}
 use Rattle.gpu_descriptor.proofs.Common.{and_from, false_from_ne_true, length-map, Pool, live_sets, LiveSet, set_eq, times, bool_iff, any_found, any_from, count_by_yes, count_by_no, DescriptorSet, set_of, State, Item, item_eq, count_of, live_in, AreOutstanding, Agree, Key, key_eq}
-use Rattle.gpu_descriptor.proofs.Common.{Entry, Bucket, entry_at, common_steps, IsTakenAt, names_of, bucket_back, bucket_but_front, entry_less, pool_less, given_back, fronts_gone, released, spent_front, pools_gone, in_front, item_of, items_of, AllByRecursion, true≢false}
+use Rattle.gpu_descriptor.proofs.Common.{Entry, Bucket, entry_at, common_steps, IsTakenAt, names_of, bucket_back, bucket_but_front, entry_less, pool_less, given_back, fronts_gone, released, spent_front, pools_gone, item_of, items_of, AllByRecursion, true≢false}
 use Rattle.gpu_descriptor.specs.Inner.RunSteps.{lies_at}
 use Rattle.gpu_descriptor.proofs.table.Exact.{key_exact, item_exact}
 use Rattle.gpu_descriptor.proofs.lists.Numbers.{entry_at-named}
@@ -16,7 +16,7 @@ use Rattle.gpu_descriptor.proofs.table.TableBooks.{put_books}
 
 -- the pools without those of a bucket's spent front
 abbrev pub trimmed_pools : Bucket → (ℕ → Option Pool) → ℕ → Option Pool
-trimmed_pools b pools = (λ p. if in_front (spent_front b) b p then None else pools p)
+trimmed_pools b pools = (λ p. if goes b p then None else pools p)
 
 -- whether a set is of a key and a pool number: from both, of the set's own, and to both
 pub at_from : {S : Type 0} (k : Key) (n : ℕ) (x : DescriptorSet S) → x.key.is ≡ k → x.number ≡ n → lies_at k n x ≡ true

@@ -1,11 +1,10 @@
 -- One key's pools over a ledger: how they are in it, and what destroying pools leaves of both.
-use Rattle.std.specs.Prelude.{Bool, not, ◌==◌, ◌≡◌, ℕ, if◌then◌else◌, List, length, slice_get, Option, None, Some}
+use Rattle.std.specs.Prelude.{Bool, not, ◌==◌, ◌≡◌, ℕ, if◌then◌else◌, List, length, slice_get, take, Option, None, Some}
 use Rattle.gpu_descriptor_types.specs.Ledger.{Pool, Ledger}
 use Rattle.gpu_descriptor.specs.declared.bucket.DescriptorBucket.{DescriptorBucket}
 use Rattle.gpu_descriptor.specs.Model.Agreement.{IsAsBooked}
 use Rattle.gpu_descriptor.specs.Model.Books.{Key, Entry, Bucket}
-use Rattle.gpu_descriptor.specs.Model.Cleanup.{are_named}
-use Rattle.gpu_descriptor.specs.Model.Release.{front_but, without_front, in_front, more_destroyed}
+use Rattle.gpu_descriptor.specs.Model.Release.{are_named, front_but, without_front, more_destroyed}
 
 -- an entry has its pool in the ledger
 pub record IsBookedIn (k : Key) (pools : ℕ → Option Pool) (e : Entry) : Type 0 where
@@ -26,7 +25,7 @@ bucket_but_front keep b = without_front (front_but keep b) b
 
 -- the ledger after these were destroyed
 abbrev pub ledger_but_front : ℕ → Bucket → Ledger → Ledger
-ledger_but_front keep b l = let n = front_but keep b in record { pools = λ p. if in_front n b p then None else l.pools p; counters = more_destroyed n l.counters }
+ledger_but_front keep b l = let n = front_but keep b in record { pools = λ p. if are_named (take n b.pools) p then None else l.pools p; counters = more_destroyed n l.counters }
 
 -- the ledger after these pools were destroyed
 abbrev pub ledger_but : List Entry → Ledger → Ledger

@@ -1,14 +1,9 @@
--- How one run is freed: from its key's pools, and by the allocator.
-use Rattle.std.specs.Prelude.{◌≡◌, ◌+◌, ℕ, List, ◌∷◌, length, Option, ◌≤◌, map, set, slice_get, Some}
+-- How one run is freed from its key's pools.
+use Rattle.std.specs.Prelude.{◌≡◌, ◌+◌, ℕ, List, length, Option, ◌≤◌, map, set, slice_get, Some}
 use Rattle.gpu_descriptor_types.specs.Ledger.{Ledger, Pool, after_release, live_sets}
 use Rattle.gpu_descriptor.specs.declared.set.DescriptorSet.{DescriptorSet}
 use Rattle.gpu_descriptor.specs.Model.Agreement.{live_in}
 use Rattle.gpu_descriptor.specs.Model.Release.{entry_less}
-use Rattle.gpu_descriptor.specs.Inner.RunSteps.{EndsRun, lies_at}
-use Rattle.gpu_descriptor.specs.Caller.Values.{Allocations}
-use Rattle.gpu_descriptor.specs.Caller.Frees.{GivesBack}
-use Rattle.gpu_descriptor_types.specs.Meaning.{Meaning}
-use Rattle.gpu_descriptor_types.specs.Side.{Side}
 use Rattle.gpu_descriptor_types.specs.Multiset.{LiveSet, times}
 use Rattle.gpu_descriptor.specs.Model.Books.{Key, Entry, Bucket, entry_at}
 
@@ -44,12 +39,3 @@ pub record Compares (bound old new : ℕ) : Type 0 where
 -- the names of the raw sets
 abbrev pub names_of : {S : Type 0} → (S → ℕ) → List (DescriptorSet S) → List ℕ
 names_of name xs = map (λ x. name x.raw) xs
-
--- the iterator gave one run, from first to before the set ahead, and the allocator freed it
-pub record FreesRun {L P S T : Type 0} (steps : T → Option (DescriptorSet S) → T → Type 0) (means : Meaning L P S) (first : DescriptorSet S) (given : T) (ahead : Option (DescriptorSet S)) (left : T) (old new : Side (Allocations P)) : Type 0 where
-  -- the sets after first
-  pub sets : List (DescriptorSet S)
-  -- the iterator gave these, all of the run's key and pool, and then its end or a set from elsewhere
-  pub came : EndsRun steps (lies_at first.key.is first.number) given sets ahead left
-  -- the run was freed, in one call
-  pub back : GivesBack means (first ∷ sets) 1 old new

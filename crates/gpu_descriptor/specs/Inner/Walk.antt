@@ -8,7 +8,7 @@ use Rattle.gpu_descriptor.specs.Model.Books.{Key, Entry, Bucket, numbers_of, ris
 use Rattle.gpu_descriptor.specs.Model.Agreement.{Item, count_of, live_at}
 use Rattle.gpu_descriptor.specs.Model.Shares.{rest}
 use Rattle.gpu_descriptor.specs.Inner.Buckets.{AreBookedIn}
-use Rattle.gpu_descriptor.specs.Model.Cleanup.{are_named}
+use Rattle.gpu_descriptor.specs.Model.Release.{are_named}
 use Rattle.gpu_descriptor.specs.Model.Grants.{Grant, IsGrantOf, items_in, bucket_with, ledger_with, pool_with}
 use Rattle.gpu_descriptor.specs.Model.Outcomes.{risen, grant_rise, stop_rise}
 

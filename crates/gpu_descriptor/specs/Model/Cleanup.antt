@@ -1,13 +1,9 @@
 -- What cleaning up and trimming leave: each key, or one, loses the empty pools at its front, or all empty ones.
-use Rattle.std.specs.Prelude.{◌≡◌, ℕ, Bool, true, false, ◌==◌, if◌then◌else◌, List, [], ◌∷◌, drop, filter, length, sum_by, take, None}
-use Rattle.std.specs.List.{list_any, prefix_len}
+use Rattle.std.specs.Prelude.{◌≡◌, ℕ, Bool, true, false, if◌then◌else◌, List, [], ◌∷◌, drop, filter, length, sum_by, take, None}
+use Rattle.std.specs.List.{prefix_len}
 use Rattle.gpu_descriptor.specs.Model.Books.{Key, Entry, Bucket, key_eq, no_pools}
 use Rattle.gpu_descriptor.specs.Model.Agreement.{State}
-use Rattle.gpu_descriptor.specs.Model.Release.{has_sets, is_empty}
-
--- whether one of the pools has the name
-abbrev pub are_named : List Entry → ℕ → Bool
-are_named pools pool = list_any (λ e. e.pool == pool) pools
+use Rattle.gpu_descriptor.specs.Model.Release.{are_named, has_sets, is_empty}
 
 -- everywhere is true for a trim, which destroys all empty pools, and false for a cleanup, which destroys those at the front, even the last pool
 module _ (everywhere : Bool) where

@@ -51,15 +51,15 @@ spent_front b = front_but 1 b
 abbrev pub without_front : ℕ → Bucket → Bucket
 without_front n b = record b { pools = drop n b.pools }
 
--- whether a pool is among the first n
-abbrev pub in_front : ℕ → Bucket → ℕ → Bool
-in_front n b pool = list_any (λ e. e.pool == pool) (take n b.pools)
+-- whether one of the pools has the name
+abbrev pub are_named : List Entry → ℕ → Bool
+are_named pools pool = list_any (λ e. e.pool == pool) pools
 
 -- the empty fronts of the keys of the list are destroyed, in the books and in the ledger
 abbrev pub fronts_gone : List Item → State → State
 fronts_gone m s = record {
   books = λ k. let b = s.books k in if list_any (λ t. key_eq t.key k) m then without_front (spent_front b) b else b;
-  ledger = λ pool. if list_any (λ t. let b = s.books t.key in in_front (spent_front b) b pool) m then None else s.ledger pool;
+  ledger = λ pool. if list_any (λ t. let b = s.books t.key in are_named (take (spent_front b) b.pools) pool) m then None else s.ledger pool;
 }
 
 -- the effect of freeing the sets of the list

@@ -1,13 +1,14 @@
 //! Freeing sets.
-ghost use Rattle.std.specs.Prelude.{◌≡◌, ◌<◌, ◌∷◌, OnSome};
+ghost use Rattle.std.specs.Prelude.{◌≡◌, ◌<◌, ◌∷◌, List, OnSome};
 ghost use Rattle.std.specs.Iterator.{HoldsAlong, IsFiniteIterable, IsNearerEnd};
 ghost use Rattle.gpu_descriptor_types.specs.Ledger.{CanDrain};
 ghost use Rattle.gpu_descriptor_types.specs.Side.{side};
 ghost use Rattle.gpu_descriptor.specs.Model.Agreement.{Agree, AreOutstanding};
 ghost use Rattle.gpu_descriptor.specs.Caller.Comparisons.{search_digits};
 ghost use Rattle.gpu_descriptor.specs.Caller.Keeps.{Keeps};
-ghost use Rattle.gpu_descriptor.specs.Caller.Frees.{Frees, Returns};
-ghost use Rattle.gpu_descriptor.specs.Inner.Releases.{Compares, FreesRun};
+ghost use Rattle.gpu_descriptor.specs.Caller.Frees.{Frees, GivesBack, Returns};
+ghost use Rattle.gpu_descriptor.specs.Inner.Releases.{Compares};
+ghost use Rattle.gpu_descriptor.specs.Inner.RunSteps.{EndsRun, lies_at};
 ghost use Rattle.gpu_descriptor.specs.Caller.Sets.{items_of};
 ghost use Rattle.gpu_descriptor.specs.Caller.States.{Agrees, keys_of, state_of};
 
@@ -87,8 +88,10 @@ impl<P, S> DescriptorAllocator<P, S> {
         requires outstanding { HoldsAlong I.next_gives sets.old (λ xs. AreOutstanding
             (items_of D.meaning.set_name (first ∷ xs))
             (state_of D.meaning.pool_name self.old (D.ledger device.old))) }
-        ensures ran { FreesRun I.next_gives D.meaning first sets.old result sets.new
-            (side self.old (D.ledger device.old)) (side self.new (D.ledger device.new)) }
+        ensures ran { (run : List (DescriptorSet S)) ×
+            EndsRun I.next_gives (lies_at first.key.is first.number) sets.old run result sets.new ×
+            GivesBack D.meaning (first ∷ run) 1 (side self.old (D.ledger device.old))
+            (side self.new (D.ledger device.new)) }
         ensures goes { OnSome result (IsNearerEnd I.can_next I.remaining sets.old sets.new) }
         ensures keys { keys_of self.new ≡ keys_of self.old }
         ensures limit { self.new.limit ≡ self.old.limit }

@@ -40,7 +40,7 @@ loop-ahead-preserved g c =
           freed_more g.D.DescriptorDevice.meaning g.I.Iterator.next_gives g.I.Iterator.can_next g.I.Iterator.remaining
           c.args.sets.now c.args.self.now (g.D.DescriptorDevice.ledger c.args.device.now) c.loop-ahead.self
           (g.D.DescriptorDevice.ledger c.loop-ahead.device) c.in-Some.first c.loop-ahead.sets
-          c.requires.agree.books c.requires.outstanding r _ _ _ _ c.release_run-ahead.ensures.ran c.release_run-ahead.ensures.keys c.release_run-ahead.ensures.goes c.release_run-ahead.ensures.compares;
+          c.requires.agree.books c.requires.outstanding r _ _ _ _ _ c.release_run-ahead.ensures.ran.1 c.release_run-ahead.ensures.ran.2 c.release_run-ahead.ensures.keys c.release_run-ahead.ensures.goes c.release_run-ahead.ensures.compares;
       limit = c.release_run-ahead.ensures.limit ∙ c.loop-ahead.invariant.limit;
       bound = c.release_run-ahead.ensures.bound ∙ c.loop-ahead.invariant.bound;
       looks = c.release_run-ahead.ensures.looks_stay ∙ c.loop-ahead.invariant.looks;

@@ -143,18 +143,18 @@ returns-clause-ran g c =
     let state =
     row_ran name set_name c.args.self.now before es was distinct c.requires.agree c.args.first row ran.0 came.0 c.destroy_empty_front.new.self after _ _ ran.2 front.books
     front.ledger c.self.inside.max_update_after_bind_descriptors_in_all_pools in
-    record {
-      sets = ran.0;
-      came = came;
-      back = record {
+    (
+      ran.0,
+      came,
+      record {
         state = state;
         counters = row_counted name set_name c.args.self.now before es was distinct c.requires.agree c.args.first row ran.0 came.0 c.destroy_empty_front.new.self after _ _ ran.2 front.books front.ledger;
         outstanding = out_after t c.args.self.now was;
         marked = load_after t c.args.self.now was _ (run_load set_name c.args.first.key.is c.args.first.number (c.args.first ∷ ran.0) (lies_own c.args.first, came.0));
         returned = out_less (items_of set_name (c.args.first ∷ ran.0)) (state_of name c.args.self.now before) _ c.requires.agree (c.requires.outstanding ran.0 ran.1.1.0 ran.1.1.1) state;
         none = λ bad. absurd (let some : ◌≡◌ {A = List (DescriptorSet g.row.S.Denot)} (c.args.first ∷ ran.0) [] = bad in cc);
-      };
-    }
+      },
+    )
 
 pub returns-clause-keys : goal.returns-clause-keys
 returns-clause-keys g c = grind (arith, common_steps, keys_are, keys_at, row_keys, table_is)
