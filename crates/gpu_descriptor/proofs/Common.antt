@@ -54,7 +54,7 @@ pub use Rattle.gpu_descriptor.specs.Inner.Ids.{is_of, stored_ids}
 pub use Rattle.gpu_descriptor.specs.Inner.OpenOrdinals.{IsEntered, first_ordinal, free_in, open_ordinals}
 pub use Rattle.gpu_descriptor.specs.Inner.Releases.{Compares, IsTakenAt, Releases, bucket_back, names_of}
 pub use Rattle.gpu_descriptor.specs.Inner.RunSteps.{EndsRun, RunStep}
-pub use Rattle.gpu_descriptor.specs.Inner.Serves.{Appends, IsDeclined, IsServed, IsUnserved, ServesKey, Takes}
+pub use Rattle.gpu_descriptor.specs.Inner.Serves.{Appends, IsUnserved, ServesKey, Takes}
 pub use Rattle.gpu_descriptor.specs.Inner.SetAt.{set_at}
 pub use Rattle.gpu_descriptor.specs.Inner.Stored.{IsConsistent, books_in, bucket_of, kept_in, row_of, stored_keys}
 pub use Rattle.gpu_descriptor.specs.Inner.Walk.{Adds, CountsLooks, HasTaken, IsAsked, IsNoMemory, IsRefused, IsWalked}

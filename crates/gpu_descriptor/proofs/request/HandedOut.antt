@@ -1,7 +1,7 @@
 -- All that is promised of a request, from what it took: kept, freed, declined, or for no sets.
 -- For `fill`: each lemma makes a whole record of its contract, field by field.
 use Rattle.gpu_descriptor.proofs.Common.{◌≡◌, ◌≤◌, is_some, ℕ, ◌+◌, ◌<◌, List, Result, Ok, Err, sym, ap, ◌∙◌, arith, side, Meaning, Ledger, Counters, AllocationError, DescriptorSet, Stop, Agree, outstanding, HasDistinctKeys, Key, Allocations, run_digits}
-use Rattle.gpu_descriptor.proofs.Common.{granted, items_in, stop_error, call_of, Returns, with_key, items_of, Agrees, marked_load_of, outstanding_of, pool_load_of, state_of, table_of, IsDeclined, Takes, none-some, true≢false}
+use Rattle.gpu_descriptor.proofs.Common.{granted, items_in, stop_error, call_of, Returns, with_key, items_of, Agrees, marked_load_of, outstanding_of, pool_load_of, state_of, table_of, Allocates, None, taken_by, Takes, none-some, true≢false}
 use Rattle.gpu_descriptor.specs.Caller.HandsOut.{HandsOut}
 use Rattle.gpu_descriptor.specs.Caller.Keeps.{Keeps}
 use Rattle.gpu_descriptor.specs.Caller.States.{keys_of}
@@ -78,8 +78,8 @@ module _ {L P S : Type 0} {means : Meaning L P S} {k : Key} {count : ℕ} (sets 
 
 -- the request was declined, and nothing changed
 module _ {L P S : Type 0} {means : Meaning L P S} {k : Key} {count : ℕ} {old new : Allocations P} {before after : Ledger} (same : new ≡ old) (ledger : after ≡ before) where
-  pub hands_none : Agrees means.pool_name old before → (error : AllocationError) → 0 < count → IsDeclined (call_of means k count (side old before) (side new after) (Err error)) → HandsOut means k count (Err error) (side old before) (side new after)
-  hands_none agree error some declined = let outcome = declined.0 in record {
+  pub hands_none : Agrees means.pool_name old before → (error : AllocationError) → 0 < count → (outcome : Allocates (call_of means k count (side old before) (side new after) (Err error))) → taken_by outcome ≡ None → HandsOut means k count (Err error) (side old before) (side new after)
+  hands_none agree error some outcome none = record {
     outcome = outcome;
     many = tt;
     given = tt;
@@ -90,10 +90,10 @@ module _ {L P S : Type 0} {means : Meaning L P S} {k : Key} {count : ℕ} {old n
     cause = has_cause means k count _ _ agree (Err _) outcome;
     creates = short _ outcome;
     other_keys = λ l other. record { books = λ i. (state_of means.pool_name (same i) (ledger i)).books l; pools = λ n e at i. (state_of means.pool_name (same i) (ledger i)).ledger e.pool };
-    keys = rw declined.1 (ap keys_of same);
+    keys = rw none (ap keys_of same);
     looks = (let a = ap (λ (a : Allocations P). a.looks) same in let l = ap (λ (l : Ledger). l.counters.asked) ledger in omega arith);
-    declined = λ none. (same, ledger);
-    searches = rw declined.1 (ap (λ (a : Allocations P). a.comparisons) same);
+    declined = λ is. (same, ledger);
+    searches = rw none (ap (λ (a : Allocations P). a.comparisons) same);
     comparisons_stay = tt;
     compared = (let a = ap (λ (a : Allocations P). a.comparisons) same in omega arith);
   }

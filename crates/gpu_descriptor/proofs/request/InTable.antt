@@ -1,7 +1,7 @@
 -- What a request takes of one key, in the table of keys.
 -- For `serve`, if the key has a row, and `serve_absent`, if it has none. v and w are the key's bucket before and after.
 use Rattle.gpu_descriptor.proofs.Common.{bool_iff, ltb-true, ◌≡◌, ℕ, ◌+◌, ◌≤◌, Bool, true, false, List, [], ◌∷◌, ◌++◌, length, Option, Some, None, Result, Ok, Err, inl, inr, refl, sym, ap, ◌∙◌, subst, arith, ◌-◌, ◌&&◌, lt-ltb, map, lookup, option_map_or, nat_lt, sum_by, IsDistinct}
-use Rattle.gpu_descriptor.proofs.Common.{cases_Bool, sum_by-append, Meaning, Ledger, Pool, BucketKey, DescriptorSet, DescriptorBucket, Stop, Key, key_eq, Bucket, no_pools, key_of, Item, set_descriptors, books_in, bucket_of, kept_in, named_bucket, row_of, stored_keys, HasTaken, Grant, IsGrantOf, IsServed, ServesKey}
+use Rattle.gpu_descriptor.proofs.Common.{cases_Bool, sum_by-append, Meaning, Ledger, Pool, BucketKey, DescriptorSet, DescriptorBucket, Stop, Key, key_eq, Bucket, no_pools, key_of, Item, set_descriptors, books_in, bucket_of, kept_in, named_bucket, row_of, stored_keys, HasTaken, Grant, IsGrantOf, IsTaken, OnOk, greatest_u64, items_of, next_number, ServesKey}
 use Rattle.gpu_descriptor.proofs.table.Exact.{key_exact}
 use Rattle.indexmap.specs.Layout.{set_value_at}
 use Rattle.gpu_descriptor.proofs.sums.Loads.{load_in, sum_put, set_descriptors-add, rows_out, rows_load}
@@ -42,17 +42,13 @@ grant_new h = record { id = λ some. absurd (omega arith); refusing = h.refusing
 taken_new : {k : Key} {n id : ℕ} {g : Grant} {items : List Item} {b : Bucket} {l m : Ledger} → HasTaken k n g items (record no_pools { id = id }) b l m → HasTaken k n g items no_pools b l m
 taken_new t = record { grant = grant_new t.grant; came = t.came; bucket = t.bucket; pools = t.pools; counters = t.counters; keeps = (let a = t.keeps in record { booked = a.booked; rising = a.rising; live = a.live; stays = a.stays; comes = a.comes; others = a.others }) }
 
-served_new :
-    {L P S : Type 0} {means : Meaning L P S} {bound : Option ℕ} {k : Key} {room count id : ℕ}
-    {sets : List (DescriptorSet S)} {ended : Result (Unit {0}) Stop} {b : Bucket} {before after : Ledger}
-    → IsServed means bound k room count sets ended (record no_pools { id = id }) b before after
-    → IsServed means bound k room count sets ended no_pools b before after
-served_new {ended = Ok done} s = record { numbers = s.numbers; few = s.few; all = s.all; taken = (s.taken.0, taken_new s.taken.1, s.taken.2, s.taken.3) }
-served_new {ended = Err why} s = record { numbers = s.numbers; few = s.few; all = s.all; taken = (s.taken.0, s.taken.1, taken_new s.taken.2, s.taken.3, s.taken.4) }
+taken_absent : (ended : Result (Unit {0}) Stop) (bound : Option ℕ) (k : Key) (room n id : ℕ) (items : List Item) (b : Bucket) (l m : Ledger) → IsTaken ended bound k room n items (record no_pools { id = id }) b l m → IsTaken ended bound k room n items no_pools b l m
+taken_absent (Ok done) bound k room n id items b l m t = (t.0, taken_new t.1, t.2, t.3)
+taken_absent (Err why) bound k room n id items b l m t = (t.0, t.1, taken_new t.2, t.3, t.4)
 
 -- what one key gave, in the table
 module _ {L P S : Type 0} {means : Meaning L P S} (k : BucketKey) (w : DescriptorBucket P) {old : Bucket} {bound : Option ℕ} {room count : ℕ} {sets : List (DescriptorSet S)} {ended : Result (Unit {0}) Stop} {before after : Ledger}
-    (s : IsServed means bound (key_of k) room count sets ended old (bucket_of means.pool_name w) before after) where
+    (numbers : next_number old + count ≤ greatest_u64) (few : length sets ≤ count) (all : OnOk ended (length sets ≡ count)) (taken : IsTaken ended bound (key_of k) room count (items_of means.set_name sets) old (bucket_of means.pool_name w) before after) where
   module _ {had : ℕ} (total : w.total ≡ had + length sets) (es : List (BucketKey × DescriptorBucket P)) {fs : List (BucketKey × DescriptorBucket P)} where
     -- the key had a row, which was written; or its row came last (`serves_new`)
     pub serves_present : {i : ℕ} {v : DescriptorBucket P} → IsDistinct key_eq (stored_keys es) → bucket_of means.pool_name v ≡ old → v.total ≡ had → IsAt (key_of k) es i v → fs ≡ set_value_at es i w → ServesKey means bound (key_of k) room count sets ended (map row_of es) (map row_of fs) before after
@@ -62,8 +58,11 @@ module _ {L P S : Type 0} {means : Meaning L P S} (k : BucketKey) (w : Descripto
         let load = (sum_put load_in es i h.key v w h.at).1 in
         let grows = load_grows k h.key v w (length sets) h.is (total ∙ ap (λ n. n + length sets) (sym many)) in
         rw wrote (record {
+          numbers = rw here numbers;
+          few = few;
+          all = all;
           bucket = bucket_of means.pool_name w;
-          served = subst (λ (b : Bucket). IsServed means bound (key_of k) room count sets ended b (bucket_of means.pool_name w) before after) (sym here) s;
+          taken = rw here taken;
           books = written means.pool_name distinct h w;
           out = (let was = rows_out es in let is = rows_out (set_value_at es i w) in omega arith);
           load = (let was = rows_load es in let is = rows_load (set_value_at es i w) in omega arith);
@@ -75,9 +74,13 @@ module _ {L P S : Type 0} {means : Meaning L P S} (k : BucketKey) (w : Descripto
         → ServesKey means bound (key_of k) room count sets ended (map row_of es) (map row_of fs) before after
     serves_new test same at put empty none =
         let gone = missing means.pool_name (key_of k) es test same at in
+        let bare = subst (λ (b : Bucket). (next_number b + count ≤ greatest_u64) × IsTaken ended bound (key_of k) room count (items_of means.set_name sets) b (bucket_of means.pool_name w) before after) empty (numbers, taken) in
         rw put (record {
+          numbers = rw gone bare.0;
+          few = few;
+          all = all;
           bucket = bucket_of means.pool_name w;
-          served = subst (λ (b : Bucket). IsServed means bound (key_of k) room count sets ended b (bucket_of means.pool_name w) before after) (sym gone) (served_new (subst (λ (b : Bucket). IsServed means bound (key_of k) room count sets ended b (bucket_of means.pool_name w) before after) empty s));
+          taken = rw gone (taken_absent ended bound (key_of k) room count old.id (items_of means.set_name sets) (bucket_of means.pool_name w) before after bare.1);
           books = books_end means.pool_name k w test same es at;
           out = (let was = rows_out es in let is = rows_out (es ++ (k, w) ∷ []) in let a = sum_by-append (λ (r : BucketKey × DescriptorBucket P). r.1.total) es ((k, w) ∷ []) in let one : sum_by (λ (r : BucketKey × DescriptorBucket P). r.1.total) ((k, w) ∷ []) ≡ w.total = omega arith in omega arith);
           load =

@@ -55,7 +55,7 @@ module _ {L P S : Type 0} {means : Meaning L P S} {k : Key} {count : ℕ} {sets 
   state = λ i. record { books = fun_ext t.serves.books i; ledger = after.pools }
 
   had : Had k items (s.books k) t.serves.bucket s.ledger after.pools
-  had = had_taken ended old.bound k room count items (s.books k) t.serves.bucket before after t.serves.served.taken
+  had = had_taken ended old.bound k room count items (s.books k) t.serves.bucket before after t.serves.taken
 
   -- books and ledger agree after it
   pub taken_agree : Agree (state_of means.pool_name new after)
@@ -87,7 +87,7 @@ module _ {L P S : Type 0} {means : Meaning L P S} {k : Key} {count : ℕ} {sets 
   proceeds some last final answer = record {
     some = some;
     limit = t.within;
-    numbers = t.serves.served.numbers;
+    numbers = t.serves.numbers;
     sets = t.fits;
   }
 
@@ -135,7 +135,7 @@ module _ {L P S : Type 0} {means : Meaning L P S} {k : Key} {count : ℕ} {sets 
 
     pub went_back : {why : Stop} → ended ≡ Err why → Rolls why
     went_back {why} is =
-        let taken = subst (λ (r : Result (Unit {0}) Stop). IsTaken r old.bound k room count items (s.books k) t.serves.bucket before after) is t.serves.served.taken in
+        let taken = subst (λ (r : Result (Unit {0}) Stop). IsTaken r old.bound k room count items (s.books k) t.serves.bucket before after) is t.serves.taken in
         rolls why taken.0 taken.1 taken.2 taken.4 taken.3
 
   module _ {last : Allocations P} {final : Ledger} {calls : ℕ} (back : GivesBack means sets calls (side new after) (side last final)) where
@@ -163,10 +163,10 @@ module _ {L P S : Type 0} {means : Meaning L P S} {k : Key} {count : ℕ} {sets 
 
   -- a request that didn't stop took all: as many sets as it was for, and the totals rose by them
   all_of : {x : Unit {0}} → ended ≡ Ok x → IsTaken (Ok x) old.bound k room count items (s.books k) t.serves.bucket before after
-  all_of is = subst (λ (r : Result (Unit {0}) Stop). IsTaken r old.bound k room count items (s.books k) t.serves.bucket before after) is t.serves.served.taken
+  all_of is = subst (λ (r : Result (Unit {0}) Stop). IsTaken r old.bound k room count items (s.books k) t.serves.bucket before after) is t.serves.taken
 
   pub kept_many : {x : Unit {0}} → ended ≡ Ok x → length sets ≡ count
-  kept_many is = subst (λ (r : Result (Unit {0}) Stop). OnOk r (length sets ≡ count)) is t.serves.served.all
+  kept_many is = subst (λ (r : Result (Unit {0}) Stop). OnOk r (length sets ≡ count)) is t.serves.all
 
   pub kept_totals : {x : Unit {0}} → ended ≡ Ok x → (outstanding_of new ≡ outstanding_of old + count) × (marked_load_of new ≡ marked_load_of old + set_descriptors k count)
   kept_totals is = grind (arith, common_steps, kept_many)

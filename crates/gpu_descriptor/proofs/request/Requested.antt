@@ -3,7 +3,7 @@
 -- of the allocator. above and past are the results of its tests, against the limit and against 64 bits.
 use Rattle.gpu_descriptor.proofs.Common.{common_steps, side, Meaning, greatest_u64, [], ◌≡◌, ℕ, ◌+◌, ◌*◌, ◌<◌, ◌≤◌, ◌&&◌, Bool, true, false, List, map, length, sum, Option, Result, Err, inl, inr, refl, sym, ap, subst, ◌∙◌, arith, mul-le-mul_right, and_parts, ltb-true, ltb-false, IsDistinct}
 use Rattle.gpu_descriptor.proofs.Common.{nat_lt, ◌⊎◌, kinds, Ledger, AllocationError, BucketKey, DescriptorSet, DescriptorBucket, Stop, Key, key_eq, Bucket, BucketOf, HasDistinctKeys, books_of, next_number, sum_over, key_of, Allocations, bucket_load, set_descriptors, IsWithinLimit, call_of}
-use Rattle.gpu_descriptor.proofs.Common.{IsDeclined, IsUnserved, ServesKey, Takes, named_row, state_of, table_of, outstanding_of, marked_load_of, pool_load_of, IsConsistent, row_of, stored_keys, books_in}
+use Rattle.gpu_descriptor.proofs.Common.{Allocates, taken_by, None, IsUnserved, ServesKey, Takes, named_row, state_of, table_of, outstanding_of, marked_load_of, pool_load_of, IsConsistent, row_of, stored_keys, books_in}
 use Rattle.gpu_descriptor.specs.declared.errors.AllocationError.TheVariants.{Fragmentation, OutOfHostMemory}
 use Rattle.gpu_descriptor.specs.Model.Outcomes.Allocates.{past_bound, no_memory_at_start}
 use Rattle.gpu_descriptor.proofs.table.TableBooks.{distinct_rows}
@@ -56,7 +56,7 @@ module _ {L P S : Type 0} (means : Meaning L P S) {a : Allocations P} {max looks
     (counted : IsConsistent max marked room out es) (before : Ledger)
     (key : BucketKey) {count : ℕ} (some : 0 < count) {above : Bool} (test : above ≡ (key.marked && nat_lt a.limit (count * sum (kinds key.counts) + marked_load_of a))) where
   abbrev Declines : AllocationError → Type 0
-  Declines error = IsDeclined (call_of means (key_of key) count (side a before) (side a before) (Err error))
+  Declines error = (outcome : Allocates (call_of means (key_of key) count (side a before) (side a before) (Err error))) × (taken_by outcome ≡ None)
 
   -- why it is declined: the marked load would pass the limit, or one of two sums would pass 64 bits
   pub declined_by_limit : above ≡ true → Declines Fragmentation
@@ -76,7 +76,7 @@ module _ {L P S : Type 0} (means : Meaning L P S) {a : Allocations P} {max looks
     pub declined_unserved :
         past ≡ false → {b : Allocations P} {after : Ledger} → b ≡ a → after ≡ before → (e : AllocationError)
         → IsUnserved count (next_number (books_in means.pool_name (map row_of es) (key_of key))) e
-        → IsDeclined (call_of means (key_of key) count (side a before) (side b after) (Err e))
+        → (outcome : Allocates (call_of means (key_of key) count (side a before) (side b after) (Err e))) × (taken_by outcome ≡ None)
     declined_unserved kept_in same kept e why = rw (same, kept) (elim (subst (λ (b : Bucket). IsUnserved count (next_number b) e) (sym (books_at a es (table_is es is) means.pool_name before (key_of key))) why) [
       | inl memory ↦ (
           let fits = ltb-false greatest_u64 (out + count) (sym bounded ∙ kept_in) in

@@ -1,6 +1,6 @@
 -- What a table leaves of a request for sets of one of its keys: the contract of `serve` and `serve_absent`.
-use Rattle.gpu_descriptor.proofs.Common.{◌≡◌, ◌+◌, ◌<◌, ◌^◌, ℕ, List, length, map, Result, Ok, Err, OnOk, sym, ap, arith, subst, Meaning, Ledger, AllocationError, BucketKey, DescriptorBucket, DescriptorPool, DescriptorSet, Stop, entry_of, Key, next_number, number_after, sum_over, bucket_load}
-use Rattle.gpu_descriptor.proofs.Common.{items_of, bucket_of, books_in, row_of, numbers_of, stored_keys, with_key, CountsLooks, IsTaken, IsServed, IsUnserved, ServesKey}
+use Rattle.gpu_descriptor.proofs.Common.{◌≡◌, ◌+◌, ◌<◌, ◌≤◌, greatest_u64, ◌^◌, ℕ, List, length, map, Result, Ok, Err, OnOk, sym, ap, arith, subst, Meaning, Ledger, AllocationError, BucketKey, DescriptorBucket, DescriptorPool, DescriptorSet, Stop, entry_of, Key, next_number, number_after, sum_over, bucket_load}
+use Rattle.gpu_descriptor.proofs.Common.{items_of, bucket_of, books_in, row_of, numbers_of, stored_keys, with_key, CountsLooks, IsTaken, IsUnserved, ServesKey}
 use Rattle.std.proofs.lemmas.Result.{on_ok_weaker}
 use Rattle.gpu_descriptor.specs.declared.budget.Budget.{Budget}
 use Rattle.gpu_descriptor.specs.Inner.Serves.{Appends, ServesRequest}
@@ -20,10 +20,7 @@ module _ {L P S : Type 0} {means : Meaning L P S} {k : Key} {count left : ℕ} {
     appends = tt;
     keys = tt;
     refused = why;
-    sets = sets;
-    entries = entries;
-    budget = λ i. was;
-    ledger = λ i. l;
+    stays = (sets, entries, λ i. was, λ i. l);
     room = ap (λ (xs : List (BucketKey × DescriptorBucket P)). was.room + sum_over bucket_load (map row_of xs)) entries;
     bound = λ i. was.bound;
     looks = λ i. was.looks.count + l.counters.asked;
@@ -35,7 +32,8 @@ module _ {L P S : Type 0} {means : Meaning L P S} {k : Key} {count left : ℕ} {
       (appends : Appends means layout count left roomy has) (all : OnOk ended (left ≡ 0)) (total : new.total ≡ many + length (appended roomy has))
       (taken : IsTaken ended was.bound k was.room count (items_of means.set_name (appended roomy has)) (bucket id (map (entry_of means.pool_name) pools)) (bucket_of means.pool_name new) before after) where
     pub is_served : {is : Budget}
-        → (IsServed means was.bound k was.room count (appended had has) ended (bucket id (map (entry_of means.pool_name) pools)) (bucket_of means.pool_name new) before after → new.total ≡ many + length (appended had has)
+        → (next_number (bucket id (map (entry_of means.pool_name) pools)) + count ≤ greatest_u64 → length (appended had has) ≤ count → OnOk ended (length (appended had has) ≡ count)
+        → IsTaken ended was.bound k was.room count (items_of means.set_name (appended had has)) (bucket id (map (entry_of means.pool_name) pools)) (bucket_of means.pool_name new) before after → new.total ≡ many + length (appended had has)
         → ServesKey means was.bound k was.room count (appended had has) ended (map row_of es) (map row_of fs) before after)
         → stored_keys fs ≡ with_key k (stored_keys es) → is.room + sum_over bucket_load (map row_of fs) ≡ was.room + sum_over bucket_load (map row_of es) → is.bound ≡ was.bound → CountsLooks was.looks.count is.looks.count before after
         → ServesRequest means layout k count left (Ok ended) es fs was is had has before after
@@ -44,19 +42,11 @@ module _ {L P S : Type 0} {means : Meaning L P S} {k : Key} {count left : ℕ} {
         × IsTaken ended was.bound k was.room count (items_of means.set_name (appended xs has)) (bucket id (map (entry_of means.pool_name) pools)) (bucket_of means.pool_name new) before after) made (appends, total, taken) in
         let rest = here.0.rest in
         record {
-          served = serves (record {
-            numbers = (let is = next means.pool_name id pools in omega arith);
-            few = omega arith;
-            all = on_ok_weaker ended (λ none. (omega arith)) all;
-            taken = here.2;
-          }) here.1;
+          served = serves (let is = next means.pool_name id pools in omega arith) (omega arith) (on_ok_weaker ended (λ none. (omega arith)) all) here.2 here.1;
           appends = here.0;
           keys = keys;
           refused = tt;
-          sets = tt;
-          entries = tt;
-          budget = tt;
-          ledger = tt;
+          stays = tt;
           room = room;
           bound = bound;
           looks = looks;

@@ -1,6 +1,6 @@
 -- What a request took of one key, before any of it is freed: in the bucket, in the table, and of an allocator.
 use Rattle.gpu_descriptor_types.specs.Bounds.{greatest_u64}
-use Rattle.std.specs.Prelude.{◌≡◌, ℕ, ◌+◌, ◌-◌, ◌*◌, ◌<◌, ◌≤◌, ◌⊎◌, ◌++◌, true, if◌then◌else◌, List, length, map, sum, Option, Result, IfErr, IfOk, OnErr, OnOk, None}
+use Rattle.std.specs.Prelude.{◌≡◌, ℕ, ◌+◌, ◌-◌, ◌*◌, ◌<◌, ◌≤◌, ◌⊎◌, ◌++◌, true, if◌then◌else◌, List, length, map, sum, Option, Result, IfErr, IfOk, OnErr, OnOk}
 use Rattle.gpu_descriptor_types.specs.Ledger.{Ledger}
 use Rattle.gpu_descriptor_types.specs.Meaning.{Meaning}
 use Rattle.gpu_descriptor_types.specs.Side.{Side}
@@ -13,7 +13,6 @@ use Rattle.gpu_descriptor.specs.declared.key.BucketKey.{BucketKey}
 use Rattle.gpu_descriptor.specs.declared.set.DescriptorSet.{DescriptorSet}
 use Rattle.gpu_descriptor.specs.declared.bucket.stop.Stop.{Stop}
 use Rattle.gpu_descriptor.specs.Model.Books.{Key, key_eq, Bucket, BucketOf, next_number, sum_over}
-use Rattle.gpu_descriptor.specs.Model.Outcomes.{Call, Allocates, taken_by}
 use Rattle.gpu_descriptor.specs.Caller.Keys.{with_key}
 use Rattle.gpu_descriptor.specs.Caller.SetLists.{appended}
 use Rattle.gpu_descriptor.specs.Caller.Sets.{PutsOfLayout, items_of}
@@ -33,19 +32,15 @@ module _ {L P S : Type 0} (means : Meaning L P S) where
     pub rest : length (appended old new) + left ≡ count
 
   module _ (bound : Option ℕ) (k : Key) (room count : ℕ) (sets : List (DescriptorSet S)) (ended : Result (Unit {0}) Stop) where
-    -- a request took these sets of a bucket
-    pub record IsServed (old new : Bucket) (before after : Ledger) : Type 0 where
+    -- a request took these sets of a key, in the table
+    pub record ServesKey (old new : List (Key × BucketOf P)) (before after : Ledger) : Type 0 where
       -- with the numbers of count new pools, 64 bits are kept
-      pub numbers : next_number old + count ≤ greatest_u64
+      pub numbers : next_number (books_in means.pool_name old k) + count ≤ greatest_u64
       pub few : length sets ≤ count
       pub all : OnOk ended (length sets ≡ count)
-      pub taken : IsTaken ended bound k room count (items_of means.set_name sets) old new before after
-
-    -- the table has the key's new bucket, and those of the other keys as they were
-    pub record ServesKey (old new : List (Key × BucketOf P)) (before after : Ledger) : Type 0 where
+      -- what the key's bucket gave, and what it is then
       pub bucket : Bucket
-      -- what the key's bucket gave
-      pub served : IsServed (books_in means.pool_name old k) bucket before after
+      pub taken : IsTaken ended bound k room count (items_of means.set_name sets) (books_in means.pool_name old k) bucket before after
       -- the key has another bucket, and all other keys have the same
       pub books : (l : Key) → books_in means.pool_name new l ≡ (if key_eq k l then bucket else books_in means.pool_name old l)
       -- the number of outstanding sets rises by the sets taken, and the marked load by their descriptors
@@ -59,10 +54,6 @@ module _ {L P S : Type 0} (means : Meaning L P S) where
     pub fits : outstanding_of old.value + count ≤ greatest_u64
     -- what the table gave, with the room that the limit left
     pub serves : ServesKey old.value.bound k (old.value.limit - pool_load_of old.value) count sets ended old.value.table new.value.table old.ledger new.ledger
-
--- a request ended before the walk over the pools
-abbrev pub IsDeclined : Call → Type 0
-IsDeclined c = (outcome : Allocates c) × (taken_by outcome ≡ None)
 
 -- nothing was taken: an allocation failed, or the numbers of the key's pools would exceed 64 bits
 abbrev pub IsUnserved : (count next : ℕ) → AllocationError → Type 0
@@ -81,10 +72,7 @@ module _ {L P S : Type 0} (means : Meaning L P S) where
     -- or nothing was taken
     pub refused : IfErr result (IsUnserved count (next_number (books_in means.pool_name (map row_of old) k)))
     -- an error changes nothing
-    pub sets : OnErr result (has ≡ had)
-    pub entries : OnErr result (new ≡ old)
-    pub budget : OnErr result (is ≡ was)
-    pub ledger : OnErr result (after ≡ before)
+    pub stays : OnErr result ((has ≡ had) × (new ≡ old) × (is ≡ was) × (after ≡ before))
     -- new pools of a marked key use up room for their descriptors
     pub room : is.room + sum_over bucket_load (map row_of new) ≡ was.room + sum_over bucket_load (map row_of old)
     -- the bound stays, and each call that asks a pool is a look

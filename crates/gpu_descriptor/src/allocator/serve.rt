@@ -1,5 +1,5 @@
 //! How a request is served: whether the limit allows it, and what is freed if it fails.
-ghost use Rattle.std.specs.Prelude.{◌≡◌, ◌+◌, ◌*◌, ◌<◌, ◌&&◌, nat_lt, sum, Err};
+ghost use Rattle.std.specs.Prelude.{◌≡◌, ◌+◌, ◌*◌, ◌<◌, ◌&&◌, nat_lt, sum, Err, None};
 ghost use Rattle.std.specs.Prelude.{IfOk, IfErr, OnOk, OnErr};
 ghost use Rattle.gpu_descriptor_types.specs.Counts.{kinds};
 ghost use Rattle.gpu_descriptor_types.specs.Side.{side};
@@ -11,8 +11,9 @@ ghost use Rattle.gpu_descriptor.specs.Caller.SetLists.{appended};
 ghost use Rattle.gpu_descriptor.specs.Caller.States.{Agrees, keys_of, marked_load_of};
 ghost use Rattle.gpu_descriptor.specs.Inner.KeyOf.{key_of};
 ghost use Rattle.gpu_descriptor.specs.Inner.Walk.{CountsLooks};
-ghost use Rattle.gpu_descriptor.specs.Inner.Serves.{Appends, IsDeclined, Takes};
+ghost use Rattle.gpu_descriptor.specs.Inner.Serves.{Appends, Takes};
 ghost use Rattle.gpu_descriptor.specs.Model.Load.{set_descriptors};
+ghost use Rattle.gpu_descriptor.specs.Model.Outcomes.{Allocates, taken_by};
 
 use super::DescriptorAllocator;
 use crate::bucket::request::SetRequest;
@@ -114,9 +115,9 @@ impl<P: Drop, S> DescriptorAllocator<P, S> {
         ensures appends { OnOk result (Appends D.meaning request.now.layout.now request.now.count
             sink.new.left (K.items sink.old.sets) (K.items sink.new.sets)) }
         ensures sets { OnErr result (K.items sink.new.sets ≡ K.items sink.old.sets) }
-        ensures declined { IfErr result (λ e. IsDeclined (call_of D.meaning (key_of request.now.key)
-            request.now.count (side self.old (D.ledger device.old))
-            (side self.new (D.ledger device.new)) (Err e))) }
+        ensures declined { IfErr result (λ e. (outcome : Allocates (call_of D.meaning
+            (key_of request.now.key) request.now.count (side self.old (D.ledger device.old))
+            (side self.new (D.ledger device.new)) (Err e))) × (taken_by outcome ≡ None)) }
         ensures looks { CountsLooks self.old.looks self.new.looks
             (D.ledger device.old) (D.ledger device.new) }
         ensures comparisons_stay { self.new.comparisons ≡ self.old.comparisons }

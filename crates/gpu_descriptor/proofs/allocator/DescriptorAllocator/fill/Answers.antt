@@ -1,4 +1,4 @@
-use Rattle.gpu_descriptor.proofs.Common.{◌≡◌, ◌++◌, ℕ, List, drop, take, take_at, subst, sym, ap, ◌∙◌, Err, side, DescriptorSet, Key, items_of, call_of, layout_key, with_key, AreOutstanding, AreOfLayout, state_of, IsDeclined, Takes, Returns}
+use Rattle.gpu_descriptor.proofs.Common.{◌≡◌, ◌++◌, ℕ, List, drop, take, take_at, subst, sym, ap, ◌∙◌, Err, side, DescriptorSet, Key, items_of, call_of, layout_key, with_key, AreOutstanding, AreOfLayout, state_of, Allocates, None, taken_by, Takes, Returns}
 use Rattle.gpu_descriptor.specs.Caller.SetLists.{appended}
 use Rattle.gpu_descriptor.specs.Caller.States.{keys_of}
 use Rattle.gpu_descriptor.proofs.request.Outcomes.{taken_given}
@@ -65,21 +65,16 @@ free_after-requires-clause-outstanding g c =
     (taken_given (taken g (goal.at.free_after-requires-clause-outstanding g c).In-Ok) c.requires.agree.books)
 
 pub returns-in-Err-clause-appends : goal.returns-in-Err-clause-appends
-returns-in-Err-clause-appends g c = record {
-  hands_out = hands_none c.in-Err.ensures.allocator c.in-Err.ensures.ledger c.requires.agree c.in-Err.error c.requires.some
-      (subst
-      (λ (k : Key).
-      IsDeclined
-      (call_of g.D.DescriptorDevice.meaning k c.args.request.now.count
-      (side c.args.self.now (g.D.DescriptorDevice.ledger c.args.device.now))
-      (side c.serve_if_allowed-served.new.self
-      (g.D.DescriptorDevice.ledger c.serve_if_allowed-served.new.device))
-      (Err c.in-Err.error)))
-      c.args.request.now.same c.in-Err.ensures.declined);
-  front = tt;
-  own = tt;
-  sets_stay = ap g.K.SetPlaces.items c.into_sets-sets.ensures ∙ c.in-Err.ensures.sets ∙ ap g.K.SetPlaces.items c.new-sink.ensures;
-}
+returns-in-Err-clause-appends g c =
+    let declined =
+    subst (λ (k : Key). (outcome : Allocates (call_of g.D.DescriptorDevice.meaning k c.args.request.now.count (side c.args.self.now (g.D.DescriptorDevice.ledger c.args.device.now)) (side c.serve_if_allowed-served.new.self (g.D.DescriptorDevice.ledger c.serve_if_allowed-served.new.device)) (Err c.in-Err.error))) × (taken_by outcome ≡ None))
+    c.args.request.now.same c.in-Err.ensures.declined in
+    record {
+      hands_out = hands_none c.in-Err.ensures.allocator c.in-Err.ensures.ledger c.requires.agree c.in-Err.error c.requires.some declined.0 declined.1;
+      front = tt;
+      own = tt;
+      sets_stay = ap g.K.SetPlaces.items c.into_sets-sets.ensures ∙ c.in-Err.ensures.sets ∙ ap g.K.SetPlaces.items c.new-sink.ensures;
+    }
 
 pub returns-in-Ok-ended-clause-appends : goal.returns-in-Ok-ended-clause-appends
 returns-in-Ok-ended-clause-appends g c =

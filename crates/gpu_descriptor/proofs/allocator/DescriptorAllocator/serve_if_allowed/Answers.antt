@@ -25,9 +25,9 @@ returns-in_err-ended-clause-declined g c =
     rw (passed c.from_residual.result c.in_err-ended.field-0.0 c.from_residual.ensures.1)
     (declined_unserved g.D.DescriptorDevice.meaning c.self.view_is (opened c.self.invariant) _ c.args.request.now.key c.requires.some c.would_exceed_limit.ensures c.if-would_exceed_limit.false
     c.would_exceed_64_bits.ensures c.if-would_exceed_64_bits.false
-    (seen_again _ c.self.view_is _ c.in_err-ended.ensures.serves.entries
-    (ap (λ b. b.looks.count) c.in_err-ended.ensures.serves.budget) (ap (λ b. b.bound) c.in_err-ended.ensures.serves.budget))
-    c.in_err-ended.ensures.serves.ledger c.in_err-ended.field-0.0 c.in_err-ended.ensures.serves.refused)
+    (seen_again _ c.self.view_is _ c.in_err-ended.ensures.serves.stays.1
+    (ap (λ b. b.looks.count) c.in_err-ended.ensures.serves.stays.2) (ap (λ b. b.bound) c.in_err-ended.ensures.serves.stays.2))
+    c.in_err-ended.ensures.serves.stays.3 c.in_err-ended.field-0.0 c.in_err-ended.ensures.serves.refused)
 
 many : (g : _) (c : After-from-taken g) → c.from-taken.result ≡ length (appended (g.K.SetPlaces.items c.args.sink.now.sets) (g.K.SetPlaces.items c.serve.new.sink.sets))
 many g c = (let left = c.in_ok-ended.ensures.serves.appends.rest in let came = c.from-taken.ensures in omega arith)
@@ -100,8 +100,8 @@ returns-then-would_exceed_64_bits-clause-keeps g c = keeps_still refl refl c.req
 pub returns-in_err-ended-clause-keeps : goal.returns-in_err-ended-clause-keeps
 returns-in_err-ended-clause-keeps g c =
     let serves = c.in_err-ended.ensures.serves in
-    let same = seen_again _ c.self.view_is _ serves.entries (ap (λ b. b.looks.count) serves.budget) (ap (λ b. b.bound) serves.budget) in
-    keeps_still same serves.ledger c.requires.agree
+    let same = seen_again _ c.self.view_is _ serves.stays.1 (ap (λ b. b.looks.count) serves.stays.2) (ap (λ b. b.bound) serves.stays.2) in
+    keeps_still same serves.stays.3 c.requires.agree
     (subst (λ (a : Allocations _). marked_load_of a ≤ a.limit) (sym same) (load_within _ c.self.view_is (opened c.self.invariant)))
     (subst (λ (a : Allocations _). pool_load_of a ≤ a.limit) (sym same) (pool_load_within _ c.self.view_is (opened c.self.invariant)))
 
