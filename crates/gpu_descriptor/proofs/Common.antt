@@ -42,7 +42,7 @@ pub use Rattle.gpu_descriptor.specs.Model.Agreement.{Agree, AreOutstanding, HasN
 pub use Rattle.gpu_descriptor.specs.Inner.KeyOf.{key_of}
 pub use Rattle.gpu_descriptor.specs.Caller.Values.{Allocations}
 pub use Rattle.gpu_descriptor.specs.Caller.Call.{call_of, layout_key}
-pub use Rattle.gpu_descriptor.specs.Caller.Comparisons.{binary_digits, digits_at, digits_behind, digits_within, gap_digits, open_pools, run_digits, search_digits}
+pub use Rattle.gpu_descriptor.specs.Caller.Comparisons.{binary_digits, digits_at, digits_behind, digits_within, gap_digits, run_digits, search_digits}
 pub use Rattle.gpu_descriptor.specs.Caller.Frees.{Frees, GivesBack, Returns, marked_descriptors}
 pub use Rattle.gpu_descriptor.specs.Caller.Keys.{keys_with_pools, with_key}
 pub use Rattle.gpu_descriptor.specs.Caller.Others.{is_named}
@@ -60,14 +60,14 @@ pub use Rattle.gpu_descriptor.specs.Inner.Stored.{IsConsistent, books_in, bucket
 pub use Rattle.gpu_descriptor.specs.Inner.Walk.{Adds, CountsLooks, HasTaken, IsAsked, IsNoMemory, IsRefused, IsWalked}
 pub use Rattle.gpu_descriptor.specs.Model.Cleanup.{LosesEmpty, gone_of, left_of, pools_lost, with_pools, without_empty}
 pub use Rattle.gpu_descriptor.specs.Model.Foreign.{IsForeign, IsNamed, KeepsForeign}
-pub use Rattle.gpu_descriptor.specs.Model.FreshPools.{AreFull, AreNew, AreSized, Fresh, IsFreshPrefix, IsFreshList, IsNextSize, fresh_entries, fresh_entry, fresh_portions, given_by, room_after}
+pub use Rattle.gpu_descriptor.specs.Model.FreshPools.{AreNew, AreSized, Fresh, IsFreshPrefix, IsFreshList, IsNextSize, fresh_entries, fresh_entry, fresh_portions, given_by, room_after}
 pub use Rattle.gpu_descriptor.specs.Model.Grants.{Grant, IsGrantOf, Part, bucket_with, came, fresh_or, granted, items_at, items_in, ledger_with, pool_with, portion_of}
 pub use Rattle.gpu_descriptor.specs.Model.Load.{allocated_in, bucket_load, descriptors_created, descriptors_out, pool_descriptors, pools_load, set_descriptors, sets_out}
 pub use Rattle.gpu_descriptor.specs.Model.Outcomes.{Allocates, Call, IsBack, IsDone, IsStopped, IsWithinLimit, StopsAtNew, Proceeds, Stays, StopsAt, error_of_alloc, grant_rise, out_then, risen, rollback_rise, stop_error, stop_rise, taken_by, needed}
 pub use Rattle.gpu_descriptor.specs.Model.Promises.{AreBelowTwice, AreOfKey, AreOutBesides, CreatesOnlyWhereShort, IsShort, IsUntouched, KeepsOtherKeys, KeepsOutstanding}
 pub use Rattle.gpu_descriptor.specs.Model.Release.{are_named, bucket_less, entry_less, front_but, fronts_gone, given_back, has_sets, is_empty, lies_in, more_destroyed, more_released, pool_less, pools_gone, released, released_each, singly, spent_front, without_front}
 pub use Rattle.gpu_descriptor.specs.Model.Runs.{runs}
-pub use Rattle.gpu_descriptor.specs.Model.Shares.{OnlyAskedRefuse, Portion, all_shared, asked_count, asks, is_asked, offer, portions_of, refused_count, rest, share, shared}
+pub use Rattle.gpu_descriptor.specs.Model.Shares.{OnlyAskedRefuse, Portion, all_shared, asked_count, asks, is_asked, offer, portions_of, refused_count, rest, share}
 pub use Rattle.gpu_descriptor.specs.declared.bucket.run.Run.{Run}
 pub use Rattle.std.proofs.lemmas.Grind.{common_steps, flat_map-append}
 pub use Rattle.std.proofs.lemmas.List.Folds.{list_any-append, list_any_more}

@@ -3,7 +3,7 @@
 -- `_more`: with one new pool more at the end. `_now`: with the new pool f, named q, which gave the sets more; m' is the ledger then.
 use Rattle.gpu_descriptor.proofs.Common.{common_steps, ◌≡◌, ℕ, take, drop, ◌+◌, ◌-◌, ◌<◌, List, [], ◌∷◌, ◌++◌, length, map, Bool, true, false, cond, ◌==◌, nat_eq, Option, Some, None, Ok, Err, refl, sym, ap, ◌∙◌, subst, arith, eqb-true, eq-eqb, fun_ext, nil_from_length, eqb-false, pools_load}
 use Rattle.gpu_descriptor.proofs.Common.{map-append, sum_by-cons, sum_by-append, list_any, update, if◌then◌else◌, option_map, Item, flags_of, Key, Entry, Bucket, Pool, Ledger, live_sets, on_pool, or_from, or_parts, pool_counts, Stop, list_any-append, Fresh, fresh_portions}
-use Rattle.gpu_descriptor.proofs.Common.{fresh_entries, fresh_entry, number_after, numbers_of, given_by, IsNextSize, room_after, AreSized, AreFull, AreNew, IsFreshPrefix, IsFreshList, Grant, Part, items_at, portion_of, came, pool_with, ledger_with, fresh_or, IsGrown, IsTaken, IsRefused}
+use Rattle.gpu_descriptor.proofs.Common.{fresh_entries, fresh_entry, number_after, numbers_of, given_by, IsNextSize, room_after, AreSized, AllByRecursion, AreNew, IsFreshPrefix, IsFreshList, Grant, Part, items_at, portion_of, came, pool_with, ledger_with, fresh_or, IsGrown, IsTaken, IsRefused}
 use Rattle.gpu_descriptor.proofs.Common.{allocated_in, pool_descriptors, risen, grant_rise, StopsAtNew, StopsAt, rest, all_shared, portions_of, Adds, AreBookedIn, HasTaken, IsWalked}
 use Rattle.gpu_descriptor.specs.declared.bucket.stop.Stop.TheVariants as stop
 use Rattle.gpu_descriptor_types.specs.Ledger as ledgers
@@ -31,7 +31,7 @@ pub record Growing (bound : Option ℕ) (k : Key) (start n id room total needed 
   pub sized : AreSized bound k start (allocated_in (all_shared refused n old)) (rest refused n old) fresh
   pub room_now : room ≡ room_after k start fresh
   -- as long as sets are needed each new pool gave all that it has, and once none is they are a whole fresh list
-  pub full : 0 < needed → AreFull fresh
+  pub full : 0 < needed → AllByRecursion (λ (f : Fresh). f.given ≡ f.size) fresh
   pub list : needed ≡ 0 → IsFreshList bound k start (allocated_in (all_shared refused n old)) (rest refused n old) fresh
   pub taken : HasTaken k n (all_so_far id refused fresh parts) items (bucket id old) (bucket id new) l m
 
@@ -77,7 +77,7 @@ sized_more bound k room t w (h ∷ fs) f left total wanted all room_is total_is 
           room_is (omega arith) (omega arith) one,
     ))
 
-full_more : (fs : List Fresh) (f : Fresh) → AreFull fs → f.given ≡ f.size → AreFull (fs ++ f ∷ [])
+full_more : (fs : List Fresh) (f : Fresh) → AllByRecursion (λ (f : Fresh). f.given ≡ f.size) fs → f.given ≡ f.size → AllByRecursion (λ (f : Fresh). f.given ≡ f.size) (fs ++ f ∷ [])
 full_more [] f all one = (one, tt)
 full_more (h ∷ fs) f all one = (all.0, full_more fs f all.1 one)
 

@@ -1,6 +1,6 @@
 -- The new pools of a request: their sizes, and what the pools before them have left. For request.Promises.
-use Rattle.gpu_descriptor.proofs.Common.{common_steps, ◌≡◌, ℕ, ◌+◌, ◌-◌, ◌<◌, Bool, List, [], ◌∷◌, ◌++◌, length, take, refl, sym, ap, ◌∙◌, arith, append_assoc, length-append, All, take_at, All-nil, All-cons, All-append, All-same, sum_by-cons, Option, State, Key, Entry, Fresh, AreSized, AreFull}
-use Rattle.gpu_descriptor.proofs.Common.{IsFreshList, given_by, fresh_entries, fresh_entry, next_number, Grant, granted, pool_descriptors, Call, IsDone, out_then, needed, AreBelowTwice, offer, rest, shared, all_shared}
+use Rattle.gpu_descriptor.proofs.Common.{common_steps, ◌≡◌, ℕ, ◌+◌, ◌-◌, ◌<◌, Bool, List, [], ◌∷◌, ◌++◌, length, take, refl, sym, ap, ◌∙◌, arith, append_assoc, length-append, All, take_at, All-nil, All-cons, All-append, All-same, sum_by-cons, Option, State, Key, Entry, Fresh, AreSized, AllByRecursion}
+use Rattle.gpu_descriptor.proofs.Common.{IsFreshList, given_by, fresh_entries, fresh_entry, next_number, Grant, granted, pool_descriptors, Call, IsDone, out_then, needed, AreBelowTwice, offer, rest, share, all_shared}
 use Rattle.gpu_descriptor.specs.Model.FreshPools.IsFreshList.{none as no_fresh, some as some_fresh}
 use Rattle.gpu_descriptor.proofs.table.Exact.{key_exact}
 use Rattle.gpu_descriptor.proofs.request.FreshNumbers.{fresh_entries_more}
@@ -9,13 +9,13 @@ use Rattle.gpu_descriptor.proofs.request.NextSize.{next_below}
 -- ---- sizes
 
 -- each is below twice its start size: in a prefix, and in a prefix and one more
-pub prefix_below : (bound : Option ℕ) (k : Key) (room total wanted : ℕ) (pools : List Fresh) → AreSized bound k room total wanted pools → AreFull pools → given_by pools < wanted → AreBelowTwice total wanted pools
+pub prefix_below : (bound : Option ℕ) (k : Key) (room total wanted : ℕ) (pools : List Fresh) → AreSized bound k room total wanted pools → AllByRecursion (λ (f : Fresh). f.given ≡ f.size) pools → given_by pools < wanted → AreBelowTwice total wanted pools
 prefix_below bound k room total wanted [] sized full short = tt
 prefix_below bound k room total wanted (f ∷ pools) sized full short =
     let sum = sum_by-cons (λ (g : Fresh). g.given) f pools in
     (omega arith, next_below bound k room total wanted f.size sized.0, prefix_below bound k (room - pool_descriptors k f.size) (total + f.given) (wanted - f.given) pools sized.1 full.1 (omega arith))
 
-pub list_below : (bound : Option ℕ) (k : Key) (room total wanted : ℕ) (front : List Fresh) (last : Fresh) → AreSized bound k room total wanted (front ++ last ∷ []) → AreFull front → given_by front < wanted → AreBelowTwice total wanted (front ++ last ∷ [])
+pub list_below : (bound : Option ℕ) (k : Key) (room total wanted : ℕ) (front : List Fresh) (last : Fresh) → AreSized bound k room total wanted (front ++ last ∷ []) → AllByRecursion (λ (f : Fresh). f.given ≡ f.size) front → given_by front < wanted → AreBelowTwice total wanted (front ++ last ∷ [])
 list_below bound k room total wanted [] last sized full short = (omega arith, next_below bound k room total wanted last.size sized.0, tt)
 list_below bound k room total wanted (f ∷ front) last sized full short =
     let sum = sum_by-cons (λ (g : Fresh). g.given) f front in
@@ -28,10 +28,11 @@ pub shares_used : (refused : ℕ → Bool) (n : ℕ) (es : List Entry) → 0 < r
 shares_used refused n [] some = All-nil (λ (e : Entry). e.available ≡ 0)
 shares_used refused n (e ∷ newer) some =
     let sum = sum_by-cons (offer refused) e newer in
-    let here : (shared refused n newer e).available ≡ 0 = omega arith in
-    All-cons (λ (x : Entry). x.available ≡ 0) (shared refused n newer e) (all_shared refused n newer) here (shares_used refused n newer (omega arith))
+    let gave : Entry = record e { allocated = e.allocated + share refused n newer e; available = offer refused e - share refused n newer e } in
+    let here : offer refused e - share refused n newer e ≡ 0 = omega arith in
+    All-cons (λ (x : Entry). x.available ≡ 0) gave (all_shared refused n newer) here (shares_used refused n newer (omega arith))
 
-full_used : (number : ℕ) (pools : List Fresh) → AreFull pools → All (λ e. e.available ≡ 0) (fresh_entries number pools)
+full_used : (number : ℕ) (pools : List Fresh) → AllByRecursion (λ (f : Fresh). f.given ≡ f.size) pools → All (λ e. e.available ≡ 0) (fresh_entries number pools)
 full_used number [] full = All-nil (λ (e : Entry). e.available ≡ 0)
 full_used number (f ∷ pools) full = grind (arith, common_steps, All-cons, (full_used (number + 1) pools full.1))
 

@@ -2,7 +2,7 @@
 -- For request.HandedOut: `short` is the clause that pools are created only if the existing ones fall short, and few (IsShort).
 use Rattle.gpu_descriptor.proofs.Common.{common_steps, ◌≡◌, ◌≢◌, ℕ, suc, ◌+◌, ◌-◌, ◌*◌, ◌<◌, ◌≤◌, Bool, Option, List, [], ◌∷◌, map, length, sum_by, inl, inr, refl, sym, ap, ◌∙◌, subst, arith, length-map, length-append, sum_by-cons, sum_by-append, pool_size_floor, ◌↔◌, OnOk, Counters}
 use Rattle.gpu_descriptor.proofs.Common.{create_refused, alloc_refused, no_rise, CreatePoolError, DeviceAllocationError, Stop, Key, Entry, cases_lt, ◌⊎◌, Allocates, Call, IsBack, IsDone, IsStopped, StopsAt, out_then, stop_rise, needed, Fresh, IsFreshPrefix, IsNextSize, room_after, AreSized}
-use Rattle.gpu_descriptor.proofs.Common.{AreFull, IsFreshList, given_by, Grant, Part, portion_of, items_in, AreBelowTwice, IsShort, CreatesOnlyWhereShort, pool_descriptors, Portion, rest, portions_of}
+use Rattle.gpu_descriptor.proofs.Common.{AllByRecursion, IsFreshList, given_by, Grant, Part, portion_of, items_in, AreBelowTwice, IsShort, CreatesOnlyWhereShort, pool_descriptors, Portion, rest, portions_of}
 use Rattle.gpu_descriptor_types.proofs.Sizes.{pool_size_some}
 use Rattle.gpu_descriptor.specs.declared.bucket.stop.Stop.TheVariants as stop
 use Rattle.gpu_descriptor.specs.Model.Outcomes.Allocates.{none, above_limit as was_above_limit, past_bound as was_past_bound, no_memory_at_start as had_no_memory, done, stopped}
@@ -33,7 +33,7 @@ whole_gave bound k room total wanted f next left full short = (let some = pool_s
 -- new pools that gave all they have and didn't do are few; with room left for one more so are they and that one. The last may have been cut
 few :
     (bound : Option ℕ) (k : Key) (room total wanted : ℕ) (pools : List Fresh) → AreSized bound k room total wanted pools
-    → AreFull pools → given_by pools < wanted → (more : ℕ)
+    → AllByRecursion (λ (f : Fresh). f.given ≡ f.size) pools → given_by pools < wanted → (more : ℕ)
     → (more ≡ 0) ⊎ ((more ≡ pool_size_floor k.counts) × (pool_descriptors k 1 ≤ room_after k room pools))
     → length pools * pool_size_floor k.counts + more ≤ given_by pools + pool_size_floor k.counts
 few bound k room total wanted [] sized full short more why = elim why [ inl nothing ↦ (omega arith) | inr one ↦ (let is = one.0 in omega arith) ]

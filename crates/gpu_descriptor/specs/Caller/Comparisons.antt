@@ -18,13 +18,9 @@ binary_digits n = digits_within n n
 abbrev pub gap_digits : List ℕ → ℕ
 gap_digits numbers = if nat_lt (slice_index numbers 0 + length numbers) (number_after numbers) then binary_digits (length numbers) else 0
 
--- how many pools of a key are open, which means that they have known free places
-abbrev pub open_pools : Bucket → ℕ
-open_pools b = count_by (λ e. nat_lt 0 e.available) b.pools
-
--- for the release of one run: the binary digits of the number of the key's open pools, and those of the number of all its pools if their numbers have gaps
+-- for the release of one run: the binary digits of the number of the key's open pools, which have known free places, and those of the number of all its pools if their numbers have gaps
 abbrev pub search_digits : Bucket → ℕ
-search_digits b = binary_digits (open_pools b) + gap_digits (numbers_of b.pools)
+search_digits b = binary_digits (count_by (λ e. nat_lt 0 e.available) b.pools) + gap_digits (numbers_of b.pools)
 
 module _ (s : State) where
   -- those of t's key, once the sets before t are freed

@@ -1,6 +1,6 @@
 -- The new pools of a request.
 use Rattle.std.specs.Prelude.{◌≡◌, ℕ, ◌+◌, ◌-◌, ◌≤◌, ◌<◌, false, ◌==◌, if◌then◌else◌, List, [], ◌∷◌, ◌++◌, sum, sum_by, Option, None}
-use Rattle.std.specs.List.{list_any}
+use Rattle.std.specs.List.{AllByRecursion, list_any}
 use Rattle.gpu_descriptor_types.specs.Ledger.{Pool}
 use Rattle.gpu_descriptor_types.specs.PoolSize.{IsPoolSize, bounded_sets, sets_in_room}
 use Rattle.gpu_descriptor.specs.Model.Books.{Key, Entry}
@@ -35,11 +35,6 @@ abbrev pub room_after : Key → ℕ → List Fresh → ℕ
 room_after k room [] = room
 room_after k room (f ∷ pools) = room_after k (room - pool_descriptors k f.size) pools
 
--- each gave all the sets that it holds
-abbrev pub AreFull : List Fresh → Type 0
-AreFull [] = Unit {0}
-AreFull (f ∷ pools) = (f.given ≡ f.size) × AreFull pools
-
 -- no name was live, and no two are the same. It is said here of all new pools of a request, since the device interface says it of a single create only
 abbrev pub AreNew : (ℕ → Option Pool) → List Fresh → Type 0
 AreNew ledger [] = Unit {0}
@@ -50,7 +45,7 @@ module _ (bound : Option ℕ) (k : Key) (room total wanted : ℕ) where
   pub record IsFreshPrefix (pools : List Fresh) : Type 0 where
     -- each was created in its size, gave all sets that it holds, and together they gave too few
     pub sized : AreSized bound k room total wanted pools
-    pub full : AreFull pools
+    pub full : AllByRecursion (λ f. f.given ≡ f.size) pools
     pub short : given_by pools < wanted
 
   -- new pools that gave all the sets that were needed: none, or a prefix and one more that gave the rest

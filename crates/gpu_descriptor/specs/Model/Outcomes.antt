@@ -127,10 +127,6 @@ StopsAt why bound k room n g old = (g.skipped ≡ 0) × IsFreshPrefix bound k ro
 -- ---- the outcomes
 
 module _ (c : Call) where
-  -- what the request could take in this way
-  abbrev pub IsGrant : Grant → Type 0
-  IsGrant g = IsGrantOf c.count (c.old.books c.key) c.old.ledger g
-
   -- how many sets are needed after the existing pools
   abbrev pub needed : Grant → ℕ
   needed g = rest g.refused c.count (c.old.books c.key).pools
@@ -167,7 +163,7 @@ module _ (c : Call) where
   -- all sets were allocated
   pub record IsDone : Type 0 where
     pub grant : Grant
-    pub taken : IsGrant grant
+    pub taken : IsGrantOf c.count (c.old.books c.key) c.old.ledger grant
     pub all : grant.skipped ≡ 0
     pub fresh : IsFreshList c.bound c.key (c.limit - c.pooled) (out_then grant) (needed grant) grant.fresh
     pub answer : c.answer ≡ Ok (items_in c.key grant.id grant.parts)
@@ -176,7 +172,7 @@ module _ (c : Call) where
 
   -- a request stopped when it had taken this grant: the sets are freed
   pub record IsBack (grant : Grant) (why : Stop) : Type 0 where
-    pub taken : IsGrant grant
+    pub taken : IsGrantOf c.count (c.old.books c.key) c.old.ledger grant
     pub answer : c.answer ≡ Err (stop_error why)
     pub state : c.new ≡ released (items_in c.key grant.id grant.parts) (granted c.key c.count grant c.old)
     pub counters : c.after ≡ risen (rollback_rise (items_in c.key grant.id grant.parts) c.key (granted c.key c.count grant c.old)) (risen (stop_rise why) (risen (grant_rise c.count grant (c.old.books c.key).pools) c.before))

@@ -30,14 +30,10 @@ module _ (refused : ℕ → Bool) where
     abbrev pub share : List Entry → Entry → ℕ
     share newer e = min (offer e) (rest newer)
 
-    -- its entry after it gave its share
-    abbrev pub shared : List Entry → Entry → Entry
-    shared newer e = let given = share newer e in record e { allocated = e.allocated + given; available = offer e - given }
-
     -- the entries of all these pools after they gave their shares
     abbrev pub all_shared : List Entry → List Entry
     all_shared [] = []
-    all_shared (e ∷ newer) = shared newer e ∷ all_shared newer
+    all_shared (e ∷ newer) = (let given = share newer e in record e { allocated = e.allocated + given; available = offer e - given }) ∷ all_shared newer
 
     -- how many pools are asked
     abbrev pub asked_count : List Entry → ℕ
