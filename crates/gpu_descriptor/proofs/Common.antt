@@ -38,7 +38,7 @@ pub use Rattle.gpu_descriptor.specs.declared.bucket.DescriptorBucket.{Descriptor
 pub use Rattle.gpu_descriptor.specs.declared.bucket.DescriptorPool.{DescriptorPool}
 pub use Rattle.gpu_descriptor.specs.declared.bucket.stop.Stop.{Stop}
 pub use Rattle.gpu_descriptor.specs.Model.Books.{AddsUp, Bucket, BucketOf, Entry, HasDistinctKeys, Key, books_of, entry_at, key_eq, next_number, no_pools, number_after, numbers_of, rises, sum_over}
-pub use Rattle.gpu_descriptor.specs.Model.Agreement.{Agree, AreOutstanding, HasNoPools, IsAsBooked, Item, State, count_of, flags_of, item_eq, live_at, live_in, outstanding, set_of}
+pub use Rattle.gpu_descriptor.specs.Model.Agreement.{Agree, AreOutstanding, HasNoPools, IsAsBooked, IsBookedIn, Item, State, count_of, flags_of, item_eq, live_at, live_in, outstanding, set_of}
 pub use Rattle.gpu_descriptor.specs.Inner.KeyOf.{key_of}
 pub use Rattle.gpu_descriptor.specs.Caller.Values.{Allocations}
 pub use Rattle.gpu_descriptor.specs.Caller.Call.{call_of, layout_key}
@@ -48,7 +48,7 @@ pub use Rattle.gpu_descriptor.specs.Caller.Keys.{keys_with_pools, with_key}
 pub use Rattle.gpu_descriptor.specs.Caller.Others.{is_named}
 pub use Rattle.gpu_descriptor.specs.Caller.Sets.{AreOfLayout, item_of, items_of}
 pub use Rattle.gpu_descriptor.specs.Caller.States.{Agrees, entry_of, marked_load_of, named_bucket, named_row, outstanding_of, pool_load_of, state_of, table_of}
-pub use Rattle.gpu_descriptor.specs.Inner.Buckets.{AreBookedIn, IsBookedIn, has_pools, ledger_but, bucket_but_front, ledger_but_front}
+pub use Rattle.gpu_descriptor.specs.Inner.Buckets.{AreBookedIn, has_pools, ledger_but, bucket_but_front, ledger_but_front}
 pub use Rattle.gpu_descriptor.specs.Inner.Grow.{IsGrown, IsTaken}
 pub use Rattle.gpu_descriptor.specs.Inner.Ids.{is_of, stored_ids}
 pub use Rattle.gpu_descriptor.specs.Inner.OpenOrdinals.{IsEntered, first_ordinal, free_in, open_ordinals}

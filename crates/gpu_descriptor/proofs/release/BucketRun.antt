@@ -43,7 +43,7 @@ are_taken k b pools i e names ls stored at are live =
 pub took_these : (k : Key) (b : Bucket) (pools : ℕ → Option Pool) (i : ℕ) (e : Entry) (names : List ℕ) (ls : List LiveSet) → AreBookedIn k pools b.pools → slice_get b.pools i ≡ Some e → AreTaken names (live_in pools e.pool) ls → ls ≡ live_sets k.counts names
 took_these k b pools i e names ls stored at are = only_these k names ls are.are (λ x some.
     let booked = stored.each i e at in
-    let live : live_in pools e.pool x ≡ booked.pool.live x = rw booked.is_live refl in
+    let live : live_in pools e.pool x ≡ booked.0.live x = rw booked.1 refl in
     grind (arith, common_steps))
 
 -- the bucket and the ledger after one run keep agreement
@@ -54,28 +54,28 @@ pub stored_after :
 stored_after k es pools i e ls stored at within =
     let y = entry_less (length ls) e in
     let booked = stored.each i e at in
-    let pool = booked.pool in
-    let live : (x : LiveSet) → times ls x ≤ pool.live x = λ x. (let is : live_in pools e.pool x ≡ pool.live x = rw booked.is_live refl in let less = within x in omega arith) in
-    let bound = booked.booked.fits in
-    let fits : length ls ≤ e.allocated = ∥∥₁_elim booked.booked.allocated (search props) (λ size. (size_minus pool.live e.allocated ls size live).0) in
+    let pool = booked.0 in
+    let live : (x : LiveSet) → times ls x ≤ pool.live x = λ x. (let is : live_in pools e.pool x ≡ pool.live x = rw booked.1 refl in let less = within x in omega arith) in
+    let bound = booked.2.fits in
+    let fits : length ls ≤ e.allocated = ∥∥₁_elim booked.2.allocated (search props) (λ size. (size_minus pool.live e.allocated ls size live).0) in
     let is : IsAsBooked k (pool_less (times ls) pool) y = record {
-      flags = booked.booked.flags;
-      at_least = booked.booked.at_least;
-      small = booked.booked.small;
-      capacity = booked.booked.capacity;
-      counts = booked.booked.counts;
-      sets = λ x some. booked.booked.sets x (omega arith);
-      allocated = ∥∥₁_map booked.booked.allocated (λ size. (size_minus pool.live e.allocated ls size live).1);
+      flags = booked.2.flags;
+      at_least = booked.2.at_least;
+      small = booked.2.small;
+      capacity = booked.2.capacity;
+      counts = booked.2.counts;
+      sets = λ x some. booked.2.sets x (omega arith);
+      allocated = ∥∥₁_map booked.2.allocated (λ size. (size_minus pool.live e.allocated ls size live).1);
       fits = omega arith;
-      full = λ none. (let whole = booked.booked.full none in omega arith);
+      full = λ none. (let whole = booked.2.full none in omega arith);
     } in
     let to = option_map (pool_less (times ls)) (pools e.pool) in
     changed_booked k es pools (taken_from pools e.pool ls) i e y (pool_less (times ls) pool) stored at refl
-    (with_pool_same pools e.pool to ∙ ap (option_map (pool_less (times ls))) booked.is_live) (λ q apart. with_pool_other pools e.pool q to apart) is
+    (with_pool_same pools e.pool to ∙ ap (option_map (pool_less (times ls))) booked.1) (λ q apart. with_pool_other pools e.pool q to apart) is
 
 pub place_fits : (k : Key) (b : Bucket) (pools : ℕ → Option Pool) (i : ℕ) (e : Entry) → AreBookedIn k pools b.pools → slice_get b.pools i ≡ Some e → e.allocated + e.available ≤ greatest_pool_size
 place_fits k b pools i e stored at =
-    let booked = (stored.each i e at).booked in
+    let booked = (stored.each i e at).2 in
     grind (arith, common_steps)
 
 pub length_names : (k : Key) (names : List ℕ) → length (live_sets k.counts names) ≡ length names

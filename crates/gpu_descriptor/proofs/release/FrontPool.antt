@@ -19,11 +19,11 @@ pub front_unused : (k : Key) (x : Entry) (es : List Entry) (l : Ledger) → AreB
 front_unused k x es l stored none =
     let found = stored.each 0 x refl in
     record {
-      pool = found.pool;
-      is_live = found.is_live;
-      empty = λ name. elim (cases_eq 0 (found.pool.live name)) [
+      pool = found.0;
+      is_live = found.1;
+      empty = λ name. elim (cases_eq 0 (found.0.live name)) [
         | inl same ↦ sym same
-        | inr some ↦ absurd (let bad = size_pos found.pool.live x.allocated name found.booked.allocated (omega arith) in omega arith)
+        | inr some ↦ absurd (let bad = size_pos found.0.live x.allocated name found.2.allocated (omega arith) in omega arith)
       ];
     }
 
@@ -33,7 +33,7 @@ step_stored k x es pools stored = record {
   each = λ i e at.
       let had = stored.each (suc i) e at in
       let other : e.pool ≢ x.pool = λ same. let both : suc i ≡ 0 = stored.distinct (suc i) 0 e x at refl same in omega arith in
-      record { pool = had.pool; is_live = with_pool_other pools x.pool e.pool None other ∙ had.is_live; booked = had.booked };
+      (had.0, with_pool_other pools x.pool e.pool None other ∙ had.1, had.2);
 }
 
 pub still : (keep : ℕ) (b : Bucket) (l : Ledger) → front_but keep b ≡ 0 → ledger_but_front keep b l ≡ l

@@ -28,15 +28,15 @@ module _ {T S : Type 0} (steps : T → Option (DescriptorSet S) → T → Type 0
       → HoldsAlong (RunStep steps can left) s (λ ys. AreLive e.pool (map name ys) l)
   run_live b l x p e s a k i stored at there h ys t z =
       let booked = stored.each p e at in
-      let free = subst CanFree (sym booked.booked.flags) (can_free x.key.is) in
+      let free = subst CanFree (sym booked.2.flags) (can_free x.key.is) in
       let gone = live_names ys t z in
       record {
-        pool = booked.pool;
-        is_live = booked.is_live;
+        pool = booked.0;
+        is_live = booked.1;
         can_free = free;
         gone = gone.0;
         named = gone.1.are;
-        live = λ y. (let is : live_in l.pools e.pool y ≡ booked.pool.live y = rw booked.is_live refl in let within = gone.1.within y in omega arith);
+        live = λ y. (let is : live_in l.pools e.pool y ≡ booked.0.live y = rw booked.1 refl in let within = gone.1.within y in omega arith);
       }
     where
       of_names : (k : Key) (ns : List ℕ) → map (λ (l : LiveSet). l.name) (live_sets k.counts ns) ≡ ns

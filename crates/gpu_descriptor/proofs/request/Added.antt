@@ -69,8 +69,8 @@ module _ (k : Key) (id : ℕ) (es : List Entry) (pools : ℕ → Option Pool) (b
     had : IsBookedIn k pools e
     had = booked.each i e at
 
-    here : after e.pool ≡ Some (with had.pool)
-    here = update_here pools e.pool (option_map with (pools e.pool)) ∙ ap (option_map with) had.is_live
+    here : after e.pool ≡ Some (with had.0)
+    here = update_here pools e.pool (option_map with (pools e.pool)) ∙ ap (option_map with) had.1
 
     elsewhere : (q : ℕ) → q ≢ e.pool → after q ≡ pools q
     elsewhere q apart = update_apart pools e.pool (option_map with (pools e.pool)) q apart
@@ -83,8 +83,8 @@ module _ (k : Key) (id : ℕ) (es : List Entry) (pools : ℕ → Option Pool) (b
       | inl same ↦ (
           let was = entry_at-named (bucket id es) i t.number e rising at (sym same) in
           let is = entry_at-named (bucket id news) i t.number f rising_now (set_here es i f e at) (became.number ∙ sym same) in
-          let left : live_at after (bucket id news) t ≡ had.pool.live (set_of t) + times (live_sets k.counts names) (set_of t) = rw (is, ap after became.pool ∙ here) refl in
-          let right : live_at pools (bucket id es) t ≡ had.pool.live (set_of t) = rw (was, had.is_live) refl in
+          let left : live_at after (bucket id news) t ≡ had.0.live (set_of t) + times (live_sets k.counts names) (set_of t) = rw (is, ap after became.pool ∙ here) refl in
+          let right : live_at pools (bucket id es) t ≡ had.0.live (set_of t) = rw (was, had.1) refl in
           let came = count_of_items k id e.number names t key same own in
           omega arith)
       | inr other ↦ (
@@ -106,7 +106,7 @@ module _ (k : Key) (id : ℕ) (es : List Entry) (pools : ℕ → Option Pool) (b
 
     added_at : Adds k (items_at k id e.number names) (bucket id es) (bucket id news) pools after
     added_at = record {
-      booked = changed_booked k es pools after i e f (with had.pool) booked at became.pool here elsewhere (pool_booked k had.pool e f names r had.booked became);
+      booked = changed_booked k es pools after i e f (with had.0) booked at became.pool here elsewhere (pool_booked k had.0 e f names r had.2 became);
       rising = rising_now;
       live = live_now;
       stays = λ q on. same_names q ∙ on;
@@ -141,7 +141,7 @@ module _ (k : Key) (id : ℕ) (es : List Entry) (pools : ℕ → Option Pool) (b
     old_here q apart = update_apart (update nat_eq pools x.pool (Some made)) x.pool _ q apart ∙ update_apart pools x.pool (Some made) q apart
 
     other_name : (i : ℕ) (e : Entry) → slice_get es i ≡ Some e → e.pool ≢ x.pool
-    other_name i e at same = (let had = booked.each i e at in none-some had.pool (sym fresh_name ∙ ap pools (sym same) ∙ had.is_live))
+    other_name i e at same = (let had = booked.each i e at in none-some had.0 (sym fresh_name ∙ ap pools (sym same) ∙ had.1))
 
     rising_then : rises (numbers_of longer) ≡ true
     rising_then = grind (arith, common_steps, rises_push)
@@ -192,8 +192,8 @@ module _ (k : Key) (id : ℕ) (es : List Entry) (pools : ℕ → Option Pool) (b
           ]
         ];
         each = λ i d at. elim (got_last es x i d at) [
-          | inl p ↦ (let had = booked.each i d p in record { pool = had.pool; is_live = old_here d.pool (other_name i d p) ∙ had.is_live; booked = had.booked })
-          | inr p ↦ subst (IsBookedIn k later) (sym p.1) (record { pool = got; is_live = new_here; booked = is })
+          | inl p ↦ (let had = booked.each i d p in (had.0, old_here d.pool (other_name i d p) ∙ had.1, had.2))
+          | inr p ↦ subst (IsBookedIn k later) (sym p.1) (got, new_here, is)
         ];
       };
       rising = rising_then;
@@ -258,7 +258,7 @@ module _ {k : Key} {items : List Item} {new : Bucket} {after : ℕ → Option Po
       ]
     ];
     booked = λ l i e at. elim (cases_Bool (key_eq k l)) [
-      | inl is ↦ (let x = a.booked.each i e (rw is at at) in (x.pool, x.is_live, subst (λ (q : Key). IsAsBooked q x.pool e) (key_exact.same k l is) x.booked))
+      | inl is ↦ (let x = a.booked.each i e (rw is at at) in subst (λ (q : Key). IsBookedIn q after e) (key_exact.same k l is) x)
       | inr apart ↦ (let there = rw apart at at in let was = agree.booked l i e there in (was.0, others_left l i e apart there ∙ was.1, was.2))
     ];
     rising = λ l. elim (cases_Bool (key_eq k l)) [ inl is ↦ rw is a.rising | inr apart ↦ rw apart (agree.rising l) ];

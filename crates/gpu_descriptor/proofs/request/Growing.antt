@@ -107,7 +107,7 @@ module _ {bound : Option ℕ} {k : Key} {start n id room left total needed : ℕ
   none_before = fresh_or_none (pool_with (live_sets k.counts (came s.parts q)) (s.refused q)) k q s.fresh (l.pools q) (ap (λ (x : ℕ → Option Pool). x q) (sym s.taken.pools) ∙ a.is_new)
 
   apart : IsApart q old
-  apart = apart_from q old (λ j e at same. (let b = booked.each j e at in let none = none_before.1 in let is : l.pools q ≡ Some b.pool = ap l.pools (sym same) ∙ b.is_live in let bad : ◌≡◌ {A = Option Pool} None (Some b.pool) = sym none ∙ is in absurd (cc)))
+  apart = apart_from q old (λ j e at same. (let b = booked.each j e at in let none = none_before.1 in let is : l.pools q ≡ Some b.0 = ap l.pools (sym same) ∙ b.1 in let bad : ◌≡◌ {A = Option Pool} None (Some b.0) = sym none ∙ is in absurd (cc)))
 
   not_yet : s.refused q ≡ false
   not_yet = not_refused s.refused n q old apart s.taken.grant.refusing

@@ -39,15 +39,15 @@ marked_flags counts false h = absurd (cc)
 pub can_give : (counts : List ℕ) (mark : Bool) (e : Entry) (n : ℕ) (l : Ledger) → IsBookedIn (key_with counts mark) l.pools e → n ≤ e.available → CanGive e.pool n counts mark l
 can_give counts mark e n l b few =
     record {
-      pool = b.pool;
-      is_live = b.is_live;
-      marked = λ h. subst (λ (f : ℕ). IsUpdateAfterBind f) (sym b.booked.flags) (marked_flags counts mark h);
-      places = λ sets spelled. (let long = listed (key_with counts mark) b.pool e b.booked sets spelled in let fits = b.booked.fits in omega arith);
+      pool = b.0;
+      is_live = b.1;
+      marked = λ h. subst (λ (f : ℕ). IsUpdateAfterBind f) (sym b.2.flags) (marked_flags counts mark h);
+      places = λ sets spelled. (let long = listed (key_with counts mark) b.0 e b.2 sets spelled in let fits = b.2.fits in omega arith);
       each_kind = λ sets spelled j.
-          let long = listed (key_with counts mark) b.pool e b.booked sets spelled in
-          let all : sum_by (λ s. slice_index s.counts j) sets ≡ length sets * slice_index counts j = sum_alike counts j sets (λ x lt. b.booked.sets x (let is = spelled x in omega arith)) in
-          let product : (length sets + n) * slice_index counts j ≤ b.pool.capacity * slice_index counts j = mul-le-mul_right (slice_index counts j) (let fits = b.booked.fits in omega arith) in
-          let has = wide (key_with counts mark) b.pool.capacity j in
-          let same : slice_index b.pool.counts j ≡ slice_index (pool_counts counts b.pool.capacity) j = ap (λ (c : List ℕ). slice_index c j) b.booked.counts in
+          let long = listed (key_with counts mark) b.0 e b.2 sets spelled in
+          let all : sum_by (λ s. slice_index s.counts j) sets ≡ length sets * slice_index counts j = sum_alike counts j sets (λ x lt. b.2.sets x (let is = spelled x in omega arith)) in
+          let product : (length sets + n) * slice_index counts j ≤ b.0.capacity * slice_index counts j = mul-le-mul_right (slice_index counts j) (let fits = b.2.fits in omega arith) in
+          let has = wide (key_with counts mark) b.0.capacity j in
+          let same : slice_index b.0.counts j ≡ slice_index (pool_counts counts b.0.capacity) j = ap (λ (c : List ℕ). slice_index c j) b.2.counts in
           omega arith;
     }

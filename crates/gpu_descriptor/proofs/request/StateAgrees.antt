@@ -7,11 +7,11 @@ use Rattle.gpu_descriptor.proofs.lists.Numbers.{entry_at-found}
 pub booked_of : (s : State) (k : Key) → Agree s → AreBookedIn k s.ledger (s.books k).pools
 booked_of s k agree = record {
   distinct = λ i j d e at_i at_j same. (agree.distinct k k i j d e at_i at_j same).1;
-  each = λ i e at_i. (let found = agree.booked k i e at_i in record { pool = found.0; is_live = found.1; booked = found.2 });
+  each = agree.booked k;
 }
 
 -- the pool that has a number is in the ledger as the books say
-pub booked_at : (s : State) → Agree s → (k : Key) (n : ℕ) (e : Entry) → entry_at (s.books k) n ≡ Some e → (pool : Pool) × (s.ledger e.pool ≡ Some pool) × IsAsBooked k pool e
+pub booked_at : (s : State) → Agree s → (k : Key) (n : ℕ) (e : Entry) → entry_at (s.books k) n ≡ Some e → IsBookedIn k s.ledger e
 booked_at s agree k n e at = (let found = entry_at-found (s.books k) n e at in agree.booked k found.0 e found.1)
 
 -- no two numbers name one pool
@@ -28,7 +28,7 @@ changed_booked k es pools to i e f p stored at same live others is =
     record {
       distinct = λ a b c d h h' alike. (let p = was a c h in let q = was b d h' in stored.distinct a b p.0 q.0 p.1 q.1 (p.2 ∙ alike ∙ sym q.2));
       each = λ j d h. elim (set_got es i f j d h) [
-        | inl here ↦ subst (IsBookedIn k to) (sym here.1) (record { pool = p; is_live = ap to same ∙ live; booked = is })
-        | inr other ↦ (let had = stored.each j d other.1 in record { pool = had.pool; is_live = others d.pool (λ alike. other.0 (stored.distinct j i d e other.1 at alike)) ∙ had.is_live; booked = had.booked })
+        | inl here ↦ subst (IsBookedIn k to) (sym here.1) (p, ap to same ∙ live, is)
+        | inr other ↦ (let had = stored.each j d other.1 in (had.0, others d.pool (λ alike. other.0 (stored.distinct j i d e other.1 at alike)) ∙ had.1, had.2))
       ];
     }

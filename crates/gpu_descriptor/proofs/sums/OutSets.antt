@@ -51,9 +51,9 @@ key_out k id (e ∷ es) ledger rising booked =
     let own = booked 0 e refl in
     let rise = and_parts (list_all (nat_lt e.number) (numbers_of es)) (rises (numbers_of es)) rising in
     let first : ℕ = e.number in
-    ∥∥₁_elim own.booked.allocated ∥∥₁_prop (λ size. ∥∥₁_map (key_out k id es ledger rise.1 (λ i. booked (suc i))) (λ rest.
+    ∥∥₁_elim own.2.allocated ∥∥₁_prop (λ size. ∥∥₁_map (key_out k id es ledger rise.1 (λ i. booked (suc i))) (λ rest.
     let names = names_in size.0 in
-    let same = by_name k.counts size.0 (λ x some. own.booked.sets x (let is = size.2 x in omega arith)) in
+    let same = by_name k.counts size.0 (λ x some. own.2.sets x (let is = size.2 x in omega arith)) in
     record {
       items = items_at k id first names ++ rest.items;
       many = (
@@ -73,9 +73,9 @@ key_out k id (e ∷ es) ledger rising booked =
             | inl hit ↦ (
                 let here : t.number ≡ first = sym (eqb-true first t.number hit) in
                 let counted = count_of_items k id first names t key here own_id in
-                let spelled : times (live_sets k.counts names) (set_of t) ≡ own.pool.live (set_of t) = ap (λ (l : List LiveSet). times l (set_of t)) same ∙ size.2 (set_of t) in
+                let spelled : times (live_sets k.counts names) (set_of t) ≡ own.0.live (set_of t) = ap (λ (l : List LiveSet). times l (set_of t)) same ∙ size.2 (set_of t) in
                 let left : live_at ledger (bucket id es) t ≡ 0 = rw (ap (λ (n : ℕ). find (λ e. e.number == n) es) here ∙ absent_behind es first rise.0) refl in
-                let right : live_at ledger (bucket id (e ∷ es)) t ≡ own.pool.live (set_of t) = rw (hit, own.is_live) refl in
+                let right : live_at ledger (bucket id (e ∷ es)) t ≡ own.0.live (set_of t) = rw (hit, own.1) refl in
                 omega arith)
             | inr miss ↦ (
                 let none = count_elsewhere k id first names t (λ same. eqb-false first t.number miss (sym same)) in

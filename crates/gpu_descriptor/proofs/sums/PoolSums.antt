@@ -13,7 +13,7 @@ AllBooked k ledger es = (i : ℕ) (e : Entry) → slice_get es i ≡ Some e → 
 -- ---- a marked key's pools
 
 created_entry : (k : Key) (ledger : ℕ → Option Pool) (e : Entry) → length k.counts ≡ 14 → k.marked ≡ true → IsBookedIn k ledger e → option_map_or (λ p. sum p.counts) (ledger e.pool) 0 ≡ pool_descriptors k e.capacity
-created_entry k ledger e long marked own = ap (λ (o : Option Pool). option_map_or (λ (p : Pool). sum p.counts) o 0) own.is_live ∙ booked_load k own.pool e long marked own.booked
+created_entry k ledger e long marked own = ap (λ (o : Option Pool). option_map_or (λ (p : Pool). sum p.counts) o 0) own.1 ∙ booked_load k own.0 e long marked own.2
 
 created_entries : (k : Key) (ledger : ℕ → Option Pool) (es : List Entry) → length k.counts ≡ 14 → k.marked ≡ true → AllBooked k ledger es → sum_by (λ e. option_map_or (λ p. sum p.counts) (ledger e.pool) 0) es ≡ pools_load k es
 created_entries k ledger [] long marked booked = refl
@@ -36,7 +36,7 @@ out_of_entry k n = elim (cases_Bool k.marked) [ inl on ↦ rw on (omega arith) |
 out_of_entries : (k : Key) (ledger : ℕ → Option Pool) (es : List Entry) → AllBooked k ledger es → set_descriptors k (allocated_in es) ≤ pools_load k es
 out_of_entries k ledger [] booked = (let none = set_descriptors-none k in omega arith)
 out_of_entries k ledger (e ∷ es) booked =
-    let own = (booked 0 e refl).booked in
+    let own = (booked 0 e refl).2 in
     let first = set_descriptors-le k e.allocated e.capacity (omega arith) in
     let rest = out_of_entries k ledger es (λ i. booked (suc i)) in
     grind (arith, common_steps, set_descriptors-add, out_of_entry, sum_by-cons)

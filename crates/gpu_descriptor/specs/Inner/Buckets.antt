@@ -2,16 +2,9 @@
 use Rattle.std.specs.Prelude.{Bool, not, ◌==◌, ◌≡◌, ℕ, if◌then◌else◌, List, length, slice_get, take, Option, None, Some}
 use Rattle.gpu_descriptor_types.specs.Ledger.{Pool, Ledger}
 use Rattle.gpu_descriptor.specs.declared.bucket.DescriptorBucket.{DescriptorBucket}
-use Rattle.gpu_descriptor.specs.Model.Agreement.{IsAsBooked}
+use Rattle.gpu_descriptor.specs.Model.Agreement.{IsBookedIn}
 use Rattle.gpu_descriptor.specs.Model.Books.{Key, Entry, Bucket}
 use Rattle.gpu_descriptor.specs.Model.Release.{are_named, front_but, without_front, more_destroyed}
-
--- an entry has its pool in the ledger
-pub record IsBookedIn (k : Key) (pools : ℕ → Option Pool) (e : Entry) : Type 0 where
-  pub pool : Pool
-  -- it is live under the entry's name
-  pub is_live : pools e.pool ≡ Some pool
-  pub booked : IsAsBooked k pool e
 
 -- one key's part of the agreement: its pools are in the ledger as the books say
 pub record AreBookedIn (k : Key) (pools : ℕ → Option Pool) (entries : List Entry) : Type 0 where

@@ -84,11 +84,15 @@ pub record IsAsBooked (k : Key) (pool : Pool) (e : Entry) : Type 0 where
   pub fits : e.allocated + e.available ≤ pool.capacity
   pub full : pool.refusals ≡ 0 → e.allocated + e.available ≡ pool.capacity
 
+-- the pool of an entry is live, and as the entry says
+abbrev pub IsBookedIn : Key → (ℕ → Option Pool) → Entry → Type 0
+IsBookedIn k ledger e = (pool : Pool) × (ledger e.pool ≡ Some pool) × IsAsBooked k pool e
+
 -- books and ledger agree
 pub record Agree (s : State) : Type 0 where
   -- no two places of the books name one pool
   pub distinct : (k l : Key) (i j : ℕ) (d e : Entry) → slice_get (s.books k).pools i ≡ Some d → slice_get (s.books l).pools j ≡ Some e → d.pool ≡ e.pool → (k ≡ l) × (i ≡ j)
   -- each pool of the books is live, and as its entry says
-  pub booked : (k : Key) (i : ℕ) (e : Entry) → slice_get (s.books k).pools i ≡ Some e → (pool : Pool) × (s.ledger e.pool ≡ Some pool) × IsAsBooked k pool e
+  pub booked : (k : Key) (i : ℕ) (e : Entry) → slice_get (s.books k).pools i ≡ Some e → IsBookedIn k s.ledger e
   -- a pool's number is greater than that of each older one of its key
   pub rising : (k : Key) → rises (numbers_of (s.books k).pools) ≡ true

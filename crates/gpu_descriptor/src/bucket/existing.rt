@@ -6,7 +6,7 @@ ghost use Rattle.gpu_descriptor.specs.declared.bucket.stop.Stop.TheVariants.{Exi
 ghost use Rattle.gpu_descriptor.specs.Caller.SetLists.{appended};
 ghost use Rattle.gpu_descriptor.specs.Caller.Sets.{PutsOfLayout, items_of};
 ghost use Rattle.gpu_descriptor.specs.Caller.States.{entry_of};
-ghost use Rattle.gpu_descriptor.specs.Inner.Buckets.{IsBookedIn, AreBookedIn};
+ghost use Rattle.gpu_descriptor.specs.Inner.Buckets.{AreBookedIn};
 ghost use Rattle.gpu_descriptor.specs.Inner.Grow.{IsTaken};
 ghost use Rattle.gpu_descriptor.specs.Inner.KeyOf.{key_of};
 ghost use Rattle.gpu_descriptor.specs.Inner.OpenOrdinals.{first_ordinal};
@@ -14,6 +14,7 @@ ghost use Rattle.gpu_descriptor.specs.Inner.Serves.{Appends};
 ghost use Rattle.gpu_descriptor.specs.Inner.SetAt.{set_at};
 ghost use Rattle.gpu_descriptor.specs.Inner.Stored.{bucket_of};
 ghost use Rattle.gpu_descriptor.specs.Inner.Walk.{CountsLooks, IsAsked, IsNoMemory, IsWalked};
+ghost use Rattle.gpu_descriptor.specs.Model.Agreement.{IsBookedIn};
 ghost use Rattle.gpu_descriptor.specs.Model.Books.{numbers_of};
 ghost use Rattle.gpu_descriptor.specs.Model.Load.{pools_load};
 
