@@ -52,7 +52,7 @@ pub use Rattle.gpu_descriptor.specs.Inner.Buckets.{AreBookedIn, has_pools, ledge
 pub use Rattle.gpu_descriptor.specs.Inner.Grow.{IsGrown, IsTaken}
 pub use Rattle.gpu_descriptor.specs.Inner.Ids.{is_of, stored_ids}
 pub use Rattle.gpu_descriptor.specs.Inner.OpenOrdinals.{IsEntered, first_ordinal, free_in, open_ordinals}
-pub use Rattle.gpu_descriptor.specs.Inner.Releases.{Compares, IsTakenAt, Releases, bucket_back, names_of}
+pub use Rattle.gpu_descriptor.specs.Inner.Releases.{Compares, IsTakenAt, Releases, names_of}
 pub use Rattle.gpu_descriptor.specs.Inner.RunSteps.{EndsRun, RunStep}
 pub use Rattle.gpu_descriptor.specs.Inner.Serves.{Appends, IsUnserved, ServesKey, Takes}
 pub use Rattle.gpu_descriptor.specs.Inner.SetAt.{set_at}

@@ -1,6 +1,6 @@
 -- One run, x and xs, through the row at a place of the table, which it lends to `release_run`: its bucket is bucket before, w after.
 use Rattle.gpu_descriptor.proofs.Common.{◌≡◌, ◌<◌, ℕ, List, [], ◌∷◌, map, None, length, refl, sym, ap, subst, ◌∙◌, fun_ext, IsDistinct, Ledger, after_release, live_sets, BucketKey, DescriptorSet, DescriptorBucket, Agree, AreOutstanding, Key, BucketOf, Item, count_of, true}
-use Rattle.gpu_descriptor.proofs.Common.{key_eq, Bucket, HasDistinctKeys, Allocations, AreBookedIn, IsTakenAt, Releases, names_of, bucket_back, bucket_but_front, ledger_but_front, more_destroyed, more_released, released, pools_gone, search_digits, items_of, named_row}
+use Rattle.gpu_descriptor.proofs.Common.{key_eq, Bucket, HasDistinctKeys, Allocations, AreBookedIn, IsTakenAt, Releases, names_of, bucket_but_front, ledger_but_front, more_destroyed, more_released, released, pools_gone, search_digits, items_of, named_row}
 use Rattle.gpu_descriptor.proofs.Common.{state_of, table_of, AllByRecursion, row_of, bucket_of, stored_keys}
 use Rattle.indexmap.specs.Layout.{set_value_at}
 use Rattle.gpu_descriptor.specs.Caller.States.{keys_of}
@@ -11,7 +11,7 @@ use Rattle.gpu_descriptor.proofs.table.TableBooks.{put_books}
 use Rattle.gpu_descriptor.proofs.request.Requested.{books_at, rows_distinct}
 use Rattle.gpu_descriptor.proofs.request.Rollback.{keys_table, only_key}
 use Rattle.gpu_descriptor.proofs.request.StateAgrees.{booked_of}
-use Rattle.gpu_descriptor.proofs.release.WholeRun.{trimmed_pools, taken_of, whole_run, gone_run, is_run, lies_own}
+use Rattle.gpu_descriptor.proofs.release.WholeRun.{run_less, trimmed_pools, taken_of, whole_run, gone_run, is_run, lies_own}
 
 module _ {P S : Type 0} (name : P → ℕ) (set_name : S → ℕ) (a : Allocations P) (l : Ledger) (es : List (BucketKey × DescriptorBucket P)) (is : a.table ≡ map row_of es) (distinct : IsDistinct key_eq (stored_keys es)) (agree : Agree (state_of name a l)) (x : DescriptorSet S)
     {i : ℕ} {bucket : DescriptorBucket P} (h : IsAt x.key.is es i bucket) where
@@ -34,7 +34,7 @@ module _ {P S : Type 0} (name : P → ℕ) (set_name : S → ℕ) (a : Allocatio
     here : Releases x.key.is x.number (names_of set_name (x ∷ xs)) ((state_of name a l).books x.key.is) l between during
     here = subst (λ b. Releases x.key.is x.number (names_of set_name (x ∷ xs)) b l between during) (sym at_key) back
 
-    ledger : after ≡ ledger_but_front 1 (bucket_back ((state_of name a l).books x.key.is) here.place (length (names_of set_name (x ∷ xs))) here.entry) (after_release here.entry.pool (live_sets x.key.is.counts (names_of set_name (x ∷ xs))) l)
+    ledger : after ≡ ledger_but_front 1 (run_less (length (names_of set_name (x ∷ xs))) here.entry ((state_of name a l).books x.key.is)) (after_release here.entry.pool (live_sets x.key.is.counts (names_of set_name (x ∷ xs))) l)
     ledger = gone ∙ (λ i. ledger_but_front 1 (here.books i) (here.ledger i))
 
     -- the state is released of the run's sets, and the counters rose so
@@ -46,10 +46,10 @@ module _ {P S : Type 0} (name : P → ℕ) (set_name : S → ℕ) (a : Allocatio
         let books : (state_of name new after).books ≡ put_books s.books k (bucket_of name w) =
         fun_ext (written name distinct h w)
         ∙ (λ j. put_books (λ (q : Key). sym (books_at a es is name l q) j) k (bucket_of name w)) in
-        let b = bucket_back (s.books k) here.place (length (names_of set_name (x ∷ xs))) here.entry in
+        let b = run_less (length (names_of set_name (x ∷ xs))) here.entry (s.books k) in
         let pools : after.pools ≡ trimmed_pools b (taken_from l.pools here.entry.pool (live_sets k.counts (names_of set_name (x ∷ xs)))) = ap (λ (m : Ledger). m.pools) ledger ∙ ap (trimmed_pools b) (release_pools here.entry.pool (live_sets k.counts (names_of set_name (x ∷ xs))) l) in
         let left : state_of name new after ≡ record { books = put_books s.books k (bucket_of name w); ledger = after.pools } = λ i. record { books = books i; ledger = after.pools } in
-        left ∙ whole_run set_name s agree x xs have here.place here.entry here.at here.named (bucket_of name w) after.pools (front ∙ ap (bucket_but_front 1) here.books) pools
+        left ∙ whole_run set_name s agree x xs have here.entry here.at (bucket_of name w) after.pools (front ∙ ap (bucket_but_front 1) here.books) pools
 
     pub row_counted : after.counters ≡ more_destroyed (pools_gone (keys_of a) (items_of set_name (x ∷ xs)) (state_of name a l)) (more_released 1 l.counters)
     row_counted =
@@ -58,5 +58,5 @@ module _ {P S : Type 0} (name : P → ℕ) (set_name : S → ℕ) (a : Allocatio
         let rows : HasDistinctKeys (table_of name a) = subst (λ (t : List (Key × BucketOf P)). HasDistinctKeys (map (named_row name) t)) (sym is) (rows_distinct name es distinct) in
         let own : (u : Item) → 0 < count_of u m → u.key ≡ x.key.is = λ u some. (is_run set_name x.key.is x.number (x ∷ xs) (lies_own x, have) u some).0 in
         let only : pools_gone (keys_of a) m s ≡ pools_gone (x.key.is ∷ []) m s = ap (λ (keys : List Key). pools_gone keys m s) (keys_table name a.table) ∙ only_key x.key.is m s (table_of name a) rows (λ q. refl) own in
-        let gone = gone_run set_name s agree x xs have here.place here.entry here.at here.named in
+        let gone = gone_run set_name s agree x xs have here.entry here.at in
         ap (λ (m : Ledger). m.counters) ledger ∙ ap (λ (n : ℕ). more_destroyed n (more_released 1 l.counters)) (sym (only ∙ gone))

@@ -1,6 +1,6 @@
 -- One run: sets of one key and one number. What giving it back changes, and how its front goes pool by pool.
-use Rattle.gpu_descriptor.proofs.Common.{◌≡◌, ◌≢◌, ℕ, zero, suc, ◌<◌, Bool, true, ◌&&◌, ◌==◌, List, [], ◌∷◌, length, map, set, count_by, slice_get, Some, inl, inr, refl, sym, ap, ◌∙◌, arith, eq-eqb, ne_eqb, if◌then◌else◌, cases_Bool, set_of, State, Item, count_of, Agree, Key, Entry}
-use Rattle.gpu_descriptor.proofs.Common.{entry_at, LiveSet, set_eq, count_by_yes, count_by_alike, count_by_none, lies_in, entry_less, given_back, none-some}
+use Rattle.gpu_descriptor.proofs.Common.{◌≡◌, ◌≢◌, ℕ, zero, suc, ◌<◌, Bool, true, ◌&&◌, ◌==◌, List, [], ◌∷◌, length, map, set, count_by, slice_get, Some, inl, inr, refl, sym, ap, ◌∙◌, arith, eq-eqb, ne_eqb, if◌then◌else◌, cases_Bool, set_of, State, Item, count_of, Key, Entry}
+use Rattle.gpu_descriptor.proofs.Common.{entry_at, LiveSet, set_eq, count_by_yes, count_by_alike, count_by_none, lies_in, entry_less, none-some}
 use Rattle.gpu_descriptor.proofs.table.Exact.{item_exact}
 use Rattle.gpu_descriptor.proofs.release.Places.{back, back_named}
 
@@ -52,10 +52,3 @@ less_at n (x ∷ es) zero e distinct at =
 less_at n (x ∷ es) (suc j) e distinct at =
     let head : entry_less (if e.pool == x.pool then n else 0) x ≡ x = rw (ne_eqb e.pool x.pool (λ alike. absurd (let bad : suc j ≡ 0 = distinct (suc j) 0 e x at refl alike in omega arith))) (less_none x) in
     λ i. head i ∷ less_at n es j e (λ a b d f p q r. let both : suc a ≡ suc b = distinct (suc a) (suc b) d f p q r in let one : a ≡ b = omega arith in one) at i
-
-pub distinct_names : (s : State) → Agree s → (k : Key) → HasDistinctNames (s.books k).pools
-distinct_names s agree k i j d e at at' same = (agree.distinct k k i j d e at at' same).1
-
--- THE BOOKS AFTER A RUN: one entry of one key
-pub run_books : (k : Key) (n i : ℕ) (m : List Item) (s : State) (e : Entry) → Agree s → IsRun k n m → entry_at (s.books k) n ≡ Some e → slice_get (s.books k).pools i ≡ Some e → (given_back m s).books k ≡ record (s.books k) { pools = set (s.books k).pools i (entry_less (length m) e) }
-run_books k n i m s e agree run at place = grind (arith, distinct_names, less_at, run_back)

@@ -1,18 +1,22 @@
 -- Giving one run back, over the books of all keys.
 -- For `release_run`, by release.LentRow: a run leaves the state released of its sets. x is its first set, xs are the others, all of
--- one key and pool number; m are their items; e is the entry of their pool, at place i of the key's bucket.
-use Rattle.gpu_descriptor.proofs.Common.{slice_get, ◌≡◌, ℕ, suc, ◌<◌, ◌≤◌, Bool, true, false, ◌==◌, List, [], ◌∷◌, length, map, count_by, Option, Some, None, option_map, inl, inr, refl, sym, ap, ◌∙◌, arith, eq-eqb, ne_eqb, if◌then◌else◌, fun_ext, list_any, cases_Bool, cases_eq, and_parts}
+-- one key and pool number; m are their items; e is the entry of their pool.
+use Rattle.gpu_descriptor.proofs.Common.{◌≡◌, ℕ, suc, ◌<◌, ◌≤◌, Bool, true, false, ◌==◌, List, [], ◌∷◌, length, map, count_by, Option, Some, None, option_map, inl, inr, refl, sym, ap, ◌∙◌, arith, eq-eqb, ne_eqb, if◌then◌else◌, fun_ext, list_any, cases_Bool, cases_eq, and_parts}
 use Rattle.gpu_descriptor.proofs.Common.{and_from, false_from_ne_true, length-map, Pool, live_sets, LiveSet, set_eq, times, bool_iff, any_found, any_from, count_by_yes, count_by_no, DescriptorSet, set_of, State, Item, item_eq, count_of, live_in, AreOutstanding, Agree, Key, key_eq}
-use Rattle.gpu_descriptor.proofs.Common.{Entry, Bucket, entry_at, common_steps, IsTakenAt, names_of, bucket_back, bucket_but_front, entry_less, pool_less, given_back, fronts_gone, released, spent_front, pools_gone, item_of, items_of, AllByRecursion, true≢false}
+use Rattle.gpu_descriptor.proofs.Common.{Entry, Bucket, entry_at, common_steps, IsTakenAt, names_of, bucket_less, bucket_but_front, entry_less, pool_less, given_back, fronts_gone, released, spent_front, pools_gone, item_of, items_of, AllByRecursion, true≢false}
 use Rattle.gpu_descriptor.specs.Inner.RunSteps.{lies_at}
 use Rattle.gpu_descriptor.proofs.table.Exact.{key_exact, item_exact}
-use Rattle.gpu_descriptor.proofs.lists.Numbers.{entry_at-named}
+use Rattle.gpu_descriptor.proofs.lists.Numbers.{entry_at-found}
 use Rattle.gpu_descriptor.proofs.release.ReleaseAgrees.{has_place}
 use Rattle.gpu_descriptor.proofs.foreign.LedgerPools.{taken_from, with_pool_same, with_pool_other}
 use Rattle.gpu_descriptor.proofs.release.Given.{names_key, any_key, key_any, goes}
 use Rattle.gpu_descriptor.proofs.release.Places.{back, back_named, part_fits}
-use Rattle.gpu_descriptor.proofs.release.RunsOfOne.{IsRun, run_back, run_named, run_books, untouched_rest}
+use Rattle.gpu_descriptor.proofs.release.RunsOfOne.{IsRun, run_back, run_named, untouched_rest}
 use Rattle.gpu_descriptor.proofs.table.TableBooks.{put_books}
+
+-- the bucket once n sets of the pool of this entry are freed
+abbrev pub run_less : ℕ → Entry → Bucket → Bucket
+run_less n e b = bucket_less (λ pool. if e.pool == pool then n else 0) b
 
 -- the pools without those of a bucket's spent front
 abbrev pub trimmed_pools : Bucket → (ℕ → Option Pool) → ℕ → Option Pool
@@ -92,22 +96,22 @@ module _ {S : Type 0} (name : S → ℕ) where
   pool_none (Some p) = grind arith
 
   -- THE STATE AFTER ONE RUN, before the front goes
-  pub given_run : (s : State) → Agree s → (x : DescriptorSet S) (xs : List (DescriptorSet S)) → AllByRecursion (λ y. lies_at x.key.is x.number y ≡ true) xs → (i : ℕ) (e : Entry) → slice_get (s.books x.key.is).pools i ≡ Some e → e.number ≡ x.number
+  pub given_run : (s : State) → Agree s → (x : DescriptorSet S) (xs : List (DescriptorSet S)) → AllByRecursion (λ y. lies_at x.key.is x.number y ≡ true) xs → (e : Entry) → entry_at (s.books x.key.is) x.number ≡ Some e
       → given_back (items_of name (x ∷ xs)) s ≡ record {
-        books = put_books s.books x.key.is (bucket_back (s.books x.key.is) i (length (names_of name (x ∷ xs))) e);
+        books = put_books s.books x.key.is (run_less (length (names_of name (x ∷ xs))) e (s.books x.key.is));
         ledger = taken_from s.ledger e.pool (live_sets x.key.is.counts (names_of name (x ∷ xs)));
       }
-  given_run s agree x xs have i e place named_so =
+  given_run s agree x xs have e at =
       let k = x.key.is in
       let n = x.number in
       let m = items_of name (x ∷ xs) in
       let b = s.books k in
       let ls = live_sets k.counts (names_of name (x ∷ xs)) in
       let run = is_run x.key.is n (x ∷ xs) (all_have x xs have) in
-      let at : entry_at b n ≡ Some e = entry_at-named b i n e (agree.rising k) place named_so in
+      let found = entry_at-found b n e at in
       let long : length m ≡ length (names_of name (x ∷ xs)) = same_length (x ∷ xs) in
-      let c = bucket_back b i (length (names_of name (x ∷ xs))) e in
-      let one : (given_back m s).books k ≡ c = run_books k n i m s e agree run at place ∙ ap (λ (l : ℕ). bucket_back b i l e) long in
+      let c = run_less (length (names_of name (x ∷ xs))) e b in
+      let one : (given_back m s).books k ≡ c = ap (λ (f : ℕ → ℕ). bucket_less f b) (fun_ext (run_back k n m s e run at)) ∙ ap (λ (l : ℕ). run_less l e b) long in
       let books : (given_back m s).books ≡ put_books s.books k c = fun_ext (λ l. elim (cases_Bool (key_eq k l)) [
         | inl is ↦ (let here : put_books s.books k c l ≡ c = rw is refl in ap (given_back m s).books (sym (key_exact.same k l is)) ∙ one ∙ sym here)
         | inr other ↦ (
@@ -115,7 +119,7 @@ module _ {S : Type 0} (name : S → ℕ) where
             let pools : map (λ d. entry_less (back m s d.pool) d) (s.books l).pools ≡ (s.books l).pools =
             ap (λ (f : ℕ → ℕ). map (λ (d : Entry). entry_less (f d.pool) d) (s.books l).pools) (fun_ext (run_back k n m s e run at))
             ∙ untouched_rest (length m) e.pool (s.books l).pools (λ j d got same.
-            let keys = (agree.distinct k l i j e d place got same).0 in
+            let keys = (agree.distinct k l found.0 j e d found.1 got same).0 in
             true≢false (sym (ap (key_eq k) (sym keys) ∙ key_exact.self k) ∙ other)) in
             let whole : (given_back m s).books l ≡ s.books l = λ z. record (s.books l) { pools = pools z } in
             whole ∙ sym here)
@@ -165,28 +169,28 @@ module _ {S : Type 0} (name : S → ℕ) where
       λ z. record { books = books_are z; ledger = ledger z }
 
   -- THE STATE AFTER ONE RUN
-  pub whole_run : (s : State) → Agree s → (x : DescriptorSet S) (xs : List (DescriptorSet S)) → AllByRecursion (λ y. lies_at x.key.is x.number y ≡ true) xs → (i : ℕ) (e : Entry) → slice_get (s.books x.key.is).pools i ≡ Some e → e.number ≡ x.number
+  pub whole_run : (s : State) → Agree s → (x : DescriptorSet S) (xs : List (DescriptorSet S)) → AllByRecursion (λ y. lies_at x.key.is x.number y ≡ true) xs → (e : Entry) → entry_at (s.books x.key.is) x.number ≡ Some e
       → (c : Bucket) (pools : ℕ → Option Pool)
-      → c ≡ bucket_but_front 1 (bucket_back (s.books x.key.is) i (length (names_of name (x ∷ xs))) e)
+      → c ≡ bucket_but_front 1 (run_less (length (names_of name (x ∷ xs))) e (s.books x.key.is))
       → pools
-      ≡ trimmed_pools (bucket_back (s.books x.key.is) i (length (names_of name (x ∷ xs))) e)
+      ≡ trimmed_pools (run_less (length (names_of name (x ∷ xs))) e (s.books x.key.is))
       (taken_from s.ledger e.pool (live_sets x.key.is.counts (names_of name (x ∷ xs))))
       → ◌≡◌ {A = State} (record { books = put_books s.books x.key.is c; ledger = pools }) (released (items_of name (x ∷ xs)) s)
-  whole_run s agree x xs have i e at named c pools is are =
+  whole_run s agree x xs have e at c pools is are =
       let k = x.key.is in
-      let b = bucket_back (s.books k) i (length (names_of name (x ∷ xs))) e in
+      let b = run_less (length (names_of name (x ∷ xs))) e (s.books k) in
       let after = taken_from s.ledger e.pool (live_sets k.counts (names_of name (x ∷ xs))) in
       let left : ◌≡◌ {A = State} (record { books = put_books s.books k c; ledger = pools }) (record { books = put_books s.books k (bucket_but_front 1 b); ledger = trimmed_pools b after }) = λ z. record { books = put_books s.books k (is z); ledger = are z } in
-      left ∙ sym (front_run x xs have s.books b after) ∙ ap (fronts_gone (items_of name (x ∷ xs))) (sym (given_run s agree x xs have i e at named))
+      left ∙ sym (front_run x xs have s.books b after) ∙ ap (fronts_gone (items_of name (x ∷ xs))) (sym (given_run s agree x xs have e at))
 
   -- THE POOLS THAT GO from the run's key
-  pub gone_run : (s : State) → Agree s → (x : DescriptorSet S) (xs : List (DescriptorSet S)) → AllByRecursion (λ y. lies_at x.key.is x.number y ≡ true) xs → (i : ℕ) (e : Entry) → slice_get (s.books x.key.is).pools i ≡ Some e → e.number ≡ x.number
-      → pools_gone (x.key.is ∷ []) (items_of name (x ∷ xs)) s ≡ spent_front (bucket_back (s.books x.key.is) i (length (names_of name (x ∷ xs))) e)
-  gone_run s agree x xs have i e at named_so =
+  pub gone_run : (s : State) → Agree s → (x : DescriptorSet S) (xs : List (DescriptorSet S)) → AllByRecursion (λ y. lies_at x.key.is x.number y ≡ true) xs → (e : Entry) → entry_at (s.books x.key.is) x.number ≡ Some e
+      → pools_gone (x.key.is ∷ []) (items_of name (x ∷ xs)) s ≡ spent_front (run_less (length (names_of name (x ∷ xs))) e (s.books x.key.is))
+  gone_run s agree x xs have e at =
       let k = x.key.is in
       let m = items_of name (x ∷ xs) in
-      let b = bucket_back (s.books k) i (length (names_of name (x ∷ xs))) e in
+      let b = run_less (length (names_of name (x ∷ xs))) e (s.books k) in
       let named : names_key m k ≡ true = any_from item_exact (λ u. key_eq u.key k) m (item_of name x) (first_of x xs) (key_exact.self k) in
-      let given : (given_back m s).books k ≡ b = ap (λ (t : State). t.books k) (given_run s agree x xs have i e at named_so) ∙ (let own : put_books s.books k b k ≡ b = rw (key_exact.self k) refl in own) in
+      let given : (given_back m s).books k ≡ b = ap (λ (t : State). t.books k) (given_run s agree x xs have e at) ∙ (let own : put_books s.books k b k ≡ b = rw (key_exact.self k) refl in own) in
       let here : pools_gone (k ∷ []) m s ≡ spent_front ((given_back m s).books k) = rw named (omega arith) in
       here ∙ ap spent_front given

@@ -1,9 +1,9 @@
 -- How one run is freed from its key's pools.
-use Rattle.std.specs.Prelude.{◌≡◌, ◌+◌, ℕ, List, length, Option, ◌≤◌, map, set, slice_get, Some}
+use Rattle.std.specs.Prelude.{◌≡◌, ◌+◌, ◌==◌, ℕ, if◌then◌else◌, List, length, Option, ◌≤◌, map, Some}
 use Rattle.gpu_descriptor_types.specs.Ledger.{Ledger, Pool, after_release, live_sets}
 use Rattle.gpu_descriptor.specs.declared.set.DescriptorSet.{DescriptorSet}
 use Rattle.gpu_descriptor.specs.Model.Agreement.{live_in}
-use Rattle.gpu_descriptor.specs.Model.Release.{entry_less}
+use Rattle.gpu_descriptor.specs.Model.Release.{bucket_less}
 use Rattle.gpu_descriptor_types.specs.Multiset.{LiveSet, times}
 use Rattle.gpu_descriptor.specs.Model.Books.{Key, Entry, Bucket, entry_at}
 
@@ -17,18 +17,12 @@ pub record IsTakenAt (k : Key) (number : ℕ) (names : List ℕ) (b : Bucket) (p
   -- each set is live in it, at least as often as its name is in the list
   pub live : (x : LiveSet) → times (live_sets k.counts names) x ≤ live_in pools entry.pool x
 
--- the bucket once n sets of the pool at a place are freed
-abbrev pub bucket_back : Bucket → ℕ → ℕ → Entry → Bucket
-bucket_back b place n e = record b { pools = set b.pools place (entry_less n e) }
-
 -- sets of these names are freed: the entry of their pool has as many fewer, and the ledger's pool doesn't have them
 pub record Releases (k : Key) (number : ℕ) (names : List ℕ) (old : Bucket) (before : Ledger) (new : Bucket) (after : Ledger) : Type 0 where
-  pub place : ℕ
   pub entry : Entry
-  -- the pool has this entry, at this place of the bucket
-  pub at : slice_get old.pools place ≡ Some entry
-  pub named : entry.number ≡ number
-  pub books : new ≡ bucket_back old place (length names) entry
+  -- the pool of the number has this entry
+  pub at : entry_at old number ≡ Some entry
+  pub books : new ≡ bucket_less (λ pool. if entry.pool == pool then length names else 0) old
   pub ledger : after ≡ after_release entry.pool (live_sets k.counts names) before
 
 -- the number of comparisons stays, or rises by at most `bound`

@@ -1,9 +1,10 @@
-use Rattle.gpu_descriptor.proofs.Common.{greatest_pool_size, ◌≡◌, ℕ, List, set, ◌+◌, ◌<◌, ◌≤◌, ◌-◌, rules, arith, sym, refl, ◌∙◌, ap, subst, length, map, slice_get, [], ◌∷◌, Some, length-set, eqb-true, length-map, slice_get_read, DescriptorPool, Ledger, after_release, LiveSet}
+use Rattle.gpu_descriptor.proofs.Common.{names_of, greatest_pool_size, ◌≡◌, ℕ, List, set, ◌+◌, ◌<◌, ◌≤◌, ◌-◌, rules, arith, sym, refl, ◌∙◌, ap, subst, length, map, slice_get, [], ◌∷◌, Some, length-set, eqb-true, length-map, slice_get_read, DescriptorPool, Ledger, after_release, LiveSet}
 use Rattle.gpu_descriptor.proofs.Common.{DescriptorSet, live_in, Entry, IsNonDecreasing, AreBookedIn, IsTakenAt, free_in, entry_less, bucket_of, entry_of, binary_digits, gap_digits, first_ordinal, number_after, rises, slice_set}
 use Rattle.gpu_descriptor.proofs.lists.OpenOrdinals.{open_rises}
 use Rattle.gpu_descriptor.proofs.lists.OpenList.{listed_again, fewer_listed}
 use Rattle.gpu_descriptor.proofs.release.Comparisons.{listed_count}
 use Rattle.gpu_descriptor.proofs.release.BucketRun.{AreTaken, are_taken, changed_at, stored_after, total_less, place_fits}
+use Rattle.gpu_descriptor.proofs.release.RunsOfOne.{less_at}
 use Rattle.gpu_descriptor.proofs.release.StoredNumbers.{IsAt, numbers_set, numbers_stored, stands_at, stored_at}
 use Rattle.gpu_descriptor.proofs.foreign.LedgerPools.{taken_from, release_pools}
 use Rattle.gpu_descriptor.proofs.release.OneRun.{run_live, run_ends, run_goes, done}
@@ -189,11 +190,9 @@ returns-clause-ran g c =
       d.run.xs,
       run_ends g.I.Iterator.next_gives g.I.Iterator.can_next g.I.Iterator.remaining g.D.DescriptorDevice.meaning.set_name d (search (rules, m, h)) (search (rules, v, w)),
       record {
-        place = place g f;
         entry = e;
-        at = (is_at g r).at;
-        named = (is_at g r).named;
-        books = ap (λ (x : List Entry). bucket c.args.self.now.id x) entries;
+        at = (is_at g r).there c.args.self.now.id;
+        books = ap (λ (x : List Entry). bucket c.args.self.now.id x) (entries ∙ sym (less_at (length (names_of g.D.DescriptorDevice.meaning.set_name (c.args.first ∷ d.run.xs))) es (place g f) e c.requires.stored.distinct (is_at g r).at));
         ledger = t.ledger ∙ ap (λ (ls : List LiveSet). after_release e.pool ls (g.D.DescriptorDevice.ledger c.args.device.now)) d.sets;
       },
       (omega arith),
