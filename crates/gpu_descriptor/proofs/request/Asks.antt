@@ -10,9 +10,6 @@ same_entry a b number pool capacity allocated free = λ i. record { number = num
 pub same_counters : (a b : Counters) → a.created ≡ b.created → a.destroyed ≡ b.destroyed → a.asked ≡ b.asked → a.released ≡ b.released → a.device_memory ≡ b.device_memory → a.host_memory ≡ b.host_memory → a.fragmentation ≡ b.fragmentation → a.pool_refused ≡ b.pool_refused → a ≡ b
 same_counters a b e1 e2 e3 e4 e5 e6 e7 e8 = λ i. record { created = e1 i; destroyed = e2 i; asked = e3 i; released = e4 i; device_memory = e5 i; host_memory = e6 i; fragmentation = e7 i; pool_refused = e8 i }
 
-pub alloc_rise : (error : DeviceAllocationError) (c : Counters) → alloc_refused error c ≡ risen (alloc_refused error no_rise) c
-alloc_rise error c = same_counters _ _ (grind arith) (grind arith) (grind arith) (grind arith) (grind arith) (grind arith) (grind arith) (grind arith)
-
 -- a pool that nothing came from and that did not refuse
 pub pool_same : (p : Pool) → pool_with [] false p ≡ p
 pool_same p = λ i. record p { live = fun_ext (λ (x : LiveSet). (let e : p.live x + 0 ≡ p.live x = omega arith in e)) i }

@@ -142,8 +142,7 @@ returns-clause-ran g c =
     let came = ends_at name set_name c.args.self.now before es was distinct rise c.args.first.key.is c.args.first.id c.args.first.number (owner g at.After-pair_mut-bucket) g.I.Iterator.next_gives c.args.first _ _ ran.0 _ c.requires.outstanding ran.1 in
     let state =
     row_ran name set_name c.args.self.now before es was distinct c.requires.agree c.args.first row ran.0 came.0 c.destroy_empty_front.new.self after _ _ ran.2 front.books
-    front.ledger c.self.inside.max_update_after_bind_descriptors_in_all_pools in
-    (
+    front.ledger c.self.inside.max_update_after_bind_descriptors_in_all_pools in (
       ran.0,
       came,
       record {
