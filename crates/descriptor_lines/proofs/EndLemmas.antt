@@ -1,10 +1,10 @@
 -- How a run of lines ends: for `run_lines_on` and `run_to_end`. `Stands` says how far a run over known bytes came, `Takes` what came of its
--- next line, and `Wrote` what it wrote in the end.
-use Rattle.std.proofs.Common.{◌≡◌, ℕ, ◌+◌, ◌-◌, ◌<◌, ◌≤◌, ◌⊎◌, inl, inr, false, List, [], ◌∷◌, ◌++◌, Option, Some, Result, Ok, Err, OnOk, IfErr, drop, take, slice_range, length, length-append, length-take, append_assoc, append-nil, subst, refl, sym, ap, ◌∙◌, arith}
+-- next line, and `Writes` what it wrote in the end.
+use Rattle.std.proofs.Common.{◌≡◌, ℕ, ◌+◌, ◌-◌, ◌<◌, ◌≤◌, ◌⊎◌, inl, inr, false, List, [], ◌∷◌, ◌++◌, Option, Some, Result, Ok, Err, OnOk, IfErr, drop, take, length, length-append, length-take, append_assoc, subst, refl, sym, ap, ◌∙◌, arith}
 use Rattle.std.specs.List.{position_or_len}
 use Rattle.std.specs.Io.BufRead.{strip_last}
-use Rattle.std.specs.Io.KnownBytes.{Appends, prepend_known}
-use Rattle.std.proofs.KnownBytes.{Appends-trans}
+use Rattle.std.specs.Io.KnownBytes.{Appends}
+use Rattle.std.proofs.KnownBytes.{Appends-nil, Appends-trans}
 use Rattle.descriptor_lines.specs.Words.{is_byte, words}
 use Rattle.descriptor_lines.specs.declared.words.fault.Fault.TheVariants.{LineTooLong}
 use Rattle.descriptor_lines.specs.declared.words.fault.Refusal.{Refusal}
@@ -15,7 +15,7 @@ use Rattle.descriptor_lines.specs.LineStates.{LineState}
 use Rattle.descriptor_lines.specs.Lines.{after_end, before_end, lines_of, longest_line}
 use Rattle.descriptor_lines.specs.Outcomes.{AppendsPrefix, IsNoFault, said_of}
 use Rattle.descriptor_lines.specs.Programs.{CanRun, DoesLine, IsNotRun}
-use Rattle.descriptor_lines.specs.Transcripts.{AreAnswered, ComesTo, IsAnswered, IsRefused, Writes, words_in}
+use Rattle.descriptor_lines.specs.Transcripts.{AreAnswered, Ends, IsAnswered, IsRefused, Writes, words_in}
 use Rattle.descriptor_lines.specs.declared.exit.Exit.{Exit}
 use Rattle.descriptor_lines.specs.declared.exit.Exit.TheVariants.{BadLine, Done, ReadFault, WriteFault}
 use Rattle.descriptor_lines.specs.declared.input.LineBuffer.{LineBuffer}
@@ -94,16 +94,30 @@ takes_long number bytes left outcome text p is long = rw is (record {
 })
 
 module _ (bytes : List ℕ) (start p : LineState) (answers : List ℕ) (number : ℕ) (left : Option (List ℕ)) (at : Stands bytes start answers number left p) where
-  -- ---- the ends before a line
+  -- the run ends before these lines
+  ends :
+      (exit : Exit) (lines : List (List ℕ)) (said : List ℕ) (last : LineState) (old mid new : Option (List ℕ))
+      → lines_of bytes ≡ at.before ++ lines → Ends exit number lines said p last
+      → Appends old mid answers → Appends mid new said → Writes (lines_of bytes) start exit old new last
+  ends exit lines said last old mid new split how before after = record {
+    before = at.before;
+    left = lines;
+    split = split;
+    answers = answers;
+    program = p;
+    answered = at.answered;
+    said = said;
+    ends = subst (λ n. Ends exit n lines said p last) at.next how;
+    grown = Appends-trans old mid new answers said before after;
+  }
 
   -- a run at the end of its input is done, and one whose input can't be read ends where it came
   pub ends_done : (old new : Option (List ℕ)) → at.rest ≡ [] → Appends old new answers → Writes (lines_of bytes) start Done old new p
   ends_done old new end grown =
-      let every : lines_of bytes ≡ at.before = at.split ∙ ap (λ l. at.before ++ lines_of l) end ∙ ap (λ l. at.before ++ l) no_lines ∙ append-nil at.before in
-      (answers, rw every at.answered, grown)
+      ends Done [] [] p old new new (at.split ∙ ap (λ l. at.before ++ lines_of l) end ∙ ap (λ l. at.before ++ l) no_lines) (refl, refl) grown (Appends-nil new)
 
   pub ends_unread : (old new : Option (List ℕ)) → Appends old new answers → Writes (lines_of bytes) start ReadFault old new p
-  ends_unread old new grown = (answers, (at.before, lines_of at.rest, at.split, at.answered), grown)
+  ends_unread old new grown = ends ReadFault (lines_of at.rest) [] p old new new at.split (refl, refl) grown (Appends-nil new)
 
   -- ---- a line, and what came of it
 
@@ -111,7 +125,10 @@ module _ (bytes : List ℕ) (start p : LineState) (answers : List ℕ) (number :
     abbrev line : List ℕ
     line = before_end at.rest
 
-    split : lines_of bytes ≡ at.before ++ line ∷ lines_of (after_end at.rest)
+    abbrev others : List (List ℕ)
+    others = lines_of (after_end at.rest)
+
+    split : lines_of bytes ≡ at.before ++ line ∷ others
     split = at.split ∙ ap (λ l. at.before ++ l) (lines_split at.rest takes.some)
 
     -- the run goes on after it, if it had no fault
@@ -120,47 +137,21 @@ module _ (bytes : List ℕ) (start p : LineState) (answers : List ℕ) (number :
       rest = after_end at.rest;
       known = takes.gone fine;
       before = at.before ++ line ∷ [];
-      split = split ∙ sym (append_assoc at.before (line ∷ []) (lines_of (after_end at.rest)));
+      split = split ∙ sym (append_assoc at.before (line ∷ []) others);
       next = (let n = at.next in omega (arith, length-append at.before (line ∷ [])));
       answered = goes_on at.before answers start p line _ now at.answered (was_answered number line text p now outcome fine takes.came);
     }
 
-    -- the run ends here
-    at_line : (Says : ℕ → List ℕ → List ℕ → LineState → Type 0) (written : List ℕ) → Says number line written p → ComesTo Says (lines_of bytes) start (answers ++ written)
-    at_line Says written says = record {
-      before = at.before;
-      line = line;
-      after = lines_of (after_end at.rest);
-      split = split;
-      answers = answers;
-      program = p;
-      answered = at.answered;
-      said = written;
-      whole = refl;
-      says = subst (λ n. Says n line written p) at.next says;
-    }
-
     -- a faulty line was the last
     pub ends_at_fault : (old mid new : Option (List ℕ)) → ¬ (IsNoFault outcome) → Appends old mid answers → Appends mid new (said_of number outcome text) → Writes (lines_of bytes) start BadLine old new now
-    ends_at_fault old mid new faulty before told = (
-      answers ++ said_of number outcome text,
-      at_line (λ n l t q. IsRefused n l t q now) (said_of number outcome text) (was_refused number line text p now outcome faulty takes.came),
-      Appends-trans old mid new answers _ before told,
-    )
+    ends_at_fault old mid new faulty =
+        ends BadLine (line ∷ others) (said_of number outcome text) now old mid new split (was_refused number line text p now outcome faulty takes.came)
 
     -- a write failed
     pub ends_unwritten : (old mid new : Option (List ℕ)) → Appends old mid answers → AppendsPrefix mid new (said_of number outcome text) → Writes (lines_of bytes) start WriteFault old new now
-    ends_unwritten old mid new before wrote = (
-      answers ++ wrote.prefix,
-      at_line
-          (λ n l t q. (unwritten : List ℕ) × (IsAnswered l (t ++ unwritten) q now ⊎ IsRefused n l (t ++ unwritten) q now))
-          wrote.prefix (
-            wrote.unwritten,
-            subst (λ t. IsAnswered line t p now ⊎ IsRefused number line t p now) wrote.split
-                (is_said number line text p now outcome takes.came),
-          ),
-      Appends-trans old mid new answers _ before wrote.grown,
-    )
+    ends_unwritten old mid new before wrote =
+        let said = subst (λ t. IsAnswered line t p now ⊎ IsRefused number line t p now) wrote.split (is_said number line text p now outcome takes.came) in
+        ends WriteFault (line ∷ others) wrote.prefix now old mid new split (wrote.unwritten, said) before wrote.grown
 
 -- an answer ends a run early only at a fault or a failed write
 pub ends_early :

@@ -3,7 +3,7 @@
 -- were read. Byte 10 ends a line. `known` are the bytes that the reader has left, if that is known; `ended`, `was` and `now` say whether
 -- its end was seen.
 use Rattle.std.proofs.Common.{◌≡◌, if◌then◌else◌, ℕ, ◌+◌, ◌-◌, ◌<◌, ◌≤◌, ◌⊎◌, inl, inr, append_assoc, append-nil, length-take, Bool, true, false, IsTrue, List, [], ◌++◌, Option, None, Some, not, is_some, unwrap_or, length, length-take-le, take, drop, position, slice_range, length-append}
-use Rattle.std.proofs.Common.{take-append-drop, refl, sym, ap, ◌∙◌, arith}
+use Rattle.std.proofs.Common.{refl, sym, ap, ◌∙◌, arith}
 use Rattle.std.specs.List.{position_or_len}
 use Rattle.std.specs.Io.KnownBytes.{Keeps, IsAtEnd, Consumes, prepend_known}
 use Rattle.std.proofs.Math.Seq.{take-add}

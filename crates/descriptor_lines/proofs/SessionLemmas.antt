@@ -1,5 +1,5 @@
 -- Sessions that are ready, and the replies of their steps: for `Program::new`, `add_layout`, `set_limit` and `ask`.
-use Rattle.std.proofs.Common.{All, ◌≡◌, ◌≢◌, ℕ, zero, suc, zero-le, ◌+◌, ◌-◌, ◌<◌, ◌≤◌, ◌^◌, List, [], ◌∷◌, ◌++◌, length, length-append, map, get_or, Option, None, Some, IsSome, refl, sym, ap, ◌∙◌, arith}
+use Rattle.std.proofs.Common.{All, ◌≡◌, ℕ, zero-le, ◌<◌, ◌≤◌, ◌^◌, List, [], ◌∷◌, length, length-append, map, None, Some, refl, sym, ap, ◌∙◌, arith}
 use Rattle.std.proofs.lemmas.List.{length-map}
 use Rattle.std.proofs.lemmas.List.Elements.{All-nil}
 use Rattle.gpu_descriptor_types.specs.Ledger.{Ledger}

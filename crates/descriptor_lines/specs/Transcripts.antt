@@ -44,33 +44,26 @@ AreAnswered [] text old new = (text ≡ []) × (new ≡ old)
 AreAnswered (line ∷ lines) text old new =
     (answer : List ℕ) × (answers : List ℕ) × (next : LineState) × IsAnswered line answer old next × (text ≡ answer ++ answers) × AreAnswered lines answers next new
 
--- a run came to a line: those before it were answered, and this holds of its number, of the line, of what was said of it, and of the state before it
-pub record ComesTo (Says : ℕ → List ℕ → List ℕ → LineState → Type 0) (lines : List (List ℕ)) (start : LineState) (text : List ℕ) : Type 0 where
+-- how a run ends that came to a state with these lines left: what it says last, and the state that it leaves. At a faulty line the fault comes last, and if a write failed a prefix of what was to be written of a line
+abbrev pub Ends : Exit → ℕ → List (List ℕ) → List ℕ → LineState → LineState → Type 0
+Ends Done number [] said p last = (said ≡ []) × (last ≡ p)
+Ends ReadFault number lines said p last = (said ≡ []) × (last ≡ p)
+Ends BadLine number (line ∷ lines) said p last = IsRefused number line said p last
+Ends WriteFault number (line ∷ lines) said p last =
+    (unwritten : List ℕ) × (IsAnswered line (said ++ unwritten) p last ⊎ IsRefused number line (said ++ unwritten) p last)
+Ends _ number lines said p last = ⊥
+
+-- known bytes grow by what a run of these lines wrote: the answers of the lines before its end, and what it said last
+pub record Writes (lines : List (List ℕ)) (start : LineState) (exit : Exit) (old new : Option (List ℕ)) (last : LineState) : Type 0 where
   pub before : List (List ℕ)
-  pub line : List ℕ
-  pub after : List (List ℕ)
-  pub split : lines ≡ before ++ line ∷ after
+  pub left : List (List ℕ)
+  pub split : lines ≡ before ++ left
   pub answers : List ℕ
   pub program : LineState
   pub answered : AreAnswered before answers start program
   pub said : List ℕ
-  pub whole : text ≡ answers ++ said
-  pub says : Says (length before + 1) line said program
-
--- what a run of these lines wrote, by how it ended, and the state that it left: at a faulty line the fault comes last, and if a write failed a prefix of what was to be written of a line
-abbrev pub Wrote : List (List ℕ) → LineState → Exit → List ℕ → LineState → Type 0
-Wrote lines start Done text last = AreAnswered lines text start last
-Wrote lines start BadLine text last =
-    ComesTo (λ number line said p. IsRefused number line said p last) lines start text
-Wrote lines start ReadFault text last =
-    (before : List (List ℕ)) × (after : List (List ℕ)) × (lines ≡ before ++ after) × AreAnswered before text start last
-Wrote lines start WriteFault text last =
-    ComesTo (λ number line said p. (unwritten : List ℕ) × (IsAnswered line (said ++ unwritten) p last ⊎ IsRefused number line (said ++ unwritten) p last)) lines start text
-Wrote lines start NoMemory text last = text ≡ []
-
--- known bytes grow by what a run of these lines wrote
-abbrev pub Writes : List (List ℕ) → LineState → Exit → Option (List ℕ) → Option (List ℕ) → LineState → Type 0
-Writes lines start exit old new last = (text : List ℕ) × Wrote lines start exit text last × Appends old new text
+  pub ends : Ends exit (length before + 1) left said program last
+  pub grown : Appends old new (answers ++ said)
 
 -- a run of the lines that a reader gives: what the reader had left and has left, how the run ended, what the writer held and holds, and the ledger and the script of the device then
 pub record RunsLines (unread rest : Option (List ℕ)) (exit : Exit) (old new : Option (List ℕ)) (ledger : Ledger) (script : List Answer) : Type 0 where

@@ -1,4 +1,3 @@
-use Rattle.std.proofs.Common.{◌≡◌}
 use Rattle.descriptor_lines.specs.LineBuffers.{buffered}
 use Rattle.descriptor_lines.proofs.LineLemmas.{Keeps-Some, begins_too_long, takes_ended}
 use Rattle.descriptor_lines.proofs.input.LineBuffer.next_line.Goals as goal
