@@ -1,8 +1,8 @@
 //! The commands that lines give.
-ghost use Rattle.std.specs.Prelude.{◌≡◌, ◌↔◌, IsTrue, IsFalse, IfOk, IfSome, OnOk, Ok, Err, None};
+ghost use Rattle.std.specs.Prelude.{◌≡◌, ◌⊎◌, ◌↔◌, ℕ, List, [], ◌∷◌, IsTrue, IsFalse, IfErr, IfOk, IfSome};
+ghost use Rattle.std.specs.Prelude.{OnOk, Ok, Err, None};
 ghost use Rattle.std.specs.Prelude.{option_map};
-ghost use Rattle.descriptor_lines.specs.Orders.{BeginsList, HasList, alloc_in, limit_in, line_in};
-ghost use Rattle.descriptor_lines.specs.Orders.{nothing_in, order_in, order_of, size_in};
+ghost use Rattle.descriptor_lines.specs.Orders.{BeginsList, line_in, order_in, order_of, timely as timely_of};
 ghost use Rattle.descriptor_lines.specs.Commands.{IsRunnable};
 ghost use Rattle.descriptor_lines.specs.Fault.{Reads};
 ghost use Rattle.std.specs.Result.{result_map_both};
@@ -92,8 +92,20 @@ impl<'a> Command<'a> {
             return Ok(None);
         }
         let keyword = Keyword::of_word(word).ok_or(Fault::UnknownCommand)?;
-        let command = parse_words(alloc, keyword, words, layouts, has_begun)?;
+        let keyword = timely(keyword, has_begun)?;
+        let command = parse_words(alloc, keyword, words, layouts)?;
         Ok(Some(command))
+    }
+}
+
+/// The command, unless it is a limit and comes too late.
+fn timely(keyword: Keyword, has_begun: bool) -> Result<Keyword, Fault>
+    ensures timely { result ≡ timely_of keyword has_begun }
+    ensures first { IfOk result (λ keyword. keyword ≡ Keyword.Limit → IsFalse has_begun) }
+{
+    match keyword {
+        Keyword::Limit if has_begun => Err(Fault::LimitNotFirst),
+        _ => Ok(keyword),
     }
 }
 
@@ -101,18 +113,25 @@ impl<'a> Command<'a> {
 fn parse_words<'a>(
     alloc: Global,
     keyword: Keyword,
-    words: Words<'a>,
+    mut words: Words<'a>,
     layouts: &LayoutTable,
-    has_begun: bool,
 ) -> Result<Command<'a>, Refusal>
-    requires fresh { IsFalse has_begun → layout_count layouts.now ≡ 0 }
+    requires fresh { keyword ≡ Keyword.Limit → layout_count layouts.now ≡ 0 }
     ensures reads { Reads order_of result
-        (order_in layouts.now has_begun keyword (words_left words.entry)) }
-    ensures memory { result ≡ Err Refusal.NoMemory → HasList keyword }
+        (order_in layouts.now keyword
+        (words_left words.entry)) }
+    ensures memory { result ≡ Err Refusal.NoMemory → (keyword ≡ Keyword.Script)
+        ⊎ (keyword ≡ Keyword.Free) }
     ensures runnable { IfOk result (IsRunnable layouts.now) }
 {
     match keyword {
-        Keyword::Limit => Ok(parse_limit(words, has_begun)?),
+        Keyword::Limit => {
+            let (Some(max), None) = (words.next(), words.next()) else {
+                return Err(Refusal::Fault(Fault::BadWordCount));
+            };
+            let max = parse_u32(max)?;
+            Ok(Command::Limit { max })
+        }
         Keyword::Layout => Ok(parse_layout(words, layouts)?),
         Keyword::Size => Ok(parse_size(words, layouts)?),
         Keyword::Script => {
@@ -135,24 +154,9 @@ fn parse_words<'a>(
     }
 }
 
-/// `limit N`.
-fn parse_limit<'a>(mut words: Words<'a>, has_begun: bool) -> Result<Command<'a>, Fault>
-    ensures reads { result_map_both order_of (λ fault. fault) result ≡ limit_in has_begun (words_left words.entry) }
-    ensures in_time { OnOk result (IsFalse has_begun) }
-{
-    if has_begun {
-        return Err(Fault::LimitNotFirst);
-    }
-    let (Some(max), None) = (words.next(), words.next()) else {
-        return Err(Fault::BadWordCount);
-    };
-    let max = parse_u32(max)?;
-    Ok(Command::Limit { max })
-}
-
 /// `size NAME TOTAL WANTED`.
 fn parse_size<'a>(mut words: Words<'a>, layouts: &LayoutTable) -> Result<Command<'a>, Fault>
-    ensures reads { result_map_both order_of (λ fault. fault) result ≡ size_in layouts.now (words_left words.entry) }
+    ensures reads { result_map_both order_of (λ fault. fault) result ≡ order_in layouts.now Keyword.Size (words_left words.entry) }
     ensures runnable { IfOk result (IsRunnable layouts.now) }
 {
     let (Some(name), Some(total), Some(wanted), None) = (
@@ -176,7 +180,7 @@ fn parse_size<'a>(mut words: Words<'a>, layouts: &LayoutTable) -> Result<Command
 
 /// `alloc NAME N`.
 fn parse_alloc<'a>(mut words: Words<'a>, layouts: &LayoutTable) -> Result<Command<'a>, Fault>
-    ensures reads { result_map_both order_of (λ fault. fault) result ≡ alloc_in layouts.now (words_left words.entry) }
+    ensures reads { result_map_both order_of (λ fault. fault) result ≡ order_in layouts.now Keyword.Alloc (words_left words.entry) }
     ensures runnable { IfOk result (IsRunnable layouts.now) }
 {
     let (Some(name), Some(count), None) = (words.next(), words.next(), words.next()) else {
@@ -190,7 +194,9 @@ fn parse_alloc<'a>(mut words: Words<'a>, layouts: &LayoutTable) -> Result<Comman
 
 /// The end of a line whose command has no arguments.
 fn expect_end(mut words: Words<'_>) -> Result<(), Fault>
-    ensures { result ≡ nothing_in (words_left words.entry) }
+    ensures end { OnOk result (words_left words.entry ≡ []) }
+    ensures more { IfErr result (λ fault. (fault ≡ Fault.BadWordCount) × (word : List ℕ)
+        × (others : List (List ℕ)) × (words_left words.entry ≡ word ∷ others)) }
 {
     if words.next().is_some() {
         return Err(Fault::BadWordCount);

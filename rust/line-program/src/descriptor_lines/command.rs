@@ -78,8 +78,18 @@ impl<'a> Command<'a> {
             return Ok(None);
         }
         let keyword = Keyword::of_word(word).ok_or(Fault::UnknownCommand)?;
-        let command = parse_words(alloc, keyword, words, layouts, has_begun)?;
+        let keyword = timely(keyword, has_begun)?;
+        let command = parse_words(alloc, keyword, words, layouts)?;
         Ok(Some(command))
+    }
+}
+
+/// The command, unless it is a limit and comes too late.
+fn timely(keyword: Keyword, has_begun: bool) -> Result<Keyword, Fault>
+{
+    match keyword {
+        Keyword::Limit if has_begun => Err(Fault::LimitNotFirst),
+        _ => Ok(keyword),
     }
 }
 
@@ -87,13 +97,18 @@ impl<'a> Command<'a> {
 fn parse_words<'a>(
     alloc: Global,
     keyword: Keyword,
-    words: Words<'a>,
+    mut words: Words<'a>,
     layouts: &LayoutTable,
-    has_begun: bool,
 ) -> Result<Command<'a>, Refusal>
 {
     match keyword {
-        Keyword::Limit => Ok(parse_limit(words, has_begun)?),
+        Keyword::Limit => {
+            let (Some(max), None) = (words.next(), words.next()) else {
+                return Err(Refusal::Fault(Fault::BadWordCount));
+            };
+            let max = parse_u32(max)?;
+            Ok(Command::Limit { max })
+        }
         Keyword::Layout => Ok(parse_layout(words, layouts)?),
         Keyword::Size => Ok(parse_size(words, layouts)?),
         Keyword::Script => {
@@ -114,19 +129,6 @@ fn parse_words<'a>(
             Ok(Command::Show)
         }
     }
-}
-
-/// `limit N`.
-fn parse_limit<'a>(mut words: Words<'a>, has_begun: bool) -> Result<Command<'a>, Fault>
-{
-    if has_begun {
-        return Err(Fault::LimitNotFirst);
-    }
-    let (Some(max), None) = (words.next(), words.next()) else {
-        return Err(Fault::BadWordCount);
-    };
-    let max = parse_u32(max)?;
-    Ok(Command::Limit { max })
 }
 
 /// `size NAME TOTAL WANTED`.
