@@ -10,42 +10,35 @@ use Rattle.std.proofs.lemmas.List.{replicate_more}
 use Rattle.gpu_descriptor.specs.declared.set.DescriptorSet.{DescriptorSet}
 use Rattle.descriptor_script.specs.declared.raw.RawSet.{RawSet}
 use Rattle.descriptor_lines.specs.Replies.{pool_at}
-use Rattle.descriptor_lines.specs.ReplyTexts.{freed_text, front_of, pools_from, range_text, sets_text, stretch_text, stretches, stretches_behind, stretches_text}
+use Rattle.descriptor_lines.specs.ReplyTexts.{pools_from, range_text, run_before, sets_text, stretch_text, stretches, stretches_text}
 
 -- ---- stretches
 
--- a stretch is as long as its pool is in front, and what comes after it begins with another pool
-front_of_one : (pool n : ℕ) (rest : List ℕ) → front_of pool (replicate n pool ++ rest) ≡ n + front_of pool rest
-front_of_one pool zero rest = grind arith
-front_of_one pool (suc n) rest = grind (arith, nat_tests, front_of_one pool n rest)
+-- a pool before a run of its own makes it longer, and before one of another pool it begins one
+longer_run : (pool n : ℕ) (runs : List (ℕ × ℕ)) → run_before pool ((pool, n) ∷ runs) ≡ (pool, suc n) ∷ runs
+longer_run pool n runs = grind (arith, nat_tests)
 
-front_of_another : (pool next : ℕ) (rest : List ℕ) → next ≢ pool → front_of pool (next ∷ rest) ≡ 0
-front_of_another pool next rest apart = grind (arith, nat_tests)
+new_run : (pool next : ℕ) (runs : List (ℕ × ℕ)) → next ≢ pool → run_before pool (run_before next runs) ≡ (pool, 1) ∷ run_before next runs
+new_run pool next [] apart = grind (arith, nat_tests)
+new_run pool next ((other, n) ∷ runs) apart = grind (arith, nat_tests)
 
-behind_one : (pool n : ℕ) (rest : List ℕ) → stretches_behind pool (replicate n pool ++ rest) ≡ stretches_behind pool rest
-unfolding stretches_behind
-behind_one pool zero rest = refl
-behind_one pool (suc n) rest = grind (arith, nat_tests, behind_one pool n rest)
-
-behind_another : (pool next : ℕ) (rest : List ℕ) → next ≢ pool → stretches_behind pool (next ∷ rest) ≡ stretches (next ∷ rest)
-unfolding stretches_behind stretches
-behind_another pool next rest apart = grind (arith, nat_tests)
+-- neighbours of one pool are a run, where the pool begins one before the rest
+whole_run : (pool n : ℕ) (rest : List ℕ) → run_before pool (stretches rest) ≡ (pool, 1) ∷ stretches rest → stretches (replicate (suc n) pool ++ rest) ≡ (pool, suc n) ∷ stretches rest
+unfolding stretches
+whole_run pool zero rest alone = alone
+whole_run pool (suc n) rest alone = ap (run_before pool) (whole_run pool n rest alone) ∙ longer_run pool (suc n) (stretches rest)
 
 -- the text of a stretch before another pool, and below of the last one
 stretch_over : (pool n next : ℕ) (rest : List ℕ) → 0 < n → next ≢ pool → stretches_text (replicate n pool ++ next ∷ rest) ≡ stretch_text (pool, n) ++ stretches_text (next ∷ rest)
 unfolding stretches_text stretches
 stretch_over pool zero next rest some apart = absurd (omega arith)
 stretch_over pool (suc n) next rest some apart =
-    let front : front_of pool (replicate n pool ++ next ∷ rest) ≡ n = omega (arith, front_of_one pool n (next ∷ rest), front_of_another pool next rest apart) in
-    let behind : stretches_behind pool (replicate n pool ++ next ∷ rest) ≡ stretches (next ∷ rest) = behind_one pool n (next ∷ rest) ∙ behind_another pool next rest apart in
-    ap (λ k. stretch_text (pool, suc k) ++ flat_map stretch_text (stretches_behind pool (replicate n pool ++ next ∷ rest))) front ∙ ap (λ more. stretch_text (pool, suc n) ++ flat_map stretch_text more) behind
+    ap (flat_map stretch_text) (whole_run pool n (next ∷ rest) (new_run pool next (stretches rest) apart))
 
 stretch_last : (pool n : ℕ) → 0 < n → stretches_text (replicate n pool ++ []) ≡ stretch_text (pool, n)
-unfolding stretches_text stretches stretches_behind
+unfolding stretches_text stretches
 stretch_last pool zero some = absurd (omega arith)
-stretch_last pool (suc n) some =
-    let front : front_of pool (replicate n pool ++ []) ≡ n = omega (arith, front_of_one pool n []) in
-    ap (λ k. stretch_text (pool, suc k) ++ flat_map stretch_text (stretches_behind pool (replicate n pool ++ []))) front ∙ ap (λ more. stretch_text (pool, suc n) ++ flat_map stretch_text more) (behind_one pool n []) ∙ append-nil (stretch_text (pool, suc n))
+stretch_last pool (suc n) some = ap (flat_map stretch_text) (whole_run pool n [] refl) ∙ append-nil (stretch_text (pool, suc n))
 
 -- ---- the pools of tickets up to the end, one by one
 
@@ -97,23 +90,18 @@ digits_at_most_by n some fits (inr one) (inr two) = omega (arith, length-decimal
 digits_at_most : (n : ℕ) → 0 < n → n < 2 ^ 64 → length (decimal n) ≤ n
 digits_at_most n some fits = digits_at_most_by n some fits (cases_lt n 10) (cases_lt n 100)
 
+-- a number of 64 bits has at most 20 digits
+pub length_of_number : (n : ℕ) → n < 2 ^ 64 → length (decimal n) ≤ 20
+length_of_number n fits = length-decimal-le 20 n (omega arith) (omega arith) fits
+
 -- a stretch of one set has at most 23 bytes, and each further set adds at most one
 pub length_of_stretch : (pool n : ℕ) → 0 < n → pool < 2 ^ 64 → n < 2 ^ 64 → length (stretch_text (pool, n)) ≤ 22 + n
 length_of_stretch pool n some named fits =
-    let name : length (decimal pool) ≤ 20 = length-decimal-le 20 pool (omega arith) (omega arith) named in
     let sum : length (decimal pool ++ 42 ∷ decimal n) ≡ length (decimal pool) + suc (length (decimal n)) = length-append (decimal pool) (42 ∷ decimal n) in
-    omega (arith, digits_at_most n some fits)
+    omega (arith, length_of_number pool named, digits_at_most n some fits)
 
--- a text with numbers is no longer than their digits allow: 20 for a number of 64 bits
+-- a text with numbers is no longer than their digits allow
 pub length_of_range : (first last : ℕ) → first < 2 ^ 64 → last < 2 ^ 64 → length (range_text first last) ≤ 47
 length_of_range first last from to =
-    let low : length (decimal first) ≤ 20 = length-decimal-le 20 first (omega arith) (omega arith) from in
-    let high : length (decimal last) ≤ 20 = length-decimal-le 20 last (omega arith) (omega arith) to in
     let sum : length ((decimal first ++ 45 ∷ decimal last) ++ 58 ∷ []) ≡ length (decimal first) + suc (length (decimal last)) + 1 = length-append (decimal first ++ 45 ∷ decimal last) (58 ∷ []) ∙ ap (λ n. n + 1) (length-append (decimal first) (45 ∷ decimal last)) in
-    omega arith
-
-pub length_of_freed : (n : ℕ) → n < 2 ^ 64 → length (freed_text n) ≤ 27
-length_of_freed n fits =
-    let number : length (decimal n) ≤ 20 = length-decimal-le 20 n (omega arith) (omega arith) fits in
-    let sum : length (decimal n ++ 10 ∷ []) ≡ length (decimal n) + 1 = length-append (decimal n) (10 ∷ []) in
-    omega arith
+    omega (arith, length_of_number first from, length_of_number last to)

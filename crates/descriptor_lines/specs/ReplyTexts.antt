@@ -1,9 +1,8 @@
 -- What the program answers to a reply of its session.
 use Rattle.std.specs.Prelude.{ℕ, zero, suc, ◌+◌, ◌*◌, ◌==◌, if◌then◌else◌, List, [], ◌∷◌, ◌++◌, map, codes, Option}
 use Rattle.std.specs.Fmt.{decimal}
-use Rattle.std.specs.List.{flat_map, prefix_len, range_with_len}
+use Rattle.std.specs.List.{flat_map, range_with_len}
 use Rattle.gpu_descriptor.specs.Caller.Errors.{error_text}
-use Rattle.gpu_descriptor.specs.declared.errors.AllocationError.{AllocationError}
 use Rattle.gpu_descriptor.specs.declared.set.DescriptorSet.{DescriptorSet}
 use Rattle.descriptor_script.specs.declared.command.Command.{Command}
 use Rattle.descriptor_script.specs.declared.command.Command.TheVariants.{Allocate}
@@ -12,20 +11,16 @@ use Rattle.descriptor_script.specs.declared.command.Reply.TheVariants.{Sets, Ref
 use Rattle.descriptor_script.specs.declared.raw.RawSet.{RawSet}
 use Rattle.descriptor_lines.specs.Replies.{pool_at}
 
--- how many at the front are this pool
-abbrev pub front_of : ℕ → List ℕ → ℕ
-front_of pool pools = prefix_len (λ next. next == pool) pools
-
--- the runs that begin after this pool: one begins at each pool that is another than before, and is the longest front of its pool
-unfoldable pub stretches_behind : ℕ → List ℕ → List (ℕ × ℕ)
-stretches_behind pool [] = []
-stretches_behind pool (next ∷ rest) =
-    if next == pool then stretches_behind pool rest else (next, suc (front_of next rest)) ∷ stretches_behind next rest
+-- the runs with this pool before them: the first run is longer if it is of this pool, and else the pool begins one
+abbrev pub run_before : ℕ → List (ℕ × ℕ) → List (ℕ × ℕ)
+run_before pool [] = (pool, 1) ∷ []
+run_before pool ((next, count) ∷ runs) =
+    if next == pool then (pool, suc count) ∷ runs else (pool, 1) ∷ (next, count) ∷ runs
 
 -- the longest runs of one pool, each with the pool and its length
 unfoldable pub stretches : List ℕ → List (ℕ × ℕ)
 stretches [] = []
-stretches (pool ∷ rest) = (pool, suc (front_of pool rest)) ∷ stretches_behind pool rest
+stretches (pool ∷ pools) = run_before pool (stretches pools)
 
 -- the text of a run
 abbrev pub stretch_text : ℕ × ℕ → List ℕ
@@ -38,14 +33,6 @@ stretches_text pools = flat_map stretch_text (stretches pools)
 -- the tickets from the first to the last
 abbrev pub range_text : ℕ → ℕ → List ℕ
 range_text first last = codes "sets " ++ decimal first ++ (codes "-" ++ decimal last) ++ codes ":"
-
--- that a request is refused, and why
-abbrev pub refused_text : AllocationError → List ℕ
-refused_text error = codes "refused: " ++ error_text error ++ codes "\n"
-
--- how many sets were freed
-abbrev pub freed_text : ℕ → List ℕ
-freed_text count = codes "freed " ++ decimal count ++ codes "\n"
 
 module _ (slots : List (Option (DescriptorSet RawSet))) where
   -- the device pools of the tickets from the first up
@@ -61,8 +48,8 @@ module _ (slots : List (Option (DescriptorSet RawSet))) where
   -- the answer to a reply, if these are the sets afterwards. A layout that isn't there has none
   abbrev pub text_of_reply : Reply → List ℕ
   text_of_reply (Sets first count) = sets_text first count
-  text_of_reply (Refused error) = refused_text error
-  text_of_reply (Freed count) = freed_text count
+  text_of_reply (Refused error) = codes "refused: " ++ error_text error ++ codes "\n"
+  text_of_reply (Freed count) = codes "freed " ++ decimal count ++ codes "\n"
   text_of_reply BadTicket = codes "bad ticket\n"
   text_of_reply BadLayout = []
   text_of_reply NoMemory = codes "refused: no memory\n"

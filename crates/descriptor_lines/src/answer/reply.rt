@@ -6,7 +6,7 @@ ghost use Rattle.descriptor_script.specs.Sessions.Session.{sets_of};
 ghost use Rattle.descriptor_lines.specs.Answers.{HasReserveFor};
 ghost use Rattle.descriptor_lines.specs.Replies.{TicketsFit, pool_at};
 ghost use Rattle.descriptor_lines.specs.ReplyTexts.{max_bytes, sets_asked, sets_given};
-ghost use Rattle.descriptor_lines.specs.ReplyTexts.{freed_text, refused_text, text_of_reply};
+ghost use Rattle.descriptor_lines.specs.ReplyTexts.{text_of_reply};
 ghost use Rattle.descriptor_lines.specs.ReplyTexts.{pools_from, range_text, sets_text};
 ghost use Rattle.descriptor_lines.specs.ReplyTexts.{stretch_text, stretches_text};
 
@@ -53,23 +53,20 @@ pub fn reply_answer(answer: &mut String, session: &LineSession, reply: &Reply)
 {
     match reply {
         Reply::Sets { first, count } => sets_answer(answer, session, *first, *count),
-        Reply::Refused(error) => refused_answer(answer, error),
-        Reply::Freed(count) => freed_answer(answer, *count),
+        Reply::Refused(error) => {
+            put(answer, "refused: ");
+            put(answer, text_of_error(error));
+            put(answer, "\n");
+        }
+        Reply::Freed(count) => {
+            put_number(answer, "freed ", *count as u64);
+            put(answer, "\n");
+        }
         Reply::BadTicket => put(answer, "bad ticket\n"),
         Reply::Clean => put(answer, "clean\n"),
         Reply::NoMemory => put(answer, NO_MEMORY),
         Reply::BadLayout => {}
     }
-}
-
-/// That the allocator refused, and why.
-fn refused_answer(answer: &mut String, error: &AllocationError)
-    requires { HasReserveFor (length (refused_text error.now)) answer.old }
-    ensures { string_bytes answer.new ≡ string_bytes answer.old ++ refused_text error.now }
-{
-    put(answer, "refused: ");
-    put(answer, text_of_error(error));
-    put(answer, "\n");
 }
 
 /// What the output says of the error.
@@ -81,15 +78,6 @@ fn text_of_error(error: &AllocationError) -> &'static str
         AllocationError::OutOfHostMemory => "Host memory exhausted",
         AllocationError::Fragmentation => "Fragmentation",
     }
-}
-
-/// How many sets were freed.
-fn freed_answer(answer: &mut String, count: usize)
-    requires { HasReserveFor (length (freed_text count)) answer.old }
-    ensures { string_bytes answer.new ≡ string_bytes answer.old ++ freed_text count }
-{
-    put_number(answer, "freed ", count as u64);
-    put(answer, "\n");
 }
 
 /// The tickets of allocated sets, and their device pools, run by run.

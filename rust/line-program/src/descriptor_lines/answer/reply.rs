@@ -37,21 +37,20 @@ pub fn reply_answer(answer: &mut String, session: &LineSession, reply: &Reply)
 {
     match reply {
         Reply::Sets { first, count } => sets_answer(answer, session, *first, *count),
-        Reply::Refused(error) => refused_answer(answer, error),
-        Reply::Freed(count) => freed_answer(answer, *count),
+        Reply::Refused(error) => {
+            put(answer, "refused: ");
+            put(answer, text_of_error(error));
+            put(answer, "\n");
+        }
+        Reply::Freed(count) => {
+            put_number(answer, "freed ", *count as u64);
+            put(answer, "\n");
+        }
         Reply::BadTicket => put(answer, "bad ticket\n"),
         Reply::Clean => put(answer, "clean\n"),
         Reply::NoMemory => put(answer, NO_MEMORY),
         Reply::BadLayout => {}
     }
-}
-
-/// That the allocator refused, and why.
-fn refused_answer(answer: &mut String, error: &AllocationError)
-{
-    put(answer, "refused: ");
-    put(answer, text_of_error(error));
-    put(answer, "\n");
 }
 
 /// What the output says of the error.
@@ -62,13 +61,6 @@ fn text_of_error(error: &AllocationError) -> &'static str
         AllocationError::OutOfHostMemory => "Host memory exhausted",
         AllocationError::Fragmentation => "Fragmentation",
     }
-}
-
-/// How many sets were freed.
-fn freed_answer(answer: &mut String, count: usize)
-{
-    put_number(answer, "freed ", count as u64);
-    put(answer, "\n");
 }
 
 /// The tickets of allocated sets, and their device pools, run by run.

@@ -1,14 +1,23 @@
-use Rattle.std.proofs.Common.{arith}
-use Rattle.descriptor_lines.proofs.ReplyLemmas.{length_of_freed}
+use Rattle.std.proofs.Common.{◌++◌, ◌∷◌, [], ap, codes, length, length-append, string_bytes, arith}
+use Rattle.std.specs.Fmt.{decimal}
+use Rattle.descriptor_lines.proofs.ReplyLemmas.{length_of_number}
 use Rattle.descriptor_lines.proofs.answer.reply.reply_answer.Goals as goal
 
-pub freed_answer-requires : goal.freed_answer-requires
-freed_answer-requires c =
+pub put_number-requires : goal.put_number-requires
+put_number-requires c =
     let reserve = rw c.in-Freed.is at c.requires.reserve in
-    omega (arith, length_of_freed c.in-Freed.count (omega arith))
+    omega (arith, length_of_number c.in-Freed.count (omega arith))
+
+pub put-requires-in-Freed : goal.put-requires-in-Freed
+put-requires-in-Freed c =
+    let reserve = rw c.in-Freed.is at c.requires.reserve in
+    omega (arith, ap length c.put_number.ensures.text, length-append (string_bytes c.args.answer.now) (codes "freed " ++ decimal c.in-Freed.count), length_of_number c.in-Freed.count (omega arith))
 
 pub returns-in-Freed-clause-enough : goal.returns-in-Freed-clause-enough
-returns-in-Freed-clause-enough c = rw c.in-Freed.is (omega (arith, length_of_freed c.in-Freed.count (omega arith)))
+returns-in-Freed-clause-enough c = rw c.in-Freed.is (omega (arith, length-append (decimal c.in-Freed.count) (10 ∷ []), length_of_number c.in-Freed.count (omega arith)))
 
 pub returns-in-BadTicket-clause-text : goal.returns-in-BadTicket-clause-text
-returns-in-BadTicket-clause-text c = rw c.in-BadTicket.is c.put.ensures.text
+returns-in-BadTicket-clause-text c = rw c.in-BadTicket.is c.put-in-BadTicket.ensures.text
+
+pub returns-in-NoMemory-clause-text : goal.returns-in-NoMemory-clause-text
+returns-in-NoMemory-clause-text c = rw c.in-NoMemory.is c.put-in-NoMemory.ensures.text
