@@ -1,9 +1,9 @@
 -- The texts of the output.
-use Rattle.std.specs.Prelude.{◌≡◌, ◌≤◌, ◌+◌, ℕ, List, [], ◌∷◌, ◌++◌, length, codes, String, string_bytes, string_capacity, if◌then◌else◌, ◌==◌}
+use Rattle.std.specs.Prelude.{◌≡◌, ◌≤◌, ◌+◌, ◌-◌, ◌^◌, min, ℕ, List, [], ◌∷◌, ◌++◌, length, codes, String, string_bytes, string_capacity, if◌then◌else◌, ◌==◌}
 use Rattle.std.specs.Fmt.{decimal}
 use Rattle.std.specs.List.{flat_map, zip}
 use Rattle.gpu_descriptor_types.specs.PoolSize.{IsPoolSize, pool_counts}
-use Rattle.gpu_descriptor.specs.declared.view.PoolView.{PoolView}
+use Rattle.gpu_descriptor_types.specs.Ledger.{Counters}
 use Rattle.descriptor_lines.specs.declared.words.fault.Fault.{Fault}
 use Rattle.descriptor_lines.specs.Fault.{words_of_fault}
 use Rattle.descriptor_lines.specs.Kinds.{kind_names}
@@ -44,14 +44,18 @@ abbrev pub script_answer : ℕ → List ℕ
 script_answer words = codes "script " ++ decimal words ++ 10 ∷ []
 
 -- the line of `show` for a pool of the layout of this name
-abbrev pub pool_answer : List ℕ → PoolView → List ℕ
-pool_answer name pool =
-    codes "pool " ++ name ++ codes " " ++ decimal pool.number ++ codes " " ++ decimal pool.allocated ++ codes "/" ++ decimal pool.available ++ 10 ∷ []
+abbrev pub pool_answer : List ℕ → (number allocated available : ℕ) → List ℕ
+pool_answer name number allocated available =
+    codes "pool " ++ name ++ codes " " ++ decimal number ++ codes " " ++ decimal allocated ++ codes "/" ++ decimal available ++ 10 ∷ []
+
+-- a counter as readers see it, up to the greatest `u64`
+abbrev pub shown : ℕ → ℕ
+shown count = min count (2 ^ 64 - 1)
 
 -- the line of `show` for the calls that the device had
-abbrev pub device_answer : ℕ → ℕ → ℕ → ℕ → List ℕ
-device_answer created destroyed asked released =
-    codes "device created " ++ decimal created ++ codes " destroyed " ++ decimal destroyed ++ codes " asked " ++ decimal asked ++ codes " released " ++ decimal released ++ 10 ∷ []
+abbrev pub device_answer : Counters → List ℕ
+device_answer n =
+    codes "device created " ++ decimal (shown n.created) ++ codes " destroyed " ++ decimal (shown n.destroyed) ++ codes " asked " ++ decimal (shown n.asked) ++ codes " released " ++ decimal (shown n.released) ++ 10 ∷ []
 
 -- the line of `show` for the live sets, and the descriptors of those that are marked
 abbrev pub held_answer : ℕ → ℕ → List ℕ

@@ -1,6 +1,7 @@
 -- What the lines so far made, as a run goes on from it.
 use Rattle.std.specs.Prelude.{Bool, List}
 use Rattle.gpu_descriptor_types.specs.Ledger.{Ledger}
+use Rattle.gpu_descriptor_types.specs.Side.{Side, side}
 use Rattle.descriptor_script.specs.declared.answer.Answer.{Answer}
 use Rattle.descriptor_lines.specs.Replies.{LineSession}
 use Rattle.descriptor_lines.specs.declared.layouts.LayoutTable.{LayoutTable}
@@ -9,11 +10,10 @@ use Rattle.descriptor_lines.specs.declared.program.Program.{Program}
 -- a state between two lines
 pub record LineState : Type 0 where
   pub layouts : LayoutTable
-  pub session : LineSession
+  -- the session, and what the device owes
+  pub session : Side LineSession
   -- the words that the device has still to read
   pub script : List Answer
-  -- what the device owes
-  pub ledger : Ledger
   -- whether a line had a command
   pub has_begun : Bool
 
@@ -21,8 +21,7 @@ pub record LineState : Type 0 where
 abbrev pub line_state : {D : Type 0} → (D → Ledger) → (D → List Answer) → Program D → LineState
 line_state ledger_of script_of p = record {
   layouts = p.layouts;
-  session = p.session;
+  session = side p.session (ledger_of p.device);
   script = script_of p.device;
-  ledger = ledger_of p.device;
   has_begun = p.has_begun;
 }

@@ -5,7 +5,7 @@ use Rattle.gpu_descriptor.specs.Caller.Values.{without_keys}
 use Rattle.descriptor_script.specs.Scripted.Device.{empty_ledger}
 use Rattle.descriptor_script.specs.Scripted.Raw.{script_meaning}
 use Rattle.descriptor_script.specs.Sessions.Session.{IsReady, KeepsSession, allocator_of, layouts_of, sets_of}
-use Rattle.descriptor_script.specs.Sessions.Steps.{AllocatesTo, FreesTo, IsAsBefore, IsTurnedAway, StepsTo}
+use Rattle.descriptor_script.specs.Sessions.Steps.{FreesTo, IsAsBefore, IsTurnedAway, StepsTo}
 use Rattle.descriptor_script.specs.declared.command.Command.TheVariants as session
 use Rattle.descriptor_script.specs.declared.command.Reply.{Reply}
 use Rattle.descriptor_script.specs.declared.raw.ScriptLayout.{ScriptLayout}
@@ -19,7 +19,7 @@ use Rattle.descriptor_lines.specs.Shown.{show_answer}
 use Rattle.descriptor_lines.specs.declared.words.fault.Refusal.{Refusal}
 use Rattle.descriptor_lines.specs.declared.words.fault.Refusal.TheVariants as refusal
 use Rattle.descriptor_lines.specs.declared.layouts.Layout.{Layout}
-use Rattle.gpu_descriptor_types.specs.Side.{Side, side}
+use Rattle.gpu_descriptor_types.specs.Side.{Side}
 
 -- the layout that the device sees
 abbrev pub scripted : Layout → ScriptLayout
@@ -28,9 +28,9 @@ scripted layout = record { counts = layout.counts; mark = layout.mark }
 -- the program can run a line
 pub record CanRun (p : LineState) : Type 0 where
   -- the session can make a step on the device
-  pub ready : IsReady script_meaning (side p.session p.ledger)
+  pub ready : IsReady script_meaning p.session
   -- the session has the layouts of the lines, in their order
-  pub layouts : map (λ k. k.layout) (layouts_of p.session) ≡ map (λ l. scripted l.1) (layouts_in p.layouts)
+  pub layouts : map (λ k. k.layout) (layouts_of p.session.value) ≡ map (λ l. scripted l.1) (layouts_in p.layouts)
   -- before the first command there is no layout
   pub fresh : IsFalse p.has_begun → layout_count p.layouts ≡ 0
 
@@ -43,28 +43,28 @@ pub record CanAnswer (text : List ℕ) (p : LineState) : Type 0 where
 pub record IsFresh (p : LineState) : Type 0 where
   pub layouts : layouts_in p.layouts ≡ []
   pub begun : IsFalse p.has_begun
-  pub allocator : allocator_of p.session ≡ without_keys greatest_u32
-  pub known : layouts_of p.session ≡ []
-  pub sets : sets_of p.session ≡ []
+  pub allocator : allocator_of p.session.value ≡ without_keys greatest_u32
+  pub known : layouts_of p.session.value ≡ []
+  pub sets : sets_of p.session.value ≡ []
   pub script : p.script ≡ []
-  pub ledger : p.ledger ≡ empty_ledger
+  pub ledger : p.session.ledger ≡ empty_ledger
 
 -- the device has the script and the ledger that it had
 pub record KeepsDevice (old new : LineState) : Type 0 where
   pub script : new.script ≡ old.script
-  pub ledger : new.ledger ≡ old.ledger
+  pub ledger : new.session.ledger ≡ old.session.ledger
 
 -- layouts, books, sets, ledger and script are as before
 pub record IsUnchanged (old new : LineState) : Type 0 where
   pub layouts : SameLayouts old.layouts new.layouts
-  pub session : IsAsBefore (side old.session old.ledger) (side new.session new.ledger)
+  pub session : IsAsBefore old.session new.session
   pub script : new.script ≡ old.script
 
 -- the session is a new one with this limit
 pub record Begins (max : ℕ) (old new : LineState) : Type 0 where
-  pub allocator : allocator_of new.session ≡ without_keys max
-  pub known : layouts_of new.session ≡ []
-  pub sets : sets_of new.session ≡ []
+  pub allocator : allocator_of new.session.value ≡ without_keys max
+  pub known : layouts_of new.session.value ≡ []
+  pub sets : sets_of new.session.value ≡ []
   pub layouts : SameLayouts old.layouts new.layouts
   pub device : KeepsDevice old new
 
@@ -73,19 +73,19 @@ pub record AddsLayout (name : List ℕ) (layout : Layout) (old new : LineState) 
   pub layouts : layouts_in new.layouts ≡ layouts_in old.layouts ++ (name, layout) ∷ []
   -- it is the first with its counts and mark, unless there was one before
   pub firsts : first_layouts new.layouts ≡ first_layouts old.layouts ++ (if has_key (layouts_in old.layouts) layout then [] else (name, layout) ∷ [])
-  pub allocator : allocator_of new.session ≡ allocator_of old.session
-  pub sets : sets_of new.session ≡ sets_of old.session
+  pub allocator : allocator_of new.session.value ≡ allocator_of old.session.value
+  pub sets : sets_of new.session.value ≡ sets_of old.session.value
   pub device : KeepsDevice old new
 
 -- the session of the program made a step, and the text is the answer to its reply
 pub record Does (Step : Reply → Side LineSession → Side LineSession → Type 0) (text : List ℕ) (old new : LineState) : Type 0 where
   pub reply : Reply
-  pub said : text ≡ text_of_reply (sets_of new.session) reply
-  pub step : Step reply (side old.session old.ledger) (side new.session new.ledger)
+  pub said : text ≡ text_of_reply (sets_of new.session.value) reply
+  pub step : Step reply old.session new.session
   -- no word is read if the device is not asked
   pub turned_away : IsTurnedAway reply → new.script ≡ old.script
   -- limit and layouts stay
-  pub keeps : KeepsSession script_meaning (side old.session old.ledger) (side new.session new.ledger)
+  pub keeps : KeepsSession script_meaning old.session new.session
   pub layouts : SameLayouts old.layouts new.layouts
 
 -- this was done, or an allocation failed and nothing changed; and the program can run on
@@ -104,7 +104,7 @@ DoesOrder (Size counts total wanted) text old new = (new ≡ old) × AnswersSize
 DoesOrder (Script script) text old new =
     (new ≡ record old { script = script }) × (text ≡ script_answer (length script))
 DoesOrder (Alloc place count) text old new =
-    Does (λ reply before after. AllocatesTo script_meaning place count before after reply) text old new
+    Does (StepsTo script_meaning (session.Allocate place count)) text old new
 DoesOrder (Free tickets) text old new =
     Does (λ reply before after. FreesTo script_meaning tickets before after reply) text old new
 DoesOrder Cleanup text old new = Does (StepsTo script_meaning session.Cleanup) text old new

@@ -68,7 +68,7 @@ pub record Writes (lines : List (List ℕ)) (start : LineState) (exit : Exit) (o
 -- a run of the lines that a reader gives: what the reader had left and has left, how the run ended, what the writer held and holds, and the ledger and the script of the device then
 pub record RunsLines (unread rest : Option (List ℕ)) (exit : Exit) (old new : Option (List ℕ)) (ledger : Ledger) (script : List Answer) : Type 0 where
   -- where the bytes to read are known, their lines were run from a state before the first line on
-  pub writes : (bytes : List ℕ) → unread ≡ Some bytes → exit ≢ NoMemory → (start : LineState) × (last : LineState) × IsFresh start × Writes (lines_of bytes) start exit old new last × (last.ledger ≡ ledger) × (last.script ≡ script)
+  pub writes : (bytes : List ℕ) → unread ≡ Some bytes → exit ≢ NoMemory → (start : LineState) × (last : LineState) × IsFresh start × Writes (lines_of bytes) start exit old new last × (last.session.ledger ≡ ledger) × (last.script ≡ script)
   -- it is done only at the end of the input
   pub done : exit ≡ Done → IsAtEnd rest
   -- whatever the reader, a bad line is named last; and if an allocation for the buffers fails nothing is written, and the device is as it was

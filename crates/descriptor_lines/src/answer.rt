@@ -6,6 +6,7 @@ ghost use Rattle.descriptor_lines.specs.Answers as says;
 mod reply;
 mod reserved;
 
+use crate::device::LineDevice;
 use crate::words::{Fault, kind_name};
 use gpu_descriptor::PoolView;
 use gpu_descriptor_types::DescriptorTotalCount;
@@ -85,7 +86,7 @@ pub fn script_answer(answer: &mut String, words: usize) -> Result<(), AllocError
 /// The line of `show` for a pool of the layout of this name.
 pub fn pool_answer(answer: &mut String, name: &str, pool: &PoolView) -> Result<(), AllocError>
     ensures { OnOk result (string_bytes answer.new ≡ string_bytes answer.old
-        ++ says.pool_answer name.now pool.now) }
+        ++ says.pool_answer name.now pool.now.number pool.now.allocated pool.now.available) }
 {
     let PoolView {
         number,
@@ -96,16 +97,14 @@ pub fn pool_answer(answer: &mut String, name: &str, pool: &PoolView) -> Result<(
 }
 
 /// The line of `show` for the calls that the device had.
-pub fn device_answer(
-    answer: &mut String,
-    created: u64,
-    destroyed: u64,
-    asked: u64,
-    released: u64,
-) -> Result<(), AllocError>
+pub fn device_answer<D: LineDevice>(answer: &mut String, device: &D) -> Result<(), AllocError>
     ensures { OnOk result (string_bytes answer.new ≡ string_bytes answer.old
-        ++ says.device_answer created destroyed asked released) }
+        ++ says.device_answer (D.ledger device.now).counters) }
 {
+    let created = device.created();
+    let destroyed = device.destroyed();
+    let asked = device.asked();
+    let released = device.released();
     writeln!(
         answer,
         "device created {created} destroyed {destroyed} asked {asked} released {released}"

@@ -23,14 +23,7 @@ impl<D: LineDevice> Program<D> {
                 self.show_pools(name.as_str(), &entry.layout, answer)?;
             }
         }
-        let device = &self.device;
-        answer::device_answer(
-            answer,
-            device.created(),
-            device.destroyed(),
-            device.asked(),
-            device.released(),
-        )?;
+        answer::device_answer(answer, &self.device)?;
         let marked = self.session.allocator().update_after_bind_descriptors();
         answer::held_answer(answer, self.session.held(), marked)
     }

@@ -4,6 +4,7 @@
 mod reply;
 mod reserved;
 
+use crate::descriptor_lines::device::LineDevice;
 use crate::descriptor_lines::words::{Fault, kind_name};
 use crate::gpu_descriptor::PoolView;
 use crate::gpu_descriptor_types::DescriptorTotalCount;
@@ -80,14 +81,12 @@ pub fn pool_answer(answer: &mut String, name: &str, pool: &PoolView) -> Result<(
 }
 
 /// The line of `show` for the calls that the device had.
-pub fn device_answer(
-    answer: &mut String,
-    created: u64,
-    destroyed: u64,
-    asked: u64,
-    released: u64,
-) -> Result<(), AllocError>
+pub fn device_answer<D: LineDevice>(answer: &mut String, device: &D) -> Result<(), AllocError>
 {
+    let created = device.created();
+    let destroyed = device.destroyed();
+    let asked = device.asked();
+    let released = device.released();
     writeln!(
         answer,
         "device created {created} destroyed {destroyed} asked {asked} released {released}"

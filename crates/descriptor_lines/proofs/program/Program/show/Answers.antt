@@ -3,9 +3,9 @@ use Rattle.std.proofs.lemmas.Result.{IfOk-weaker}
 use Rattle.gpu_descriptor.specs.Caller.States.{marked_load_of}
 use Rattle.descriptor_script.specs.Sessions.Session.{allocator_of, sets_of}
 use Rattle.descriptor_script.specs.Sessions.Tickets.{held_sets}
-use Rattle.descriptor_lines.specs.Answers.{device_answer, held_answer}
+use Rattle.descriptor_lines.specs.Answers.{held_answer}
 use Rattle.descriptor_lines.specs.LineStates.{line_state}
-use Rattle.descriptor_lines.specs.Shown.{calls_answer, pools_answer}
+use Rattle.descriptor_lines.specs.Shown.{pools_answer}
 use Rattle.descriptor_lines.proofs.ShownLemmas.{said_of_first, said_of_later, said_of_none, said_of_told, said_whole}
 use Rattle.descriptor_lines.proofs.program.Program.show.Goals as goal
 
@@ -27,11 +27,10 @@ loop-name-preserved g c =
 pub returns : goal.returns
 returns g c =
     let program = line_state g.D.DescriptorDevice.ledger g.D.LineDevice.script c.args.self.now in
-    let table = (allocator_of program.session).table in
+    let table = (allocator_of program.session.value).table in
     let shown = string_bytes c.loop-name.answer in
     let end : c.loop-name.name-iterator ≡ [] = (rw c.in-None.is at c.next.ensures.steps).0 in
     let pools = sym (append-nil shown) ∙ ap (λ text. shown ++ text) (sym (said_of_none table)) ∙ ap (λ entries. shown ++ said_of_told table entries) (sym end) ∙ c.loop-name.invariant in
-    let calls : string_bytes c.device_answer.new.answer ≡ shown ++ calls_answer (program.ledger).counters = c.in_ok-device_answer.ensures ∙ (λ i. shown ++ device_answer (c.created.ensures i) (c.destroyed.ensures i) (c.asked.ensures i) (c.released.ensures i)) in
     let marked = c.update_after_bind_descriptors-marked.ensures.sum ∙ ap marked_load_of c.allocator.ensures in
-    let held : held_answer c.held.result c.update_after_bind_descriptors-marked.result ≡ held_answer (length (held_sets (sets_of program.session))) (marked_load_of (allocator_of program.session)) = λ i. held_answer (c.held.ensures.held i) (marked i) in
-    IfOk-weaker c.held_answer.result _ _ (λ _ written. written ∙ (λ i. calls i ++ held i) ∙ said_whole program (string_bytes c.args.answer.now) shown pools) c.held_answer.ensures
+    let held : held_answer c.held.result c.update_after_bind_descriptors-marked.result ≡ held_answer (length (held_sets (sets_of program.session.value))) (marked_load_of (allocator_of program.session.value)) = λ i. held_answer (c.held.ensures.held i) (marked i) in
+    IfOk-weaker c.held_answer.result _ _ (λ _ written. written ∙ (λ i. c.in_ok-device_answer.ensures i ++ held i) ∙ said_whole program (string_bytes c.args.answer.now) shown pools) c.held_answer.ensures

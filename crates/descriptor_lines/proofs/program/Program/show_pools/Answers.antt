@@ -23,7 +23,7 @@ loop-index-preserved g c =
     let count = c.pool_count-index-end.ensures.count ∙ ap (λ a. length (books_of a.table (key_of layout)).pools) c.allocator-allocator.ensures in
     elim c.match-pool.branch [
       | in-Some+in_ok-pool_answer w ↦ ap string_bytes w.answer-is ∙ w.in_ok-pool_answer.ensures
-          ∙ ap (λ said. said ++ pool_answer name w.in-Some.pool) c.loop-index.invariant
+          ∙ ap (λ said. said ++ pool_answer name w.in-Some.pool.number w.in-Some.pool.allocated w.in-Some.pool.available) c.loop-index.invariant
           ∙ append_assoc (string_bytes c.args.answer.now) _ _
           ∙ ap (λ said. string_bytes c.args.answer.now ++ said)
           (sym (one_more table name layout index w.in-Some.pool (sym seen ∙ w.in-Some.is)))
