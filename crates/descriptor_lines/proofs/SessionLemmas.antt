@@ -1,6 +1,6 @@
 -- Sessions that are ready, and the replies of their steps: for `Program::new`, `add_layout`, `set_limit` and `ask`.
-use Rattle.std.proofs.Common.{All, ◌≡◌, ℕ, zero-le, ◌<◌, ◌≤◌, ◌^◌, List, [], ◌∷◌, length, length-append, map, None, Some, refl, sym, ap, ◌∙◌, arith}
-use Rattle.std.proofs.lemmas.List.{length-map}
+use Rattle.std.proofs.Common.{All, ◌≡◌, ℕ, zero-le, ◌<◌, ◌≤◌, ◌^◌, [], length, length-append, map, None, Some, refl, sym, ap, ◌∙◌, arith}
+use Rattle.std.proofs.lemmas.List.{length-map, nil_from_length}
 use Rattle.std.proofs.lemmas.List.Elements.{All-nil}
 use Rattle.gpu_descriptor_types.specs.Ledger.{Ledger}
 use Rattle.gpu_descriptor.specs.Caller.SetLayouts.{IsMeant}
@@ -56,10 +56,6 @@ given_as_asked _ _ old new before after step = zero-le
 -- the tickets of a session fit in 64 bits
 pub few_tickets : (s : LineSession) → length (sets_of s) < 2 ^ 64
 few_tickets s = let fits = s.slots.sets.small in let long = s.slots.sets.ok.0 in omega arith
-
-nil_from_length : {X : Type 0} (xs : List X) → length xs ≡ 0 → xs ≡ []
-nil_from_length [] none = refl
-nil_from_length (x ∷ xs) none = absurd (omega arith)
 
 -- no layout is in a table of none
 pub none_in : (layouts : LayoutTable) → layout_count layouts ≡ 0 → layouts_in layouts ≡ []

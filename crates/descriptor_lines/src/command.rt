@@ -169,7 +169,7 @@ fn parse_size<'a>(mut words: Words<'a>, layouts: &LayoutTable) -> Result<Command
     };
     let name = crate::words::name(name).ok_or(Fault::BadName)?;
     let counts = layouts.get(name).ok_or(Fault::NoSuchLayout)?.counts;
-    let total = number_within(total, u64::MAX).ok_or(Fault::BadNumber)?;
+    let total = number_within(total, u64::MAX)?;
     let wanted = parse_u32(wanted)?;
     Ok(Command::Size {
         counts,
@@ -188,7 +188,7 @@ fn parse_alloc<'a>(mut words: Words<'a>, layouts: &LayoutTable) -> Result<Comman
     };
     let name = crate::words::name(name).ok_or(Fault::BadName)?;
     let layout = layouts.place(name).ok_or(Fault::NoSuchLayout)?;
-    let count = number_within(count, MAX_SETS).ok_or(Fault::BadNumber)? as u32;
+    let count = number_within(count, MAX_SETS)? as u32;
     Ok(Command::Alloc { layout, count })
 }
 

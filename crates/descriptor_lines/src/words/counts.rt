@@ -34,6 +34,6 @@ pub fn parse_counts(words: Words<'_>) -> Result<DescriptorTotalCount, Fault>
 pub fn parse_u32(word: &[u8]) -> Result<u32, Fault>
     ensures { result ≡ number_in greatest_u32 word.now }
 {
-    let number = text::number_within(word, u64::from(u32::MAX)).ok_or(Fault::BadNumber)?;
+    let number = text::number_within(word, u64::from(u32::MAX))?;
     Ok(number as u32)
 }

@@ -1,6 +1,6 @@
 //! The parts of a line: words, numbers, names and kinds.
 ghost use Rattle.std.specs.Prelude.{◌≡◌, ◌≤◌, ◌<◌, ◌↔◌, length, option_map};
-ghost use Rattle.std.specs.Prelude.{IsSome, IfSome, position, slice_get};
+ghost use Rattle.std.specs.Prelude.{IfOk, IsSome, IfSome, position, slice_get};
 ghost use Rattle.std.specs.Prelude.{slice_index, Contains, Some, false};
 ghost use Rattle.std.specs.Bool.{then_some};
 ghost use Rattle.std.specs.Iterator.{YieldsFirstBy, item_count};
@@ -8,11 +8,12 @@ ghost use Rattle.descriptor_lines.specs.Kinds.{kind_names, place_of_kind};
 ghost use Rattle.descriptor_lines.specs.Names.{is_name as is_name_of};
 ghost use Rattle.descriptor_lines.specs.Names.{is_name_byte as is_name_byte_of};
 ghost use Rattle.descriptor_lines.specs.Numbers.{is_number as is_number_of};
-ghost use Rattle.descriptor_lines.specs.Numbers.{number_within as number_within_of};
+ghost use Rattle.descriptor_lines.specs.Numbers.{number_in};
 ghost use Rattle.descriptor_lines.specs.Words.{around as around_of};
 ghost use Rattle.descriptor_lines.specs.Words.{words as words_of, is_blank as is_blank_of, is_byte};
 ghost use Rattle.descriptor_lines.specs.Words.{words_left};
 
+use super::fault::Fault;
 use std::str;
 
 /// The greatest number of digits of a number.
@@ -111,19 +112,22 @@ fn is_number(word: &[u8]) -> bool
 
 /// The number that a word writes: 1 to 20 digits, leading zeros allowed, of a value up to
 /// `greatest`.
-#[tactic(auto, using(crate::proofs::NumberLemmas::value_more, crate::proofs::NumberLemmas::digit_at, crate::proofs::NumberLemmas::too_great), unfolding(crate::specs::Numbers::number_within))]
-pub fn number_within(word: &[u8], greatest: u64) -> Option<u64>
-    ensures number { result ≡ number_within_of greatest word.now }
-    ensures within { IfSome result (λ number. number ≤ greatest) }
+#[tactic(auto, using(crate::proofs::NumberLemmas::value_more, crate::proofs::NumberLemmas::digit_at, crate::proofs::NumberLemmas::too_great), unfolding(crate::specs::Numbers::number_in))]
+pub fn number_within(word: &[u8], greatest: u64) -> Result<u64, Fault>
+    ensures number { result ≡ number_in greatest word.now }
+    ensures within { IfOk result (λ number. number ≤ greatest) }
 {
     if !is_number(word) {
-        return None;
+        return Err(Fault::BadNumber);
     }
     let mut value = 0u64;
     for byte in word {
-        value = value.checked_mul(10)?.checked_add(u64::from(*byte - b'0'))?;
+        let tens = value.checked_mul(10).ok_or(Fault::BadNumber)?;
+        value = tens
+            .checked_add(u64::from(*byte - b'0'))
+            .ok_or(Fault::BadNumber)?;
     }
-    (value <= greatest).then_some(value)
+    (value <= greatest).then_some(value).ok_or(Fault::BadNumber)
 }
 
 /// Whether a byte may be in a name.

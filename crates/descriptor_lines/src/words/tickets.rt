@@ -64,7 +64,7 @@ fn sides(word: &[u8]) -> (&[u8], &[u8])
 fn parse_ticket(word: &[u8]) -> Result<usize, Fault>
     ensures { result ≡ number_in greatest_u64 word.now }
 {
-    let ticket = text::number_within(word, u64::MAX).ok_or(Fault::BadNumber)?;
+    let ticket = text::number_within(word, u64::MAX)?;
     Ok(ticket as usize)
 }
 

@@ -26,6 +26,6 @@ pub fn parse_counts(words: Words<'_>) -> Result<DescriptorTotalCount, Fault>
 /// The number of 32 bits that a word writes.
 pub fn parse_u32(word: &[u8]) -> Result<u32, Fault>
 {
-    let number = text::number_within(word, u64::from(u32::MAX)).ok_or(Fault::BadNumber)?;
+    let number = text::number_within(word, u64::from(u32::MAX))?;
     Ok(number as u32)
 }

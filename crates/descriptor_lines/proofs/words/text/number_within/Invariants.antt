@@ -1,7 +1,7 @@
 use Rattle.std.proofs.Common.{◌≡◌, take}
-use Rattle.descriptor_lines.specs.Numbers.{value_of}
+use Rattle.std.specs.Str.Parse.{digits_value}
 use Rattle.descriptor_lines.proofs.words.text.number_within.Given as goal
 
 abbrev pub invariant-loop-byte : goal.invariant-loop-byte
 invariant-loop-byte l =
-    l.value ≡ value_of (take l.byte-index l.word)
+    l.value ≡ digits_value 10 (take l.byte-index l.word)
