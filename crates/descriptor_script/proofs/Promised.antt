@@ -103,7 +103,7 @@ module _ {L P S : Type 0} (means : Meaning L P S) where
     replied (Allocate layout count) NoMemory h = h
     replied (Free tickets) (Freed n) h = gone_back tickets.items n h
     replied (Free tickets) BadTicket h = h
-    replied Cleanup Clean h = h.sets
+    replied Cleanup Clean h = h.1
     replied _ _ h = absurd h
 
   -- a run keeps all parts at each of its steps

@@ -6,7 +6,7 @@ ghost use Rattle.gpu_descriptor.specs.Caller.States.{state_of};
 ghost use Rattle.gpu_descriptor.specs.Model.Agreement.{HasNoKeys, HasNoPools};
 ghost use Rattle.descriptor_script.specs.Sessions.Session.{IsReady, KeepsSession, allocator_of};
 ghost use Rattle.descriptor_script.specs.Sessions.Session.{sets_of};
-ghost use Rattle.descriptor_script.specs.Sessions.Steps.{Cleans};
+ghost use Rattle.descriptor_script.specs.Sessions.Steps.{StepsTo};
 ghost use Rattle.descriptor_script.specs.Sessions.Tickets.{held_sets};
 ghost use Rattle.descriptor_script.specs.Sessions.SessionRun.{IsStep, Runs};
 ghost use Rattle.descriptor_script.specs.declared.session.Session.{Session as SessionValue};
@@ -33,8 +33,8 @@ pub fn visit<L, P: Drop, S: Drop, D: DescriptorDevice<L, P, S>>(
         (D.ledger device.old)) }
     ensures runs { IfOk result (λ replies. (used : Side (SessionValue L P S))
         × Runs (IsStep D.meaning) commands.now replies.items (side session.old (D.ledger device.old)) used
-        × Cleans D.meaning used (side session.new (D.ledger device.new))) }
-    ensures cleans { OnErr result (Cleans D.meaning (side session.old (D.ledger device.old))
+        × StepsTo D.meaning Command.Cleanup Reply.Clean used (side session.new (D.ledger device.new))) }
+    ensures cleans { OnErr result (StepsTo D.meaning Command.Cleanup Reply.Clean (side session.old (D.ledger device.old))
         (side session.new (D.ledger device.new))) }
     ensures pools { held_sets (sets_of session.new) ≡ [] → (D.ledger device.new).pools
         ≡ (D.ledger device.old).pools }

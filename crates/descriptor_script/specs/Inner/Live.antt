@@ -26,7 +26,5 @@ pub record TakesOut {I : Type 0} (steps : I → Option RawSet → I → Type 0) 
   pub items : List RawSet
   pub many : length items ≡ n
   pub drained : YieldsThen steps old items None new
-  pub gone : List LiveSet
-  pub named : map (λ s. s.name) gone ≡ map set_id items
-  pub live : AreIn gone (times before)
-  pub less : (x : LiveSet) → times after x ≡ times before x - times gone x
+  pub taken : HasNamed (map set_id items) before
+  pub less : (x : LiveSet) → times after x ≡ times before x - times taken.gone x

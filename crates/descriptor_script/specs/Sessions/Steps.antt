@@ -95,15 +95,10 @@ module _ {L P S : Type 0} (means : Meaning L P S) where
     FreesTo BadTicket = (¬ AreHeldOnce (sets_of old.value) tickets) × IsAsBefore old new
     FreesTo _ = ⊥
 
-  module _ (old new : Side (Session L P S)) where
-    -- the empty pools at the front of each key are gone, and the sets stay
-    pub record Cleans : Type 0 where
-      pub cleans_up : CleansUp means (allocator_on old) (allocator_on new)
-      pub sets : sets_of new.value ≡ sets_of old.value
-
   -- what a command may reply, and what it leaves
   abbrev pub StepsTo : OfStep L P S
   StepsTo (Allocate layout count) reply old new = AllocatesTo layout count old new reply
   StepsTo (Free tickets) reply old new = FreesTo tickets.items old new reply
-  StepsTo Cleanup Clean old new = Cleans old new
+  -- the empty pools at the front of each key are gone, and the sets stay
+  StepsTo Cleanup Clean old new = CleansUp means (allocator_on old) (allocator_on new) × (sets_of new.value ≡ sets_of old.value)
   StepsTo Cleanup _ old new = ⊥

@@ -3,7 +3,7 @@ ghost use Rattle.std.specs.Prelude.{◌≡◌, ◌<◌, ◌≤◌, ℕ, None, le
 ghost use Rattle.gpu_descriptor_types.specs.Side.{side};
 ghost use Rattle.descriptor_script.specs.Sessions.Session.{IsReady, KeepsSession, sets_of};
 ghost use Rattle.descriptor_script.specs.Sessions.Tickets.{set_at};
-ghost use Rattle.descriptor_script.specs.Sessions.Steps.{AllocatesTo, Cleans, FreesTo};
+ghost use Rattle.descriptor_script.specs.Sessions.Steps.{AllocatesTo, FreesTo};
 ghost use Rattle.descriptor_script.specs.Sessions.Steps.{IsTurnedAway, StepsTo};
 
 use super::Session;
@@ -97,7 +97,7 @@ impl<L, P: Drop, S: Drop> Session<L, P, S> {
     /// Destroys the empty pools at the front of each key.
     pub(crate) fn cleanup<D: DescriptorDevice<L, P, S>>(&mut self, device: &mut D)
         requires ready { IsReady D.meaning (side self.old (D.ledger device.old)) }
-        ensures cleans { Cleans D.meaning (side self.old (D.ledger device.old))
+        ensures cleans { StepsTo D.meaning Command.Cleanup Reply.Clean (side self.old (D.ledger device.old))
             (side self.new (D.ledger device.new)) }
         ensures keeps { KeepsSession D.meaning (side self.old (D.ledger device.old))
             (side self.new (D.ledger device.new)) }

@@ -48,8 +48,6 @@ returns-clause-back g c =
       items = c.loop-set.yielded;
       many = omega (arith, gone_items i.gone c.loop-set.yielded i.named, gone_many i.gone c.args.live.now.entries c.loop-set.live.entries i.parts, c.len-before.ensures.len, c.len.ensures.len);
       drained = (c.loop-set.sets, i.steps, search rules);
-      gone = i.gone;
-      named = i.named;
-      live = λ x. (let p = i.parts (λ y. set_eq y x) in omega arith);
+      taken = record { gone = i.gone; named = i.named; live = λ x. (let p = i.parts (λ y. set_eq y x) in omega arith) };
       less = λ x. (let p = i.parts (λ y. set_eq y x) in omega arith);
     }

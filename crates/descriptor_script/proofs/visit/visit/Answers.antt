@@ -23,7 +23,7 @@ returns-clause-runs g c =
     IfOk-weaker c.run-replies.result _ _ (λ replies ran. (used g at, ran, at.cleanup.ensures.cleans)) c.run-replies.ensures.runs
 
 nothing : (g : _) (c : After-cleanup g) → held_sets (sets_of c.cleanup.new.self) ≡ [] → (i : Item) → outstanding (state_of g.D.DescriptorDevice.meaning.pool_name (allocator_of c.run-replies.new.self) (g.D.DescriptorDevice.ledger c.run-replies.new.device)) i ≡ 0
-nothing g c none i = c.run-replies.ensures.keeps.ready.held i ∙ ap (λ l. count_of i (items_of g.D.DescriptorDevice.meaning.set_name (held_sets l))) (sym c.cleanup.ensures.cleans.sets) ∙ ap (λ l. count_of i (items_of g.D.DescriptorDevice.meaning.set_name l)) none
+nothing g c none i = c.run-replies.ensures.keeps.ready.held i ∙ ap (λ l. count_of i (items_of g.D.DescriptorDevice.meaning.set_name (held_sets l))) (sym c.cleanup.ensures.cleans.1) ∙ ap (λ l. count_of i (items_of g.D.DescriptorDevice.meaning.set_name l)) none
 
 pub returns-clause-pools : goal.returns-clause-pools
 returns-clause-pools g c none =
@@ -34,11 +34,11 @@ returns-clause-pools g c none =
     let u : State = state_of name (allocator_of c.cleanup.new.self) (ledger c.cleanup.new.device) in
     let at = (goal.at.returns-clause-pools g c).After-cleanup in
     let others = c.run-replies.ensures.keeps.allocator.others in
-    restores s t u c.requires.began (from_others name _ _ _ _ others) (from_others name _ _ _ _ (sym others)) c.run-replies.ensures.keeps.ready.agree.books (nothing g at none) at.cleanup.ensures.cleans.cleans_up.cleaned
+    restores s t u c.requires.began (from_others name _ _ _ _ others) (from_others name _ _ _ _ (sym others)) c.run-replies.ensures.keeps.ready.agree.books (nothing g at none) at.cleanup.ensures.cleans.0.cleaned
 
 pub returns-clause-ended : goal.returns-clause-ended
 returns-clause-ended g c none =
     let name = g.D.DescriptorDevice.meaning.pool_name in
     let ledger = g.D.DescriptorDevice.ledger in
     let at = (goal.at.returns-clause-ended g c).After-cleanup in
-    nothing_left false (state_of name (allocator_of c.run-replies.new.self) (ledger c.run-replies.new.device)) _ c.run-replies.ensures.keeps.ready.agree.books (nothing g at none) at.cleanup.ensures.cleans.cleans_up.cleaned
+    nothing_left false (state_of name (allocator_of c.run-replies.new.self) (ledger c.run-replies.new.device)) _ c.run-replies.ensures.keeps.ready.agree.books (nothing g at none) at.cleanup.ensures.cleans.0.cleaned

@@ -37,14 +37,14 @@ returns-clause-released g c n =
     let new : LivePool = record old { sets = c.take_back.new.live } in
     let h = written c.args.self.now.live (c.get_mut.follows.lender new) c.args.pool old new c.in-Some.ensures.value (c.get_mut.follows.holds new) in
     let back = c.take_back.ensures.back in
-    let gone : List LiveSet = back.gone in
+    let gone : List LiveSet = back.taken.gone in
     let live : times (live_sets_of new.sets.entries) ≡ (λ x. times (live_sets_of old.sets.entries) x - times gone x) = fun_ext back.less in (
       record {
         items = back.items;
         drained = back.drained;
         gone = gone;
-        named = back.named;
-        live = subst (λ o. IfSome o (λ (pool : Pool). AreIn gone pool.live)) (sym (seen_was h)) back.live;
+        named = back.taken.named;
+        live = subst (λ o. IfSome o (λ (pool : Pool). AreIn gone pool.live)) (sym (seen_was h)) back.taken.live;
         ledger = ap (λ pools. record { pools = pools; counters = record n { released = n.released + 1 } }) (on_written h (λ pool. record pool { live = λ x. pool.live x - times gone x }) (ap (λ (l : LiveSet → ℕ). record (seen old) { live = l }) live));
       },
       back.many,
