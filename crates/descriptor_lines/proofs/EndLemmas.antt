@@ -53,7 +53,7 @@ module _ (number : ℕ) (line text : List ℕ) (old new : LineState) where
     fault = fault;
     wrong = inr (short, other.reason_is);
     said = refl;
-    device = record { script = other.unchanged.script; ledger = other.unchanged.session.ledger };
+    unchanged = other.unchanged;
   }
 
   -- without a fault the line is answered, with one it is refused, so it is one of the two
@@ -89,7 +89,7 @@ takes_span number bytes buffer span left line outcome text old new (some, first,
 pub takes_long : (number : ℕ) (bytes : List ℕ) (left : Option (List ℕ)) (outcome : Result Unit Refusal) (text : List ℕ) (p : LineState) → outcome ≡ Err (refusal.Fault LineTooLong) → longest_line < length (before_end bytes) → Takes number bytes left outcome text p p
 takes_long number bytes left outcome text p is long = rw is (record {
   some = omega (arith, length-take (position_or_len (is_byte 10) bytes) bytes);
-  came = record { fault = LineTooLong; wrong = inl (long, refl); said = refl; device = record { script = refl; ledger = refl } };
+  came = record { fault = LineTooLong; wrong = inl (long, refl); said = refl; unchanged = record { layouts = refl; session = record { allocator = refl; layouts = refl; sets = refl; ledger = refl }; script = refl } };
   gone = λ fine. absurd (cc);
 })
 

@@ -1,6 +1,5 @@
 pub mod AnswerLemmas
 pub mod EndLemmas
-pub mod LayoutLemmas
 pub mod LineLemmas
 pub mod NameLemmas
 pub mod NumberLemmas

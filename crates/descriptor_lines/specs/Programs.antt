@@ -19,7 +19,7 @@ use Rattle.descriptor_lines.specs.Shown.{show_answer}
 use Rattle.descriptor_lines.specs.declared.words.fault.Refusal.{Refusal}
 use Rattle.descriptor_lines.specs.declared.words.fault.Refusal.TheVariants as refusal
 use Rattle.descriptor_lines.specs.declared.layouts.Layout.{Layout}
-use Rattle.gpu_descriptor_types.specs.Side.{Side}
+use Rattle.gpu_descriptor_types.specs.Side.{Side, side}
 
 -- the layout that the device sees
 abbrev pub scripted : Layout → ScriptLayout
@@ -49,11 +49,6 @@ pub record IsFresh (p : LineState) : Type 0 where
   pub script : p.script ≡ []
   pub ledger : p.session.ledger ≡ empty_ledger
 
--- the device has the script and the ledger that it had
-pub record KeepsDevice (old new : LineState) : Type 0 where
-  pub script : new.script ≡ old.script
-  pub ledger : new.session.ledger ≡ old.session.ledger
-
 -- layouts, books, sets, ledger and script are as before
 pub record IsUnchanged (old new : LineState) : Type 0 where
   pub layouts : SameLayouts old.layouts new.layouts
@@ -65,8 +60,7 @@ pub record Begins (max : ℕ) (old new : LineState) : Type 0 where
   pub allocator : allocator_of new.session.value ≡ without_keys max
   pub known : layouts_of new.session.value ≡ []
   pub sets : sets_of new.session.value ≡ []
-  pub layouts : SameLayouts old.layouts new.layouts
-  pub device : KeepsDevice old new
+  pub rest : new ≡ record old { session = side new.session.value old.session.ledger }
 
 -- a layout of a new name came last
 pub record AddsLayout (name : List ℕ) (layout : Layout) (old new : LineState) : Type 0 where
@@ -75,7 +69,8 @@ pub record AddsLayout (name : List ℕ) (layout : Layout) (old new : LineState) 
   pub firsts : first_layouts new.layouts ≡ first_layouts old.layouts ++ (if has_key (layouts_in old.layouts) layout then [] else (name, layout) ∷ [])
   pub allocator : allocator_of new.session.value ≡ allocator_of old.session.value
   pub sets : sets_of new.session.value ≡ sets_of old.session.value
-  pub device : KeepsDevice old new
+  pub ledger : new.session.ledger ≡ old.session.ledger
+  pub script : new.script ≡ old.script
 
 -- the session of the program made a step, and the text is the answer to its reply
 pub record Does (Step : Reply → Side LineSession → Side LineSession → Type 0) (text : List ℕ) (old new : LineState) : Type 0 where

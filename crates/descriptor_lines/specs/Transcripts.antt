@@ -14,7 +14,7 @@ use Rattle.descriptor_lines.specs.LineStates.{LineState}
 use Rattle.descriptor_lines.specs.Lines.{lines_of, longest_line}
 use Rattle.descriptor_lines.specs.Orders.{line_in}
 use Rattle.descriptor_lines.specs.Outcomes.{EndsInFault}
-use Rattle.descriptor_lines.specs.Programs.{CanRun, DoesLine, IsFresh, IsNotRun, KeepsDevice}
+use Rattle.descriptor_lines.specs.Programs.{CanRun, DoesLine, IsFresh, IsNotRun, IsUnchanged}
 use Rattle.descriptor_lines.specs.declared.exit.Exit.{Exit}
 use Rattle.descriptor_lines.specs.declared.exit.Exit.TheVariants.{Done, BadLine, ReadFault, WriteFault, NoMemory}
 
@@ -29,14 +29,14 @@ pub record IsAnswered (line text : List ℕ) (old new : LineState) : Type 0 wher
   -- the session has the layouts of the lines, and its books agree with the device
   pub ready : CanRun new
 
--- a faulty line is answered by the line of its fault, with its number, and leaves the device alone
+-- a faulty line is answered by the line of its fault, with its number, and changes nothing
 pub record IsRefused (number : ℕ) (line text : List ℕ) (old new : LineState) : Type 0 where
   pub fault : Fault
   -- its length is wrong, or else its words
   pub wrong :
       ((longest_line < length line) × (fault ≡ LineTooLong)) ⊎ ((length line ≤ longest_line) × (line_in old.layouts old.has_begun (words_in line) ≡ Err fault))
   pub said : text ≡ fault_line number fault
-  pub device : KeepsDevice old new
+  pub unchanged : IsUnchanged old new
 
 -- these lines were answered in order, each by its text
 abbrev pub AreAnswered : List (List ℕ) → List ℕ → LineState → LineState → Type 0

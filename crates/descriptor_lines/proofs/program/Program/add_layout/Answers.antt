@@ -11,23 +11,6 @@ use Rattle.descriptor_lines.specs.Programs.{scripted}
 use Rattle.descriptor_lines.proofs.SessionLemmas.{same_is_ready}
 use Rattle.descriptor_lines.proofs.program.Program.add_layout.Goals as goal
 
-pub returns-in-Err : goal.returns-in-Err
-returns-in-Err g c =
-    let old = c.requires.can.ready in
-    let added = c.add_layout.ensures in
-    record {
-      runs = record {
-        done = tt;
-        err = search rules;
-        ready = record {
-          ready = same_is_ready c.args.self.now.session c.add_layout.new.self _ old.ready added.allocator added.sets (rw c.in-Err.ensures.layouts old.ready.meant);
-          layouts = rw (c.in-Err.ensures.layouts, c.reserve.ensures.same) old.layouts;
-          fresh = rw c.reserve.ensures.same old.fresh;
-        };
-        begun = refl;
-      };
-    }
-
 pub returns-in-Ok : goal.returns-in-Ok
 returns-in-Ok g c =
     let old = c.requires.can.ready in
