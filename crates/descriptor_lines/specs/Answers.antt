@@ -1,8 +1,7 @@
 -- The texts of the output.
-use Rattle.std.specs.Prelude.{◌≡◌, ◌≤◌, ◌+◌, ◌-◌, ◌^◌, min, ℕ, List, [], ◌∷◌, ◌++◌, length, codes, String, string_bytes, string_capacity, if◌then◌else◌, ◌==◌}
+use Rattle.std.specs.Prelude.{◌≤◌, ◌+◌, ◌-◌, ◌^◌, min, ℕ, List, [], ◌∷◌, ◌++◌, length, codes, String, string_bytes, string_capacity, if◌then◌else◌, ◌==◌}
 use Rattle.std.specs.Fmt.{decimal}
 use Rattle.std.specs.List.{flat_map, zip}
-use Rattle.gpu_descriptor_types.specs.PoolSize.{IsPoolSize, pool_counts}
 use Rattle.gpu_descriptor_types.specs.Ledger.{Counters}
 use Rattle.descriptor_lines.specs.declared.words.fault.Fault.{Fault}
 use Rattle.descriptor_lines.specs.Fault.{words_of_fault}
@@ -32,12 +31,6 @@ kinds_answer counts = flat_map kind_answer (zip kind_names counts)
 -- the answer of `size`, with the counts of the pool
 abbrev pub size_answer : ℕ → List ℕ → List ℕ
 size_answer sets counts = codes "size " ++ decimal sets ++ kinds_answer counts ++ 10 ∷ []
-
--- the text is the answer of `size` for a pool of these counts
-pub record AnswersSize (counts : List ℕ) (total wanted : ℕ) (text : List ℕ) : Type 0 where
-  pub sets : ℕ
-  pub is_size : IsPoolSize counts total wanted sets
-  pub said : text ≡ size_answer sets (pool_counts counts sets)
 
 -- the answer of `script`, with the number of its words
 abbrev pub script_answer : ℕ → List ℕ

@@ -9,7 +9,8 @@ use Rattle.descriptor_script.specs.Sessions.Steps.{FreesTo, IsAsBefore, IsTurned
 use Rattle.descriptor_script.specs.declared.command.Command.TheVariants as session
 use Rattle.descriptor_script.specs.declared.command.Reply.{Reply}
 use Rattle.descriptor_script.specs.declared.raw.ScriptLayout.{ScriptLayout}
-use Rattle.descriptor_lines.specs.Answers.{AnswersSize, layout_answer, limit_answer, script_answer}
+use Rattle.descriptor_lines.specs.Answers.{layout_answer, limit_answer, script_answer, size_answer}
+use Rattle.gpu_descriptor_types.specs.PoolSize.{IsPoolSize, pool_counts}
 use Rattle.descriptor_lines.specs.LayoutTables.{SameLayouts, first_layouts, has_key, key_of, layout_count, layouts_in}
 use Rattle.descriptor_lines.specs.LineStates.{LineState}
 use Rattle.descriptor_lines.specs.Orders.{BeginsList, Order, Limit, Layout as NewLayout, Size, Script, Alloc, Free, Cleanup, Show, line_in}
@@ -95,7 +96,8 @@ abbrev pub DoesOrder : Order → List ℕ → LineState → LineState → Type 0
 DoesOrder (Limit max) text old new = Begins max old new × (text ≡ limit_answer max)
 DoesOrder (NewLayout name key) text old new =
     (layout : Layout) × (key_of layout ≡ key) × AddsLayout name layout old new × (text ≡ layout_answer name (sum key.counts))
-DoesOrder (Size counts total wanted) text old new = (new ≡ old) × AnswersSize counts total wanted text
+DoesOrder (Size counts total wanted) text old new =
+    (new ≡ old) × (sets : ℕ) × IsPoolSize counts total wanted sets × (text ≡ size_answer sets (pool_counts counts sets))
 DoesOrder (Script script) text old new =
     (new ≡ record old { script = script }) × (text ≡ script_answer (length script))
 DoesOrder (Alloc place count) text old new =

@@ -1,10 +1,10 @@
 -- The words of a script.
-use Rattle.std.specs.Prelude.{ℕ, List, [], ◌∷◌, ◌++◌, Result, codes, ok_or}
+use Rattle.std.specs.Prelude.{ℕ, List, [], ◌∷◌, ◌++◌, Result, bytes_eq, codes, find, ok_or}
 use Rattle.std.specs.Prelude.{Ok as Read}
 use Rattle.descriptor_script.specs.declared.answer.Answer.{Answer}
 use Rattle.descriptor_script.specs.declared.answer.Answer.TheVariants.{Ok, Device, Host, Frag, Pool}
 use Rattle.descriptor_lines.specs.Fault.{◌>>=◌}
-use Rattle.descriptor_lines.specs.Words.{in_turn, named}
+use Rattle.descriptor_lines.specs.Words.{in_turn}
 use Rattle.descriptor_lines.specs.declared.words.fault.Fault.{Fault}
 use Rattle.descriptor_lines.specs.declared.words.fault.Fault.TheVariants.{BadAnswerWord}
 
@@ -19,7 +19,7 @@ word_of_answer Pool = codes "pool"
 -- the answer that a word of a script gives
 abbrev pub answer_in : List ℕ → Result Answer Fault
 answer_in word =
-    ok_or (named word_of_answer (Ok ∷ Device ∷ Host ∷ Frag ∷ Pool ∷ []) word) BadAnswerWord
+    ok_or (find (λ answer. bytes_eq word (word_of_answer answer)) (Ok ∷ Device ∷ Host ∷ Frag ∷ Pool ∷ [])) BadAnswerWord
 
 -- the answers with that of one word more
 abbrev pub with_answer : List Answer → List ℕ → Result (List Answer) Fault

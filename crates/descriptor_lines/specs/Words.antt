@@ -1,5 +1,5 @@
 -- The words of a line.
-use Rattle.std.specs.Prelude.{ℕ, Bool, true, false, List, [], ◌∷◌, Option, None, Some, Result, Ok, ◌==◌, ◌||◌, bytes_eq, filter, find, is_some, position, slice_index, if◌then◌else◌}
+use Rattle.std.specs.Prelude.{ℕ, Bool, true, false, List, [], ◌∷◌, Option, None, Some, Result, Ok, ◌==◌, ◌||◌, filter, is_some, position, slice_index, if◌then◌else◌}
 use Rattle.std.specs.List.{after_first, before_first, slice_split}
 use Rattle.descriptor_lines.specs.Fault.{◌>>=◌}
 use Rattle.descriptor_lines.specs.declared.words.fault.Fault.{Fault}
@@ -26,10 +26,6 @@ is_byte value byte = byte == value
 abbrev pub around : ℕ → List ℕ → Option (List ℕ × List ℕ)
 around value word =
     if is_some (position (is_byte value) word) then Some (before_first (is_byte value) word, after_first (is_byte value) word) else None
-
--- the first of these that has the word for its name
-abbrev pub named : {A : Type 0} → (A → List ℕ) → List A → List ℕ → Option A
-named name all word = find (λ one. bytes_eq word (name one)) all
 
 -- the words that are still to come
 abbrev pub words_left : Words → List (List ℕ)

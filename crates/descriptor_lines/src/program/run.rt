@@ -1,7 +1,5 @@
 //! The commands, run.
-ghost use Rattle.std.specs.Prelude.{◌≡◌, [], None, IsTrue, OnOk, string_bytes};
-ghost use Rattle.gpu_descriptor_types.specs.Counts.{kinds};
-ghost use Rattle.descriptor_lines.specs.Answers.{AnswersSize};
+ghost use Rattle.std.specs.Prelude.{◌≡◌, None, IsTrue, string_bytes};
 ghost use Rattle.descriptor_lines.specs.Commands.{IsRunnable};
 ghost use Rattle.descriptor_lines.specs.LayoutTables.{key_of, layout_count, layout_named};
 ghost use Rattle.descriptor_lines.specs.LineStates.{line_state};
@@ -16,7 +14,7 @@ use crate::command::Command;
 use crate::device::LineDevice;
 use crate::layouts::Layout;
 use descriptor_script::{Answer, Command as SessionCommand, Reply, ScriptLayout, Session};
-use gpu_descriptor_types::{DescriptorTotalCount, counts_of_sets, new_pool_sets};
+use gpu_descriptor_types::{counts_of_sets, new_pool_sets};
 use std::alloc::AllocError;
 use std::string::String;
 use std::vec::Vec;
@@ -41,7 +39,10 @@ impl<D: LineDevice> Program<D> {
                 counts,
                 total,
                 wanted,
-            } => answer_size(&counts, total, wanted, answer),
+            } => {
+                let sets = new_pool_sets(&counts, total, wanted);
+                answer::size_answer(answer, &counts_of_sets(&counts, sets), sets)
+            }
             Command::Script { script } => self.load(script, answer),
             Command::Alloc { layout, count } => {
                 self.ask(SessionCommand::Allocate { layout, count }, answer)
@@ -120,18 +121,4 @@ impl<D: LineDevice> Program<D> {
             }
         }
     }
-}
-
-/// Puts the size of a new pool for these counts into the empty text.
-fn answer_size(
-    counts: &DescriptorTotalCount,
-    total: u64,
-    wanted: u32,
-    answer: &mut String,
-) -> Result<(), AllocError>
-    requires { string_bytes answer.old ≡ [] }
-    ensures { OnOk result (AnswersSize (kinds counts.now) total wanted (string_bytes answer.new)) }
-{
-    let sets = new_pool_sets(counts, total, wanted);
-    answer::size_answer(answer, &counts_of_sets(counts, sets), sets)
 }

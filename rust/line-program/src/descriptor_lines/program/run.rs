@@ -7,7 +7,7 @@ use crate::descriptor_lines::command::Command;
 use crate::descriptor_lines::device::LineDevice;
 use crate::descriptor_lines::layouts::Layout;
 use crate::descriptor_script::{Answer, Command as SessionCommand, Reply, ScriptLayout, Session};
-use crate::gpu_descriptor_types::{DescriptorTotalCount, counts_of_sets, new_pool_sets};
+use crate::gpu_descriptor_types::{counts_of_sets, new_pool_sets};
 use crate::kit::alloc::AllocError;
 use crate::kit::string::String;
 use crate::kit::vec::Vec;
@@ -27,7 +27,10 @@ impl<D: LineDevice> Program<D> {
                 counts,
                 total,
                 wanted,
-            } => answer_size(&counts, total, wanted, answer),
+            } => {
+                let sets = new_pool_sets(&counts, total, wanted);
+                answer::size_answer(answer, &counts_of_sets(&counts, sets), sets)
+            }
             Command::Script { script } => self.load(script, answer),
             Command::Alloc { layout, count } => {
                 self.ask(SessionCommand::Allocate { layout, count }, answer)
@@ -89,16 +92,4 @@ impl<D: LineDevice> Program<D> {
             }
         }
     }
-}
-
-/// Puts the size of a new pool for these counts into the empty text.
-fn answer_size(
-    counts: &DescriptorTotalCount,
-    total: u64,
-    wanted: u32,
-    answer: &mut String,
-) -> Result<(), AllocError>
-{
-    let sets = new_pool_sets(counts, total, wanted);
-    answer::size_answer(answer, &counts_of_sets(counts, sets), sets)
 }
