@@ -8,12 +8,12 @@ use Rattle.gpu_descriptor.specs.Caller.Frees.{marked_descriptors}
 use Rattle.gpu_descriptor.specs.Caller.Others.{others_of}
 use Rattle.gpu_descriptor.specs.Caller.Sets.{items_of}
 use Rattle.gpu_descriptor.specs.Caller.States.{pool_load_of}
-use Rattle.gpu_descriptor.specs.Model.Agreement.{Item, count_of, live_in, set_of}
+use Rattle.gpu_descriptor.specs.Model.Agreement.{Item, count_of, live_in, outstanding, set_of}
 use Rattle.gpu_descriptor.specs.Model.Books.{Entry, Key}
 use Rattle.gpu_descriptor.specs.Model.OneByOne.{freed_each}
 use Rattle.gpu_descriptor.specs.Model.Release.{lies_in}
 use Rattle.gpu_descriptor.specs.Model.Runs.{runs}
-use Rattle.descriptor_script.specs.Sessions.Session.{AreAllHeld, allocator_of, layouts_of, sets_of, state_on}
+use Rattle.descriptor_script.specs.Sessions.Session.{allocator_of, layouts_of, sets_of, state_on}
 use Rattle.descriptor_script.specs.Sessions.Steps.{GivesUp, IsAsBefore, IsMet, IsRefused, OfStep, held_items}
 use Rattle.descriptor_script.specs.Sessions.Tickets.{AreHeldOnce}
 use Rattle.descriptor_script.specs.declared.command.Command.{Command}
@@ -47,7 +47,7 @@ module _ {L P S : Type 0} (means : Meaning L P S) where
   -- the parts of the headline, at one step
   pub record KeepsAll (command : Command) (reply : Reply) (old new : Side (Session L P S)) : Type 0 where
     -- the pools hold exactly the sets that are held: each is outstanding as often as it is held
-    pub exactly : AreAllHeld means.set_name (sets_of new.value) (state_on means new)
+    pub exactly : (t : Item) → outstanding (state_on means new) t ≡ count_of t (held_items means new)
     -- and nothing else: the live sets of each pool in the books are the held sets that lie in it, and have the counts of its key
     pub nothing_else : (k : Key) (i : ℕ) (e : Entry) (x : LiveSet) → slice_get ((state_on means new).books k).pools i ≡ Some e → (0 < live_in new.ledger.pools e.pool x → x.counts ≡ k.counts) × (live_in new.ledger.pools e.pool x ≡ count_by (λ t. lies_in (state_on means new).books e.pool t && set_eq (set_of t) x) (held_items means new))
     -- and these are the sets that were allocated and not freed
