@@ -2,17 +2,17 @@
 -- `old` are the slots before a loop, `now` those before a step of it, `new` those after; `Turning` is the loop's invariant, and `Turns`
 -- what it leaves at its end. A set that is freed *settles*: it is kept, or goes. `o` is a slot before that, `n` the same slot after.
 use Rattle.std.proofs.lemmas.Grind.{common_steps}
-use Rattle.std.proofs.Common.{◌≡◌, ◌≢◌, ℕ, zero, suc, ◌+◌, ◌<◌, ◌≤◌, ◌⊎◌, ◌&&◌, nat_lt, Bool, true, false, if◌then◌else◌, List, [], ◌∷◌, length, set, Option, Some, None, ne_eqb, is_some, inl, inr, refl, sym, ap, subst, ◌∙◌, arith, nat_le}
+use Rattle.std.proofs.Common.{◌≡◌, ◌≢◌, ℕ, zero, suc, ◌+◌, ◌<◌, ◌≤◌, ◌⊎◌, ◌&&◌, nat_lt, Bool, true, false, if◌then◌else◌, List, [], ◌∷◌, length, set, ne_eqb, is_some, inl, inr, refl, sym, ap, subst, ◌∙◌, arith, nat_le}
 use Rattle.std.proofs.lemmas.List.{length-set, set-set}
 use Rattle.std.proofs.lemmas.Bool.{false≢true, ltb-false, true≢false}
 use Rattle.descriptor_table.specs.Slots.{IsNowhere, Slot, in_list, is_due, is_in, slot_at, waits_for}
-use Rattle.descriptor_table.specs.Tables.{AtIf, IsBack, KeepsSettings, MayBecome, Picks, PicksAbove, PicksAny, Stays, Turns, count, generations_of, holds, is_held_use, is_kept, is_taken, is_taken_use, may_stay, keep_of, next_use, stays, used_for, Becomes}
+use Rattle.descriptor_table.specs.Tables.{AtIf, IsBack, KeepsSettings, MayBecome, Picks, Stays, Turns, count, generations_of, holds, is_held_use, is_kept, is_taken, is_taken_use, may_stay, keep_of, next_use, stays, used_for, Becomes}
 use Rattle.descriptor_table.specs.declared.set_table.SetTable.{SetTable}
 use Rattle.descriptor_table.specs.declared.slot.Use.{Use}
 use Rattle.descriptor_table.specs.declared.slot.Use.TheVariants.{Held, Kept, Going, Taken}
 use Rattle.descriptor_table.proofs.Chains.{and_true, lists_apart, nowhere_out}
 use Rattle.descriptor_table.proofs.Counting.{same_or}
-use Rattle.descriptor_table.proofs.Counts.{bit, count_set, none_count, same_count}
+use Rattle.descriptor_table.proofs.Counts.{bit, count_set, same_count}
 use Rattle.descriptor_table.proofs.Listed.{other_slots, slot_set, with_use}
 
 taken_use : (u : Use) → is_taken_use u ≡ true → u ≡ Taken
@@ -230,12 +230,6 @@ module _ {T : Type 0} where
       step e =
           let all : new ≡ with_use p u now = is ∙ ap (λ b. if b then with_use p u now else now) e in
           turn_step test (λ l o n. n ≡ used_for u o) old now new p (used_for u (slot_at now p)) turning within e all (λ o n w. w) (λ o n w. ap test w ∙ out o) refl
-
-  -- a set was picked from a list, or there was none in it, and then no more than so many are
-  -- with more than so many in the list one leaves
-  pub above_of : (k max : ℕ) (r : Option ℕ) (old new : List (Slot T)) → max < count (is_in k) old → PicksAny (is_in k) r old new → PicksAbove k max r old new
-  above_of k max None old new more picks = (let h = none_count (is_in k) old picks.none in omega arith, picks.slots)
-  above_of k max (Some p) old new more picks = (more, picks)
 
   -- a set that goes is in no list of kept sets
   pub going_out : (k : ℕ) (s : Slot T) → 2 ≤ k → is_in k (used_for Going s) ≡ false

@@ -217,10 +217,6 @@ module _ {T : Type 0} where
   abbrev pub is_kept : Slot T → Bool
   is_kept s = is_kept_of s.layout s
 
-  -- a kept set left the list if more than `max` were in it; else nothing changes
-  abbrev pub PicksAbove : ℕ → ℕ → Option ℕ → Slots T → Slots T → Type 0
-  PicksAbove k max result old new = MatchOption result ((count (is_in k) old ≤ max) × (new ≡ old)) (λ p. (max < count (is_in k) old) × Picks (is_in k) p old new)
-
   -- of the slots that pass the test `max` still pass it, or all
   abbrev pub KeepsUpTo : ℕ → (Slot T → Bool) → Slots T → Slots T → Type 0
   KeepsUpTo max test old new = (n : ℕ) → n ≤ max → n ≤ count test old → n ≤ count test new

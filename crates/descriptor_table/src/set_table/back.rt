@@ -11,7 +11,7 @@ impl<T> SetTable<T> {
     ghost use Rattle.descriptor_table.specs.Sets.{AreHeldOnce};
     ghost use Rattle.descriptor_table.specs.Slots.{IsNowhere, chain_at, chains_in, is_due, is_in, is_kept_of, slot_at, waits};
     ghost use Rattle.descriptor_table.specs.Tables.{AreAllTaken, At, AtIf, Becomes, Changes};
-    ghost use Rattle.descriptor_table.specs.Tables.{IsBack, JoinsList, KeepsUpTo, MayBecome, PicksAbove, Pops};
+    ghost use Rattle.descriptor_table.specs.Tables.{IsBack, JoinsList, KeepsUpTo, MayBecome, Pops};
     ghost use Rattle.descriptor_table.specs.Tables.{SettleEach, Stays, TurnEach, Turns, count};
     ghost use Rattle.descriptor_table.specs.Tables.{generations_of, holds, is_kept, is_taken, keep_of};
     ghost use Rattle.descriptor_table.specs.Tables.{list_of, lists_of, may_stay, next_use, number_of};
@@ -205,17 +205,6 @@ impl<T> SetTable<T> {
         }
     }
 
-    /// Takes a kept set of a list, if more than `max` are kept.
-    #[inline]
-    fn pick_above(&mut self, list: usize, max: u32) -> Option<usize>
-        ensures { Changes (PicksAbove list max result) self.old self.new }
-    {
-        if self.chain(list).count <= max {
-            return None;
-        }
-        self.pick(list)
-    }
-
     /// Lets kept sets of a list go, until at most `max` are left.
     fn trim_list(&mut self, list: usize, max: u32)
         requires list { 2 ≤ list }
@@ -224,8 +213,11 @@ impl<T> SetTable<T> {
         ensures few { count (is_in list) (slots_of self.new) ≤ max }
         ensures as_many { KeepsUpTo max (is_in list) (slots_of self.old) (slots_of self.new) }
     {
-        while let Some(place) = self.pick_above(list, max) {
-            self.link(GOING, place, Use::Going);
+        while self.chain(list).count > max {
+            match self.pick(list) {
+                Some(place) => self.link(GOING, place, Use::Going),
+                None => unreachable!(),
+            }
         }
     }
 

@@ -150,21 +150,14 @@ impl<T> SetTable<T> {
         }
     }
 
-    /// Takes a kept set of a list, if more than `max` are kept.
-    #[inline]
-    fn pick_above(&mut self, list: usize, max: u32) -> Option<usize>
-    {
-        if self.chain(list).count <= max {
-            return None;
-        }
-        self.pick(list)
-    }
-
     /// Lets kept sets of a list go, until at most `max` are left.
     fn trim_list(&mut self, list: usize, max: u32)
     {
-        while let Some(place) = self.pick_above(list, max) {
-            self.link(GOING, place, Use::Going);
+        while self.chain(list).count > max {
+            match self.pick(list) {
+                Some(place) => self.link(GOING, place, Use::Going),
+                None => unreachable!(),
+            }
         }
     }
 

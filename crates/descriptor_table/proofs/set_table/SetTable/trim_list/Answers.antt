@@ -1,25 +1,48 @@
-use Rattle.std.proofs.Common.{arith}
-use Rattle.descriptor_table.specs.Slots.{is_in}
-use Rattle.descriptor_table.specs.Tables.{slots_of}
+use Rattle.std.proofs.Common.{◌≡◌, ℕ, ap, ◌∙◌, arith}
+use Rattle.descriptor_table.specs.Slots.{chain_at, chains_in, is_in, nexts_in, slots_in}
+use Rattle.descriptor_table.specs.Tables.{count, slots_of}
+use Rattle.descriptor_table.specs.declared.set_table.SetTable.{SetTable}
+use Rattle.descriptor_table.specs.declared.slot.Chain.{Chain}
+use Rattle.descriptor_table.proofs.Counts.{chain_count, none_count}
 use Rattle.descriptor_table.proofs.Turning.{go_fewer, go_less, go_step, going_out, stays_more}
 use Rattle.descriptor_table.proofs.set_table.SetTable.trim_list.Goals as goal
 
-pub loop-place-smaller : goal.loop-place-smaller
-loop-place-smaller g c = go_fewer (is_in c.args.list) (slots_of c.loop-place.self) (slots_of c.pick_above.new.self) (slots_of c.link.new.self) c.in-Some.place c.in-Some.ensures.slots.1 c.link.ensures.changes.slots (λ s. going_out c.args.list s c.requires.list)
+-- the list's head counts it
+counted : {T : Type 0} (s : SetTable T) (k : ℕ) (d : Chain) → d ≡ chain_at (chains_in s.lists.items) k → d.count ≡ count (is_in k) (slots_of s)
+counted s k d read = ap (λ (d : Chain). d.count) read ∙ chain_count (slots_in s.slots) (nexts_in s.slots) (chains_in s.lists.items) s.sound.linked k
 
-pub loop-place-preserved : goal.loop-place-preserved
-loop-place-preserved g c =
-    let inv = c.loop-place.invariant in
+pub unreachable-requires : goal.unreachable-requires
+unreachable-requires g c =
+    let s = c.loop-self.self in
+    let all = counted s c.args.list c.chain.result c.chain.ensures in
+    let none = none_count (is_in c.args.list) (slots_of s) c.in-None.ensures.picks.slots.none in
+    let more = c.loop-self-test.true in
+    omega arith
+
+pub returns-clause-few : goal.returns-clause-few
+returns-clause-few g c =
+    let all = counted c.loop-self.self c.args.list c.chain.result c.chain.ensures in
+    let few = c.loop-self-test.false in
+    omega arith
+
+pub loop-self-smaller : goal.loop-self-smaller
+loop-self-smaller g c = go_fewer (is_in c.args.list) (slots_of c.loop-self.self) (slots_of c.pick.new.self) (slots_of c.link.new.self) c.in-Some.place c.in-Some.ensures.picks.slots c.link.ensures.changes.slots (λ s. going_out c.args.list s c.requires.list)
+
+pub loop-self-preserved : goal.loop-self-preserved
+loop-self-preserved g c =
+    let inv = c.loop-self.invariant in
     let k = c.args.list in
-    let now = slots_of c.loop-place.self in
-    let mid = slots_of c.pick_above.new.self in
+    let s = c.loop-self.self in
+    let now = slots_of s in
+    let mid = slots_of c.pick.new.self in
     let new = slots_of c.link.new.self in
     let p = c.in-Some.place in
-    let picks = c.in-Some.ensures.slots.1 in
-    let more = c.in-Some.ensures.slots.0 in
-    let one = go_less (is_in k) now mid new p picks c.link.ensures.changes.slots (λ s. going_out k s c.requires.list) in
+    let picks = c.in-Some.ensures.picks in
+    let all = counted s k c.chain.result c.chain.ensures in
+    let more = c.loop-self-test.true in
+    let one = go_less (is_in k) now mid new p picks.slots c.link.ensures.changes.slots (λ s. going_out k s c.requires.list) in
     record {
-      turning = go_step (is_in k) now mid new p picks c.link.ensures.changes.slots (λ s. going_out k s c.requires.list) (slots_of c.args.self.now) inv.turning;
+      turning = go_step (is_in k) now mid new p picks.slots c.link.ensures.changes.slots (λ s. going_out k s c.requires.list) (slots_of c.args.self.now) inv.turning;
       enough = λ n le has. (let before = inv.enough n le has in omega arith);
-      stays = stays_more c.args.self.now c.pick_above.new.self c.link.new.self (stays_more c.args.self.now c.loop-place.self c.pick_above.new.self inv.stays c.in-Some.ensures.stays) c.link.ensures.changes.stays;
+      stays = stays_more c.args.self.now c.pick.new.self c.link.new.self (stays_more c.args.self.now s c.pick.new.self inv.stays picks.stays) c.link.ensures.changes.stays;
     }

@@ -5,12 +5,12 @@ use Rattle.descriptor_table.specs.declared.slot.Use.TheVariants.{Going}
 use Rattle.descriptor_table.proofs.set_table.SetTable.trim_list.Given as goal
 
 -- some sets of the list go
-abbrev pub invariant-loop-place : goal.invariant-loop-place
-invariant-loop-place g l = record {
+abbrev pub invariant-loop-self : goal.invariant-loop-self
+invariant-loop-self g l = record {
   turning : Turning (is_in l.list) (Becomes (used_for Going)) (slots_of l.fn.self) (slots_of l.self);
   enough : KeepsUpTo l.max (is_in l.list) (slots_of l.fn.self) (slots_of l.self);
   stays : Stays l.fn.self l.self;
 }
 
-abbrev pub decreases-loop-place : goal.decreases-loop-place
-decreases-loop-place g l = count (is_in l.list) (slots_of l.self)
+abbrev pub decreases-loop-self : goal.decreases-loop-self
+decreases-loop-self g l = count (is_in l.list) (slots_of l.self)
