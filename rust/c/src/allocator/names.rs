@@ -32,7 +32,8 @@ pub fn layout_of(owner: u64, name: u64) -> LayoutHandle {
 }
 
 /// What a set's owner has in addition to the id of its allocator. The factors are odd, so under one name each
-/// handle has its own seal, and under one handle each name.
+/// handle has its own seal, and under one handle each name. Without its factor a field and the owner could
+/// change alike, unseen. The header's caches compute it too.
 #[inline]
 fn seal(handle: u64, name: u64) -> u64 {
     handle.wrapping_mul(0x9e37_79b9_7f4a_7c15) ^ name.wrapping_mul(0xc2b2_ae3d_27d4_eb4f)
