@@ -1,5 +1,5 @@
 -- A set that gets a handle, a kept one or one that came: for `Store::allocate_for_frame` and `create` (by `Taking`), for `hold_next`, `hold_last` and
--- `Joining`, and in `Adding` for a layout. `cleared_of`, `unmet_slots` and `refused_arrives` say what a refusal leaves, also for `Bringing` and `create_each`.
+-- `Joining`, and in `Adding` for a layout. `cleared_of`, `unmet_slots` and `refused_arrives` say what a refusal leaves, also for `Bringing` and `allocate_each`.
 -- `p` is its place, `u` what it is in use for, and `handle` the next one of the slot. `Fills` says what becomes of the slot, and `Handles`
 -- the same after kept sets may have gone. The slots are `old` before, `new` after, and between them `put` once the set was put, or `mid`: in
 -- `kept_fills` and `kept_fewer` once it was picked, and elsewhere once kept sets went, before it comes.

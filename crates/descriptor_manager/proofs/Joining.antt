@@ -1,4 +1,4 @@
--- Sets that are held, one after another: for `Store::hold_next`, `hold_last`, `hold_kept`, `hold_coming` and `create_each`.
+-- Sets that are held, one after another: for `Store::hold_next`, `hold_last`, `hold_kept`, `hold_coming` and `allocate_each`.
 -- The slots are `old` before the handles `a` are given, `mid` between, and `new` after the handles `b`; `x` and `y` say so of `a` and `b`.
 -- Handles are written into a list `now`, of which the first are given: those before the place `n`.
 use Rattle.std.proofs.lemmas.Grind.{common_steps}

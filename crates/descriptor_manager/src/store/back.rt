@@ -24,7 +24,7 @@ impl<L: Drop, P: Drop, S: Drop, D: DescriptorDevice<L, P, S>> Store<L, P, S, D> 
     fn give(&mut self, group: Group)
         ensures { GivesBack (is_of group) self.old self.new }
     {
-        if self.table.is_empty(group) {
+        if self.table.is_known_empty(group) {
             // A proof knows the allocator's invariant only from what its readers promise.
             prove!(self.allocator.update_after_bind_descriptors() <= u32::MAX);
             prove!(self.allocator.update_after_bind_capacity() <= u32::MAX);

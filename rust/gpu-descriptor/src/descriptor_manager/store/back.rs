@@ -10,7 +10,7 @@ impl<L, P, S, D: DescriptorDevice<L, P, S>> Store<L, P, S, D> {
     #[inline]
     fn give(&mut self, group: Group)
     {
-        if self.table.is_empty(group) {
+        if self.table.is_known_empty(group) {
             return;
         }
         self.give_each(group);

@@ -84,9 +84,9 @@ impl<T> SetTable<T> {
         self.kept_list(layout).chain.count
     }
 
-    /// Whether a group's list is empty. It isn't known of the sets that wait.
+    /// Whether a group is known to be empty, by its list. Of the sets that wait it isn't known.
     #[inline]
-    pub fn is_empty(&self, group: Group) -> bool
+    pub fn is_known_empty(&self, group: Group) -> bool
     {
         match group {
             Group::Going => self.chain(GOING).count == 0,
