@@ -19,7 +19,7 @@ pub use flags::DescriptorPoolCreateFlags;
 pub use layouts::Layouts;
 pub use pool_size::{
     bounded_pool_sets, bounded_pool_size, counts_of_sets, cut_pool_sets, cut_pool_size,
-    new_pool_sets, new_pool_size,
+    greatest_count, new_pool_sets, new_pool_size, pool_sets_for_greatest,
 };
 pub use sink::SetSink;
 pub use tally::Tally;

@@ -1,7 +1,7 @@
 //! The size of a new pool.
 ghost use Rattle.std.specs.Prelude.{◌≡◌, ℕ, ◌*◌, ◌<◌, ◌≤◌, ◌^◌, All, IfSome, IfNone, min, max, sum};
-ghost use Rattle.std.specs.Prelude.{map};
-ghost use Rattle.gpu_descriptor_types.specs.Counts.{greatest, kinds as kinds_of};
+ghost use Rattle.std.specs.Prelude.{List, map};
+ghost use Rattle.gpu_descriptor_types.specs.Counts.{greatest as greatest_of, kinds as kinds_of};
 ghost use Rattle.gpu_descriptor_types.specs.PoolSize.{IsCutSize, IsPoolSize, IsRounded};
 ghost use Rattle.gpu_descriptor_types.specs.PoolSize.{bounded_sets, greatest_pool_size, pool_counts};
 ghost use Rattle.gpu_descriptor_types.specs.PoolSize.{pool_size_floor};
@@ -16,15 +16,7 @@ const MIN_SETS: u32 = 64;
 /// The max of a key's live sets that count towards the size of its next pool.
 const MAX_SETS: u32 = 512;
 
-/// How many sets a new pool for sets of these counts holds.
-///
-/// `total` is the number of the key's live sets, and `wanted` that of the sets still needed. The pool
-/// holds the largest of 64, `wanted`, and the smaller of `total` and 512, rounded up to a power of two,
-/// or to 2147483647 if that power exceeds 32 bits; but no more sets than keep each of its counts within
-/// 32 bits. So it may hold fewer than `wanted`, but at least one.
-///
-/// In the original this is a private call of the bucket, over a total of 32 bits.
-#[inline]
+/// How many sets a new pool for sets of these counts holds. See `pool_sets_for_greatest`.
 pub fn new_pool_sets(counts: &DescriptorTotalCount, total: u64, wanted: u32) -> u32
     ensures sets { IsPoolSize (kinds_of counts.now) total wanted result }
 
@@ -34,8 +26,24 @@ pub fn new_pool_sets(counts: &DescriptorTotalCount, total: u64, wanted: u32) -> 
     ensures below_twice { result < 2 * start_size_of total wanted }
     ensures fits { All (λ count. count * result < 2 ^ 32) (kinds_of counts.now) }
 {
-    let kinds = counts.to_array();
-    cut_to(rounded_up(start_size(total, wanted)), greatest_of(&kinds))
+    pool_sets_for_greatest(greatest_count(counts), total, wanted)
+}
+
+/// How many sets a new pool holds, if `greatest` is the greatest of a set's counts.
+///
+/// `total` is the number of the key's live sets, and `wanted` that of the sets still needed. The pool
+/// holds the largest of 64, `wanted`, and the smaller of `total` and 512, rounded up to a power of two,
+/// or to 2147483647 if that power exceeds 32 bits; but no more sets than keep each of its counts within
+/// 32 bits. So it may hold fewer than `wanted`, but at least one.
+///
+/// In the original this is a private call of the bucket, over a total of 32 bits.
+#[inline]
+pub fn pool_sets_for_greatest(greatest: u32, total: u64, wanted: u32) -> u32
+    ensures sets { (counts : List ℕ) → greatest_of counts ≡ greatest → IsPoolSize counts total wanted
+        result }
+    ensures some { 1 ≤ result }
+{
+    cut_to(rounded_up(start_size(total, wanted)), greatest)
 }
 
 /// The size of a new pool for sets of these counts: the pool's counts, and how many sets it holds. A
@@ -182,11 +190,12 @@ fn rounded_up(start: u32) -> u32
 
 /// The greatest of the counts, which allows the fewest sets.
 #[inline]
-fn greatest_of(kinds: &[u32; 14]) -> u32
-    ensures { result ≡ greatest kinds.now }
+pub fn greatest_count(counts: &DescriptorTotalCount) -> u32
+    ensures { result ≡ greatest_of (kinds_of counts.now) }
 {
+    let kinds = counts.to_array();
     let mut max = 0;
-    for kind in kinds {
+    for kind in &kinds {
         max = max.max(*kind);
     }
     max

@@ -14,7 +14,7 @@ use crate::command::Command;
 use crate::device::LineDevice;
 use crate::layouts::Layout;
 use descriptor_script::{Answer, Command as SessionCommand, Reply, ScriptLayout, Session};
-use gpu_descriptor_types::{counts_of_sets, new_pool_sets};
+use gpu_descriptor_types::{counts_of_sets, greatest_count, pool_sets_for_greatest};
 use std::alloc::AllocError;
 use std::string::String;
 use std::vec::Vec;
@@ -40,7 +40,7 @@ impl<D: LineDevice> Program<D> {
                 total,
                 wanted,
             } => {
-                let sets = new_pool_sets(&counts, total, wanted);
+                let sets = pool_sets_for_greatest(greatest_count(&counts), total, wanted);
                 answer::size_answer(answer, &counts_of_sets(&counts, sets), sets)
             }
             Command::Script { script } => self.load(script, answer),

@@ -24,8 +24,8 @@ impl<P: Drop, S: Drop> DescriptorAllocator<P, S> {
     /// The existing pools of the layout's key are asked first, from the newest to the oldest, each at
     /// most once, and each for at most the number of free places that it is known to have. A pool that
     /// refuses as fragmented or full is skipped. New pools are created for the sets still needed.
-    /// `new_pool_sets` says how many sets a new pool has; for a marked (update-after-bind) layout
-    /// `cut_pool_sets` cuts this number to the room that the limit leaves. Then, for any layout,
+    /// `pool_sets_for_greatest` says how many sets a new pool has; for a marked (update-after-bind)
+    /// layout `cut_pool_sets` cuts this number to the room that the limit leaves. Then, for any layout,
     /// `bounded_pool_sets` cuts it to the bound of `set_max_pool_descriptors`.
     ///
     /// On an error a new pool that refused its sets is destroyed, and all sets that the request took are

@@ -2,7 +2,7 @@
 ghost use Rattle.std.specs.Prelude.{◌≡◌, ◌+◌, ◌*◌, ◌<◌, ◌≤◌, ◌++◌, ◌∷◌, ◌^◌, List, [], length, map};
 ghost use Rattle.std.specs.Prelude.{All, IfErr, IfSome, IfNone, None, OnOk};
 ghost use Rattle.std.specs.VecDeque.{deque_capacity};
-ghost use Rattle.gpu_descriptor_types.specs.Counts.{kinds};
+ghost use Rattle.gpu_descriptor_types.specs.Counts.{greatest, kinds};
 ghost use Rattle.gpu_descriptor_types.specs.Flags.{bits, pool_flags as pool_flags_of};
 ghost use Rattle.gpu_descriptor_types.specs.PoolSize.{greatest_pool_size};
 ghost use Rattle.gpu_descriptor.specs.Caller.Sets.{PutsOfLayout};
@@ -27,7 +27,7 @@ use crate::places::SetPlaces;
 use bitflags::Flags;
 use gpu_descriptor_types::{
     DescriptorDevice, DescriptorPoolCreateFlags, Layouts, Tally, bounded_pool_sets, counts_of_sets,
-    cut_pool_sets, new_pool_sets,
+    cut_pool_sets, pool_sets_for_greatest,
 };
 use std::alloc::AllocError;
 
@@ -43,12 +43,19 @@ fn pool_flags(marked: bool) -> DescriptorPoolCreateFlags
 /// How many sets a key's next pool holds within the limit; `None` if the limit leaves no room for one
 /// set.
 #[inline]
-fn size_in_room(key: &BucketKey, total: u64, wanted: u32, room: u32) -> Option<u32>
+fn size_in_room(
+    key: &BucketKey,
+    greatest_count: u32,
+    total: u64,
+    wanted: u32,
+    room: u32,
+) -> Option<u32>
+    requires { greatest (kinds key.now.counts) ≡ greatest_count }
     ensures sets { IfSome result (λ sets. IsNextSize None (key_of key.now) room total wanted
         sets) }
     ensures none { IfNone result (room < pool_descriptors (key_of key.now) 1) }
 {
-    let sets = new_pool_sets(&key.counts, total, wanted);
+    let sets = pool_sets_for_greatest(greatest_count, total, wanted);
     if key.marked {
         cut_pool_sets(&key.counts, sets, room)
     } else {
@@ -58,7 +65,15 @@ fn size_in_room(key: &BucketKey, total: u64, wanted: u32, room: u32) -> Option<u
 
 /// How many sets a key's next pool holds, within the limit and the bound.
 #[inline]
-fn next_size(key: &BucketKey, total: u64, wanted: u32, room: u32, bound: Option<u64>) -> Option<u32>
+fn next_size(
+    key: &BucketKey,
+    greatest_count: u32,
+    total: u64,
+    wanted: u32,
+    room: u32,
+    bound: Option<u64>,
+) -> Option<u32>
+    requires greatest { greatest (kinds key.now.counts) ≡ greatest_count }
     requires some { 1 ≤ wanted }
     ensures sets { IfSome result (λ sets. IsNextSize bound (key_of key.now) room total wanted
         sets) }
@@ -69,7 +84,7 @@ fn next_size(key: &BucketKey, total: u64, wanted: u32, room: u32, bound: Option<
         × (pool_descriptors (key_of key.now) sets < 2 ^ 32)) }
     ensures none { IfNone result (room < pool_descriptors (key_of key.now) 1) }
 {
-    let sets = size_in_room(key, total, wanted, room)?;
+    let sets = size_in_room(key, greatest_count, total, wanted, room)?;
     Some(bounded_pool_sets(&key.counts, sets, wanted, bound))
 }
 
@@ -82,9 +97,11 @@ impl<P> DescriptorBucket<P> {
         &mut self,
         device: &mut D,
         request: &'k SetRequest<'_, L, P, S, D>,
+        greatest_count: u32,
         budget: &mut Budget,
         sink: &mut RequestSink<'k, S, K>,
     ) -> Result<(), Stop>
+        requires greatest { greatest (kinds request.now.key.counts) ≡ greatest_count }
         requires some { 0 < sink.old.left }
         requires numbers { number_after (numbers_of self.old.pools.items) + sink.old.left < 2 ^ 64 }
         requires bound { self.old.total + sink.old.left < 2 ^ 64 }
@@ -113,7 +130,15 @@ impl<P> DescriptorBucket<P> {
             (D.ledger device.old) (D.ledger device.new) }
     {
         let key = &request.key;
-        let Some(size) = next_size(key, self.total, sink.left, budget.room, budget.bound) else {
+        let size = next_size(
+            key,
+            greatest_count,
+            self.total,
+            sink.left,
+            budget.room,
+            budget.bound,
+        );
+        let Some(size) = size else {
             return Err(Stop::NoRoomUnderLimit);
         };
         if self.reserve_pool().is_err() {

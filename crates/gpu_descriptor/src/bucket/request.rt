@@ -19,7 +19,7 @@ use crate::budget::Budget;
 use crate::errors::AllocationError;
 use crate::key::BucketKey;
 use crate::places::SetPlaces;
-use gpu_descriptor_types::DescriptorDevice;
+use gpu_descriptor_types::{DescriptorDevice, greatest_count};
 use std::alloc::Global;
 use std::marker::PhantomData;
 
@@ -96,8 +96,13 @@ impl<P: Drop> DescriptorBucket<P> {
     {
         self.take_from_existing(device, request, &mut budget.looks, sink)
             .map_err(Stop::ExistingPoolWithoutMemory)?;
+        if sink.left == 0 {
+            return Ok(());
+        }
+        // Once for all new pools of the request, and not if it needs none.
+        let greatest_count = greatest_count(&request.key.counts);
         while sink.left > 0 {
-            self.take_from_new(device, request, budget, sink)?;
+            self.take_from_new(device, request, greatest_count, budget, sink)?;
         }
         Ok(())
     }

@@ -17,6 +17,6 @@ pub use flags::DescriptorPoolCreateFlags;
 pub use layouts::Layouts;
 pub use pool_size::{
     bounded_pool_sets, counts_of_sets, cut_pool_sets,
-    new_pool_sets,
+    greatest_count, pool_sets_for_greatest,
 };
 pub use sink::SetSink;

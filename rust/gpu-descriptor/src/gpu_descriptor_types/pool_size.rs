@@ -9,7 +9,7 @@ const MIN_SETS: u32 = 64;
 /// The max of a key's live sets that count towards the size of its next pool.
 const MAX_SETS: u32 = 512;
 
-/// How many sets a new pool for sets of these counts holds.
+/// How many sets a new pool holds, if `greatest` is the greatest of a set's counts.
 ///
 /// `total` is the number of the key's live sets, and `wanted` that of the sets still needed. The pool
 /// holds the largest of 64, `wanted`, and the smaller of `total` and 512, rounded up to a power of two,
@@ -18,10 +18,9 @@ const MAX_SETS: u32 = 512;
 ///
 /// In the original this is a private call of the bucket, over a total of 32 bits.
 #[inline]
-pub fn new_pool_sets(counts: &DescriptorTotalCount, total: u64, wanted: u32) -> u32
+pub fn pool_sets_for_greatest(greatest: u32, total: u64, wanted: u32) -> u32
 {
-    let kinds = counts.to_array();
-    cut_to(rounded_up(start_size(total, wanted)), greatest_of(&kinds))
+    cut_to(rounded_up(start_size(total, wanted)), greatest)
 }
 
 /// How many of `sets` sets a pool with at most `room` descriptors may hold; `None` if not even one set
@@ -86,10 +85,11 @@ fn rounded_up(start: u32) -> u32
 
 /// The greatest of the counts, which allows the fewest sets.
 #[inline]
-fn greatest_of(kinds: &[u32; 14]) -> u32
+pub fn greatest_count(counts: &DescriptorTotalCount) -> u32
 {
+    let kinds = counts.to_array();
     let mut max = 0;
-    for kind in kinds {
+    for kind in &kinds {
         max = max.max(*kind);
     }
     max

@@ -1,15 +1,10 @@
-use Rattle.std.proofs.Common.{◌∙◌, ap, min}
-use Rattle.gpu_descriptor_types.specs.Counts.{greatest, kinds as kinds_of}
-use Rattle.gpu_descriptor_types.specs.PoolSize.{sets_of_kind}
-use Rattle.gpu_descriptor_types.proofs.Sizes.{greatest_allows, pool_size_below, pool_size_fits, pool_size_small, pool_size_some}
+use Rattle.std.proofs.Common.{sym}
+use Rattle.gpu_descriptor_types.specs.Counts.{kinds as kinds_of}
+use Rattle.gpu_descriptor_types.proofs.Sizes.{pool_size_below, pool_size_fits, pool_size_small, pool_size_some}
 use Rattle.gpu_descriptor_types.proofs.pool_size.new_pool_sets.Goals as goal
 
 pub returns-clause-sets : goal.returns-clause-sets
-returns-clause-sets c = record {
-  start = c.rounded_up.result;
-  rounded = rw c.start_size.ensures at c.rounded_up.ensures.rounded;
-  is_least = c.cut_to.ensures ∙ ap (λ kind. min c.rounded_up.result (sets_of_kind kind)) (c.greatest_of.ensures ∙ ap greatest c.to_array-kinds.ensures) ∙ greatest_allows c.rounded_up.result (kinds_of c.args.counts.now) c.rounded_up.ensures.at_most;
-}
+returns-clause-sets c = c.pool_sets_for_greatest.ensures.sets (kinds_of c.args.counts.now) (sym c.greatest_count.ensures)
 
 pub returns-clause-at_most : goal.returns-clause-at_most
 returns-clause-at_most c = pool_size_small (kinds_of c.args.counts.now) c.args.total c.args.wanted _ (returns-clause-sets c)

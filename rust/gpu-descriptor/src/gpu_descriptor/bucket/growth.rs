@@ -10,7 +10,7 @@ use crate::gpu_descriptor::key::BucketKey;
 use crate::gpu_descriptor::places::SetPlaces;
 use crate::gpu_descriptor_types::{
     DescriptorDevice, DescriptorPoolCreateFlags, Layouts, bounded_pool_sets, counts_of_sets,
-    cut_pool_sets, new_pool_sets,
+    cut_pool_sets, pool_sets_for_greatest,
 };
 use crate::kit::alloc::AllocError;
 
@@ -25,9 +25,15 @@ fn pool_flags(marked: bool) -> DescriptorPoolCreateFlags
 /// How many sets a key's next pool holds within the limit; `None` if the limit leaves no room for one
 /// set.
 #[inline]
-fn size_in_room(key: &BucketKey, total: u64, wanted: u32, room: u32) -> Option<u32>
+fn size_in_room(
+    key: &BucketKey,
+    greatest_count: u32,
+    total: u64,
+    wanted: u32,
+    room: u32,
+) -> Option<u32>
 {
-    let sets = new_pool_sets(&key.counts, total, wanted);
+    let sets = pool_sets_for_greatest(greatest_count, total, wanted);
     if key.marked {
         cut_pool_sets(&key.counts, sets, room)
     } else {
@@ -37,9 +43,16 @@ fn size_in_room(key: &BucketKey, total: u64, wanted: u32, room: u32) -> Option<u
 
 /// How many sets a key's next pool holds, within the limit and the bound.
 #[inline]
-fn next_size(key: &BucketKey, total: u64, wanted: u32, room: u32, bound: Option<u64>) -> Option<u32>
+fn next_size(
+    key: &BucketKey,
+    greatest_count: u32,
+    total: u64,
+    wanted: u32,
+    room: u32,
+    bound: Option<u64>,
+) -> Option<u32>
 {
-    let sets = size_in_room(key, total, wanted, room)?;
+    let sets = size_in_room(key, greatest_count, total, wanted, room)?;
     Some(bounded_pool_sets(&key.counts, sets, wanted, bound))
 }
 
@@ -52,12 +65,21 @@ impl<P> DescriptorBucket<P> {
         &mut self,
         device: &mut D,
         request: &'k SetRequest<'_, L, P, S, D>,
+        greatest_count: u32,
         budget: &mut Budget,
         sink: &mut RequestSink<'k, S, K>,
     ) -> Result<(), Stop>
     {
         let key = &request.key;
-        let Some(size) = next_size(key, self.total, sink.left, budget.room, budget.bound) else {
+        let size = next_size(
+            key,
+            greatest_count,
+            self.total,
+            sink.left,
+            budget.room,
+            budget.bound,
+        );
+        let Some(size) = size else {
             return Err(Stop::NoRoomUnderLimit);
         };
         if self.reserve_pool().is_err() {

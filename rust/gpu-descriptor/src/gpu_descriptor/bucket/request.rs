@@ -8,7 +8,7 @@ use crate::gpu_descriptor::budget::Budget;
 use crate::gpu_descriptor::errors::AllocationError;
 use crate::gpu_descriptor::key::BucketKey;
 use crate::gpu_descriptor::places::SetPlaces;
-use crate::gpu_descriptor_types::DescriptorDevice;
+use crate::gpu_descriptor_types::{DescriptorDevice, greatest_count};
 use crate::kit::alloc::Global;
 use crate::kit::marker::PhantomData;
 
@@ -54,8 +54,13 @@ impl<P> DescriptorBucket<P> {
     {
         self.take_from_existing(device, request, sink)
             .map_err(Stop::ExistingPoolWithoutMemory)?;
+        if sink.left == 0 {
+            return Ok(());
+        }
+        // Once for all new pools of the request, and not if it needs none.
+        let greatest_count = greatest_count(&request.key.counts);
         while sink.left > 0 {
-            self.take_from_new(device, request, budget, sink)?;
+            self.take_from_new(device, request, greatest_count, budget, sink)?;
         }
         Ok(())
     }

@@ -7,7 +7,7 @@ use crate::descriptor_lines::command::Command;
 use crate::descriptor_lines::device::LineDevice;
 use crate::descriptor_lines::layouts::Layout;
 use crate::descriptor_script::{Answer, Command as SessionCommand, Reply, ScriptLayout, Session};
-use crate::gpu_descriptor_types::{counts_of_sets, new_pool_sets};
+use crate::gpu_descriptor_types::{counts_of_sets, greatest_count, pool_sets_for_greatest};
 use crate::kit::alloc::AllocError;
 use crate::kit::string::String;
 use crate::kit::vec::Vec;
@@ -28,7 +28,7 @@ impl<D: LineDevice> Program<D> {
                 total,
                 wanted,
             } => {
-                let sets = new_pool_sets(&counts, total, wanted);
+                let sets = pool_sets_for_greatest(greatest_count(&counts), total, wanted);
                 answer::size_answer(answer, &counts_of_sets(&counts, sets), sets)
             }
             Command::Script { script } => self.load(script, answer),

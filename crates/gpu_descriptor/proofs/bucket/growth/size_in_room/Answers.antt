@@ -12,7 +12,7 @@ cut_size key room total wanted whole None marked is_whole is some = tt
 cut_size key room total wanted whole (Some n) marked is_whole is some = record { whole = whole; is_whole = is_whole; cut = rw marked is; some = some }
 
 pub returns-then-key-clause-sets : goal.returns-then-key-clause-sets
-returns-then-key-clause-sets c = cut_size c.args.key.now c.args.room c.args.total c.args.wanted c.new_pool_sets-sets.result c.cut_pool_sets.result c.if-key.true c.new_pool_sets-sets.ensures.sets c.cut_pool_sets.ensures.sets c.cut_pool_sets.ensures.some
+returns-then-key-clause-sets c = cut_size c.args.key.now c.args.room c.args.total c.args.wanted c.pool_sets_for_greatest-sets.result c.cut_pool_sets.result c.if-key.true (c.pool_sets_for_greatest-sets.ensures.sets (kinds c.args.key.now.counts) c.requires) c.cut_pool_sets.ensures.sets c.cut_pool_sets.ensures.some
 
 pub returns-else-key-clause-sets : goal.returns-else-key-clause-sets
-returns-else-key-clause-sets c = record { whole = c.new_pool_sets-sets.result; is_whole = c.new_pool_sets-sets.ensures.sets; cut = rw c.if-key.false refl; some = c.new_pool_sets-sets.ensures.some }
+returns-else-key-clause-sets c = record { whole = c.pool_sets_for_greatest-sets.result; is_whole = c.pool_sets_for_greatest-sets.ensures.sets (kinds c.args.key.now.counts) c.requires; cut = rw c.if-key.false refl; some = c.pool_sets_for_greatest-sets.ensures.some }
