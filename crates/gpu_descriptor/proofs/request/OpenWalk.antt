@@ -1,8 +1,8 @@
 -- The walk over the open pools: the pools between them have nothing to give.
 -- For `take_from_existing`: OpenWalk is the invariant of its loop, which asks the last pool of the list of open ones. front is that
 -- list without its last, place is where the last one's pool is; p is that pool before it is asked, and q after.
-use Rattle.gpu_descriptor.proofs.Common.{common_steps, ◌≡◌, ℕ, suc, ◌+◌, ◌-◌, ◌<◌, ◌≤◌, List, [], ◌∷◌, ◌++◌, length, min, slice_set, None, Some, Err, refl, sym, ap, ◌∙◌, arith, true, false, inl, inr, map, length-map, map-set, length-set, slice_get-map, slice_get_within, lt-ltb, cases_lt, cases_Bool, eqb-true, eqb-false, nat_eq, slice_get, option_map}
-use Rattle.gpu_descriptor.proofs.Common.{Ledger, Counters, DescriptorPool, DescriptorBucket, Item, Key, Entry, DeviceAllocationError, AreBookedIn, IsBookedIn, first_ordinal, free_in, open_ordinals, entry_of, IsAsked, IsNoMemory, IsTaken, items_at, rises, numbers_of}
+use Rattle.gpu_descriptor.proofs.Common.{common_steps, ◌≡◌, ℕ, suc, ◌+◌, ◌-◌, ◌<◌, ◌≤◌, List, [], ◌∷◌, ◌++◌, length, min, slice_set, None, Some, Err, refl, sym, ap, ◌∙◌, arith, true, false, inl, inr, map, length-map, map-set, length-set, slice_get-map, slice_get_within, lt-ltb, cases_lt, cases_Bool, eqb-true, eqb-false, nat_eq, slice_get, option_map, pool_refusals, and_from}
+use Rattle.gpu_descriptor.proofs.Common.{Ledger, Counters, DescriptorPool, DescriptorBucket, Item, Key, Entry, DeviceAllocationError, AreBookedIn, IsBookedIn, first_ordinal, free_in, open_ordinals, entry_of, IsAsked, IsRefused, IsTaken, items_at, rises, numbers_of}
 use Rattle.gpu_descriptor.specs.declared.bucket.stop.Stop.TheVariants.{ExistingPoolWithoutMemory}
 use Rattle.gpu_descriptor.proofs.table.Exact.{bucket}
 use Rattle.gpu_descriptor.proofs.lists.OpenList.{listed_closes, listed_stays}
@@ -110,8 +110,8 @@ module _ {P : Type 0} {name : P → ℕ} {k : Key} {n needed : ℕ} {out : List 
         walking = rw (put_is, id, pools, map-set (entry_of name) b.pools.items place q) (walk_more k n b.id place needed out old entries l m booked walk_reaches (entry_of name p) (entry_of name q) names m' needed' was asked less);
       }
 
-      pub open_walk_stop : {own : ℕ} {error : DeviceAllocationError} {m' : Ledger} → b.id ≡ own → entry_of name q ≡ entry_of name p → IsNoMemory needed (entry_of name p) error m m' → IsTaken (Err (ExistingPoolWithoutMemory error)) None k 0 n out (bucket own old) (bucket b.id (map (entry_of name) (slice_set b.pools.items place q))) l m'
-      open_walk_stop {own} {error} {m'} ids same none = rw (sym ids, map-set (entry_of name) b.pools.items place q) (walk_stop k 0 n b.id place needed out old entries l m m' (entry_of name p) (entry_of name q) error walk_reaches was entry_at_place same none)
+      pub open_walk_stop : {own : ℕ} {error : DeviceAllocationError} {m' : Ledger} → b.id ≡ own → entry_of name q ≡ entry_of name p → pool_refusals error ≡ 0 → IsRefused (ExistingPoolWithoutMemory error) m m' → IsTaken (Err (ExistingPoolWithoutMemory error)) None k 0 n out (bucket own old) (bucket b.id (map (entry_of name) (slice_set b.pools.items place q))) l m'
+      open_walk_stop {own} {error} {m'} ids same memory refused = rw (sym ids, map-set (entry_of name) b.pools.items place q) (walk_stop k 0 n b.id place needed out old entries l m m' (entry_of name p) (entry_of name q) error walk_reaches was entry_at_place same (and_from _ _ (lt-ltb 0 p.available (has_free b front place last p at)) (lt-ltb 0 needed some)) memory refused)
 
 pub open_walk_start : {P : Type 0} (name : P → ℕ) (k : Key) (n : ℕ) (b : DescriptorBucket P) (l : Ledger) → AreBookedIn k l.pools (map (entry_of name) b.pools.items) → OpenWalk name k n n [] (map (entry_of name) b.pools.items) b l l
 open_walk_start name k n b l booked = record {

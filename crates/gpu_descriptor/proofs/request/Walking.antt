@@ -1,8 +1,8 @@
 -- The walk over a key's pools, as far as it has come.
 -- For `walk`, by request.OpenWalk. Of n sets, `needed` are still needed; left is how many of the oldest pools weren't asked yet.
 -- old and l are the key's entries and the ledger before the walk, new and m those now; items are the sets that came.
-use Rattle.gpu_descriptor.proofs.Common.{common_steps, ◌≡◌, ℕ, zero, suc, ◌+◌, ◌<◌, ◌≤◌, List, [], ◌∷◌, ◌++◌, length, map, min, take, drop, slice_set, Bool, false, nat_lt, ◌&&◌, true, Option, None, Some, Err, refl, sym, ap, ◌∙◌, subst, arith, append-nil, drop_all, fun_ext, slice_get, Key, Entry}
-use Rattle.gpu_descriptor.proofs.Common.{Item, Pool, Ledger, DeviceAllocationError, set_at, items_of, Part, items_at, ledger_with, rest, all_shared, IsBookedIn, AreBookedIn, IsAsked, IsNoMemory, HasTaken, IsWalked, IsTaken, numbers_of, rises, slice_get_within}
+use Rattle.gpu_descriptor.proofs.Common.{common_steps, ◌≡◌, ℕ, zero, suc, ◌+◌, ◌<◌, ◌≤◌, List, [], ◌∷◌, ◌++◌, length, map, min, take, drop, slice_set, Bool, false, nat_lt, ◌&&◌, true, Option, None, Some, Err, refl, sym, ap, ◌∙◌, subst, arith, append-nil, drop_all, fun_ext, slice_get, Key, Entry, pool_refusals}
+use Rattle.gpu_descriptor.proofs.Common.{Item, Pool, Ledger, DeviceAllocationError, set_at, items_of, Part, items_at, ledger_with, rest, all_shared, IsBookedIn, AreBookedIn, IsAsked, IsRefused, HasTaken, IsWalked, IsTaken, numbers_of, rises, slice_get_within}
 use Rattle.gpu_descriptor.specs.declared.bucket.stop.Stop.TheVariants.{ExistingPoolWithoutMemory}
 use Rattle.std.proofs.Math.Seq.{take-length}
 use Rattle.gpu_descriptor.proofs.table.Exact.{bucket}
@@ -78,9 +78,9 @@ pub walk_end : {k : Key} {n id own needed : ℕ} {items : List Item} {old new : 
 walk_end ids s = rw (sym ids) (record { grant = so_far _ 0 s.refused s.parts; all = refl; no_fresh = refl; wants = s.wants; taken = s.taken })
 
 pub walk_stop : (k : Key) (room n id i needed : ℕ) (items : List Item) (old new : List Entry) (l m m' : Ledger) (e f : Entry) (error : DeviceAllocationError)
-    → Walking k n id (suc i) needed items old new l m → slice_get old i ≡ Some e → slice_get new i ≡ Some e → f ≡ e → IsNoMemory needed e error m m'
+    → Walking k n id (suc i) needed items old new l m → slice_get old i ≡ Some e → slice_get new i ≡ Some e → f ≡ e → nat_lt 0 e.available && nat_lt 0 needed ≡ true → pool_refusals error ≡ 0 → IsRefused (ExistingPoolWithoutMemory error) m m'
     → IsTaken (Err (ExistingPoolWithoutMemory error)) None k room n items (bucket id old) (bucket id (slice_set new i f)) l m'
-walk_stop k room n id i needed items old new l m m' e f error s was is same none = (
+walk_stop k room n id i needed items old new l m m' e f error s was is same asked memory refused = (
   so_far id (suc i) s.refused s.parts,
   m,
   subst (λ (es : List Entry). HasTaken k n (so_far id (suc i) s.refused s.parts) items (bucket id old) (bucket id es) l m) (sym (ap (slice_set new i) same ∙ set_same new i e is)) s.taken,
@@ -91,10 +91,10 @@ walk_stop k room n id i needed items old new l m m' e f error s was is same none
     here = split_at old i e was;
     skipped = (let long = long_take old i e was in omega arith);
     no_fresh = refl;
-    asked = ap (λ w. nat_lt 0 e.available && nat_lt 0 w) (sym s.wants) ∙ none.asked;
-    memory = none.memory;
+    asked = ap (λ w. nat_lt 0 e.available && nat_lt 0 w) (sym s.wants) ∙ asked;
+    memory = memory;
   },
-  none.refused,
+  refused,
 )
 
 -- older pools that have nothing, or of which nothing is wanted, are left as they are

@@ -1,5 +1,5 @@
 -- Sets of the allocator, as the code has them and as the books see them.
-use Rattle.std.specs.Prelude.{ℕ, List, map, drop, All}
+use Rattle.std.specs.Prelude.{ℕ, List, map, All}
 use Rattle.gpu_descriptor_types.specs.Meaning.{Meaning, IsOfLayout}
 use Rattle.gpu_descriptor.specs.declared.set.DescriptorSet.{DescriptorSet}
 use Rattle.gpu_descriptor.specs.Model.Agreement.{Item}
@@ -24,7 +24,3 @@ module _ {S : Type 0} where
   -- each has a raw set that was made with the layout
   abbrev pub AreOfLayout : {L P : Type 0} → Meaning L P S → L → List (DescriptorSet S) → Type 0
   AreOfLayout means layout xs = All (λ x. IsOfLayout means layout x.raw) xs
-
-  -- if a list was made with the layout from a place on, then with what was appended it still is
-  abbrev pub PutsOfLayout : {L P : Type 0} → Meaning L P S → L → List (DescriptorSet S) → List (DescriptorSet S) → Type 0
-  PutsOfLayout means layout old new = (first : ℕ) → AreOfLayout means layout (drop first old) → AreOfLayout means layout (drop first new)

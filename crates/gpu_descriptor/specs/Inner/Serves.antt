@@ -15,7 +15,7 @@ use Rattle.gpu_descriptor.specs.declared.bucket.stop.Stop.{Stop}
 use Rattle.gpu_descriptor.specs.Model.Books.{Key, key_eq, Bucket, BucketOf, next_number, sum_over}
 use Rattle.gpu_descriptor.specs.Caller.Keys.{with_key}
 use Rattle.gpu_descriptor.specs.Caller.SetLists.{appended}
-use Rattle.gpu_descriptor.specs.Caller.Sets.{PutsOfLayout, items_of}
+use Rattle.gpu_descriptor.specs.Caller.Sets.{AreOfLayout, items_of}
 use Rattle.gpu_descriptor.specs.Caller.States.{outstanding_of, marked_load_of, pool_load_of}
 use Rattle.gpu_descriptor.specs.Caller.Values.{Allocations}
 use Rattle.gpu_descriptor.specs.Inner.Walk.{CountsLooks}
@@ -28,7 +28,7 @@ module _ {L P S : Type 0} (means : Meaning L P S) where
     -- what was in the list stays, in front
     pub front : new ≡ old ++ appended old new
     -- those that were appended were made with the layout
-    pub own : PutsOfLayout means layout old new
+    pub own : AreOfLayout means layout (appended old new)
     pub rest : length (appended old new) + left ≡ count
 
   module _ (bound : Option ℕ) (k : Key) (room count : ℕ) (sets : List (DescriptorSet S)) (ended : Result (Unit {0}) Stop) where

@@ -1,9 +1,7 @@
 -- How a request walks over a key's pools, in terms of the books.
 use Rattle.std.specs.Prelude.{if◌then◌else◌, ◌≡◌, ℕ, ◌+◌, ◌-◌, ◌&&◌, ◌⊎◌, Bool, true, false, nat_lt, min, List, [], length, Option, None}
-use Rattle.gpu_descriptor_types.specs.Ledger.{Ledger, Pool, live_sets, on_pool, pool_refusals, no_rise}
+use Rattle.gpu_descriptor_types.specs.Ledger.{Ledger, Pool, live_sets, on_pool, no_rise}
 use Rattle.gpu_descriptor.specs.declared.bucket.stop.Stop.{Stop}
-use Rattle.gpu_descriptor.specs.declared.bucket.stop.Stop.TheVariants as stop
-use Rattle.gpu_descriptor_types.specs.declared.errors.DeviceAllocationError.{DeviceAllocationError}
 use Rattle.gpu_descriptor.specs.Model.Books.{Key, Entry, Bucket, numbers_of, rises}
 use Rattle.gpu_descriptor.specs.Model.Agreement.{Item, count_of, live_at}
 use Rattle.gpu_descriptor.specs.Model.Shares.{rest}
@@ -31,12 +29,6 @@ pub record IsAsked (k : Key) (wanted : ℕ) (names : List ℕ) (old new : Entry)
 pub record IsRefused (why : Stop) (before after : Ledger) : Type 0 where
   pub pools : after.pools ≡ before.pools
   pub counters : after.counters ≡ risen (stop_rise why) before.counters
-
--- a pool that was asked returned an error of memory
-pub record IsNoMemory (wanted : ℕ) (e : Entry) (error : DeviceAllocationError) (before after : Ledger) : Type 0 where
-  pub asked : nat_lt 0 e.available && nat_lt 0 wanted ≡ true
-  pub memory : pool_refusals error ≡ 0
-  pub refused : IsRefused (stop.ExistingPoolWithoutMemory error) before after
 
 -- items came to a key's pools: these are in the ledger as the books say again, and exactly the items are live in addition
 pub record Adds (k : Key) (items : List Item) (old new : Bucket) (before after : ℕ → Option Pool) : Type 0 where

@@ -1,10 +1,12 @@
 //! How a request takes sets from the existing pools of its key.
 ghost use Rattle.std.specs.Prelude.{◌≡◌, ◌+◌, ◌-◌, ◌<◌, ◌≤◌, ◌++◌, ◌∷◌, ◌^◌, List, [], length, map, take};
-ghost use Rattle.std.specs.Prelude.{IfErr, IfNone, IfSome, OnOk, Err, None, false, true};
+ghost use Rattle.std.specs.Prelude.{All, IfErr, IfNone, IfSome, OnOk, Err, None, false, true};
 ghost use Rattle.std.specs.VecDeque.{deque_capacity};
+ghost use Rattle.gpu_descriptor_types.specs.Ledger.{pool_refusals};
+ghost use Rattle.gpu_descriptor_types.specs.Meaning.{IsOfLayout};
 ghost use Rattle.gpu_descriptor.specs.declared.bucket.stop.Stop.TheVariants.{ExistingPoolWithoutMemory};
 ghost use Rattle.gpu_descriptor.specs.Caller.SetLists.{appended};
-ghost use Rattle.gpu_descriptor.specs.Caller.Sets.{PutsOfLayout, items_of};
+ghost use Rattle.gpu_descriptor.specs.Caller.Sets.{items_of};
 ghost use Rattle.gpu_descriptor.specs.Caller.States.{entry_of};
 ghost use Rattle.gpu_descriptor.specs.Inner.Buckets.{AreBookedIn};
 ghost use Rattle.gpu_descriptor.specs.Inner.Grow.{IsTaken};
@@ -13,7 +15,7 @@ ghost use Rattle.gpu_descriptor.specs.Inner.OpenOrdinals.{first_ordinal};
 ghost use Rattle.gpu_descriptor.specs.Inner.Serves.{Appends};
 ghost use Rattle.gpu_descriptor.specs.Inner.SetAt.{set_at};
 ghost use Rattle.gpu_descriptor.specs.Inner.Stored.{bucket_of};
-ghost use Rattle.gpu_descriptor.specs.Inner.Walk.{CountsLooks, IsAsked, IsNoMemory, IsWalked};
+ghost use Rattle.gpu_descriptor.specs.Inner.Walk.{CountsLooks, IsAsked, IsRefused, IsWalked};
 ghost use Rattle.gpu_descriptor.specs.Model.Agreement.{IsBookedIn};
 ghost use Rattle.gpu_descriptor.specs.Model.Books.{numbers_of};
 ghost use Rattle.gpu_descriptor.specs.Model.Load.{pools_load};
@@ -46,17 +48,16 @@ fn ask<L, P, S, D: DescriptorDevice<L, P, S>, K: SetPlaces<S>>(
         sink.old.id sink.old.number) put) × (sink.new.left + length put ≡ sink.old.left) ×
         IsAsked (key_of request.now.key) sink.old.left (map D.meaning.set_name put)
         (entry_of D.meaning.pool_name pool.old) (entry_of D.meaning.pool_name pool.new)
-        (D.ledger device.old) (D.ledger device.new)) }
-    ensures own { PutsOfLayout D.meaning request.now.layout.now (K.items sink.old.sets)
-        (K.items sink.new.sets) }
+        (D.ledger device.old) (D.ledger device.new) ×
+        All (IsOfLayout D.meaning request.now.layout.now) put) }
     ensures number { pool.new.number ≡ pool.old.number }
     ensures capacity { pool.new.capacity ≡ pool.old.capacity }
     ensures left { sink.new.left ≤ sink.old.left }
     ensures allocated { pool.new.allocated + sink.new.left ≡ pool.old.allocated + sink.old.left }
     ensures err { IfErr result (λ e. (K.items sink.new.sets ≡ K.items sink.old.sets) ×
         (sink.new.left ≡ sink.old.left) × (entry_of D.meaning.pool_name pool.new
-        ≡ entry_of D.meaning.pool_name pool.old) × IsNoMemory sink.old.left
-        (entry_of D.meaning.pool_name pool.old) e (D.ledger device.old) (D.ledger device.new)) }
+        ≡ entry_of D.meaning.pool_name pool.old) × (pool_refusals e ≡ 0) ×
+        IsRefused (ExistingPoolWithoutMemory e) (D.ledger device.old) (D.ledger device.new)) }
 {
     let count = sink.left.min(pool.available);
     match device.alloc_descriptor_sets(&mut pool.pool, Layouts::new(request.layout, count), sink) {

@@ -4,8 +4,8 @@ ghost use Rattle.std.specs.Prelude.{All, IfErr, IfSome, IfNone, None, OnOk};
 ghost use Rattle.std.specs.VecDeque.{deque_capacity};
 ghost use Rattle.gpu_descriptor_types.specs.Counts.{greatest, kinds};
 ghost use Rattle.gpu_descriptor_types.specs.Flags.{bits, pool_flags as pool_flags_of};
+ghost use Rattle.gpu_descriptor_types.specs.Meaning.{IsOfLayout};
 ghost use Rattle.gpu_descriptor_types.specs.PoolSize.{greatest_pool_size};
-ghost use Rattle.gpu_descriptor.specs.Caller.Sets.{PutsOfLayout};
 ghost use Rattle.gpu_descriptor.specs.Inner.Grow.{IsGrown};
 ghost use Rattle.gpu_descriptor.specs.Inner.KeyOf.{key_of};
 ghost use Rattle.gpu_descriptor.specs.Inner.Walk.{CountsLooks};
@@ -113,9 +113,7 @@ impl<P> DescriptorBucket<P> {
             IsGrown budget.old.bound (key_of request.now.key) budget.old.room budget.new.room
             self.old.total sink.old.left (map D.meaning.set_name put) (bucket_of D.meaning.pool_name self.old).pools
             (bucket_of D.meaning.pool_name self.new).pools (D.ledger device.old)
-            (D.ledger device.new)) }
-        ensures own { PutsOfLayout D.meaning request.now.layout.now (K.items sink.old.sets)
-            (K.items sink.new.sets) }
+            (D.ledger device.new) × All (IsOfLayout D.meaning request.now.layout.now) put) }
         ensures err { IfErr result (λ stop.
             (K.items sink.new.sets ≡ K.items sink.old.sets)
             × (sink.new.left ≡ sink.old.left)

@@ -3,7 +3,6 @@ use Rattle.gpu_descriptor.specs.Caller.SetLists.{appended}
 use Rattle.gpu_descriptor.specs.Caller.States.{keys_of}
 use Rattle.gpu_descriptor.proofs.request.Outcomes.{taken_given}
 use Rattle.gpu_descriptor.proofs.request.HandedOut.{hands_all, hands_back, hands_none}
-use Rattle.gpu_descriptor.proofs.request.OwnLayout.{own_behind}
 use Rattle.gpu_descriptor.proofs.allocator.DescriptorAllocator.fill.Goals.{After-free_after, In-Ok}
 use Rattle.gpu_descriptor.proofs.callers.Unchanged.{keeps_through}
 use Rattle.gpu_descriptor.proofs.allocator.DescriptorAllocator.fill.Goals as goal
@@ -82,7 +81,7 @@ returns-in-Ok-ended-clause-appends g c =
     record {
       hands_out = hands_all (came g r) (taken g r) c.requires.agree (gained g r) c.in-Ok.ensures.looks c.in-Ok.ensures.comparisons_stay c.requires.some c.in-Ok-ended.is;
       front = front g r;
-      own = subst (AreOfLayout g.D.DescriptorDevice.meaning c.args.request.now.layout.now) (is_put g r) (own_behind g.D.DescriptorDevice.meaning c.args.request.now.layout.now c.in-Ok.ensures.appends.own);
+      own = subst (AreOfLayout g.D.DescriptorDevice.meaning c.args.request.now.layout.now) (is_put g r) c.in-Ok.ensures.appends.own;
       sets_stay = tt;
     }
 

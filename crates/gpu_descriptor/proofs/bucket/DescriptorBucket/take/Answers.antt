@@ -63,7 +63,7 @@ loop-sink-preserved g c =
     let long = long_more inv.appends key c.loop-sink.self.id number got.0 got.1 in
     let numbered : number_after (numbers_of new) ≡ number = ap number_after (numbers_stored g.D.DescriptorDevice.meaning.pool_name items) in
     record {
-      appends = appends_more inv.appends key c.loop-sink.self.id number got.0 got.1 got.2 c.in_ok-take_from_new.ensures.own;
+      appends = appends_more inv.appends key c.loop-sink.self.id number got.0 got.1 got.2 got.5;
       total = (let a = inv.total in let b = got.3 in omega arith);
       id_stays = c.in_ok-take_from_new.ensures.id_stays ∙ inv.id_stays;
       numbers = (

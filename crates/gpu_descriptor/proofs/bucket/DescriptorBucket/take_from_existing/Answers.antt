@@ -1,10 +1,9 @@
-use Rattle.gpu_descriptor.proofs.Common.{◌≡◌, ℕ, ◌+◌, ◌-◌, ◌∷◌, List, [], length, length-append, length-map, length-set, append-nil, take, slice_get, slice_set, slice_get_read, Some, refl, sym, ap, ◌∙◌, arith, inl, inr, nat_eq, cases_Bool, eqb-false, DescriptorPool, DescriptorSet, Entry, key_of, first_ordinal, number_after, numbers_of, pools_load, rises}
+use Rattle.gpu_descriptor.proofs.Common.{◌≡◌, ℕ, ◌+◌, ◌-◌, ◌∷◌, List, [], length, length-append, length-map, length-set, append-nil, take, slice_get, slice_set, slice_get_read, Some, refl, sym, ap, ◌∙◌, arith, inl, inr, nat_eq, cases_Bool, eqb-false, DescriptorPool, DescriptorSet, Entry, key_of, first_ordinal, number_after, numbers_of, pools_load, rises, All-nil}
 use Rattle.std.proofs.lemmas.List.Sums.{sum_by-set}
 use Rattle.gpu_descriptor.specs.Caller.SetLists.{appended}
-use Rattle.gpu_descriptor.specs.Caller.Sets.{PutsOfLayout}
 use Rattle.gpu_descriptor.proofs.lists.Appended.{appended_is, front_stays}
 use Rattle.gpu_descriptor.proofs.request.OpenWalk.{inside, has_free, numbers_now, first_now, listed_now, open_walk_start, open_walk_more, open_walk_stop, walk_sated, walk_empty, next_is_booked, one_asked}
-use Rattle.gpu_descriptor.proofs.request.OwnLayout.{appends_more, items_behind, long_more, none_own}
+use Rattle.gpu_descriptor.proofs.request.OwnLayout.{appends_more, items_behind, long_more}
 use Rattle.gpu_descriptor.proofs.request.Passed.{passed}
 use Rattle.gpu_descriptor.proofs.request.Walking.{walk_end}
 use Rattle.gpu_descriptor.proofs.sums.PoolLoads.{stored_put}
@@ -16,7 +15,7 @@ loop-sink-init g c =
     let was : List (DescriptorSet g.row.S.Denot) = g.K.SetPlaces.items c.args.sink.now.sets in
     let none : appended was was ≡ [] = appended_is was [] (sym (append-nil was)) in
     record {
-      appends = record { front = front_stays was [] (sym (append-nil was)); own = λ first before. before; rest = rw none (let left = c.requires.left in omega arith) };
+      appends = record { front = front_stays was [] (sym (append-nil was)); own = rw none (All-nil _); rest = rw none (let left = c.requires.left in omega arith) };
       id_stays = refl;
       numbers_stay = refl;
       total = rw none (omega arith);
@@ -101,10 +100,9 @@ loop-sink-preserved g c =
     let name = g.D.DescriptorDevice.meaning.set_name in
     let aim = c.aim.ensures in
     let got = rw (aim.sets, aim.left, aim.key, aim.id, aim.number) at c.in_ok-asked.ensures.asked in
-    let own : PutsOfLayout g.D.DescriptorDevice.meaning c.args.request.now.layout.now (g.K.SetPlaces.items c.loop-sink.sink.sets) (g.K.SetPlaces.items c.ask-asked.new.sink.sets) = λ first before. c.in_ok-asked.ensures.own first (none_own g.D.DescriptorDevice.meaning c.args.request.now.layout.now (ap g.K.SetPlaces.items aim.sets) first before) in
     let asked_one = one_asked c.requires.booked inv.walk c.loop-sink-test.true _ _ c.in-Some.ensures.last p (at g r) c.ask-asked.new.pool got.3 in
     record {
-      appends = appends_more inv.appends (key_of c.args.request.now.key) b.id p.number got.0 got.1 got.2 own;
+      appends = appends_more inv.appends (key_of c.args.request.now.key) b.id p.number got.0 got.1 got.2 got.4;
       id_stays = inv.id_stays;
       numbers_stay = same g r c.ask-asked.new.pool c.in_ok-asked.ensures.number ∙ inv.numbers_stay;
       total = (let a = inv.total in let long = long_more inv.appends (key_of c.args.request.now.key) b.id p.number got.0 got.1 in let less = got.2 in let came = c.from.ensures in omega arith);
@@ -122,7 +120,7 @@ returns-in_err-asked-clause-stopped g c =
     let aim = c.aim.ensures in
     let err = rw (aim.sets, aim.left) at c.in_err-asked.ensures.err in
     rw (passed c.from_residual.result c.in_err-asked.field-0.0 c.from_residual.ensures.1, err.0)
-    (open_walk_stop c.requires.booked inv.walk c.loop-sink-test.true _ _ c.in-Some.ensures.last _ (at g r) c.ask-asked.new.pool inv.id_stays err.2 err.3)
+    (open_walk_stop c.requires.booked inv.walk c.loop-sink-test.true _ _ c.in-Some.ensures.last _ (at g r) c.ask-asked.new.pool inv.id_stays err.2 err.3 err.4)
 
 pub returns-in_err-asked-clause-numbers_stay : goal.returns-in_err-asked-clause-numbers_stay
 returns-in_err-asked-clause-numbers_stay g c = same g (goal.at.returns-in_err-asked-clause-numbers_stay g c).After-index_mut-pool c.ask-asked.new.pool c.in_err-asked.ensures.number ∙ c.loop-sink.invariant.numbers_stay

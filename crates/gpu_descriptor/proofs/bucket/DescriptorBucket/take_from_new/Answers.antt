@@ -1,9 +1,8 @@
-use Rattle.gpu_descriptor.proofs.Common.{common_steps, ◌≡◌, ℕ, ◌+◌, ◌-◌, ◌≤◌, ◌++◌, List, [], ◌∷◌, length, map, min, refl, sym, ap, ◌∙◌, subst, arith, length-map, map-append, Some, Ledger, after_alloc, after_create, after_destroy, live_sets, HasNoSets, fresh, pool_counts, DescriptorPool, Entry, Key}
+use Rattle.gpu_descriptor.proofs.Common.{common_steps, ◌≡◌, ℕ, ◌+◌, ◌-◌, ◌≤◌, ◌++◌, List, [], ◌∷◌, length, map, min, refl, sym, ap, ◌∙◌, subst, arith, length-map, map-append, Some, Ledger, after_alloc, after_create, after_destroy, live_sets, HasNoSets, fresh, pool_counts, DescriptorPool, Entry, Key, All, IsOfLayout}
 use Rattle.gpu_descriptor.proofs.Common.{flags_of, key_of, set_at, number_after, numbers_of, pool_descriptors, entry_of}
 use Rattle.gpu_descriptor.specs.declared.bucket.stop.Stop.TheVariants as stop
 use Rattle.gpu_descriptor.proofs.release.StoredNumbers.{numbers_stored}
 use Rattle.gpu_descriptor.proofs.request.NextSize.{one_fits}
-use Rattle.gpu_descriptor.proofs.request.OwnLayout.{none_own, put_own}
 use Rattle.gpu_descriptor.proofs.request.Asks.{same_entry}
 use Rattle.gpu_descriptor.proofs.request.PoolCreated.{created_at, fresh_room, no_sets, grown, not_grown, not_created, none_asked, had_room, create_asked, alloc_asked}
 use Rattle.gpu_descriptor.proofs.bucket.DescriptorBucket.take_from_new.Goals.{In-Ok, In-Ok-alloc_descriptor_sets}
@@ -102,6 +101,7 @@ returns-in-Ok-alloc_descriptor_sets-clause-grown g c =
       grown c.args.budget.now.bound (key g d) c.args.budget.now.room _ c.args.self.now.total c.args.sink.now.left (size g d) (name g d) c.next_number-number.result
           names old new (before g d) (created g d) m' c.in-Some.ensures.sets
           (let fits = c.in-Some.ensures.room.0 in let load = c.marked_descriptors_of_pool.ensures in omega arith) long c.in-Ok.ensures.new_name (made g d) is numbered now,
+      subst (λ l. All (IsOfLayout g.D.DescriptorDevice.meaning l) put.sets) c.new.ensures.layout put.own,
     )
 
 pub returns-then-is_err-clause-err : goal.returns-then-is_err-clause-err
@@ -142,19 +142,6 @@ marked_descriptors_of_pool-requires g c = c.in-Some.ensures.room.1
 
 pub overflow_sub-budget : goal.overflow_sub-budget
 overflow_sub-budget g c = (let fits = c.in-Some.ensures.room.0 in let load = c.marked_descriptors_of_pool.ensures in omega arith)
-
-pub returns-in-Ok-alloc_descriptor_sets-clause-own : goal.returns-in-Ok-alloc_descriptor_sets-clause-own
-returns-in-Ok-alloc_descriptor_sets-clause-own g c =
-    let put = c.in-Ok-alloc_descriptor_sets.ensures.ok in
-    λ first before.
-    put_own g.D.DescriptorDevice.meaning c.args.request.now.layout.now (g.K.SetPlaces.items c.aim.new.self.sets)
-    (key_of c.aim.new.self.key.now) c.aim.new.self.id c.aim.new.self.number put.sets c.new.ensures.layout put.kept
-    put.own first
-    (none_own g.D.DescriptorDevice.meaning c.args.request.now.layout.now (ap g.K.SetPlaces.items c.aim.ensures.sets)
-    first before)
-
-pub returns-in-Err-alloc_descriptor_sets-clause-own : goal.returns-in-Err-alloc_descriptor_sets-clause-own
-returns-in-Err-alloc_descriptor_sets-clause-own g c = none_own g.D.DescriptorDevice.meaning c.args.request.now.layout.now (c.in-Err-alloc_descriptor_sets.ensures.err.kept ∙ ap g.K.SetPlaces.items c.aim.ensures.sets)
 
 pub returns-in_default-clause-err : goal.returns-in_default-clause-err
 returns-in_default-clause-err g c =

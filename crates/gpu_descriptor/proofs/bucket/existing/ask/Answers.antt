@@ -1,6 +1,5 @@
-use Rattle.gpu_descriptor.proofs.Common.{◌≡◌, ℕ, ◌+◌, ◌-◌, ◌<◌, ◌≤◌, List, [], length, map, refl, sym, ap, ◌∙◌, subst, arith, min, length-map, append-nil, if◌then◌else◌, Ledger, after_alloc, live_sets, pool_refusals, Entry, Key, key_of, entry_of, IsBookedIn, IsAsked}
+use Rattle.gpu_descriptor.proofs.Common.{◌≡◌, ℕ, ◌+◌, ◌-◌, ◌<◌, ◌≤◌, List, [], length, map, refl, sym, ap, ◌∙◌, subst, arith, min, length-map, append-nil, if◌then◌else◌, Ledger, after_alloc, live_sets, pool_refusals, Entry, Key, key_of, entry_of, IsBookedIn, IsAsked, All, All-nil, IsOfLayout}
 use Rattle.gpu_descriptor.proofs.request.PlacesFree.{can_give}
-use Rattle.gpu_descriptor.proofs.request.OwnLayout.{put_own, none_own}
 use Rattle.gpu_descriptor.proofs.request.Asks.{same_entry, given, refuses}
 use Rattle.gpu_descriptor.proofs.bucket.existing.ask.Goals as goal
 
@@ -31,7 +30,7 @@ returns-in-Ok-clause-asked g c =
     ≡ entry_of g.D.DescriptorDevice.meaning.pool_name (record { pool = c.alloc_descriptor_sets.new.pool; number = c.args.pool.now.number; capacity = c.args.pool.now.capacity; allocated = c.args.pool.now.allocated + c.min-count.result; available = c.args.pool.now.available - c.min-count.result })
     = same_entry _ _ refl (sym c.in-Ok.ensures.name) refl (omega arith) (omega arith) in
     let room : c.alloc_descriptor_sets.new.sets.left + length put.sets ≡ c.args.sink.now.left = (let r = put.room in let n = c.new.ensures.left in omega arith) in
-    (put.sets, put.kept, room, subst (λ (f : Entry). IsAsked key c.args.sink.now.left names e f l m) now was)
+    (put.sets, put.kept, room, subst (λ (f : Entry). IsAsked key c.args.sink.now.left names e f l m) now was, subst (λ l. All (IsOfLayout g.D.DescriptorDevice.meaning l) put.sets) c.new.ensures.layout put.own)
 
 pub returns-then-is_of_pool-clause-asked : goal.returns-then-is_of_pool-clause-asked
 returns-then-is_of_pool-clause-asked g c =
@@ -46,10 +45,4 @@ returns-then-is_of_pool-clause-asked g c =
     let was = refuses key c.args.sink.now.left c.in-Err.error e l m some of_pool err.ledger in
     let now : record e { available = 0 }
     ≡ entry_of g.D.DescriptorDevice.meaning.pool_name (record { pool = c.alloc_descriptor_sets.new.pool; number = c.args.pool.now.number; capacity = c.args.pool.now.capacity; allocated = c.args.pool.now.allocated; available = 0 }) = same_entry _ _ refl (sym c.in-Err.ensures.name) refl refl refl in
-    ([], err.kept ∙ sym (append-nil (g.K.SetPlaces.items c.args.sink.now.sets)), (let left = err.room in omega arith), subst (λ (f : Entry). IsAsked key c.args.sink.now.left [] e f l m) now was)
-
-pub returns-in-Ok-clause-own : goal.returns-in-Ok-clause-own
-returns-in-Ok-clause-own g c = (let put = c.in-Ok.ensures.ok in put_own g.D.DescriptorDevice.meaning c.args.request.now.layout.now (g.K.SetPlaces.items c.args.sink.now.sets) (key_of c.args.sink.now.key.now) c.args.sink.now.id c.args.sink.now.number put.sets c.new.ensures.layout put.kept put.own)
-
-pub returns-then-is_of_pool-clause-own : goal.returns-then-is_of_pool-clause-own
-returns-then-is_of_pool-clause-own g c = none_own g.D.DescriptorDevice.meaning c.args.request.now.layout.now c.in-Err.ensures.err.kept
+    ([], err.kept ∙ sym (append-nil (g.K.SetPlaces.items c.args.sink.now.sets)), (let left = err.room in omega arith), subst (λ (f : Entry). IsAsked key c.args.sink.now.left [] e f l m) now was, All-nil _)
