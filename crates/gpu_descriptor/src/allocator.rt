@@ -46,7 +46,7 @@ impl<P, S> Model for DescriptorAllocator<P, S> {
     ghost Value = { Allocations P };
 
     ghost use Rattle.std.specs.Prelude.{map};
-    ghost use Rattle.gpu_descriptor.specs.Inner.Stored.{row_of, IsCounted};
+    ghost use Rattle.gpu_descriptor.specs.Inner.Stored.{row_of, IsConsistent};
 
     ghost view = { λ a. record {
       limit = a.max_update_after_bind_descriptors_in_all_pools;
@@ -58,7 +58,7 @@ impl<P, S> Model for DescriptorAllocator<P, S> {
 
     // The totals are the sums over the table, so no reader walks it. The marked load is within the limit,
     // so a marked layout without descriptors passes the test, as in the original crate.
-    ghost invariant = { λ a. IsCounted a.max_update_after_bind_descriptors_in_all_pools
+    ghost invariant = { λ a. IsConsistent a.max_update_after_bind_descriptors_in_all_pools
         a.update_after_bind_descriptors a.budget.room a.outstanding a.table.buckets.entries };
 }
 

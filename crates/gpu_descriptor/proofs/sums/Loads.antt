@@ -5,7 +5,6 @@ use Rattle.gpu_descriptor.proofs.Common.{◌≡◌, ℕ, ◌+◌, ◌-◌, ◌*�
 use Rattle.gpu_descriptor.proofs.Common.{sum_over, key_of, Allocations, common_steps, bucket_load, descriptors_out, set_descriptors, sets_out, marked_descriptors, items_of, outstanding_of, marked_load_of, AllByRecursion, kept_in, row_of, pools_load, IsConsistent, none-some}
 use Rattle.indexmap.specs.Layout.{set_value_at}
 use Rattle.gpu_descriptor.specs.Inner.RunSteps.{lies_at}
-use Rattle.gpu_descriptor.specs.Inner.Stored.{IsCounted}
 use Rattle.gpu_descriptor.proofs.sums.TableSums.{sum_map}
 use Rattle.gpu_descriptor.proofs.release.WholeRun.{at_parts}
 use Rattle.gpu_descriptor.proofs.table.RowAt.{IsAt}
@@ -22,16 +21,6 @@ set_descriptors-le k m n le = grind arith
 -- a set has each
 pub set_descriptors-each : (k : Key) (n each : ℕ) → each ≡ set_descriptors k 1 → n * each ≡ set_descriptors k n
 set_descriptors-each k n each is = ap (λ m. n * m) is ∙ elim (cases_Bool k.marked) [ inl on ↦ rw on (grind arith) | inr off ↦ rw off (omega arith) ]
-
--- the allocator's invariant, opened and closed
-module _ {P : Type 0} {limit marked room out : ℕ} {es : List (BucketKey × DescriptorBucket P)} where
-  pub opened : IsCounted limit marked room out es → IsConsistent limit marked room out es
-  unfolding IsCounted
-  opened counted = counted
-
-  pub closed : IsConsistent limit marked room out es → IsCounted limit marked room out es
-  unfolding IsCounted
-  closed counted = counted
 
 -- a sum over all rows, once the value at a place is another
 pub sum_put : {A B : Type 0} (f : A × B → ℕ) (es : List (A × B)) (i : ℕ) (k : A) (v w : B) → slice_get es i ≡ Some (k, v) → (f (k, v) ≤ sum_by f es) × (sum_by f (set_value_at es i w) + f (k, v) ≡ sum_by f es + f (k, w))

@@ -28,10 +28,6 @@ module _ {P : Type 0} where
     pub is_room : room + sum_over bucket_load (map row_of table) ≡ limit
     pub is_out : out ≡ sum_over sets_out (map row_of table)
 
-  -- the same, closed: the search of a caller that drops an allocator doesn't go through its sums
-  unfoldable pub IsCounted : (limit marked room out : ℕ) → List (BucketKey × DescriptorBucket P) → Type 0
-  IsCounted limit marked room out table = IsConsistent limit marked room out table
-
   -- a stored bucket in the books, with the device's names for its pools
   abbrev pub bucket_of : (P → ℕ) → DescriptorBucket P → Bucket
   bucket_of name b = named_bucket name (kept_in b)

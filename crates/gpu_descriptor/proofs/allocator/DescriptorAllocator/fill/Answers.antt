@@ -49,9 +49,6 @@ returned g c =
     (side c.free_after.new.allocator (g.D.DescriptorDevice.ledger c.free_after.new.device)))
     c.count-first.ensures c.free_after.ensures.returns
 
-pub free_after-requires-clause-agree : goal.free_after-requires-clause-agree
-free_after-requires-clause-agree g c = c.in-Ok.ensures.keeps.agree
-
 pub free_after-requires-clause-outstanding : goal.free_after-requires-clause-outstanding
 free_after-requires-clause-outstanding g c =
     subst
@@ -85,10 +82,6 @@ returns-in-Ok-ended-clause-appends g c =
       sets_stay = tt;
     }
 
-pub returns-in-Ok-ended-clause-keeps : goal.returns-in-Ok-ended-clause-keeps
-returns-in-Ok-ended-clause-keeps g c =
-    c.in-Ok.ensures.keeps
-
 pub returns-in-Err-ended-clause-appends : goal.returns-in-Err-ended-clause-appends
 returns-in-Err-ended-clause-appends g c =
     let r = (goal.at.returns-in-Err-ended-clause-appends g c).In-Ok in
@@ -99,11 +92,3 @@ returns-in-Err-ended-clause-appends g c =
       own = tt;
       sets_stay = c.free_after.ensures.items ∙ ap (take c.count-first.result) (front g r) ∙ take_at (g.K.SetPlaces.items c.args.sets) (came g r) c.count-first.result (sym c.count-first.ensures);
     }
-
-pub returns-in-Err-ended-clause-keeps : goal.returns-in-Err-ended-clause-keeps
-returns-in-Err-ended-clause-keeps g c =
-    keeps_through c.in-Ok.ensures.keeps c.free_after.ensures.keeps
-
-pub returns-in-Err-clause-keeps : goal.returns-in-Err-clause-keeps
-returns-in-Err-clause-keeps g c =
-    c.in-Err.ensures.keeps

@@ -1,6 +1,5 @@
 use Rattle.gpu_descriptor.proofs.Common.{◌∙◌, Some}
 use Rattle.std.proofs.Common.{rules}
-use Rattle.gpu_descriptor.proofs.sums.Loads.{opened}
 use Rattle.gpu_descriptor.proofs.foreign.OthersStay.{freed_others}
 use Rattle.gpu_descriptor.proofs.request.Requested.{load_within, pool_load_within, rows_apart}
 use Rattle.gpu_descriptor.proofs.release.Freed.{Freed, freed_none, call_out, freed_more}
@@ -56,10 +55,7 @@ returns-clause-keeps g c =
       agree = record { rows = rows_apart _ c.self.view_is name c.self.inside.table.distinct; books = r.agree };
       limit = c.loop-ahead.invariant.limit;
       bound = c.loop-ahead.invariant.bound;
-      load = load_within _ c.self.view_is (opened c.self.invariant);
-      pool_load = pool_load_within _ c.self.view_is (opened c.self.invariant);
+      load = load_within _ c.self.view_is c.self.invariant;
+      pool_load = pool_load_within _ c.self.view_is c.self.invariant;
       others = freed_others g.D.DescriptorDevice.meaning r.sets _ c.args.self.now c.loop-ahead.self before after r.back;
     }
-
-pub prove-unreachable-requires : goal.prove-unreachable-requires
-prove-unreachable-requires g c = (let within = (opened c.self.invariant).within in search (rules, within))

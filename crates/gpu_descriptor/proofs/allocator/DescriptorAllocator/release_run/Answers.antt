@@ -3,7 +3,7 @@ use Rattle.gpu_descriptor.proofs.Common.{length, bucket_but_front, ◌≡◌, �
 use Rattle.indexmap.specs.Layout.{set_value_at}
 use Rattle.gpu_descriptor.proofs.callers.HeldSets.{out_back, out_less}
 use Rattle.gpu_descriptor.proofs.release.LentRow.{row_open, row_stored, row_taken, row_ran, row_counted}
-use Rattle.gpu_descriptor.proofs.sums.Loads.{Taken, taken, load_fits, counted_after, out_after, load_after, run_load, pools_present, pools_set, opened, closed}
+use Rattle.gpu_descriptor.proofs.sums.Loads.{Taken, taken, load_fits, counted_after, out_after, load_after, run_load, pools_present, pools_set}
 use Rattle.gpu_descriptor.proofs.release.Owned.{Owns, ends_at, first_owns, lie_at, own_id, own_key}
 use Rattle.gpu_descriptor.proofs.request.Requested.{table_is}
 use Rattle.gpu_descriptor.proofs.lists.Numbers.{rises_front}
@@ -60,7 +60,7 @@ destroy_empty_front-requires-clause-room g c =
     let below = pools_present (there g at) in
     let same = ap (λ (k : Key). pools_load k c.pair_mut-bucket.result.1.now.pools.items) (own g at) in
     let load = c.release_sets-ahead.ensures.load (key_of c.pair_mut-bucket.result.0.now) in
-    let all = (opened c.self.invariant).is_room in
+    let all = c.self.invariant.is_room in
     omega arith
 
 -- how many sets the key has out then
@@ -76,27 +76,27 @@ pub overflow_sub-self : goal.overflow_sub-self
 overflow_sub-self g c =
     let at = goal.at.overflow_sub-self g c in
     let out = (run_taken g at.After-destroy_empty_front (there g at.After-pair_mut-bucket)).out in
-    let is = (opened c.self.invariant).is_out in
+    let is = c.self.invariant.is_out in
     omega arith
 
 pub marked_descriptors_of_sets-descriptors-requires : goal.marked_descriptors_of_sets-descriptors-requires
 marked_descriptors_of_sets-descriptors-requires g c =
     let at = goal.at.marked_descriptors_of_sets-descriptors-requires g c in
-    let fits = load_fits (run_taken g at.After-destroy_empty_front (there g at.After-pair_mut-bucket)) (opened c.self.invariant) in
+    let fits = load_fits (run_taken g at.After-destroy_empty_front (there g at.After-pair_mut-bucket)) c.self.invariant in
     let same = ap (λ (k : Key). set_descriptors k (c.pair_mut-bucket.result.1.now.total - c.destroy_empty_front.new.self.total)) (own g at.After-pair_mut-bucket) in
     omega arith
 
 pub overflow_cast-descriptors : goal.overflow_cast-descriptors
 overflow_cast-descriptors g c =
     let at = goal.at.overflow_cast-descriptors g c in
-    let fits = load_fits (run_taken g at.After-destroy_empty_front (there g at.After-pair_mut-bucket)) (opened c.self.invariant) in
+    let fits = load_fits (run_taken g at.After-destroy_empty_front (there g at.After-pair_mut-bucket)) c.self.invariant in
     let same = ap (λ (k : Key). set_descriptors k (c.pair_mut-bucket.result.1.now.total - c.destroy_empty_front.new.self.total)) (own g at.After-pair_mut-bucket) in
     omega arith
 
 pub overflow_sub-self-2 : goal.overflow_sub-self-2
 overflow_sub-self-2 g c =
     let at = goal.at.overflow_sub-self-2 g c in
-    let fits = load_fits (run_taken g at.After-destroy_empty_front (there g at.After-pair_mut-bucket)) (opened c.self.invariant) in
+    let fits = load_fits (run_taken g at.After-destroy_empty_front (there g at.After-pair_mut-bucket)) c.self.invariant in
     let same = ap (λ (k : Key). set_descriptors k (c.pair_mut-bucket.result.1.now.total - c.destroy_empty_front.new.self.total)) (own g at.After-pair_mut-bucket) in
     omega arith
 
@@ -121,8 +121,8 @@ invariant_of-self g c =
     let key = key_of c.pair_mut-bucket.result.0.now in
     let moved : c.destroy_empty_front.new.room + pools_load key c.destroy_empty_front.new.self.pools.items ≡ c.self.inside.budget.room + pools_load key c.pair_mut-bucket.result.1.now.pools.items =
     c.destroy_empty_front.ensures.room ∙ ap (λ n. c.self.inside.budget.room + n) (c.release_sets-ahead.ensures.load key) in
-    closed (counted_after (run_taken g at.After-destroy_empty_front here) (opened c.self.invariant) (c.marked_descriptors_of_sets-descriptors.ensures ∙ ap (λ (k : Key). set_descriptors k (c.pair_mut-bucket.result.1.now.total - c.destroy_empty_front.new.self.total)) same)
-    (pools_set here c.destroy_empty_front.new.self _ _ (subst (λ (k : Key). c.destroy_empty_front.new.room + pools_load k c.destroy_empty_front.new.self.pools.items ≡ c.self.inside.budget.room + pools_load k c.pair_mut-bucket.result.1.now.pools.items) same moved)))
+    counted_after (run_taken g at.After-destroy_empty_front here) c.self.invariant (c.marked_descriptors_of_sets-descriptors.ensures ∙ ap (λ (k : Key). set_descriptors k (c.pair_mut-bucket.result.1.now.total - c.destroy_empty_front.new.self.total)) same)
+    (pools_set here c.destroy_empty_front.new.self _ _ (subst (λ (k : Key). c.destroy_empty_front.new.room + pools_load k c.destroy_empty_front.new.self.pools.items ≡ c.self.inside.budget.room + pools_load k c.pair_mut-bucket.result.1.now.pools.items) same moved))
 
 pub returns-clause-ran : goal.returns-clause-ran
 returns-clause-ran g c =
@@ -166,6 +166,3 @@ returns-clause-compares g c =
     let count = ap (λ (a : Allocations _). a.comparisons) c.self.view_is in
     let bound = c.release_sets-ahead.ensures.compares in
     record { rises = omega arith; few = omega arith }
-
-pub destroy_empty_front-requires-clause-stored : goal.destroy_empty_front-requires-clause-stored
-destroy_empty_front-requires-clause-stored g c = (c.args.first.key.is, c.release_sets-ahead.ensures.stored)

@@ -1,5 +1,5 @@
 use Rattle.gpu_descriptor.proofs.Common.{common_steps, ◌≡◌, ◌+◌, ◌*◌, ◌≤◌, length, arith, refl, None, ap, ltb-false, key_of, set_descriptors, IsConsistent, subst, sym, ◌∙◌, Ledger, Bucket, Allocations, marked_load_of, pool_load_of, state_of, AreBookedIn}
-use Rattle.gpu_descriptor.proofs.sums.Loads.{opened, closed, set_descriptors-each}
+use Rattle.gpu_descriptor.proofs.sums.Loads.{set_descriptors-each}
 use Rattle.gpu_descriptor.proofs.cleanup.KeyOrder.{keys_seen}
 use Rattle.gpu_descriptor.proofs.callers.Unchanged.{keeps_still}
 use Rattle.gpu_descriptor.proofs.request.HandedOut.{keeps_all}
@@ -12,18 +12,15 @@ use Rattle.gpu_descriptor.proofs.allocator.DescriptorAllocator.serve_if_allowed.
 
 pub returns-then-would_exceed_limit-clause-declined : goal.returns-then-would_exceed_limit-clause-declined
 returns-then-would_exceed_limit-clause-declined g c =
-    declined_by_limit g.D.DescriptorDevice.meaning c.self.view_is (opened c.self.invariant) _ c.args.request.now.key c.requires.some c.would_exceed_limit.ensures c.if-would_exceed_limit.true
+    declined_by_limit g.D.DescriptorDevice.meaning c.self.view_is c.self.invariant _ c.args.request.now.key c.requires.some c.would_exceed_limit.ensures c.if-would_exceed_limit.true
 
 pub returns-then-would_exceed_64_bits-clause-declined : goal.returns-then-would_exceed_64_bits-clause-declined
-returns-then-would_exceed_64_bits-clause-declined g c = grind (arith, common_steps, declined_by_bound, opened)
-
-pub serve-requires-clause-bound : goal.serve-requires-clause-bound
-serve-requires-clause-bound g c = grind (arith, common_steps, ltb-false, opened)
+returns-then-would_exceed_64_bits-clause-declined g c = grind (arith, common_steps, declined_by_bound)
 
 pub returns-in_err-ended-clause-declined : goal.returns-in_err-ended-clause-declined
 returns-in_err-ended-clause-declined g c =
     rw (passed c.from_residual.result c.in_err-ended.field-0.0 c.from_residual.ensures.1)
-    (declined_unserved g.D.DescriptorDevice.meaning c.self.view_is (opened c.self.invariant) _ c.args.request.now.key c.requires.some c.would_exceed_limit.ensures c.if-would_exceed_limit.false
+    (declined_unserved g.D.DescriptorDevice.meaning c.self.view_is c.self.invariant _ c.args.request.now.key c.requires.some c.would_exceed_limit.ensures c.if-would_exceed_limit.false
     c.would_exceed_64_bits.ensures c.if-would_exceed_64_bits.false
     (seen_again _ c.self.view_is _ c.in_err-ended.ensures.serves.stays.1
     (ap (λ b. b.looks.count) c.in_err-ended.ensures.serves.stays.2) (ap (λ b. b.bound) c.in_err-ended.ensures.serves.stays.2))
@@ -34,7 +31,7 @@ many g c = (let left = c.in_ok-ended.ensures.serves.appends.rest in let came = c
 
 -- the descriptors of what came keep the limit
 fits : (g : _) (c : After-from-taken g) → set_descriptors (key_of c.args.request.now.key) c.from-taken.result + c.self.inside.update_after_bind_descriptors ≤ c.self.inside.max_update_after_bind_descriptors_in_all_pools
-fits g c = given_fits c.serve.new.self.buckets.entries c.in_ok-ended.ensures.serves.served c.self.view_is (opened c.self.invariant) c.would_exceed_limit.ensures c.if-would_exceed_limit.false (many g c)
+fits g c = given_fits c.serve.new.self.buckets.entries c.in_ok-ended.ensures.serves.served c.self.view_is c.self.invariant c.would_exceed_limit.ensures c.if-would_exceed_limit.false (many g c)
 
 descriptors : (g : _) (c : After-from-taken g) → c.from-taken.result * c.marked_descriptors_of_set-each.result ≡ set_descriptors (key_of c.args.request.now.key) c.from-taken.result
 descriptors g c = set_descriptors-each (key_of c.args.request.now.key) c.from-taken.result c.marked_descriptors_of_set-each.result c.marked_descriptors_of_set-each.ensures
@@ -67,16 +64,16 @@ counted :
     (c.self.inside.update_after_bind_descriptors + c.from-taken.result * c.marked_descriptors_of_set-each.result)
     c.serve.new.budget.room (c.self.inside.outstanding + c.from-taken.result) c.serve.new.self.buckets.entries
 counted g c =
-    counted_now c.serve.new.self.buckets.entries c.in_ok-ended.ensures.serves.served c.self.view_is (opened c.self.invariant)
+    counted_now c.serve.new.self.buckets.entries c.in_ok-ended.ensures.serves.served c.self.view_is c.self.invariant
     c.would_exceed_limit.ensures c.if-would_exceed_limit.false
     (many g c) (descriptors g c) c.serve.ensures.serves.room
 
 pub invariant_of-self-2 : goal.invariant_of-self-2
-invariant_of-self-2 g c = closed (counted g (goal.at.invariant_of-self-2 g c).After-from-taken)
+invariant_of-self-2 g c = counted g (goal.at.invariant_of-self-2 g c).After-from-taken
 
 pub returns-clause-taken : goal.returns-clause-taken
 returns-clause-taken g c =
-    takes_of c.serve.new.self.buckets.entries c.in_ok-ended.ensures.serves.served c.self.view_is (opened c.self.invariant) c.would_exceed_limit.ensures c.if-would_exceed_limit.false c.would_exceed_64_bits.ensures c.if-would_exceed_64_bits.false
+    takes_of c.serve.new.self.buckets.entries c.in_ok-ended.ensures.serves.served c.self.view_is c.self.invariant c.would_exceed_limit.ensures c.if-would_exceed_limit.false c.would_exceed_64_bits.ensures c.if-would_exceed_64_bits.false
 
 pub returns-clause-keys : goal.returns-clause-keys
 returns-clause-keys g c = keys_seen (key_of c.args.request.now.key) c.args.self.now (seen 0 None 0 0 c.serve.new.self.buckets.entries) c.self.inside.table.buckets.entries c.serve.new.self.buckets.entries (table_is _ c.self.view_is) refl c.in_ok-ended.ensures.serves.keys
@@ -87,23 +84,23 @@ returns-clause-keeps g c =
     let all = counted g (goal.at.returns-clause-keeps g c).After-from-taken in
     let now : Allocations _ = seen c.self.inside.max_update_after_bind_descriptors_in_all_pools c.serve.new.budget.bound c.serve.new.budget.looks.count c.self.inside.comparisons.count fs in
     keeps_all {new = now}
-    (takes_of fs c.in_ok-ended.ensures.serves.served c.self.view_is (opened c.self.invariant) c.would_exceed_limit.ensures c.if-would_exceed_limit.false c.would_exceed_64_bits.ensures c.if-would_exceed_64_bits.false)
+    (takes_of fs c.in_ok-ended.ensures.serves.served c.self.view_is c.self.invariant c.would_exceed_limit.ensures c.if-would_exceed_limit.false c.would_exceed_64_bits.ensures c.if-would_exceed_64_bits.false)
     c.requires.agree.books (rows_apart {a = now} fs refl g.D.DescriptorDevice.meaning.pool_name c.serve.new.self.distinct) (ap (λ (a : Allocations _). a.limit) c.self.view_is)
     (c.in_ok-ended.ensures.serves.bound ∙ ap (λ (a : Allocations _). a.bound) c.self.view_is) (load_within {a = now} fs refl all) (pool_load_within {a = now} fs refl all)
 
 pub returns-then-would_exceed_limit-clause-keeps : goal.returns-then-would_exceed_limit-clause-keeps
-returns-then-would_exceed_limit-clause-keeps g c = keeps_still refl refl c.requires.agree (load_within _ c.self.view_is (opened c.self.invariant)) (pool_load_within _ c.self.view_is (opened c.self.invariant))
+returns-then-would_exceed_limit-clause-keeps g c = keeps_still refl refl c.requires.agree (load_within _ c.self.view_is c.self.invariant) (pool_load_within _ c.self.view_is c.self.invariant)
 
 pub returns-then-would_exceed_64_bits-clause-keeps : goal.returns-then-would_exceed_64_bits-clause-keeps
-returns-then-would_exceed_64_bits-clause-keeps g c = keeps_still refl refl c.requires.agree (load_within _ c.self.view_is (opened c.self.invariant)) (pool_load_within _ c.self.view_is (opened c.self.invariant))
+returns-then-would_exceed_64_bits-clause-keeps g c = keeps_still refl refl c.requires.agree (load_within _ c.self.view_is c.self.invariant) (pool_load_within _ c.self.view_is c.self.invariant)
 
 pub returns-in_err-ended-clause-keeps : goal.returns-in_err-ended-clause-keeps
 returns-in_err-ended-clause-keeps g c =
     let serves = c.in_err-ended.ensures.serves in
     let same = seen_again _ c.self.view_is _ serves.stays.1 (ap (λ b. b.looks.count) serves.stays.2) (ap (λ b. b.bound) serves.stays.2) in
     keeps_still same serves.stays.3 c.requires.agree
-    (subst (λ (a : Allocations _). marked_load_of a ≤ a.limit) (sym same) (load_within _ c.self.view_is (opened c.self.invariant)))
-    (subst (λ (a : Allocations _). pool_load_of a ≤ a.limit) (sym same) (pool_load_within _ c.self.view_is (opened c.self.invariant)))
+    (subst (λ (a : Allocations _). marked_load_of a ≤ a.limit) (sym same) (load_within _ c.self.view_is c.self.invariant))
+    (subst (λ (a : Allocations _). pool_load_of a ≤ a.limit) (sym same) (pool_load_within _ c.self.view_is c.self.invariant))
 
 pub serve-requires-clause-booked : goal.serve-requires-clause-booked
 serve-requires-clause-booked g c =

@@ -6,7 +6,7 @@ use Rattle.gpu_descriptor.proofs.table.Rising.{ids_put}
 use Rattle.gpu_descriptor.proofs.lists.Numbers.{rises_filter}
 use Rattle.gpu_descriptor.proofs.table.RowAt.{keys_at, value_at}
 use Rattle.gpu_descriptor.proofs.cleanup.Cleaning.{clean_agrees, takes_none}
-use Rattle.gpu_descriptor.proofs.sums.Loads.{rows_pool_load, stored_load_in, sum_put, opened, closed}
+use Rattle.gpu_descriptor.proofs.sums.Loads.{rows_pool_load, stored_load_in, sum_put}
 use Rattle.gpu_descriptor.proofs.cleanup.KeyOrder.{keys_cleaned}
 use Rattle.gpu_descriptor.proofs.cleanup.RowsCleaned.{all_cleared, agree_is, cleared, counted_filter, counted_put, ledger_less, next, next_stored, step_less, step_rows, whole_clean, whole_count}
 use Rattle.gpu_descriptor.proofs.foreign.OthersStay.{cleaned_others, emptied}
@@ -82,7 +82,7 @@ invariant_of-self-inside-2 g c =
 pub invariant_of-self : goal.invariant_of-self
 invariant_of-self g c =
     let kept = filter-RetainsPairs _ (λ e. has_pools e.1) _ (λ k v b w f call. search rules) _ _ c.retain.ensures.filtered in
-    closed (counted_filter _ _ _ _ _ _ kept c.loop-place.invariant.counted)
+    counted_filter _ _ _ _ _ _ kept c.loop-place.invariant.counted
 
 pub returns : goal.returns
 returns g c =
@@ -113,8 +113,8 @@ returns g c =
         keys = keys_cleaned c.args.everywhere name c.args.self.now now (ledger c.args.device.now) (ledger c.loop-place.device) es c.loop-place.self-inside.table.buckets.entries c.retain.new.self.entries was refl distinct rows kept clean;
         outstanding_stay = takes_none c.args.everywhere _ _ c.requires.agree.books clean;
         totals_stay = (
-          sym counted.is_out ∙ h.out ∙ (opened c.self.invariant).is_out ∙ ap outstanding_of c.self.view_is,
-          sym counted.is_load ∙ h.marked ∙ (opened c.self.invariant).is_load ∙ ap marked_load_of c.self.view_is,
+          sym counted.is_out ∙ h.out ∙ c.self.invariant.is_out ∙ ap outstanding_of c.self.view_is,
+          sym counted.is_load ∙ h.marked ∙ c.self.invariant.is_load ∙ ap marked_load_of c.self.view_is,
         );
         emptied = emptied name c.args.everywhere c.args.self.now now (ledger c.args.device.now) (ledger c.loop-place.device) c.requires.agree.rows c.requires.agree.books clean;
         counts_stay = (h.looks ∙ ap (λ (a : Allocations _). a.looks) c.self.view_is, h.comparisons ∙ ap (λ (a : Allocations _). a.comparisons) c.self.view_is);
@@ -128,6 +128,3 @@ returns g c =
         others = cleaned_others name c.args.everywhere c.args.self.now now (ledger c.args.device.now) (ledger c.loop-place.device) clean;
       };
     }
-
-pub loop-place-init : goal.loop-place-init
-loop-place-init g c = (let counted = opened c.self.invariant in search (rules, counted))

@@ -10,7 +10,7 @@ use Rattle.gpu_descriptor.proofs.foreign.OthersStay.{emptied_others}
 use Rattle.gpu_descriptor.proofs.request.InTable.{missing}
 use Rattle.gpu_descriptor.proofs.request.Requested.{books_at, load_within, pool_load_within, rows_apart, table_is}
 use Rattle.gpu_descriptor.proofs.request.StateAgrees.{booked_of}
-use Rattle.gpu_descriptor.proofs.sums.Loads.{closed, opened, rows_pool_load, stored_load_in, sum_put}
+use Rattle.gpu_descriptor.proofs.sums.Loads.{rows_pool_load, stored_load_in, sum_put}
 use Rattle.gpu_descriptor.proofs.table.Rising.{ids_put}
 use Rattle.gpu_descriptor.proofs.table.RowAt.{IsAt, keys_at, value_at}
 use Rattle.gpu_descriptor.proofs.table.TableBooks.{keys_are}
@@ -37,7 +37,7 @@ destroy_empty-requires-clause-room g c =
     let es = c.self.inside.table.buckets.entries in
     let below = (sum_put stored_load_in es c.in-Some.place c.pair_mut-bucket.result.0.now c.pair_mut-bucket.result.1.now c.pair_mut-bucket.result.1.now c.pair_mut-bucket.ensures.value).0 in
     let rows = rows_pool_load es in
-    let all = (opened c.self.invariant).is_room in
+    let all = c.self.invariant.is_room in
     omega arith
 
 pub destroy_empty-requires-clause-stored : goal.destroy_empty-requires-clause-stored
@@ -62,7 +62,7 @@ invariant_of-self-inside g c =
     }
 
 pub invariant_of-self : goal.invariant_of-self
-invariant_of-self g c = closed (counted_put _ _ _ _ _ c.self.inside.table.buckets.entries c.in-Some.place _ _ c.destroy_empty.new.self c.pair_mut-bucket.ensures.value c.destroy_empty.ensures.total c.destroy_empty.ensures.room (opened c.self.invariant))
+invariant_of-self g c = counted_put _ _ _ _ _ c.self.inside.table.buckets.entries c.in-Some.place _ _ c.destroy_empty.new.self c.pair_mut-bucket.ensures.value c.destroy_empty.ensures.total c.destroy_empty.ensures.room c.self.invariant
 
 pub returns : goal.returns
 returns g c =
@@ -78,7 +78,7 @@ returns g c =
     let k = key_of c.key-key.result in
     let was = table_is _ c.self.view_is in
     let distinct = subst (IsDistinct key_eq) (sym (keys_at es c.in-Some.place w)) c.self.inside.table.distinct in
-    let counted = counted_put _ _ _ _ _ es c.in-Some.place _ _ w c.pair_mut-bucket.ensures.value c.destroy_empty.ensures.total c.destroy_empty.ensures.room (opened c.self.invariant) in
+    let counted = counted_put _ _ _ _ _ es c.in-Some.place _ _ w c.pair_mut-bucket.ensures.value c.destroy_empty.ensures.total c.destroy_empty.ensures.room c.self.invariant in
     let now : Allocations _ =
     record {
       limit = c.self.inside.max_update_after_bind_descriptors_in_all_pools;
@@ -97,8 +97,8 @@ returns g c =
         keys = keys_are now fs refl ∙ keys_at es c.in-Some.place w ∙ sym (keys_are old es was);
         outstanding_stay = subst (KeepsOutstanding s) (sym state) (emptied_outstanding less c.requires.agree.books);
         totals_stay = (
-          sym counted.is_out ∙ (opened c.self.invariant).is_out ∙ ap outstanding_of c.self.view_is,
-          sym counted.is_load ∙ (opened c.self.invariant).is_load ∙ ap marked_load_of c.self.view_is,
+          sym counted.is_out ∙ c.self.invariant.is_out ∙ ap outstanding_of c.self.view_is,
+          sym counted.is_load ∙ c.self.invariant.is_load ∙ ap marked_load_of c.self.view_is,
         );
         counts_stay = (ap (λ (a : Allocations _). a.looks) c.self.view_is, ap (λ (a : Allocations _). a.comparisons) c.self.view_is);
       });
@@ -132,5 +132,5 @@ returns-in_default g c =
         totals_stay = (refl, refl);
         counts_stay = (refl, refl);
       });
-      keeps = keeps_still refl refl c.requires.agree (load_within _ c.self.view_is (opened c.self.invariant)) (pool_load_within _ c.self.view_is (opened c.self.invariant));
+      keeps = keeps_still refl refl c.requires.agree (load_within _ c.self.view_is c.self.invariant) (pool_load_within _ c.self.view_is c.self.invariant);
     }

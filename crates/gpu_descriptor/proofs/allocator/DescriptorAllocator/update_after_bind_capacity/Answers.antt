@@ -1,4 +1,3 @@
-use Rattle.gpu_descriptor.proofs.sums.Loads.{opened}
 use Rattle.gpu_descriptor.proofs.Common.{◌≡◌, sym, ap, arith, Allocations}
 use Rattle.gpu_descriptor.proofs.request.Requested.{pool_load_of_rows}
 use Rattle.gpu_descriptor.proofs.allocator.DescriptorAllocator.update_after_bind_capacity.Goals as goal
@@ -7,9 +6,6 @@ pub returns : goal.returns
 returns g c =
     let was = ap (λ (a : Allocations _). a.table) (sym c.self.view_is) in
     let rows = pool_load_of_rows c.args.self.now c.self.inside.table.buckets.entries was in
-    let all = (opened c.self.invariant).is_room in
+    let all = c.self.invariant.is_room in
     let limit : c.self.inside.max_update_after_bind_descriptors_in_all_pools ≡ c.args.self.now.limit = ap (λ (a : Allocations _). a.limit) c.self.view_is in
     record { sum = (omega arith); within = (omega arith) }
-
-pub overflow_sub-result : goal.overflow_sub-result
-overflow_sub-result g c = (let all = (opened c.self.invariant).is_room in omega arith)

@@ -134,9 +134,6 @@ returns-in-Err-clause-err g c =
           c.args.sink.now.left c.in-Some.size c.in-Some.ensures.sets),
     )
 
-pub returns-in-Err-clause-looks : goal.returns-in-Err-clause-looks
-returns-in-Err-clause-looks g c = grind (arith, common_steps, create_asked)
-
 pub marked_descriptors_of_pool-requires : goal.marked_descriptors_of_pool-requires
 marked_descriptors_of_pool-requires g c = c.in-Some.ensures.room.1
 

@@ -36,9 +36,6 @@ loop-init g c = record { within = omega arith; turned = (c.requires.stored.0, st
 pub unwrap-pool-requires : goal.unwrap-pool-requires
 unwrap-pool-requires g c = grind (arith, common_steps, get_some)
 
-pub push_back_reserved-requires : goal.push_back_reserved-requires
-push_back_reserved-requires g c = grind (arith, common_steps)
-
 pub marked_descriptors_of_pool-requires : goal.marked_descriptors_of_pool-requires
 marked_descriptors_of_pool-requires g c = (let all = first_load g (goal.at.marked_descriptors_of_pool-requires g c).After-unwrap-pool in let room = c.loop.invariant.room in omega arith)
 

@@ -19,9 +19,6 @@ module _ {P : Type 0} (first place : ℕ) (pools : List (DescriptorPool P)) (p :
       listed_push_closed first (take place pools) listed is p (omega arith)
       ∙ ap (λ (ps : List (DescriptorPool P)). open_ordinals first (free_in ps)) (sym more)
 
-pub loop-place-init : goal.loop-place-init
-loop-place-init g c = record { listed = c.clear.ensures.items; capacity = c.clear.ensures.capacity }
-
 pub push_back_reserved-requires : goal.push_back_reserved-requires
 push_back_reserved-requires g c = grind (arith, common_steps, few_listed, length-take-le)
 
@@ -40,9 +37,3 @@ loop-place-preserved g c =
         capacity = ap deque_capacity w.listed-is ∙ inv.capacity;
       }
     ]
-
-pub returns-clause-listed : goal.returns-clause-listed
-returns-clause-listed g c = grind (arith, common_steps, take_all)
-
-pub returns-clause-capacity : goal.returns-clause-capacity
-returns-clause-capacity g c = c.loop-place.invariant.capacity
