@@ -1,8 +1,9 @@
 -- One run, x and xs, through the row at a place of the table, which it lends to `release_run`: its bucket is bucket before, w after.
-use Rattle.gpu_descriptor.proofs.Common.{◌≡◌, ◌<◌, ℕ, List, [], ◌∷◌, map, None, length, refl, sym, ap, subst, ◌∙◌, fun_ext, IsDistinct, Ledger, after_release, live_sets, BucketKey, DescriptorSet, DescriptorBucket, Agree, AreOutstanding, Key, BucketOf, Item, count_of, true}
+use Rattle.gpu_descriptor.proofs.Common.{◌≡◌, ◌<◌, ℕ, List, [], ◌∷◌, map, None, length, refl, sym, ap, subst, ◌∙◌, fun_ext, IsDistinct, Ledger, after_release, live_sets, BucketKey, DescriptorSet, DescriptorBucket, Agree, AreOutstanding, Key, BucketOf, Item, count_of, true, arith, take, front_but}
 use Rattle.gpu_descriptor.proofs.Common.{key_eq, Bucket, HasDistinctKeys, Allocations, AreBookedIn, IsTakenAt, Releases, names_of, bucket_but_front, ledger_but_front, more_destroyed, more_released, released, pools_gone, search_digits, items_of, named_row}
 use Rattle.gpu_descriptor.proofs.Common.{state_of, table_of, AllByRecursion, row_of, bucket_of, stored_keys}
 use Rattle.indexmap.specs.Layout.{set_value_at}
+use Rattle.std.proofs.lemmas.List.{length-take}
 use Rattle.gpu_descriptor.specs.Caller.States.{keys_of}
 use Rattle.gpu_descriptor.specs.Inner.RunSteps.{lies_at}
 use Rattle.gpu_descriptor.proofs.foreign.LedgerPools.{taken_from, release_pools}
@@ -59,4 +60,6 @@ module _ {P S : Type 0} (name : P → ℕ) (set_name : S → ℕ) (a : Allocatio
         let own : (u : Item) → 0 < count_of u m → u.key ≡ x.key.is = λ u some. (is_run set_name x.key.is x.number (x ∷ xs) (lies_own x, have) u some).0 in
         let only : pools_gone (keys_of a) m s ≡ pools_gone (x.key.is ∷ []) m s = ap (λ (keys : List Key). pools_gone keys m s) (keys_table name a.table) ∙ only_key x.key.is m s (table_of name a) rows (λ q. refl) own in
         let gone = gone_run set_name s agree x xs have here.entry here.at in
-        ap (λ (m : Ledger). m.counters) ledger ∙ ap (λ (n : ℕ). more_destroyed n (more_released 1 l.counters)) (sym (only ∙ gone))
+        let b = run_less (length (names_of set_name (x ∷ xs))) here.entry (s.books x.key.is) in
+        let long : length (take (front_but 1 b) b.pools) ≡ front_but 1 b = (let all = length-take (front_but 1 b) b.pools in omega arith) in
+        ap (λ (m : Ledger). m.counters) ledger ∙ ap (λ (n : ℕ). more_destroyed n (more_released 1 l.counters)) (long ∙ sym (only ∙ gone))

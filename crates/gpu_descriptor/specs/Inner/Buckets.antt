@@ -16,13 +16,13 @@ pub record AreBookedIn (k : Key) (pools : ℕ → Option Pool) (entries : List E
 abbrev pub bucket_but_front : ℕ → Bucket → Bucket
 bucket_but_front keep b = without_front (front_but keep b) b
 
--- the ledger after these were destroyed
-abbrev pub ledger_but_front : ℕ → Bucket → Ledger → Ledger
-ledger_but_front keep b l = let n = front_but keep b in record { pools = λ p. if are_named (take n b.pools) p then None else l.pools p; counters = more_destroyed n l.counters }
-
 -- the ledger after these pools were destroyed
 abbrev pub ledger_but : List Entry → Ledger → Ledger
 ledger_but gone l = record { pools = λ p. if are_named gone p then None else l.pools p; counters = more_destroyed (length gone) l.counters }
+
+-- the same of these pools at the front
+abbrev pub ledger_but_front : ℕ → Bucket → Ledger → Ledger
+ledger_but_front keep b l = ledger_but (take (front_but keep b) b.pools) l
 
 module _ {P : Type 0} where
   -- the key has pools
