@@ -1,11 +1,11 @@
 //! A struct that owns its device and its allocator, which always agree.
-ghost use Rattle.std.specs.Prelude.{◌≡◌, length, IfErr, IfOk, OnErr};
+ghost use Rattle.std.specs.Prelude.{◌≡◌, length, IfErr, IfOk, OnErr, false};
 ghost use Rattle.gpu_descriptor.specs.Model.Agreement.{AreOutstanding};
 ghost use Rattle.gpu_descriptor.specs.Model.Promises.{AreOfKey, AreOutBesides};
 ghost use Rattle.gpu_descriptor.specs.Model.Promises.{KeepsOutstanding};
 ghost use Rattle.gpu_descriptor.specs.Caller.Call.{layout_key};
 ghost use Rattle.gpu_descriptor.specs.Caller.Causes.{HasCause};
-ghost use Rattle.gpu_descriptor.specs.Caller.CleansUp.{CleansUp};
+ghost use Rattle.gpu_descriptor.specs.Caller.CleansUp.{Sweeps};
 ghost use Rattle.gpu_descriptor.specs.Caller.SetLayouts.{IsMeant};
 ghost use Rattle.gpu_descriptor.specs.Caller.Sets.{AreOfLayout, items_of};
 ghost use Rattle.gpu_descriptor.specs.Caller.States.{Agrees};
@@ -79,7 +79,7 @@ impl<L, P: Drop, S: Drop, D: DescriptorDevice<L, P, S>> OwnedAllocator<L, P, S, 
 
     /// Destroys the empty pools at the front of each key.
     pub fn clean(&mut self)
-        ensures cleans_up { CleansUp D.meaning (side_in self.old) (side_in self.new) }
+        ensures cleans_up { Sweeps false D.meaning (side_in self.old) (side_in self.new) }
         ensures limit { limit_of self.new ≡ limit_of self.old }
         ensures others { pools_besides self.new ≡ pools_besides self.old }
     {

@@ -6,7 +6,7 @@ use Rattle.gpu_descriptor_types.specs.Meaning.{IsOfLayout, Meaning}
 use Rattle.gpu_descriptor_types.specs.Side.{Side, side}
 use Rattle.gpu_descriptor_types.specs.declared.device.DescriptorDevice.{Ghosts}
 use Rattle.gpu_descriptor.specs.Caller.Call.{layout_key}
-use Rattle.gpu_descriptor.specs.Caller.CleansUp.{TrimsKey, TrimsPools}
+use Rattle.gpu_descriptor.specs.Caller.CleansUp.{Sweeps, TrimsKey}
 use Rattle.gpu_descriptor.specs.Caller.Frees.{Returns}
 use Rattle.gpu_descriptor.specs.Caller.HandsOut.{HandsOut}
 use Rattle.gpu_descriptor.specs.Caller.Keeps.{Keeps}
@@ -211,7 +211,7 @@ module _ {L P S D : Type 0} {d : Ghosts D L P S} where
     pub sets : List (DescriptorSet S)
     pub mid : Side (Allocations P)
     pub returns : Returns d.meaning sets (side_of old) mid
-    pub cleans : TrimsPools d.meaning mid (side_of new)
+    pub cleans : Sweeps true d.meaning mid (side_of new)
 
   -- `many` sets of the layout alone have more descriptors than the limit allows
   abbrev pub ExceedsLimitAlone : L → ℕ → StoreOver d → Type 0

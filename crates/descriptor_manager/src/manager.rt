@@ -2,7 +2,7 @@
 ghost use Rattle.std.specs.Prelude.{◌≡◌, ◌≢◌, ◌≤◌, ◌↔◌, []};
 ghost use Rattle.std.specs.Prelude.{IfErr, IfOk, IsErrOf, IsSome, None, OnErr, OnOk, Some, false, true};
 ghost use Rattle.std.specs.Option.{option_copied};
-ghost use Rattle.gpu_descriptor.specs.Caller.CleansUp.{TrimsPools};
+ghost use Rattle.gpu_descriptor.specs.Caller.CleansUp.{Sweeps};
 ghost use Rattle.gpu_descriptor.specs.Caller.SetLayouts.{IsMeant};
 ghost use Rattle.descriptor_table.specs.Slots.{is_kept_of, waits};
 ghost use Rattle.descriptor_table.specs.Tables.{Grows, KeepsUpTo, count, holds, is_kept};
@@ -188,7 +188,7 @@ impl<L: Drop, P: Drop, S: Drop, D: DescriptorDevice<L, P, S>> SetManager<L, P, S
     /// Destroys each pool without sets. Kept sets stay, and so do their pools: `cleanup` returns them
     /// first. It visits every pool and allocates no memory.
     pub fn trim(&mut self)
-        ensures trims { TrimsPools D.meaning (side_of self.old) (side_of self.new) }
+        ensures trims { Sweeps true D.meaning (side_of self.old) (side_of self.new) }
         ensures rest { seen self.new ≡ record (seen self.old) { side = side_of self.new } }
     {
         self.store.trim();

@@ -6,9 +6,9 @@ ghost use Rattle.gpu_descriptor.specs.Caller.Frees.{Frees, Returns};
 ghost use Rattle.gpu_descriptor.specs.Caller.Keeps.{Keeps};
 ghost use Rattle.gpu_descriptor.specs.Caller.Sets.{items_of};
 ghost use Rattle.gpu_descriptor.specs.Caller.States.{Agrees};
-ghost use Rattle.std.specs.Prelude.{◌≡◌, ◌+◌, ◌≤◌, [], length};
+ghost use Rattle.std.specs.Prelude.{◌≡◌, ◌+◌, ◌≤◌, [], length, false, true};
 ghost use Rattle.descriptor_frames.specs.Retired.{later};
-ghost use Rattle.gpu_descriptor.specs.Caller.CleansUp.{CleansUp, TrimsPools};
+ghost use Rattle.gpu_descriptor.specs.Caller.CleansUp.{Sweeps};
 
 use super::FrameManager;
 use crate::due::Due;
@@ -117,7 +117,7 @@ impl<P: Drop, S> FrameManager<P, S> {
     /// stays.
     pub fn cleanup<L, D: DescriptorDevice<L, P, S>>(&mut self, device: &mut D)
         requires agree { Agrees D.meaning.pool_name (allocator_of self.old) (D.ledger device.old) }
-        ensures cleans_up { CleansUp D.meaning (side (allocator_of self.old) (D.ledger device.old))
+        ensures cleans_up { Sweeps false D.meaning (side (allocator_of self.old) (D.ledger device.old))
             (side (allocator_of self.new) (D.ledger device.new)) }
         ensures keeps { KeepsRetired D.meaning (side self.old (D.ledger device.old))
             (side self.new (D.ledger device.new)) }
@@ -131,7 +131,7 @@ impl<P: Drop, S> FrameManager<P, S> {
     /// stays.
     pub fn trim<L, D: DescriptorDevice<L, P, S>>(&mut self, device: &mut D)
         requires agree { Agrees D.meaning.pool_name (allocator_of self.old) (D.ledger device.old) }
-        ensures trims { TrimsPools D.meaning (side (allocator_of self.old) (D.ledger device.old))
+        ensures trims { Sweeps true D.meaning (side (allocator_of self.old) (D.ledger device.old))
             (side (allocator_of self.new) (D.ledger device.new)) }
         ensures keeps { KeepsRetired D.meaning (side self.old (D.ledger device.old))
             (side self.new (D.ledger device.new)) }

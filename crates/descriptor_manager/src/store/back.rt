@@ -1,6 +1,6 @@
 //! Sets that are freed: each is kept, or returns to its pool.
-ghost use Rattle.std.specs.Prelude.{◌≡◌, ℕ, ◌<◌, ◌≤◌, ◌↔◌, length, false, IsFalse, IsTrue};
-ghost use Rattle.gpu_descriptor.specs.Caller.CleansUp.{TrimsPools};
+ghost use Rattle.std.specs.Prelude.{◌≡◌, ℕ, ◌<◌, ◌≤◌, ◌↔◌, length, false, true, IsFalse, IsTrue};
+ghost use Rattle.gpu_descriptor.specs.Caller.CleansUp.{Sweeps};
 ghost use Rattle.gpu_descriptor.specs.Caller.SetLayouts.{IsMeant};
 
 use super::Store;
@@ -66,7 +66,7 @@ impl<L: Drop, P: Drop, S: Drop, D: DescriptorDevice<L, P, S>> Store<L, P, S, D> 
     /// Destroys all empty pools. Kept sets stay.
     pub(crate) fn trim(&mut self)
         requires rest { IsAtRest self.old }
-        ensures trims { TrimsPools D.meaning (side_of self.old) (side_of self.new) }
+        ensures trims { Sweeps true D.meaning (side_of self.old) (side_of self.new) }
         ensures slots { slots_in self.new ≡ slots_in self.old }
         ensures settles { Settles NoneComes self.old self.new }
     {

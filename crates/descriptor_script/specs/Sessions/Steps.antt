@@ -1,8 +1,8 @@
 -- What a command does to a session, and what it replies.
-use Rattle.std.specs.Prelude.{◌≡◌, ℕ, ◌<◌, ◌≤◌, List, ◌++◌, length, map, slice_get, Some, Result, Ok, Err}
+use Rattle.std.specs.Prelude.{◌≡◌, ℕ, ◌<◌, ◌≤◌, List, ◌++◌, length, map, slice_get, false, Some, Result, Ok, Err}
 use Rattle.gpu_descriptor_types.specs.Meaning.{Meaning}
 use Rattle.gpu_descriptor_types.specs.Side.{Side}
-use Rattle.gpu_descriptor.specs.Caller.CleansUp.{CleansUp}
+use Rattle.gpu_descriptor.specs.Caller.CleansUp.{Sweeps}
 use Rattle.gpu_descriptor.specs.Caller.Frees.{Returns, marked_descriptors}
 use Rattle.gpu_descriptor.specs.Model.Agreement.{Item}
 use Rattle.gpu_descriptor.specs.Model.Outcomes.{Allocates, Call}
@@ -100,5 +100,5 @@ module _ {L P S : Type 0} (means : Meaning L P S) where
   StepsTo (Allocate layout count) reply old new = AllocatesTo layout count old new reply
   StepsTo (Free tickets) reply old new = FreesTo tickets.items old new reply
   -- the empty pools at the front of each key are gone, and the sets stay
-  StepsTo Cleanup Clean old new = CleansUp means (allocator_on old) (allocator_on new) × (sets_of new.value ≡ sets_of old.value)
+  StepsTo Cleanup Clean old new = Sweeps false means (allocator_on old) (allocator_on new) × (sets_of new.value ≡ sets_of old.value)
   StepsTo Cleanup _ old new = ⊥

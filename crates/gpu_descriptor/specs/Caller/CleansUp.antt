@@ -28,14 +28,6 @@ pub record Sweeps (everywhere : Bool) {L P S : Type 0} (means : Meaning L P S) (
   -- no pool is looked at, and nothing is compared
   pub counts_stay : (new.value.looks ≡ old.value.looks) × (new.value.comparisons ≡ old.value.comparisons)
 
--- the empty pools at the front of each key are destroyed
-abbrev pub CleansUp : {L P S : Type 0} → Meaning L P S → (old new : Side (Allocations P)) → Type 0
-CleansUp means old new = Sweeps false means old new
-
--- all empty pools are destroyed
-abbrev pub TrimsPools : {L P S : Type 0} → Meaning L P S → (old new : Side (Allocations P)) → Type 0
-TrimsPools means old new = Sweeps true means old new
-
 -- what a trim of one key leaves
 pub record TrimsKey {L P S : Type 0} (means : Meaning L P S) (k : Key) (old new : Side (Allocations P)) : Type 0 where
   -- the key lost its empty pools, and all else of books and ledger is as it was

@@ -1,9 +1,9 @@
 //! Cleaning up and trimming, which destroy empty pools.
-ghost use Rattle.std.specs.Prelude.{◌≡◌};
+ghost use Rattle.std.specs.Prelude.{◌≡◌, false, true};
 ghost use Rattle.gpu_descriptor_types.specs.Side.{side};
 ghost use Rattle.gpu_descriptor.specs.Inner.Buckets.{has_pools};
 ghost use Rattle.gpu_descriptor.specs.Caller.Call.{layout_key};
-ghost use Rattle.gpu_descriptor.specs.Caller.CleansUp.{CleansUp, Sweeps, TrimsKey, TrimsPools};
+ghost use Rattle.gpu_descriptor.specs.Caller.CleansUp.{Sweeps, TrimsKey};
 ghost use Rattle.gpu_descriptor.specs.Caller.Keeps.{Keeps};
 ghost use Rattle.gpu_descriptor.specs.Caller.SetLayouts.{IsMeant};
 ghost use Rattle.gpu_descriptor.specs.Caller.States.{Agrees};
@@ -22,7 +22,7 @@ impl<P: Drop, S> DescriptorAllocator<P, S> {
     /// numbers its pools from 0. `device` must be that of all other calls.
     pub fn cleanup<L, D: DescriptorDevice<L, P, S>>(&mut self, device: &mut D)
         requires agree { Agrees D.meaning.pool_name self.old (D.ledger device.old) }
-        ensures cleans_up { CleansUp D.meaning (side self.old (D.ledger device.old))
+        ensures cleans_up { Sweeps false D.meaning (side self.old (D.ledger device.old))
             (side self.new (D.ledger device.new)) }
         ensures keeps { Keeps D.meaning (side self.old (D.ledger device.old))
             (side self.new (D.ledger device.new)) }
@@ -37,7 +37,7 @@ impl<P: Drop, S> DescriptorAllocator<P, S> {
     /// has no such call. `device` must be that of all other calls.
     pub fn trim<L, D: DescriptorDevice<L, P, S>>(&mut self, device: &mut D)
         requires agree { Agrees D.meaning.pool_name self.old (D.ledger device.old) }
-        ensures trims { TrimsPools D.meaning (side self.old (D.ledger device.old))
+        ensures trims { Sweeps true D.meaning (side self.old (D.ledger device.old))
             (side self.new (D.ledger device.new)) }
         ensures keeps { Keeps D.meaning (side self.old (D.ledger device.old))
             (side self.new (D.ledger device.new)) }
