@@ -128,15 +128,8 @@ impl<P> DescriptorBucket<P> {
             (D.ledger device.old) (D.ledger device.new) }
     {
         let key = &request.key;
-        let size = next_size(
-            key,
-            greatest_count,
-            self.total,
-            sink.left,
-            budget.room,
-            budget.bound,
-        );
-        let Some(size) = size else {
+        let (room, bound) = (budget.room, budget.bound);
+        let Some(size) = next_size(key, greatest_count, self.total, sink.left, room, bound) else {
             return Err(Stop::NoRoomUnderLimit);
         };
         if self.reserve_pool().is_err() {
