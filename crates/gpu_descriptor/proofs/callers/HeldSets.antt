@@ -12,10 +12,6 @@ count_of-append u a b = count_by-append (λ t. item_eq t u) a b
 pub came_out : (items : List Item) (s t : State) → AreOutBesides items s t → AreOutstanding items t
 came_out items s t besides u = (let h = besides u in omega arith)
 
--- what came has gone back
-pub all_back : (items : List Item) (s t v : State) → AreOutBesides items s t → AreOutBesides items v t → KeepsOutstanding s v
-all_back items s t v came went u = (let a = came u in let b = went u in omega arith)
-
 -- what went back is outstanding no longer, and all else still is
 pub out_less : (items : List Item) (s t : State) → Agree s → AreOutstanding items s → t ≡ released items s → AreOutBesides items t s
 out_less items s t agree out is u = sym (takes items s agree out u) ∙ ap (λ (w : State). outstanding w u + count_of u items) (sym is)
@@ -26,19 +22,8 @@ module _ {S : Type 0} (name : S → ℕ) where
   pub count_parts : (xs ys : List (DescriptorSet S)) (u : Item) → count_of u (items_of name (xs ++ ys)) ≡ count_of u (items_of name xs) + count_of u (items_of name ys)
   count_parts xs ys u = ap (count_of u) (map-append (λ (x : DescriptorSet S). item_of name x) xs ys) ∙ count_of-append u (items_of name xs) (items_of name ys)
 
-  -- held sets are outstanding still: after a call that leaves them, in parts, in another order
-  pub out_still : (xs : List (DescriptorSet S)) (s t : State) → AreOutstanding (items_of name xs) s → KeepsOutstanding s t → AreOutstanding (items_of name xs) t
-  out_still xs s t out same u = (let b = out u in let c = same u in omega arith)
-
   pub out_front : (xs ys all : List (DescriptorSet S)) (s : State) → all ≡ xs ++ ys → AreOutstanding (items_of name all) s → AreOutstanding (items_of name xs) s
   out_front xs ys all s is out u = (let a = ap (λ (l : List (DescriptorSet S)). count_of u (items_of name l)) is ∙ count_parts xs ys u in let b = out u in omega arith)
 
   pub out_back : (xs ys all : List (DescriptorSet S)) (s : State) → all ≡ xs ++ ys → AreOutstanding (items_of name all) s → AreOutstanding (items_of name ys) s
   out_back xs ys all s is out u = (let a = ap (λ (l : List (DescriptorSet S)). count_of u (items_of name l)) is ∙ count_parts xs ys u in let b = out u in omega arith)
-
-  pub out_moved : (xs ys : List (DescriptorSet S)) (s : State) → IsPermutation xs ys → AreOutstanding (items_of name xs) s → AreOutstanding (items_of name ys) s
-  out_moved xs ys s moved out u = grind (arith, IsPermutation-map, sum_by-IsPermutation)
-
-  -- sets that came, in another order
-  pub out_mixed : (came xs ys : List (DescriptorSet S)) (s t : State) → AreOutBesides (items_of name came) s t → xs ≡ came → IsPermutation xs ys → AreOutBesides (items_of name ys) s t
-  out_mixed came xs ys s t out is mixed u = grind (arith, IsPermutation-map, sum_by-IsPermutation)

@@ -11,9 +11,10 @@ use Rattle.gpu_descriptor.proofs.lists.AtPlaces.{cases_option, if_none, set_here
 use Rattle.gpu_descriptor.proofs.cleanup.Splitting.{is_named_at, named_at}
 use Rattle.gpu_descriptor.proofs.lists.Numbers.{below_next, entry_at-found, entry_at-named, number_of, rises_push}
 use Rattle.gpu_descriptor.proofs.table.Exact.{bucket, key_exact}
-use Rattle.gpu_descriptor.proofs.request.KeyAgrees.{Became, pool_booked, count_append, count_of_items, count_elsewhere}
+use Rattle.gpu_descriptor.proofs.request.KeyAgrees.{Became, pool_booked, count_of_items, count_elsewhere}
 use Rattle.gpu_descriptor.proofs.request.NextSize.{next_small}
 use Rattle.gpu_descriptor.proofs.request.StateAgrees.{changed_booked}
+use Rattle.gpu_descriptor.proofs.callers.HeldSets.{count_of-append}
 
 -- an entry that keeps its number is found under it, and leaves the others where they are
 find_set : (n : ℕ) (es : List Entry) (i : ℕ) (e f : Entry) → slice_get es i ≡ Some e → f.number ≡ e.number → e.number ≢ n → find (λ d. d.number == n) (slice_set es i f) ≡ find (λ d. d.number == n) es
@@ -44,7 +45,7 @@ pub added_both : {k : Key} {xs ys : List Item} {a b c : Bucket} {l m n : ℕ →
 added_both {xs = xs} {ys = ys} {b = b} id one two = record {
   booked = two.booked;
   rising = two.rising;
-  live = λ t key own. (let sum = count_append t xs ys in let p = one.live t key (own ∙ id) in let q = two.live t key own in omega arith);
+  live = λ t key own. (let sum = count_of-append t xs ys in let p = one.live t key (own ∙ id) in let q = two.live t key own in omega arith);
   stays = λ q on. two.stays q (one.stays q on);
   comes = λ q on. elim (two.comes q on) [
     | inl mid ↦ one.comes q mid

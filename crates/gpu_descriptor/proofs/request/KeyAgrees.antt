@@ -2,6 +2,7 @@
 use Rattle.gpu_descriptor.proofs.Common.{common_steps, ◌≡◌, ◌≢◌, ℕ, ◌+◌, ◌<◌, ◌≤◌, inl, inr, List, [], ◌∷◌, ◌++◌, length, Bool, false, refl, sym, ap, ◌∙◌, arith, length-append, cases_Bool, cases_lt, length-map, if◌then◌else◌, Pool, live_sets, LiveSet, set_eq, times, bool_iff, count_by_yes}
 use Rattle.gpu_descriptor.proofs.Common.{count_by_no, set_exact, times-append, Key, Entry, Item, item_eq, set_of, count_of, IsAsBooked, ∥∥₁_map, count_by-append, Part, items_at, items_in, pool_with}
 use Rattle.gpu_descriptor.proofs.table.Exact.{item_exact, item_from}
+use Rattle.gpu_descriptor.proofs.callers.HeldSets.{count_of-append}
 
 -- a set that stands among sets of these counts has them
 pub counts_of_live : (counts names : List ℕ) (x : LiveSet) → 0 < times (live_sets counts names) x → x.counts ≡ counts
@@ -48,9 +49,6 @@ pool_booked k pool e f names refused b became = record {
 
 -- ---- the sets of one pool
 
-pub count_append : (t : Item) (a b : List Item) → count_of t (a ++ b) ≡ count_of t a + count_of t b
-count_append t a b = count_by-append (λ u. item_eq u t) a b
-
 -- an item among those of a pool has its key, number and id
 pub place_of_items : (k : Key) (id number : ℕ) (names : List ℕ) (t : Item) → 0 < count_of t (items_at k id number names) → (t.key ≡ k) × (t.number ≡ number) × (t.id ≡ id)
 place_of_items k id number [] t some = absurd (omega arith)
@@ -66,7 +64,7 @@ pub own_items : (k : Key) (id : ℕ) (parts : List Part) (t : Item) → 0 < coun
 own_items k id [] t some = absurd (omega arith)
 own_items k id (p ∷ parts) t some = elim (cases_lt 0 (count_of t (items_at k id p.number p.names))) [
   | inl here ↦ (let is = place_of_items k id p.number p.names t here in (is.0, is.2))
-  | inr none ↦ (let both = count_append t (items_at k id p.number p.names) (items_in k id parts) in own_items k id parts t (omega arith))
+  | inr none ↦ (let both = count_of-append t (items_at k id p.number p.names) (items_in k id parts) in own_items k id parts t (omega arith))
 ]
 
 -- as often as its name came

@@ -7,7 +7,7 @@ use Rattle.gpu_descriptor.proofs.Common.{if◌then◌else◌, cases_Bool, cases_
 use Rattle.gpu_descriptor.proofs.Common.{Entry, Bucket, no_pools, books_of, HasDistinctKeys, sum_over, AddsUp, ∥∥₁_elim, ∥∥₁_map, ∥∥₁_prop, props, common_steps, items_at, marked_descriptors, set_descriptors, descriptors_out, allocated_in, sets_out, IsBookedIn, true≢false}
 use Rattle.gpu_descriptor.proofs.table.Exact.{bucket, item_exact, key_exact}
 use Rattle.gpu_descriptor.proofs.callers.HeldSets.{count_of-append}
-use Rattle.gpu_descriptor.proofs.request.KeyAgrees.{place_of_items, count_append, count_of_items, count_elsewhere}
+use Rattle.gpu_descriptor.proofs.request.KeyAgrees.{place_of_items, count_of_items, count_elsewhere}
 use Rattle.gpu_descriptor.proofs.request.StateAgrees.{booked_of}
 use Rattle.gpu_descriptor.proofs.request.Rollback.{load_of_items}
 use Rattle.gpu_descriptor.proofs.table.Tables.{first_books, none_behind}
@@ -64,10 +64,10 @@ key_out k id (e ∷ es) ledger rising booked =
           omega arith);
       of_key = λ t some. elim (cases_lt 0 (count_of t (items_at k id first names))) [
         | inl here ↦ (let p = place_of_items k id first names t here in (p.0, p.2))
-        | inr none ↦ (let sum = count_append t (items_at k id first names) rest.items in rest.of_key t (omega arith))
+        | inr none ↦ (let sum = count_of-append t (items_at k id first names) rest.items in rest.of_key t (omega arith))
       ];
       each = λ t key own_id.
-          let sum = count_append t (items_at k id first names) rest.items in
+          let sum = count_of-append t (items_at k id first names) rest.items in
           let later = rest.each t key own_id in
           elim (cases_Bool (first == t.number)) [
             | inl hit ↦ (
@@ -107,7 +107,7 @@ table_out ledger (row ∷ table) distinct rising booked =
       here.items ++ rest.0,
       (let both = length-append here.items rest.0 in let whole = sum_by-cons (λ (r : Key × Bucket). sets_out r.0 r.1) row table in omega arith),
       (λ t.
-          let sum = count_append t here.items rest.0 in
+          let sum = count_of-append t here.items rest.0 in
           let later = rest.2 t in
           elim (cases_Bool (key_eq row.0 t.key)) [
             | inl at ↦ (

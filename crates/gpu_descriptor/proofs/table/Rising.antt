@@ -1,13 +1,10 @@
 -- The ids of a table's keys: they rise, so one place has each, and one key.
 -- For `place_of_id`, which finds an entry of the map by halving, and for `release_run`.
-use Rattle.gpu_descriptor.proofs.Common.{◌≡◌, ◌<◌, ℕ, zero, suc, true, false, ◌∷◌, [], List, length, slice_get, Some, inl, inr, refl, ap, arith, slice_index_or, nat_lt, IsNonDecreasingBy, IsPartitionPoint, IsPartitionedBy, values_of, none-some}
+use Rattle.gpu_descriptor.proofs.Common.{◌≡◌, ◌<◌, ℕ, zero, suc, true, false, ◌∷◌, [], List, length, slice_get, Some, inl, inr, refl, ap, arith, slice_index_or, nat_lt, IsNonDecreasingBy, IsPartitionPoint, IsPartitionedBy, values_of, none-some, ◌∙◌, option_map, slice_get-map}
 use Rattle.gpu_descriptor.proofs.Common.{cases_lt, ltb-true, ltb-false, BucketKey, DescriptorBucket, common_steps, rises, stored_ids}
 use Rattle.gpu_descriptor.proofs.lists.Numbers.{rises_at}
 use Rattle.std.proofs.lemmas.List.Sorted.{IsPartitionedBy-ltb}
 use Rattle.indexmap.specs.Layout.{set_value_at}
-
-pub inside : {A : Type 0} (x y : A) → Some x ≡ Some y → x ≡ y
-inside x y same = cc
 
 module _ {P : Type 0} where
   id_at : (es : List (BucketKey × DescriptorBucket P)) (i : ℕ) (d : BucketKey × DescriptorBucket P) → i < length es → slice_get (stored_ids es) i ≡ Some (slice_index_or es i d).1.id
@@ -55,9 +52,7 @@ module _ {P : Type 0} where
 
 module _ {P : Type 0} where
   pub id_of : (es : List (BucketKey × DescriptorBucket P)) (i : ℕ) (e : BucketKey × DescriptorBucket P) → slice_get es i ≡ Some e → slice_get (stored_ids es) i ≡ Some e.1.id
-  id_of [] i e at = absurd (none-some e at)
-  id_of (x ∷ es) zero e at = ap (λ (r : BucketKey × DescriptorBucket P). Some r.1.id) (inside x e at)
-  id_of (x ∷ es) (suc i) e at = id_of es i e at
+  id_of es i e at = slice_get-map (λ (r : BucketKey × DescriptorBucket P). r.1.id) es i ∙ ap (option_map (λ (r : BucketKey × DescriptorBucket P). r.1.id)) at
 
 -- ---- as the table changes
 
