@@ -44,7 +44,7 @@ pub use Rattle.gpu_descriptor.specs.Caller.Values.{Allocations}
 pub use Rattle.gpu_descriptor.specs.Caller.Call.{call_of, layout_key}
 pub use Rattle.gpu_descriptor.specs.Caller.Comparisons.{binary_digits, digits_at, digits_behind, digits_within, gap_digits, run_digits, search_digits}
 pub use Rattle.gpu_descriptor.specs.Caller.Frees.{Frees, GivesBack, Returns, marked_descriptors}
-pub use Rattle.gpu_descriptor.specs.Caller.Keys.{keys_with_pools, with_key}
+pub use Rattle.gpu_descriptor.specs.Caller.Keys.{with_key}
 pub use Rattle.gpu_descriptor.specs.Caller.Others.{is_named}
 pub use Rattle.gpu_descriptor.specs.Caller.Sets.{AreOfLayout, item_of, items_of}
 pub use Rattle.gpu_descriptor.specs.Caller.States.{Agrees, entry_of, marked_load_of, named_bucket, named_row, outstanding_of, pool_load_of, state_of, table_of}

@@ -1,6 +1,6 @@
 -- In which order keys stay in the table: for the fields `keys` of HandsOut (`serve`) and of Sweeps (`sweep`).
 use Rattle.gpu_descriptor.proofs.Common.{◌≡◌, ℕ, zero, suc, ◌==◌, not, Bool, List, [], ◌∷◌, ◌++◌, length, map, filter, slice_get, Some, None, true, false, refl, sym, ap, ◌∙◌, arith, list_any, lookup, map-append, Ledger, BucketKey, DescriptorBucket, Key, Bucket, HasDistinctKeys, books_of}
-use Rattle.gpu_descriptor.proofs.Common.{key_of, Allocations, keys_with_pools, common_steps, has_pools, LosesEmpty, left_of, with_pools, Entry, with_key, key_eq, is_of, named_row, state_of, row_of, stored_keys, none-some}
+use Rattle.gpu_descriptor.proofs.Common.{key_of, Allocations, common_steps, has_pools, LosesEmpty, left_of, with_pools, Entry, with_key, key_eq, is_of, named_row, state_of, row_of, stored_keys, none-some}
 use Rattle.gpu_descriptor.specs.Caller.States.{keys_of}
 use Rattle.gpu_descriptor.proofs.cleanup.Splitting.{pools_with}
 use Rattle.gpu_descriptor.proofs.cleanup.RowsCleaned.{cleared_row, first_keys, has_row, rows_left}
@@ -47,7 +47,7 @@ pub keys_cleaned :
     (es now fs : List (BucketKey × DescriptorBucket P))
     → a.table ≡ map row_of es → b.table ≡ map row_of fs → HasDistinctKeys (rows_in name es)
     → rows_in name now ≡ map (cleared_row everywhere) (rows_in name es) → fs ≡ filter (λ e. has_pools e.1) now
-    → LosesEmpty everywhere (state_of name a l) (state_of name b m) → keys_of b ≡ keys_with_pools (state_of name b m) (keys_of a)
+    → LosesEmpty everywhere (state_of name a l) (state_of name b m) → keys_of b ≡ filter (λ k. not (length ((state_of name b m).books k).pools == 0)) (keys_of a)
 keys_cleaned everywhere {P} name a b l m es now fs was is distinct rows kept clean =
     let t = state_of name b m in
     let stays : Key → Bool = λ k. not (length (t.books k).pools == 0) in

@@ -1,12 +1,11 @@
 -- What cleaning up and trimming leave of an allocator and of the ledger.
-use Rattle.std.specs.Prelude.{◌≡◌, Bool, true, false, length}
+use Rattle.std.specs.Prelude.{◌≡◌, Bool, true, ◌==◌, not, filter, length}
 use Rattle.gpu_descriptor_types.specs.Meaning.{Meaning}
 use Rattle.gpu_descriptor_types.specs.Side.{Side}
 use Rattle.gpu_descriptor.specs.Model.Books.{Key}
 use Rattle.gpu_descriptor.specs.Model.Cleanup.{LosesEmpty, gone_of, pools_lost, without_empty}
 use Rattle.gpu_descriptor.specs.Model.Promises.{KeepsOutstanding}
 use Rattle.gpu_descriptor.specs.Model.Release.{more_destroyed}
-use Rattle.gpu_descriptor.specs.Caller.Keys.{keys_with_pools}
 use Rattle.gpu_descriptor.specs.Caller.Others.{others_of}
 use Rattle.gpu_descriptor.specs.Caller.States.{keys_of, marked_load_of, outstanding_of, state_of}
 use Rattle.gpu_descriptor.specs.Caller.Values.{Allocations}
@@ -18,7 +17,7 @@ pub record Sweeps (everywhere : Bool) {L P S : Type 0} (means : Meaning L P S) (
   -- the counter of destroyed pools rises by their number, and all other counters stay
   pub destroyed : new.ledger.counters ≡ more_destroyed (pools_lost everywhere (keys_of old.value) (state_of means.pool_name old.value old.ledger)) old.ledger.counters
   -- the keys that still have pools, in their order
-  pub keys : keys_of new.value ≡ keys_with_pools (state_of means.pool_name new.value new.ledger) (keys_of old.value)
+  pub keys : keys_of new.value ≡ filter (λ k. not (length ((state_of means.pool_name new.value new.ledger).books k).pools == 0)) (keys_of old.value)
   -- the same sets are outstanding as before
   pub outstanding_stay : KeepsOutstanding (state_of means.pool_name old.value old.ledger) (state_of means.pool_name new.value new.ledger)
   -- their number and the marked load stay
