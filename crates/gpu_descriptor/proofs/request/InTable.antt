@@ -48,7 +48,7 @@ taken_absent (Err why) bound k room n id items b l m t = (t.0, t.1, taken_new t.
 
 -- what one key gave, in the table
 module _ {L P S : Type 0} {means : Meaning L P S} (k : BucketKey) (w : DescriptorBucket P) {old : Bucket} {bound : Option ℕ} {room count : ℕ} {sets : List (DescriptorSet S)} {ended : Result (Unit {0}) Stop} {before after : Ledger}
-    (numbers : next_number old + count ≤ greatest_u64) (few : length sets ≤ count) (all : OnOk ended (length sets ≡ count)) (taken : IsTaken ended bound (key_of k) room count (items_of means.set_name sets) old (bucket_of means.pool_name w) before after) where
+    (numbers : next_number old + count ≤ greatest_u64) (all : OnOk ended (length sets ≡ count)) (taken : IsTaken ended bound (key_of k) room count (items_of means.set_name sets) old (bucket_of means.pool_name w) before after) where
   module _ {had : ℕ} (total : w.total ≡ had + length sets) (es : List (BucketKey × DescriptorBucket P)) {fs : List (BucketKey × DescriptorBucket P)} where
     -- the key had a row, which was written; or its row came last (`serves_new`)
     pub serves_present : {i : ℕ} {v : DescriptorBucket P} → IsDistinct key_eq (stored_keys es) → bucket_of means.pool_name v ≡ old → v.total ≡ had → IsAt (key_of k) es i v → fs ≡ set_value_at es i w → ServesKey means bound (key_of k) room count sets ended (map row_of es) (map row_of fs) before after
@@ -59,7 +59,6 @@ module _ {L P S : Type 0} {means : Meaning L P S} (k : BucketKey) (w : Descripto
         let grows = load_grows k h.key v w (length sets) h.is (total ∙ ap (λ n. n + length sets) (sym many)) in
         rw wrote (record {
           numbers = rw here numbers;
-          few = few;
           all = all;
           bucket = bucket_of means.pool_name w;
           taken = rw here taken;
@@ -77,7 +76,6 @@ module _ {L P S : Type 0} {means : Meaning L P S} (k : BucketKey) (w : Descripto
         let bare = subst (λ (b : Bucket). (next_number b + count ≤ greatest_u64) × IsTaken ended bound (key_of k) room count (items_of means.set_name sets) b (bucket_of means.pool_name w) before after) empty (numbers, taken) in
         rw put (record {
           numbers = rw gone bare.0;
-          few = few;
           all = all;
           bucket = bucket_of means.pool_name w;
           taken = rw gone (taken_absent ended bound (key_of k) room count old.id (items_of means.set_name sets) (bucket_of means.pool_name w) before after bare.1);

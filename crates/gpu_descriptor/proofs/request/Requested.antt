@@ -94,12 +94,12 @@ module _ {L P S : Type 0} {means : Meaning L P S} {bound : Option ℕ} {key : Bu
   sets_within = within_of key.marked a.limit (count * sum (kinds key.counts) + marked_load_of a) (sym test ∙ below)
 
   -- their descriptors keep the limit
-  pub given_fits : {given : ℕ} → given ≡ length sets → set_descriptors (key_of key) given + marked ≤ max
-  given_fits {given} long = grind (arith, common_steps, mul-le-mul_right, sets_within)
+  pub given_fits : {given : ℕ} → given ≤ count → set_descriptors (key_of key) given + marked ≤ max
+  given_fits {given} few = grind (arith, common_steps, mul-le-mul_right, sets_within)
 
   -- the totals that the code then writes are right
-  pub counted_now : {given more left : ℕ} → given ≡ length sets → more ≡ set_descriptors (key_of key) given → left + sum_over bucket_load (map row_of fs) ≡ room + sum_over bucket_load (map row_of es) → IsConsistent max (marked + more) left (out + given) fs
-  counted_now long load moved = grind (arith, common_steps, given_fits)
+  pub counted_now : {given more left : ℕ} → given ≡ length sets → given ≤ count → more ≡ set_descriptors (key_of key) given → left + sum_over bucket_load (map row_of fs) ≡ room + sum_over bucket_load (map row_of es) → IsConsistent max (marked + more) left (out + given) fs
+  counted_now long few load moved = grind (arith, common_steps, given_fits)
 
   pub takes_of : {past : Bool} → past ≡ nat_lt greatest_u64 (out + count) → past ≡ false → {looked : ℕ} {bound_now : Option ℕ} → Takes means (key_of key) count sets ended (side a before) (side (seen max bound_now looked compared fs) after)
   takes_of bounded kept_in {looked} {bound_now} = grind (arith, common_steps, ltb-false, sets_within)

@@ -32,7 +32,7 @@ module _ {L P S : Type 0} {means : Meaning L P S} {k : Key} {count left : ℕ} {
       (appends : Appends means layout count left roomy has) (all : OnOk ended (left ≡ 0)) (total : new.total ≡ many + length (appended roomy has))
       (taken : IsTaken ended was.bound k was.room count (items_of means.set_name (appended roomy has)) (bucket id (map (entry_of means.pool_name) pools)) (bucket_of means.pool_name new) before after) where
     pub is_served : {is : Budget}
-        → (next_number (bucket id (map (entry_of means.pool_name) pools)) + count ≤ greatest_u64 → length (appended had has) ≤ count → OnOk ended (length (appended had has) ≡ count)
+        → (next_number (bucket id (map (entry_of means.pool_name) pools)) + count ≤ greatest_u64 → OnOk ended (length (appended had has) ≡ count)
         → IsTaken ended was.bound k was.room count (items_of means.set_name (appended had has)) (bucket id (map (entry_of means.pool_name) pools)) (bucket_of means.pool_name new) before after → new.total ≡ many + length (appended had has)
         → ServesKey means was.bound k was.room count (appended had has) ended (map row_of es) (map row_of fs) before after)
         → stored_keys fs ≡ with_key k (stored_keys es) → is.room + sum_over bucket_load (map row_of fs) ≡ was.room + sum_over bucket_load (map row_of es) → is.bound ≡ was.bound → CountsLooks was.looks.count is.looks.count before after
@@ -42,7 +42,7 @@ module _ {L P S : Type 0} {means : Meaning L P S} {k : Key} {count left : ℕ} {
         × IsTaken ended was.bound k was.room count (items_of means.set_name (appended xs has)) (bucket id (map (entry_of means.pool_name) pools)) (bucket_of means.pool_name new) before after) made (appends, total, taken) in
         let rest = here.0.rest in
         record {
-          served = serves (let is = next means.pool_name id pools in omega arith) (omega arith) (on_ok_weaker ended (λ none. (omega arith)) all) here.2 here.1;
+          served = serves (let is = next means.pool_name id pools in omega arith) (on_ok_weaker ended (λ none. (omega arith)) all) here.2 here.1;
           appends = here.0;
           keys = keys;
           refused = tt;

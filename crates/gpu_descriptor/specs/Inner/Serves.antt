@@ -36,7 +36,6 @@ module _ {L P S : Type 0} (means : Meaning L P S) where
     pub record ServesKey (old new : List (Key × BucketOf P)) (before after : Ledger) : Type 0 where
       -- with the numbers of count new pools, 64 bits are kept
       pub numbers : next_number (books_in means.pool_name old k) + count ≤ greatest_u64
-      pub few : length sets ≤ count
       pub all : OnOk ended (length sets ≡ count)
       -- what the key's bucket gave, and what it is then
       pub bucket : Bucket

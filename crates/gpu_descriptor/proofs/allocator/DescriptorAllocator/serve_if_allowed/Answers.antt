@@ -29,9 +29,12 @@ returns-in_err-ended-clause-declined g c =
 many : (g : _) (c : After-from-taken g) → c.from-taken.result ≡ length (appended (g.K.SetPlaces.items c.args.sink.now.sets) (g.K.SetPlaces.items c.serve.new.sink.sets))
 many g c = (let left = c.in_ok-ended.ensures.serves.appends.rest in let came = c.from-taken.ensures in omega arith)
 
+few : (g : _) (c : After-from-taken g) → c.from-taken.result ≤ c.args.request.now.count
+few g c = (let is = many g c in let rest = c.in_ok-ended.ensures.serves.appends.rest in omega arith)
+
 -- the descriptors of what came keep the limit
 fits : (g : _) (c : After-from-taken g) → set_descriptors (key_of c.args.request.now.key) c.from-taken.result + c.self.inside.update_after_bind_descriptors ≤ c.self.inside.max_update_after_bind_descriptors_in_all_pools
-fits g c = given_fits c.serve.new.self.buckets.entries c.in_ok-ended.ensures.serves.served c.self.view_is c.self.invariant c.would_exceed_limit.ensures c.if-would_exceed_limit.false (many g c)
+fits g c = given_fits c.serve.new.self.buckets.entries c.in_ok-ended.ensures.serves.served c.self.view_is c.self.invariant c.would_exceed_limit.ensures c.if-would_exceed_limit.false (few g c)
 
 descriptors : (g : _) (c : After-from-taken g) → c.from-taken.result * c.marked_descriptors_of_set-each.result ≡ set_descriptors (key_of c.args.request.now.key) c.from-taken.result
 descriptors g c = set_descriptors-each (key_of c.args.request.now.key) c.from-taken.result c.marked_descriptors_of_set-each.result c.marked_descriptors_of_set-each.ensures
@@ -66,7 +69,7 @@ counted :
 counted g c =
     counted_now c.serve.new.self.buckets.entries c.in_ok-ended.ensures.serves.served c.self.view_is c.self.invariant
     c.would_exceed_limit.ensures c.if-would_exceed_limit.false
-    (many g c) (descriptors g c) c.serve.ensures.serves.room
+    (many g c) (few g c) (descriptors g c) c.serve.ensures.serves.room
 
 pub invariant_of-self-2 : goal.invariant_of-self-2
 invariant_of-self-2 g c = counted g (goal.at.invariant_of-self-2 g c).After-from-taken

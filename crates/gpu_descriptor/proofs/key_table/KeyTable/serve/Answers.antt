@@ -39,7 +39,7 @@ returns-in-Some g c =
     let es = c.args.self.now.buckets.entries in
     record {
       serves = is_served es c.index_mut-bucket.result.now.id c.index_mut-bucket.result.now.pools.items c.index_mut-bucket.result.now.total c.take.new.self c.prepare.ensures.sets c.in_ok-prepare.ensures.numbers c.take.ensures.appends c.take.ensures.all c.take.ensures.total c.take.ensures.taken
-          (λ numbers few all taken total. serves_present c.args.request.now.key c.take.new.self numbers few all taken total es c.args.self.now.distinct refl refl at refl)
+          (λ numbers all taken total. serves_present c.args.request.now.key c.take.new.self numbers all taken total es c.args.self.now.distinct refl refl at refl)
           (keys_at es c.in-Some.place c.take.new.self ∙ keys_stay (key_of c.args.request.now.key) (stored_keys es) c.in-Some.place c.in-Some.ensures.place) (pools_set at c.take.new.self _ _ c.take.ensures.room) c.take.ensures.bound c.take.ensures.looks;
     }
 

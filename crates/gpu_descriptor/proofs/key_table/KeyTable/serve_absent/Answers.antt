@@ -60,7 +60,7 @@ returns g c =
     let moved = c.take-ended.ensures.room in
     record {
       serves = is_served es c.args.self.now.next_id c.new.result.items 0 c.take-ended.new.self c.prepare.ensures.sets c.in_ok-prepare.ensures.numbers c.take-ended.ensures.appends c.take-ended.ensures.all c.take-ended.ensures.total c.take-ended.ensures.taken
-          (λ numbers few all taken total. serves_new c.args.request.now.key c.take-ended.new.self numbers few all taken total es (is_of key) (λ k. search rules) c.requires.absent added (λ i. record { id = c.args.self.now.next_id; pools = map (entry_of g.D.DescriptorDevice.meaning.pool_name) (c.new.ensures.items i) }) refl)
+          (λ numbers all taken total. serves_new c.args.request.now.key c.take-ended.new.self numbers all taken total es (is_of key) (λ k. search rules) c.requires.absent added (λ i. record { id = c.args.self.now.next_id; pools = map (entry_of g.D.DescriptorDevice.meaning.pool_name) (c.new.ensures.items i) }) refl)
           (keys_put key c.args.request.now.key es c.insert.new.self.entries c.take-ended.new.self refl c.requires.absent added)
           (rw added (pools_end c.args.request.now.key es c.take-ended.new.self c.take-ended.new.budget.room c.args.budget.now.room (omega arith)))
           c.take-ended.ensures.bound c.take-ended.ensures.looks;
