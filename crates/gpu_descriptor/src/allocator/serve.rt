@@ -46,20 +46,17 @@ impl<P: Drop, S> DescriptorAllocator<P, S> {
         ensures keeps { Keeps D.meaning (side self.old (D.ledger device.old))
             (side self.new (D.ledger device.new)) }
     {
+        // It is read before the test, since a proof knows the allocator's invariant only where a field is
+        // read, and `keeps` needs the invariant.
+        let alloc = self.alloc;
         if count == 0 {
-            // A proof knows the allocator's invariant only where a field is read, and that of `keeps`
-            // needs the invariant.
-            prove!(
-                self.update_after_bind_descriptors
-                    <= self.max_update_after_bind_descriptors_in_all_pools
-            );
             return (sets, Ok(()));
         }
         let request = SetRequest {
             layout,
             key,
             count,
-            alloc: self.alloc,
+            alloc,
             device: PhantomData,
         };
         self.fill(device, &request, sets)

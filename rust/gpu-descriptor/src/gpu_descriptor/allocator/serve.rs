@@ -25,6 +25,9 @@ impl<P, S> DescriptorAllocator<P, S> {
         sets: K,
     ) -> (K, Result<(), AllocationError>)
     {
+        // It is read before the test, since a proof knows the allocator's invariant only where a field is
+        // read, and `keeps` needs the invariant.
+        let alloc = self.alloc;
         if count == 0 {
             return (sets, Ok(()));
         }
@@ -32,7 +35,7 @@ impl<P, S> DescriptorAllocator<P, S> {
             layout,
             key,
             count,
-            alloc: self.alloc,
+            alloc,
             device: PhantomData,
         };
         self.fill(device, &request, sets)
