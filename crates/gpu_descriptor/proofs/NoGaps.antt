@@ -1,9 +1,8 @@
 -- Numbers without gaps: no pools have any, and a request, a free and a cleanup leave none. For the law `only_a_trim_leaves_gaps`.
-use Rattle.gpu_descriptor.proofs.Common.{◌≡◌, ℕ, ◌++◌, cond, list_any, spent_front, without_front, inl, inr, Bool, true, false, List, drop, refl, sym, ap, subst, ◌∙◌, arith, if◌then◌else◌, cases_Bool, prefix_len}
+use Rattle.gpu_descriptor.proofs.Common.{◌≡◌, ℕ, ◌++◌, cond, list_any, spent_front, without_front, true, false, List, drop, refl, sym, ap, subst, ◌∙◌, arith, prefix_len, common_steps}
 use Rattle.gpu_descriptor.proofs.Common.{Agree, Allocates, Bucket, Call, Entry, Grant, Item, Key, State, fresh_entries, granted, key_eq, next_number, numbers_of, released, rises}
 use Rattle.gpu_descriptor.specs.Model.Agreement.{HasNoGaps, HasNoPools}
 use Rattle.gpu_descriptor.specs.Model.Cleanup.{LosesEmpty, left_of}
-use Rattle.gpu_descriptor.specs.Model.Grants.{bucket_with}
 use Rattle.gpu_descriptor.specs.Model.Outcomes.Allocates.{above_limit, done, no_memory_at_start, none, past_bound, stopped}
 use Rattle.gpu_descriptor.specs.Model.Release.{bucket_less, is_empty}
 use Rattle.gpu_descriptor.proofs.cleanup.Splitting.{pools_with}
@@ -22,11 +21,7 @@ none_begins s bare k = subst (λ (es : List Entry). IsDense (numbers_of es)) (sy
 module _ (k : Key) (n : ℕ) (g : Grant) (s : State) where
   -- what holds of the numbers of the key's pools with the new ones, and of those of each other key, holds of all afterwards
   more : (P : List ℕ → Type 0) → P (numbers_of (s.books k).pools ++ numbers_of (fresh_entries (next_number (s.books k)) g.fresh)) → ((l : Key) → P (numbers_of (s.books l).pools)) → (l : Key) → P (numbers_of ((granted k n g s).books l).pools)
-  more P new each l = elim (cases_Bool (key_eq k l)) [
-    | inl same ↦ subst (λ (b : Bool). P (numbers_of (if b then bucket_with n g (s.books k) else s.books l).pools)) (sym same)
-        (subst P (sym (numbers_taken g.refused n g.skipped (s.books k).pools (fresh_entries (next_number (s.books k)) g.fresh))) new)
-    | inr other ↦ subst (λ (b : Bool). P (numbers_of (if b then bucket_with n g (s.books k) else s.books l).pools)) (sym other) (each l)
-  ]
+  more P new each l = grind (arith, common_steps, numbers_taken)
 
   dense_more : HasNoGaps s → HasNoGaps (granted k n g s)
   dense_more dense = more IsDense (dense_fresh (next_number (s.books k)) g.fresh (numbers_of (s.books k).pools) refl (dense k)) dense

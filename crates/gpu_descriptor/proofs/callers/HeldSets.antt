@@ -1,6 +1,5 @@
 -- Which sets of a list are outstanding after a call: for callers that hold sets.
-use Rattle.gpu_descriptor.proofs.Common.{◌≡◌, ℕ, ◌+◌, List, ◌++◌, sym, ap, ◌∙◌, arith, IsPermutation, map-append, count_by-append, DescriptorSet, State, Item, item_eq, Agree, AreOutstanding, count_of, outstanding, AreOutBesides, KeepsOutstanding, released, item_of, items_of}
-use Rattle.std.proofs.lemmas.List.Sorted.{sum_by-IsPermutation, IsPermutation-map}
+use Rattle.gpu_descriptor.proofs.Common.{◌≡◌, ℕ, ◌+◌, List, ◌++◌, sym, ap, ◌∙◌, arith, map-append, count_by-append, DescriptorSet, State, Item, item_eq, Agree, AreOutstanding, count_of, outstanding, AreOutBesides, released, item_of, items_of}
 use Rattle.gpu_descriptor.proofs.release.ReleaseAgrees.{takes}
 
 -- ---- lists of items

@@ -1,5 +1,5 @@
 -- A trim of one key, k, in the table: for `trim_layout`. es and fs are the map's entries before and after, v and w the key's bucket then.
-use Rattle.gpu_descriptor.proofs.Common.{IsDistinct, ◌≡◌, ℕ, true, if◌then◌else◌, List, length, map, slice_get, slice_get-map, option_map, None, Some, inl, inr, refl, sym, ap, ◌∙◌, cases_Bool, same_Some, Counters, Ledger, BucketKey, DescriptorBucket, State, Key, key_eq, key_of, Bucket, no_pools, Allocations}
+use Rattle.gpu_descriptor.proofs.Common.{IsDistinct, ◌≡◌, ℕ, true, if◌then◌else◌, List, length, map, slice_get, slice_get-map, None, Some, sym, ap, ◌∙◌, Counters, Ledger, BucketKey, DescriptorBucket, State, Key, key_eq, Bucket, no_pools, Allocations, arith, common_steps}
 use Rattle.gpu_descriptor.proofs.Common.{are_named, gone_of, left_of, ledger_but, more_destroyed, without_empty, bucket_of, row_of, state_of, stored_keys}
 use Rattle.indexmap.specs.Layout.{set_value_at}
 use Rattle.gpu_descriptor.proofs.cleanup.Rotation.{none_destroyed}
@@ -18,11 +18,7 @@ more_gone l b = more_destroyed (length (gone_of true b.pools)) l.counters
 module _ {P : Type 0} (k : Key) (es : List (BucketKey × DescriptorBucket P)) where
   -- what stands at the key's place is its row
   pub key_there : (i : ℕ) (key : BucketKey) (v : DescriptorBucket P) → slice_get es i ≡ Some (key, v) → slice_get (stored_keys es) i ≡ Some k → IsAt k es i v
-  key_there i key v at stands = record {
-    key = key;
-    at = at;
-    is = same_Some (key_of key) k (sym (slice_get-map (λ (e : BucketKey × DescriptorBucket P). key_of e.0) es i ∙ ap (option_map (λ (e : BucketKey × DescriptorBucket P). key_of e.0)) at) ∙ stands);
-  }
+  key_there i key v at stands = grind (arith, common_steps, slice_get-map)
 
   module _ (distinct : IsDistinct key_eq (stored_keys es)) {i : ℕ} {v : DescriptorBucket P} (h : IsAt k es i v) (name : P → ℕ) (a : Allocations P) (before : Ledger) (is : a.table ≡ map row_of es) where
     -- the books have the bucket of the row
@@ -49,13 +45,7 @@ module _ {P : Type 0} (k : Key) (es : List (BucketKey × DescriptorBucket P)) wh
 -- a key without pools loses none
 module _ (k : Key) (s : State) (none : s.books k ≡ no_pools) where
   pub nothing_trimmed : s ≡ without_empty k s
-  nothing_trimmed =
-      let books : (l : Key) → s.books l ≡ (without_empty k s).books l = λ l. elim (cases_Bool (key_eq k l)) [
-        | inl own ↦ rw own (ap s.books (sym (key_exact.same k l own)) ∙ none ∙ ap less (sym none))
-        | inr other ↦ rw other refl
-      ] in
-      let ledger : (p : ℕ) → s.ledger p ≡ (without_empty k s).ledger p = λ p. ap (λ (b : Bucket). if are_named (gone_of true b.pools) p then None else s.ledger p) (sym none) in
-      λ i. record { books = λ l. books l i; ledger = λ p. ledger p i }
+  nothing_trimmed = grind (arith, common_steps, key_exact)
 
   pub nothing_destroyed : (l : Ledger) → l.counters ≡ more_gone l (s.books k)
   nothing_destroyed l = ap (λ (l : Ledger). l.counters) (none_destroyed l) ∙ ap (more_gone l) (sym none)

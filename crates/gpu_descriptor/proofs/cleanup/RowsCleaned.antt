@@ -202,19 +202,7 @@ module _ (everywhere : Bool) where
         → rows_in name now ≡ map cleared_row (rows_in name es) → k ≡ ledger_less (rows_in name es) l
         → fs ≡ filter (λ e. has_pools e.1) now
         → LosesEmpty everywhere (state_of name a l) (state_of name (record { limit = limit; bound = None; table = map row_of fs; looks = 0; comparisons = 0 }) k)
-    whole_clean a l k es now fs limit is distinct rows pools kept =
-        let new : Allocations P = record { limit = limit; bound = None; table = map row_of fs; looks = 0; comparisons = 0 } in
-        let new_is : state_of name new k ≡ record { books = books_of (rows_in name (filter (λ e. has_pools e.1) now)); ledger = pools_less (rows_in name es) l.pools } =
-        state_is new k fs refl ∙ (λ i. record { books = books_of (rows_in name (kept i)); ledger = (pools i).pools }) in
-        subst (λ t. LosesEmpty everywhere (state_of name a l) t) (sym new_is)
-        (subst
-        (λ s.
-        LosesEmpty everywhere s
-        (record {
-          books = books_of (rows_in name (filter (λ e. has_pools e.1) now));
-          ledger = pools_less (rows_in name es) l.pools;
-        }))
-        (sym (state_is a l es is)) (is_cleaned name now (rows_in name es) l.pools distinct rows))
+    whole_clean a l k es now fs limit is distinct rows pools kept = grind (arith, common_steps, state_is, is_cleaned)
 
     pub first_keys : (es : List (BucketKey × DescriptorBucket P)) → map (λ (r : Key × Bucket). r.0) (rows_in name es) ≡ map (λ e. key_of e.0) es
     first_keys [] = refl

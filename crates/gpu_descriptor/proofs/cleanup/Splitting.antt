@@ -2,7 +2,7 @@
 -- For cleanup and trim alike (`sweep`): what holds of each such split holds of the two that `left_of` and `gone_of` make, one for
 -- each value of everywhere.
 use Rattle.gpu_descriptor.proofs.Common.{common_steps, ◌≡◌, ◌≢◌, ◌≤◌, ◌⊎◌, ℕ, zero, suc, ◌==◌, Bool, true, false, nat_lt, List, [], ◌∷◌, take, drop, filter, slice_get, Some, inl, inr, refl, sym, ap, ◌∙◌, arith, eq-eqb, eqb-true, ne_eqb, lt-ltb, and_parts, and_from, cases_Bool, list_all}
-use Rattle.gpu_descriptor.proofs.Common.{prefix_len, Entry, Bucket, rises, numbers_of, no_pools, is_empty, are_named, gone_of, left_of, with_pools, none-some, same_Some}
+use Rattle.gpu_descriptor.proofs.Common.{prefix_len, Entry, Bucket, rises, numbers_of, no_pools, is_empty, are_named, gone_of, left_of, with_pools, none-some}
 use Rattle.gpu_descriptor.proofs.lists.AtPlaces.{any_here, found_at}
 use Rattle.gpu_descriptor.proofs.lists.Numbers.{number_of, rises_once}
 
@@ -66,10 +66,7 @@ left_at (x ∷ pools) left gone (inr s) i e at = (let r = left_at pools left s.0
 pub gone_at : (pools left gone : List Entry) → Split pools left gone → (i : ℕ) (e : Entry) → slice_get gone i ≡ Some e → (j : ℕ) × (slice_get pools j ≡ Some e) × (is_empty e ≡ true)
 gone_at [] left gone s i e at = absurd (none-some e (ap (λ l. slice_get l i) (sym s.1) ∙ at))
 gone_at (x ∷ pools) left gone (inl s) i e at = (let r = gone_at pools s.0 gone s.2 i e at in (suc r.0, r.1, r.2))
-gone_at (x ∷ pools) left gone (inr s) zero e at = (
-    let here : Some x ≡ Some e = ap (λ l. slice_get l 0) (sym s.1) ∙ at in
-    let is : x ≡ e = same_Some x e here in
-    (0, here, ap is_empty (sym is) ∙ s.2))
+gone_at (x ∷ pools) left gone (inr s) zero e at = grind (arith, common_steps)
 gone_at (x ∷ pools) left gone (inr s) (suc i) e at = (let r = gone_at pools left s.0 s.3 i e (ap (λ l. slice_get l (suc i)) (sym s.1) ∙ at) in (suc r.0, r.1, r.2))
 
 -- each pool is left or goes

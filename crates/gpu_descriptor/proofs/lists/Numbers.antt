@@ -24,21 +24,14 @@ rises_at (x ∷ xs) h (suc i) (suc j) m n lt a b = rises_at xs (and_parts (list_
 
 -- so each stands at one place
 pub rises_once : (xs : List ℕ) → rises xs ≡ true → (i j n : ℕ) → slice_get xs i ≡ Some n → slice_get xs j ≡ Some n → i ≡ j
-rises_once xs h i j n a b = elim (cases_lt i j) [
-  | inl lt ↦ absurd (let bad = rises_at xs h i j n n lt a b in omega arith)
-  | inr le ↦ elim (cases_lt j i) [ inl lt ↦ absurd (let bad = rises_at xs h j i n n lt b a in omega arith) | inr ge ↦ omega arith ]
-]
+rises_once xs h i j n a b = grind (arith, common_steps, rises_at)
 
 -- the next number is above all
 pub below_next : (xs : List ℕ) → rises xs ≡ true → (i m : ℕ) → slice_get xs i ≡ Some m → m < number_after xs
 below_next [] h i m at = absurd (none-some m at)
 below_next (x ∷ []) h zero m at = (let same : x ≡ m = cc in omega arith)
 below_next (x ∷ []) h (suc i) m at = absurd (none-some m at)
-below_next (x ∷ y ∷ xs) h zero m at =
-    let same : x ≡ m = cc in
-    let first = all_above x (y ∷ xs) (and_parts (list_all (nat_lt x) (y ∷ xs)) (rises (y ∷ xs)) h).0 0 y refl in
-    let rest = below_next (y ∷ xs) (and_parts (list_all (nat_lt x) (y ∷ xs)) (rises (y ∷ xs)) h).1 0 y refl in
-    omega arith
+below_next (x ∷ y ∷ xs) h zero m at = grind (arith, common_steps, (below_next (y ∷ xs) (and_parts (list_all (nat_lt x) (y ∷ xs)) (rises (y ∷ xs)) h).1 0 y refl))
 below_next (x ∷ y ∷ xs) h (suc i) m at = below_next (y ∷ xs) (and_parts (list_all (nat_lt x) (y ∷ xs)) (rises (y ∷ xs)) h).1 i m at
 
 -- a number that isn't below the next may come last

@@ -1,6 +1,5 @@
 -- Giving one run back to a stored bucket.
 -- For `release_sets`. names are those of the run's sets, ls the live sets that left the pool q, whose entry e is at place i.
-use Rattle.std.proofs.lemmas.List.Sums.{sum_by-set}
 use Rattle.gpu_descriptor.proofs.Common.{entry_at, greatest_pool_size, ◌≡◌, ℕ, zero, suc, ◌+◌, ◌-◌, ◌<◌, ◌≤◌, List, [], ◌∷◌, length, map, sum_by, set, get_or, slice_get, Option, Some, option_map, refl, ap, ◌∙◌, arith, IfSome, slice_get-map, slice_get_read, length-map}
 use Rattle.gpu_descriptor.proofs.Common.{Pool, live_sets, LiveSet, times, AreIn, DescriptorPool, live_in, IsAsBooked, Key, Entry, Bucket, ∥∥₁_elim, ∥∥₁_map, props, common_steps, AreBookedIn, IsTakenAt, entry_less, pool_less, entry_of}
 use Rattle.gpu_descriptor.proofs.foreign.LedgerPools.{taken_from, with_pool_same, with_pool_other, size_minus, only_these}
@@ -87,7 +86,4 @@ allocated_from pools = sum_by (λ p. p.allocated) pools
 -- the sets that go back are no longer counted
 pub total_less : {P : Type 0} (items : List (DescriptorPool P)) (i : ℕ) (q : DescriptorPool P) (raw : P) (m : ℕ) → i < length items → q ≡ get_or items i q → m ≤ q.allocated
     → (m ≤ allocated_from items) × (allocated_from (set items i (record { pool = raw; number = q.number; capacity = q.capacity; allocated = q.allocated - m; available = q.available + m })) + m ≡ allocated_from items)
-total_less {P} items i q raw m lt is fits =
-    let put = sum_by-set (λ (p : DescriptorPool P). p.allocated) items i (record { pool = raw; number = q.number; capacity = q.capacity; allocated = q.allocated - m; available = q.available + m }) q lt in
-    let was : q.allocated ≡ (get_or items i q).allocated = ap (λ (p : DescriptorPool P). p.allocated) is in
-    (omega arith, omega arith)
+total_less {P} items i q raw m lt is fits = grind (arith, common_steps)

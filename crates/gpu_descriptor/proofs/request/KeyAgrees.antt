@@ -1,6 +1,6 @@
 -- What a request takes of one pool leaves its entry as booked; how often each set came from it. For request.TakenAgrees.
 use Rattle.gpu_descriptor.proofs.Common.{common_steps, ◌≡◌, ◌≢◌, ℕ, ◌+◌, ◌<◌, ◌≤◌, inl, inr, List, [], ◌∷◌, ◌++◌, length, Bool, false, refl, sym, ap, ◌∙◌, arith, length-append, cases_Bool, cases_lt, length-map, if◌then◌else◌, Pool, live_sets, LiveSet, set_eq, times, bool_iff, count_by_yes}
-use Rattle.gpu_descriptor.proofs.Common.{count_by_no, set_exact, times-append, Key, Entry, Item, item_eq, set_of, count_of, IsAsBooked, ∥∥₁_map, count_by-append, Part, items_at, items_in, pool_with}
+use Rattle.gpu_descriptor.proofs.Common.{count_by_no, set_exact, times-append, Key, Entry, Item, item_eq, set_of, count_of, IsAsBooked, ∥∥₁_map, Part, items_at, items_in, pool_with}
 use Rattle.gpu_descriptor.proofs.table.Exact.{item_exact, item_from}
 use Rattle.gpu_descriptor.proofs.callers.HeldSets.{count_of-append}
 

@@ -1,5 +1,5 @@
 -- What was put stands behind what was there, and has the layout that was asked for.
-use Rattle.gpu_descriptor.proofs.Common.{common_steps, ◌≡◌, ◌+◌, ◌++◌, ◌∙◌, ℕ, List, ap, length-append, length-map, map-append, Appends, items_at, items_of, map, drop, drop_all, length, All, All-append, arith, subst, sym, DescriptorSet, IsOfLayout, AreOfLayout, Key, Meaning, set_at}
+use Rattle.gpu_descriptor.proofs.Common.{◌≡◌, ◌+◌, ◌++◌, ◌∙◌, ℕ, List, ap, length-append, length-map, map-append, Appends, items_at, items_of, map, length, All, All-append, arith, subst, sym, DescriptorSet, IsOfLayout, AreOfLayout, Key, Meaning, set_at}
 use Rattle.std.proofs.lemmas.List.Elements.{All-map}
 use Rattle.gpu_descriptor.specs.Caller.SetLists.{appended}
 use Rattle.gpu_descriptor.proofs.lists.Appended.{appended_more, front_more}

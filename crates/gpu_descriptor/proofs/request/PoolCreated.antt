@@ -1,7 +1,7 @@
 -- What a new pool does to the ledger.
 -- For `take_from_new`. l is the ledger at first, m that after the create, m' after the call for sets, m'' after a destroy.
-use Rattle.gpu_descriptor.proofs.Common.{◌↔◌, ◌≡◌, ◌≢◌, ◌<◌, ℕ, ◌+◌, ◌-◌, ◌≤◌, min, List, [], ◌∷◌, ◌++◌, length, Bool, true, false, cond, nat_eq, Option, Some, None, slice_index, refl, sym, ap, ◌∙◌, arith, eqb-true, mul-le-mul_right, fun_ext, update, flags_of, Key, Entry, Pool, Ledger, Counters}
-use Rattle.gpu_descriptor.proofs.Common.{CanGive, HasNoSets, live_sets, fresh, after_create, after_no_create, after_alloc, after_no_alloc, after_destroy, create_refused, alloc_refused, pool_refusals, no_rise, CreatePoolError, pool_counts, DeviceAllocationError, Stop, update_here, IsNextSize}
+use Rattle.gpu_descriptor.proofs.Common.{◌↔◌, ◌≡◌, ◌≢◌, ◌<◌, ℕ, ◌+◌, ◌-◌, ◌≤◌, min, List, [], ◌∷◌, ◌++◌, length, Bool, true, false, cond, nat_eq, Option, Some, None, slice_index, refl, sym, ap, ◌∙◌, arith, eqb-true, mul-le-mul_right, fun_ext, update, flags_of, Key, Entry, Pool, Ledger, Counters, common_steps}
+use Rattle.gpu_descriptor.proofs.Common.{CanGive, HasNoSets, live_sets, fresh, after_create, after_no_create, after_alloc, after_no_alloc, after_destroy, alloc_refused, pool_refusals, no_rise, CreatePoolError, pool_counts, DeviceAllocationError, Stop, update_here, IsNextSize}
 use Rattle.gpu_descriptor.proofs.Common.{pool_descriptors, IsGrown, IsRefused, risen, stop_rise, option_map, fresh_entry, number_after, numbers_of}
 use Rattle.gpu_descriptor.specs.declared.bucket.stop.Stop.TheVariants as stop
 use Rattle.gpu_descriptor_types.proofs.Counting.{none_spelled}
@@ -73,15 +73,8 @@ not_grown k size name error l m m' m'' none made refused gone = record {
     at true q h = sym none ∙ ap l.pools (eqb-true name q h)
     at false q h = refl
 
--- no pool was created
-create_counters : (error : CreatePoolError) (n : Counters) → create_refused error n ≡ risen (stop_rise (stop.PoolNotCreated error)) n
-create_counters error n = same_counters _ _ (grind arith) (grind arith) (grind arith) (grind arith) (grind arith) (grind arith) (grind arith) (grind arith)
-
 pub not_created : (error : CreatePoolError) (l m : Ledger) → m ≡ after_no_create error l → IsRefused (stop.PoolNotCreated error) l m
-not_created error l m is = record {
-  pools = ap (λ (x : Ledger). x.pools) is;
-  counters = ap (λ (x : Ledger). x.counters) is ∙ create_counters error l.counters;
-}
+not_created error l m is = grind (arith, common_steps)
 
 -- nothing was asked of the device
 pub none_asked : (l : Ledger) (why : Stop) → stop_rise why ≡ no_rise → IsRefused why l l
@@ -90,10 +83,3 @@ none_asked l why none = record { pools = refl; counters = sym (ap (λ (by : Coun
 -- a request stopped for another reason than want of room
 pub had_room : {why : Stop} {one room : ℕ} → why ≢ stop.NoRoomUnderLimit → one ≤ room → (why ≡ stop.NoRoomUnderLimit) ↔ (room < one)
 had_room other fits = (λ is. absurd (other is), λ none. absurd (omega arith))
-
--- how often pools were asked
-pub create_asked : (error : CreatePoolError) (n : Counters) → (create_refused error n).asked ≡ n.asked
-create_asked error n = grind arith
-
-pub alloc_asked : (error : DeviceAllocationError) (n : Counters) → (alloc_refused error n).asked ≡ n.asked + 1
-alloc_asked error n = grind arith

@@ -48,16 +48,7 @@ few bound k room total wanted (f ∷ h ∷ pools) sized full short more why =
 
 -- a request that created n pools is short (IsShort) if n is so small
 pools_short : (c : Call) (g : Grant) → 0 < needed c g → AreBelowTwice (out_then c g) (needed c g) g.fresh → OnOk c.answer (AreFilled c) → (n : ℕ) → c.after.created ≡ c.before.created + n → n * pool_size_floor c.key.counts < needed c g + pool_size_floor c.key.counts → IsShort c g
-pools_short c g some below filled n rise few = record {
-  short = omega arith;
-  used_up = shares_used g.refused c.count (c.old.books c.key).pools some;
-  filled = filled;
-  below_twice = below;
-  few = (
-      let m = pool_size_floor c.key.counts in
-      let same : c.after.created - c.before.created ≡ n = omega arith in
-      subst (λ i. i * m < needed c g + m) (sym same) few);
-}
+pools_short c g some below filled n rise few = grind (arith, common_steps, shares_used)
 
 -- of a request that stopped after a prefix; a new pool that was destroyed at once counts, too
 prefix_short : (c : Call) (s : IsStopped c) (why : Stop) (room : ℕ) → IsBack c s.grant why → IsFreshPrefix c.bound c.key room (out_then c s.grant) (needed c s.grant) s.grant.fresh

@@ -1,7 +1,7 @@
 -- What a request leaves of an allocator: why it is declined before the walk, and what it took.
 -- For `append_sets` and `serve_if_allowed`. es are the map's entries before and fs those after; max, marked, room and out are fields
 -- of the allocator. above and past are the results of its tests, against the limit and against 64 bits.
-use Rattle.gpu_descriptor.proofs.Common.{common_steps, side, Meaning, greatest_u64, [], ◌≡◌, ℕ, ◌+◌, ◌*◌, ◌<◌, ◌≤◌, ◌&&◌, Bool, true, false, List, map, length, sum, Option, Result, Err, inl, inr, refl, sym, ap, subst, ◌∙◌, arith, mul-le-mul_right, and_parts, ltb-true, ltb-false, IsDistinct}
+use Rattle.gpu_descriptor.proofs.Common.{common_steps, side, Meaning, greatest_u64, ◌≡◌, ℕ, ◌+◌, ◌*◌, ◌<◌, ◌≤◌, ◌&&◌, Bool, true, false, List, map, length, sum, Option, Result, Err, inl, inr, refl, sym, ap, subst, ◌∙◌, arith, mul-le-mul_right, and_parts, ltb-true, ltb-false, IsDistinct}
 use Rattle.gpu_descriptor.proofs.Common.{nat_lt, ◌⊎◌, kinds, Ledger, AllocationError, BucketKey, DescriptorSet, DescriptorBucket, Stop, Key, key_eq, Bucket, BucketOf, HasDistinctKeys, books_of, next_number, sum_over, key_of, Allocations, bucket_load, set_descriptors, IsWithinLimit, call_of}
 use Rattle.gpu_descriptor.proofs.Common.{Allocates, taken_by, None, IsUnserved, ServesKey, Takes, named_row, state_of, table_of, outstanding_of, marked_load_of, pool_load_of, IsConsistent, row_of, stored_keys, books_in}
 use Rattle.gpu_descriptor.specs.declared.errors.AllocationError.TheVariants.{Fragmentation, OutOfHostMemory}
@@ -14,8 +14,6 @@ within_of marked bound count off on = ltb-false bound count (let seen : (marked 
 
 -- what a table of the map says of an allocator that has it
 module _ {P : Type 0} (a : Allocations P) (es : List (BucketKey × DescriptorBucket P)) (is : a.table ≡ map row_of es) where
-  pub pool_load_of_rows : pool_load_of a ≡ sum_over bucket_load (map row_of es)
-  pool_load_of_rows = ap (sum_over bucket_load) is
 
   pub books_at : (name : P → ℕ) (before : Ledger) (k : Key) → (state_of name a before).books k ≡ books_in name (map row_of es) k
   books_at name before k = ap (λ (t : List (Key × BucketOf P)). books_of (map (named_row name) t) k) is
@@ -27,10 +25,6 @@ seen limit bound looks compared es = record { limit = limit; bound = bound; tabl
 -- no key has two rows, where the table has none twice
 pub rows_distinct : {P : Type 0} (name : P → ℕ) (es : List (BucketKey × DescriptorBucket P)) → IsDistinct key_eq (stored_keys es) → HasDistinctKeys (map (named_row name) (map row_of es))
 rows_distinct name es distinct = distinct_rows name es distinct
-
--- a table without keys
-pub counted_none : {P : Type 0} (max : ℕ) → IsConsistent {P = P} max 0 max 0 []
-counted_none max = record { is_load = refl; within = omega arith; is_room = omega arith; is_out = refl }
 
 module _ {P : Type 0} {a : Allocations P} {max looks compared : ℕ} {bound : Option ℕ} (es : List (BucketKey × DescriptorBucket P)) (is : seen max bound looks compared es ≡ a) where
   pub table_is : a.table ≡ map row_of es

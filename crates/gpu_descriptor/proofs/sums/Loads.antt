@@ -84,13 +84,7 @@ module _ {P : Type 0} {k : Key} {es : List (BucketKey × DescriptorBucket P)} {i
 
     -- its pools took of the room, or gave some back
     pub pools_set : (left room : ℕ) → left + pools_load k w.pools.items ≡ room + pools_load k v.pools.items → left + sum_over bucket_load (map row_of fs) ≡ room + sum_over bucket_load (map row_of es)
-    pools_set left room moved =
-        let sums = (sum_put (stored_load_in {P = P}) es i h.key v w h.at).1 in
-        let was = ap (λ (l : Key). pools_load l v.pools.items) h.is in
-        let now = ap (λ (l : Key). pools_load l w.pools.items) h.is in
-        let all = rows_pool_load es in
-        let after = rows_pool_load fs in
-        omega arith
+    pools_set left room moved = grind (arith, common_steps, sum_put, rows_pool_load)
 
     -- n sets fewer are live in it: so it is of the totals
     pub taken : {n : ℕ} → w.total + n ≡ v.total → Taken k n es fs

@@ -1,6 +1,5 @@
 -- The descriptors of a key's pools, as the code has them.
-use Rattle.gpu_descriptor.proofs.Common.{◌++◌, sum_by-append, ◌≡◌, ◌+◌, ◌<◌, List, [], ◌∷◌, length, drop, get_or, ap, arith, sum_by-cons, DescriptorPool, Key, pool_descriptors, pools_load, ℕ, set}
-use Rattle.std.proofs.lemmas.List.Sums.{sum_by-set}
+use Rattle.gpu_descriptor.proofs.Common.{◌++◌, sum_by-append, ◌≡◌, ◌+◌, ◌<◌, List, [], ◌∷◌, length, drop, get_or, ap, arith, sum_by-cons, DescriptorPool, Key, pool_descriptors, pools_load, ℕ, set, common_steps}
 
 module _ {P : Type 0} (k : Key) where
   cons : (p : DescriptorPool P) (ps : List (DescriptorPool P)) → pools_load k (p ∷ ps) ≡ pool_descriptors k p.capacity + pools_load k ps
@@ -18,8 +17,4 @@ module _ {P : Type 0} (k : Key) where
 
   -- counts move
   pub stored_put : (items : List (DescriptorPool P)) (i : ℕ) (q new : DescriptorPool P) → i < length items → q ≡ get_or items i q → new.capacity ≡ q.capacity → pools_load k (set items i new) ≡ pools_load k items
-  stored_put items i q new within is same =
-      let put = sum_by-set (λ (p : DescriptorPool P). pool_descriptors k p.capacity) items i new q within in
-      let was : pool_descriptors k q.capacity ≡ pool_descriptors k (get_or items i q).capacity = ap (λ (p : DescriptorPool P). pool_descriptors k p.capacity) is in
-      let now = ap (pool_descriptors k) same in
-      omega arith
+  stored_put items i q new within is same = grind (arith, common_steps)

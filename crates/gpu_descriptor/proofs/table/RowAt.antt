@@ -1,7 +1,7 @@
 -- The row at a place of the table: what the books have of its key, and what a write there does to them.
 -- For `serve`, `release_run` and `sweep`, which read and write the map at a place. es are the entries of the map, and rows are those of
 -- the books.
-use Rattle.gpu_descriptor.proofs.Common.{◌≡◌, ℕ, zero, suc, Bool, false, List, [], ◌∷◌, map, set, slice_get, slice_get-map, option_map, Some, refl, sym, ap, subst, ◌∙◌, arith, cases_Bool, inl, inr, IsDistinct, lookup, values_of, BucketKey, DescriptorBucket, Key, key_eq}
+use Rattle.gpu_descriptor.proofs.Common.{◌≡◌, ℕ, zero, suc, Bool, List, [], ◌∷◌, map, set, slice_get, slice_get-map, option_map, Some, refl, sym, ap, subst, ◌∙◌, arith, cases_Bool, inl, inr, IsDistinct, lookup, values_of, BucketKey, DescriptorBucket, Key, key_eq, common_steps}
 use Rattle.gpu_descriptor.proofs.Common.{Bucket, HasDistinctKeys, books_of, books_in, bucket_of, key_of, named_row, row_of, stored_keys, none-some, same_Some}
 use Rattle.indexmap.specs.Layout.{set_value_at}
 use Rattle.gpu_descriptor.proofs.lists.AtPlaces.{none_at}
@@ -22,10 +22,7 @@ row_books (x ∷ rows) (suc i) r h at = grind (arith, key_eq_symm, none_at, (row
 put_row : (rows : Rows) (i : ℕ) (r : Key × Bucket) (b : Bucket) → HasDistinctKeys rows → slice_get rows i ≡ Some r → (l : Key) → books_of (set rows i (r.0, b)) l ≡ put_books (books_of rows) r.0 b l
 put_row [] i r b h at l = absurd (none-some r at)
 put_row (x ∷ rows) zero r b h at l = (let eq : x ≡ r = same_Some x r at in subst (λ (y : Key × Bucket). books_of ((y.0, b) ∷ rows) l ≡ put_books (books_of (x ∷ rows)) y.0 b l) eq (elim (cases_Bool (key_eq x.0 l)) [ inl is ↦ rw is refl | inr other ↦ rw other refl ]))
-put_row (x ∷ rows) (suc i) r b h at l = elim (cases_Bool (key_eq x.0 l)) [
-  | inl is ↦ (let apart : key_eq r.0 l ≡ false = ap (key_eq r.0) (sym (key_exact.same x.0 l is)) ∙ none_at (λ (o : Key × Bucket). key_eq o.0 x.0) rows i r h.0 at in rw (is, apart) refl)
-  | inr other ↦ rw other (put_row rows i r b h.1 at l)
-]
+put_row (x ∷ rows) (suc i) r b h at l = grind (arith, common_steps, key_exact, none_at, (put_row rows i r b h.1 at l))
 
 -- the key and the bucket at a place
 pub record IsAt {P : Type 0} (k : Key) (es : List (BucketKey × DescriptorBucket P)) (i : ℕ) (v : DescriptorBucket P) : Type 0 where

@@ -1,4 +1,4 @@
-use Rattle.gpu_descriptor.proofs.Common.{refl, rules}
+use Rattle.gpu_descriptor.proofs.Common.{refl}
 use Rattle.gpu_descriptor.proofs.callers.Unchanged.{keeps_still}
 use Rattle.gpu_descriptor.proofs.request.Requested.{load_within, pool_load_within}
 use Rattle.gpu_descriptor.proofs.allocator.DescriptorAllocator.append_sets.Goals as goal

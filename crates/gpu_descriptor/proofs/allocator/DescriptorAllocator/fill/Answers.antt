@@ -1,10 +1,9 @@
-use Rattle.gpu_descriptor.proofs.Common.{◌≡◌, ◌++◌, ℕ, List, drop, take, take_at, subst, sym, ap, ◌∙◌, Err, side, DescriptorSet, Key, items_of, call_of, layout_key, with_key, AreOutstanding, AreOfLayout, state_of, Allocates, None, taken_by, Takes, Returns}
+use Rattle.gpu_descriptor.proofs.Common.{◌≡◌, ◌++◌, ℕ, List, drop, take, take_at, subst, sym, ap, ◌∙◌, Err, side, DescriptorSet, Key, items_of, call_of, layout_key, with_key, AreOutstanding, AreOfLayout, state_of, Allocates, None, taken_by, Takes, Returns, arith, common_steps}
 use Rattle.gpu_descriptor.specs.Caller.SetLists.{appended}
 use Rattle.gpu_descriptor.specs.Caller.States.{keys_of}
 use Rattle.gpu_descriptor.proofs.request.Outcomes.{taken_given}
 use Rattle.gpu_descriptor.proofs.request.HandedOut.{hands_all, hands_back, hands_none}
 use Rattle.gpu_descriptor.proofs.allocator.DescriptorAllocator.fill.Goals.{After-free_after, In-Ok}
-use Rattle.gpu_descriptor.proofs.callers.Unchanged.{keeps_through}
 use Rattle.gpu_descriptor.proofs.allocator.DescriptorAllocator.fill.Goals as goal
 
 -- what came
@@ -41,13 +40,7 @@ returned :
     → Returns g.D.DescriptorDevice.meaning (came g (goal.at-After-free_after g c).In-Ok)
     (side c.serve_if_allowed-served.new.self (g.D.DescriptorDevice.ledger c.serve_if_allowed-served.new.device))
     (side c.free_after.new.allocator (g.D.DescriptorDevice.ledger c.free_after.new.device))
-returned g c =
-    subst
-    (λ (n : ℕ).
-    Returns g.D.DescriptorDevice.meaning (drop n (g.K.SetPlaces.items c.into_sets-sets.result))
-    (side c.serve_if_allowed-served.new.self (g.D.DescriptorDevice.ledger c.serve_if_allowed-served.new.device))
-    (side c.free_after.new.allocator (g.D.DescriptorDevice.ledger c.free_after.new.device)))
-    c.count-first.ensures c.free_after.ensures.returns
+returned g c = grind (arith, common_steps)
 
 pub free_after-requires-clause-outstanding : goal.free_after-requires-clause-outstanding
 free_after-requires-clause-outstanding g c =

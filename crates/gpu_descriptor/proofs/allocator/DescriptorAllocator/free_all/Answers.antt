@@ -1,15 +1,10 @@
-use Rattle.gpu_descriptor.proofs.Common.{◌≡◌, sym, ◌∙◌, subst, side, Returns, state_of}
+use Rattle.gpu_descriptor.proofs.Common.{◌≡◌, ◌∙◌, subst, side, Returns, arith, common_steps}
 use Rattle.std.proofs.IntoIterSteps.{All-taken}
-use Rattle.std.specs.Vec.Iter.{into_iter_items}
 use Rattle.gpu_descriptor_types.proofs.Drained.{taken_front}
-use Rattle.gpu_descriptor.proofs.callers.HeldSets.{out_front}
 use Rattle.gpu_descriptor.proofs.allocator.DescriptorAllocator.free_all.Goals as goal
 
 pub free_from-requires-clause-outstanding : goal.free_from-requires-clause-outstanding
-free_from-requires-clause-outstanding g c xs t y =
-    out_front g.D.DescriptorDevice.meaning.set_name xs (into_iter_items t) c.args.sets.items
-    (state_of g.D.DescriptorDevice.meaning.pool_name c.args.self.now (g.D.DescriptorDevice.ledger c.args.device.now))
-    (sym c.into_iter-back.ensures.rest ∙ taken_front c.into_iter-back.result xs t y) c.requires.outstanding
+free_from-requires-clause-outstanding g c xs t y = grind (arith, common_steps, taken_front)
 
 pub returns-clause-returns : goal.returns-clause-returns
 returns-clause-returns g c =

@@ -1,5 +1,4 @@
-use Rattle.gpu_descriptor.proofs.Common.{◌∙◌, Some}
-use Rattle.std.proofs.Common.{rules}
+use Rattle.gpu_descriptor.proofs.Common.{Some, arith, common_steps}
 use Rattle.gpu_descriptor.proofs.foreign.OthersStay.{freed_others}
 use Rattle.gpu_descriptor.proofs.request.Requested.{load_within, pool_load_within, rows_apart}
 use Rattle.gpu_descriptor.proofs.release.Freed.{Freed, freed_none, call_out, freed_more}
@@ -7,16 +6,7 @@ use Rattle.gpu_descriptor.proofs.allocator.DescriptorAllocator.free_from.Goals.{
 use Rattle.gpu_descriptor.proofs.allocator.DescriptorAllocator.free_from.Goals as goal
 
 pub loop-ahead-init : goal.loop-ahead-init
-loop-ahead-init g c = record {
-  freed =
-      freed_none g.D.DescriptorDevice.meaning g.I.Iterator.next_gives g.I.Iterator.can_next g.I.Iterator.remaining
-      c.args.sets.now c.args.self.now (g.D.DescriptorDevice.ledger c.args.device.now) c.next-ahead.result
-      c.next-ahead.new.self c.requires.agree.books c.requires.ends.1 c.next-ahead.ensures.steps
-      c.next-ahead.ensures.goes;
-  limit = λ i. c.args.self.now.limit;
-  bound = λ i. c.args.self.now.bound;
-  looks = λ i. c.args.self.now.looks;
-}
+loop-ahead-init g c = grind (arith, common_steps, freed_none)
 
 -- the invariant at the set in hand
 in_hand :
@@ -32,18 +22,7 @@ release_run-ahead-requires-clause-outstanding g c =
     c.requires.agree.books c.requires.outstanding (in_hand g (goal.at.release_run-ahead-requires-clause-outstanding g c).In-Some)
 
 pub loop-ahead-preserved : goal.loop-ahead-preserved
-loop-ahead-preserved g c =
-    let r = in_hand g (goal.at.loop-ahead-preserved g c).In-Some in
-    record {
-      freed =
-          freed_more g.D.DescriptorDevice.meaning g.I.Iterator.next_gives g.I.Iterator.can_next g.I.Iterator.remaining
-          c.args.sets.now c.args.self.now (g.D.DescriptorDevice.ledger c.args.device.now) c.loop-ahead.self
-          (g.D.DescriptorDevice.ledger c.loop-ahead.device) c.in-Some.first c.loop-ahead.sets
-          c.requires.agree.books c.requires.outstanding r _ _ _ _ _ c.release_run-ahead.ensures.ran.1 c.release_run-ahead.ensures.ran.2 c.release_run-ahead.ensures.keys c.release_run-ahead.ensures.goes c.release_run-ahead.ensures.compares;
-      limit = c.release_run-ahead.ensures.limit ∙ c.loop-ahead.invariant.limit;
-      bound = c.release_run-ahead.ensures.bound ∙ c.loop-ahead.invariant.bound;
-      looks = c.release_run-ahead.ensures.looks_stay ∙ c.loop-ahead.invariant.looks;
-    }
+loop-ahead-preserved g c = grind (arith, common_steps, freed_more)
 
 pub returns-clause-keeps : goal.returns-clause-keeps
 returns-clause-keeps g c =

@@ -1,4 +1,4 @@
-use Rattle.gpu_descriptor.proofs.Common.{common_steps, ◌≡◌, ◌+◌, ◌*◌, ◌≤◌, length, arith, refl, None, ap, ltb-false, key_of, set_descriptors, IsConsistent, subst, sym, ◌∙◌, Ledger, Bucket, Allocations, marked_load_of, pool_load_of, state_of, AreBookedIn}
+use Rattle.gpu_descriptor.proofs.Common.{common_steps, ◌≡◌, ◌+◌, ◌*◌, ◌≤◌, length, arith, refl, None, ap, key_of, set_descriptors, IsConsistent, subst, ◌∙◌, Ledger, Bucket, Allocations, state_of, AreBookedIn}
 use Rattle.gpu_descriptor.proofs.sums.Loads.{set_descriptors-each}
 use Rattle.gpu_descriptor.proofs.cleanup.KeyOrder.{keys_seen}
 use Rattle.gpu_descriptor.proofs.callers.Unchanged.{keeps_still}
@@ -40,25 +40,13 @@ descriptors : (g : _) (c : After-from-taken g) → c.from-taken.result * c.marke
 descriptors g c = set_descriptors-each (key_of c.args.request.now.key) c.from-taken.result c.marked_descriptors_of_set-each.result c.marked_descriptors_of_set-each.ensures
 
 pub overflow_mul-descriptors : goal.overflow_mul-descriptors
-overflow_mul-descriptors g c =
-    let all = fits g (goal.at.overflow_mul-descriptors g c).After-from-taken in
-    let is = descriptors g (goal.at.overflow_mul-descriptors g c).After-from-taken in
-    let ranges = c.self.ranges in
-    omega arith
+overflow_mul-descriptors g c = grind (arith, common_steps)
 
 pub overflow_cast-descriptors : goal.overflow_cast-descriptors
-overflow_cast-descriptors g c =
-    let all = fits g (goal.at.overflow_cast-descriptors g c).After-from-taken in
-    let is = descriptors g (goal.at.overflow_cast-descriptors g c).After-from-taken in
-    let ranges = c.self.ranges in
-    omega arith
+overflow_cast-descriptors g c = grind (arith, common_steps)
 
 pub overflow_add-self-2 : goal.overflow_add-self-2
-overflow_add-self-2 g c =
-    let all = fits g (goal.at.overflow_add-self-2 g c).After-from-taken in
-    let is = descriptors g (goal.at.overflow_add-self-2 g c).After-from-taken in
-    let ranges = c.self.ranges in
-    omega arith
+overflow_add-self-2 g c = grind (arith, common_steps)
 
 -- the totals count what came
 counted :
@@ -96,14 +84,6 @@ returns-then-would_exceed_limit-clause-keeps g c = keeps_still refl refl c.requi
 
 pub returns-then-would_exceed_64_bits-clause-keeps : goal.returns-then-would_exceed_64_bits-clause-keeps
 returns-then-would_exceed_64_bits-clause-keeps g c = keeps_still refl refl c.requires.agree (load_within _ c.self.view_is c.self.invariant) (pool_load_within _ c.self.view_is c.self.invariant)
-
-pub returns-in_err-ended-clause-keeps : goal.returns-in_err-ended-clause-keeps
-returns-in_err-ended-clause-keeps g c =
-    let serves = c.in_err-ended.ensures.serves in
-    let same = seen_again _ c.self.view_is _ serves.stays.1 (ap (λ b. b.looks.count) serves.stays.2) (ap (λ b. b.bound) serves.stays.2) in
-    keeps_still same serves.stays.3 c.requires.agree
-    (subst (λ (a : Allocations _). marked_load_of a ≤ a.limit) (sym same) (load_within _ c.self.view_is c.self.invariant))
-    (subst (λ (a : Allocations _). pool_load_of a ≤ a.limit) (sym same) (pool_load_within _ c.self.view_is c.self.invariant))
 
 pub serve-requires-clause-booked : goal.serve-requires-clause-booked
 serve-requires-clause-booked g c =

@@ -1,4 +1,4 @@
-use Rattle.gpu_descriptor.proofs.Common.{Agree, side, ◌≡◌, ◌++◌, ◌∷◌, [], ℕ, List, length-map, map, slice_get_within, refl, sym, ap, subst, ◌∙◌, arith, IsDistinct, Key, key_eq, key_of, layout_key, Bucket, Allocations, AreBookedIn, KeepsOutstanding, outstanding_of, marked_load_of, is_of, rises, row_of, state_of, stored_keys}
+use Rattle.gpu_descriptor.proofs.Common.{Agree, side, ◌≡◌, length-map, map, slice_get_within, refl, sym, ap, subst, ◌∙◌, arith, IsDistinct, Key, key_eq, key_of, layout_key, Bucket, Allocations, AreBookedIn, KeepsOutstanding, outstanding_of, marked_load_of, is_of, row_of, state_of, stored_keys, common_steps}
 use Rattle.indexmap.specs.Layout.{set_value_at}
 use Rattle.gpu_descriptor.specs.Caller.CleansUp.{TrimsKey}
 use Rattle.gpu_descriptor.proofs.cleanup.Cleaning.{emptied_key}
@@ -50,16 +50,7 @@ destroy_empty-requires-clause-stored g c =
     (k, subst (λ (b : Bucket). AreBookedIn k before.pools b.pools) is (booked_of (state_of name c.args.self.now before) k c.requires.agree.books))
 
 pub invariant_of-self-inside : goal.invariant_of-self-inside
-invariant_of-self-inside g c =
-    let es = c.self.inside.table.buckets.entries in
-    let same =
-    ids_put es c.in-Some.place c.pair_mut-bucket.result.1.now c.destroy_empty.new.self
-    (value_at es c.in-Some.place _ _ c.pair_mut-bucket.ensures.value)
-    (ap (λ (b : Bucket). b.id) c.destroy_empty.ensures.books) in
-    record {
-      rising = ap (λ (ids : List ℕ). rises (ids ++ c.self.inside.table.next_id ∷ [])) same ∙ c.self.inside.table.rising;
-      distinct = subst (IsDistinct key_eq) (sym (keys_at es c.in-Some.place c.destroy_empty.new.self)) c.self.inside.table.distinct;
-    }
+invariant_of-self-inside g c = grind (arith, common_steps, ids_put, value_at, keys_at)
 
 pub invariant_of-self : goal.invariant_of-self
 invariant_of-self g c = counted_put _ _ _ _ _ c.self.inside.table.buckets.entries c.in-Some.place _ _ c.destroy_empty.new.self c.pair_mut-bucket.ensures.value c.destroy_empty.ensures.total c.destroy_empty.ensures.room c.self.invariant

@@ -1,4 +1,4 @@
-use Rattle.gpu_descriptor.proofs.Common.{refl, arith, ◌∙◌, key_of}
+use Rattle.gpu_descriptor.proofs.Common.{refl, ◌∙◌, key_of}
 use Rattle.gpu_descriptor.proofs.sums.Loads.{set_descriptors-each}
 use Rattle.gpu_descriptor.proofs.request.InTable.{above-limit}
 use Rattle.gpu_descriptor.proofs.allocator.DescriptorAllocator.would_exceed_limit.Goals as goal

@@ -1,47 +1,20 @@
-use Rattle.gpu_descriptor.proofs.Common.{true, refl, sym, ap, ◌∙◌, arith, length, map, sum_by, DescriptorPool, entry_of, gone_of, has_sets, ledger_but, left_of, number_after, rises, numbers_of}
+use Rattle.gpu_descriptor.proofs.Common.{true, refl, sym, ap, ◌∙◌, arith, map, entry_of, gone_of, ledger_but, left_of, common_steps}
 use Rattle.gpu_descriptor.proofs.cleanup.Rotation.{entries_left, length_left, none_destroyed, sets_left}
 use Rattle.gpu_descriptor.proofs.cleanup.Splitting.{gone_twice}
 use Rattle.gpu_descriptor.proofs.release.StoredNumbers.{next_stored, rises_stored}
 use Rattle.gpu_descriptor.proofs.bucket.DescriptorBucket.destroy_empty.Goals as goal
 
 pub relist-requires : goal.relist-requires
-relist-requires g c =
-    let left = c.destroy_without_sets.ensures.left in
-    let items = c.args.self.now.pools.items in
-    record {
-      rising = ap (λ ps. rises (numbers_of ps)) left ∙ rises_stored has_sets items c.args.self.now.rising;
-      numbered = (let less = next_stored has_sets items c.args.self.now.rising in let same = ap (λ ps. number_after (numbers_of ps)) left in let was = c.args.self.now.numbered in omega arith);
-      capacity = (let fewer = length_left items in let same = ap length left in let was = c.args.self.now.capacity in omega arith);
-    }
+relist-requires g c = grind (arith, common_steps, rises_stored, next_stored, length_left)
 
 pub invariant_of-self : goal.invariant_of-self
-invariant_of-self g c =
-    let left = c.destroy_without_sets.ensures.left in
-    let items = c.args.self.now.pools.items in
-    record {
-      ordinal = c.first_ordinal_of-self.ensures.first;
-      numbered = (let less = next_stored has_sets items c.args.self.now.rising in let same = ap (λ ps. number_after (numbers_of ps)) left in let was = c.args.self.now.numbered in omega arith);
-      rising = ap (λ ps. rises (numbers_of ps)) left ∙ rises_stored has_sets items c.args.self.now.rising;
-      counted = c.args.self.now.counted ∙ sym (ap (sum_by (λ (p : DescriptorPool _). p.allocated)) left ∙ sets_left items);
-      «open» = c.relist.ensures.listed;
-      capacity = (let fewer = length_left items in let same = ap length left in let was = c.args.self.now.capacity in let stays = c.relist.ensures.capacity in omega arith);
-    }
+invariant_of-self g c = grind (arith, common_steps, next_stored, rises_stored, sets_left, length_left)
 
 pub first_ordinal_of-self-requires : goal.first_ordinal_of-self-requires
-first_ordinal_of-self-requires g c =
-    let left = c.destroy_without_sets.ensures.left in
-    let items = c.args.self.now.pools.items in
-    record {
-      numbered = (let less = next_stored has_sets items c.args.self.now.rising in let same = ap (λ ps. number_after (numbers_of ps)) left in let was = c.args.self.now.numbered in omega arith);
-      rising = ap (λ ps. rises (numbers_of ps)) left ∙ rises_stored has_sets items c.args.self.now.rising;
-    }
+first_ordinal_of-self-requires g c = grind (arith, common_steps, next_stored, rises_stored)
 
 pub returns-clause-books : goal.returns-clause-books
-returns-clause-books g c =
-    let name = g.D.DescriptorDevice.meaning.pool_name in
-    let left = ap (map _) c.destroy_without_sets.ensures.left ∙ entries_left name c.args.self.now.pools.items in
-    let pools = left ∙ sym (ap (λ b. left_of b (map (entry_of name) c.args.self.now.pools.items)) c.if-not-everywhere.false) in
-    λ i. record { id = c.args.self.now.id; pools = pools i }
+returns-clause-books g c = grind (arith, common_steps, entries_left)
 
 -- with a set in each pool all are left, and none goes
 pub returns-then-all_have_sets : goal.returns-then-all_have_sets

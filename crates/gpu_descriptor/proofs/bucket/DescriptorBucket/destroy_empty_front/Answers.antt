@@ -12,16 +12,10 @@ first_load : (g : _) (c : After-unwrap-front g) → pools_load (key_of c.args.ke
 first_load g c = (let first = front g c in let some = first.long in stored_first (key_of c.args.key.now) c.loop-self.self.pools.items c.unwrap-front.result (omega arith) first.is)
 
 pub marked_descriptors_of_pool-requires : goal.marked_descriptors_of_pool-requires
-marked_descriptors_of_pool-requires g c =
-    let d = (goal.at.marked_descriptors_of_pool-requires g c).After-unwrap-front in
-    let all = first_load g d in
-    omega arith
+marked_descriptors_of_pool-requires g c = grind (arith, common_steps, first_load)
 
 pub overflow_add-room : goal.overflow_add-room
-overflow_add-room g c =
-    let d = (goal.at.overflow_add-room g c).After-unwrap-front in
-    let all = first_load g d in
-    omega arith
+overflow_add-room g c = grind (arith, common_steps, first_load)
 
 pub destroy_descriptor_pool-requires : goal.destroy_descriptor_pool-requires
 destroy_descriptor_pool-requires g c =

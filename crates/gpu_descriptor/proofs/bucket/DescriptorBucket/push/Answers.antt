@@ -1,4 +1,4 @@
-use Rattle.gpu_descriptor.proofs.Common.{common_steps, ◌≡◌, ℕ, ◌++◌, ◌∷◌, [], ◌+◌, length, length-append, sum_by, arith, ap, sym, ◌∙◌, sum_by-append, DescriptorPool, first_ordinal, free_in, number_after, open_ordinals, rises, numbers_of}
+use Rattle.gpu_descriptor.proofs.Common.{common_steps, ◌≡◌, ◌++◌, ◌∷◌, [], ◌+◌, length, length-append, sum_by, arith, ap, ◌∙◌, sum_by-append, DescriptorPool, first_ordinal, free_in, number_after, open_ordinals, numbers_of}
 use Rattle.gpu_descriptor.proofs.lists.Numbers.{next_push, rises_push}
 use Rattle.gpu_descriptor.proofs.lists.OpenList.{few_listed, listed_push_open, listed_push_closed}
 use Rattle.gpu_descriptor.proofs.lists.Ordinals.{first_fits, first_push, stored_push}
@@ -31,32 +31,7 @@ module _ (g : _) (c : After-push_back_reserved g) where
       λ i. open_ordinals (first i) (free_in (is i))
 
 pub invariant_of-self : goal.invariant_of-self
-invariant_of-self g c =
-    let at = (goal.at.invariant_of-self g c).After-push_back_reserved in
-    let long = long g at in
-    let counted = counted g at in
-    record {
-      ordinal = c.args.self.now.ordinal ∙ sym (first g at);
-      numbered = (let next = next g at in omega arith);
-      rising = ap rises (numbers g at) ∙ rises_push (numbers_of c.args.self.now.pools.items) c.args.pool.number c.args.self.now.rising (let is = c.requires.number in omega arith);
-      counted = (omega arith);
-      «open» =
-          c.push_back_reserved-then-is_open.ensures.items
-          ∙ ap (λ (n : ℕ). c.args.self.now.listed.items ++ n ∷ []) (c.requires.number ∙ sym (first_fits c.args.self.now.pools.items c.args.self.now.rising))
-          ∙ listed_push_open (first_ordinal c.args.self.now.pools.items) c.args.self.now.pools.items c.args.self.now.listed.items c.args.self.now.«open» c.args.pool c.if-is_open.true ∙ sym (ordinals g at);
-      capacity = (omega arith);
-    }
+invariant_of-self g c = grind (arith, common_steps, counted, next, rises_push, first_fits, listed_push_open, ordinals)
 
 pub invariant_of-self-else-is_open : goal.invariant_of-self-else-is_open
-invariant_of-self-else-is_open g c =
-    let at = (goal.at.invariant_of-self-else-is_open g c).After-push_back_reserved in
-    let long = long g at in
-    let counted = counted g at in
-    record {
-      ordinal = c.args.self.now.ordinal ∙ sym (first g at);
-      numbered = (let next = next g at in omega arith);
-      rising = ap rises (numbers g at) ∙ rises_push (numbers_of c.args.self.now.pools.items) c.args.pool.number c.args.self.now.rising (let is = c.requires.number in omega arith);
-      counted = (omega arith);
-      «open» = listed_push_closed (first_ordinal c.args.self.now.pools.items) c.args.self.now.pools.items c.args.self.now.listed.items c.args.self.now.«open» c.args.pool c.if-is_open.false ∙ sym (ordinals g at);
-      capacity = (omega arith);
-    }
+invariant_of-self-else-is_open g c = grind (arith, common_steps, counted, next, rises_push, listed_push_closed)

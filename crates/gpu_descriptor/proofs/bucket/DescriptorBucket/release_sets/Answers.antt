@@ -1,9 +1,9 @@
-use Rattle.gpu_descriptor.proofs.Common.{names_of, greatest_pool_size, ◌≡◌, ℕ, List, set, ◌+◌, ◌<◌, ◌≤◌, ◌-◌, rules, arith, sym, refl, ◌∙◌, ap, subst, length, map, slice_get, [], ◌∷◌, Some, length-set, eqb-true, length-map, slice_get_read, DescriptorPool, Ledger, after_release, LiveSet}
-use Rattle.gpu_descriptor.proofs.Common.{DescriptorSet, live_in, Entry, IsNonDecreasing, AreBookedIn, IsTakenAt, free_in, entry_less, bucket_of, entry_of, binary_digits, gap_digits, first_ordinal, number_after, rises, slice_set}
+use Rattle.gpu_descriptor.proofs.Common.{names_of, greatest_pool_size, ◌≡◌, ℕ, List, set, ◌+◌, ◌<◌, ◌≤◌, ◌-◌, rules, arith, sym, refl, ◌∙◌, ap, subst, length, map, slice_get, [], ◌∷◌, Some, length-set, eqb-true, length-map, slice_get_read, DescriptorPool, Ledger, after_release, LiveSet, common_steps}
+use Rattle.gpu_descriptor.proofs.Common.{DescriptorSet, live_in, Entry, IsNonDecreasing, AreBookedIn, IsTakenAt, free_in, entry_less, bucket_of, entry_of, first_ordinal, number_after, rises, slice_set}
 use Rattle.gpu_descriptor.proofs.lists.OpenOrdinals.{open_rises}
 use Rattle.gpu_descriptor.proofs.lists.OpenList.{listed_again, fewer_listed}
 use Rattle.gpu_descriptor.proofs.release.Comparisons.{listed_count}
-use Rattle.gpu_descriptor.proofs.release.BucketRun.{AreTaken, are_taken, changed_at, stored_after, total_less, place_fits}
+use Rattle.gpu_descriptor.proofs.release.BucketRun.{AreTaken, are_taken, changed_at, stored_after, total_less}
 use Rattle.gpu_descriptor.proofs.release.RunsOfOne.{less_at}
 use Rattle.gpu_descriptor.proofs.release.StoredNumbers.{IsAt, numbers_set, numbers_stored, stands_at, stored_at}
 use Rattle.gpu_descriptor.proofs.foreign.LedgerPools.{taken_from, release_pools}
@@ -24,10 +24,7 @@ is_at : (g : _) (c : After-index_mut-pool g) → IsAt g.D.DescriptorDevice.meani
 is_at g c = stands_at g.D.DescriptorDevice.meaning.pool_name c.args.first.number c.place_of_pool-place.result c.args.self.now.pools.items c.index_mut-pool.result.now c.args.self.now.rising c.place_of_pool-place.ensures.place c.index_mut-pool.ensures.value
 
 places : (g : _) (c : After-index_mut-pool g) → c.index_mut-pool.result.now.allocated + c.index_mut-pool.result.now.available ≤ greatest_pool_size
-places g c =
-    place_fits c.args.first.key.is (bucket_of g.D.DescriptorDevice.meaning.pool_name c.args.self.now)
-    (g.D.DescriptorDevice.ledger c.args.device.now).pools c.place_of_pool-place.result
-    (entry_of g.D.DescriptorDevice.meaning.pool_name c.index_mut-pool.result.now) c.requires.stored (is_at g c).at
+places g c = grind (arith, common_steps, is_at)
 
 read : (g : _) (c : After-index_mut-pool g) → slice_get c.args.self.now.pools.items c.place_of_pool-place.result ≡ Some c.index_mut-pool.result.now
 read g c = slice_get_read c.args.self.now.pools.items (length c.args.self.now.pools.items) c.place_of_pool-place.result c.index_mut-pool.result.now refl (is_at g c).within c.index_mut-pool.ensures.value
@@ -88,24 +85,13 @@ dealloc_descriptor_sets-requires-clause-live g c =
     (is_at g d).at ((is_at g d).there c.args.self.now.id) c.requires.taken
 
 pub overflow_sub-pool : goal.overflow_sub-pool
-overflow_sub-pool g c =
-    let r = (goal.at.overflow_sub-pool g c).After-index_mut-pool in
-    let fits = (counted g (goal.at.overflow_sub-pool g c).After-finish-count (is_at g r)).0 in
-    omega arith
+overflow_sub-pool g c = grind (arith, common_steps, counted, is_at)
 
 pub overflow_add-pool : goal.overflow_add-pool
-overflow_add-pool g c =
-    let r = (goal.at.overflow_add-pool g c).After-index_mut-pool in
-    let fits = (counted g (goal.at.overflow_add-pool g c).After-finish-count (is_at g r)).0 in
-    let small = places g r in
-    omega arith
+overflow_add-pool g c = grind (arith, common_steps, counted, is_at)
 
 pub overflow_sub-self : goal.overflow_sub-self
-overflow_sub-self g c =
-    let r = (goal.at.overflow_sub-self g c).After-index_mut-pool in
-    let fits = (counted g (goal.at.overflow_sub-self g c).After-finish-count (is_at g r)).0 in
-    let less = total_less c.args.self.now.pools.items c.place_of_pool-place.result c.index_mut-pool.result.now c.dealloc_descriptor_sets.new.pool c.finish-count.result (is_at g r).within c.index_mut-pool.ensures.value (omega arith) in
-    omega arith
+overflow_sub-self g c = grind (arith, common_steps, counted, is_at)
 
 pub returns-clause-stored : goal.returns-clause-stored
 returns-clause-stored g c =
@@ -217,14 +203,7 @@ returns-clause-goes g c =
     run_goes g.I.Iterator.next_gives g.I.Iterator.can_next g.I.Iterator.remaining g.D.DescriptorDevice.meaning.set_name d (search (rules, m, h)) (search (rules, v, f)) c.requires.ends.1
 
 pub returns-clause-compares : goal.returns-clause-compares
-returns-clause-compares g c =
-    let name = g.D.DescriptorDevice.meaning.pool_name in
-    let many = ap length c.args.self.now.«open» ∙ listed_count name (first_ordinal c.args.self.now.pools.items) c.args.self.now.pools.items in
-    let same = ap binary_digits many in
-    let gaps = ap gap_digits (numbers_stored name c.args.self.now.pools.items) in
-    let found = c.place_of_pool-place.ensures.compares in
-    let entered = c.enter_new.ensures.compares in
-    record { rises = omega arith; few = omega arith }
+returns-clause-compares g c = grind (arith, common_steps, listed_count, numbers_stored)
 
 pub returns-clause-load : goal.returns-clause-load
 returns-clause-load g c = λ k.

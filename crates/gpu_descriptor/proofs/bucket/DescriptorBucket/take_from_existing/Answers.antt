@@ -1,7 +1,5 @@
-use Rattle.gpu_descriptor.proofs.Common.{◌≡◌, ℕ, ◌+◌, ◌-◌, ◌∷◌, List, [], length, length-append, length-map, length-set, append-nil, take, slice_get, slice_set, slice_get_read, Some, refl, sym, ap, ◌∙◌, arith, inl, inr, nat_eq, cases_Bool, eqb-false, DescriptorPool, DescriptorSet, Entry, key_of, first_ordinal, number_after, numbers_of, pools_load, rises, All-nil}
+use Rattle.gpu_descriptor.proofs.Common.{◌≡◌, ℕ, ◌+◌, ◌-◌, ◌∷◌, [], length, length-append, length-map, length-set, append-nil, take, slice_get, slice_set, slice_get_read, Some, refl, sym, ap, ◌∙◌, arith, inl, inr, nat_eq, cases_Bool, eqb-false, DescriptorPool, Entry, key_of, first_ordinal, number_after, numbers_of, pools_load, rises, common_steps}
 use Rattle.std.proofs.lemmas.List.Sums.{sum_by-set}
-use Rattle.gpu_descriptor.specs.Caller.SetLists.{appended}
-use Rattle.gpu_descriptor.proofs.lists.Appended.{appended_is, front_stays}
 use Rattle.gpu_descriptor.proofs.request.OpenWalk.{inside, has_free, numbers_now, first_now, listed_now, open_walk_start, open_walk_more, open_walk_stop, walk_sated, walk_empty, next_is_booked, one_asked}
 use Rattle.gpu_descriptor.proofs.request.OwnLayout.{appends_more, items_behind, long_more}
 use Rattle.gpu_descriptor.proofs.request.Passed.{passed}
@@ -11,18 +9,7 @@ use Rattle.gpu_descriptor.proofs.bucket.DescriptorBucket.take_from_existing.Goal
 use Rattle.gpu_descriptor.proofs.bucket.DescriptorBucket.take_from_existing.Goals as goal
 
 pub loop-sink-init : goal.loop-sink-init
-loop-sink-init g c =
-    let was : List (DescriptorSet g.row.S.Denot) = g.K.SetPlaces.items c.args.sink.now.sets in
-    let none : appended was was ≡ [] = appended_is was [] (sym (append-nil was)) in
-    record {
-      appends = record { front = front_stays was [] (sym (append-nil was)); own = rw none (All-nil _); rest = rw none (let left = c.requires.left in omega arith) };
-      id_stays = refl;
-      numbers_stay = refl;
-      total = rw none (omega arith);
-      walk = rw (none, c.requires.left) (open_walk_start g.D.DescriptorDevice.meaning.pool_name (key_of c.args.request.now.key) c.args.request.now.count c.args.self.now (g.D.DescriptorDevice.ledger c.args.device.now) c.requires.booked);
-      load = refl;
-      looks = refl;
-    }
+loop-sink-init g c = grind (arith, common_steps, append-nil, open_walk_start)
 
 pub returns-in_default-clause-walked : goal.returns-in_default-clause-walked
 returns-in_default-clause-walked g c = walk_end c.loop-sink.invariant.id_stays (walk_empty c.requires.booked c.loop-sink.invariant.walk c.in_default.ensures.none)

@@ -4,7 +4,7 @@ use Rattle.gpu_descriptor.specs.declared.bucket.stop.Stop.TheVariants as stop
 use Rattle.gpu_descriptor.proofs.release.StoredNumbers.{numbers_stored}
 use Rattle.gpu_descriptor.proofs.request.NextSize.{one_fits}
 use Rattle.gpu_descriptor.proofs.request.Asks.{same_entry}
-use Rattle.gpu_descriptor.proofs.request.PoolCreated.{created_at, fresh_room, no_sets, grown, not_grown, not_created, none_asked, had_room, create_asked, alloc_asked}
+use Rattle.gpu_descriptor.proofs.request.PoolCreated.{created_at, fresh_room, no_sets, grown, not_grown, not_created, none_asked, had_room}
 use Rattle.gpu_descriptor.proofs.bucket.DescriptorBucket.take_from_new.Goals.{In-Ok, In-Ok-alloc_descriptor_sets}
 use Rattle.gpu_descriptor.proofs.bucket.DescriptorBucket.take_from_new.Goals as goal
 
@@ -143,12 +143,3 @@ overflow_sub-budget g c = (let fits = c.in-Some.ensures.room.0 in let load = c.m
 pub returns-in_default-clause-err : goal.returns-in_default-clause-err
 returns-in_default-clause-err g c =
     (refl, refl, refl, refl, refl, none_asked (g.D.DescriptorDevice.ledger c.args.device.now) stop.NoRoomUnderLimit refl, (λ is. c.in_default.ensures.none, λ none. refl))
-
-pub returns-in-Err-alloc_descriptor_sets-clause-looks : goal.returns-in-Err-alloc_descriptor_sets-clause-looks
-returns-in-Err-alloc_descriptor_sets-clause-looks g c =
-    let one = c.next-budget.ensures in
-    let made = ap (λ (x : Ledger). x.counters.asked) c.in-Ok.ensures.ok in
-    let refused = ap (λ (x : Ledger). x.counters.asked) c.in-Err-alloc_descriptor_sets.ensures.err.ledger in
-    let rise = alloc_asked c.in-Err-alloc_descriptor_sets.error (g.D.DescriptorDevice.ledger c.create_descriptor_pool.new.self).counters in
-    let gone = ap (λ (x : Ledger). x.counters.asked) c.destroy_descriptor_pool.ensures in
-    omega arith

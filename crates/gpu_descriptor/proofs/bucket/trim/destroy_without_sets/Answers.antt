@@ -1,5 +1,5 @@
 use Rattle.gpu_descriptor.proofs.Common.{common_steps, ◌≡◌, ◌+◌, ◌<◌, ◌++◌, ◌∷◌, [], List, suc, rules, refl, sym, ap, ◌∙◌, arith, length, drop, take, filter, get_or, slice_get, deque_capacity, Some, DescriptorPool, key_of, has_sets, pool_descriptors, pools_load}
-use Rattle.gpu_descriptor.proofs.cleanup.Rotation.{as_turned, destroyed, end, first, goes_back, start, unused}
+use Rattle.gpu_descriptor.proofs.cleanup.Rotation.{as_turned, destroyed, first, goes_back, start, unused}
 use Rattle.gpu_descriptor.proofs.lists.AtPlaces.{get_some}
 use Rattle.gpu_descriptor.proofs.sums.PoolLoads.{stored_append, stored_first, stored_one}
 use Rattle.gpu_descriptor.proofs.bucket.trim.destroy_without_sets.Goals.{After-unwrap-pool, then-pool-gt0, else-pool-gt0}
@@ -85,9 +85,3 @@ loop-preserved g c =
             capacity = ap deque_capacity w.pools-is ∙ c.pop_front.ensures.capacity ∙ c.loop.invariant.capacity;
           })
     ]
-
-pub returns : goal.returns
-returns g c =
-    let turned = c.loop.invariant.turned in
-    let all = end g.D.DescriptorDevice.meaning.pool_name turned.0 c.args.pools.now.items c.loop.pools.items c.loop.counter _ _ (omega (arith, c.loop-test.false)) turned.1 in
-    record { left = all.0; capacity = c.loop.invariant.capacity; ledger = all.1; room = c.loop.invariant.room }

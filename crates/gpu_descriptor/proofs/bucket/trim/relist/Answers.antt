@@ -1,4 +1,4 @@
-use Rattle.gpu_descriptor.proofs.Common.{common_steps, ◌≡◌, ℕ, suc, ◌+◌, ◌<◌, ◌++◌, ◌∷◌, [], List, length, take, arith, refl, sym, ap, ◌∙◌, slice_get, Some, length-take-le, slice_get_read, take_all, deque_capacity, DescriptorPool, free_in, open_ordinals}
+use Rattle.gpu_descriptor.proofs.Common.{common_steps, ◌≡◌, ℕ, suc, ◌+◌, ◌<◌, ◌++◌, ◌∷◌, [], List, length, take, arith, refl, sym, ap, ◌∙◌, slice_get, Some, length-take-le, slice_get_read, deque_capacity, DescriptorPool, free_in, open_ordinals}
 use Rattle.gpu_descriptor.proofs.lists.AtPlaces.{long_take, take_get}
 use Rattle.gpu_descriptor.proofs.lists.OpenList.{few_listed, listed_push_closed, listed_push_open}
 use Rattle.gpu_descriptor.proofs.bucket.trim.relist.Goals.{then-index-gt0, else-index-gt0}

@@ -1,4 +1,4 @@
-use Rattle.gpu_descriptor.proofs.Common.{ℕ, List, refl, sym, ap, ◌∙◌, subst, arith, IsDistinct, Bucket, key_eq, key_of, next_number, rises, ◌++◌, ◌∷◌, [], AreBookedIn, stored_keys, IsUnserved}
+use Rattle.gpu_descriptor.proofs.Common.{ℕ, refl, sym, ap, ◌∙◌, subst, arith, Bucket, key_of, next_number, AreBookedIn, stored_keys, IsUnserved, common_steps}
 use Rattle.gpu_descriptor.proofs.table.Rising.{ids_put}
 use Rattle.gpu_descriptor.proofs.table.RowAt.{IsAt, is_at, keys_at, present, put_same}
 use Rattle.gpu_descriptor.proofs.cleanup.KeyOrder.{keys_stay}
@@ -44,19 +44,7 @@ returns-in-Some g c =
     }
 
 pub invariant_of-self : goal.invariant_of-self
-invariant_of-self g c =
-    let es = c.args.self.now.buckets.entries in
-    let same = ids_put es c.in-Some.place _ c.index_mut-bucket.result.now c.index_mut-bucket.ensures.value refl in
-    record {
-      rising = ap (λ (ids : List ℕ). rises (ids ++ c.args.self.now.next_id ∷ [])) same ∙ c.args.self.now.rising;
-      distinct = subst (IsDistinct key_eq) (sym (keys_at es c.in-Some.place c.index_mut-bucket.result.now)) c.args.self.now.distinct;
-    }
+invariant_of-self g c = grind (arith, common_steps, ids_put, keys_at)
 
 pub invariant_of-self-in-Some : goal.invariant_of-self-in-Some
-invariant_of-self-in-Some g c =
-    let es = c.args.self.now.buckets.entries in
-    let same = ids_put es c.in-Some.place _ c.take.new.self c.index_mut-bucket.ensures.value c.take.ensures.id_stays in
-    record {
-      rising = ap (λ (ids : List ℕ). rises (ids ++ c.args.self.now.next_id ∷ [])) same ∙ c.args.self.now.rising;
-      distinct = subst (IsDistinct key_eq) (sym (keys_at es c.in-Some.place c.take.new.self)) c.args.self.now.distinct;
-    }
+invariant_of-self-in-Some g c = grind (arith, common_steps, ids_put, keys_at)

@@ -1,5 +1,5 @@
 use Rattle.std.specs.Prelude.{◌%◌}
-use Rattle.gpu_descriptor.proofs.Common.{◌≡◌, ◌+◌, ◌^◌, None, Some, MatchOption, MakesProgress, Run, refl, sym, subst, ◌∙◌, true}
+use Rattle.gpu_descriptor.proofs.Common.{◌≡◌, ◌+◌, ◌^◌, None, Some, MatchOption, MakesProgress, Run, refl, sym, subst, ◌∙◌, true, arith, common_steps}
 use Rattle.gpu_descriptor.specs.Inner.RunSteps.{at_place}
 use Rattle.gpu_descriptor.proofs.bucket.run.RunIterator.next.Goals.{in-Some, in-None+in_ok-set-in-None, After-is_at}
 use Rattle.gpu_descriptor.proofs.bucket.run.RunIterator.next.Goals as goal
@@ -9,10 +9,7 @@ module _ (g : _) (c : After-is_at g) where
   looks : MatchOption c.args.self.now.ahead.now
       (g.I.Iterator.next_gives c.args.self.now.source.now (Some c.match-take.set) c.match-take.self.source.now × MakesProgress g.I.Iterator.can_next g.I.Iterator.remaining c.args.self.now.source.now (Some c.match-take.set) c.match-take.self.source.now)
       (λ x. (Some c.match-take.set ≡ Some x) × (c.match-take.self.source.now ≡ c.args.self.now.source.now))
-  looks = elim c.match-take.branch [
-    | in-Some w ↦ rw (w.self-is, w.set-is, sym c.take.ensures.value ∙ w.in-Some.is) (refl, refl)
-    | in-None+in_ok-set-in-None w ↦ rw (w.self-is, w.set-is, sym c.take.ensures.value ∙ w.in-None.is) (w.in_ok-set-in-None.ensures.steps, w.in_ok-set-in-None.ensures.goes)
-  ]
+  looks = grind (arith, common_steps)
 
   is : c.match-take.self ≡ record c.args.self.now { source = record c.args.self.now.source { now = c.match-take.self.source.now }; ahead = record c.args.self.now.ahead { now = c.match-take.self.ahead.now } }
   is = elim c.match-take.branch [ in-Some w ↦ rw w.self-is refl | in-None+in_ok-set-in-None w ↦ rw w.self-is refl ]
