@@ -20,7 +20,6 @@ use Rattle.gpu_descriptor.specs.Caller.States.{state_of}
 use Rattle.gpu_descriptor.specs.Caller.Values.{Allocations}
 use Rattle.gpu_descriptor.specs.declared.errors.AllocationError.{AllocationError}
 use Rattle.gpu_descriptor.proofs.lists.Numbers.{entry_at-from}
-use Rattle.gpu_descriptor.proofs.release.FreedOne.{freed_is}
 use Rattle.gpu_descriptor.proofs.release.Places.{back_named, back_named-is, outstanding_at, part_fits}
 use Rattle.gpu_descriptor.proofs.release.ReleaseAgrees.{one_by_one}
 use Rattle.descriptor_script.specs.Sessions.Headline.{GoBack, HoldsWhatIsOut, KeepsAll}
@@ -92,7 +91,7 @@ module _ {L P S : Type 0} (means : Meaning L P S) where
         record {
           gone = gone;
           one_call_a_run = ap (λ (c : Counters). c.released) back.counters;
-          one_by_one = λ order alike. back.state ∙ sym (one_by_one (items_of means.set_name gone.given) order start ready.agree.books out alike) ∙ sym (freed_is order start);
+          one_by_one = λ order alike. back.state ∙ sym (one_by_one (items_of means.set_name gone.given) order start ready.agree.books out alike);
         }
 
     -- so it is for each command and reply

@@ -22,8 +22,8 @@ ghost use Rattle.gpu_descriptor.specs.Model.Load.{pool_descriptors, sets_out, de
 ghost use Rattle.gpu_descriptor.specs.Model.Load.{descriptors_created};
 ghost use Rattle.gpu_descriptor.specs.Model.Outcomes.{Allocates, Call};
 ghost use Rattle.gpu_descriptor.specs.Model.Promises.{IsUntouched};
+ghost use Rattle.gpu_descriptor.specs.Model.OneByOne.{freed_each};
 ghost use Rattle.gpu_descriptor.specs.Model.Release.{pools_gone, released, released_each};
-ghost use Rattle.gpu_descriptor.specs.Model.Release.{singly};
 ghost use Rattle.gpu_descriptor_types.specs.Ledger.{Ledger, Pool};
 ghost use Rattle.gpu_descriptor_types.specs.Multiset.{LiveSet, Spells};
 ghost use Rattle.std.specs.List.{list_any};
@@ -43,8 +43,7 @@ pub fn release_parts()
     ensures cut_anywhere { (ms : List (List Item)) (s : State) → Agree s → AreOutstanding
         (flat_map (λ m. m) ms) s → released_each ms s ≡ released (flat_map (λ m. m) ms) s }
     ensures one_by_one { (m order : List Item) (s : State) → Agree s → AreOutstanding m s
-        → ((t : Item) → count_of t order ≡ count_of t m) → released_each (singly order) s ≡ released
-        m s }
+        → ((t : Item) → count_of t order ≡ count_of t m) → freed_each order s ≡ released m s }
     ensures order { (m n : List Item) (s : State) → ((t : Item) → count_of t m ≡ count_of t n)
         → released m s ≡ released n s }
     ensures none { (s : State) → released [] s ≡ s }

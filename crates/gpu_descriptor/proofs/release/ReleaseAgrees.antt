@@ -2,13 +2,15 @@
 -- The laws of `released`, for `laws::release_parts` and for whatever frees. The items m, and then n, go back to the state s.
 use Rattle.gpu_descriptor.proofs.Common.{◌≡◌, ℕ, ◌+◌, ◌<◌, ◌≤◌, Bool, ltb, ◌&&◌, List, [], ◌∷◌, ◌++◌, flat_map, map, count_by, Option, Some, None, option_map, refl, sym, ap, ◌∙◌, subst, arith, fun_ext}
 use Rattle.gpu_descriptor.proofs.Common.{list_any, set_of, State, Item, count_of, outstanding, AreOutstanding, IsAsBooked, Agree, Entry, entry_at, Pool, set_eq, counts_alike, count_by-append, list_any-count_by, common_steps}
-use Rattle.gpu_descriptor.proofs.Common.{lies_in, entry_less, bucket_less, pool_less, given_back, released, singly, released_each}
+use Rattle.gpu_descriptor.proofs.Common.{lies_in, entry_less, bucket_less, pool_less, given_back, released, released_each}
 use Rattle.gpu_descriptor.proofs.request.StateAgrees.{booked_at}
 use Rattle.gpu_descriptor.proofs.table.Exact.{item_exact}
 use Rattle.gpu_descriptor.proofs.cleanup.Emptied.{emptied_agree, emptied_outstanding}
 use Rattle.gpu_descriptor.proofs.release.Given.{emptied_front, given_agree, given_out}
 use Rattle.gpu_descriptor.proofs.release.Places.{outstanding_found, back, back_named, part_fits, size_less}
 use Rattle.gpu_descriptor.proofs.release.Parts.{parts}
+use Rattle.gpu_descriptor.proofs.release.FreedOne.{freed_one}
+use Rattle.gpu_descriptor.specs.Model.OneByOne.{freed_each}
 
 -- books and ledger agree afterwards, and a set is outstanding as often less as it went back (`takes`)
 pub agrees : (m : List Item) (s : State) → Agree s → AreOutstanding m s → Agree (released m s)
@@ -57,18 +59,15 @@ each (m ∷ ms) s agree out =
     let parted = rest_outstanding m rest s agree out in
     each ms (released m s) (agrees m s agree parted.0) parted.1 ∙ parts m rest s agree out
 
-singly_whole : (m : List Item) → flat_map (λ (n : List Item). n) (singly m) ≡ m
-singly_whole [] = refl
-singly_whole (t ∷ m) = ap (λ (n : List Item). t ∷ n) (singly_whole m)
-
 -- freeing the sets one by one, in any order, leaves what freeing all at once leaves
-pub one_by_one : (m order : List Item) (s : State) → Agree s → AreOutstanding m s → ((t : Item) → count_of t order ≡ count_of t m) → released_each (singly order) s ≡ released m s
-one_by_one m turned s agree out alike =
-    let whole = singly_whole turned in
-    let turned_out : AreOutstanding turned s = λ t. let a = alike t in let b = out t in omega arith in
-    each (singly turned) s agree (subst (λ (n : List Item). AreOutstanding n s) (sym whole) turned_out)
-    ∙ ap (λ (n : List Item). released n s) whole
-    ∙ order turned m s alike
+freed_all : (m : List Item) (s : State) → Agree s → AreOutstanding m s → freed_each m s ≡ released m s
+freed_all [] s agree out = sym (none_back s)
+freed_all (t ∷ m) s agree out =
+    let parted = rest_outstanding (t ∷ []) m s agree out in
+    ap (freed_each m) (freed_one t s) ∙ freed_all m (released (t ∷ []) s) (agrees (t ∷ []) s agree parted.0) parted.1 ∙ parts (t ∷ []) m s agree out
+
+pub one_by_one : (m order : List Item) (s : State) → Agree s → AreOutstanding m s → ((t : Item) → count_of t order ≡ count_of t m) → freed_each order s ≡ released m s
+one_by_one m turned s agree out alike = freed_all turned s agree (λ t. (let a = alike t in let b = out t in omega arith)) ∙ order turned m s alike
 
 -- a set that goes back has a place, and its pool has as many sets as go back to it
 pub has_place : (m : List Item) (s : State) → Agree s → AreOutstanding m s → (t : Item) → 0 < count_of t m → (e : Entry) × (entry_at (s.books t.key) t.number ≡ Some e) × (pool : Pool) × (s.ledger e.pool ≡ Some pool) × IsAsBooked t.key pool e × (back m s e.pool ≤ e.allocated)

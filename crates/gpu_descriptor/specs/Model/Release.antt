@@ -71,10 +71,6 @@ abbrev pub released_each : List (List Item) → State → State
 released_each [] s = s
 released_each (m ∷ ms) s = released_each ms (released m s)
 
--- each set of a list, in a list of its own
-abbrev pub singly : List Item → List (List Item)
-singly m = map (λ t. t ∷ []) m
-
 -- how many pools of these keys are destroyed when the list is freed
 abbrev pub pools_gone : List Key → List Item → State → ℕ
 pools_gone keys m s = sum_by (λ k. if list_any (λ t. key_eq t.key k) m then spent_front ((given_back m s).books k) else 0) keys
