@@ -143,3 +143,15 @@ overflow_sub-budget g c = (let fits = c.in-Some.ensures.room.0 in let load = c.m
 pub returns-in_default-clause-err : goal.returns-in_default-clause-err
 returns-in_default-clause-err g c =
     (refl, refl, refl, refl, refl, none_asked (g.D.DescriptorDevice.ledger c.args.device.now) stop.NoRoomUnderLimit refl, (λ is. c.in_default.ensures.none, λ none. refl))
+
+pub returns-in-Err-clause-looks : goal.returns-in-Err-clause-looks
+returns-in-Err-clause-looks g c = grind (arith, common_steps)
+
+pub returns-in-Err-alloc_descriptor_sets-clause-looks : goal.returns-in-Err-alloc_descriptor_sets-clause-looks
+returns-in-Err-alloc_descriptor_sets-clause-looks g c = grind (arith, common_steps)
+
+pub push-requires-clause-capacity : goal.push-requires-clause-capacity
+push-requires-clause-capacity g c = grind (arith, common_steps)
+
+pub push-requires-clause-listed : goal.push-requires-clause-listed
+push-requires-clause-listed g c = grind (arith, common_steps)
