@@ -1,10 +1,10 @@
 -- Numbers without gaps: no pools have any, and a request, a free and a cleanup leave none. For the law `only_a_trim_leaves_gaps`.
-use Rattle.gpu_descriptor.proofs.Common.{◌≡◌, ℕ, ◌++◌, cond, list_any, spent_front, without_front, true, false, List, drop, refl, sym, ap, subst, ◌∙◌, arith, prefix_len, common_steps}
-use Rattle.gpu_descriptor.proofs.Common.{Agree, Allocates, Bucket, Call, Entry, Grant, Item, Key, State, fresh_entries, granted, key_eq, next_number, numbers_of, released, rises}
+use Rattle.gpu_descriptor.proofs.Common.{◌≡◌, ℕ, ◌++◌, cond, list_any, spent_front, without_front, true, false, List, drop, refl, sym, ap, subst, ◌∙◌, arith, common_steps}
+use Rattle.gpu_descriptor.proofs.Common.{Agree, Allocates, Call, Entry, Grant, Item, Key, State, fresh_entries, granted, key_eq, next_number, numbers_of, released, rises}
 use Rattle.gpu_descriptor.specs.Model.Agreement.{HasNoGaps, HasNoPools}
-use Rattle.gpu_descriptor.specs.Model.Cleanup.{LosesEmpty, left_of}
+use Rattle.gpu_descriptor.specs.Model.Cleanup.{LosesEmpty}
 use Rattle.gpu_descriptor.specs.Model.Outcomes.Allocates.{above_limit, done, no_memory_at_start, none, past_bound, stopped}
-use Rattle.gpu_descriptor.specs.Model.Release.{bucket_less, is_empty}
+use Rattle.gpu_descriptor.specs.Model.Release.{bucket_less}
 use Rattle.gpu_descriptor.proofs.cleanup.Splitting.{pools_with}
 use Rattle.gpu_descriptor.proofs.lists.Gaps.{IsDense, dense_drop, dense_fresh}
 use Rattle.gpu_descriptor.proofs.lists.Numbers.{numbers_drop}
@@ -40,9 +40,7 @@ released_books : (m : List Item) (s : State) (k : Key) → (released m s).books 
 released_books m s k = grind arith
 
 gone : (m : List Item) (s : State) → AreRising s → HasNoGaps s → HasNoGaps (released m s)
-gone m s rising dense k =
-    subst (λ (b : Bucket). IsDense (numbers_of b.pools)) (sym (released_books m s k))
-    (fewer s k (bucket_less (back m s) (s.books k)).pools (front_of m s k) rising dense (numbers_less (back m s) (s.books k)))
+gone m s rising dense k = grind (arith, common_steps, released_books, fewer, numbers_less)
 
 pub none_freed : (m : List Item) (s : State) → Agree s → HasNoGaps s → HasNoGaps (released m s)
 none_freed m s agree = gone m s agree.rising
@@ -57,6 +55,4 @@ none_requested c agree (done goes is) dense = subst HasNoGaps (sym is.state) (de
 none_requested c agree (stopped goes is) dense = subst HasNoGaps (sym is.back.state) (gone _ (granted c.key c.count is.grant c.old) (rising_more c.key c.count is.grant c.old agree.rising) (dense_more c.key c.count is.grant c.old dense))
 
 pub none_cleaned : (s t : State) → Agree s → LosesEmpty false s t → HasNoGaps s → HasNoGaps t
-none_cleaned s t agree loses dense k =
-    subst (λ (es : List Entry). IsDense (numbers_of es)) (sym (ap (λ (b : Bucket). b.pools) (loses.books k) ∙ pools_with (s.books k) (left_of false (s.books k).pools)))
-    (fewer s k (s.books k).pools (prefix_len is_empty (s.books k).pools) agree.rising dense refl)
+none_cleaned s t agree loses dense k = grind (arith, common_steps, pools_with, fewer)

@@ -1,6 +1,5 @@
 -- Numbers without gaps: each is one more than the one before it. What requests, frees and cleanups leave of them.
-use Rattle.std.proofs.lemmas.List.{append_assoc}
-use Rattle.gpu_descriptor.proofs.Common.{◌≡◌, ℕ, zero, suc, ◌+◌, ◌≤◌, true, nat_lt, List, [], ◌∷◌, ◌++◌, length, drop, slice_get, slice_index, Some, refl, sym, subst, arith, append-nil, length-append, list_all, and_parts}
+use Rattle.gpu_descriptor.proofs.Common.{◌≡◌, ℕ, zero, suc, ◌+◌, ◌≤◌, true, nat_lt, List, [], ◌∷◌, ◌++◌, length, drop, slice_get, slice_index, Some, refl, sym, subst, arith, append-nil, length-append, list_all, and_parts, common_steps}
 use Rattle.gpu_descriptor.proofs.Common.{Fresh, fresh_entries, number_after, numbers_of, rises}
 use Rattle.gpu_descriptor.proofs.lists.Numbers.{all_above, above_first, below_last, next_push}
 
@@ -22,9 +21,7 @@ dense_push (x ∷ xs) n d is = (let next = next_push (x ∷ xs) n in let long = 
 
 pub dense_fresh : (number : ℕ) (fs : List Fresh) (xs : List ℕ) → number ≡ number_after xs → IsDense xs → IsDense (xs ++ numbers_of (fresh_entries number fs))
 dense_fresh number [] xs is d = subst IsDense (sym (append-nil xs)) d
-dense_fresh number (f ∷ fs) xs is d =
-    subst IsDense (append_assoc xs (number ∷ []) (numbers_of (fresh_entries (number + 1) fs)))
-    (dense_fresh (number + 1) fs (xs ++ number ∷ []) (sym (next_push xs number)) (dense_push xs number d is))
+dense_fresh number (f ∷ fs) xs is d = grind (arith, common_steps, next_push, (dense_fresh (number + 1) fs (xs ++ number ∷ []) (sym (next_push xs number)) (dense_push xs number d is)))
 
 -- each number is told by its place
 pub dense_at : (xs : List ℕ) → rises xs ≡ true → IsDense xs → (i n : ℕ) → slice_get xs i ≡ Some n → n ≡ slice_index xs 0 + i

@@ -1,6 +1,6 @@
 -- What giving back keeps: agreement, and what is outstanding but for the sets given; and that neither order nor parts matter.
 -- The laws of `released`, for `laws::release_parts` and for whatever frees. The items m, and then n, go back to the state s.
-use Rattle.gpu_descriptor.proofs.Common.{◌≡◌, ℕ, ◌+◌, ◌<◌, ◌≤◌, Bool, ltb, ◌&&◌, List, [], ◌∷◌, ◌++◌, flat_map, map, count_by, Option, Some, None, option_map, refl, sym, ap, ◌∙◌, subst, arith, fun_ext}
+use Rattle.gpu_descriptor.proofs.Common.{◌≡◌, ℕ, ◌+◌, ◌<◌, ◌≤◌, Bool, ltb, ◌&&◌, List, [], ◌∷◌, ◌++◌, flat_map, map, count_by, Option, Some, None, option_map, refl, sym, ap, ◌∙◌, arith, fun_ext}
 use Rattle.gpu_descriptor.proofs.Common.{list_any, set_of, State, Item, count_of, outstanding, AreOutstanding, IsAsBooked, Agree, Entry, entry_at, Pool, set_eq, counts_alike, count_by-append, list_any-count_by, common_steps}
 use Rattle.gpu_descriptor.proofs.Common.{lies_in, entry_less, bucket_less, pool_less, given_back, released, released_each}
 use Rattle.gpu_descriptor.proofs.request.StateAgrees.{booked_at}

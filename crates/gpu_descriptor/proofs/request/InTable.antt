@@ -1,6 +1,6 @@
 -- What a request takes of one key, in the table of keys.
 -- For `serve`, if the key has a row, and `serve_absent`, if it has none. v and w are the key's bucket before and after.
-use Rattle.gpu_descriptor.proofs.Common.{bool_iff, ltb-true, ◌≡◌, ℕ, ◌+◌, ◌≤◌, Bool, true, false, List, [], ◌∷◌, ◌++◌, length, Option, Some, None, Result, Ok, Err, inl, inr, refl, sym, ap, ◌∙◌, subst, arith, ◌-◌, ◌&&◌, lt-ltb, map, lookup, option_map_or, nat_lt, sum_by, IsDistinct}
+use Rattle.gpu_descriptor.proofs.Common.{◌≡◌, ℕ, ◌+◌, ◌≤◌, Bool, false, List, [], ◌∷◌, ◌++◌, length, Option, Some, None, Result, Ok, Err, inl, inr, refl, sym, ap, ◌∙◌, subst, arith, map, lookup, option_map_or, sum_by, IsDistinct}
 use Rattle.gpu_descriptor.proofs.Common.{cases_Bool, sum_by-append, Meaning, Ledger, Pool, BucketKey, DescriptorSet, DescriptorBucket, Stop, Key, key_eq, Bucket, no_pools, key_of, Item, set_descriptors, books_in, bucket_of, kept_in, named_bucket, row_of, stored_keys, HasTaken, Grant, IsGrantOf, IsTaken, OnOk, greatest_u64, items_of, next_number, ServesKey}
 use Rattle.gpu_descriptor.proofs.table.Exact.{key_exact}
 use Rattle.indexmap.specs.Layout.{set_value_at}
@@ -88,7 +88,3 @@ module _ {L P S : Type 0} {means : Meaning L P S} (k : BucketKey) (w : Descripto
               let one : sum_by load_in ((k, w) ∷ []) ≡ set_descriptors (key_of k) w.total = omega arith in
               let n : w.total ≡ length sets = omega arith in let e = ap (set_descriptors (key_of k)) n in omega arith);
         })
-
--- a test against what is left of the limit
-pub above-limit : (key : Bool) (left product limit current load count : ℕ) → key ≡ true → left ≡ limit - current → current ≡ load → current ≤ limit → product ≡ count → nat_lt left product ≡ key && nat_lt limit (count + load)
-above-limit key left product limit current load count on is same within alike = rw on (bool_iff _ _ (λ h. lt-ltb limit (count + load) (let more = ltb-true left product h in omega arith)) (λ h. lt-ltb left product (let more = ltb-true limit (count + load) h in omega arith)))

@@ -134,9 +134,7 @@ module _ {L P S : Type 0} {means : Meaning L P S} {k : Key} {count : ℕ} {sets 
       )
 
     pub went_back : {why : Stop} → ended ≡ Err why → Rolls why
-    went_back {why} is =
-        let taken = subst (λ (r : Result (Unit {0}) Stop). IsTaken r old.bound k room count items (s.books k) t.serves.bucket before after) is t.serves.taken in
-        rolls why taken.0 taken.1 taken.2 taken.4 taken.3
+    went_back {why} is = grind (arith, common_steps, rolls)
 
   module _ {last : Allocations P} {final : Ledger} {calls : ℕ} (back : GivesBack means sets calls (side new after) (side last final)) where
     -- the sets that went back are no longer outstanding

@@ -1,5 +1,5 @@
-use Rattle.gpu_descriptor.proofs.Common.{◌≡◌, ℕ, ◌+◌, Bool, length, slice_get, slice_index, Some, ap, if◌then◌else◌, le-ltb, Agree, Entry, Key, State, number_after, numbers_of}
-use Rattle.gpu_descriptor.specs.Caller.Comparisons.{binary_digits, gap_digits}
+use Rattle.gpu_descriptor.proofs.Common.{◌≡◌, ℕ, ◌+◌, slice_get, slice_index, Some, Agree, Entry, Key, State, numbers_of, arith, common_steps}
+use Rattle.gpu_descriptor.specs.Caller.Comparisons.{gap_digits}
 use Rattle.gpu_descriptor.specs.Model.Agreement.{HasNoGaps}
 use Rattle.gpu_descriptor.proofs.NoGaps.{none_begins, none_cleaned, none_freed, none_requested}
 use Rattle.gpu_descriptor.proofs.lists.Gaps.{dense_at}
@@ -10,9 +10,7 @@ by_place : (s : State) (k : Key) (i : ℕ) (e : Entry) → Agree s → HasNoGaps
 by_place s k i e agree dense at = dense_at (numbers_of (s.books k).pools) (agree.rising k) (dense k) i e.number (number_of (s.books k).pools i e at)
 
 digits : (s : State) (k : Key) → HasNoGaps s → gap_digits (numbers_of (s.books k).pools) ≡ 0
-digits s k dense =
-    let xs = numbers_of (s.books k).pools in
-    ap (λ (b : Bool). if b then binary_digits (length xs) else 0) (le-ltb (slice_index xs 0 + length xs) (number_after xs) (dense k))
+digits s k dense = grind (arith, common_steps)
 
 pub returns : goal.returns
 returns c = record { begins = none_begins; requests = none_requested; frees = none_freed; cleanups = none_cleaned; by_place = by_place; digits = digits }

@@ -26,9 +26,7 @@ module _ (g : _) (c : After-push_back_reserved g) where
   first = ap first_ordinal c.push_back_reserved.ensures.items ∙ first_push c.args.self.now.pools.items c.args.pool c.requires.number
 
   ordinals : open_ordinals (first_ordinal c.push_back_reserved.new.self.items) (free_in c.push_back_reserved.new.self.items) ≡ open_ordinals (first_ordinal c.args.self.now.pools.items) (free_in (c.args.self.now.pools.items ++ c.args.pool ∷ []))
-  ordinals =
-      let is = c.push_back_reserved.ensures.items in
-      λ i. open_ordinals (first i) (free_in (is i))
+  ordinals = grind (arith, common_steps, first)
 
 pub invariant_of-self : goal.invariant_of-self
 invariant_of-self g c = grind (arith, common_steps, counted, next, rises_push, first_fits, listed_push_open, ordinals)

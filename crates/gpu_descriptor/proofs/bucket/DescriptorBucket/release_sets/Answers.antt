@@ -10,7 +10,6 @@ use Rattle.gpu_descriptor.proofs.foreign.LedgerPools.{taken_from, release_pools}
 use Rattle.gpu_descriptor.proofs.release.OneRun.{run_live, run_ends, run_goes, done}
 use Rattle.gpu_descriptor.proofs.table.Exact.{bucket}
 use Rattle.gpu_descriptor.proofs.bucket.DescriptorBucket.release_sets.Goals.{Start, After-index_mut-pool, After-finish-count}
-use Rattle.gpu_descriptor.proofs.sums.PoolLoads.{stored_put}
 use Rattle.gpu_descriptor.proofs.bucket.DescriptorBucket.release_sets.Goals as goal
 
 -- one set alone is in the place
@@ -206,6 +205,4 @@ pub returns-clause-compares : goal.returns-clause-compares
 returns-clause-compares g c = grind (arith, common_steps, listed_count, numbers_stored)
 
 pub returns-clause-load : goal.returns-clause-load
-returns-clause-load g c = λ k.
-    let r = (goal.at.returns-clause-load g c).After-index_mut-pool in
-    stored_put k c.args.self.now.pools.items c.place_of_pool-place.result c.index_mut-pool.result.now _ (is_at g r).within c.index_mut-pool.ensures.value refl
+returns-clause-load g c = grind (arith, common_steps)

@@ -15,9 +15,7 @@ module _ {P : Type 0} (first place : ℕ) (pools : List (DescriptorPool P)) (p :
       ∙ ap (λ (ps : List (DescriptorPool P)). open_ordinals first (free_in ps)) (sym more)
 
   list_closed : p.available ≡ 0 → listed ≡ open_ordinals first (free_in (take (place + 1) pools))
-  list_closed none =
-      listed_push_closed first (take place pools) listed is p (omega arith)
-      ∙ ap (λ (ps : List (DescriptorPool P)). open_ordinals first (free_in ps)) (sym more)
+  list_closed none = grind (arith, common_steps, listed_push_closed, more)
 
 pub push_back_reserved-requires : goal.push_back_reserved-requires
 push_back_reserved-requires g c = grind (arith, common_steps, few_listed, length-take-le)
