@@ -137,10 +137,7 @@ none_twice (e ∷ pools) = go e.allocated refl (none_twice pools)
   where
     go : (n : ℕ) → e.allocated ≡ n → filter is_empty (filter (λ e. nat_lt 0 e.allocated) pools) ≡ [] → filter is_empty (filter (λ e. nat_lt 0 e.allocated) (e ∷ pools)) ≡ []
     go zero h rest = (let none : nat_lt 0 e.allocated ≡ false = ap (nat_lt 0) h in rw none rest)
-    go (suc n) h rest =
-        let some : nat_lt 0 e.allocated ≡ true = lt-ltb 0 e.allocated (omega arith) in
-        let full : is_empty e ≡ false = ne_eqb e.allocated 0 (λ z. omega arith) in
-        rw some (rw full rest)
+    go (suc n) h rest = grind (arith, common_steps)
 
 -- so what is left stays, and none of it goes
 pub left_twice : (everywhere : Bool) (pools : List Entry) → left_of everywhere (left_of everywhere pools) ≡ left_of everywhere pools

@@ -1,7 +1,7 @@
 -- The numbers of a key's pools: they rise, so each number stands at one place.
 -- For whatever finds a pool by its number (`place_of_pool`), a key by its id (`place_of_id`), or has to say that numbers rise.
 use Rattle.gpu_descriptor.proofs.Common.{common_steps, ◌≡◌, ℕ, zero, suc, ◌+◌, ◌-◌, ◌<◌, ◌≤◌, ◌==◌, Bool, true, false, nat_lt, List, [], ◌∷◌, ◌++◌, length, map, drop, filter, slice_get, slice_index, slice_index_or, IsNonDecreasing, IsPartitionPoint, Some, option_map, inl, inr, refl}
-use Rattle.gpu_descriptor.proofs.Common.{sym, ap, ◌∙◌, arith, eq-eqb, eqb-true, lt-ltb, ltb-false, and_parts, and_from, cases_Bool, cases_lt, list_all, slice_get_within, DescriptorPool, Entry, Bucket, entry_at, rises, number_after, numbers_of, none-some, same_Some}
+use Rattle.gpu_descriptor.proofs.Common.{sym, ap, ◌∙◌, arith, eq-eqb, eqb-true, lt-ltb, and_parts, and_from, cases_Bool, cases_lt, list_all, slice_get_within, DescriptorPool, Entry, Bucket, entry_at, rises, number_after, numbers_of, none-some, same_Some}
 use Rattle.std.specs.List.{find}
 
 -- a number that is below all of a list
@@ -95,12 +95,7 @@ below_last (x ∷ y ∷ xs) h (suc i) n at = (let rest = below_last (y ∷ xs) (
 
 -- without gaps each is told by its place
 pub no_gaps : (xs : List ℕ) → rises xs ≡ true → nat_lt (slice_index xs 0 + length xs) (number_after xs) ≡ false → (i n : ℕ) → slice_get xs i ≡ Some n → n ≡ number_after xs - length xs + i
-no_gaps xs h dense i n at =
-    let low = above_first xs h i n at in
-    let high = below_last xs h i n at in
-    let few = ltb-false (slice_index xs 0 + length xs) (number_after xs) dense in
-    let within = slice_get_within xs i n at in
-    omega arith
+no_gaps xs h dense i n at = grind (arith, common_steps, (above_first xs h i n at), (below_last xs h i n at), (slice_get_within xs i n at))
 
 read_at : (xs : List ℕ) (i d : ℕ) → i < length xs → slice_get xs i ≡ Some (slice_index_or xs i d)
 read_at [] i d lt = absurd (omega arith)

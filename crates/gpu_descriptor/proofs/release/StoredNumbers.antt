@@ -1,6 +1,6 @@
 -- The numbers of the pools that a bucket stores are those of its books.
 -- For `take`, `release_sets`, `destroy_empty` and its parts. items are the pools of the code, listed is its list of open ones.
-use Rattle.gpu_descriptor.proofs.Common.{◌⊎◌, inl, inr, Bool, filter, cases_Bool, ◌+◌, ◌≤◌, false, nat_lt, drop, and_parts, list_all, lt-ltb, first_ordinal, free_in, number_after, open_ordinals, ◌≡◌, ℕ, zero, suc, ◌<◌, true, List, [], ◌∷◌, length, map, get_or, slice_get, slice_set, Some, refl, sym}
+use Rattle.gpu_descriptor.proofs.Common.{◌⊎◌, inl, inr, Bool, filter, cases_Bool, ◌+◌, ◌≤◌, false, nat_lt, drop, and_parts, list_all, lt-ltb, first_ordinal, free_in, number_after, open_ordinals, ◌≡◌, ℕ, zero, suc, ◌<◌, true, List, [], ◌∷◌, length, map, get_or, slice_get, slice_set, Some, refl, sym, common_steps}
 use Rattle.gpu_descriptor.proofs.Common.{ap, ◌∙◌, arith, length-map, slice_get_within, slice_get-map, slice_get_read, option_map, Entry, entry_at, rises, numbers_of, DescriptorPool, entry_of}
 use Rattle.gpu_descriptor.proofs.table.Exact.{bucket}
 use Rattle.gpu_descriptor.proofs.lists.Numbers.{below_next, entry_at-found, entry_at-named, few_numbers, number_of}
@@ -45,10 +45,7 @@ module _ {P : Type 0} where
   -- the pools after it keep their ordinals
   open_behind : (p : DescriptorPool P) (items : List (DescriptorPool P)) → rises (numbers_of (p ∷ items)) ≡ true → open_ordinals (suc (first_ordinal (p ∷ items))) (free_in items) ≡ open_ordinals (first_ordinal items) (free_in items)
   open_behind p [] h = refl
-  open_behind p (q ∷ items) h =
-      let few = few_numbers (numbers_of (p ∷ q ∷ items)) h in
-      let long : length (numbers_of (q ∷ items)) ≡ length (q ∷ items) = length-map (q ∷ items) (λ (x : DescriptorPool P). x.number) in
-      ap (λ n. open_ordinals n (free_in (q ∷ items))) (let e : suc (first_ordinal (p ∷ q ∷ items)) ≡ first_ordinal (q ∷ items) = omega arith in e)
+  open_behind p (q ∷ items) h = grind (arith, common_steps, (few_numbers (numbers_of (p ∷ q ∷ items)) h))
 
   -- the list loses its first ordinal if the pool was open, and else stays
   listed_behind : (p : DescriptorPool P) (items : List (DescriptorPool P)) (listed listed' : List ℕ) (free : ℕ) → p.available ≡ free → rises (numbers_of (p ∷ items)) ≡ true → listed ≡ open_ordinals (first_ordinal (p ∷ items)) (free_in (p ∷ items))

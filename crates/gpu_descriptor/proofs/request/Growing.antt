@@ -70,12 +70,7 @@ sized_more bound k room t w [] f left total wanted all room_is total_is wanted_i
     let a : total ≡ t = omega arith in
     let b : wanted ≡ w = omega arith in
     (rw (room_is, a, b) at one, tt)
-sized_more bound k room t w (h ∷ fs) f left total wanted all room_is total_is wanted_is one =
-    (let s = sum_by-cons (λ (f : Fresh). f.given) h fs in (
-      all.0,
-      sized_more bound k (room - pool_descriptors k h.size) (t + h.given) (w - h.given) fs f left total wanted all.1
-          room_is (omega arith) (omega arith) one,
-    ))
+sized_more bound k room t w (h ∷ fs) f left total wanted all room_is total_is wanted_is one = grind (arith, common_steps, (sized_more bound k (room - pool_descriptors k h.size) (t + h.given) (w - h.given) fs f left total wanted all.1))
 
 full_more : (fs : List Fresh) (f : Fresh) → AllByRecursion (λ (f : Fresh). f.given ≡ f.size) fs → f.given ≡ f.size → AllByRecursion (λ (f : Fresh). f.given ≡ f.size) (fs ++ f ∷ [])
 full_more [] f all one = (one, tt)

@@ -1,7 +1,7 @@
 -- What a key's next pool takes of the room, and when its size was cut.
-use Rattle.gpu_descriptor.proofs.Common.{common_steps, greatest_pool_size, ◌≡◌, ℕ, ◌+◌, ◌-◌, ◌*◌, ◌^◌, ◌<◌, ◌≤◌, All, sum, List, [], ◌∷◌, ◌++◌, inl, inr, refl, sym, subst, arith, mul-le-mul_right, cases_Bool, if◌then◌else◌, Option, IsPoolSize, sets_in_room, start_size, Key, Fresh, IsNextSize, AreSized}
+use Rattle.gpu_descriptor.proofs.Common.{common_steps, greatest_pool_size, ◌≡◌, ℕ, ◌+◌, ◌-◌, ◌*◌, ◌^◌, ◌<◌, ◌≤◌, All, sum, List, [], ◌∷◌, ◌++◌, refl, sym, subst, arith, mul-le-mul_right, if◌then◌else◌, Option, IsPoolSize, sets_in_room, start_size, Key, Fresh, IsNextSize, AreSized}
 use Rattle.gpu_descriptor.proofs.Common.{room_after, pool_descriptors}
-use Rattle.gpu_descriptor_types.proofs.Room.{bounded_few, bounded_whole, few_in_room, fits_in_room, whole_in_room}
+use Rattle.gpu_descriptor_types.proofs.Room.{bounded_few, bounded_whole, few_in_room, whole_in_room}
 use Rattle.gpu_descriptor_types.proofs.Sizes.{fewer_fit, pool_size_below, pool_size_fits, pool_size_small}
 
 -- ---- a key's next pool
@@ -28,16 +28,7 @@ module _ (bound : Option ℕ) (k : Key) (room total wanted size : ℕ) (s : IsNe
   next_below = (let a = few in let b = pool_size_below k.counts total wanted s.whole s.is_whole in omega arith)
 
   pub next_fits : pool_descriptors k size ≤ room
-  next_fits = elim (cases_Bool k.marked) [
-    | inl on ↦ (
-        let is : unbounded ≡ sets_in_room room (sum k.counts) s.whole = rw on refl in
-        let some = s.some in
-        let below = least in
-        let all = fits_in_room room (sum k.counts) s.whole unbounded is (omega arith) in
-        let less = mul-le-mul_right (sum k.counts) least in
-        rw on (omega arith))
-    | inr off ↦ rw off (omega arith)
-  ]
+  next_fits = grind (arith, common_steps, least, (mul-le-mul_right (sum k.counts) least))
 
   pub one_fits : pool_descriptors k 1 ≤ room
   one_fits = grind (arith, common_steps, mul-le-mul_right, next_fits)

@@ -3,7 +3,7 @@
 -- last and final. `taken_` is of what it took, `kept_` of a request that was met, `back_` of one whose sets went back.
 use Rattle.gpu_descriptor.proofs.Common.{common_steps, fun_ext, ◌≡◌, ℕ, ◌+◌, ◌-◌, ◌<◌, Some, is_some, true, List, [], ◌∷◌, length, arith, Result, Ok, Err, OnOk, refl, sym, ap, ◌∙◌, subst, length-map, side, Meaning, Ledger, no_rise, AllocationError, DescriptorSet, Stop, State, Item, Agree}
 use Rattle.gpu_descriptor.proofs.Common.{AreOutstanding, Option, Pool, count_of, outstanding, key_eq, if◌then◌else◌, Key, Bucket, HasDistinctKeys, Allocations, KeepsForeign, GivesBack, Adds, Grant, items_in, granted, IsTaken, IsRefused, set_descriptors, Allocates}
-use Rattle.gpu_descriptor.proofs.Common.{Call, Proceeds, taken_by, risen, rollback_rise, StopsAt, stop_error, stop_rise, IsUntouched, KeepsOtherKeys, AreOfKey, AreOutBesides, KeepsOutstanding, released, pools_gone, call_of, Takes, runs, item_of, items_of, state_of, table_of, outstanding_of}
+use Rattle.gpu_descriptor.proofs.Common.{Call, Proceeds, taken_by, risen, rollback_rise, StopsAt, stop_error, stop_rise, IsUntouched, KeepsOtherKeys, AreOfKey, AreOutBesides, KeepsOutstanding, released, pools_gone, call_of, Takes, runs, items_of, state_of, table_of, outstanding_of}
 use Rattle.gpu_descriptor.proofs.Common.{marked_load_of, pool_load_of, HasTaken}
 use Rattle.gpu_descriptor.specs.Caller.Others.{others_of}
 use Rattle.gpu_descriptor.specs.Model.Outcomes.Allocates.{done, stopped}
@@ -148,14 +148,7 @@ module _ {L P S : Type 0} {means : Meaning L P S} {k : Key} {count : ℕ} {sets 
 
     -- the totals are as before
     pub back_totals : (outstanding_of last ≡ outstanding_of old) × (marked_load_of last ≡ marked_load_of old)
-    back_totals =
-        let out = back.outstanding in
-        let marked = back.marked in
-        let total = t.serves.out in
-        let more = t.serves.load in
-        let load = load_of_items k items taken_own in
-        let long = ap (set_descriptors k) (length-map sets (λ (x : DescriptorSet S). item_of means.set_name x)) in
-        ((let e : outstanding_of last ≡ outstanding_of old = omega arith in e), (let e : marked_load_of last ≡ marked_load_of old = omega arith in e))
+    back_totals = grind (arith, common_steps, length-map, (load_of_items k items taken_own))
 
   -- ---- the sets are kept
 

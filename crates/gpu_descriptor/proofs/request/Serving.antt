@@ -1,5 +1,5 @@
 -- What a table leaves of a request for sets of one of its keys: the contract of `serve` and `serve_absent`.
-use Rattle.gpu_descriptor.proofs.Common.{◌≡◌, ◌+◌, ◌<◌, ◌≤◌, greatest_u64, ◌^◌, ℕ, List, length, map, Result, Ok, Err, OnOk, sym, ap, arith, subst, Meaning, Ledger, AllocationError, BucketKey, DescriptorBucket, DescriptorPool, DescriptorSet, Stop, entry_of, Key, next_number, number_after, sum_over, bucket_load}
+use Rattle.gpu_descriptor.proofs.Common.{◌≡◌, ◌+◌, ◌<◌, ◌≤◌, greatest_u64, ◌^◌, ℕ, List, length, map, Result, Ok, Err, OnOk, sym, ap, arith, Meaning, Ledger, AllocationError, BucketKey, DescriptorBucket, DescriptorPool, DescriptorSet, Stop, entry_of, Key, next_number, number_after, sum_over, bucket_load, common_steps}
 use Rattle.gpu_descriptor.proofs.Common.{items_of, bucket_of, books_in, row_of, numbers_of, stored_keys, with_key, CountsLooks, IsTaken, IsUnserved, ServesKey}
 use Rattle.std.proofs.lemmas.Result.{on_ok_weaker}
 use Rattle.gpu_descriptor.specs.declared.budget.Budget.{Budget}
@@ -37,17 +37,4 @@ module _ {L P S : Type 0} {means : Meaning L P S} {k : Key} {count left : ℕ} {
         → ServesKey means was.bound k was.room count (appended had has) ended (map row_of es) (map row_of fs) before after)
         → stored_keys fs ≡ with_key k (stored_keys es) → is.room + sum_over bucket_load (map row_of fs) ≡ was.room + sum_over bucket_load (map row_of es) → is.bound ≡ was.bound → CountsLooks was.looks.count is.looks.count before after
         → ServesRequest means layout k count left (Ok ended) es fs was is had has before after
-    is_served serves keys room bound looks =
-        let here = subst (λ (xs : List (DescriptorSet S)). Appends means layout count left xs has × (new.total ≡ many + length (appended xs has))
-        × IsTaken ended was.bound k was.room count (items_of means.set_name (appended xs has)) (bucket id (map (entry_of means.pool_name) pools)) (bucket_of means.pool_name new) before after) made (appends, total, taken) in
-        let rest = here.0.rest in
-        record {
-          served = serves (let is = next means.pool_name id pools in omega arith) (on_ok_weaker ended (λ none. (omega arith)) all) here.2 here.1;
-          appends = here.0;
-          keys = keys;
-          refused = tt;
-          stays = tt;
-          room = room;
-          bound = bound;
-          looks = looks;
-        }
+    is_served serves keys room bound looks = grind (arith, common_steps, on_ok_weaker, (next means.pool_name id pools))

@@ -1,4 +1,4 @@
-use Rattle.gpu_descriptor.proofs.Common.{◌≡◌, ◌≤◌, ◌+◌, ℕ, List, suc, rules, refl, sym, ap, subst, ◌∙◌, arith, length, map, length-map, take_all, IsDistinct, Ledger, Bucket, key_eq, key_of, Allocations, AreBookedIn, has_pools, rises, stored_ids, outstanding_of, marked_load_of, bucket_of, named_row, row_of}
+use Rattle.gpu_descriptor.proofs.Common.{◌≡◌, ◌≤◌, ◌+◌, suc, rules, refl, sym, ap, subst, ◌∙◌, arith, length, map, length-map, take_all, Ledger, Bucket, key_of, Allocations, AreBookedIn, has_pools, rises, stored_ids, outstanding_of, marked_load_of, bucket_of, named_row, row_of, common_steps}
 use Rattle.gpu_descriptor.proofs.Common.{◌++◌, ◌∷◌, []}
 use Rattle.indexmap.proofs.CallerLemmas.{filter-RetainsPairs}
 use Rattle.indexmap.specs.Layout.{length-set_value_at}
@@ -33,17 +33,7 @@ destroy_empty-requires-clause-room g c =
     omega arith
 
 pub invariant_of-self-inside : goal.invariant_of-self-inside
-invariant_of-self-inside g c =
-    let same =
-    ids_put c.loop-place.self-inside.table.buckets.entries c.loop-place.place c.pair_mut-bucket.result.1.now
-    c.destroy_empty.new.self
-    (value_at c.loop-place.self-inside.table.buckets.entries c.loop-place.place _ _
-    c.pair_mut-bucket.ensures.value)
-    (ap (λ (b : Bucket). b.id) c.destroy_empty.ensures.books) in
-    record {
-      rising = ap (λ (ids : List ℕ). rises (ids ++ c.loop-place.self-inside.table.next_id ∷ [])) same ∙ c.loop-place.self-inside.table.rising;
-      distinct = subst (IsDistinct key_eq) (sym (keys_at c.loop-place.self-inside.table.buckets.entries c.loop-place.place c.destroy_empty.new.self)) c.loop-place.self-inside.table.distinct;
-    }
+invariant_of-self-inside g c = grind (arith, common_steps, keys_at, (ids_put c.loop-place.self-inside.table.buckets.entries c.loop-place.place c.pair_mut-bucket.result.1.now c.destroy_empty.new.self (value_at c.loop-place.self-inside.table.buckets.entries c.loop-place.place _ _ c.pair_mut-bucket.ensures.value) (ap (λ (b : Bucket). b.id) c.destroy_empty.ensures.books)))
 
 pub loop-place-preserved : goal.loop-place-preserved
 loop-place-preserved g c =

@@ -28,10 +28,7 @@ take-requires-clause-booked g c =
     subst (λ (b : Bucket). AreBookedIn (key_of c.args.request.now.key) (g.D.DescriptorDevice.ledger c.args.device.now).pools b.pools) (present g.D.DescriptorDevice.meaning.pool_name c.args.self.now.distinct (there g (goal.at.take-requires-clause-booked g c).After-index_mut-bucket)) c.requires.booked
 
 pub take-requires-clause-bound : goal.take-requires-clause-bound
-take-requires-clause-bound g c =
-    let below = total_present (there g (goal.at.take-requires-clause-bound g c).After-index_mut-bucket) in
-    let all = c.requires.bound in
-    omega arith
+take-requires-clause-bound g c = grind (arith, common_steps, (total_present (there g (goal.at.take-requires-clause-bound g c).After-index_mut-bucket)))
 
 pub returns-in-Some : goal.returns-in-Some
 returns-in-Some g c =
