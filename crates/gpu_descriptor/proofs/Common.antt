@@ -65,7 +65,7 @@ pub use Rattle.gpu_descriptor.specs.Model.Grants.{Grant, IsGrantOf, Part, bucket
 pub use Rattle.gpu_descriptor.specs.Model.Load.{allocated_in, bucket_load, descriptors_created, descriptors_out, pool_descriptors, pools_load, set_descriptors, sets_out}
 pub use Rattle.gpu_descriptor.specs.Model.Outcomes.{Allocates, Call, IsBack, IsDone, IsStopped, IsWithinLimit, StopsAtNew, Proceeds, Stays, StopsAt, error_of_alloc, grant_rise, out_then, risen, rollback_rise, stop_error, stop_rise, taken_by, needed}
 pub use Rattle.gpu_descriptor.specs.Model.Promises.{AreBelowTwice, AreOfKey, AreOutBesides, CreatesOnlyWhereShort, IsShort, IsUntouched, KeepsOtherKeys, KeepsOutstanding}
-pub use Rattle.gpu_descriptor.specs.Model.Release.{are_named, bucket_less, entry_less, front_but, fronts_gone, given_back, has_sets, is_empty, lies_in, more_destroyed, more_released, pool_less, pools_gone, released, released_each, spent_front, without_front}
+pub use Rattle.gpu_descriptor.specs.Model.Release.{are_named, bucket_less, entry_less, front_but, fronts_gone, given_back, has_sets, is_empty, lies_in, more_destroyed, more_released, pool_less, pools_gone, released, spent_front, without_front}
 pub use Rattle.gpu_descriptor.specs.Model.Runs.{runs}
 pub use Rattle.gpu_descriptor.specs.Model.Shares.{OnlyAskedRefuse, Portion, all_shared, asked_count, asks, is_asked, offer, portions_of, refused_count, rest, share}
 pub use Rattle.gpu_descriptor.specs.declared.bucket.run.Run.{Run}

@@ -2,7 +2,7 @@
 //! of the types that their derives keep. The functions do nothing: their contracts are the laws.
 ghost use Rattle.std.specs.Prelude.{◌≡◌, ◌↔◌, ℕ, Bool, [], IsTrue, List, None, Some, false};
 ghost use Rattle.std.specs.Prelude.{slice_get, slice_index};
-ghost use Rattle.std.specs.Prelude.{flat_map, length, sum, true, ◌++◌, ◌+◌, ◌<◌, ◌≤◌, ◌⊎◌};
+ghost use Rattle.std.specs.Prelude.{flat_map, length, sum, true, ◌++◌, ◌+◌, ◌<◌, ◌≤◌, ◌⊎◌, fold};
 ghost use Rattle.gpu_descriptor.specs.Caller.Comparisons.{gap_digits};
 ghost use Rattle.gpu_descriptor.specs.Caller.Flags.{layout_bits};
 ghost use Rattle.gpu_descriptor.specs.Caller.Frees.{marked_descriptors};
@@ -23,7 +23,7 @@ ghost use Rattle.gpu_descriptor.specs.Model.Load.{descriptors_created};
 ghost use Rattle.gpu_descriptor.specs.Model.Outcomes.{Allocates, Call};
 ghost use Rattle.gpu_descriptor.specs.Model.Promises.{IsUntouched};
 ghost use Rattle.gpu_descriptor.specs.Model.OneByOne.{freed_each};
-ghost use Rattle.gpu_descriptor.specs.Model.Release.{pools_gone, released, released_each};
+ghost use Rattle.gpu_descriptor.specs.Model.Release.{pools_gone, released};
 ghost use Rattle.gpu_descriptor_types.specs.Ledger.{Ledger, Pool};
 ghost use Rattle.gpu_descriptor_types.specs.Multiset.{LiveSet, Spells};
 ghost use Rattle.std.specs.List.{list_any};
@@ -41,7 +41,8 @@ pub fn release_parts()
     ensures parts { (m n : List Item) (s : State) → Agree s → AreOutstanding (m ++ n) s → released n
         (released m s) ≡ released (m ++ n) s }
     ensures cut_anywhere { (ms : List (List Item)) (s : State) → Agree s → AreOutstanding
-        (flat_map (λ m. m) ms) s → released_each ms s ≡ released (flat_map (λ m. m) ms) s }
+        (flat_map (λ m. m) ms) s → fold (λ t m. released m t) s ms ≡ released (flat_map (λ m. m) ms)
+        s }
     ensures one_by_one { (m order : List Item) (s : State) → Agree s → AreOutstanding m s
         → ((t : Item) → count_of t order ≡ count_of t m) → freed_each order s ≡ released m s }
     ensures order { (m n : List Item) (s : State) → ((t : Item) → count_of t m ≡ count_of t n)

@@ -1,8 +1,9 @@
 -- What giving back keeps: agreement, and what is outstanding but for the sets given; and that neither order nor parts matter.
 -- The laws of `released`, for `laws::release_parts` and for whatever frees. The items m, and then n, go back to the state s.
+use Rattle.std.specs.Prelude.{fold}
 use Rattle.gpu_descriptor.proofs.Common.{◌≡◌, ℕ, ◌+◌, ◌<◌, ◌≤◌, Bool, ltb, ◌&&◌, List, [], ◌∷◌, ◌++◌, flat_map, map, count_by, Option, Some, None, option_map, refl, sym, ap, ◌∙◌, arith, fun_ext}
 use Rattle.gpu_descriptor.proofs.Common.{list_any, set_of, State, Item, count_of, outstanding, AreOutstanding, IsAsBooked, Agree, Entry, entry_at, Pool, set_eq, counts_alike, count_by-append, list_any-count_by, common_steps}
-use Rattle.gpu_descriptor.proofs.Common.{lies_in, entry_less, bucket_less, pool_less, given_back, released, released_each}
+use Rattle.gpu_descriptor.proofs.Common.{lies_in, entry_less, bucket_less, pool_less, given_back, released}
 use Rattle.gpu_descriptor.proofs.request.StateAgrees.{booked_at}
 use Rattle.gpu_descriptor.proofs.table.Exact.{item_exact}
 use Rattle.gpu_descriptor.proofs.cleanup.Emptied.{emptied_agree, emptied_outstanding}
@@ -52,7 +53,7 @@ pub rest_outstanding : (m n : List Item) (s : State) → Agree s → AreOutstand
 rest_outstanding m n s agree out = grind (arith, count_by-append, takes)
 
 -- lists that are freed one after another leave what all of them leave at once
-pub each : (ms : List (List Item)) (s : State) → Agree s → AreOutstanding (flat_map (λ m. m) ms) s → released_each ms s ≡ released (flat_map (λ m. m) ms) s
+pub each : (ms : List (List Item)) (s : State) → Agree s → AreOutstanding (flat_map (λ m. m) ms) s → fold (λ t m. released m t) s ms ≡ released (flat_map (λ m. m) ms) s
 each [] s agree out = sym (none_back s)
 each (m ∷ ms) s agree out =
     let rest = flat_map (λ (n : List Item). n) ms in

@@ -66,11 +66,6 @@ fronts_gone m s = record {
 abbrev pub released : List Item → State → State
 released m s = fronts_gone m (given_back m s)
 
--- the effect of freeing lists one after another
-abbrev pub released_each : List (List Item) → State → State
-released_each [] s = s
-released_each (m ∷ ms) s = released_each ms (released m s)
-
 -- how many pools of these keys are destroyed when the list is freed
 abbrev pub pools_gone : List Key → List Item → State → ℕ
 pools_gone keys m s = sum_by (λ k. if list_any (λ t. key_eq t.key k) m then spent_front ((given_back m s).books k) else 0) keys
