@@ -14,7 +14,6 @@ within_of marked bound count off on = ltb-false bound count (let seen : (marked 
 
 -- what a table of the map says of an allocator that has it
 module _ {P : Type 0} (a : Allocations P) (es : List (BucketKey × DescriptorBucket P)) (is : a.table ≡ map row_of es) where
-
   pub books_at : (name : P → ℕ) (before : Ledger) (k : Key) → (state_of name a before).books k ≡ books_in name (map row_of es) k
   books_at name before k = ap (λ (t : List (Key × BucketOf P)). books_of (map (named_row name) t) k) is
 

@@ -20,7 +20,7 @@ bucket_but_front keep b = without_front (front_but keep b) b
 abbrev pub ledger_but : List Entry → Ledger → Ledger
 ledger_but gone l = record { pools = λ p. if are_named gone p then None else l.pools p; counters = more_destroyed (length gone) l.counters }
 
--- the same of these pools at the front
+-- the same after the empty pools at the front that may be destroyed, if `keep` pools are to stay
 abbrev pub ledger_but_front : ℕ → Bucket → Ledger → Ledger
 ledger_but_front keep b l = ledger_but (take (front_but keep b) b.pools) l
 

@@ -1,5 +1,5 @@
 -- The effect of freeing sets on books and ledger: each pool loses its part, and then empty pools at the front are destroyed.
-use Rattle.std.specs.Prelude.{sum_by, ◌∷◌, ℕ, ◌+◌, ◌-◌, Bool, false, nat_lt, ◌==◌, ◌&&◌, if◌then◌else◌, min, List, [], length, map, drop, take, count_by, None, option_map}
+use Rattle.std.specs.Prelude.{sum_by, ℕ, ◌+◌, ◌-◌, Bool, false, nat_lt, ◌==◌, ◌&&◌, if◌then◌else◌, min, List, length, map, drop, take, count_by, None, option_map}
 use Rattle.std.specs.Option.{option_map_or}
 use Rattle.std.specs.List.{list_any, prefix_len}
 use Rattle.gpu_descriptor_types.specs.Ledger.{Pool, Counters}
