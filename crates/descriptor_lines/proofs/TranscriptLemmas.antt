@@ -1,13 +1,11 @@
--- The lines of bytes, and one line more that is answered: for the loop of `run_to_end`, by `EndLemmas`.
-use Rattle.std.proofs.Common.{◌≡◌, ℕ, ◌<◌, ◌≤◌, ◌⊎◌, inl, inr, List, [], ◌∷◌, ◌++◌, length, append_assoc, append-nil, subst, refl, sym, ap, ◌∙◌, arith}
+-- The lines of bytes: for the loop of `run_to_end`, by `EndLemmas`.
+use Rattle.std.proofs.Common.{◌≡◌, ℕ, ◌<◌, ◌≤◌, ◌⊎◌, inl, inr, List, [], ◌∷◌, length, refl, sym, ap, ◌∙◌, arith}
 use Rattle.std.specs.List.{position_or_len, slice_split}
 use Rattle.std.proofs.lemmas.Bool.{cases_lt}
 use Rattle.std.proofs.lemmas.List.Splits.{length-slice_split, slice_split_first, slice_split_none}
 use Rattle.std.proofs.lemmas.List.Sums.{fails_before_first, prefix_len-le-length}
 use Rattle.descriptor_lines.specs.Words.{is_byte}
-use Rattle.descriptor_lines.specs.LineStates.{LineState}
 use Rattle.descriptor_lines.specs.Lines.{HasEnd, after_end, before_end, lines_of, without_empty_last}
-use Rattle.descriptor_lines.specs.Transcripts.{AreAnswered, IsAnswered}
 use Rattle.descriptor_lines.proofs.LineLemmas.{after_end-whole, before_end-whole}
 
 -- ---- the lines of bytes
@@ -53,12 +51,3 @@ lines_split_by bytes some (inr none) =
 -- the first line of bytes, and those behind it
 pub lines_split : (bytes : List ℕ) → 0 < length bytes → lines_of bytes ≡ before_end bytes ∷ lines_of (after_end bytes)
 lines_split bytes some = lines_split_by bytes some (cases_lt _ _)
-
--- ---- one line more
-
--- lines that were answered, and then one more
-pub goes_on : (lines : List (List ℕ)) (text : List ℕ) (old p : LineState) (line answer : List ℕ) (new : LineState) → AreAnswered lines text old p → IsAnswered line answer p new → AreAnswered (lines ++ line ∷ []) (text ++ answer) old new
-goes_on [] text old p line answer new (nothing, same) answered =
-    (answer, [], new, subst (λ q. IsAnswered line answer q new) same answered, ap (λ t. t ++ answer) nothing ∙ sym (append-nil answer), (refl, refl))
-goes_on (first ∷ lines) text old p line answer new (said, answers, q, was, is, others) answered =
-    (said, answers ++ answer, q, was, ap (λ l. l ++ answer) is ∙ append_assoc said answers answer, goes_on lines answers q p line answer new others answered)

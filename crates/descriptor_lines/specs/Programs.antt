@@ -1,5 +1,5 @@
 -- What a line does to what the lines before it made.
-use Rattle.std.specs.Prelude.{◌≡◌, ◌⊎◌, ◌++◌, ◌∷◌, [], ℕ, List, IsOkAnd, MatchOption, IsSome, OnErr, OnOk, Result, Err, length, map, sum, true, IsTrue, IsFalse, if◌then◌else◌}
+use Rattle.std.specs.Prelude.{◌≡◌, ◌⊎◌, ◌≤◌, ◌++◌, ◌∷◌, [], ℕ, List, IfErr, IsOkAnd, MatchOption, IsSome, OnErr, OnOk, Option, Result, Err, length, map, nat_le, sum, true, IsTrue, IsFalse, if◌then◌else◌}
 use Rattle.gpu_descriptor_types.specs.Bounds.{greatest_u32}
 use Rattle.gpu_descriptor.specs.Caller.Values.{without_keys}
 use Rattle.descriptor_script.specs.Scripted.Device.{empty_ledger}
@@ -17,6 +17,10 @@ use Rattle.descriptor_lines.specs.Orders.{BeginsList, Order, Limit, Layout as Ne
 use Rattle.descriptor_lines.specs.Replies.{LineSession}
 use Rattle.descriptor_lines.specs.ReplyTexts.{text_of_reply}
 use Rattle.descriptor_lines.specs.Shown.{show_answer}
+use Rattle.descriptor_lines.specs.Lines.{longest_line}
+use Rattle.descriptor_lines.specs.Words.{words_in}
+use Rattle.descriptor_lines.specs.declared.words.fault.Fault.{Fault}
+use Rattle.descriptor_lines.specs.declared.words.fault.Fault.TheVariants.{LineTooLong}
 use Rattle.descriptor_lines.specs.declared.words.fault.Refusal.{Refusal}
 use Rattle.descriptor_lines.specs.declared.words.fault.Refusal.TheVariants as refusal
 use Rattle.descriptor_lines.specs.declared.layouts.Layout.{Layout}
@@ -88,8 +92,9 @@ pub record Does (Step : Reply → Side LineSession → Side LineSession → Type
 pub record RunsAs {E : Type 0} (Done : List ℕ → LineState → LineState → Type 0) (result : Result Unit E) (text : List ℕ) (old new : LineState) : Type 0 where
   pub done : OnOk result (Done text old new)
   pub err : OnErr result (IsUnchanged old new)
+  -- the session has the layouts of the lines, and its books agree with the device
   pub ready : CanRun new
-  pub begun : new.has_begun ≡ old.has_begun
+  pub begun : IsTrue old.has_begun → IsTrue new.has_begun
 
 -- what a command does, and its answer, if no allocation fails
 abbrev pub DoesOrder : Order → List ℕ → LineState → LineState → Type 0
@@ -107,19 +112,24 @@ DoesOrder (Free tickets) text old new =
 DoesOrder Cleanup text old new = Does (StepsTo script_meaning session.Cleanup) text old new
 DoesOrder Show text old new = (new ≡ old) × (text ≡ show_answer old)
 
--- what a line of these words does, and its answer, if no allocation fails: nothing if it is silent, else its command, and from then on one has come
-abbrev pub DoesLine : List (List ℕ) → List ℕ → LineState → LineState → Type 0
-DoesLine words text old new =
-    IsOkAnd (line_in old.layouts old.has_begun words) (λ asked. MatchOption asked ((text ≡ []) × (new ≡ old)) (λ order. DoesOrder order text (record old { has_begun = true }) new × IsTrue new.has_begun))
+-- what a line asks for, if it isn't silent, or its fault. Its words are those before the carriage return that it may end in
+abbrev pub asked_in : LineState → List ℕ → Result (Option Order) Fault
+asked_in p line =
+    if nat_le (length line) longest_line then line_in p.layouts p.has_begun (words_in line) else Err LineTooLong
 
--- why a line is not run: a fault of its words; or an allocation failed, to run its command or to read its words
-abbrev pub IsReasonFor : LineState → List (List ℕ) → Refusal → Type 0
-IsReasonFor p words (refusal.Fault fault) = line_in p.layouts p.has_begun words ≡ Err fault
-IsReasonFor p words refusal.NoMemory =
-    IsOkAnd (line_in p.layouts p.has_begun words) IsSome ⊎ BeginsList words
+-- what a line that asks for this does, and its answer, if no allocation fails: nothing if it is silent, else its command, and from then on one has come
+abbrev pub DoesLine : Result (Option Order) Fault → List ℕ → LineState → LineState → Type 0
+DoesLine asked text old new =
+    IsOkAnd asked (λ asked. MatchOption asked ((text ≡ []) × (new ≡ old)) (λ order. DoesOrder order text (record old { has_begun = true }) new × IsTrue new.has_begun))
 
--- a line of these words is not run for this reason
-pub record IsNotRun (reason : Refusal) (words : List (List ℕ)) (old new : LineState) : Type 0 where
-  pub reason_is : IsReasonFor old words reason
-  pub unchanged : IsUnchanged old new
-  pub begun : IsTrue new.has_begun
+-- why a line of these words is not run: it is faulty; or an allocation failed, to run its command or to read its words
+abbrev pub IsReasonFor : Result (Option Order) Fault → List (List ℕ) → Refusal → Type 0
+IsReasonFor asked words (refusal.Fault fault) = asked ≡ Err fault
+IsReasonFor asked words refusal.NoMemory = IsOkAnd asked IsSome ⊎ BeginsList words
+
+-- a line was run, with this outcome, and made this text; or for this reason it was not run
+pub record Runs (outcome : Result Unit Refusal) (line text : List ℕ) (old new : LineState) : Type 0 where
+  pub runs : RunsAs (DoesLine (asked_in old line)) outcome text old new
+  pub reason : IfErr outcome (IsReasonFor (asked_in old line) (words_in line))
+  -- a command has come if an allocation failed, and not in a line that is too long
+  pub begun : outcome ≡ Err refusal.NoMemory → IsTrue new.has_begun × (length line ≤ longest_line)

@@ -1,5 +1,6 @@
 -- The words of a line.
 use Rattle.std.specs.Prelude.{ℕ, Bool, true, false, List, [], ◌∷◌, Option, None, Some, Result, Ok, ◌==◌, ◌||◌, filter, is_some, position, slice_index, if◌then◌else◌}
+use Rattle.std.specs.Io.BufRead.{strip_last}
 use Rattle.std.specs.List.{after_first, before_first, slice_split}
 use Rattle.descriptor_lines.specs.Fault.{◌>>=◌}
 use Rattle.descriptor_lines.specs.declared.words.fault.Fault.{Fault}
@@ -17,6 +18,10 @@ has_bytes (byte ∷ bytes) = true
 -- the longest stretches without blanks, in order: the pieces between the blanks that are not empty
 abbrev pub words : List ℕ → List (List ℕ)
 words line = filter has_bytes (slice_split is_blank line)
+
+-- the words of a line, less the carriage return that it may end in
+abbrev pub words_in : List ℕ → List (List ℕ)
+words_in line = words (strip_last 13 line)
 
 -- whether a byte has this value
 abbrev pub is_byte : ℕ → ℕ → Bool

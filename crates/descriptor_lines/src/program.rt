@@ -1,16 +1,17 @@
 //! The program: lines in, answers out.
 ghost use Rattle.gpu_descriptor_types.specs.Ledger.{Ledger};
 ghost use Rattle.descriptor_script.specs.declared.answer.Answer.{Answer};
-ghost use Rattle.std.specs.Prelude.{◌≡◌, ◌≢◌, ℕ, List, [], Some, IsFalse, IfErr, OnOk};
+ghost use Rattle.std.specs.Prelude.{◌≡◌, ◌≢◌, ℕ, List, [], Some, Err, IsFalse, IsTrue, IfErr};
 ghost use Rattle.std.specs.Prelude.{string_bytes};
-ghost use Rattle.std.specs.Io.KnownBytes.{IsAtEnd};
+ghost use Rattle.std.specs.Io.KnownBytes.{Appends, IsAtEnd};
 ghost use Rattle.descriptor_script.specs.Scripted.Device.{empty_ledger};
 ghost use Rattle.descriptor_lines.specs.Outcomes.{EndsInFault};
 ghost use Rattle.descriptor_lines.specs.LineBuffers.{max_reads, unread};
 ghost use Rattle.descriptor_lines.specs.LineStates.{line_state};
 ghost use Rattle.descriptor_lines.specs.Lines.{lines_of};
-ghost use Rattle.descriptor_lines.specs.Programs.{CanAnswer, CanRun, DoesLine, IsFresh, IsNotRun};
-ghost use Rattle.descriptor_lines.specs.Transcripts.{RunsLines, Writes};
+ghost use Rattle.descriptor_lines.specs.Orders.{line_in};
+ghost use Rattle.descriptor_lines.specs.Programs.{CanAnswer, CanRun, DoesLine, IsFresh, IsReasonFor, RunsAs};
+ghost use Rattle.descriptor_lines.specs.Transcripts.{RunsLines, Says};
 ghost use Rattle.descriptor_lines.specs.Words.{words};
 
 mod output;
@@ -70,11 +71,12 @@ impl<D: LineDevice> Program<D> {
     /// had a command.
     fn run_line(&mut self, line: &[u8], answer: &mut String) -> Result<(), Refusal>
         requires can { CanAnswer (string_bytes answer.old) (line_state D.ledger D.script self.old) }
-        ensures ready { CanRun (line_state D.ledger D.script self.new) }
-        ensures does { OnOk result (DoesLine (words line.now) (string_bytes answer.new)
-            (line_state D.ledger D.script self.old) (line_state D.ledger D.script self.new)) }
-        ensures not_run { IfErr result (λ reason. IsNotRun reason (words line.now)
-            (line_state D.ledger D.script self.old) (line_state D.ledger D.script self.new)) }
+        ensures runs { RunsAs (DoesLine (line_in self.old.layouts self.old.has_begun (words line.now)))
+            result (string_bytes answer.new) (line_state D.ledger D.script self.old)
+            (line_state D.ledger D.script self.new) }
+        ensures reason { IfErr result (IsReasonFor (line_in self.old.layouts self.old.has_begun
+            (words line.now)) (words line.now)) }
+        ensures begun { result ≡ Err Refusal.NoMemory → IsTrue self.new.has_begun }
     {
         self.device.hear(line);
         match Command::parse(self.alloc, line, &self.layouts, self.has_begun) {
@@ -104,8 +106,9 @@ fn run_to_end<D: LineDevice, R: Read, W: Write>(
     requires open { IsFalse lines.old.is_at_end }
     requires reads { lines.old.reads_left ≡ max_reads }
     ensures writes { (bytes : List ℕ) → unread lines.old (R.remaining input.old) ≡ Some bytes
-        → Writes (lines_of bytes) (line_state D.ledger D.script program.old) result
-        (W.contents output.old) (W.contents output.new) (line_state D.ledger D.script program.new) }
+        → (said : List ℕ) × Appends (W.contents output.old) (W.contents output.new) said
+        × Says result 1 (lines_of bytes) said (line_state D.ledger D.script program.old)
+        (line_state D.ledger D.script program.new) }
     ensures done { result ≡ Exit.Done → IsAtEnd (R.remaining input.new) }
     ensures bad_line { result ≡ Exit.BadLine → EndsInFault (W.contents output.old)
         (W.contents output.new) }

@@ -7,7 +7,7 @@ use Rattle.std.proofs.KnownBytes.{Appends-nil, Appends-trans}
 use Rattle.descriptor_lines.specs.Outcomes.{EndsInFault, IsNoFault, said_of}
 use Rattle.descriptor_lines.specs.declared.words.fault.Refusal.{Refusal}
 use Rattle.descriptor_lines.specs.declared.words.fault.Refusal.TheVariants as refusal
-use Rattle.descriptor_lines.proofs.EndLemmas.{Stands, Takes, ends_at_fault, ends_done, ends_early, ends_unread, ends_unwritten, stands_on, takes_long, takes_span}
+use Rattle.descriptor_lines.proofs.EndLemmas.{Stands, Takes, ends_at_fault, ends_done, ends_early, ends_unread, ends_unwritten, stands_on, takes_span, too_long}
 use Rattle.descriptor_lines.proofs.program.run_to_end.Given.{Over}
 use Rattle.descriptor_lines.proofs.program.run_to_end.Goals as goal
 use Rattle.descriptor_lines.proofs.program.run_to_end.Goals.{After-has_lost, in-Ok-Some, in-Err-LineTooLong}
@@ -23,20 +23,22 @@ takes :
     (g : Over) (c : After-has_lost g) (bytes answers : List ℕ) (start : LineState)
     (at : Stands bytes start answers c.loop-number.number (unread c.loop-number.lines (g.R.Read.remaining c.loop-number.input))
     (line_state g.D.DescriptorDevice.ledger g.D.LineDevice.script c.loop-number.program))
-    → Takes c.loop-number.number at.rest (unread c.next_line.new.self (g.R.Read.remaining c.next_line.new.input))
+    → Takes at.rest (unread c.next_line.new.self (g.R.Read.remaining c.next_line.new.input))
     c.match-next_line.outcome (string_bytes c.match-next_line.answer)
     (line_state g.D.DescriptorDevice.ledger g.D.LineDevice.script c.loop-number.program)
     (line_state g.D.DescriptorDevice.ledger g.D.LineDevice.script c.match-next_line.program)
 takes g c bytes answers start at =
     elim
     c.match-next_line.branch [
-      | in-Ok-Some w ↦ let ran =
-          w.run_line-outcome.ensures in let found =
-          w.in-Ok-Some.ensures in rw (w.program-is, w.answer-is, w.outcome-is)
-          (takes_span _ _ c.next_line.new.self w.in-Ok-Some.span _ _ _ _ _ _
-          (rw w.in-Ok-Some.field-0-is at (found.known at.rest at.known))
-          (rw w.in-Ok-Some.field-0-is at found.short) w.line.ensures.bytes ran.does ran.not_run ran.ready)
-      | in-Err-LineTooLong w ↦ rw (w.program-is, w.answer-is) (takes_long _ _ _ _ _ _ w.outcome-is (c.next_line.ensures.too_long (w.in-Err-LineTooLong.is ∙ ap Err w.in-Err-LineTooLong.field-0-is) at.rest at.known))
+      | in-Ok-Some w ↦
+          let ran = w.run_line-outcome.ensures in
+          rw (w.program-is, w.answer-is, w.outcome-is)
+          (takes_span _ _ c.next_line.new.self w.in-Ok-Some.span _ _ _ _ _
+          (rw w.in-Ok-Some.field-0-is at (w.in-Ok-Some.ensures.known at.rest at.known))
+          (rw w.in-Ok-Some.field-0-is at w.in-Ok-Some.ensures.short) w.line.ensures.bytes ran.runs ran.reason ran.begun)
+      | in-Err-LineTooLong w ↦
+          let long = c.next_line.ensures.too_long (w.in-Err-LineTooLong.is ∙ ap Err w.in-Err-LineTooLong.field-0-is) at.rest at.known in
+          rw (w.program-is, w.answer-is, w.outcome-is) (too_long _ _ _ _ long c.loop-number.invariant.ready)
     ]
 
 pub loop-number-preserved : goal.loop-number-preserved
@@ -44,7 +46,7 @@ loop-number-preserved g c =
     let (text, grown, stands) = c.loop-number.invariant.answers in
     record {
       ready = elim c.match-next_line.branch [
-        | in-Ok-Some w ↦ rw w.program-is w.run_line-outcome.ensures.ready
+        | in-Ok-Some w ↦ rw w.program-is w.run_line-outcome.ensures.runs.ready
         | in-Err-LineTooLong w ↦ rw w.program-is c.loop-number.invariant.ready
       ];
       empty = c.in_default.ensures.emptied;
@@ -82,7 +84,7 @@ returns-in-Err-clause-writes g c bytes is =
     let (text, grown, stands) = c.loop-number.invariant.answers in
     let at = stands bytes is in
     let came = takes g c.before.before.before.before.before _ _ _ at in
-    ends_early _ _ _ c.in-Err.exit _ _ c.in-Err.ensures.err
+    ends_early c.in-Err.exit bytes _ _ _ _ c.in-Err.ensures.err
     (λ bad.
     ends_at_fault _ _ _ _ _ _ at _ _ _ _ came _ _ _ (c.answer_line.ensures.bad_line (c.in-Err.is ∙ ap Err bad)) grown
     (c.answer_line.ensures.told (c.in-Err.is ∙ ap Err bad)))

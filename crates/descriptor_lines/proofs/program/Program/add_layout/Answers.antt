@@ -24,6 +24,6 @@ returns-in-Ok g c =
           layouts = rw (c.in-Ok.ensures.last, c.push.ensures.layouts, c.reserve.ensures.same) (map-append (λ k. k.layout) (layouts_of c.args.self.now.session) _ ∙ ap (λ ls. ls ++ scripted c.args.layout ∷ []) old.layouts ∙ sym (map-append (λ l. scripted l.1) (layouts_in c.args.self.now.layouts) _));
           fresh = λ unbegun. (let begun = c.requires.begun in cc);
         };
-        begun = refl;
+        begun = λ is. is;
       };
     }

@@ -21,6 +21,6 @@ returns-in-Size g c =
         done = IfOk-weaker c.size_answer.result _ _ (λ _ written. (refl, sets.result, size, written ∙ ap (λ old. old ++ size_answer sets.result (kinds c.counts_of_sets.result)) c.requires.can.empty ∙ ap (λ counts. size_answer sets.result counts) c.counts_of_sets.ensures)) c.size_answer.ensures;
         err = on_err c.size_answer.result _ (record { layouts = refl; session = record { allocator = refl; layouts = refl; sets = refl; ledger = refl }; script = refl });
         ready = c.requires.can.ready;
-        begun = refl;
+        begun = λ is. is;
       };
     })

@@ -13,6 +13,6 @@ returns g c = record {
       layouts = rw (c.new.ensures.layouts, none_in c.args.self.now.layouts c.requires.fresh) refl;
       fresh = c.requires.can.ready.fresh;
     };
-    begun = refl;
+    begun = λ is. is;
   };
 }
