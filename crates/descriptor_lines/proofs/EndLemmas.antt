@@ -64,7 +64,7 @@ too_long bytes text left p long ready =
       ran = record {
         runs = record {
           done = tt;
-          err = record { layouts = refl; session = record { allocator = refl; layouts = refl; sets = refl; ledger = refl }; script = refl };
+          err = record { layouts = refl; session = refl; script = refl };
           ready = ready;
           begun = λ is. is;
         };

@@ -8,7 +8,6 @@ use Rattle.gpu_descriptor.specs.Caller.Views.{view_in}
 use Rattle.gpu_descriptor.specs.Model.Books.{BucketOf, Key, books_of}
 use Rattle.gpu_descriptor.specs.declared.bucket.DescriptorPool.{DescriptorPool}
 use Rattle.gpu_descriptor.specs.declared.view.PoolView.{PoolView}
-use Rattle.descriptor_script.specs.Sessions.Session.{allocator_of, sets_of}
 use Rattle.descriptor_script.specs.Sessions.Tickets.{held_sets}
 use Rattle.descriptor_script.specs.declared.raw.RawPool.{RawPool}
 use Rattle.descriptor_lines.specs.Answers.{device_answer, held_answer, pool_answer}
@@ -79,12 +78,12 @@ joined old pools calls held = simp append_assoc
 -- behind the pools of those that are told to be first the calls and the sets make the text of `show`
 pub said_whole :
     (p : LineState) (old text : List ℕ)
-    → text ≡ old ++ said_of_told (allocator_of p.session.value).table p.layouts.by_name.entries
+    → text ≡ old ++ said_of_told p.session.value.allocator.table p.layouts.by_name.entries
     → (text ++ device_answer p.session.ledger.counters)
-    ++ held_answer (length (held_sets (sets_of p.session.value))) (marked_load_of (allocator_of p.session.value))
+    ++ held_answer (length (held_sets p.session.value.sets)) (marked_load_of p.session.value.allocator)
     ≡ old ++ show_answer p
 unfolding said_of_told show_answer
 said_whole p old text pools =
     let calls = device_answer p.session.ledger.counters in
-    let held = held_answer (length (held_sets (sets_of p.session.value))) (marked_load_of (allocator_of p.session.value)) in
-    ap (λ said. (said ++ calls) ++ held) pools ∙ joined old (said_of_told (allocator_of p.session.value).table p.layouts.by_name.entries) calls held
+    let held = held_answer (length (held_sets p.session.value.sets)) (marked_load_of p.session.value.allocator) in
+    ap (λ said. (said ++ calls) ++ held) pools ∙ joined old (said_of_told p.session.value.allocator.table p.layouts.by_name.entries) calls held

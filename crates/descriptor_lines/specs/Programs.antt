@@ -1,11 +1,10 @@
 -- What a line does to what the lines before it made.
 use Rattle.std.specs.Prelude.{◌≡◌, ◌⊎◌, ◌≤◌, ◌++◌, ◌∷◌, [], ℕ, List, IfErr, IsOkAnd, MatchOption, IsSome, OnErr, OnOk, Option, Result, Err, length, map, nat_le, sum, true, IsTrue, IsFalse, if◌then◌else◌}
 use Rattle.gpu_descriptor_types.specs.Bounds.{greatest_u32}
-use Rattle.gpu_descriptor.specs.Caller.Values.{without_keys}
 use Rattle.descriptor_script.specs.Scripted.Device.{empty_ledger}
 use Rattle.descriptor_script.specs.Scripted.Raw.{script_meaning}
-use Rattle.descriptor_script.specs.Sessions.Session.{IsReady, KeepsSession, allocator_of, layouts_of, sets_of}
-use Rattle.descriptor_script.specs.Sessions.Steps.{FreesTo, IsAsBefore, IsTurnedAway, StepsTo}
+use Rattle.descriptor_script.specs.Sessions.Session.{IsReady, KeepsSession, new_session}
+use Rattle.descriptor_script.specs.Sessions.Steps.{FreesTo, IsTurnedAway, StepsTo}
 use Rattle.descriptor_script.specs.declared.command.Command.TheVariants as session
 use Rattle.descriptor_script.specs.declared.command.Reply.{Reply}
 use Rattle.descriptor_script.specs.declared.raw.ScriptLayout.{ScriptLayout}
@@ -35,7 +34,7 @@ pub record CanRun (p : LineState) : Type 0 where
   -- the session can make a step on the device
   pub ready : IsReady script_meaning p.session
   -- the session has the layouts of the lines, in their order
-  pub layouts : map (λ k. k.layout) (layouts_of p.session.value) ≡ map (λ l. scripted l.1) (layouts_in p.layouts)
+  pub layouts : map (λ k. k.layout) p.session.value.layouts ≡ map (λ l. scripted l.1) (layouts_in p.layouts)
   -- before the first command there is no layout
   pub fresh : IsFalse p.has_begun → layout_count p.layouts ≡ 0
 
@@ -48,39 +47,27 @@ pub record CanAnswer (text : List ℕ) (p : LineState) : Type 0 where
 pub record IsFresh (p : LineState) : Type 0 where
   pub layouts : layouts_in p.layouts ≡ []
   pub begun : IsFalse p.has_begun
-  pub allocator : allocator_of p.session.value ≡ without_keys greatest_u32
-  pub known : layouts_of p.session.value ≡ []
-  pub sets : sets_of p.session.value ≡ []
+  pub session : p.session ≡ side (new_session greatest_u32) empty_ledger
   pub script : p.script ≡ []
-  pub ledger : p.session.ledger ≡ empty_ledger
 
 -- layouts, books, sets, ledger and script are as before
 pub record IsUnchanged (old new : LineState) : Type 0 where
   pub layouts : SameLayouts old.layouts new.layouts
-  pub session : IsAsBefore old.session new.session
+  pub session : new.session ≡ old.session
   pub script : new.script ≡ old.script
-
--- the session is a new one with this limit
-pub record Begins (max : ℕ) (old new : LineState) : Type 0 where
-  pub allocator : allocator_of new.session.value ≡ without_keys max
-  pub known : layouts_of new.session.value ≡ []
-  pub sets : sets_of new.session.value ≡ []
-  pub rest : new ≡ record old { session = side new.session.value old.session.ledger }
 
 -- a layout of a new name came last
 pub record AddsLayout (name : List ℕ) (layout : Layout) (old new : LineState) : Type 0 where
   pub layouts : layouts_in new.layouts ≡ layouts_in old.layouts ++ (name, layout) ∷ []
   -- it is the first with its counts and mark, unless there was one before
   pub firsts : first_layouts new.layouts ≡ first_layouts old.layouts ++ (if has_key (layouts_in old.layouts) layout then [] else (name, layout) ∷ [])
-  pub allocator : allocator_of new.session.value ≡ allocator_of old.session.value
-  pub sets : sets_of new.session.value ≡ sets_of old.session.value
-  pub ledger : new.session.ledger ≡ old.session.ledger
+  pub session : new.session ≡ side (record old.session.value { layouts = new.session.value.layouts }) old.session.ledger
   pub script : new.script ≡ old.script
 
 -- the session of the program made a step, and the text is the answer to its reply
 pub record Does (Step : Reply → Side LineSession → Side LineSession → Type 0) (text : List ℕ) (old new : LineState) : Type 0 where
   pub reply : Reply
-  pub said : text ≡ text_of_reply (sets_of new.session.value) reply
+  pub said : text ≡ text_of_reply new.session.value.sets reply
   pub step : Step reply old.session new.session
   -- no word is read if the device is not asked
   pub turned_away : IsTurnedAway reply → new.script ≡ old.script
@@ -98,7 +85,8 @@ pub record RunsAs {E : Type 0} (Done : List ℕ → LineState → LineState → 
 
 -- what a command does, and its answer, if no allocation fails
 abbrev pub DoesOrder : Order → List ℕ → LineState → LineState → Type 0
-DoesOrder (Limit max) text old new = Begins max old new × (text ≡ limit_answer max)
+DoesOrder (Limit max) text old new =
+    (new ≡ record old { session = side (new_session max) old.session.ledger }) × (text ≡ limit_answer max)
 DoesOrder (NewLayout name key) text old new =
     (layout : Layout) × (key_of layout ≡ key) × AddsLayout name layout old new × (text ≡ layout_answer name (sum key.counts))
 DoesOrder (Size counts total wanted) text old new =

@@ -3,17 +3,17 @@ use Rattle.std.specs.Prelude.{ℕ, ◌+◌, ◌<◌, ◌^◌, List, Option}
 use Rattle.std.specs.Option.{option_map_or}
 use Rattle.gpu_descriptor.specs.declared.set.DescriptorSet.{DescriptorSet}
 use Rattle.descriptor_script.specs.Scripted.Raw.{set_pool}
+use Rattle.descriptor_script.specs.Sessions.Session.{SessionValue}
 use Rattle.descriptor_script.specs.Sessions.Tickets.{set_at}
 use Rattle.descriptor_script.specs.declared.command.Reply.{Reply}
 use Rattle.descriptor_script.specs.declared.command.Reply.TheVariants.{Sets}
 use Rattle.descriptor_script.specs.declared.raw.RawPool.{RawPool}
 use Rattle.descriptor_script.specs.declared.raw.RawSet.{RawSet}
 use Rattle.descriptor_script.specs.declared.raw.ScriptLayout.{ScriptLayout}
-use Rattle.descriptor_script.specs.declared.session.Session.{Session}
 
 -- a session on the scripted device
 abbrev pub LineSession : Type 0
-LineSession = Session ScriptLayout RawPool RawSet
+LineSession = SessionValue ScriptLayout RawPool RawSet
 
 -- the device pool of the set that the ticket has, or 0
 abbrev pub pool_at : List (Option (DescriptorSet RawSet)) → ℕ → ℕ

@@ -4,12 +4,11 @@ use Rattle.std.proofs.lemmas.Bool.{cases_eq}
 use Rattle.std.proofs.lemmas.List.{get_or-set_other, length-set}
 use Rattle.gpu_descriptor_types.specs.Meaning.{Meaning}
 use Rattle.gpu_descriptor_types.specs.Side.{Side}
-use Rattle.descriptor_script.specs.Sessions.Session.{sets_of}
+use Rattle.descriptor_script.specs.Sessions.Session.{SessionValue}
 use Rattle.descriptor_script.specs.Sessions.Steps.{FreesTo}
 use Rattle.descriptor_script.specs.Sessions.Tickets.{emptied, set_at}
 use Rattle.descriptor_script.specs.declared.command.Reply.{Reply}
 use Rattle.descriptor_script.specs.declared.command.Reply.TheVariants.{Freed, BadTicket}
-use Rattle.descriptor_script.specs.declared.session.Session.{Session}
 use Rattle.descriptor_script.proofs.Emptied.{none_at}
 
 module _ {X : Type 0} where
@@ -30,12 +29,12 @@ module _ {X : Type 0} where
 
 -- a free gives no ticket a second time
 module _ {L P S : Type 0} (means : Meaning L P S) (tickets : List ℕ) where
-  pub no_fewer_tickets : (reply : Reply) (old new : Side (Session L P S)) → FreesTo means tickets old new reply → length (sets_of old.value) ≤ length (sets_of new.value)
-  no_fewer_tickets (Freed n) old new (gone, returns) = omega (arith, ap length gone.sets, emptied_length (sets_of old.value) tickets)
-  no_fewer_tickets BadTicket old new h = omega (arith, ap length h.1.sets)
+  pub no_fewer_tickets : (reply : Reply) (old new : Side (SessionValue L P S)) → FreesTo means tickets old new reply → length old.value.sets ≤ length new.value.sets
+  no_fewer_tickets (Freed n) old new (gone, returns) = omega (arith, ap length gone.sets, emptied_length old.value.sets tickets)
+  no_fewer_tickets BadTicket old new h = omega (arith, ap (λ s. length s.value.sets) h.1)
   no_fewer_tickets _ old new h = absurd h
 
-  pub freed_stay : (reply : Reply) (old new : Side (Session L P S)) → FreesTo means tickets old new reply → (ticket : ℕ) → set_at (sets_of old.value) ticket ≡ None → set_at (sets_of new.value) ticket ≡ None
-  freed_stay (Freed n) old new (gone, returns) ticket none = ap (λ s. set_at s ticket) gone.sets ∙ emptied_none (sets_of old.value) tickets ticket none
-  freed_stay BadTicket old new h ticket none = ap (λ s. set_at s ticket) h.1.sets ∙ none
+  pub freed_stay : (reply : Reply) (old new : Side (SessionValue L P S)) → FreesTo means tickets old new reply → (ticket : ℕ) → set_at old.value.sets ticket ≡ None → set_at new.value.sets ticket ≡ None
+  freed_stay (Freed n) old new (gone, returns) ticket none = ap (λ s. set_at s ticket) gone.sets ∙ emptied_none old.value.sets tickets ticket none
+  freed_stay BadTicket old new h ticket none = ap (λ s. set_at s.value.sets ticket) h.1 ∙ none
   freed_stay _ old new h ticket none = absurd h

@@ -23,33 +23,32 @@ use Rattle.gpu_descriptor.proofs.lists.Numbers.{entry_at-from}
 use Rattle.gpu_descriptor.proofs.release.Places.{back_named, back_named-is, outstanding_at, part_fits}
 use Rattle.gpu_descriptor.proofs.release.ReleaseAgrees.{one_by_one}
 use Rattle.descriptor_script.specs.Sessions.Headline.{GoBack, HoldsWhatIsOut, KeepsAll}
-use Rattle.descriptor_script.specs.Sessions.Session.{IsReady, allocator_of, allocator_on, sets_of, state_on}
+use Rattle.descriptor_script.specs.Sessions.Session.{IsReady, allocator_on, state_on, SessionValue}
 use Rattle.descriptor_script.specs.Sessions.SessionRun.{IsStep, Runs}
 use Rattle.descriptor_script.specs.Sessions.Steps.{FreesTo, OfStep, StepsTo, held_items}
 use Rattle.descriptor_script.specs.declared.command.Command.{Command}
 use Rattle.descriptor_script.specs.declared.command.Command.TheVariants.{Allocate, Free, Cleanup}
 use Rattle.descriptor_script.specs.declared.command.Reply.{Reply}
 use Rattle.descriptor_script.specs.declared.command.Reply.TheVariants.{Sets, Refused, Freed, BadTicket, BadLayout, NoMemory, Clean}
-use Rattle.descriptor_script.specs.declared.session.Session.{Session}
 use Rattle.gpu_descriptor.proofs.request.Causes.{request_own, wants_some}
 use Rattle.descriptor_script.proofs.Emptied.{listed_out}
 
 module _ {L P S : Type 0} (means : Meaning L P S) where
   -- as many sets are outstanding as are held
-  held_count : (s : Side (Session L P S)) → IsReady means s → length (held_items means s) ≡ outstanding_of (allocator_of s.value)
-  held_count s ready = out_is_length (state_on means s) _ ready.agree.books (adds_up means.pool_name (allocator_of s.value) sets_out ready.agree.rows (outstanding_of-table means.pool_name (allocator_of s.value))) (held_items means s) (λ t. sym (ready.held t))
+  held_count : (s : Side (SessionValue L P S)) → IsReady means s → length (held_items means s) ≡ outstanding_of s.value.allocator
+  held_count s ready = out_is_length (state_on means s) _ ready.agree.books (adds_up means.pool_name s.value.allocator sets_out ready.agree.rows (outstanding_of-table means.pool_name s.value.allocator)) (held_items means s) (λ t. sym (ready.held t))
 
   -- the marked load is that of the held sets
-  held_load : (s : Side (Session L P S)) → IsReady means s → marked_descriptors (held_items means s) ≡ marked_load_of (allocator_of s.value)
-  held_load s ready = load_is_descriptors (state_on means s) _ ready.agree.books (adds_up means.pool_name (allocator_of s.value) descriptors_out ready.agree.rows (marked_load_of-table means.pool_name (allocator_of s.value))) (held_items means s) (λ t. sym (ready.held t))
+  held_load : (s : Side (SessionValue L P S)) → IsReady means s → marked_descriptors (held_items means s) ≡ marked_load_of s.value.allocator
+  held_load s ready = load_is_descriptors (state_on means s) _ ready.agree.books (adds_up means.pool_name s.value.allocator descriptors_out ready.agree.rows (marked_load_of-table means.pool_name s.value.allocator)) (held_items means s) (λ t. sym (ready.held t))
 
   -- the cause of a refusal, with the numbers of held sets in the place of the allocator's
-  pub cause_from_held : (old : Side (Session L P S)) → IsReady means old → (key : Key) (count : ℕ) (error : AllocationError) (new : Side (Allocations P)) → HasCause means key count (allocator_on old) new error → IsBecause means key count (length (held_items means old)) (marked_descriptors (held_items means old)) (allocator_on old) new error
+  pub cause_from_held : (old : Side (SessionValue L P S)) → IsReady means old → (key : Key) (count : ℕ) (error : AllocationError) (new : Side (Allocations P)) → HasCause means key count (allocator_on old) new error → IsBecause means key count (length (held_items means old)) (marked_descriptors (held_items means old)) (allocator_on old) new error
   cause_from_held old ready key count error new cause = rw (held_count old ready, held_load old ready) cause
 
   -- the live sets of a pool in the books are the held sets that lie in it, and have the counts of its key
   nothing_else :
-      (s : Side (Session L P S)) → IsReady means s → (k : Key) (i : ℕ) (e : Entry) (x : LiveSet)
+      (s : Side (SessionValue L P S)) → IsReady means s → (k : Key) (i : ℕ) (e : Entry) (x : LiveSet)
       → slice_get ((state_on means s).books k).pools i ≡ Some e
       → (0 < live_in s.ledger.pools e.pool x → x.counts ≡ k.counts)
       × (live_in s.ledger.pools e.pool x ≡ back_named (held_items means s) (state_on means s) e.pool x)
@@ -81,12 +80,12 @@ module _ {L P S : Type 0} (means : Meaning L P S) where
         ],
       )
 
-  module _ (old new : Side (Session L P S)) (ready : IsReady means old) where
+  module _ (old new : Side (SessionValue L P S)) (ready : IsReady means old) where
     -- a free that was done, as the headline says it
     gone_back : (tickets : List ℕ) (many : ℕ) → FreesTo means tickets old new (Freed many) → GoBack means tickets many old new
     gone_back tickets many (gone, returns) =
-        let start = state_of means.pool_name (allocator_of old.value) old.ledger in
-        let out = listed_out means.set_name (sets_of old.value) tickets gone.given start gone.good gone.each ready.held in
+        let start = state_of means.pool_name old.value.allocator old.ledger in
+        let out = listed_out means.set_name old.value.sets tickets gone.given start gone.good gone.each ready.held in
         let back = returns.back in
         record {
           gone = gone;
@@ -106,7 +105,7 @@ module _ {L P S : Type 0} (means : Meaning L P S) where
     replied _ _ h = absurd h
 
   -- a run keeps all parts at each of its steps
-  pub all_kept : (commands : List Command) (replies : List Reply) (old new : Side (Session L P S)) → IsReady means old → Runs (IsStep means) commands replies old new → Runs (λ command reply s t. KeepsAll means command reply s t × IsStep means command reply s t) commands replies old new
+  pub all_kept : (commands : List Command) (replies : List Reply) (old new : Side (SessionValue L P S)) → IsReady means old → Runs (IsStep means) commands replies old new → Runs (λ command reply s t. KeepsAll means command reply s t × IsStep means command reply s t) commands replies old new
   all_kept [] [] old new ready run = run
   all_kept (c ∷ cs) (r ∷ rs) old new ready run =
       let keeps = run.1.1 in
@@ -114,7 +113,7 @@ module _ {L P S : Type 0} (means : Meaning L P S) where
         exactly = keeps.ready.held;
         nothing_else = nothing_else run.0 keeps.ready;
         handed_out = replied old run.0 ready c r run.1.0;
-        sets_within = subst (λ n. n ≤ (allocator_of run.0.value).limit) (sym (held_load run.0 keeps.ready)) keeps.allocator.load;
+        sets_within = subst (λ n. n ≤ run.0.value.allocator.limit) (sym (held_load run.0 keeps.ready)) keeps.allocator.load;
         pools_within = keeps.allocator.pool_load;
         limit = keeps.allocator.limit;
         layouts = keeps.layouts;
@@ -124,7 +123,7 @@ module _ {L P S : Type 0} (means : Meaning L P S) where
   all_kept _ _ old new ready run = absurd run
 
   -- the promise alone
-  pub promise_of : (promise : OfStep L P S) (commands : List Command) (replies : List Reply) (old new : Side (Session L P S)) → Runs (λ command reply s t. promise command reply s t × IsStep means command reply s t) commands replies old new → Runs promise commands replies old new
+  pub promise_of : (promise : OfStep L P S) (commands : List Command) (replies : List Reply) (old new : Side (SessionValue L P S)) → Runs (λ command reply s t. promise command reply s t × IsStep means command reply s t) commands replies old new → Runs promise commands replies old new
   promise_of promise [] [] old new run = run
   promise_of promise (c ∷ cs) (r ∷ rs) old new run = (run.0, run.1.0, promise_of promise cs rs run.0 new run.2)
   promise_of promise _ _ old new run = absurd run

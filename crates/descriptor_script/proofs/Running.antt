@@ -3,16 +3,15 @@ use Rattle.std.proofs.Common.{List, [], ◌∷◌, ◌++◌, refl, subst, ◌∙
 use Rattle.gpu_descriptor_types.specs.Meaning.{Meaning}
 use Rattle.gpu_descriptor_types.specs.Side.{Side}
 use Rattle.gpu_descriptor.proofs.callers.Unchanged.{keeps_through}
-use Rattle.descriptor_script.specs.Sessions.Session.{KeepsSession}
+use Rattle.descriptor_script.specs.Sessions.Session.{KeepsSession, SessionValue}
 use Rattle.descriptor_script.specs.Sessions.SessionRun.{IsStep, Runs}
 use Rattle.descriptor_script.specs.declared.command.Command.{Command}
 use Rattle.descriptor_script.specs.declared.command.Reply.{Reply}
-use Rattle.descriptor_script.specs.declared.session.Session.{Session}
 
 module _ {L P S : Type 0} (means : Meaning L P S) where
   pub runs_more :
       (commands : List Command) (replies : List Reply) (command : Command) (reply : Reply)
-      (old mid new : Side (Session L P S))
+      (old mid new : Side (SessionValue L P S))
       → Runs (IsStep means) commands replies old mid → IsStep means command reply mid new
       → Runs (IsStep means) (commands ++ command ∷ []) (replies ++ reply ∷ []) old new
   runs_more [] [] command reply old mid new run step = (new, subst (λ s. IsStep means command reply s new) run step, refl)
@@ -20,7 +19,7 @@ module _ {L P S : Type 0} (means : Meaning L P S) where
   runs_more _ _ command reply old mid new run step = absurd run
 
   -- what two stretches keep, one after the other
-  pub session_through : {s t u : Side (Session L P S)} → KeepsSession means s t → KeepsSession means t u → KeepsSession means s u
+  pub session_through : {s t u : Side (SessionValue L P S)} → KeepsSession means s t → KeepsSession means t u → KeepsSession means s u
   session_through p q = record {
     ready = q.ready;
     allocator = keeps_through p.allocator q.allocator;

@@ -5,7 +5,6 @@ ghost use Rattle.std.specs.Option.{option_copied};
 ghost use Rattle.gpu_descriptor_types.specs.Ledger.{Ledger};
 ghost use Rattle.gpu_descriptor.specs.Caller.States.{Agrees, marked_load_of, outstanding_of};
 ghost use Rattle.gpu_descriptor.specs.Caller.States.{pool_load_of};
-ghost use Rattle.gpu_descriptor.specs.Caller.Values.{without_keys};
 ghost use Rattle.descriptor_script.specs.Sessions.Tickets.{held_sets, set_at};
 
 mod run;
@@ -34,16 +33,14 @@ pub struct Session<L, P, S> {
 }
 
 impl<L, P, S> Session<L, P, S> {
-    ghost use Rattle.descriptor_script.specs.Sessions.Session.{allocator_of, layouts_of, sets_of};
+    ghost use Rattle.descriptor_script.specs.Sessions.Session.{new_session, value_of};
 
     /// A session without layouts and sets, whose allocator has this limit on update-after-bind
     /// descriptors, and agrees with every device. It allocates no memory.
     pub fn new(alloc: Global, max: u32) -> Self
-        ensures allocator { allocator_of result ≡ without_keys max }
+        ensures value { value_of result ≡ new_session max }
         ensures agree { (name : P → ℕ) (ledger : Ledger)
-            → Agrees name (allocator_of result) ledger }
-        ensures layouts { layouts_of result ≡ [] }
-        ensures sets { sets_of result ≡ [] }
+            → Agrees name (value_of result).allocator ledger }
     {
         Session {
             allocator: DescriptorAllocator::with_ids(alloc, max, 0..u64::MAX),
@@ -60,16 +57,16 @@ impl<L, P, S> Session<L, P, S> {
         counts: DescriptorTotalCount,
         flags: DescriptorSetLayoutCreateFlags,
     ) -> Result<usize, L>
-        ensures place { IfOk result (λ place. place ≡ length (layouts_of self.old)) }
-        ensures last { OnOk result (layouts_of self.new ≡ layouts_of self.old ++ record {
-          layout = layout;
-          counts = counts;
-          flags = flags;
-        } ∷ []) }
+        ensures place { IfOk result (λ place. place ≡ length (value_of self.old).layouts) }
+        ensures last { OnOk result (value_of self.new ≡ record (value_of self.old) {
+          layouts = (value_of self.old).layouts ++ record {
+            layout = layout;
+            counts = counts;
+            flags = flags;
+          } ∷ [];
+        }) }
         ensures back { IfErr result (λ returned. returned ≡ layout) }
-        ensures layouts { OnErr result (layouts_of self.new ≡ layouts_of self.old) }
-        ensures allocator { allocator_of self.new ≡ allocator_of self.old }
-        ensures sets { sets_of self.new ≡ sets_of self.old }
+        ensures same { OnErr result (value_of self.new ≡ value_of self.old) }
     {
         let place = self.layouts.len();
         match self.layouts.push(SetLayout {
@@ -84,36 +81,36 @@ impl<L, P, S> Session<L, P, S> {
 
     /// The layout at a place.
     pub fn layout(&self, place: usize) -> Option<&SetLayout<L>>
-        ensures { option_copied result ≡ slice_get (layouts_of self.now) place }
+        ensures { option_copied result ≡ slice_get (value_of self.now).layouts place }
     {
         self.layouts.get(place)
     }
 
     /// The allocator.
     pub fn allocator(&self) -> &DescriptorAllocator<P, S>
-        ensures { result.now ≡ allocator_of self.now }
+        ensures { result.now ≡ (value_of self.now).allocator }
     {
         &self.allocator
     }
 
     /// How many sets are held.
     pub fn held(&self) -> u64
-        ensures held { result ≡ length (held_sets (sets_of self.now)) }
-        ensures outstanding { result ≡ outstanding_of (allocator_of self.now) }
+        ensures held { result ≡ length (held_sets (value_of self.now).sets) }
+        ensures outstanding { result ≡ outstanding_of (value_of self.now).allocator }
     {
         self.slots.held()
     }
 
     /// The ticket that comes next.
     pub fn next_ticket(&self) -> usize
-        ensures { result ≡ length (sets_of self.now) }
+        ensures { result ≡ length (value_of self.now).sets }
     {
         self.slots.next()
     }
 
     /// The set of a ticket; `None` where the ticket was never given or its set is freed.
     pub fn set(&self, ticket: usize) -> Option<&DescriptorSet<S>>
-        ensures { option_copied result ≡ set_at (sets_of self.now) ticket }
+        ensures { option_copied result ≡ set_at (value_of self.now).sets ticket }
     {
         self.slots.get(ticket)
     }

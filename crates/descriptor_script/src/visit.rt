@@ -4,12 +4,10 @@ ghost use Rattle.std.specs.Prelude.{◌≡◌, [], IfOk, OnErr};
 ghost use Rattle.gpu_descriptor_types.specs.Side.{Side, side};
 ghost use Rattle.gpu_descriptor.specs.Caller.States.{state_of};
 ghost use Rattle.gpu_descriptor.specs.Model.Agreement.{HasNoKeys, HasNoPools};
-ghost use Rattle.descriptor_script.specs.Sessions.Session.{IsReady, KeepsSession, allocator_of};
-ghost use Rattle.descriptor_script.specs.Sessions.Session.{sets_of};
+ghost use Rattle.descriptor_script.specs.Sessions.Session.{IsReady, KeepsSession, SessionValue, value_of};
 ghost use Rattle.descriptor_script.specs.Sessions.Steps.{StepsTo};
 ghost use Rattle.descriptor_script.specs.Sessions.Tickets.{held_sets};
 ghost use Rattle.descriptor_script.specs.Sessions.SessionRun.{IsStep, Runs};
-ghost use Rattle.descriptor_script.specs.declared.session.Session.{Session as SessionValue};
 
 use crate::{Command, Reply, Session};
 use gpu_descriptor::DescriptorDevice;
@@ -28,20 +26,20 @@ pub fn visit<L, P: Drop, S: Drop, D: DescriptorDevice<L, P, S>>(
     device: &mut D,
     commands: &[Command],
 ) -> Result<Vec<Reply>, AllocError>
-    requires ready { IsReady D.meaning (side session.old (D.ledger device.old)) }
-    requires began { HasNoPools (state_of D.meaning.pool_name (allocator_of session.old)
+    requires ready { IsReady D.meaning (side (value_of session.old) (D.ledger device.old)) }
+    requires began { HasNoPools (state_of D.meaning.pool_name (value_of session.old).allocator
         (D.ledger device.old)) }
     ensures runs { IfOk result (λ replies. (used : Side (SessionValue L P S))
-        × Runs (IsStep D.meaning) commands.now replies.items (side session.old (D.ledger device.old)) used
-        × StepsTo D.meaning Command.Cleanup Reply.Clean used (side session.new (D.ledger device.new))) }
-    ensures cleans { OnErr result (StepsTo D.meaning Command.Cleanup Reply.Clean (side session.old (D.ledger device.old))
-        (side session.new (D.ledger device.new))) }
-    ensures pools { held_sets (sets_of session.new) ≡ [] → (D.ledger device.new).pools
+        × Runs (IsStep D.meaning) commands.now replies.items (side (value_of session.old) (D.ledger device.old)) used
+        × StepsTo D.meaning Command.Cleanup Reply.Clean used (side (value_of session.new) (D.ledger device.new))) }
+    ensures cleans { OnErr result (StepsTo D.meaning Command.Cleanup Reply.Clean (side (value_of session.old) (D.ledger device.old))
+        (side (value_of session.new) (D.ledger device.new))) }
+    ensures pools { held_sets (value_of session.new).sets ≡ [] → (D.ledger device.new).pools
         ≡ (D.ledger device.old).pools }
-    ensures ended { held_sets (sets_of session.new) ≡ [] → HasNoKeys (state_of D.meaning.pool_name
-        (allocator_of session.new) (D.ledger device.new)) }
-    ensures keeps { KeepsSession D.meaning (side session.old (D.ledger device.old))
-        (side session.new (D.ledger device.new)) }
+    ensures ended { held_sets (value_of session.new).sets ≡ [] → HasNoKeys (state_of D.meaning.pool_name
+        (value_of session.new).allocator (D.ledger device.new)) }
+    ensures keeps { KeepsSession D.meaning (side (value_of session.old) (D.ledger device.old))
+        (side (value_of session.new) (D.ledger device.new)) }
 {
     let replies = session.run(device, commands);
     session.cleanup(device);

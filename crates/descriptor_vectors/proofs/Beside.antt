@@ -16,24 +16,27 @@ use Rattle.gpu_descriptor.proofs.foreign.OthersStay.{from_others}
 use Rattle.gpu_descriptor.proofs.callers.NewAllocators.{new_agrees}
 use Rattle.gpu_descriptor.proofs.release.Places.{none_out}
 use Rattle.descriptor_script.specs.Scripted.Raw.{pool_id, script_meaning, set_id}
-use Rattle.descriptor_script.specs.Sessions.Session.{IsReady, allocator_of}
+use Rattle.descriptor_script.specs.Sessions.Session.{IsReady, SessionValue, state_on}
 use Rattle.descriptor_script.specs.Sessions.Tickets.{held_sets}
 use Rattle.descriptor_script.specs.declared.raw.RawPool.{RawPool}
 use Rattle.descriptor_script.specs.declared.raw.RawSet.{RawSet}
 use Rattle.descriptor_script.specs.declared.raw.ScriptLayout.{ScriptLayout}
-use Rattle.descriptor_script.specs.declared.session.Session.{Session}
-use Rattle.descriptor_vectors.specs.Pairs.{AreApart, ArePaired, IsNewSession, session_state}
+use Rattle.descriptor_vectors.specs.Pairs.{AreApart, ArePaired, IsNewSession}
 use Rattle.gpu_descriptor_types.specs.Side.{side}
 
 abbrev Held : Type 0
-Held = Session ScriptLayout RawPool RawSet
+Held = SessionValue ScriptLayout RawPool RawSet
+
+-- books and ledger of the session's allocator
+abbrev session_state : Held → Ledger → State
+session_state s l = state_on script_meaning (side s l)
 
 -- what stands in one's books is foreign to the other
-module _ (x x' y : Held) (l m : Ledger) (same : others_of pool_id (allocator_of x') m ≡ others_of pool_id (allocator_of x) l) (pair : ArePaired x y l) where
+module _ (x x' y : Held) (l m : Ledger) (same : others_of pool_id x'.allocator m ≡ others_of pool_id x.allocator l) (pair : ArePaired x y l) where
   not_touched : (k : Key) (i : ℕ) (e : Entry) → slice_get ((session_state y l).books k).pools i ≡ Some e → (m.pools e.pool ≡ l.pools e.pool) × IsForeign (session_state x' m) e.pool
   not_touched k n e at =
       let b = pair.other.agree.books.booked k n e at in
-      let after = from_others pool_id (allocator_of x) (allocator_of x') l m same e.pool b.0 (λ j i d there. pair.apart j k i n d e there at) b.1 in
+      let after = from_others pool_id x.allocator x'.allocator l m same e.pool b.0 (λ j i d there. pair.apart j k i n d e there at) b.1 in
       (after.0 ∙ sym b.1, after.1)
 
   -- so each key of the other is untouched
@@ -60,7 +63,7 @@ turned x y l pair = record {
 }
 
 -- an allocator without keys shares no pool
-pub none_shared : (x y : Held) (l : Ledger) (limit : ℕ) → allocator_of x ≡ record { limit = limit; bound = None; table = []; looks = 0; comparisons = 0 } → AreApart (session_state x l) (session_state y l)
+pub none_shared : (x y : Held) (l : Ledger) (limit : ℕ) → x.allocator ≡ record { limit = limit; bound = None; table = []; looks = 0; comparisons = 0 } → AreApart (session_state x l) (session_state y l)
 none_shared x y l limit empty k j m n d e there at same =
     nothing_at ((session_state x l).books k) m d (ap (λ (a : Allocations RawPool). ((state_of pool_id a l).books k).pools) empty) there
 

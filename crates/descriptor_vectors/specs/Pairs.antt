@@ -7,36 +7,30 @@ use Rattle.gpu_descriptor.specs.Caller.Values.{without_keys}
 use Rattle.gpu_descriptor.specs.Model.Agreement.{State}
 use Rattle.gpu_descriptor.specs.Model.Books.{Key, Entry}
 use Rattle.gpu_descriptor.specs.Caller.SetLayouts.{IsMeant}
-use Rattle.gpu_descriptor.specs.Caller.States.{state_of}
-use Rattle.descriptor_script.specs.Scripted.Raw.{pool_id, script_meaning}
-use Rattle.descriptor_script.specs.Sessions.Session.{IsReady, allocator_of, layouts_of, sets_of}
+use Rattle.descriptor_script.specs.Scripted.Raw.{script_meaning}
+use Rattle.descriptor_script.specs.Sessions.Session.{IsReady, SessionValue, state_on}
 use Rattle.descriptor_script.specs.declared.raw.RawPool.{RawPool}
 use Rattle.descriptor_script.specs.declared.raw.RawSet.{RawSet}
 use Rattle.descriptor_script.specs.declared.raw.ScriptLayout.{ScriptLayout}
-use Rattle.descriptor_script.specs.declared.session.Session.{Session}
 use Rattle.gpu_descriptor_types.specs.Side.{side}
 
--- books and ledger of the session's allocator
-abbrev pub session_state : Session ScriptLayout RawPool RawSet → Ledger → State
-session_state s l = state_of pool_id (allocator_of s) l
-
 -- no key came, and no set is held
-pub record IsNewSession (s : Session ScriptLayout RawPool RawSet) : Type 0 where
+pub record IsNewSession (s : SessionValue ScriptLayout RawPool RawSet) : Type 0 where
   pub limit : ℕ
-  pub allocator : allocator_of s ≡ without_keys limit
-  pub sets : sets_of s ≡ []
-  pub meant : All (IsMeant script_meaning) (layouts_of s)
+  pub allocator : s.allocator ≡ without_keys limit
+  pub sets : s.sets ≡ []
+  pub meant : All (IsMeant script_meaning) s.layouts
 
 -- no pool of the device is in both books
 abbrev pub AreApart : State → State → Type 0
 AreApart s t = (k l : Key) (i j : ℕ) (d e : Entry) → slice_get (s.books k).pools i ≡ Some d → slice_get (t.books l).pools j ≡ Some e → d.pool ≢ e.pool
 
 -- each of two sessions on one device can make a step
-pub record ArePaired (x y : Session ScriptLayout RawPool RawSet) (l : Ledger) : Type 0 where
+pub record ArePaired (x y : SessionValue ScriptLayout RawPool RawSet) (l : Ledger) : Type 0 where
   pub one : IsReady script_meaning (side x l)
   pub other : IsReady script_meaning (side y l)
-  pub apart : AreApart (session_state x l) (session_state y l)
+  pub apart : AreApart (state_on script_meaning (side x l)) (state_on script_meaning (side y l))
 
 -- that two sessions are paired has one proof at most, so a struct can keep it as a ghost field
-pub paired-prop : (x y : Session ScriptLayout RawPool RawSet) (l : Ledger) → IsProp (ArePaired x y l)
+pub paired-prop : (x y : SessionValue ScriptLayout RawPool RawSet) (l : Ledger) → IsProp (ArePaired x y l)
 paired-prop x y l = Prim.hlevel (Agrees-prop, props)

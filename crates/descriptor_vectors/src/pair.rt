@@ -1,6 +1,7 @@
 //! Two sessions on one device, which take turns, and what the device sees: its calls in their order, which
 //! no clause says.
 ghost use Rattle.std.specs.Prelude.{IfOk};
+ghost use Rattle.descriptor_script.specs.Sessions.Session.{value_of};
 ghost use Rattle.descriptor_script.specs.Scripted.Logged.{ledger_logged};
 ghost use Rattle.descriptor_vectors.specs.Pairs.{ArePaired, IsNewSession, paired-prop};
 
@@ -16,13 +17,13 @@ struct Pair {
     one: Session<ScriptLayout, RawPool, RawSet>,
     other: Session<ScriptLayout, RawPool, RawSet>,
     device: LogDevice,
-    ghost paired: { ArePaired one other (ledger_logged device) } by { paired-prop one other
-        (ledger_logged device) },
+    ghost paired: { ArePaired (value_of one) (value_of other) (ledger_logged device) } by {
+        paired-prop (value_of one) (value_of other) (ledger_logged device) },
 }
 
 /// A session with a plain layout of one sampler.
 pub fn one_layout(alloc: Global) -> Result<Session<ScriptLayout, RawPool, RawSet>, Fail>
-    ensures { IfOk result IsNewSession }
+    ensures { IfOk result (λ session. IsNewSession (value_of session)) }
 {
     let layout = layout_of(1, false);
     let mut session = Session::new(alloc, 0);

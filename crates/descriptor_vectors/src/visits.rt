@@ -4,7 +4,7 @@ ghost use Rattle.std.specs.Prelude.{OnOk};
 ghost use Rattle.gpu_descriptor_types.specs.Side.{side};
 ghost use Rattle.gpu_descriptor.specs.Caller.States.{state_of};
 ghost use Rattle.descriptor_script.specs.Scripted.Raw.{pool_id, script_meaning};
-ghost use Rattle.descriptor_script.specs.Sessions.Session.{IsReady, allocator_of};
+ghost use Rattle.descriptor_script.specs.Sessions.Session.{IsReady, value_of};
 ghost use Rattle.gpu_descriptor.specs.Model.Agreement.{HasNoPools};
 ghost use Rattle.descriptor_script.specs.Scripted.Logged.{ledger_logged};
 
@@ -38,11 +38,11 @@ fn expect_visit(
     commands: &[Command],
     replies: &[Reply],
 ) -> Result<(), Fail>
-    requires ready { IsReady script_meaning (side session.old (ledger_logged device.old)) }
-    requires began { HasNoPools (state_of pool_id (allocator_of session.old)
+    requires ready { IsReady script_meaning (side (value_of session.old) (ledger_logged device.old)) }
+    requires began { HasNoPools (state_of pool_id (value_of session.old).allocator
         (ledger_logged device.old)) }
-    ensures ready { IsReady script_meaning (side session.new (ledger_logged device.new)) }
-    ensures ended { OnOk result (HasNoPools (state_of pool_id (allocator_of session.new)
+    ensures ready { IsReady script_meaning (side (value_of session.new) (ledger_logged device.new)) }
+    ensures ended { OnOk result (HasNoPools (state_of pool_id (value_of session.new).allocator
         (ledger_logged device.new))) }
 {
     let seen = visit(session, device, commands)?;
@@ -61,7 +61,7 @@ fn expect_done(
     commands: &[Command],
     replies: &[Reply],
 ) -> Result<(), AllocError>
-    requires ready { IsReady script_meaning (side session.old (ledger_logged device.old)) }
+    requires ready { IsReady script_meaning (side (value_of session.old) (ledger_logged device.old)) }
 {
     let seen = headline(session, device, commands)?;
     assert_eq!(rt; seen.as_slice(), replies);
@@ -75,8 +75,8 @@ fn expect_visits(
     session: &mut Session<ScriptLayout, RawPool, RawSet>,
     device: &mut LogDevice,
 ) -> Result<(), Fail>
-    requires ready { IsReady script_meaning (side session.old (ledger_logged device.old)) }
-    requires began { HasNoPools (state_of pool_id (allocator_of session.old)
+    requires ready { IsReady script_meaning (side (value_of session.old) (ledger_logged device.old)) }
+    requires began { HasNoPools (state_of pool_id (value_of session.old).allocator
         (ledger_logged device.old)) }
 {
     let first = three_sets(alloc, &[0, 1, 2])?;

@@ -2,7 +2,7 @@
 ghost use Rattle.std.specs.Prelude.{◌≡◌, ◌+◌, ◌<◌, ◌≤◌, ◌*◌, ◌^◌, ◌++◌, length};
 ghost use Rattle.std.specs.Prelude.{string_bytes, string_capacity};
 ghost use Rattle.gpu_descriptor.specs.Caller.Errors.{error_text};
-ghost use Rattle.descriptor_script.specs.Sessions.Session.{sets_of};
+ghost use Rattle.descriptor_script.specs.Sessions.Session.{value_of};
 ghost use Rattle.descriptor_lines.specs.Answers.{HasReserveFor};
 ghost use Rattle.descriptor_lines.specs.Replies.{TicketsFit, pool_at};
 ghost use Rattle.descriptor_lines.specs.ReplyTexts.{max_bytes, sets_asked, sets_given};
@@ -47,8 +47,8 @@ pub fn reply_answer(answer: &mut String, session: &LineSession, reply: &Reply)
     requires fits { TicketsFit reply.now }
     requires reserve { HasReserveFor (max_bytes (sets_given reply.now)) answer.old }
     ensures text { string_bytes answer.new ≡ string_bytes answer.old
-        ++ text_of_reply (sets_of session.now) reply.now }
-    ensures enough { length (text_of_reply (sets_of session.now) reply.now)
+        ++ text_of_reply (value_of session.now).sets reply.now }
+    ensures enough { length (text_of_reply (value_of session.now).sets reply.now)
         ≤ max_bytes (sets_given reply.now) }
 {
     match reply {
@@ -85,8 +85,8 @@ fn sets_answer(answer: &mut String, session: &LineSession, first: usize, count: 
     requires fits { first + count < 2 ^ 64 }
     requires reserve { HasReserveFor (max_bytes count) answer.old }
     ensures text { string_bytes answer.new ≡ string_bytes answer.old
-        ++ sets_text (sets_of session.now) first count }
-    ensures enough { length (sets_text (sets_of session.now) first count) ≤ max_bytes count }
+        ++ sets_text (value_of session.now).sets first count }
+    ensures enough { length (sets_text (value_of session.now).sets first count) ≤ max_bytes count }
 {
     if count == 0 {
         put(answer, "sets none\n");
@@ -114,8 +114,8 @@ fn stretches_answer(answer: &mut String, session: &LineSession, first: usize, co
     requires fits { first + count < 2 ^ 64 }
     requires reserve { HasReserveFor (23 * count) answer.old }
     ensures text { string_bytes answer.new ≡ string_bytes answer.old
-        ++ stretches_text (pools_from (sets_of session.now) first count) }
-    ensures enough { length (stretches_text (pools_from (sets_of session.now) first count))
+        ++ stretches_text (pools_from (value_of session.now).sets first count) }
+    ensures enough { length (stretches_text (pools_from (value_of session.now).sets first count))
         ≤ 23 * count }
     ensures reserve { string_capacity answer.old ≤ string_capacity answer.new }
 {
@@ -137,7 +137,7 @@ fn stretches_answer(answer: &mut String, session: &LineSession, first: usize, co
 
 /// The name of the device pool of a ticket's set, or 0 without one.
 fn device_pool(session: &LineSession, ticket: usize) -> u64
-    ensures { result ≡ pool_at (sets_of session.now) ticket }
+    ensures { result ≡ pool_at (value_of session.now).sets ticket }
 {
     match session.set(ticket) {
         Some(set) => set.raw().pool(),

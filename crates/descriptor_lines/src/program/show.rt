@@ -1,6 +1,6 @@
 //! The command that shows the pools and the counters.
 ghost use Rattle.std.specs.Prelude.{◌≡◌, ◌++◌, OnOk, string_bytes};
-ghost use Rattle.descriptor_script.specs.Sessions.Session.{allocator_of};
+ghost use Rattle.descriptor_script.specs.Sessions.Session.{value_of};
 ghost use Rattle.descriptor_lines.specs.LineStates.{line_state};
 ghost use Rattle.descriptor_lines.specs.Shown.{pools_answer, show_answer};
 
@@ -31,7 +31,7 @@ impl<D: LineDevice> Program<D> {
     /// Puts the pools of a layout after the text, oldest first.
     fn show_pools(&self, name: &str, layout: &Layout, answer: &mut String) -> Result<(), AllocError>
         ensures { OnOk result (string_bytes answer.new ≡ string_bytes answer.old
-            ++ pools_answer (allocator_of self.now.session).table (name.now, layout.now)) }
+            ++ pools_answer (value_of self.now.session).allocator.table (name.now, layout.now)) }
     {
         let allocator = self.session.allocator();
         for index in 0..allocator.pool_count(&layout.counts, layout.mark) {

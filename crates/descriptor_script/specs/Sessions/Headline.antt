@@ -13,18 +13,17 @@ use Rattle.gpu_descriptor.specs.Model.Books.{Entry, Key}
 use Rattle.gpu_descriptor.specs.Model.OneByOne.{freed_each}
 use Rattle.gpu_descriptor.specs.Model.Release.{lies_in}
 use Rattle.gpu_descriptor.specs.Model.Runs.{runs}
-use Rattle.descriptor_script.specs.Sessions.Session.{allocator_of, layouts_of, sets_of, state_on}
-use Rattle.descriptor_script.specs.Sessions.Steps.{GivesUp, IsAsBefore, IsMet, IsRefused, OfStep, held_items}
+use Rattle.descriptor_script.specs.Sessions.Session.{state_on, SessionValue}
+use Rattle.descriptor_script.specs.Sessions.Steps.{GivesUp, IsMet, IsRefused, OfStep, held_items}
 use Rattle.descriptor_script.specs.Sessions.Tickets.{AreHeldOnce}
 use Rattle.descriptor_script.specs.declared.command.Command.{Command}
 use Rattle.descriptor_script.specs.declared.command.Command.TheVariants.{Allocate, Free, Cleanup}
 use Rattle.descriptor_script.specs.declared.command.Reply.{Reply}
 use Rattle.descriptor_script.specs.declared.command.Reply.TheVariants.{Sets, Refused, Freed, BadTicket, BadLayout, NoMemory, Clean}
-use Rattle.descriptor_script.specs.declared.session.Session.{Session}
 
 module _ {L P S : Type 0} (means : Meaning L P S) where
   -- the sets of these tickets were freed, and are held no longer
-  pub record GoBack (tickets : List ℕ) (many : ℕ) (old new : Side (Session L P S)) : Type 0 where
+  pub record GoBack (tickets : List ℕ) (many : ℕ) (old new : Side (SessionValue L P S)) : Type 0 where
     pub gone : GivesUp means tickets old new many
     -- by one release call for each run
     pub one_call_a_run : new.ledger.counters.released ≡ old.ledger.counters.released + runs (items_of means.set_name gone.given)
@@ -37,15 +36,15 @@ module _ {L P S : Type 0} (means : Meaning L P S) where
   HoldsWhatIsOut (Allocate layout count) (Sets first many) old new =
       (met : IsMet means layout count old new first many) × All (λ t. t.key ≡ layout_key means met.known.layout) (items_of means.set_name met.given)
   HoldsWhatIsOut (Allocate layout count) (Refused error) old new = (0 < count) × IsRefused means layout count old new error
-  HoldsWhatIsOut (Allocate layout count) BadLayout old new = (length (layouts_of old.value) ≤ layout) × IsAsBefore old new
-  HoldsWhatIsOut (Allocate layout count) NoMemory old new = (layout < length (layouts_of old.value)) × (0 < count) × IsAsBefore old new
+  HoldsWhatIsOut (Allocate layout count) BadLayout old new = (length old.value.layouts ≤ layout) × (new ≡ old)
+  HoldsWhatIsOut (Allocate layout count) NoMemory old new = (layout < length old.value.layouts) × (0 < count) × (new ≡ old)
   HoldsWhatIsOut (Free tickets) (Freed many) old new = GoBack tickets.items many old new
-  HoldsWhatIsOut (Free tickets) BadTicket old new = (¬ AreHeldOnce (sets_of old.value) tickets.items) × IsAsBefore old new
-  HoldsWhatIsOut Cleanup Clean old new = sets_of new.value ≡ sets_of old.value
+  HoldsWhatIsOut (Free tickets) BadTicket old new = (¬ AreHeldOnce old.value.sets tickets.items) × (new ≡ old)
+  HoldsWhatIsOut Cleanup Clean old new = new.value.sets ≡ old.value.sets
   HoldsWhatIsOut _ _ old new = ⊥
 
   -- the parts of the headline, at one step
-  pub record KeepsAll (command : Command) (reply : Reply) (old new : Side (Session L P S)) : Type 0 where
+  pub record KeepsAll (command : Command) (reply : Reply) (old new : Side (SessionValue L P S)) : Type 0 where
     -- the pools hold exactly the sets that are held: each is outstanding as often as it is held
     pub exactly : (t : Item) → outstanding (state_on means new) t ≡ count_of t (held_items means new)
     -- and nothing else: the live sets of each pool in the books are the held sets that lie in it, and have the counts of its key
@@ -53,9 +52,9 @@ module _ {L P S : Type 0} (means : Meaning L P S) where
     -- and these are the sets that were allocated and not freed
     pub handed_out : HoldsWhatIsOut command reply old new
     -- neither the held marked sets nor the marked pools have more descriptors than the limit, which stays
-    pub sets_within : marked_descriptors (held_items means new) ≤ (allocator_of new.value).limit
-    pub pools_within : pool_load_of (allocator_of new.value) ≤ (allocator_of new.value).limit
-    pub limit : (allocator_of new.value).limit ≡ (allocator_of old.value).limit
+    pub sets_within : marked_descriptors (held_items means new) ≤ new.value.allocator.limit
+    pub pools_within : pool_load_of new.value.allocator ≤ new.value.allocator.limit
+    pub limit : new.value.allocator.limit ≡ old.value.allocator.limit
     -- the layouts stay, and so do the live pools that the books don't name: no pool of others is touched, and none of the allocator's is lost
-    pub layouts : layouts_of new.value ≡ layouts_of old.value
-    pub others : others_of means.pool_name (allocator_of new.value) new.ledger ≡ others_of means.pool_name (allocator_of old.value) old.ledger
+    pub layouts : new.value.layouts ≡ old.value.layouts
+    pub others : others_of means.pool_name new.value.allocator new.ledger ≡ others_of means.pool_name old.value.allocator old.ledger

@@ -12,20 +12,12 @@ use Rattle.gpu_descriptor.specs.Caller.Sets.{AreOfLayout, items_of}
 use Rattle.gpu_descriptor.specs.declared.errors.AllocationError.{AllocationError}
 use Rattle.gpu_descriptor.specs.declared.layout.SetLayout.{SetLayout}
 use Rattle.gpu_descriptor.specs.declared.set.DescriptorSet.{DescriptorSet}
-use Rattle.descriptor_script.specs.Sessions.Session.{allocator_of, allocator_on, layouts_of, sets_of}
+use Rattle.descriptor_script.specs.Sessions.Session.{allocator_on, SessionValue}
 use Rattle.descriptor_script.specs.Sessions.Tickets.{AreHeldOnce, emptied, held_sets, set_at}
 use Rattle.descriptor_script.specs.declared.command.Command.{Command}
 use Rattle.descriptor_script.specs.declared.command.Command.TheVariants.{Allocate, Free, Cleanup}
 use Rattle.descriptor_script.specs.declared.command.Reply.{Reply}
 use Rattle.descriptor_script.specs.declared.command.Reply.TheVariants.{Sets, Refused, Freed, BadTicket, BadLayout, NoMemory, Clean}
-use Rattle.descriptor_script.specs.declared.session.Session.{Session}
-
--- nothing changed
-pub record IsAsBefore {L P S : Type 0} (old new : Side (Session L P S)) : Type 0 where
-  pub allocator : allocator_of new.value ≡ allocator_of old.value
-  pub layouts : layouts_of new.value ≡ layouts_of old.value
-  pub sets : sets_of new.value ≡ sets_of old.value
-  pub ledger : new.ledger ≡ old.ledger
 
 -- the reply of a command that was turned away before the device was asked
 abbrev pub IsTurnedAway : Reply → Type 0
@@ -36,14 +28,14 @@ IsTurnedAway _ = ⊥
 
 -- what may be said of a command, its reply, and the session before it and after it
 abbrev pub OfStep : (L P S : Type 0) → Type 1
-OfStep L P S = Command → Reply → Side (Session L P S) → Side (Session L P S) → Type 0
+OfStep L P S = Command → Reply → Side (SessionValue L P S) → Side (SessionValue L P S) → Type 0
 
 module _ {L P S : Type 0} (means : Meaning L P S) where
   -- the sets that are held, as the books see them
-  abbrev pub held_items : Side (Session L P S) → List Item
-  held_items s = items_of means.set_name (held_sets (sets_of s.value))
+  abbrev pub held_items : Side (SessionValue L P S) → List Item
+  held_items s = items_of means.set_name (held_sets s.value.sets)
 
-  module _ (layout count : ℕ) (old new : Side (Session L P S)) where
+  module _ (layout count : ℕ) (old new : Side (SessionValue L P S)) where
     -- the session's request to its allocator, and what it left
     abbrev pub request_of : SetLayout L → Result (List Item) AllocationError → Call
     request_of known answer = call_of means (layout_key means known.layout) count (allocator_on old) (allocator_on new) answer
@@ -52,7 +44,7 @@ module _ {L P S : Type 0} (means : Meaning L P S) where
     pub record IsMet (first many : ℕ) : Type 0 where
       pub known : SetLayout L
       -- the layout at the command's place
-      pub at : slice_get (layouts_of old.value) layout ≡ Some known
+      pub at : slice_get old.value.layouts layout ≡ Some known
       pub given : List (DescriptorSet S)
       -- as many sets as were asked for
       pub asked : many ≡ count
@@ -60,39 +52,39 @@ module _ {L P S : Type 0} (means : Meaning L P S) where
       -- each is of the layout
       pub own : AreOfLayout means known.layout given
       -- they are in the next slots, in their order
-      pub next : first ≡ length (sets_of old.value)
-      pub sets : sets_of new.value ≡ sets_of old.value ++ map Some given
+      pub next : first ≡ length old.value.sets
+      pub sets : new.value.sets ≡ old.value.sets ++ map Some given
 
     -- a request was refused: the same sets are held
     pub record IsRefused (error : AllocationError) : Type 0 where
       pub known : SetLayout L
-      pub at : slice_get (layouts_of old.value) layout ≡ Some known
+      pub at : slice_get old.value.layouts layout ≡ Some known
       -- the error has one of its causes. The number of outstanding sets before, and that of the descriptors of marked ones, is read from the held sets
       pub cause : IsBecause means (layout_key means known.layout) count (length (held_items old)) (marked_descriptors (held_items old)) (allocator_on old) (allocator_on new) error
-      pub sets : sets_of new.value ≡ sets_of old.value
+      pub sets : new.value.sets ≡ old.value.sets
 
     -- what a request for count sets of the layout at a place may reply. A request for none is not refused for memory
     abbrev pub AllocatesTo : Reply → Type 0
     AllocatesTo (Sets first many) = (met : IsMet first many) × Allocates (request_of met.known (Ok (items_of means.set_name met.given)))
     AllocatesTo (Refused error) = (refused : IsRefused error) × Allocates (request_of refused.known (Err error))
-    AllocatesTo BadLayout = (length (layouts_of old.value) ≤ layout) × IsAsBefore old new
-    AllocatesTo NoMemory = (layout < length (layouts_of old.value)) × (0 < count) × IsAsBefore old new
+    AllocatesTo BadLayout = (length old.value.layouts ≤ layout) × (new ≡ old)
+    AllocatesTo NoMemory = (layout < length old.value.layouts) × (0 < count) × (new ≡ old)
     AllocatesTo _ = ⊥
 
-  module _ (tickets : List ℕ) (old new : Side (Session L P S)) where
+  module _ (tickets : List ℕ) (old new : Side (SessionValue L P S)) where
     -- the sets of these tickets are held no longer
     pub record GivesUp (many : ℕ) : Type 0 where
-      pub good : AreHeldOnce (sets_of old.value) tickets
+      pub good : AreHeldOnce old.value.sets tickets
       pub all : many ≡ length tickets
       -- their sets, in the order of the list
       pub given : List (DescriptorSet S)
-      pub each : map Some given ≡ map (set_at (sets_of old.value)) tickets
-      pub sets : sets_of new.value ≡ emptied (sets_of old.value) tickets
+      pub each : map Some given ≡ map (set_at old.value.sets) tickets
+      pub sets : new.value.sets ≡ emptied old.value.sets tickets
 
     -- what a free of these tickets may reply: they are freed, by one release call for each run, or one is bad, exactly if it isn't held or is there twice
     abbrev pub FreesTo : Reply → Type 0
     FreesTo (Freed many) = (gone : GivesUp many) × Returns means gone.given (allocator_on old) (allocator_on new)
-    FreesTo BadTicket = (¬ AreHeldOnce (sets_of old.value) tickets) × IsAsBefore old new
+    FreesTo BadTicket = (¬ AreHeldOnce old.value.sets tickets) × (new ≡ old)
     FreesTo _ = ⊥
 
   -- what a command may reply, and what it leaves
@@ -100,5 +92,5 @@ module _ {L P S : Type 0} (means : Meaning L P S) where
   StepsTo (Allocate layout count) reply old new = AllocatesTo layout count old new reply
   StepsTo (Free tickets) reply old new = FreesTo tickets.items old new reply
   -- the empty pools at the front of each key are gone, and the sets stay
-  StepsTo Cleanup Clean old new = Sweeps false means (allocator_on old) (allocator_on new) × (sets_of new.value ≡ sets_of old.value)
+  StepsTo Cleanup Clean old new = Sweeps false means (allocator_on old) (allocator_on new) × (new.value.sets ≡ old.value.sets)
   StepsTo Cleanup _ old new = ⊥

@@ -1,7 +1,7 @@
 //! One command of a session.
 ghost use Rattle.std.specs.Prelude.{◌≡◌, ◌<◌, ◌≤◌, ℕ, None, length};
 ghost use Rattle.gpu_descriptor_types.specs.Side.{side};
-ghost use Rattle.descriptor_script.specs.Sessions.Session.{IsReady, KeepsSession, sets_of};
+ghost use Rattle.descriptor_script.specs.Sessions.Session.{IsReady, KeepsSession, value_of};
 ghost use Rattle.descriptor_script.specs.Sessions.Tickets.{set_at};
 ghost use Rattle.descriptor_script.specs.Sessions.Steps.{AllocatesTo, FreesTo};
 ghost use Rattle.descriptor_script.specs.Sessions.Steps.{IsTurnedAway, StepsTo};
@@ -19,15 +19,15 @@ impl<L, P: Drop, S: Drop> Session<L, P, S> {
     /// A reply of `BadTicket`, `BadLayout` or `NoMemory` says that nothing changed, and that the
     /// device was not asked.
     pub fn step<D: DescriptorDevice<L, P, S>>(&mut self, device: &mut D, command: &Command) -> Reply
-        requires ready { IsReady D.meaning (side self.old (D.ledger device.old)) }
-        ensures step { StepsTo D.meaning command.now result (side self.old (D.ledger device.old))
-            (side self.new (D.ledger device.new)) }
-        ensures tickets { length (sets_of self.old) ≤ length (sets_of self.new) }
-        ensures freed { (ticket : ℕ) → ticket < length (sets_of self.old)
-            → set_at (sets_of self.old) ticket ≡ None → set_at (sets_of self.new) ticket ≡ None }
+        requires ready { IsReady D.meaning (side (value_of self.old) (D.ledger device.old)) }
+        ensures step { StepsTo D.meaning command.now result (side (value_of self.old) (D.ledger device.old))
+            (side (value_of self.new) (D.ledger device.new)) }
+        ensures tickets { length (value_of self.old).sets ≤ length (value_of self.new).sets }
+        ensures freed { (ticket : ℕ) → ticket < length (value_of self.old).sets
+            → set_at (value_of self.old).sets ticket ≡ None → set_at (value_of self.new).sets ticket ≡ None }
         ensures device { IsTurnedAway result → device.new ≡ device.old }
-        ensures keeps { KeepsSession D.meaning (side self.old (D.ledger device.old))
-            (side self.new (D.ledger device.new)) }
+        ensures keeps { KeepsSession D.meaning (side (value_of self.old) (D.ledger device.old))
+            (side (value_of self.new) (D.ledger device.new)) }
     {
         match command {
             Command::Allocate { layout, count } => self.allocate(device, *layout, *count),
@@ -46,12 +46,12 @@ impl<L, P: Drop, S: Drop> Session<L, P, S> {
         layout: usize,
         count: u32,
     ) -> Reply
-        requires ready { IsReady D.meaning (side self.old (D.ledger device.old)) }
-        ensures step { AllocatesTo D.meaning layout count (side self.old (D.ledger device.old))
-            (side self.new (D.ledger device.new)) result }
+        requires ready { IsReady D.meaning (side (value_of self.old) (D.ledger device.old)) }
+        ensures step { AllocatesTo D.meaning layout count (side (value_of self.old) (D.ledger device.old))
+            (side (value_of self.new) (D.ledger device.new)) result }
         ensures device { IsTurnedAway result → device.new ≡ device.old }
-        ensures keeps { KeepsSession D.meaning (side self.old (D.ledger device.old))
-            (side self.new (D.ledger device.new)) }
+        ensures keeps { KeepsSession D.meaning (side (value_of self.old) (D.ledger device.old))
+            (side (value_of self.new) (D.ledger device.new)) }
     {
         let Some(layout) = self.layouts.get(layout) else {
             return Reply::BadLayout;
@@ -71,12 +71,12 @@ impl<L, P: Drop, S: Drop> Session<L, P, S> {
 
     /// Frees the sets of these tickets.
     fn free<D: DescriptorDevice<L, P, S>>(&mut self, device: &mut D, tickets: &[usize]) -> Reply
-        requires ready { IsReady D.meaning (side self.old (D.ledger device.old)) }
-        ensures step { FreesTo D.meaning tickets.now (side self.old (D.ledger device.old))
-            (side self.new (D.ledger device.new)) result }
+        requires ready { IsReady D.meaning (side (value_of self.old) (D.ledger device.old)) }
+        ensures step { FreesTo D.meaning tickets.now (side (value_of self.old) (D.ledger device.old))
+            (side (value_of self.new) (D.ledger device.new)) result }
         ensures device { IsTurnedAway result → device.new ≡ device.old }
-        ensures keeps { KeepsSession D.meaning (side self.old (D.ledger device.old))
-            (side self.new (D.ledger device.new)) }
+        ensures keeps { KeepsSession D.meaning (side (value_of self.old) (D.ledger device.old))
+            (side (value_of self.new) (D.ledger device.new)) }
     {
         if !self.slots.are_held_once(tickets) {
             return Reply::BadTicket;
@@ -96,11 +96,11 @@ impl<L, P: Drop, S: Drop> Session<L, P, S> {
 
     /// Destroys the empty pools at the front of each key.
     pub(crate) fn cleanup<D: DescriptorDevice<L, P, S>>(&mut self, device: &mut D)
-        requires ready { IsReady D.meaning (side self.old (D.ledger device.old)) }
-        ensures cleans { StepsTo D.meaning Command.Cleanup Reply.Clean (side self.old (D.ledger device.old))
-            (side self.new (D.ledger device.new)) }
-        ensures keeps { KeepsSession D.meaning (side self.old (D.ledger device.old))
-            (side self.new (D.ledger device.new)) }
+        requires ready { IsReady D.meaning (side (value_of self.old) (D.ledger device.old)) }
+        ensures cleans { StepsTo D.meaning Command.Cleanup Reply.Clean (side (value_of self.old) (D.ledger device.old))
+            (side (value_of self.new) (D.ledger device.new)) }
+        ensures keeps { KeepsSession D.meaning (side (value_of self.old) (D.ledger device.old))
+            (side (value_of self.new) (D.ledger device.new)) }
     {
         self.allocator.cleanup(device);
     }

@@ -1,6 +1,6 @@
 //! The scripted device, the device that lists its calls, and sessions.
 ghost use Rattle.gpu_descriptor_types.specs.Side.{side};
-ghost use Rattle.descriptor_script.specs.Sessions.Session.{IsReady};
+ghost use Rattle.descriptor_script.specs.Sessions.Session.{IsReady, value_of};
 
 use super::{is_compared, is_debug, is_plain, is_value};
 use descriptor_script::{
@@ -106,7 +106,7 @@ fn step<L, P: Drop, S: Drop, D: DescriptorDevice<L, P, S>>(
     device: &mut D,
     command: &Command,
 ) -> Reply
-    requires { IsReady D.meaning (side session.old (D.ledger device.old)) }
+    requires { IsReady D.meaning (side (value_of session.old) (D.ledger device.old)) }
 {
     session.step(device, command)
 }
@@ -116,7 +116,7 @@ fn run<L, P: Drop, S: Drop, D: DescriptorDevice<L, P, S>>(
     device: &mut D,
     commands: &[Command],
 ) -> Result<Vec<Reply>, AllocError>
-    requires { IsReady D.meaning (side session.old (D.ledger device.old)) }
+    requires { IsReady D.meaning (side (value_of session.old) (D.ledger device.old)) }
 {
     session.run(device, commands)
 }

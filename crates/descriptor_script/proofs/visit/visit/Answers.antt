@@ -7,31 +7,30 @@ use Rattle.gpu_descriptor.specs.Caller.States.{state_of}
 use Rattle.gpu_descriptor.proofs.cleanup.Cleaning.{nothing_left}
 use Rattle.gpu_descriptor.proofs.foreign.NoneLost.{restores}
 use Rattle.gpu_descriptor.proofs.foreign.OthersStay.{from_others}
-use Rattle.descriptor_script.specs.Sessions.Session.{allocator_of, sets_of}
+use Rattle.descriptor_script.specs.Sessions.Session.{SessionValue, value_of}
 use Rattle.descriptor_script.specs.Sessions.Tickets.{held_sets}
-use Rattle.descriptor_script.specs.declared.session.Session.{Session}
 use Rattle.descriptor_script.proofs.visit.visit.Goals.{After-cleanup}
 use Rattle.descriptor_script.proofs.visit.visit.Goals as goal
 
 -- the session once the commands were run, and once it was cleaned up
-abbrev used : (g : _) (c : After-cleanup g) → Side (Session g.row.L.Denot g.row.P.Denot g.row.S.Denot)
-used g c = side c.run-replies.new.self (g.D.DescriptorDevice.ledger c.run-replies.new.device)
+abbrev used : (g : _) (c : After-cleanup g) → Side (SessionValue g.row.L.Denot g.row.P.Denot g.row.S.Denot)
+used g c = side (value_of c.run-replies.new.self) (g.D.DescriptorDevice.ledger c.run-replies.new.device)
 
 pub returns-clause-runs : goal.returns-clause-runs
 returns-clause-runs g c =
     let at = (goal.at.returns-clause-runs g c).After-cleanup in
     IfOk-weaker c.run-replies.result _ _ (λ replies ran. (used g at, ran, at.cleanup.ensures.cleans)) c.run-replies.ensures.runs
 
-nothing : (g : _) (c : After-cleanup g) → held_sets (sets_of c.cleanup.new.self) ≡ [] → (i : Item) → outstanding (state_of g.D.DescriptorDevice.meaning.pool_name (allocator_of c.run-replies.new.self) (g.D.DescriptorDevice.ledger c.run-replies.new.device)) i ≡ 0
+nothing : (g : _) (c : After-cleanup g) → held_sets (value_of c.cleanup.new.self).sets ≡ [] → (i : Item) → outstanding (state_of g.D.DescriptorDevice.meaning.pool_name (value_of c.run-replies.new.self).allocator (g.D.DescriptorDevice.ledger c.run-replies.new.device)) i ≡ 0
 nothing g c none i = c.run-replies.ensures.keeps.ready.held i ∙ ap (λ l. count_of i (items_of g.D.DescriptorDevice.meaning.set_name (held_sets l))) (sym c.cleanup.ensures.cleans.1) ∙ ap (λ l. count_of i (items_of g.D.DescriptorDevice.meaning.set_name l)) none
 
 pub returns-clause-pools : goal.returns-clause-pools
 returns-clause-pools g c none =
     let name = g.D.DescriptorDevice.meaning.pool_name in
     let ledger = g.D.DescriptorDevice.ledger in
-    let s : State = state_of name (allocator_of c.args.session.now) (ledger c.args.device.now) in
-    let t : State = state_of name (allocator_of c.run-replies.new.self) (ledger c.run-replies.new.device) in
-    let u : State = state_of name (allocator_of c.cleanup.new.self) (ledger c.cleanup.new.device) in
+    let s : State = state_of name (value_of c.args.session.now).allocator (ledger c.args.device.now) in
+    let t : State = state_of name (value_of c.run-replies.new.self).allocator (ledger c.run-replies.new.device) in
+    let u : State = state_of name (value_of c.cleanup.new.self).allocator (ledger c.cleanup.new.device) in
     let at = (goal.at.returns-clause-pools g c).After-cleanup in
     let others = c.run-replies.ensures.keeps.allocator.others in
     restores s t u c.requires.began (from_others name _ _ _ _ others) (from_others name _ _ _ _ (sym others)) c.run-replies.ensures.keeps.ready.agree.books (nothing g at none) at.cleanup.ensures.cleans.0.cleaned
@@ -41,4 +40,4 @@ returns-clause-ended g c none =
     let name = g.D.DescriptorDevice.meaning.pool_name in
     let ledger = g.D.DescriptorDevice.ledger in
     let at = (goal.at.returns-clause-ended g c).After-cleanup in
-    nothing_left false (state_of name (allocator_of c.run-replies.new.self) (ledger c.run-replies.new.device)) _ c.run-replies.ensures.keeps.ready.agree.books (nothing g at none) at.cleanup.ensures.cleans.0.cleaned
+    nothing_left false (state_of name (value_of c.run-replies.new.self).allocator (ledger c.run-replies.new.device)) _ c.run-replies.ensures.keeps.ready.agree.books (nothing g at none) at.cleanup.ensures.cleans.0.cleaned

@@ -1,6 +1,6 @@
 use Rattle.std.proofs.Common.{◌≡◌, ◌++◌, ℕ, List, ◌+◌, ◌-◌, codes, length, length-append, ap, ◌∙◌, arith}
 use Rattle.std.specs.String.{string_bytes}
-use Rattle.descriptor_script.specs.Sessions.Session.{sets_of}
+use Rattle.descriptor_script.specs.Sessions.Session.{value_of}
 use Rattle.descriptor_lines.specs.ReplyTexts.{pools_from, range_text, sets_text, stretches_text}
 use Rattle.descriptor_lines.proofs.ReplyLemmas.{length_of_range, text_of_some}
 use Rattle.descriptor_lines.proofs.answer.reply.sets_answer.Goals as goal
@@ -21,7 +21,7 @@ stretches_answer-requires-clause-reserve c =
 pub put-requires-2 : goal.put-requires-2
 put-requires-2 c =
     let range = range_text c.args.first (c.args.first + c.args.count - 1) in
-    let pools = stretches_text (pools_from (sets_of c.args.session.now) c.args.first c.args.count) in
+    let pools = stretches_text (pools_from (value_of c.args.session.now).sets c.args.first c.args.count) in
     let ranged : length (string_bytes c.range_answer.new.answer) ≡ length (string_bytes c.args.answer.now) + length range = longer _ _ _ c.range_answer.ensures.text in
     let stretched : length (string_bytes c.stretches_answer.new.answer) ≡ length (string_bytes c.range_answer.new.answer) + length pools = longer _ _ _ c.stretches_answer.ensures.text in
     omega (arith, length_of_range c.args.first (c.args.first + c.args.count - 1) (omega arith) (omega arith))
@@ -29,7 +29,7 @@ put-requires-2 c =
 pub returns-clause-enough : goal.returns-clause-enough
 returns-clause-enough c =
     let range = range_text c.args.first (c.args.first + c.args.count - 1) in
-    let pools = stretches_text (pools_from (sets_of c.args.session.now) c.args.first c.args.count) in
-    let whole : length (sets_text (sets_of c.args.session.now) c.args.first c.args.count) ≡ length (range ++ pools) + 1 = longer (range ++ pools) _ (codes "\n") (text_of_some (sets_of c.args.session.now) c.args.first c.args.count (omega arith)) in
+    let pools = stretches_text (pools_from (value_of c.args.session.now).sets c.args.first c.args.count) in
+    let whole : length (sets_text (value_of c.args.session.now).sets c.args.first c.args.count) ≡ length (range ++ pools) + 1 = longer (range ++ pools) _ (codes "\n") (text_of_some (value_of c.args.session.now).sets c.args.first c.args.count (omega arith)) in
     let parts : length (range ++ pools) ≡ length range + length pools = length-append range pools in
     omega (arith, length_of_range c.args.first (c.args.first + c.args.count - 1) (omega arith) (omega arith))

@@ -1,6 +1,6 @@
 use Rattle.std.proofs.Common.{◌≡◌, ◌++◌, ◌+◌, ◌-◌, ◌∷◌, length, length-append, append_assoc, sym, ap, ◌∙◌, arith}
 use Rattle.std.specs.String.{string_bytes}
-use Rattle.descriptor_script.specs.Sessions.Session.{sets_of}
+use Rattle.descriptor_script.specs.Sessions.Session.{value_of}
 use Rattle.descriptor_lines.specs.ReplyTexts.{pools_from, stretch_text, stretches_text}
 use Rattle.descriptor_lines.proofs.ReplyLemmas.{length_of_stretch, stretch_ends, stretch_grows, stretch_is_last}
 use Rattle.descriptor_lines.proofs.answer.reply.stretches_answer.Goals.{then-pool-stretch, else-pool-stretch}
@@ -8,7 +8,7 @@ use Rattle.descriptor_lines.proofs.answer.reply.stretches_answer.Goals as goal
 
 pub loop-ticket-init : goal.loop-ticket-init
 loop-ticket-init c =
-    let slots = sets_of c.args.session.now in
+    let slots = (value_of c.args.session.now).sets in
     let many : c.args.first + c.args.count - c.args.first ≡ c.args.count = omega arith in
     let first = stretch_grows slots c.args.first (c.args.first + c.args.count) c.device_pool.result 0 (omega arith) (sym c.device_pool.ensures) ∙ ap (pools_from slots c.args.first) many in
     record {
@@ -27,7 +27,7 @@ stretch_answer-requires c =
 
 pub loop-ticket-preserved : goal.loop-ticket-preserved
 loop-ticket-preserved c =
-    let slots = sets_of c.args.session.now in
+    let slots = (value_of c.args.session.now).sets in
     let l = c.loop-ticket in
     let pool = c.device_pool-pool in
     elim c.if-pool-stretch.branch [
@@ -67,16 +67,16 @@ stretch_answer-requires-2 c =
 pub returns-clause-text : goal.returns-clause-text
 returns-clause-text c =
     let l = c.loop-ticket in
-    c.stretch_answer-2.ensures.text ∙ ap (λ text. string_bytes l.answer ++ text) (stretch_is_last (sets_of c.args.session.now) l.ticket (c.args.first + c.args.count) l.stretch.pool l.stretch.length (omega arith) l.invariant.some) ∙ l.invariant.said
+    c.stretch_answer-2.ensures.text ∙ ap (λ text. string_bytes l.answer ++ text) (stretch_is_last (value_of c.args.session.now).sets l.ticket (c.args.first + c.args.count) l.stretch.pool l.stretch.length (omega arith) l.invariant.some) ∙ l.invariant.said
 
 pub returns-clause-enough : goal.returns-clause-enough
 returns-clause-enough c =
     let l = c.loop-ticket in
     let last = stretch_text (l.stretch.pool, l.stretch.length) in
-    let whole = stretches_text (pools_from (sets_of c.args.session.now) c.args.first c.args.count) in
+    let whole = stretches_text (pools_from (value_of c.args.session.now).sets c.args.first c.args.count) in
     let said : string_bytes l.answer ++ last ≡ string_bytes c.args.answer.now ++ whole =
     ap (λ text. string_bytes l.answer ++ text)
-    (stretch_is_last (sets_of c.args.session.now) l.ticket (c.args.first + c.args.count) l.stretch.pool
+    (stretch_is_last (value_of c.args.session.now).sets l.ticket (c.args.first + c.args.count) l.stretch.pool
     l.stretch.length (omega arith) l.invariant.some)
     ∙ l.invariant.said in
     let sizes : length (string_bytes l.answer) + length last ≡ length (string_bytes c.args.answer.now) + length whole = sym (length-append (string_bytes l.answer) last) ∙ ap length said ∙ length-append (string_bytes c.args.answer.now) whole in

@@ -3,7 +3,7 @@ use Rattle.std.proofs.lemmas.List.{map-append}
 use Rattle.std.proofs.lemmas.List.Elements.{All-push}
 use Rattle.gpu_descriptor.specs.Caller.SetLayouts.{IsMeant}
 use Rattle.descriptor_script.specs.Scripted.Raw.{script_meaning}
-use Rattle.descriptor_script.specs.Sessions.Session.{layouts_of}
+use Rattle.descriptor_script.specs.Sessions.Session.{value_of}
 use Rattle.gpu_descriptor_types.specs.Counts.{kinds}
 use Rattle.descriptor_lines.specs.Answers.{layout_answer}
 use Rattle.descriptor_lines.specs.LayoutTables.{layouts_in}
@@ -14,14 +14,13 @@ use Rattle.descriptor_lines.proofs.program.Program.add_layout.Goals as goal
 pub returns-in-Ok : goal.returns-in-Ok
 returns-in-Ok g c =
     let old = c.requires.can.ready in
-    let added = c.add_layout.ensures in
     record {
       runs = record {
         done = (c.args.layout, refl, search rules, c.in_ok-layout_answer.ensures ∙ ap (λ text. text ++ layout_answer c.args.name.now (sum (kinds c.args.layout.counts))) c.requires.can.empty);
         err = tt;
         ready = record {
-          ready = same_is_ready c.args.self.now.session c.add_layout.new.self _ old.ready added.allocator added.sets (rw c.in-Ok.ensures.last (All-push (IsMeant script_meaning) (layouts_of c.args.self.now.session) _ old.ready.meant (record { counted = refl; marked = c.flags.ensures })));
-          layouts = rw (c.in-Ok.ensures.last, c.push.ensures.layouts, c.reserve.ensures.same) (map-append (λ k. k.layout) (layouts_of c.args.self.now.session) _ ∙ ap (λ ls. ls ++ scripted c.args.layout ∷ []) old.layouts ∙ sym (map-append (λ l. scripted l.1) (layouts_in c.args.self.now.layouts) _));
+          ready = rw c.in-Ok.ensures.last (same_is_ready (value_of c.args.self.now.session) _ _ old.ready (All-push (IsMeant script_meaning) (value_of c.args.self.now.session).layouts _ old.ready.meant (record { counted = refl; marked = c.flags.ensures })));
+          layouts = rw (ap (λ s. s.layouts) c.in-Ok.ensures.last, c.push.ensures.layouts, c.reserve.ensures.same) (map-append (λ k. k.layout) (value_of c.args.self.now.session).layouts _ ∙ ap (λ ls. ls ++ scripted c.args.layout ∷ []) old.layouts ∙ sym (map-append (λ l. scripted l.1) (layouts_in c.args.self.now.layouts) _));
           fresh = λ unbegun. (let begun = c.requires.begun in cc);
         };
         begun = λ is. is;

@@ -19,7 +19,7 @@ returns-in-Size g c =
     rw c.in-Size.is (record {
       runs = record {
         done = IfOk-weaker c.size_answer.result _ _ (λ _ written. (refl, sets.result, size, written ∙ ap (λ old. old ++ size_answer sets.result (kinds c.counts_of_sets.result)) c.requires.can.empty ∙ ap (λ counts. size_answer sets.result counts) c.counts_of_sets.ensures)) c.size_answer.ensures;
-        err = on_err c.size_answer.result _ (record { layouts = refl; session = record { allocator = refl; layouts = refl; sets = refl; ledger = refl }; script = refl });
+        err = on_err c.size_answer.result _ (record { layouts = refl; session = refl; script = refl });
         ready = c.requires.can.ready;
         begun = λ is. is;
       };

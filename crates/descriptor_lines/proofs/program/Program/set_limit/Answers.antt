@@ -9,8 +9,8 @@ returns g c = record {
     done = (search rules, c.in_ok-limit_answer.ensures ∙ ap (λ text. text ++ limit_answer c.args.max) c.requires.can.empty);
     err = tt;
     ready = record {
-      ready = new_is_ready c.new.result _ _ c.new.ensures.allocator c.new.ensures.layouts c.new.ensures.sets;
-      layouts = rw (c.new.ensures.layouts, none_in c.args.self.now.layouts c.requires.fresh) refl;
+      ready = rw c.new.ensures.value (new_is_ready _ _);
+      layouts = rw (ap (λ s. s.layouts) c.new.ensures.value, none_in c.args.self.now.layouts c.requires.fresh) refl;
       fresh = c.requires.can.ready.fresh;
     };
     begun = λ is. is;

@@ -1,7 +1,7 @@
 use Rattle.std.proofs.Common.{◌≡◌, ◌++◌, string_bytes, append-nil, append_assoc, length, ap, sym, ◌∙◌, arith}
 use Rattle.gpu_descriptor.specs.Caller.Views.{view_in}
 use Rattle.gpu_descriptor.specs.Model.Books.{books_of}
-use Rattle.descriptor_script.specs.Sessions.Session.{allocator_of}
+use Rattle.descriptor_script.specs.Sessions.Session.{value_of}
 use Rattle.descriptor_lines.specs.Answers.{pool_answer}
 use Rattle.descriptor_lines.specs.LayoutTables.{key_of}
 use Rattle.descriptor_lines.proofs.ShownLemmas.{all_so_far, none_so_far, one_more, seen_within}
@@ -10,7 +10,7 @@ use Rattle.descriptor_lines.proofs.program.Program.show_pools.Goals.{in-Some+in_
 
 pub loop-index-init : goal.loop-index-init
 loop-index-init g c =
-    let table = (allocator_of c.args.self.now.session).table in
+    let table = (value_of c.args.self.now.session).allocator.table in
     rw (none_so_far table (c.args.name.now, c.args.layout.now)) (sym (append-nil (string_bytes c.args.answer.now)))
 
 pub loop-index-preserved : goal.loop-index-preserved
@@ -18,7 +18,7 @@ loop-index-preserved g c =
     let name = c.args.name.now in
     let layout = c.args.layout.now in
     let index = c.loop-index.index in
-    let table = (allocator_of c.args.self.now.session).table in
+    let table = (value_of c.args.self.now.session).allocator.table in
     let seen : c.pool.result ≡ view_in (books_of table (key_of layout)) index = c.pool.ensures.view ∙ ap (λ a. view_in (books_of a.table (key_of layout)) index) c.allocator-allocator.ensures in
     let count = c.pool_count-index-end.ensures.count ∙ ap (λ a. length (books_of a.table (key_of layout)).pools) c.allocator-allocator.ensures in
     elim c.match-pool.branch [
@@ -32,6 +32,6 @@ loop-index-preserved g c =
 
 pub returns : goal.returns
 returns g c =
-    let table = (allocator_of c.args.self.now.session).table in
+    let table = (value_of c.args.self.now.session).allocator.table in
     let count : c.pool_count-index-end.result ≡ length (books_of table (key_of c.args.layout.now)).pools = c.pool_count-index-end.ensures.count ∙ ap (λ a. length (books_of a.table (key_of c.args.layout.now)).pools) c.allocator-allocator.ensures in
     c.loop-index.invariant ∙ ap (λ said. string_bytes c.args.answer.now ++ said) (all_so_far table (c.args.name.now, c.args.layout.now) c.loop-index.index (omega (arith, count, c.loop-index-test.false)))
