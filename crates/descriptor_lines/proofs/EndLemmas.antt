@@ -152,8 +152,8 @@ ends_early exit bytes start last old new (inr broken) faulty failed = rw broken 
 -- ---- the start
 
 -- a new buffer has read nothing
-pub unread_first : (buffer : LineBuffer) (known : Option (List ℕ)) (bytes : List ℕ) → buffer.start ≡ buffer.end → buffer.is_at_end ≡ false → known ≡ Some bytes → unread buffer known ≡ Some bytes
-unread_first buffer known bytes empty «open» is =
+pub unread_first : (buffer : LineBuffer) (known : Option (List ℕ)) (bytes : List ℕ) → buffer.start ≡ buffer.end → known ≡ Some bytes → unread buffer known ≡ Some bytes
+unread_first buffer known bytes empty is =
     let none : buffer.end - buffer.start ≡ 0 = omega arith in
     let nothing : buffered buffer ≡ [] = ap (λ n. take n (drop buffer.start buffer.bytes.items)) none in
-    rw («open», is) (ap (λ l. Some (l ++ bytes)) nothing)
+    rw is (ap (λ l. Some (l ++ bytes)) nothing)

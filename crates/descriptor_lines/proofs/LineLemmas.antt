@@ -1,8 +1,8 @@
 -- The lines that bytes begin with: for `LineBuffer::next_line`, `read_more` and `take_line`, which search a buffer for the end of a line.
 -- `bytes` are those of the buffer: from `start` on they are in no line yet, up to `searched` no line ends among them, and up to `end` they
--- were read. Byte 10 ends a line. `known` are the bytes that the reader has left, if that is known; `ended`, `was` and `now` say whether
--- its end was seen.
-use Rattle.std.proofs.Common.{◌≡◌, if◌then◌else◌, ℕ, ◌+◌, ◌-◌, ◌<◌, ◌≤◌, ◌⊎◌, inl, inr, append_assoc, append-nil, length-take, Bool, true, false, IsTrue, List, [], ◌++◌, Option, None, Some, not, is_some, unwrap_or, length, length-take-le, take, drop, position, slice_range, length-append}
+-- were read. Byte 10 ends a line. `known`
+-- are the bytes that the reader has left, if that is known.
+use Rattle.std.proofs.Common.{◌≡◌, ℕ, ◌+◌, ◌-◌, ◌<◌, ◌≤◌, ◌⊎◌, inl, inr, append_assoc, append-nil, length-take, List, [], ◌++◌, Option, None, Some, IfSome, IfNone, not, unwrap_or, position, length, length-take-le, take, drop, slice_range, length-append}
 use Rattle.std.proofs.Common.{refl, sym, ap, ◌∙◌, arith}
 use Rattle.std.specs.List.{position_or_len}
 use Rattle.std.specs.Io.KnownBytes.{Keeps, IsAtEnd, Consumes, prepend_known}
@@ -15,7 +15,10 @@ use Rattle.std.proofs.lemmas.List.Edits.{length-between}
 use Rattle.std.proofs.lemmas.List.Folds.{prefix_len-append}
 use Rattle.std.proofs.lemmas.List.Sums.{prefix_len-le-length}
 use Rattle.descriptor_lines.specs.Lines.{HasEnd, HasNoEnd, before_end, after_end, longest_line}
+use Rattle.descriptor_lines.specs.LineBuffers.{TakesLine, buffered, bytes_at, unread}
 use Rattle.descriptor_lines.specs.Words.{is_byte}
+use Rattle.descriptor_lines.specs.declared.input.LineBuffer.{LineBuffer}
+use Rattle.descriptor_lines.specs.declared.input.Span.{Span}
 
 -- ---- parts of a list
 
@@ -25,12 +28,6 @@ parts_joined bytes a b c ab bc =
     let whole : c - a ≡ b - a + (c - b) = omega arith in
     let at : a + (b - a) ≡ b = omega arith in
     ap (λ k. take k (drop a bytes)) whole ∙ take-add (b - a) (c - b) (drop a bytes) ∙ ap (λ l. slice_range bytes a b ++ take (c - b) l) (drop-drop (b - a) a bytes ∙ ap (λ k. drop k bytes) at)
-
--- the front of a part
-pub part_front : (bytes : List ℕ) (a b n : ℕ) → a + n ≤ b → take n (slice_range bytes a b) ≡ slice_range bytes a (a + n)
-part_front bytes a b n fits =
-    let same : n ≡ a + n - a = omega arith in
-    take-take n (b - a) (drop a bytes) (omega arith) ∙ ap (λ k. take k (drop a bytes)) same
 
 -- the rest of a part
 pub part_rest : (bytes : List ℕ) (a b n : ℕ) → a + n ≤ b → drop n (slice_range bytes a b) ≡ slice_range bytes (a + n) b
@@ -69,74 +66,15 @@ end_behind front rest none = grind (arith, nat_tests, prefix_len-append (λ x. n
 pub end_in_front : (front rest : List ℕ) → HasEnd front → position_or_len (is_byte 10) (front ++ rest) ≡ position_or_len (is_byte 10) front
 end_in_front front rest some = grind (arith, nat_tests, prefix_len-append (λ x. not (is_byte 10 x)) front rest)
 
--- the first end in the unsearched bytes is the first of all
+-- what a search of the bytes from `searched` on finds
 pub first_end : (bytes : List ℕ) (start searched end : ℕ) → start ≤ searched → searched ≤ end → end ≤ length bytes → HasNoEnd (slice_range bytes start searched)
-    → position_or_len (is_byte 10) (slice_range bytes start end) ≡ searched - start + position_or_len (is_byte 10) (slice_range bytes searched end)
+    → let rest = slice_range bytes searched end in searched - start + unwrap_or (position (is_byte 10) rest) (length rest) ≡ position_or_len (is_byte 10) (slice_range bytes start end)
 first_end bytes start searched end from to fits none =
-    let size : length (slice_range bytes start searched) ≡ searched - start = length-between bytes start searched (omega arith) in
-    ap (position_or_len (is_byte 10)) (parts_joined bytes start searched end from to) ∙ end_behind (slice_range bytes start searched) (slice_range bytes searched end) none ∙ ap (λ k. k + position_or_len (is_byte 10) (slice_range bytes searched end)) size
-
--- what a search of bytes finds
-first_is : (bytes : List ℕ) → unwrap_or (position (is_byte 10) bytes) (length bytes) ≡ position_or_len (is_byte 10) bytes
-first_is bytes = let at_most : position_or_len (is_byte 10) bytes ≤ length bytes = prefix_len-le-length _ bytes in grind (arith, nat_tests)
-
-pub first_within : (bytes : List ℕ) → unwrap_or (position (is_byte 10) bytes) (length bytes) ≤ length bytes
-first_within bytes = omega (arith, first_is bytes, prefix_len-le-length (λ x. not (is_byte 10 x)) bytes)
-
-pub first_found : (bytes : List ℕ) → is_some (position (is_byte 10) bytes) ≡ true → unwrap_or (position (is_byte 10) bytes) (length bytes) < length bytes
-first_found bytes some = grind (arith, nat_tests)
-
-pub first_missing : (bytes : List ℕ) → is_some (position (is_byte 10) bytes) ≡ false → unwrap_or (position (is_byte 10) bytes) (length bytes) ≡ length bytes
-first_missing bytes none = grind (arith, nat_tests)
-
--- where a search of the unsearched bytes came to an end of a line, or to the end of the bytes
-pub record ComesTo (bytes : List ℕ) (start end place : ℕ) (found : Option ℕ) : Type 0 where
-  pub from : start ≤ place
-  pub within : place ≤ end
-  pub first : position_or_len (is_byte 10) (slice_range bytes start end) ≡ place - start
-  pub at_end : is_some found ≡ true → place < end
-  pub missing : is_some found ≡ false → place ≡ end
-
--- a search that begins at `searched` comes to the first end of a line from `start` on
-comes_to : (bytes : List ℕ) (start searched end : ℕ) → start ≤ searched → searched ≤ end → end ≤ length bytes → HasNoEnd (slice_range bytes start searched)
-    → let rest = slice_range bytes searched end in ComesTo bytes start end (searched + unwrap_or (position (is_byte 10) rest) (length rest)) (position (is_byte 10) rest)
-comes_to bytes start searched end from to fits none =
     let rest : List ℕ = slice_range bytes searched end in
-    let size : length rest ≡ end - searched = length-between bytes searched end fits in
-    let within : unwrap_or (position (is_byte 10) rest) (length rest) ≤ length rest = first_within rest in
-    record {
-      from = omega arith;
-      within = omega arith;
-      first = omega (arith, first_end bytes start searched end from to fits none, first_is rest);
-      at_end = λ some. omega (arith, first_found rest some);
-      missing = λ missing. omega (arith, first_missing rest missing);
-    }
-
--- what a search of the unsearched bytes comes to
-pub search_comes_to : (bytes shown : List ℕ) (start searched end count : ℕ) (found : Option ℕ) → shown ≡ bytes → start ≤ searched → searched ≤ end → end ≤ length bytes → HasNoEnd (slice_range bytes start searched)
-    → found ≡ position (is_byte 10) (slice_range shown searched end) → count ≡ unwrap_or found (length (slice_range shown searched end)) → ComesTo bytes start end (searched + count) found
-search_comes_to bytes shown start searched end count found same from to fits none place is =
-    let found_is : found ≡ position (is_byte 10) (slice_range bytes searched end) = place ∙ ap (λ l. position (is_byte 10) (slice_range l searched end)) same in
-    let count_is :
-    count
-    ≡ unwrap_or (position (is_byte 10) (slice_range bytes searched end)) (length (slice_range bytes searched end)) =
-    is ∙ ap (λ o. unwrap_or o (length (slice_range shown searched end))) found_is
-    ∙ ap
-    (λ l.
-    unwrap_or (position (is_byte 10) (slice_range bytes searched end)) (length (slice_range l searched end)))
-    same in
-    rw (count_is, found_is) (comes_to bytes start searched end from to fits none)
-
--- a line up to its end, and what is behind that
-pub line_to : (bytes : List ℕ) (start end place : ℕ) → start ≤ place → place ≤ end → position_or_len (is_byte 10) (slice_range bytes start end) ≡ place - start → slice_range bytes start place ≡ before_end (slice_range bytes start end)
-line_to bytes start end place from to is =
-    let at : start + (place - start) ≡ place = omega arith in
-    sym (ap (λ k. take k (slice_range bytes start end)) is ∙ part_front bytes start end (place - start) (omega arith) ∙ ap (slice_range bytes start) at)
-
-pub rest_from : (bytes : List ℕ) (start end place : ℕ) → start ≤ place → place < end → position_or_len (is_byte 10) (slice_range bytes start end) ≡ place - start → slice_range bytes (place + 1) end ≡ after_end (slice_range bytes start end)
-rest_from bytes start end place from to is =
-    let at : start + (place - start + 1) ≡ place + 1 = omega arith in
-    sym (ap (λ k. drop (k + 1) (slice_range bytes start end)) is ∙ part_rest bytes start end (place - start + 1) (omega arith) ∙ ap (λ k. slice_range bytes k end) at)
+    let size : length (slice_range bytes start searched) ≡ searched - start = length-between bytes start searched (omega arith) in
+    let at_most : position_or_len (is_byte 10) rest ≤ length rest = prefix_len-le-length _ rest in
+    let found : unwrap_or (position (is_byte 10) rest) (length rest) ≡ position_or_len (is_byte 10) rest = grind (arith, nat_tests) in
+    ap (λ n. searched - start + n) found ∙ ap (λ n. n + position_or_len (is_byte 10) rest) (sym size) ∙ sym (end_behind (slice_range bytes start searched) rest none) ∙ ap (position_or_len (is_byte 10)) (sym (parts_joined bytes start searched end from to))
 
 -- ---- the first line of bytes, of which more may come
 
@@ -172,48 +110,52 @@ Keeps-Some None b bytes same is = absurd (cc)
 Keeps-Some (Some x) None bytes same is = absurd same
 Keeps-Some (Some x) (Some y) bytes same is = cc
 
--- known bytes are those at hand and then more, and so they are with others at hand
-pub behind : (ended : Bool) (known : Option (List ℕ)) (bytes all : List ℕ) → (if ended then Some bytes else prepend_known bytes known) ≡ Some all
-    → (more : List ℕ) × (all ≡ bytes ++ more) × ((others : List ℕ) → (if ended then Some others else prepend_known others known) ≡ Some (others ++ more))
-behind true known bytes all is = ([], (let e : bytes ≡ all = cc in sym e ∙ sym (append-nil bytes)), λ others. ap Some (sym (append-nil others)))
-behind false None bytes all is = absurd (cc)
-behind false (Some more) bytes all is = (more, (let e : bytes ++ more ≡ all = cc in sym e), λ others. refl)
+-- known bytes are those at hand and then those that are left
+behind : (known : Option (List ℕ)) (bytes all : List ℕ) → prepend_known bytes known ≡ Some all → (more : List ℕ) × (known ≡ Some more) × (all ≡ bytes ++ more)
+behind None bytes all is = absurd (cc)
+behind (Some more) bytes all is = (more, refl, (let e : bytes ++ more ≡ all = cc in sym e))
+
+-- at their end they are those at hand
+at_end : (known : Option (List ℕ)) (bytes all : List ℕ) → IsAtEnd known → prepend_known bytes known ≡ Some all → (known ≡ Some []) × (all ≡ bytes)
+at_end None bytes all ended is = absurd (cc)
+at_end (Some more) bytes all ended is = (ap Some ended, (let e : bytes ++ more ≡ all = cc in sym e ∙ ap (λ l. bytes ++ l) ended ∙ append-nil bytes))
 
 -- the line that ends among the bytes at hand is the first of all
 pub takes_ended :
-    (was now : Bool) (known : Option (List ℕ)) (bytes all line rest : List ℕ)
-    → (if was then Some bytes else prepend_known bytes known) ≡ Some all → now ≡ was → HasEnd bytes
-    → line ≡ before_end bytes → rest ≡ after_end bytes
-    → (0 < length all) × (line ≡ before_end all) × ((if now then Some rest else prepend_known rest known) ≡ Some (after_end all))
-takes_ended was now known bytes all line rest is kept some first after =
-    let (more, whole, with) = behind was known bytes all is in (
+    (known : Option (List ℕ)) (bytes all line rest : List ℕ)
+    → prepend_known bytes known ≡ Some all → HasEnd bytes → line ≡ before_end bytes → rest ≡ after_end bytes
+    → (0 < length all) × (line ≡ before_end all) × (prepend_known rest known ≡ Some (after_end all))
+takes_ended known bytes all line rest is some first after =
+    let (more, known_is, whole) = behind known bytes all is in (
       omega (arith, ap length whole, length-append bytes more),
       first ∙ sym (ap before_end whole ∙ before_end-append bytes more some),
-      rw kept (with rest) ∙ ap Some (ap (λ l. l ++ more) after ∙ sym (ap after_end whole ∙ after_end-append bytes more some)),
+      rw known_is (ap Some (ap (λ l. l ++ more) after ∙ sym (ap after_end whole ∙ after_end-append bytes more some))),
     )
 
+-- bytes at hand in which no line ends are the last line, if there are some
+pub takes_last :
+    (known : Option (List ℕ)) (bytes all : List ℕ) (line : Option Span) (buffer : LineBuffer)
+    → IsAtEnd known → prepend_known bytes known ≡ Some all → HasNoEnd bytes → IfSome line (λ _. 0 < length bytes)
+    → IfSome line (λ span. bytes_at buffer span ≡ bytes) → IfNone line (bytes ≡ []) → buffered buffer ≡ []
+    → TakesLine all line buffer (unread buffer known)
+takes_last known bytes all None buffer ended is no_end some first none empty = (at_end known bytes all ended is).1 ∙ none
+takes_last known bytes all (Some span) buffer ended is no_end some first none empty =
+    let (nothing, whole) = at_end known bytes all ended is in
+    rw whole (some, first ∙ sym (before_end-whole bytes no_end), rw (nothing, empty) (ap Some (sym (after_end-whole bytes no_end))))
+
 -- a line that is too long begins all
-pub begins_too_long : (ended : Bool) (known : Option (List ℕ)) (bytes all : List ℕ) → (if ended then Some bytes else prepend_known bytes known) ≡ Some all → longest_line < length (before_end bytes) → longest_line < length (before_end all)
-begins_too_long ended known bytes all is long =
-    let (more, whole, with) = behind ended known bytes all is in
+pub begins_too_long : (known : Option (List ℕ)) (bytes all : List ℕ) → prepend_known bytes known ≡ Some all → longest_line < length (before_end bytes) → longest_line < length (before_end all)
+begins_too_long known bytes all is long =
+    let (more, known_is, whole) = behind known bytes all is in
     omega (arith, ap (λ l. length (before_end l)) whole, before_end-grows bytes more)
 
--- a read put its bytes behind those at hand, and saw the end only where none was left
-pub read_kept :
-    (was ended : Bool) (old new : Option (List ℕ)) (bytes front got all : List ℕ) → was ≡ false → front ≡ bytes
-    → all ≡ front ++ got → Consumes old new got → (IsTrue ended → IsAtEnd new)
-    → Keeps (if was then Some bytes else prepend_known bytes old) (if ended then Some all else prepend_known all new)
-read_kept true ended old new bytes front got all unseen same is took end = absurd (cc)
-read_kept false ended None new bytes front got all unseen same is took end = tt
-read_kept false ended (Some xs) None bytes front got all unseen same is took end = absurd took
-read_kept false false (Some xs) (Some ys) bytes front got all unseen same is took end = ap (λ l. l ++ ys) is ∙ append_assoc front got ys ∙ ap (λ l. l ++ (got ++ ys)) same ∙ ap (λ l. bytes ++ l) (sym took)
-read_kept false true (Some xs) (Some ys) bytes front got all unseen same is took end =
-    let whole : xs ≡ got = took ∙ ap (λ l. got ++ l) (end refl) ∙ append-nil got in
-    is ∙ ap (λ l. l ++ got) same ∙ ap (λ l. bytes ++ l) (sym whole)
+-- a read put its bytes behind those at hand, and one that failed nothing
+pub read_kept : (old new : Option (List ℕ)) (bytes front got all : List ℕ) → front ≡ bytes → all ≡ front ++ got → Consumes old new got → Keeps (prepend_known bytes old) (prepend_known all new)
+read_kept None new bytes front got all same is took = tt
+read_kept (Some xs) None bytes front got all same is took = absurd took
+read_kept (Some xs) (Some ys) bytes front got all same is took = ap (λ l. l ++ ys) is ∙ append_assoc front got ys ∙ ap (λ l. l ++ (got ++ ys)) same ∙ ap (λ l. bytes ++ l) (sym took)
 
-pub read_failed_kept : (was now : Bool) (old new : Option (List ℕ)) (bytes front : List ℕ) → was ≡ false → now ≡ was → front ≡ bytes → Keeps old new → Keeps (if was then Some bytes else prepend_known bytes old) (if now then Some front else prepend_known front new)
-read_failed_kept true now old new bytes front unseen kept is same = absurd (cc)
-read_failed_kept false true old new bytes front unseen kept is same = absurd (cc)
-read_failed_kept false false None new bytes front unseen kept is same = tt
-read_failed_kept false false (Some xs) None bytes front unseen kept is same = absurd same
-read_failed_kept false false (Some xs) (Some ys) bytes front unseen kept is same = ap (λ l. l ++ ys) is ∙ ap (λ l. bytes ++ l) same
+pub read_failed_kept : (old new : Option (List ℕ)) (bytes front : List ℕ) → front ≡ bytes → Keeps old new → Keeps (prepend_known bytes old) (prepend_known front new)
+read_failed_kept None new bytes front is same = tt
+read_failed_kept (Some xs) None bytes front is same = absurd same
+read_failed_kept (Some xs) (Some ys) bytes front is same = ap (λ l. l ++ ys) is ∙ ap (λ l. bytes ++ l) same

@@ -2,7 +2,9 @@
 ghost use Rattle.std.specs.Prelude.{◌≡◌, ◌+◌, ◌-◌, ◌<◌, ◌≤◌, ℕ, List, [], Some, IfOk, IfSome, IfErr, IfNone};
 ghost use Rattle.std.specs.Prelude.{OnErr, OnOk, Err, IsFalse, length, vec_len, slice_range};
 ghost use Rattle.std.specs.Io.BufRead.{strip_last};
+ghost use Rattle.std.specs.List.{position_or_len};
 ghost use Rattle.std.specs.Io.KnownBytes.{IsAtEnd, Keeps};
+ghost use Rattle.descriptor_lines.specs.Words.{is_byte};
 ghost use Rattle.descriptor_lines.specs.Lines.{HasEnd, HasNoEnd};
 ghost use Rattle.descriptor_lines.specs.Lines.{before_end, after_end, buffer_len, longest_line};
 
@@ -78,6 +80,7 @@ impl LineBuffer {
     ///
     /// After an error the lines that were complete have been given, and the next one is not.
     pub fn next_line<R: Read>(&mut self, input: &mut R) -> Result<Option<Span>, InputFault>
+        requires sees { SeesEndOf self.old (R.remaining input.old) }
         ensures short { IfOk result (λ span. IfSome span (λ span.
             span.end - span.start ≤ longest_line)) }
 
@@ -85,16 +88,12 @@ impl LineBuffer {
         ensures known { IfOk result (λ span. (bytes : List ℕ) → unread self.old
             (R.remaining input.old) ≡ Some bytes → TakesLine bytes span self.new (unread self.new
             (R.remaining input.new))) }
-        ensures kept { OnErr result (Keeps (unread self.old (R.remaining input.old))
-            (unread self.new (R.remaining input.new))) }
         ensures too_long { result ≡ Err InputFault.LineTooLong → (bytes : List ℕ)
             → unread self.old (R.remaining input.old) ≡ Some bytes
             → longest_line < length (before_end bytes) }
 
-        ensures end { IfOk result (λ span. IfNone span (SeesEndOf self.old (R.remaining input.old)
-            → IsAtEnd (R.remaining input.new))) }
-        ensures sees { SeesEndOf self.old (R.remaining input.old)
-            → SeesEndOf self.new (R.remaining input.new) }
+        ensures end { IfOk result (λ span. IfNone span (IsAtEnd (R.remaining input.new))) }
+        ensures sees { SeesEndOf self.new (R.remaining input.new) }
     {
         loop {
             if let Some(span) = self.take_line()? {
@@ -138,19 +137,26 @@ impl LineBuffer {
         ensures end { self.new.is_at_end ≡ self.old.is_at_end }
     {
         let start = self.start;
-        let unsearched = &self.bytes[self.searched..self.end];
-        let found = first_of(unsearched, b'\n');
-        let end = self.searched + found.unwrap_or(unsearched.len());
+        let end = start + self.line_len();
         if MAX_LINE_LEN < end - start {
             return Err(InputFault::LineTooLong);
         }
-        if found.is_none() {
-            self.searched = self.end;
+        if end == self.end {
+            self.searched = end;
             return Ok(None);
         }
         self.start = end + 1;
         self.searched = end + 1;
         Ok(Some(Span { start, end }))
+    }
+
+    /// How many bytes there are before the first end of a line, or in all.
+    fn line_len(&self) -> usize
+        ensures len { result ≡ position_or_len (is_byte 10) (buffered self.now) }
+        ensures within { result ≤ self.now.end - self.now.start }
+    {
+        let rest = &self.bytes[self.searched..self.end];
+        self.searched - self.start + first_of(rest, b'\n').unwrap_or(rest.len())
     }
 
     /// The bytes, in which no line ends, as a last line, where there are some.

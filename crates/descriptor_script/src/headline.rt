@@ -28,7 +28,8 @@ pub fn headline<L, P: Drop, S: Drop, D: DescriptorDevice<L, P, S>>(
 
     // At each command of the list all parts of the headline hold, which are the fields of `KeepsAll`.
     ensures together { IfOk result (λ replies. Runs (KeepsAll D.meaning) commands.now replies.items
-        (side (value_of session.old) (D.ledger device.old)) (side (value_of session.new) (D.ledger device.new))) }
+        (side (value_of session.old) (D.ledger device.old))
+        (side (value_of session.new) (D.ledger device.new))) }
 
     // Without memory for the replies nothing is done.
     ensures session { OnErr result (session.new ≡ session.old) }
@@ -45,7 +46,8 @@ pub fn headline<L, P: Drop, S: Drop, D: DescriptorDevice<L, P, S>>(
     // also says what pools are asked, created and destroyed.
     ensures runs { IfOk result (λ replies. Runs (λ command reply s t. KeepsAll D.meaning command
         reply s t × IsStep D.meaning command reply s t) commands.now replies.items
-        (side (value_of session.old) (D.ledger device.old)) (side (value_of session.new) (D.ledger device.new))) }
+        (side (value_of session.old) (D.ledger device.old))
+        (side (value_of session.new) (D.ledger device.new))) }
 {
     session.run(device, commands)
 }

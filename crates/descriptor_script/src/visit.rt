@@ -30,14 +30,17 @@ pub fn visit<L, P: Drop, S: Drop, D: DescriptorDevice<L, P, S>>(
     requires began { HasNoPools (state_of D.meaning.pool_name (value_of session.old).allocator
         (D.ledger device.old)) }
     ensures runs { IfOk result (λ replies. (used : Side (SessionValue L P S))
-        × Runs (IsStep D.meaning) commands.now replies.items (side (value_of session.old) (D.ledger device.old)) used
-        × StepsTo D.meaning Command.Cleanup Reply.Clean used (side (value_of session.new) (D.ledger device.new))) }
-    ensures cleans { OnErr result (StepsTo D.meaning Command.Cleanup Reply.Clean (side (value_of session.old) (D.ledger device.old))
+        × Runs (IsStep D.meaning) commands.now replies.items
+        (side (value_of session.old) (D.ledger device.old)) used
+        × StepsTo D.meaning Command.Cleanup Reply.Clean used
+        (side (value_of session.new) (D.ledger device.new))) }
+    ensures cleans { OnErr result (StepsTo D.meaning Command.Cleanup Reply.Clean
+        (side (value_of session.old) (D.ledger device.old))
         (side (value_of session.new) (D.ledger device.new))) }
     ensures pools { held_sets (value_of session.new).sets ≡ [] → (D.ledger device.new).pools
         ≡ (D.ledger device.old).pools }
-    ensures ended { held_sets (value_of session.new).sets ≡ [] → HasNoKeys (state_of D.meaning.pool_name
-        (value_of session.new).allocator (D.ledger device.new)) }
+    ensures ended { held_sets (value_of session.new).sets ≡ []
+        → HasNoKeys (state_of D.meaning.pool_name (value_of session.new).allocator (D.ledger device.new)) }
     ensures keeps { KeepsSession D.meaning (side (value_of session.old) (D.ledger device.old))
         (side (value_of session.new) (D.ledger device.new)) }
 {

@@ -2,7 +2,7 @@
 use Rattle.std.proofs.Common.{◌≡◌, ℕ, List, [], slice_get, Option, None, Some, refl, sym, ap, ◌∙◌}
 use Rattle.gpu_descriptor_types.specs.Ledger.{Ledger}
 use Rattle.gpu_descriptor.specs.Model.Promises.{IsUntouched}
-use Rattle.gpu_descriptor.specs.Model.Agreement.{count_of, outstanding}
+use Rattle.gpu_descriptor.specs.Model.Agreement.{count_of, outstanding, State}
 use Rattle.gpu_descriptor.specs.Model.Books.{Key, Entry}
 use Rattle.gpu_descriptor.specs.Model.Foreign.{IsForeign}
 use Rattle.gpu_descriptor.specs.Caller.Others.{others_of}

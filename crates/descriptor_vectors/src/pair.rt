@@ -17,8 +17,7 @@ struct Pair {
     one: Session<ScriptLayout, RawPool, RawSet>,
     other: Session<ScriptLayout, RawPool, RawSet>,
     device: LogDevice,
-    ghost paired: { ArePaired (value_of one) (value_of other) (ledger_logged device) } by {
-        paired-prop (value_of one) (value_of other) (ledger_logged device) },
+    ghost paired: { ArePaired (value_of one) (value_of other) (ledger_logged device) } by { paired-prop (value_of one) (value_of other) (ledger_logged device) },
 }
 
 /// A session with a plain layout of one sampler.

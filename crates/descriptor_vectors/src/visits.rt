@@ -38,10 +38,12 @@ fn expect_visit(
     commands: &[Command],
     replies: &[Reply],
 ) -> Result<(), Fail>
-    requires ready { IsReady script_meaning (side (value_of session.old) (ledger_logged device.old)) }
+    requires ready { IsReady script_meaning (side (value_of session.old)
+        (ledger_logged device.old)) }
     requires began { HasNoPools (state_of pool_id (value_of session.old).allocator
         (ledger_logged device.old)) }
-    ensures ready { IsReady script_meaning (side (value_of session.new) (ledger_logged device.new)) }
+    ensures ready { IsReady script_meaning (side (value_of session.new)
+        (ledger_logged device.new)) }
     ensures ended { OnOk result (HasNoPools (state_of pool_id (value_of session.new).allocator
         (ledger_logged device.new))) }
 {
@@ -61,7 +63,8 @@ fn expect_done(
     commands: &[Command],
     replies: &[Reply],
 ) -> Result<(), AllocError>
-    requires ready { IsReady script_meaning (side (value_of session.old) (ledger_logged device.old)) }
+    requires ready { IsReady script_meaning (side (value_of session.old)
+        (ledger_logged device.old)) }
 {
     let seen = headline(session, device, commands)?;
     assert_eq!(rt; seen.as_slice(), replies);
@@ -75,7 +78,8 @@ fn expect_visits(
     session: &mut Session<ScriptLayout, RawPool, RawSet>,
     device: &mut LogDevice,
 ) -> Result<(), Fail>
-    requires ready { IsReady script_meaning (side (value_of session.old) (ledger_logged device.old)) }
+    requires ready { IsReady script_meaning (side (value_of session.old)
+        (ledger_logged device.old)) }
     requires began { HasNoPools (state_of pool_id (value_of session.old).allocator
         (ledger_logged device.old)) }
 {

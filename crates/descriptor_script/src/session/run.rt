@@ -20,7 +20,8 @@ impl<L, P: Drop, S: Drop> Session<L, P, S> {
     ) -> Result<Vec<Reply>, AllocError>
         requires ready { IsReady D.meaning (side (value_of self.old) (D.ledger device.old)) }
         ensures runs { IfOk result (λ replies. Runs (IsStep D.meaning) commands.now replies.items
-            (side (value_of self.old) (D.ledger device.old)) (side (value_of self.new) (D.ledger device.new))) }
+            (side (value_of self.old) (D.ledger device.old))
+            (side (value_of self.new) (D.ledger device.new))) }
         ensures session { OnErr result (self.new ≡ self.old) }
         ensures device { OnErr result (device.new ≡ device.old) }
         ensures turned_away { IfOk result (λ replies. All IsTurnedAway replies.items

@@ -20,11 +20,13 @@ impl<L, P: Drop, S: Drop> Session<L, P, S> {
     /// device was not asked.
     pub fn step<D: DescriptorDevice<L, P, S>>(&mut self, device: &mut D, command: &Command) -> Reply
         requires ready { IsReady D.meaning (side (value_of self.old) (D.ledger device.old)) }
-        ensures step { StepsTo D.meaning command.now result (side (value_of self.old) (D.ledger device.old))
+        ensures step { StepsTo D.meaning command.now result
+            (side (value_of self.old) (D.ledger device.old))
             (side (value_of self.new) (D.ledger device.new)) }
         ensures tickets { length (value_of self.old).sets ≤ length (value_of self.new).sets }
         ensures freed { (ticket : ℕ) → ticket < length (value_of self.old).sets
-            → set_at (value_of self.old).sets ticket ≡ None → set_at (value_of self.new).sets ticket ≡ None }
+            → set_at (value_of self.old).sets ticket ≡ None
+            → set_at (value_of self.new).sets ticket ≡ None }
         ensures device { IsTurnedAway result → device.new ≡ device.old }
         ensures keeps { KeepsSession D.meaning (side (value_of self.old) (D.ledger device.old))
             (side (value_of self.new) (D.ledger device.new)) }
@@ -47,7 +49,8 @@ impl<L, P: Drop, S: Drop> Session<L, P, S> {
         count: u32,
     ) -> Reply
         requires ready { IsReady D.meaning (side (value_of self.old) (D.ledger device.old)) }
-        ensures step { AllocatesTo D.meaning layout count (side (value_of self.old) (D.ledger device.old))
+        ensures step { AllocatesTo D.meaning layout count
+            (side (value_of self.old) (D.ledger device.old))
             (side (value_of self.new) (D.ledger device.new)) result }
         ensures device { IsTurnedAway result → device.new ≡ device.old }
         ensures keeps { KeepsSession D.meaning (side (value_of self.old) (D.ledger device.old))
@@ -72,7 +75,8 @@ impl<L, P: Drop, S: Drop> Session<L, P, S> {
     /// Frees the sets of these tickets.
     fn free<D: DescriptorDevice<L, P, S>>(&mut self, device: &mut D, tickets: &[usize]) -> Reply
         requires ready { IsReady D.meaning (side (value_of self.old) (D.ledger device.old)) }
-        ensures step { FreesTo D.meaning tickets.now (side (value_of self.old) (D.ledger device.old))
+        ensures step { FreesTo D.meaning tickets.now
+            (side (value_of self.old) (D.ledger device.old))
             (side (value_of self.new) (D.ledger device.new)) result }
         ensures device { IsTurnedAway result → device.new ≡ device.old }
         ensures keeps { KeepsSession D.meaning (side (value_of self.old) (D.ledger device.old))
@@ -97,7 +101,8 @@ impl<L, P: Drop, S: Drop> Session<L, P, S> {
     /// Destroys the empty pools at the front of each key.
     pub(crate) fn cleanup<D: DescriptorDevice<L, P, S>>(&mut self, device: &mut D)
         requires ready { IsReady D.meaning (side (value_of self.old) (D.ledger device.old)) }
-        ensures cleans { StepsTo D.meaning Command.Cleanup Reply.Clean (side (value_of self.old) (D.ledger device.old))
+        ensures cleans { StepsTo D.meaning Command.Cleanup Reply.Clean
+            (side (value_of self.old) (D.ledger device.old))
             (side (value_of self.new) (D.ledger device.new)) }
         ensures keeps { KeepsSession D.meaning (side (value_of self.old) (D.ledger device.old))
             (side (value_of self.new) (D.ledger device.new)) }

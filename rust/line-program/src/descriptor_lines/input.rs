@@ -83,19 +83,24 @@ impl LineBuffer {
     fn take_line(&mut self) -> Result<Option<Span>, InputFault>
     {
         let start = self.start;
-        let unsearched = &self.bytes[self.searched..self.end];
-        let found = first_of(unsearched, b'\n');
-        let end = self.searched + found.unwrap_or(unsearched.len());
+        let end = start + self.line_len();
         if MAX_LINE_LEN < end - start {
             return Err(InputFault::LineTooLong);
         }
-        if found.is_none() {
-            self.searched = self.end;
+        if end == self.end {
+            self.searched = end;
             return Ok(None);
         }
         self.start = end + 1;
         self.searched = end + 1;
         Ok(Some(Span { start, end }))
+    }
+
+    /// How many bytes there are before the first end of a line, or in all.
+    fn line_len(&self) -> usize
+    {
+        let rest = &self.bytes[self.searched..self.end];
+        self.searched - self.start + first_of(rest, b'\n').unwrap_or(rest.len())
     }
 
     /// The bytes, in which no line ends, as a last line, where there are some.

@@ -51,7 +51,7 @@ loop-number-preserved g c =
       ];
       empty = c.in_default.ensures.emptied;
       answers = (_, Appends-trans _ _ _ _ _ grown c.in_default.ensures.answered, λ bytes is. (let at = stands bytes is in stands_on _ _ _ _ _ _ at _ _ _ _ (takes g c.before.before.before.before.before.before _ _ _ at) c.in_default.ensures.ok));
-      sees = c.next_line.ensures.sees c.loop-number.invariant.sees;
+      sees = c.next_line.ensures.sees;
       whole = λ _. sym c.has_lost.ensures ∙ c.if-has_lost.false;
     }
 

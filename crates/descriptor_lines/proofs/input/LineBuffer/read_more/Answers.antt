@@ -1,8 +1,7 @@
 use borrow.Rule.Slice.PartMut.{post_of}
-use Rattle.std.proofs.Common.{ℕ, List, length, length-append, length-drop, length-take-le, drop, arith, sym, ap, ◌∙◌, ◌≤◌, ◌≡◌, ◌-◌, ◌+◌, ◌++◌, take, slice_range, subst}
+use Rattle.std.proofs.Common.{ℕ, List, length, length-append, length-drop, length-take-le, drop, arith, ap, ◌∙◌, ◌≤◌, ◌≡◌, ◌-◌, ◌+◌, ◌++◌, take, slice_range, subst, sym}
 use Rattle.std.specs.declared.vec.Vec.{Vec}
 use Rattle.std.specs.Vec.{with_items}
-use Rattle.std.proofs.lemmas.Bool.Decides.{nat_tests}
 use Rattle.std.proofs.lemmas.List.{with_items_is}
 use Rattle.std.proofs.lemmas.List.Edits.{length-between}
 use Rattle.descriptor_lines.specs.Lines.{HasNoEnd}
@@ -34,7 +33,7 @@ returns-clause-kept g c =
     ∙ part_behind shown c.read.new.buf (post_of s.end (length shown - s.end) shown) s.start s.end c.in-Ok.count
     (omega arith) fits c.in-Ok.ensures.bound.0
     ∙ ap (λ l. slice_range l s.start s.end ++ got) c.deref_mut.ensures.value in
-    read_kept c.args.self.now.is_at_end _ _ _ _ _ got _ c.requires.open c.move_to_front.ensures.bytes all c.in-Ok.ensures.bytes.0 (λ none. c.in-Ok.ensures.bytes.1 (grind (arith, nat_tests, none)) (omega arith))
+    read_kept _ _ _ _ got _ c.move_to_front.ensures.bytes all c.in-Ok.ensures.bytes.0
 
 pub invariant_of-self-2-clause-unended : goal.invariant_of-self-2-clause-unended
 invariant_of-self-2-clause-unended g c =
@@ -56,4 +55,4 @@ returns-in_default-clause-kept g c =
     let shown = c.deref_mut.result.now in
     let fits : s.end ≤ length shown = omega (arith, c.deref_mut.ensures.len) in
     let same = front_stays s.bytes shown c.read.new.buf s.start s.end s.end c.deref_mut.ensures.len fits (omega arith) c.read.auto.buf ∙ ap (λ l. slice_range l s.start s.end) c.deref_mut.ensures.value in
-    read_failed_kept c.args.self.now.is_at_end s.is_at_end _ _ _ _ c.requires.open c.move_to_front.ensures.end (same ∙ c.move_to_front.ensures.bytes) c.in_default.ensures.bytes
+    read_failed_kept _ _ _ _ (same ∙ c.move_to_front.ensures.bytes) c.in_default.ensures.bytes
