@@ -1,5 +1,5 @@
 -- The texts of the output.
-use Rattle.std.specs.Prelude.{◌≤◌, ◌+◌, ◌-◌, ◌^◌, min, ℕ, List, [], ◌∷◌, ◌++◌, length, codes, String, string_bytes, string_capacity, if◌then◌else◌, ◌==◌}
+use Rattle.std.specs.Prelude.{◌≤◌, ◌+◌, ◌-◌, ◌^◌, min, ℕ, List, [], ◌++◌, length, codes, String, string_bytes, string_capacity, if◌then◌else◌, ◌==◌}
 use Rattle.std.specs.Fmt.{decimal}
 use Rattle.std.specs.List.{flat_map, zip}
 use Rattle.gpu_descriptor_types.specs.Ledger.{Counters}
@@ -10,14 +10,6 @@ use Rattle.descriptor_lines.specs.Kinds.{kind_names}
 -- n bytes may be appended to the text without an allocation
 abbrev pub HasReserveFor : {Z : Type 0} → ℕ → String Z → Type 0
 HasReserveFor more text = length (string_bytes text) + more ≤ string_capacity text
-
--- the answer of `limit`
-abbrev pub limit_answer : ℕ → List ℕ
-limit_answer max = codes "limit " ++ decimal max ++ 10 ∷ []
-
--- the answer of `layout`, with the sum of the counts
-abbrev pub layout_answer : List ℕ → ℕ → List ℕ
-layout_answer name total = codes "layout " ++ name ++ codes " total " ++ decimal total ++ 10 ∷ []
 
 -- a kind with its count, if that is not 0
 abbrev pub kind_answer : List ℕ × ℕ → List ℕ
@@ -30,16 +22,12 @@ kinds_answer counts = flat_map kind_answer (zip kind_names counts)
 
 -- the answer of `size`, with the counts of the pool
 abbrev pub size_answer : ℕ → List ℕ → List ℕ
-size_answer sets counts = codes "size " ++ decimal sets ++ kinds_answer counts ++ 10 ∷ []
-
--- the answer of `script`, with the number of its words
-abbrev pub script_answer : ℕ → List ℕ
-script_answer words = codes "script " ++ decimal words ++ 10 ∷ []
+size_answer sets counts = codes "size " ++ decimal sets ++ kinds_answer counts ++ codes "\n"
 
 -- the line of `show` for a pool of the layout of this name
 abbrev pub pool_answer : List ℕ → (number allocated available : ℕ) → List ℕ
 pool_answer name number allocated available =
-    codes "pool " ++ name ++ codes " " ++ decimal number ++ codes " " ++ decimal allocated ++ codes "/" ++ decimal available ++ 10 ∷ []
+    codes "pool " ++ name ++ codes " " ++ decimal number ++ codes " " ++ decimal allocated ++ codes "/" ++ decimal available ++ codes "\n"
 
 -- a counter as readers see it, up to the greatest `u64`
 abbrev pub shown : ℕ → ℕ
@@ -48,17 +36,17 @@ shown count = min count (2 ^ 64 - 1)
 -- the line of `show` for the calls that the device had
 abbrev pub device_answer : Counters → List ℕ
 device_answer n =
-    codes "device created " ++ decimal (shown n.created) ++ codes " destroyed " ++ decimal (shown n.destroyed) ++ codes " asked " ++ decimal (shown n.asked) ++ codes " released " ++ decimal (shown n.released) ++ 10 ∷ []
+    codes "device created " ++ decimal (shown n.created) ++ codes " destroyed " ++ decimal (shown n.destroyed) ++ codes " asked " ++ decimal (shown n.asked) ++ codes " released " ++ decimal (shown n.released) ++ codes "\n"
 
 -- the line of `show` for the live sets, and the descriptors of those that are marked
 abbrev pub held_answer : ℕ → ℕ → List ℕ
-held_answer held marked = codes "held " ++ decimal held ++ codes " marked " ++ decimal marked ++ 10 ∷ []
+held_answer held marked = codes "held " ++ decimal held ++ codes " marked " ++ decimal marked ++ codes "\n"
 
 -- the answer if an allocation to run a line failed
 abbrev pub no_memory : List ℕ
-no_memory = codes "refused: no memory" ++ 10 ∷ []
+no_memory = codes "refused: no memory\n"
 
 -- the last line of a run that ended at a fault
 abbrev pub fault_line : ℕ → Fault → List ℕ
 fault_line number fault =
-    codes "line " ++ decimal number ++ codes ": " ++ words_of_fault fault ++ 10 ∷ []
+    codes "line " ++ decimal number ++ codes ": " ++ words_of_fault fault ++ codes "\n"

@@ -1,5 +1,5 @@
 -- The layouts by name.
-use Rattle.std.specs.Prelude.{◌≡◌, ℕ, Bool, List, filter, map, length, Option, String, bytes_eq, string_bytes}
+use Rattle.std.specs.Prelude.{ℕ, Bool, List, filter, map, length, Option, String, bytes_eq, string_bytes}
 use Rattle.std.specs.Global.{Global}
 use Rattle.std.specs.List.{list_any}
 use Rattle.std.specs.Option.{option_map}
@@ -46,7 +46,3 @@ module _ (layouts : LayoutTable) where
   -- how many layouts there are
   abbrev pub layout_count : ℕ
   layout_count = length layouts.by_name.entries
-
--- the same layouts under the same names, in the same order
-abbrev pub SameLayouts : LayoutTable → LayoutTable → Type 0
-SameLayouts old new = new.by_name.entries ≡ old.by_name.entries

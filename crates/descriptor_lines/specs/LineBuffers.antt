@@ -5,10 +5,6 @@ use Rattle.descriptor_lines.specs.Lines.{after_end, before_end}
 use Rattle.descriptor_lines.specs.declared.input.LineBuffer.{LineBuffer}
 use Rattle.descriptor_lines.specs.declared.input.Span.{Span}
 
--- the greatest number of read calls of a run
-abbrev pub max_reads : ℕ
-max_reads = 100000000
-
 -- the bytes in the buffer that are in no line yet
 abbrev pub buffered : LineBuffer → List ℕ
 buffered buffer = slice_range buffer.bytes.items buffer.start buffer.end

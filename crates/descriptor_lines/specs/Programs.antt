@@ -1,5 +1,6 @@
 -- What a line does to what the lines before it made.
-use Rattle.std.specs.Prelude.{◌≡◌, ◌⊎◌, ◌≤◌, ◌++◌, ◌∷◌, [], ℕ, List, IfErr, IsOkAnd, MatchOption, IsSome, OnErr, OnOk, Option, Result, Err, length, map, nat_le, sum, true, IsTrue, IsFalse, if◌then◌else◌}
+use Rattle.std.specs.Prelude.{◌≡◌, ◌⊎◌, ◌≤◌, ◌++◌, ◌∷◌, [], ℕ, List, IfErr, IsOkAnd, MatchOption, IsSome, OnErr, OnOk, Option, Result, Err, codes, length, map, nat_le, sum, true, IsTrue, IsFalse, if◌then◌else◌}
+use Rattle.std.specs.Fmt.{decimal}
 use Rattle.gpu_descriptor_types.specs.Bounds.{greatest_u32}
 use Rattle.descriptor_script.specs.Scripted.Device.{empty_ledger}
 use Rattle.descriptor_script.specs.Scripted.Raw.{script_meaning}
@@ -8,9 +9,9 @@ use Rattle.descriptor_script.specs.Sessions.Steps.{FreesTo, IsTurnedAway, StepsT
 use Rattle.descriptor_script.specs.declared.command.Command.TheVariants as session
 use Rattle.descriptor_script.specs.declared.command.Reply.{Reply}
 use Rattle.descriptor_script.specs.declared.raw.ScriptLayout.{ScriptLayout}
-use Rattle.descriptor_lines.specs.Answers.{layout_answer, limit_answer, script_answer, size_answer}
+use Rattle.descriptor_lines.specs.Answers.{size_answer}
 use Rattle.gpu_descriptor_types.specs.PoolSize.{IsPoolSize, pool_counts}
-use Rattle.descriptor_lines.specs.LayoutTables.{SameLayouts, first_layouts, has_key, key_of, layout_count, layouts_in}
+use Rattle.descriptor_lines.specs.LayoutTables.{first_layouts, has_key, key_of, layout_count, layouts_in}
 use Rattle.descriptor_lines.specs.LineStates.{LineState}
 use Rattle.descriptor_lines.specs.Orders.{BeginsList, Order, Limit, Layout as NewLayout, Size, Script, Alloc, Free, Cleanup, Show, line_in}
 use Rattle.descriptor_lines.specs.Replies.{LineSession}
@@ -52,7 +53,7 @@ pub record IsFresh (p : LineState) : Type 0 where
 
 -- layouts, books, sets, ledger and script are as before
 pub record IsUnchanged (old new : LineState) : Type 0 where
-  pub layouts : SameLayouts old.layouts new.layouts
+  pub layouts : new.layouts.by_name.entries ≡ old.layouts.by_name.entries
   pub session : new.session ≡ old.session
   pub script : new.script ≡ old.script
 
@@ -73,7 +74,7 @@ pub record Does (Step : Reply → Side LineSession → Side LineSession → Type
   pub turned_away : IsTurnedAway reply → new.script ≡ old.script
   -- limit and layouts stay
   pub keeps : KeepsSession script_meaning old.session new.session
-  pub layouts : SameLayouts old.layouts new.layouts
+  pub layouts : new.layouts.by_name.entries ≡ old.layouts.by_name.entries
 
 -- this was done, or an allocation failed and nothing changed; and the program can run on
 pub record RunsAs {E : Type 0} (Done : List ℕ → LineState → LineState → Type 0) (result : Result Unit E) (text : List ℕ) (old new : LineState) : Type 0 where
@@ -86,13 +87,13 @@ pub record RunsAs {E : Type 0} (Done : List ℕ → LineState → LineState → 
 -- what a command does, and its answer, if no allocation fails
 abbrev pub DoesOrder : Order → List ℕ → LineState → LineState → Type 0
 DoesOrder (Limit max) text old new =
-    (new ≡ record old { session = side (new_session max) old.session.ledger }) × (text ≡ limit_answer max)
+    (new ≡ record old { session = side (new_session max) old.session.ledger }) × (text ≡ codes "limit " ++ decimal max ++ codes "\n")
 DoesOrder (NewLayout name key) text old new =
-    (layout : Layout) × (key_of layout ≡ key) × AddsLayout name layout old new × (text ≡ layout_answer name (sum key.counts))
+    (layout : Layout) × (key_of layout ≡ key) × AddsLayout name layout old new × (text ≡ codes "layout " ++ name ++ codes " total " ++ decimal (sum key.counts) ++ codes "\n")
 DoesOrder (Size counts total wanted) text old new =
     (new ≡ old) × (sets : ℕ) × IsPoolSize counts total wanted sets × (text ≡ size_answer sets (pool_counts counts sets))
 DoesOrder (Script script) text old new =
-    (new ≡ record old { script = script }) × (text ≡ script_answer (length script))
+    (new ≡ record old { script = script }) × (text ≡ codes "script " ++ decimal (length script) ++ codes "\n")
 DoesOrder (Alloc place count) text old new =
     Does (StepsTo script_meaning (session.Allocate place count)) text old new
 DoesOrder (Free tickets) text old new =

@@ -9,6 +9,7 @@ use Rattle.descriptor_script.specs.declared.command.Command.TheVariants.{Allocat
 use Rattle.descriptor_script.specs.declared.command.Reply.{Reply}
 use Rattle.descriptor_script.specs.declared.command.Reply.TheVariants.{Sets, Refused, Freed, BadTicket, BadLayout, NoMemory, Clean}
 use Rattle.descriptor_script.specs.declared.raw.RawSet.{RawSet}
+use Rattle.descriptor_lines.specs.Answers.{no_memory}
 use Rattle.descriptor_lines.specs.Replies.{pool_at}
 
 -- the runs with this pool before them: the first run is longer if it is of this pool, and else the pool begins one
@@ -52,7 +53,7 @@ module _ (slots : List (Option (DescriptorSet RawSet))) where
   text_of_reply (Freed count) = codes "freed " ++ decimal count ++ codes "\n"
   text_of_reply BadTicket = codes "bad ticket\n"
   text_of_reply BadLayout = []
-  text_of_reply NoMemory = codes "refused: no memory\n"
+  text_of_reply NoMemory = no_memory
   text_of_reply Clean = codes "clean\n"
 
 -- how many sets a command asks for

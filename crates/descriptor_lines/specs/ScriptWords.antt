@@ -21,12 +21,6 @@ abbrev pub answer_in : List ℕ → Result Answer Fault
 answer_in word =
     ok_or (find (λ answer. bytes_eq word (word_of_answer answer)) (Ok ∷ Device ∷ Host ∷ Frag ∷ Pool ∷ [])) BadAnswerWord
 
--- the answers with that of one word more
-abbrev pub with_answer : List Answer → List ℕ → Result (List Answer) Fault
-with_answer answers word = do
-  answer ← answer_in word
-  Read (answers ++ answer ∷ [])
-
 -- the answers that the words say, one after the other
 abbrev pub script_in : List (List ℕ) → Result (List Answer) Fault
-script_in words = in_turn with_answer [] words
+script_in words = in_turn (λ answers word. answer_in word >>= λ answer. Read (answers ++ answer ∷ [])) [] words

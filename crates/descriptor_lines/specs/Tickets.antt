@@ -33,10 +33,6 @@ abbrev pub joined : List ℕ → List ℕ → Result (List ℕ) Fault
 joined tickets more =
     if nat_le (length (tickets ++ more)) max_tickets then Ok (tickets ++ more) else Err TooManyTickets
 
--- the tickets with those of one word more
-abbrev pub with_word : List ℕ → List ℕ → Result (List ℕ) Fault
-with_word tickets word = tickets_of word >>= joined tickets
-
 -- the tickets that the words write, one word after the other
 abbrev pub tickets_in : List (List ℕ) → Result (List ℕ) Fault
-tickets_in words = in_turn with_word [] words
+tickets_in words = in_turn (λ tickets word. tickets_of word >>= joined tickets) [] words

@@ -17,27 +17,6 @@ use std::string::String;
 /// The answer where there was no memory to run a line.
 pub const NO_MEMORY: &str = "refused: no memory\n";
 
-/// The answer of `limit`.
-pub fn limit_answer(answer: &mut String, max: u32) -> Result<(), AllocError>
-    ensures { OnOk result (string_bytes answer.new ≡ string_bytes answer.old
-        ++ says.limit_answer max) }
-{
-    writeln!(answer, "limit {max}")
-}
-
-/// The answer of `layout`.
-pub fn layout_answer(
-    answer: &mut String,
-    name: &str,
-    counts: &DescriptorTotalCount,
-) -> Result<(), AllocError>
-    ensures { OnOk result (string_bytes answer.new ≡ string_bytes answer.old
-        ++ says.layout_answer name.now (sum (kinds counts.now))) }
-{
-    let total = counts.total();
-    writeln!(answer, "layout {name} total {total}")
-}
-
 /// The answer of `size`: the sets of a pool, and its counts that are not 0.
 pub fn size_answer(
     answer: &mut String,
@@ -73,14 +52,6 @@ fn kind_answer(answer: &mut String, name: &str, count: u32) -> Result<(), AllocE
         return Ok(());
     }
     write!(answer, " {name}={count}")
-}
-
-/// The answer of `script`, with the number of its words.
-pub fn script_answer(answer: &mut String, words: usize) -> Result<(), AllocError>
-    ensures { OnOk result (string_bytes answer.new ≡ string_bytes answer.old
-        ++ says.script_answer words) }
-{
-    writeln!(answer, "script {words}")
 }
 
 /// The line of `show` for a pool of the layout of this name.

@@ -63,7 +63,6 @@ impl LineBuffer {
     /// A buffer for a reader that may be called `reads` times.
     pub fn new(alloc: Global, reads: u32) -> Result<Self, AllocError>
         ensures empty { IfOk result (λ buffer. buffer.start ≡ buffer.end) }
-        ensures reads { IfOk result (λ buffer. buffer.reads_left ≡ reads) }
         ensures open { IfOk result (λ buffer. IsFalse buffer.is_at_end) }
     {
         Ok(LineBuffer {

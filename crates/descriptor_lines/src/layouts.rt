@@ -37,7 +37,6 @@ pub struct LayoutTable {
 impl LayoutTable {
     ghost use Rattle.descriptor_lines.specs.LayoutTables.{first_layouts, has_key, layout_count, place_named};
     ghost use Rattle.descriptor_lines.specs.LayoutTables.{layout_named, layouts_in, max_layouts};
-    ghost use Rattle.descriptor_lines.specs.LayoutTables.{SameLayouts};
     ghost use Rattle.indexmap.specs.IndexMap.{spare};
 
     pub fn new(alloc: Global) -> Self
@@ -80,7 +79,7 @@ impl LayoutTable {
     /// Reserves memory for one more layout.
     pub fn reserve(&mut self) -> Result<(), AllocError>
         ensures reserve { OnOk result (0 < spare self.new.by_name) }
-        ensures same { SameLayouts self.old self.new }
+        ensures same { self.new.by_name.entries ≡ self.old.by_name.entries }
     {
         self.by_name.reserve(1)
     }

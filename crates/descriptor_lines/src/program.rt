@@ -6,7 +6,7 @@ ghost use Rattle.std.specs.Prelude.{string_bytes};
 ghost use Rattle.std.specs.Io.KnownBytes.{Appends, IsAtEnd};
 ghost use Rattle.descriptor_script.specs.Scripted.Device.{empty_ledger};
 ghost use Rattle.descriptor_lines.specs.Outcomes.{EndsInFault};
-ghost use Rattle.descriptor_lines.specs.LineBuffers.{max_reads, unread};
+ghost use Rattle.descriptor_lines.specs.LineBuffers.{unread};
 ghost use Rattle.descriptor_lines.specs.LineStates.{line_state};
 ghost use Rattle.descriptor_lines.specs.Lines.{lines_of};
 ghost use Rattle.descriptor_lines.specs.Orders.{line_in};
@@ -104,7 +104,6 @@ fn run_to_end<D: LineDevice, R: Read, W: Write>(
 ) -> Exit
     requires can { CanAnswer (string_bytes answer.old) (line_state D.ledger D.script program.old) }
     requires open { IsFalse lines.old.is_at_end }
-    requires reads { lines.old.reads_left ≡ max_reads }
     ensures writes { (bytes : List ℕ) → unread lines.old (R.remaining input.old) ≡ Some bytes
         → (said : List ℕ) × Appends (W.contents output.old) (W.contents output.new) said
         × Says result 1 (lines_of bytes) said (line_state D.ledger D.script program.old)

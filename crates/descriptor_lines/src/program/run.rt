@@ -60,7 +60,7 @@ impl<D: LineDevice> Program<D> {
         ensures runs { RunsAs (DoesOrder (Limit max)) result (string_bytes answer.new)
             (line_state D.ledger D.script self.old) (line_state D.ledger D.script self.new) }
     {
-        answer::limit_answer(answer, max)?;
+        writeln!(answer, "limit {max}")?;
         self.session = Session::new(self.alloc, max);
         Ok(())
     }
@@ -79,7 +79,8 @@ impl<D: LineDevice> Program<D> {
             (string_bytes answer.new) (line_state D.ledger D.script self.old)
             (line_state D.ledger D.script self.new) }
     {
-        answer::layout_answer(answer, name, &layout.counts)?;
+        let total = layout.counts.total();
+        writeln!(answer, "layout {name} total {total}")?;
         let name = self.layouts.kept_name(name)?;
         self.layouts.reserve()?;
         let Layout { counts, mark } = layout;
@@ -99,7 +100,8 @@ impl<D: LineDevice> Program<D> {
         ensures runs { RunsAs (DoesOrder (Script script.items)) result (string_bytes answer.new)
             (line_state D.ledger D.script self.old) (line_state D.ledger D.script self.new) }
     {
-        answer::script_answer(answer, script.len())?;
+        let words = script.len();
+        writeln!(answer, "script {words}")?;
         self.device.load(script);
         Ok(())
     }

@@ -1,11 +1,9 @@
-use Rattle.std.proofs.Common.{◌∷◌, ◌++◌, [], sum, ap, refl, sym, ◌∙◌, rules}
+use Rattle.std.proofs.Common.{append_assoc, ◌∷◌, ◌++◌, [], ap, refl, sym, ◌∙◌, rules}
 use Rattle.std.proofs.lemmas.List.{map-append}
 use Rattle.std.proofs.lemmas.List.Elements.{All-push}
 use Rattle.gpu_descriptor.specs.Caller.SetLayouts.{IsMeant}
 use Rattle.descriptor_script.specs.Scripted.Raw.{script_meaning}
 use Rattle.descriptor_script.specs.Sessions.Session.{value_of}
-use Rattle.gpu_descriptor_types.specs.Counts.{kinds}
-use Rattle.descriptor_lines.specs.Answers.{layout_answer}
 use Rattle.descriptor_lines.specs.LayoutTables.{layouts_in}
 use Rattle.descriptor_lines.specs.Programs.{scripted}
 use Rattle.descriptor_lines.proofs.SessionLemmas.{same_is_ready}
@@ -16,7 +14,7 @@ returns-in-Ok g c =
     let old = c.requires.can.ready in
     record {
       runs = record {
-        done = (c.args.layout, refl, search rules, c.in_ok-layout_answer.ensures ∙ ap (λ text. text ++ layout_answer c.args.name.now (sum (kinds c.args.layout.counts))) c.requires.can.empty);
+        done = (c.args.layout, refl, search rules, search (rules, append_assoc));
         err = tt;
         ready = record {
           ready = rw c.in-Ok.ensures.last (same_is_ready (value_of c.args.self.now.session) _ _ old.ready (All-push (IsMeant script_meaning) (value_of c.args.self.now.session).layouts _ old.ready.meant (record { counted = refl; marked = c.flags.ensures })));

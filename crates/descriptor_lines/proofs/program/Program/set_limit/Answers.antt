@@ -1,12 +1,11 @@
-use Rattle.std.proofs.Common.{◌++◌, ap, refl, ◌∙◌, rules}
-use Rattle.descriptor_lines.specs.Answers.{limit_answer}
+use Rattle.std.proofs.Common.{append_assoc, ap, refl, rules}
 use Rattle.descriptor_lines.proofs.SessionLemmas.{new_is_ready, none_in}
 use Rattle.descriptor_lines.proofs.program.Program.set_limit.Goals as goal
 
 pub returns : goal.returns
 returns g c = record {
   runs = record {
-    done = (search rules, c.in_ok-limit_answer.ensures ∙ ap (λ text. text ++ limit_answer c.args.max) c.requires.can.empty);
+    done = (search rules, search (rules, append_assoc));
     err = tt;
     ready = record {
       ready = rw c.new.ensures.value (new_is_ready _ _);
