@@ -1,7 +1,7 @@
 //! The sets that are freed when the device is done with a frame.
 ghost use Rattle.std.specs.Prelude.{◌≡◌};
 ghost use Rattle.std.specs.Iterator.{item_count};
-ghost use Rattle.descriptor_frames.specs.Inner.Due.{TakesDue, waiting};
+ghost use Rattle.descriptor_frames.specs.Inner.Due.{TakesDue};
 
 use crate::retired::Retired;
 use gpu_descriptor::DescriptorSet;
@@ -20,7 +20,7 @@ impl<S> Iterator for Due<'_, S> {
 
     ghost next_gives = { TakesDue };
 
-    ghost remaining = { item_count waiting };
+    ghost remaining = { item_count (λ s. s.retired.now.items) };
 
     fn next(&mut self) -> Option<DescriptorSet<S>> {
         if self.retired.front()?.frame > self.frame {

@@ -1,6 +1,6 @@
 -- The texts of replies, and how long they are: for `reply_answer`, `sets_answer` and the loop of `stretches_answer`.
 -- A *stretch* is neighbours that are one pool: `n` of `pool` so far, up to `ticket`, of tickets up to `end`.
-use Rattle.std.proofs.Common.{◌≡◌, ◌≢◌, ℕ, zero, suc, ◌+◌, ◌-◌, ◌<◌, ◌≤◌, ◌^◌, ◌⊎◌, inl, inr, List, [], ◌∷◌, ◌++◌, length, replicate, codes, Option, append-nil, append_assoc, length-append, refl, sym, ap, ◌∙◌, arith}
+use Rattle.std.proofs.Common.{◌≡◌, ◌≢◌, ℕ, zero, suc, ◌+◌, ◌-◌, ◌<◌, ◌≤◌, ◌^◌, ◌⊎◌, inl, inr, List, [], ◌∷◌, ◌++◌, length, replicate, Option, append-nil, append_assoc, length-append, refl, sym, ap, ◌∙◌, arith}
 use Rattle.std.specs.Fmt.{decimal}
 use Rattle.std.specs.List.{flat_map}
 use Rattle.std.proofs.lemmas.Bool.{cases_lt}
@@ -10,7 +10,7 @@ use Rattle.std.proofs.lemmas.List.{replicate_more}
 use Rattle.gpu_descriptor.specs.declared.set.DescriptorSet.{DescriptorSet}
 use Rattle.descriptor_script.specs.declared.raw.RawSet.{RawSet}
 use Rattle.descriptor_lines.specs.Replies.{pool_at}
-use Rattle.descriptor_lines.specs.ReplyTexts.{pools_from, range_text, run_before, sets_text, stretch_text, stretches, stretches_text}
+use Rattle.descriptor_lines.specs.ReplyTexts.{pools_from, range_text, run_before, stretch_text, stretches, stretches_text}
 
 -- ---- stretches
 
@@ -70,14 +70,6 @@ module _ (slots : List (Option (DescriptorSet RawSet))) (ticket end : ℕ) where
   -- no ticket is left
   pub stretch_is_last : (pool n : ℕ) → end ≤ ticket → 0 < n → stretch_text (pool, n) ≡ stretches_text (replicate n pool ++ pools_from slots ticket (end - ticket))
   stretch_is_last pool n done some = sym (stretch_last pool n some) ∙ ap (λ l. stretches_text (replicate n pool ++ l)) (sym (no_pool done))
-
--- the answer to a request for some sets, part by part
-pub text_of_some : (slots : List (Option (DescriptorSet RawSet))) (first count : ℕ) → 0 < count
-    → sets_text slots first count ≡ range_text first (first + count - 1) ++ stretches_text (pools_from slots first count) ++ codes "\n"
-text_of_some slots first zero some = absurd (omega arith)
-text_of_some slots first (suc more) some =
-    let last : first + more ≡ first + suc more - 1 = omega arith in
-    ap (λ l. range_text first l ++ stretches_text (pools_from slots first (suc more)) ++ codes "\n") last
 
 -- ---- lengths
 

@@ -8,7 +8,6 @@ use Rattle.descriptor_script.specs.Sessions.Session.{IsReady, KeepsSession, new_
 use Rattle.descriptor_script.specs.Sessions.Steps.{FreesTo, IsTurnedAway, StepsTo}
 use Rattle.descriptor_script.specs.declared.command.Command.TheVariants as session
 use Rattle.descriptor_script.specs.declared.command.Reply.{Reply}
-use Rattle.descriptor_script.specs.declared.raw.ScriptLayout.{ScriptLayout}
 use Rattle.descriptor_lines.specs.Answers.{size_answer}
 use Rattle.gpu_descriptor_types.specs.PoolSize.{IsPoolSize, pool_counts}
 use Rattle.descriptor_lines.specs.LayoutTables.{first_layouts, has_key, key_of, layout_count, layouts_in}
@@ -26,16 +25,12 @@ use Rattle.descriptor_lines.specs.declared.words.fault.Refusal.TheVariants as re
 use Rattle.descriptor_lines.specs.declared.layouts.Layout.{Layout}
 use Rattle.gpu_descriptor_types.specs.Side.{Side, side}
 
--- the layout that the device sees
-abbrev pub scripted : Layout → ScriptLayout
-scripted layout = record { counts = layout.counts; mark = layout.mark }
-
 -- the program can run a line
 pub record CanRun (p : LineState) : Type 0 where
   -- the session can make a step on the device
   pub ready : IsReady script_meaning p.session
   -- the session has the layouts of the lines, in their order
-  pub layouts : map (λ k. k.layout) p.session.value.layouts ≡ map (λ l. scripted l.1) (layouts_in p.layouts)
+  pub layouts : map (λ k. k.layout) p.session.value.layouts ≡ map (λ l. record { counts = l.1.counts; mark = l.1.mark }) (layouts_in p.layouts)
   -- before the first command there is no layout
   pub fresh : IsFalse p.has_begun → layout_count p.layouts ≡ 0
 

@@ -1,5 +1,5 @@
 -- What the program answers to a reply of its session.
-use Rattle.std.specs.Prelude.{ℕ, zero, suc, ◌+◌, ◌*◌, ◌==◌, if◌then◌else◌, List, [], ◌∷◌, ◌++◌, map, codes, Option}
+use Rattle.std.specs.Prelude.{ℕ, suc, ◌+◌, ◌*◌, ◌==◌, if◌then◌else◌, List, [], ◌∷◌, ◌++◌, map, codes, Option, ◌-◌}
 use Rattle.std.specs.Fmt.{decimal}
 use Rattle.std.specs.List.{flat_map, range_with_len}
 use Rattle.gpu_descriptor.specs.Caller.Errors.{error_text}
@@ -42,9 +42,8 @@ module _ (slots : List (Option (DescriptorSet RawSet))) where
 
   -- the answer to a request for this many sets, which have the tickets from the first up
   abbrev pub sets_text : ℕ → ℕ → List ℕ
-  sets_text first zero = codes "sets none\n"
-  sets_text first (suc more) =
-      range_text first (first + more) ++ stretches_text (pools_from first (suc more)) ++ codes "\n"
+  sets_text first count =
+      if count == 0 then codes "sets none\n" else range_text first (first + count - 1) ++ stretches_text (pools_from first count) ++ codes "\n"
 
   -- the answer to a reply, if these are the sets afterwards. A layout that isn't there has none
   abbrev pub text_of_reply : Reply → List ℕ

@@ -16,7 +16,6 @@ use Rattle.gpu_descriptor.specs.Caller.Sets.{item_of, items_of}
 use Rattle.gpu_descriptor.specs.declared.set.DescriptorSet.{DescriptorSet}
 use Rattle.descriptor_script.specs.Sessions.Session.{AreAllHeld}
 use Rattle.std.specs.Slice.Iter.{iter_rest}
-use Rattle.descriptor_script.specs.Inner.Slots.{slots_of}
 use Rattle.descriptor_script.specs.Inner.Taking.{TakesNext}
 use Rattle.descriptor_script.specs.Sessions.Tickets.{AreHeldOnce, emptied, held_sets, set_at}
 use Rattle.descriptor_script.specs.declared.taking.Taking.{Taking}
@@ -131,36 +130,36 @@ module _ {X : Type 0} where
 
 module _ {S : Type 0} where
   -- what was taken and what is held make up what was held
-  pub taken_from : (f : DescriptorSet S → ℕ) (xs : List (DescriptorSet S)) (s t : Taking S) → Yields TakesNext s xs t → tally f xs + tally f (held_sets (slots_of t.slots)) ≡ tally f (held_sets (slots_of s.slots))
-  taken_from f [] s t y = let same = ap (λ (u : Taking S). tally f (held_sets (slots_of u.slots))) y in omega arith
+  pub taken_from : (f : DescriptorSet S → ℕ) (xs : List (DescriptorSet S)) (s t : Taking S) → Yields TakesNext s xs t → tally f xs + tally f (held_sets t.slots.sets.items) ≡ tally f (held_sets s.slots.sets.items)
+  taken_from f [] s t y = let same = ap (λ (u : Taking S). tally f (held_sets u.slots.sets.items)) y in omega arith
   taken_from f (x ∷ xs) s t y =
       let next = taken_from f xs y.0 t y.2 in
-      let less = held_less f (slots_of s.slots) y.1.0 x y.1.2 in
+      let less = held_less f s.slots.sets.items y.1.0 x y.1.2 in
       let left = ap (λ l. tally f (held_sets l)) y.1.3 in
       omega arith
 
-  pub fewer_held : (xs : List (DescriptorSet S)) (s t : Taking S) → Yields TakesNext s xs t → length (held_sets (slots_of t.slots)) + length xs ≡ length (held_sets (slots_of s.slots))
+  pub fewer_held : (xs : List (DescriptorSet S)) (s t : Taking S) → Yields TakesNext s xs t → length (held_sets t.slots.sets.items) + length xs ≡ length (held_sets s.slots.sets.items)
   fewer_held xs s t y =
       let all = taken_from (λ _. 1) xs s t y in
       let a = tally-length xs in
-      let b = tally-length (held_sets (slots_of t.slots)) in
-      let c = tally-length (held_sets (slots_of s.slots)) in
+      let b = tally-length (held_sets t.slots.sets.items) in
+      let c = tally-length (held_sets s.slots.sets.items) in
       omega arith
 
   -- the set of each ticket came
-  pub each_taken : (xs : List (DescriptorSet S)) (s t : Taking S) → Yields TakesNext s xs t → iter_rest t.tickets ≡ [] → map Some xs ≡ map (set_at (slots_of s.slots)) (iter_rest s.tickets)
-  each_taken [] s t y none = sym (ap (map (set_at (slots_of s.slots))) (ap (λ (u : Taking S). iter_rest u.tickets) y ∙ none))
+  pub each_taken : (xs : List (DescriptorSet S)) (s t : Taking S) → Yields TakesNext s xs t → iter_rest t.tickets ≡ [] → map Some xs ≡ map (set_at s.slots.sets.items) (iter_rest s.tickets)
+  each_taken [] s t y none = sym (ap (map (set_at s.slots.sets.items)) (ap (λ (u : Taking S). iter_rest u.tickets) y ∙ none))
   each_taken (x ∷ xs) s t y none =
       let n = y.1.0 in
       let rest = each_taken xs y.0 t y.2 none ∙ ap (λ l. map (set_at l) (iter_rest y.0.tickets)) y.1.3 in
-      let same = still_each (slots_of s.slots) n xs (iter_rest y.0.tickets) rest in
-      ap (λ o. o ∷ map Some xs) (sym y.1.2) ∙ ap (λ l. set_at (slots_of s.slots) n ∷ l) same ∙ sym (ap (map (set_at (slots_of s.slots))) y.1.1)
+      let same = still_each s.slots.sets.items n xs (iter_rest y.0.tickets) rest in
+      ap (λ o. o ∷ map Some xs) (sym y.1.2) ∙ ap (λ l. set_at s.slots.sets.items n ∷ l) same ∙ sym (ap (map (set_at s.slots.sets.items)) y.1.1)
 
   -- the slots of the tickets are empty
-  pub all_emptied : (xs : List (DescriptorSet S)) (s t : Taking S) → Yields TakesNext s xs t → iter_rest t.tickets ≡ [] → slots_of t.slots ≡ emptied (slots_of s.slots) (iter_rest s.tickets)
-  all_emptied [] s t y none = ap (λ (u : Taking S). slots_of u.slots) (sym y) ∙ sym (ap (emptied (slots_of s.slots)) (ap (λ (u : Taking S). iter_rest u.tickets) y ∙ none))
+  pub all_emptied : (xs : List (DescriptorSet S)) (s t : Taking S) → Yields TakesNext s xs t → iter_rest t.tickets ≡ [] → t.slots.sets.items ≡ emptied s.slots.sets.items (iter_rest s.tickets)
+  all_emptied [] s t y none = ap (λ (u : Taking S). u.slots.sets.items) (sym y) ∙ sym (ap (emptied s.slots.sets.items) (ap (λ (u : Taking S). iter_rest u.tickets) y ∙ none))
   all_emptied (x ∷ xs) s t y none =
-      all_emptied xs y.0 t y.2 none ∙ ap (λ l. emptied l (iter_rest y.0.tickets)) y.1.3 ∙ sym (ap (emptied (slots_of s.slots)) y.1.1)
+      all_emptied xs y.0 t y.2 none ∙ ap (λ l. emptied l (iter_rest y.0.tickets)) y.1.3 ∙ sym (ap (emptied s.slots.sets.items) y.1.1)
 
   -- how often an item is among sets, as a tally
   tally-items : (name : S → ℕ) (i : Item) (xs : List (DescriptorSet S)) → tally (λ x. count_of i (item_of name x ∷ [])) xs ≡ count_of i (items_of name xs)
@@ -168,16 +167,16 @@ module _ {S : Type 0} where
   tally-items name i (x ∷ xs) = ap (λ n. count_of i (item_of name x ∷ []) + n) (tally-items name i xs) ∙ sym (count_by-append (λ j. item_eq j i) (item_of name x ∷ []) (items_of name xs))
 
   -- what was taken and what is held are, item by item, what was held
-  counted : (name : S → ℕ) (i : Item) (xs : List (DescriptorSet S)) (s t : Taking S) → Yields TakesNext s xs t → count_of i (items_of name xs) + count_of i (items_of name (held_sets (slots_of t.slots))) ≡ count_of i (items_of name (held_sets (slots_of s.slots)))
+  counted : (name : S → ℕ) (i : Item) (xs : List (DescriptorSet S)) (s t : Taking S) → Yields TakesNext s xs t → count_of i (items_of name xs) + count_of i (items_of name (held_sets t.slots.sets.items)) ≡ count_of i (items_of name (held_sets s.slots.sets.items))
   counted name i xs s t y =
       let all = taken_from (λ x. count_of i (item_of name x ∷ [])) xs s t y in
       let a = tally-items name i xs in
-      let b = tally-items name i (held_sets (slots_of t.slots)) in
-      let c = tally-items name i (held_sets (slots_of s.slots)) in
+      let b = tally-items name i (held_sets t.slots.sets.items) in
+      let c = tally-items name i (held_sets s.slots.sets.items) in
       omega arith
 
   -- what comes is outstanding
-  pub all_out : (name : S → ℕ) (s : Taking S) (state : State) → AreAllHeld name (slots_of s.slots) state → HoldsAlong TakesNext s (λ xs. AreOutstanding (items_of name xs) state)
+  pub all_out : (name : S → ℕ) (s : Taking S) (state : State) → AreAllHeld name s.slots.sets.items state → HoldsAlong TakesNext s (λ xs. AreOutstanding (items_of name xs) state)
   all_out name s state held xs t y i =
       let all = counted name i xs s t y in
       let h = held i in
@@ -193,7 +192,7 @@ module _ {S : Type 0} where
       omega arith
 
   -- what went back is held no longer
-  pub all_held_less : (name : S → ℕ) (xs : List (DescriptorSet S)) (s t : Taking S) (old new : State) → AreAllHeld name (slots_of s.slots) old → Yields TakesNext s xs t → AreOutBesides (items_of name xs) new old → AreAllHeld name (slots_of t.slots) new
+  pub all_held_less : (name : S → ℕ) (xs : List (DescriptorSet S)) (s t : Taking S) (old new : State) → AreAllHeld name s.slots.sets.items old → Yields TakesNext s xs t → AreOutBesides (items_of name xs) new old → AreAllHeld name t.slots.sets.items new
   all_held_less name xs s t old new held y less i =
       let back = less i in
       let all = counted name i xs s t y in

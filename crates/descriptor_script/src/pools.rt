@@ -8,7 +8,7 @@ ghost use Rattle.gpu_descriptor_types.specs.Flags.{bits};
 ghost use Rattle.gpu_descriptor_types.specs.Layouts.{layout, left};
 ghost use Rattle.gpu_descriptor_types.specs.Ledger.{fresh as fresh_pool, on_pool, pool_refusals};
 ghost use Rattle.descriptor_script.specs.Scripted.Raw.{raw_sets, set_id};
-ghost use Rattle.descriptor_script.specs.Inner.Table.{PoolsAreBelow, SetsAreBelow};
+ghost use Rattle.descriptor_script.specs.Inner.Table.{pools_in, PoolsAreBelow, SetsAreBelow};
 
 use crate::live::{LivePool, fill, take_back};
 use crate::raw::{RawSet, ScriptLayout};
@@ -34,14 +34,14 @@ pub struct Pools {
 }
 
 impl Pools {
-    ghost use Rattle.descriptor_script.specs.Inner.Pools.{next_names, owed, pools_of};
+    ghost use Rattle.descriptor_script.specs.Inner.Pools.{next_names, owed};
     ghost use Rattle.gpu_descriptor_types.specs.Ledger.{AreLive, CanDrain, Counters, live_sets};
     ghost use Rattle.gpu_descriptor_types.specs.Ledger.{Releases, no_rise};
     ghost use Rattle.gpu_descriptor_types.specs.Multiset.{times};
 
     /// No pool is live, and these names of a pool and of a set come next.
     pub fn with_names(alloc: Global, next_pool: u64, next_set: u64) -> Self
-        ensures pools { pools_of result ≡ (λ _. None) }
+        ensures pools { pools_in result.live ≡ (λ _. None) }
         ensures names { next_names result ≡ record { pools = next_pool; sets = next_set } }
     {
         Pools {
@@ -61,12 +61,13 @@ impl Pools {
     ) -> Result<u64, Exhausted>
         ensures name { IfOk result (λ name. name ≡ (next_names self.old).pools) }
         ensures in_range { IfOk result (λ name. name < 2 ^ 64 - 1) }
-        ensures new_name { IfOk result (λ name. pools_of self.old name ≡ None) }
-        ensures ok { IfOk result (λ name. pools_of self.new ≡ update nat_eq (pools_of self.old) name
+        ensures new_name { IfOk result (λ name. pools_in self.old.live name ≡ None) }
+        ensures ok { IfOk result (λ name. pools_in self.new.live
+            ≡ update nat_eq (pools_in self.old.live) name
             (Some (fresh_pool (kinds counts.now) max_sets (bits flags)))) }
         ensures names { OnOk result (next_names self.new ≡ record (next_names self.old)
             { pools = (next_names self.old).pools + 1 }) }
-        ensures err { OnErr result (pools_of self.new ≡ pools_of self.old) }
+        ensures err { OnErr result (pools_in self.new.live ≡ pools_in self.old.live) }
         ensures unnamed { OnErr result (next_names self.new ≡ next_names self.old) }
     {
         let name = self.next_pool;
@@ -91,7 +92,7 @@ impl Pools {
 
     /// Drops a pool.
     pub fn destroy(&mut self, pool: u64)
-        ensures pools { pools_of self.new ≡ update nat_eq (pools_of self.old) pool None }
+        ensures pools { pools_in self.new.live ≡ update nat_eq (pools_in self.old.live) pool None }
         ensures names { next_names self.new ≡ next_names self.old }
     {
         self.live.swap_remove(&pool);
@@ -99,8 +100,8 @@ impl Pools {
 
     /// Counts an alloc that was refused, if it was the pool that refused.
     pub fn refuse(&mut self, pool: u64, error: DeviceAllocationError)
-        ensures pools { pools_of self.new ≡ on_pool pool
-            (λ p. record p { refusals = p.refusals + pool_refusals error }) (pools_of self.old) }
+        ensures pools { pools_in self.new.live ≡ on_pool pool
+            (λ p. record p { refusals = p.refusals + pool_refusals error }) (pools_in self.old.live) }
         ensures names { next_names self.new ≡ next_names self.old }
     {
         match error {
@@ -112,8 +113,8 @@ impl Pools {
     }
 
     fn count_refusal(&mut self, pool: u64)
-        ensures pools { pools_of self.new ≡ on_pool pool
-            (λ p. record p { refusals = p.refusals + 1 }) (pools_of self.old) }
+        ensures pools { pools_in self.new.live ≡ on_pool pool
+            (λ p. record p { refusals = p.refusals + 1 }) (pools_in self.old.live) }
         ensures names { next_names self.new ≡ next_names self.old }
     {
         if let Some(live) = self.live.get_mut(&pool) {
@@ -128,14 +129,14 @@ impl Pools {
         layouts: Layouts<'_, ScriptLayout>,
         sink: &mut K,
     ) -> Result<(), Exhausted>
-        requires live { IsSome (pools_of self.old pool) }
+        requires live { IsSome (pools_in self.old.live pool) }
         requires room { left layouts ≤ K.sink.room sink.old }
-        ensures pools { OnOk result (pools_of self.new ≡ on_pool pool (λ p.
+        ensures pools { OnOk result (pools_in self.new.live ≡ on_pool pool (λ p.
             record p {
               live = λ x. p.live x + times (live_sets (kinds (layout layouts.entry).counts)
                   (map set_id (raw_sets pool (next_names self.old).sets (left layouts.entry)))) x;
             })
-            (pools_of self.old)) }
+            (pools_in self.old.live)) }
         ensures names { OnOk result (next_names self.new ≡ record (next_names self.old)
             { sets = (next_names self.old).sets + left layouts.entry }) }
         ensures in_range { OnOk result ((next_names self.old).sets + left layouts.entry < 2 ^ 64) }
@@ -149,7 +150,7 @@ impl Pools {
             ≡ K.sink.room sink.old) }
 
         // Without names or memory nothing is done.
-        ensures err { OnErr result (pools_of self.new ≡ pools_of self.old) }
+        ensures err { OnErr result (pools_in self.new.live ≡ pools_in self.old.live) }
         ensures unnamed { OnErr result (next_names self.new ≡ next_names self.old) }
         ensures err_sink { OnErr result (sink.new ≡ sink.old) }
     {

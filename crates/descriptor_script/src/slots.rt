@@ -27,11 +27,11 @@ pub(crate) struct Slots<S> {
 }
 
 impl<S> Slots<S> {
-    ghost use Rattle.descriptor_script.specs.Inner.Slots.{HasSpareSlots, slots_of};
+    ghost use Rattle.descriptor_script.specs.Inner.Slots.{HasSpareSlots};
 
     /// No ticket was given. It allocates no memory.
     pub(crate) fn new(alloc: Global) -> Self
-        ensures { slots_of result ≡ [] }
+        ensures { result.sets.items ≡ [] }
     {
         Slots {
             alloc,
@@ -43,7 +43,7 @@ impl<S> Slots<S> {
 
     /// The set of a ticket.
     pub(crate) fn get(&self, ticket: usize) -> Option<&DescriptorSet<S>>
-        ensures { option_copied result ≡ set_at (slots_of self.now) ticket }
+        ensures { option_copied result ≡ set_at self.now.sets.items ticket }
     {
         match self.sets.get(ticket) {
             Some(slot) => slot.as_ref(),
@@ -53,14 +53,14 @@ impl<S> Slots<S> {
 
     /// How many slots have a set.
     pub(crate) fn held(&self) -> u64
-        ensures { result ≡ length (held_sets (slots_of self.now)) }
+        ensures { result ≡ length (held_sets self.now.sets.items) }
     {
         self.held
     }
 
     /// The next ticket.
     pub(crate) fn next(&self) -> usize
-        ensures { result ≡ length (slots_of self.now) }
+        ensures { result ≡ length self.now.sets.items }
     {
         self.sets.len()
     }
@@ -69,7 +69,7 @@ impl<S> Slots<S> {
     pub(crate) fn reserve(&mut self, count: u32) -> Result<(), AllocError>
         ensures reserve { OnOk result (HasSpareSlots count self.new) }
         ensures some { OnErr result (0 < count) }
-        ensures sets { slots_of self.new ≡ slots_of self.old }
+        ensures sets { self.new.sets.items ≡ self.old.sets.items }
     {
         self.sets.reserve(count as usize)?;
         self.listed.reserve(count as usize)
@@ -80,7 +80,7 @@ impl<S> Slots<S> {
     where
         S: Drop,
         requires { HasSpareSlots (length sets.items) self.old }
-        ensures { slots_of self.new ≡ slots_of self.old ++ map Some sets.items }
+        ensures { self.new.sets.items ≡ self.old.sets.items ++ map Some sets.items }
     {
         for set in sets {
             self.push(set);
@@ -90,7 +90,7 @@ impl<S> Slots<S> {
     /// Puts a set under the next ticket, over memory that was reserved.
     fn push(&mut self, set: DescriptorSet<S>)
         requires { HasSpareSlots 1 self.old }
-        ensures sets { slots_of self.new ≡ slots_of self.old ++ Some set ∷ [] }
+        ensures sets { self.new.sets.items ≡ self.old.sets.items ++ Some set ∷ [] }
         ensures reserve { (vec_len self.new.sets ≡ vec_len self.old.sets + 1)
             × (vec_capacity self.new.sets ≡ vec_capacity self.old.sets) }
         ensures marks { (vec_len self.new.listed ≡ vec_len self.old.listed + 1)
@@ -103,9 +103,9 @@ impl<S> Slots<S> {
 
     /// Takes the set of a ticket out of its slot.
     pub(crate) fn take(&mut self, ticket: usize) -> Option<DescriptorSet<S>>
-        requires { IsSome (set_at (slots_of self.old) ticket) }
-        ensures set { result ≡ set_at (slots_of self.old) ticket }
-        ensures sets { slots_of self.new ≡ slice_set (slots_of self.old) ticket None }
+        requires { IsSome (set_at self.old.sets.items ticket) }
+        ensures set { result ≡ set_at self.old.sets.items ticket }
+        ensures sets { self.new.sets.items ≡ slice_set self.old.sets.items ticket None }
     {
         let set = self.sets[ticket].take();
         self.held -= 1;
@@ -114,8 +114,8 @@ impl<S> Slots<S> {
 
     /// Whether each ticket of the list has a set, and none is there twice.
     pub(crate) fn are_held_once(&mut self, tickets: &[usize]) -> bool
-        ensures answer { IsTrue result ↔ AreHeldOnce (slots_of self.old) tickets.now }
-        ensures sets { slots_of self.new ≡ slots_of self.old }
+        ensures answer { IsTrue result ↔ AreHeldOnce self.old.sets.items tickets.now }
+        ensures sets { self.new.sets.items ≡ self.old.sets.items }
     {
         let good = mark_each(&self.sets, &mut self.listed, tickets);
         clear_each(&mut self.listed, tickets);

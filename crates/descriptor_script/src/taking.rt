@@ -15,13 +15,12 @@ pub(crate) struct Taking<'a, S> {
 
 impl<S: Drop> Iterator for Taking<'_, S> {
     ghost use Rattle.std.specs.Slice.Iter.{iter_rest};
-    ghost use Rattle.descriptor_script.specs.Inner.Slots.{slots_of};
     ghost use Rattle.descriptor_script.specs.Inner.Taking.{TakesNext};
     ghost use Rattle.descriptor_script.specs.Sessions.Tickets.{AreHeldOnce};
 
     type Item = DescriptorSet<S>;
 
-    ghost can_next = { λ s. AreHeldOnce (slots_of s.slots) (iter_rest s.tickets) };
+    ghost can_next = { λ s. AreHeldOnce s.slots.sets.items (iter_rest s.tickets) };
 
     ghost next_gives = { TakesNext };
 

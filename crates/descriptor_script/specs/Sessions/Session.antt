@@ -10,7 +10,6 @@ use Rattle.gpu_descriptor.specs.Caller.Sets.{items_of}
 use Rattle.gpu_descriptor.specs.Caller.Values.{Allocations, without_keys}
 use Rattle.gpu_descriptor.specs.declared.layout.SetLayout.{SetLayout}
 use Rattle.gpu_descriptor.specs.declared.set.DescriptorSet.{DescriptorSet}
-use Rattle.descriptor_script.specs.Inner.Slots.{slots_of}
 use Rattle.descriptor_script.specs.Sessions.Tickets.{held_sets}
 use Rattle.descriptor_script.specs.declared.session.Session.{Session}
 
@@ -23,7 +22,7 @@ pub record SessionValue (L P S : Type 0) : Type 0 where
   pub sets : List (Option (DescriptorSet S))
 
 abbrev pub value_of : {L P S : Type 0} → Session L P S → SessionValue L P S
-value_of s = record { allocator = s.allocator; layouts = s.layouts.items; sets = slots_of s.slots }
+value_of s = record { allocator = s.allocator; layouts = s.layouts.items; sets = s.slots.sets.items }
 
 -- a session without layouts and sets, whose allocator has this limit
 abbrev pub new_session : {L P S : Type 0} → ℕ → SessionValue L P S

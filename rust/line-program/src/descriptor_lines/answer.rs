@@ -15,23 +15,6 @@ use crate::kit::string::String;
 /// The answer where there was no memory to run a line.
 pub const NO_MEMORY: &str = "refused: no memory\n";
 
-/// The answer of `limit`.
-pub fn limit_answer(answer: &mut String, max: u32) -> Result<(), AllocError>
-{
-    writeln!(answer, "limit {max}")
-}
-
-/// The answer of `layout`.
-pub fn layout_answer(
-    answer: &mut String,
-    name: &str,
-    counts: &DescriptorTotalCount,
-) -> Result<(), AllocError>
-{
-    let total = counts.total_u64();
-    writeln!(answer, "layout {name} total {total}")
-}
-
 /// The answer of `size`: the sets of a pool, and its counts that are not 0.
 pub fn size_answer(
     answer: &mut String,
@@ -61,12 +44,6 @@ fn kind_answer(answer: &mut String, name: &str, count: u32) -> Result<(), AllocE
         return Ok(());
     }
     write!(answer, " {name}={count}")
-}
-
-/// The answer of `script`, with the number of its words.
-pub fn script_answer(answer: &mut String, words: usize) -> Result<(), AllocError>
-{
-    writeln!(answer, "script {words}")
 }
 
 /// The line of `show` for a pool of the layout of this name.

@@ -44,7 +44,7 @@ impl<D: LineDevice> Program<D> {
     /// Begins with this limit on marked descriptors, and puts the answer into the empty text.
     fn set_limit(&mut self, max: u32, answer: &mut String) -> Result<(), AllocError>
     {
-        answer::limit_answer(answer, max)?;
+        writeln!(answer, "limit {max}")?;
         self.session = Session::new(self.alloc, max);
         Ok(())
     }
@@ -57,7 +57,8 @@ impl<D: LineDevice> Program<D> {
         answer: &mut String,
     ) -> Result<(), AllocError>
     {
-        answer::layout_answer(answer, name, &layout.counts)?;
+        let total = layout.counts.total_u64();
+        writeln!(answer, "layout {name} total {total}")?;
         let name = self.layouts.kept_name(name)?;
         self.layouts.reserve()?;
         let Layout { counts, mark } = layout;
@@ -74,7 +75,8 @@ impl<D: LineDevice> Program<D> {
     /// Gives the device a new script, and puts the answer into the empty text.
     fn load(&mut self, script: Vec<Answer>, answer: &mut String) -> Result<(), AllocError>
     {
-        answer::script_answer(answer, script.len())?;
+        let words = script.len();
+        writeln!(answer, "script {words}")?;
         self.device.load(script);
         Ok(())
     }

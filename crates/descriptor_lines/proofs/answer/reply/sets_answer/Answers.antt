@@ -1,8 +1,9 @@
-use Rattle.std.proofs.Common.{◌≡◌, ◌++◌, ℕ, List, ◌+◌, ◌-◌, codes, length, length-append, ap, ◌∙◌, arith}
+use Rattle.std.proofs.Common.{refl, ◌≡◌, ◌++◌, ℕ, List, ◌+◌, ◌-◌, codes, length, length-append, ap, ◌∙◌, arith}
+use Rattle.std.proofs.lemmas.Bool.{ne_eqb}
 use Rattle.std.specs.String.{string_bytes}
 use Rattle.descriptor_script.specs.Sessions.Session.{value_of}
 use Rattle.descriptor_lines.specs.ReplyTexts.{pools_from, range_text, sets_text, stretches_text}
-use Rattle.descriptor_lines.proofs.ReplyLemmas.{length_of_range, text_of_some}
+use Rattle.descriptor_lines.proofs.ReplyLemmas.{length_of_range}
 use Rattle.descriptor_lines.proofs.answer.reply.sets_answer.Goals as goal
 
 -- a text got a part behind it
@@ -30,6 +31,6 @@ pub returns-clause-enough : goal.returns-clause-enough
 returns-clause-enough c =
     let range = range_text c.args.first (c.args.first + c.args.count - 1) in
     let pools = stretches_text (pools_from (value_of c.args.session.now).sets c.args.first c.args.count) in
-    let whole : length (sets_text (value_of c.args.session.now).sets c.args.first c.args.count) ≡ length (range ++ pools) + 1 = longer (range ++ pools) _ (codes "\n") (text_of_some (value_of c.args.session.now).sets c.args.first c.args.count (omega arith)) in
+    let whole : length (sets_text (value_of c.args.session.now).sets c.args.first c.args.count) ≡ length (range ++ pools) + 1 = longer (range ++ pools) _ (codes "\n") (rw (ne_eqb c.args.count 0 c.if-count-eq0.false) refl) in
     let parts : length (range ++ pools) ≡ length range + length pools = length-append range pools in
     omega (arith, length_of_range c.args.first (c.args.first + c.args.count - 1) (omega arith) (omega arith))

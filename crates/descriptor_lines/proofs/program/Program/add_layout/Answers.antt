@@ -5,7 +5,6 @@ use Rattle.gpu_descriptor.specs.Caller.SetLayouts.{IsMeant}
 use Rattle.descriptor_script.specs.Scripted.Raw.{script_meaning}
 use Rattle.descriptor_script.specs.Sessions.Session.{value_of}
 use Rattle.descriptor_lines.specs.LayoutTables.{layouts_in}
-use Rattle.descriptor_lines.specs.Programs.{scripted}
 use Rattle.descriptor_lines.proofs.SessionLemmas.{same_is_ready}
 use Rattle.descriptor_lines.proofs.program.Program.add_layout.Goals as goal
 
@@ -18,7 +17,7 @@ returns-in-Ok g c =
         err = tt;
         ready = record {
           ready = rw c.in-Ok.ensures.last (same_is_ready (value_of c.args.self.now.session) _ _ old.ready (All-push (IsMeant script_meaning) (value_of c.args.self.now.session).layouts _ old.ready.meant (record { counted = refl; marked = c.flags.ensures })));
-          layouts = rw (ap (λ s. s.layouts) c.in-Ok.ensures.last, c.push.ensures.layouts, c.reserve.ensures.same) (map-append (λ k. k.layout) (value_of c.args.self.now.session).layouts _ ∙ ap (λ ls. ls ++ scripted c.args.layout ∷ []) old.layouts ∙ sym (map-append (λ l. scripted l.1) (layouts_in c.args.self.now.layouts) _));
+          layouts = rw (ap (λ s. s.layouts) c.in-Ok.ensures.last, c.push.ensures.layouts, c.reserve.ensures.same) (map-append (λ k. k.layout) (value_of c.args.self.now.session).layouts _ ∙ ap (λ ls. ls ++ record { counts = c.args.layout.counts; mark = c.args.layout.mark } ∷ []) old.layouts ∙ sym (map-append (λ l. record { counts = l.1.counts; mark = l.1.mark }) (layouts_in c.args.self.now.layouts) _));
           fresh = λ unbegun. (let begun = c.requires.begun in cc);
         };
         begun = λ is. is;

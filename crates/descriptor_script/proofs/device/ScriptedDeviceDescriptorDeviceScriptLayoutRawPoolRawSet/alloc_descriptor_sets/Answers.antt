@@ -1,8 +1,8 @@
 use Rattle.std.proofs.Common.{ap, ◌∙◌}
 use Rattle.gpu_descriptor_types.specs.Layouts.{layout, left}
 use Rattle.gpu_descriptor_types.specs.Ledger.{Sink}
+use Rattle.descriptor_script.specs.Inner.Table.{pools_in}
 use Rattle.descriptor_script.specs.Inner.Counters.{counters_of}
-use Rattle.descriptor_script.specs.Inner.Pools.{pools_of}
 use Rattle.descriptor_script.specs.declared.device.ScriptedDevice.{ScriptedDevice}
 use Rattle.descriptor_script.specs.declared.raw.RawSet.{RawSet}
 use Rattle.descriptor_script.proofs.Calls.{puts, puts_none, IsUntouched}
@@ -23,12 +23,12 @@ returns-clause-err g c =
     let new : ScriptedDevice = record { script = c.if-eq.self.script; pools = c.refuse.new.self; counters = c.refuse_alloc.new.self } in
     let untouched : IsUntouched shown c.args.sets.now c.if-eq.sets old c.if-eq.self = elim c.if-eq.branch [
       | then-eq+in_default w ↦ record {
-        pools = ap (λ (d : ScriptedDevice). pools_of d.pools) w.self-is ∙ w.in_default.ensures.err;
+        pools = ap (λ (d : ScriptedDevice). pools_in d.pools.live) w.self-is ∙ w.in_default.ensures.err;
         counters = ap (λ (d : ScriptedDevice). counters_of d.counters) w.self-is;
         same_sink = w.sets-is ∙ w.in_default.ensures.err_sink;
       }
       | else-eq w ↦ record {
-        pools = ap (λ (d : ScriptedDevice). pools_of d.pools) w.self-is;
+        pools = ap (λ (d : ScriptedDevice). pools_in d.pools.live) w.self-is;
         counters = ap (λ (d : ScriptedDevice). counters_of d.counters) w.self-is;
         same_sink = w.sets-is;
       }

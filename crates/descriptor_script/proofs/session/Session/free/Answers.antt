@@ -4,7 +4,6 @@ use Rattle.gpu_descriptor.specs.Caller.Sets.{items_of}
 use Rattle.gpu_descriptor.specs.Model.Agreement.{HasNoGaps, State}
 use Rattle.gpu_descriptor.specs.Caller.States.{state_of}
 use Rattle.descriptor_script.specs.Sessions.Session.{AreAllHeld}
-use Rattle.descriptor_script.specs.Inner.Slots.{slots_of}
 use Rattle.std.specs.Slice.Iter.{iter_rest}
 use Rattle.descriptor_script.specs.Sessions.Tickets.{AreHeldOnce, emptied, held_sets, set_at}
 use Rattle.descriptor_script.specs.declared.taking.Taking.{Taking}
@@ -12,13 +11,13 @@ use Rattle.descriptor_script.proofs.Emptied.{all_emptied, all_held_less, all_out
 use Rattle.descriptor_script.proofs.session.Session.free.Goals.{After-iter}
 use Rattle.descriptor_script.proofs.session.Session.free.Goals as goal
 
-slots_are : (g : _) (c : After-iter g) → slots_of c.replace-slots.result ≡ slots_of c.args.self.now.slots
-slots_are g c = ap slots_of c.replace-slots.ensures.value ∙ c.are_held_once.ensures.sets
+slots_are : (g : _) (c : After-iter g) → c.replace-slots.result.sets.items ≡ c.args.self.now.slots.sets.items
+slots_are g c = ap (λ s. s.sets.items) c.replace-slots.ensures.value ∙ c.are_held_once.ensures.sets
 
-good : (g : _) (c : After-iter g) → AreHeldOnce (slots_of c.args.self.now.slots) c.args.tickets.now
+good : (g : _) (c : After-iter g) → AreHeldOnce c.args.self.now.slots.sets.items c.args.tickets.now
 good g c = c.are_held_once.ensures.answer.0 c.if-not-are_held_once.false
 
-held : (g : _) (c : After-iter g) → AreAllHeld g.D.DescriptorDevice.meaning.set_name (slots_of c.replace-slots.result) (state_of g.D.DescriptorDevice.meaning.pool_name c.args.self.now.allocator (g.D.DescriptorDevice.ledger c.args.device.now))
+held : (g : _) (c : After-iter g) → AreAllHeld g.D.DescriptorDevice.meaning.set_name c.replace-slots.result.sets.items (state_of g.D.DescriptorDevice.meaning.pool_name c.args.self.now.allocator (g.D.DescriptorDevice.ledger c.args.device.now))
 held g c = held_as g.D.DescriptorDevice.meaning.set_name _ _ (state_of g.D.DescriptorDevice.meaning.pool_name c.args.self.now.allocator (g.D.DescriptorDevice.ledger c.args.device.now)) (slots_are g c) c.requires.ready.held
 
 pub free_from-requires-clause-outstanding : goal.free_from-requires-clause-outstanding
@@ -36,8 +35,8 @@ returns-clause-step g c =
         good = good g d;
         all = search rules;
         given = frees.sets;
-        each = each_taken frees.sets s drained.0 drained.1 drained.2.0 ∙ ap (λ l. map (set_at l) (iter_rest s.tickets)) (slots_are g d) ∙ ap (map (set_at (slots_of c.args.self.now.slots))) c.iter.ensures.rest;
-        sets = drained.2.2 ∙ all_emptied frees.sets s drained.0 drained.1 drained.2.0 ∙ ap (λ l. emptied l (iter_rest s.tickets)) (slots_are g d) ∙ ap (emptied (slots_of c.args.self.now.slots)) c.iter.ensures.rest;
+        each = each_taken frees.sets s drained.0 drained.1 drained.2.0 ∙ ap (λ l. map (set_at l) (iter_rest s.tickets)) (slots_are g d) ∙ ap (map (set_at c.args.self.now.slots.sets.items)) c.iter.ensures.rest;
+        sets = drained.2.2 ∙ all_emptied frees.sets s drained.0 drained.1 drained.2.0 ∙ ap (λ l. emptied l (iter_rest s.tickets)) (slots_are g d) ∙ ap (emptied c.args.self.now.slots.sets.items) c.iter.ensures.rest;
       },
       frees.returns,
     )

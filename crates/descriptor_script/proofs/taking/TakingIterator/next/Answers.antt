@@ -2,7 +2,6 @@ use Rattle.std.proofs.Common.{◌≡◌, ℕ, ◌<◌, List, ◌∷◌, length, 
 use Rattle.std.proofs.lemmas.Bool.{false≢true}
 use Rattle.std.specs.Iterator.{MakesProgress, at_most}
 use Rattle.std.specs.Slice.Iter.{iter_rest}
-use Rattle.descriptor_script.specs.Inner.Slots.{slots_of}
 use Rattle.descriptor_script.specs.Sessions.Tickets.{AreHeldOnce}
 use Rattle.descriptor_script.proofs.Emptied.{first_held, rest_once}
 use Rattle.descriptor_script.proofs.taking.TakingIterator.next.Goals as goal
@@ -14,11 +13,11 @@ progress can left s t (Some x) may less some = record { on = λ finite. (may, tt
 
 pub returns-clause-goes : goal.returns-clause-goes
 returns-clause-goes g c =
-    let slots = slots_of c.args.self.now.slots in
+    let slots = c.args.self.now.slots.sets.items in
     let ticket : ℕ = c.in_ok-ticket.ticket.now in
     let rest : List ℕ = iter_rest c.next.new.self in
     let steps : iter_rest c.args.self.now.tickets ≡ ticket ∷ rest = c.in_ok-ticket.ensures.steps in
     let held : AreHeldOnce slots (ticket ∷ rest) = subst (AreHeldOnce slots) steps c.requires in
-    let may : AreHeldOnce (slots_of c.take.new.self) rest = subst (λ l. AreHeldOnce l rest) (sym c.take.ensures.sets) (rest_once slots ticket rest held) in
+    let may : AreHeldOnce c.take.new.self.sets.items rest = subst (λ l. AreHeldOnce l rest) (sym c.take.ensures.sets) (rest_once slots ticket rest held) in
     let less : length rest < length (iter_rest c.args.self.now.tickets) = (let long = ap length steps in omega arith) in
     progress _ _ _ _ c.take.result may less (ap is_some c.take.ensures.set ∙ first_held slots ticket rest held)
