@@ -2,12 +2,11 @@
 -- `bytes` are those of the buffer: from `start` on they are in no line yet, up to `searched` no line ends among them, and up to `end` they
 -- were read. Byte 10 ends a line. `known`
 -- are the bytes that the reader has left, if that is known.
-use Rattle.std.proofs.Common.{◌≡◌, ℕ, ◌+◌, ◌-◌, ◌<◌, ◌≤◌, ◌⊎◌, inl, inr, append_assoc, append-nil, length-take, List, [], ◌++◌, Option, None, Some, IfSome, IfNone, not, unwrap_or, position, length, length-take-le, take, drop, slice_range, length-append}
+use Rattle.std.proofs.Common.{◌≡◌, ℕ, ◌+◌, ◌-◌, ◌<◌, ◌≤◌, append_assoc, append-nil, length-take, List, [], ◌++◌, Option, None, Some, IfSome, IfNone, not, unwrap_or, position, length, length-take-le, take, drop, slice_range, length-append}
 use Rattle.std.proofs.Common.{refl, sym, ap, ◌∙◌, arith}
 use Rattle.std.specs.List.{position_or_len}
 use Rattle.std.specs.Io.KnownBytes.{Keeps, IsAtEnd, Consumes, prepend_known}
 use Rattle.std.proofs.Math.Seq.{take-add}
-use Rattle.std.proofs.lemmas.Bool.{cases_lt}
 use Rattle.std.proofs.lemmas.Bool.Decides.{nat_tests}
 use Rattle.std.proofs.lemmas.List.{drop-drop, drop-take, take-take, take_all, drop_all, take-append-le, drop-append-le, drop_at}
 use Rattle.std.proofs.lemmas.Slice.{between_is}
@@ -91,17 +90,9 @@ before_end-whole bytes none = ap (λ k. take k bytes) none ∙ take_all (length 
 pub after_end-whole : (bytes : List ℕ) → HasNoEnd bytes → after_end bytes ≡ []
 after_end-whole bytes none = ap (λ k. drop (k + 1) bytes) none ∙ drop_all (length bytes + 1) bytes (omega arith)
 
--- the two cases of what follows: a line ends in the front, or none does
-before_end-grows_by : (front rest : List ℕ) → HasEnd front ⊎ (length front ≤ position_or_len (is_byte 10) front) → length (before_end front) ≤ length (before_end (front ++ rest))
-before_end-grows_by front rest (inl some) = omega (arith, ap length (before_end-append front rest some))
-before_end-grows_by front rest (inr none) =
-    let at_most : position_or_len (is_byte 10) front ≤ length front = prefix_len-le-length (λ x. not (is_byte 10 x)) front in
-    let behind : position_or_len (is_byte 10) (front ++ rest) ≡ length front + position_or_len (is_byte 10) rest = end_behind front rest (omega arith) in
-    omega (arith, length-take (position_or_len (is_byte 10) front) front, length-take (position_or_len (is_byte 10) (front ++ rest)) (front ++ rest), length-append front rest)
-
 -- with more bytes the first line is no shorter
-pub before_end-grows : (front rest : List ℕ) → length (before_end front) ≤ length (before_end (front ++ rest))
-before_end-grows front rest = before_end-grows_by front rest (cases_lt _ _)
+before_end-grows : (front rest : List ℕ) → length (before_end front) ≤ length (before_end (front ++ rest))
+before_end-grows front rest = grind (arith, nat_tests, prefix_len-append (λ x. not (is_byte 10 x)) front rest, length-take (position_or_len (is_byte 10) front) front, length-take (position_or_len (is_byte 10) (front ++ rest)) (front ++ rest), length-append front rest)
 
 -- ---- known bytes
 

@@ -13,16 +13,13 @@ abbrev pub tickets_between : ℕ → ℕ → List ℕ
 tickets_between first last =
     if nat_le first last then range_with_len first (last - first + 1) else reverse (range_with_len last (first - last + 1))
 
--- what stands before and after the first `-`, or the word twice if it has none
-abbrev pub sides : List ℕ → List ℕ × List ℕ
-sides word = unwrap_or (around 45 word) (word, word)
-
 -- the tickets of a word: one, or those of a range, with a ticket on each side of its one `-`
 abbrev pub tickets_of : List ℕ → Result (List ℕ) Fault
-tickets_of word = do
-  first ← number_in greatest_u64 (sides word).0
-  last ← number_in greatest_u64 (sides word).1
-  Ok (tickets_between first last)
+tickets_of word =
+    let sides = unwrap_or (around 45 word) (word, word) in do
+      first ← number_in greatest_u64 sides.0
+      last ← number_in greatest_u64 sides.1
+      Ok (tickets_between first last)
 
 -- the greatest number of tickets of a line
 abbrev pub max_tickets : ℕ

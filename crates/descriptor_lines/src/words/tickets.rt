@@ -6,7 +6,7 @@ ghost use Rattle.descriptor_lines.specs.Fault.{Reads};
 ghost use Rattle.std.specs.Result.{result_map_both};
 ghost use Rattle.gpu_descriptor_types.specs.Bounds.{greatest_u64};
 ghost use Rattle.descriptor_lines.specs.Numbers.{number_in};
-ghost use Rattle.descriptor_lines.specs.Tickets.{joined, max_tickets, sides as sides_of};
+ghost use Rattle.descriptor_lines.specs.Tickets.{joined, max_tickets};
 ghost use Rattle.descriptor_lines.specs.Tickets.{tickets_between, tickets_in, tickets_of};
 ghost use Rattle.descriptor_lines.specs.Words.{words_left};
 
@@ -44,21 +44,11 @@ fn parse_span(word: &[u8]) -> Result<Span, Fault>
     ensures { result_map_both (λ span. tickets_between span.first span.last) (λ fault. fault) result
         ≡ tickets_of word.now }
 {
-    let (first, last) = sides(word);
+    let (first, last) = text::around(word, b'-').unwrap_or((word, word));
     Ok(Span {
         first: parse_ticket(first)?,
         last: parse_ticket(last)?,
     })
-}
-
-/// What comes before and after the first `-`, or the word twice if it has none.
-fn sides(word: &[u8]) -> (&[u8], &[u8])
-    ensures { (result.0.now, result.1.now) ≡ sides_of word.now }
-{
-    match text::around(word, b'-') {
-        Some(sides) => sides,
-        None => (word, word),
-    }
 }
 
 fn parse_ticket(word: &[u8]) -> Result<usize, Fault>

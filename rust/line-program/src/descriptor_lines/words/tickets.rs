@@ -32,20 +32,11 @@ pub fn parse_free(alloc: Global, words: Words<'_>) -> Result<Vec<usize>, Refusal
 /// The tickets of a word: one, `T`, or a range, `A-B`.
 fn parse_span(word: &[u8]) -> Result<Span, Fault>
 {
-    let (first, last) = sides(word);
+    let (first, last) = text::around(word, b'-').unwrap_or((word, word));
     Ok(Span {
         first: parse_ticket(first)?,
         last: parse_ticket(last)?,
     })
-}
-
-/// What comes before and after the first `-`, or the word twice if it has none.
-fn sides(word: &[u8]) -> (&[u8], &[u8])
-{
-    match text::around(word, b'-') {
-        Some(sides) => sides,
-        None => (word, word),
-    }
 }
 
 fn parse_ticket(word: &[u8]) -> Result<usize, Fault>
