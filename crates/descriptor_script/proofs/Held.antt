@@ -1,6 +1,7 @@
 -- What the steps of a session leave outstanding.
 use Rattle.std.proofs.Common.{◌≡◌, OnOk, Result, Ok, Err, is_err, false, ℕ, ◌+◌, ◌≤◌, List, [], ◌∷◌, ◌++◌, length, length-append, map, Option, None, Some, refl, ap, ◌∙◌, arith}
 use Rattle.std.proofs.lemmas.Bool.{true≢false}
+use Rattle.std.proofs.lemmas.List.Elements.{filter_map-append}
 use Rattle.gpu_descriptor.specs.Model.Agreement.{State, count_of}
 use Rattle.gpu_descriptor.specs.Model.Promises.{AreOutBesides}
 use Rattle.gpu_descriptor.specs.Caller.Sets.{items_of}
@@ -17,10 +18,11 @@ is_ok_then (Err e) P fine h = absurd (true≢false fine)
 module _ {X : Type 0} where
   -- sets that are put after others are held after them
   pub held_more : (slots : List (Option X)) (given : List X) → held_sets (slots ++ map Some given) ≡ held_sets slots ++ given
-  held_more [] [] = refl
-  held_more [] (x ∷ given) = ap (λ l. x ∷ l) (held_more [] given)
-  held_more (None ∷ slots) given = held_more slots given
-  held_more (Some x ∷ slots) given = ap (λ l. x ∷ l) (held_more slots given)
+  held_more slots given = filter_map-append (λ slot. slot) slots (map Some given) ∙ ap (λ l. held_sets slots ++ l) (all_held given)
+    where
+      all_held : (given : List X) → held_sets (map Some given) ≡ given
+      all_held [] = refl
+      all_held (x ∷ given) = ap (λ l. x ∷ l) (all_held given)
 
   pub held_sum : (slots : List (Option X)) (given : List X) → length (held_sets (slots ++ map Some given)) ≡ length (held_sets slots) + length given
   held_sum slots given = ap length (held_more slots given) ∙ length-append (held_sets slots) given

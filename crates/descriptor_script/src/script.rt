@@ -1,7 +1,7 @@
 //! The words that a device is still to read.
-ghost use Rattle.std.specs.Prelude.{◌≡◌};
+ghost use Rattle.std.specs.Prelude.{drop, ◌≡◌};
 ghost use Rattle.std.specs.Vec.Iter.{into_iter_items};
-ghost use Rattle.descriptor_script.specs.Scripted.Script.{next_word, rest_words};
+ghost use Rattle.descriptor_script.specs.Scripted.Script.{next_word};
 
 use crate::answer::Answer;
 use std::vec::{IntoIter, Vec};
@@ -24,7 +24,7 @@ impl Script {
     /// Reads one word.
     pub fn read(&mut self) -> Answer
         ensures word { result ≡ next_word (into_iter_items self.old.words) }
-        ensures rest { into_iter_items self.new.words ≡ rest_words (into_iter_items self.old.words) }
+        ensures rest { into_iter_items self.new.words ≡ drop 1 (into_iter_items self.old.words) }
     {
         self.words.next().unwrap_or(Answer::Ok)
     }

@@ -1,11 +1,11 @@
 -- What a scripted device owes, and what it is to return.
-use Rattle.std.specs.Prelude.{◌≡◌, List, None, Result, OnOk, IfErr}
+use Rattle.std.specs.Prelude.{◌≡◌, drop, List, None, Result, OnOk, IfErr}
 use Rattle.std.specs.Vec.Iter.{into_iter_items}
 use Rattle.gpu_descriptor_types.specs.Ledger.{Ledger, no_rise}
 use Rattle.descriptor_script.specs.Inner.Counters.{counters_of}
 use Rattle.descriptor_script.specs.Inner.Pools.{next_names, owed}
 use Rattle.descriptor_script.specs.Scripted.Raw.{Names}
-use Rattle.descriptor_script.specs.Scripted.Script.{next_word, rest_words}
+use Rattle.descriptor_script.specs.Scripted.Script.{next_word}
 use Rattle.descriptor_script.specs.declared.answer.Answer.{Answer}
 use Rattle.descriptor_script.specs.declared.answer.Answer.TheVariants.{Ok}
 use Rattle.descriptor_script.specs.declared.device.ScriptedDevice.{ScriptedDevice}
@@ -34,7 +34,7 @@ pub record IsNewDevice (script : List Answer) (names : Names) (d : ScriptedDevic
 
 -- one word is read: a granted call read Ok, and a refused one returns the error of its word, which at Ok is that of memory or names
 pub record ReadsWord {R E : Type 0} (error_of : Answer → E) (result : Result R E) (old new : ScriptedDevice) : Type 0 where
-  pub rest : script_of new ≡ rest_words (script_of old)
+  pub rest : script_of new ≡ drop 1 (script_of old)
   pub granted : OnOk result (next_word (script_of old) ≡ Ok)
   pub refused : IfErr result (λ e. e ≡ error_of (next_word (script_of old)))
 

@@ -1,5 +1,5 @@
 -- What the words of a script mean.
-use Rattle.std.specs.Prelude.{List, [], ◌∷◌}
+use Rattle.std.specs.Prelude.{List, slice_index_or}
 use Rattle.gpu_descriptor_types.specs.declared.errors.CreatePoolError.{CreatePoolError}
 use Rattle.gpu_descriptor_types.specs.declared.errors.DeviceAllocationError.{DeviceAllocationError}
 use Rattle.descriptor_script.specs.declared.answer.Answer.{Answer}
@@ -9,13 +9,7 @@ use Rattle.gpu_descriptor_types.specs.declared.errors.DeviceAllocationError.TheV
 
 -- the word that is read next. After the end it is Ok
 abbrev pub next_word : List Answer → Answer
-next_word [] = Ok
-next_word (word ∷ words) = word
-
--- the words after it
-abbrev pub rest_words : List Answer → List Answer
-rest_words [] = []
-rest_words (word ∷ words) = words
+next_word words = slice_index_or words 0 Ok
 
 -- the error of a create that isn't granted at this word. At Ok names ran out or an allocation failed
 abbrev pub create_error : Answer → CreatePoolError

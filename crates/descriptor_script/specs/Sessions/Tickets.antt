@@ -1,6 +1,6 @@
 -- Slots by ticket: the slot of a ticket has its set until that is freed.
-use Rattle.std.specs.Prelude.{All, ℕ, nat_eq, List, [], ◌∷◌, slice_index_or, slice_set, Option, None, Some, IsSome}
-use Rattle.std.specs.List.{IsDistinct}
+use Rattle.std.specs.Prelude.{All, ℕ, nat_eq, List, fold, slice_index_or, slice_set, Option, None, IsSome}
+use Rattle.std.specs.List.{IsDistinct, filter_map}
 
 module _ {X : Type 0} where
   -- the set of the ticket
@@ -9,14 +9,11 @@ module _ {X : Type 0} where
 
   -- the sets that are held, in the order of their tickets
   abbrev pub held_sets : List (Option X) → List X
-  held_sets [] = []
-  held_sets (None ∷ slots) = held_sets slots
-  held_sets (Some x ∷ slots) = x ∷ held_sets slots
+  held_sets slots = filter_map (λ slot. slot) slots
 
   -- the slots, once those of these tickets are empty
   abbrev pub emptied : List (Option X) → List ℕ → List (Option X)
-  emptied slots [] = slots
-  emptied slots (ticket ∷ tickets) = emptied (slice_set slots ticket None) tickets
+  emptied slots tickets = fold (λ slots ticket. slice_set slots ticket None) slots tickets
 
   -- each ticket has a set, and none is there twice
   pub record AreHeldOnce (slots : List (Option X)) (tickets : List ℕ) : Type 0 where
