@@ -1,6 +1,6 @@
 -- How a run of lines ends: for `run_lines_on` and `run_to_end`. `Stands` says how far a run over known bytes came, and `Takes` what came of
 -- its next line.
-use Rattle.std.proofs.Common.{◌≡◌, ℕ, ◌+◌, ◌-◌, ◌<◌, ◌⊎◌, inl, inr, false, List, [], ◌∷◌, ◌++◌, Option, Some, Result, Ok, Err, drop, take, length, length-take, nat_le, append_assoc, subst, refl, sym, ap, ◌∙◌, arith, ◌≤◌, true, IsTrue, IfErr}
+use Rattle.std.proofs.Common.{◌≡◌, ℕ, ◌+◌, ◌-◌, ◌<◌, ◌⊎◌, inl, inr, false, List, [], ◌∷◌, ◌++◌, Option, Some, Result, Ok, Err, drop, take, length, length-take, nat_le, append_assoc, subst, refl, sym, ap, ◌∙◌, arith, ◌≤◌, true, IsTrue, IfErr, slice_range}
 use Rattle.std.specs.List.{position_or_len}
 use Rattle.std.specs.Io.BufRead.{strip_last}
 use Rattle.std.specs.Io.KnownBytes.{Appends}
@@ -10,7 +10,7 @@ use Rattle.descriptor_lines.specs.Words.{is_byte, words}
 use Rattle.descriptor_lines.specs.declared.words.fault.Fault.TheVariants.{LineTooLong}
 use Rattle.descriptor_lines.specs.declared.words.fault.Refusal.{Refusal}
 use Rattle.descriptor_lines.specs.declared.words.fault.Refusal.TheVariants as refusal
-use Rattle.descriptor_lines.specs.LineBuffers.{buffered, bytes_at, unread}
+use Rattle.descriptor_lines.specs.LineBuffers.{buffered, unread}
 use Rattle.descriptor_lines.specs.LineStates.{LineState}
 use Rattle.descriptor_lines.specs.Lines.{after_end, before_end, lines_of, longest_line}
 use Rattle.descriptor_lines.specs.Orders.{line_in}
@@ -39,8 +39,8 @@ pub record Takes (bytes : List ℕ) (left : Option (List ℕ)) (outcome : Result
 pub takes_span :
     (bytes line : List ℕ) (buffer : LineBuffer) (span : Span) (left : Option (List ℕ))
     (outcome : Result Unit Refusal) (text : List ℕ) (old new : LineState)
-    → (0 < length bytes) × (bytes_at buffer span ≡ before_end bytes) × (left ≡ Some (after_end bytes))
-    → span.end - span.start ≤ longest_line → line ≡ strip_last 13 (bytes_at buffer span)
+    → (0 < length bytes) × (slice_range buffer.bytes.items span.start span.end ≡ before_end bytes) × (left ≡ Some (after_end bytes))
+    → span.end - span.start ≤ longest_line → line ≡ strip_last 13 (slice_range buffer.bytes.items span.start span.end)
     → RunsAs (DoesLine (line_in old.layouts old.has_begun (words line))) outcome text old new
     → IfErr outcome (IsReasonFor (line_in old.layouts old.has_begun (words line)) (words line))
     → (outcome ≡ Err refusal.NoMemory → IsTrue new.has_begun) → Takes bytes left outcome text old new

@@ -14,7 +14,7 @@ use Rattle.std.proofs.lemmas.List.Edits.{length-between}
 use Rattle.std.proofs.lemmas.List.Folds.{prefix_len-append}
 use Rattle.std.proofs.lemmas.List.Sums.{prefix_len-le-length}
 use Rattle.descriptor_lines.specs.Lines.{HasEnd, HasNoEnd, before_end, after_end, longest_line}
-use Rattle.descriptor_lines.specs.LineBuffers.{TakesLine, buffered, bytes_at, unread}
+use Rattle.descriptor_lines.specs.LineBuffers.{TakesLine, buffered, unread}
 use Rattle.descriptor_lines.specs.Words.{is_byte}
 use Rattle.descriptor_lines.specs.declared.input.LineBuffer.{LineBuffer}
 use Rattle.descriptor_lines.specs.declared.input.Span.{Span}
@@ -127,7 +127,7 @@ takes_ended known bytes all line rest is some first after =
 pub takes_last :
     (known : Option (List ℕ)) (bytes all : List ℕ) (line : Option Span) (buffer : LineBuffer)
     → IsAtEnd known → prepend_known bytes known ≡ Some all → HasNoEnd bytes → IfSome line (λ _. 0 < length bytes)
-    → IfSome line (λ span. bytes_at buffer span ≡ bytes) → IfNone line (bytes ≡ []) → buffered buffer ≡ []
+    → IfSome line (λ span. slice_range buffer.bytes.items span.start span.end ≡ bytes) → IfNone line (bytes ≡ []) → buffered buffer ≡ []
     → TakesLine all line buffer (unread buffer known)
 takes_last known bytes all None buffer ended is no_end some first none empty = (at_end known bytes all ended is).1 ∙ none
 takes_last known bytes all (Some span) buffer ended is no_end some first none empty =

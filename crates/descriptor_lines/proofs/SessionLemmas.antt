@@ -12,7 +12,7 @@ use Rattle.gpu_descriptor.proofs.callers.NewAllocators.{new_agrees}
 use Rattle.gpu_descriptor.proofs.release.Places.{none_out}
 use Rattle.descriptor_script.specs.Scripted.Raw.{pool_id, script_meaning}
 use Rattle.descriptor_script.specs.Sessions.Session.{IsReady, new_session}
-use Rattle.descriptor_lines.specs.LayoutTables.{layout_count, layouts_in}
+use Rattle.descriptor_lines.specs.LayoutTables.{layouts_in}
 use Rattle.descriptor_lines.specs.Replies.{LineSession}
 use Rattle.descriptor_lines.specs.declared.layouts.LayoutTable.{LayoutTable}
 use Rattle.gpu_descriptor_types.specs.Side.{side}
@@ -30,8 +30,8 @@ pub same_is_ready : (s : LineSession) (layouts : List (SetLayout ScriptLayout)) 
 same_is_ready s layouts l ready meant = record { agree = ready.agree; held = ready.held; meant = meant }
 
 -- no layout is in a table of none
-pub none_in : (layouts : LayoutTable) → layout_count layouts ≡ 0 → layouts_in layouts ≡ []
+pub none_in : (layouts : LayoutTable) → length layouts.by_name.entries ≡ 0 → layouts_in layouts ≡ []
 none_in layouts none = rw (nil_from_length layouts.by_name.entries none) refl
 
-pub none_counted : (layouts : LayoutTable) → layouts_in layouts ≡ [] → layout_count layouts ≡ 0
+pub none_counted : (layouts : LayoutTable) → layouts_in layouts ≡ [] → length layouts.by_name.entries ≡ 0
 none_counted layouts none = sym (length-map layouts.by_name.entries _) ∙ ap length none

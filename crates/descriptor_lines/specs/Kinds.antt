@@ -16,12 +16,8 @@ kind_names =
 unfoldable pub place_of_kind : List ℕ → Option ℕ
 place_of_kind word = position (λ name. bytes_eq name word) kind_names
 
--- which kinds the words named, and the counts that they gave
-abbrev pub Given : Type 0
-Given = List Bool × List ℕ
-
--- a word more, `KIND=N`
-abbrev pub with_count : Given → List ℕ → Result Given Fault
+-- which kinds the words named, and the counts that they gave, with a word more, `KIND=N`
+abbrev pub with_count : List Bool × List ℕ → List ℕ → Result (List Bool × List ℕ) Fault
 with_count (given, counts) word = do
   parts ← ok_or (around 61 word) BadKind
   place ← ok_or (place_of_kind parts.0) BadKind

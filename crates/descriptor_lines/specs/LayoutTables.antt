@@ -1,5 +1,5 @@
 -- The layouts by name.
-use Rattle.std.specs.Prelude.{ℕ, Bool, List, filter, map, length, Option, String, bytes_eq, string_bytes}
+use Rattle.std.specs.Prelude.{ℕ, Bool, List, filter, map, Option, String, bytes_eq, string_bytes}
 use Rattle.std.specs.Global.{Global}
 use Rattle.std.specs.List.{list_any}
 use Rattle.std.specs.Option.{option_map}
@@ -42,7 +42,3 @@ module _ (layouts : LayoutTable) where
   -- its place, in this order
   abbrev pub place_named : List ℕ → Option ℕ
   place_named name = index_of_by (λ key. bytes_eq name (string_bytes key)) layouts.by_name
-
-  -- how many layouts there are
-  abbrev pub layout_count : ℕ
-  layout_count = length layouts.by_name.entries

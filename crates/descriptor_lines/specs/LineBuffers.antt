@@ -9,10 +9,6 @@ use Rattle.descriptor_lines.specs.declared.input.Span.{Span}
 abbrev pub buffered : LineBuffer → List ℕ
 buffered buffer = slice_range buffer.bytes.items buffer.start buffer.end
 
--- the bytes at a place in the buffer
-abbrev pub bytes_at : LineBuffer → Span → List ℕ
-bytes_at buffer span = slice_range buffer.bytes.items span.start span.end
-
 -- the bytes that are in no line yet: those in the buffer, and then those that the reader has left
 abbrev pub unread : LineBuffer → Option (List ℕ) → Option (List ℕ)
 unread buffer known = prepend_known (buffered buffer) known
@@ -24,5 +20,5 @@ SeesEndOf buffer known = IsTrue buffer.is_at_end → IsAtEnd known
 -- the next line is the first of the bytes that are in no line yet, and is taken off them; or they are at their end
 abbrev pub TakesLine : List ℕ → Option Span → LineBuffer → Option (List ℕ) → Type 0
 TakesLine bytes (Some span) buffer left =
-    (0 < length bytes) × (bytes_at buffer span ≡ before_end bytes) × (left ≡ Some (after_end bytes))
+    (0 < length bytes) × (slice_range buffer.bytes.items span.start span.end ≡ before_end bytes) × (left ≡ Some (after_end bytes))
 TakesLine bytes None buffer left = bytes ≡ []

@@ -1,12 +1,12 @@
 -- What a line asks for, and what is wrong with it otherwise.
-use Rattle.std.specs.Prelude.{◌≡◌, ◌⊎◌, ℕ, Bool, true, false, List, [], ◌∷◌, Option, None, Some, Result, Ok, Err, bytes_eq, codes, is_some, nat_lt, ok_or, if◌then◌else◌}
+use Rattle.std.specs.Prelude.{◌≡◌, ◌⊎◌, ℕ, Bool, true, false, List, [], ◌∷◌, Option, None, Some, Result, Ok, Err, bytes_eq, codes, is_some, nat_lt, ok_or, if◌then◌else◌, length}
 use Rattle.std.specs.Map.{lookup}
 use Rattle.gpu_descriptor.specs.Model.Books.{Key}
 use Rattle.gpu_descriptor_types.specs.Bounds.{greatest_u32, greatest_u64}
 use Rattle.gpu_descriptor_types.specs.Counts.{kinds}
 use Rattle.descriptor_script.specs.declared.answer.Answer.{Answer}
 use Rattle.descriptor_lines.specs.Commands.{max_sets}
-use Rattle.descriptor_lines.specs.LayoutTables.{key_of, layout_count, layout_named, max_layouts, place_named}
+use Rattle.descriptor_lines.specs.LayoutTables.{key_of, layout_named, max_layouts, place_named}
 use Rattle.descriptor_lines.specs.ScriptWords.{script_in}
 use Rattle.descriptor_lines.specs.declared.command.Command.{Command}
 use Rattle.descriptor_lines.specs.declared.command.Command.TheVariants as command
@@ -65,7 +65,7 @@ module _ (layouts : LayoutTable) where
     new ← if is_some (layout_named layouts name) then Err NameIsTaken else Ok name
     mark ← mark_in mark
     counts ← counts_in words
-    if nat_lt (layout_count layouts) max_layouts then Ok (Layout name (record { counts = counts; marked = mark })) else Err TooManyLayouts
+    if nat_lt (length layouts.by_name.entries) max_layouts then Ok (Layout name (record { counts = counts; marked = mark })) else Err TooManyLayouts
   order_in keyword.Size (name ∷ total ∷ wanted ∷ []) = do
     name ← name_in name
     layout ← ok_or (layout_named layouts name) NoSuchLayout

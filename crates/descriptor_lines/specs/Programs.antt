@@ -10,7 +10,7 @@ use Rattle.descriptor_script.specs.declared.command.Command.TheVariants as sessi
 use Rattle.descriptor_script.specs.declared.command.Reply.{Reply}
 use Rattle.descriptor_lines.specs.Answers.{size_answer}
 use Rattle.gpu_descriptor_types.specs.PoolSize.{IsPoolSize, pool_counts}
-use Rattle.descriptor_lines.specs.LayoutTables.{first_layouts, has_key, key_of, layout_count, layouts_in}
+use Rattle.descriptor_lines.specs.LayoutTables.{first_layouts, has_key, key_of, layouts_in}
 use Rattle.descriptor_lines.specs.LineStates.{LineState}
 use Rattle.descriptor_lines.specs.Orders.{BeginsList, Order, Limit, Layout as NewLayout, Size, Script, Alloc, Free, Cleanup, Show, line_in}
 use Rattle.descriptor_lines.specs.Replies.{LineSession}
@@ -32,7 +32,7 @@ pub record CanRun (p : LineState) : Type 0 where
   -- the session has the layouts of the lines, in their order
   pub layouts : map (λ k. k.layout) p.session.value.layouts ≡ map (λ l. record { counts = l.1.counts; mark = l.1.mark }) (layouts_in p.layouts)
   -- before the first command there is no layout
-  pub fresh : IsFalse p.has_begun → layout_count p.layouts ≡ 0
+  pub fresh : IsFalse p.has_begun → length p.layouts.by_name.entries ≡ 0
 
 -- the program can run a line, and the text that gets the answer is empty
 pub record CanAnswer (text : List ℕ) (p : LineState) : Type 0 where

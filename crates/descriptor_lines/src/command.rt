@@ -1,12 +1,11 @@
 //! The commands that lines give.
-ghost use Rattle.std.specs.Prelude.{◌≡◌, ◌⊎◌, ◌↔◌, ℕ, List, [], ◌∷◌, IsTrue, IsFalse, IfErr, IfOk, IfSome};
+ghost use Rattle.std.specs.Prelude.{◌≡◌, ◌⊎◌, ◌↔◌, ℕ, List, [], ◌∷◌, IsTrue, IsFalse, IfErr, IfOk, IfSome, length};
 ghost use Rattle.std.specs.Prelude.{OnOk, Ok, Err, None};
 ghost use Rattle.std.specs.Prelude.{option_map};
 ghost use Rattle.descriptor_lines.specs.Orders.{BeginsList, line_in, order_in, order_of, timely as timely_of};
 ghost use Rattle.descriptor_lines.specs.Commands.{IsRunnable};
 ghost use Rattle.descriptor_lines.specs.Fault.{Reads};
 ghost use Rattle.std.specs.Result.{result_map_both};
-ghost use Rattle.descriptor_lines.specs.LayoutTables.{layout_count};
 ghost use Rattle.descriptor_lines.specs.Words.{words as words_of, words_left, is_silent};
 
 mod layout;
@@ -77,7 +76,7 @@ impl<'a> Command<'a> {
         layouts: &LayoutTable,
         has_begun: bool,
     ) -> Result<Option<Command<'a>>, Refusal>
-        requires fresh { IsFalse has_begun → layout_count layouts.now ≡ 0 }
+        requires fresh { IsFalse has_begun → length layouts.now.by_name.entries ≡ 0 }
         ensures reads { Reads (option_map order_of) result
             (line_in layouts.now has_begun (words_of line.now)) }
         ensures memory { result ≡ Err Refusal.NoMemory → BeginsList (words_of line.now) }
@@ -116,7 +115,7 @@ fn parse_words<'a>(
     mut words: Words<'a>,
     layouts: &LayoutTable,
 ) -> Result<Command<'a>, Refusal>
-    requires fresh { keyword ≡ Keyword.Limit → layout_count layouts.now ≡ 0 }
+    requires fresh { keyword ≡ Keyword.Limit → length layouts.now.by_name.entries ≡ 0 }
     ensures reads { Reads order_of result
         (order_in layouts.now keyword
         (words_left words.entry)) }

@@ -1,5 +1,5 @@
 //! The layouts that the lines made, by name.
-ghost use Rattle.std.specs.Prelude.{◌≡◌, ◌+◌, ◌<◌, ◌≤◌, ◌↔◌, ◌++◌, ◌∷◌, [], IsTrue, IfOk};
+ghost use Rattle.std.specs.Prelude.{◌≡◌, ◌+◌, ◌<◌, ◌≤◌, ◌↔◌, ◌++◌, ◌∷◌, [], IsTrue, IfOk, length};
 ghost use Rattle.std.specs.Prelude.{OnOk, None, if◌then◌else◌, string_bytes};
 
 use gpu_descriptor_types::DescriptorTotalCount;
@@ -35,7 +35,7 @@ pub struct LayoutTable {
 }
 
 impl LayoutTable {
-    ghost use Rattle.descriptor_lines.specs.LayoutTables.{first_layouts, has_key, layout_count, place_named};
+    ghost use Rattle.descriptor_lines.specs.LayoutTables.{first_layouts, has_key, place_named};
     ghost use Rattle.descriptor_lines.specs.LayoutTables.{layout_named, layouts_in, max_layouts};
     ghost use Rattle.indexmap.specs.IndexMap.{spare};
 
@@ -50,7 +50,7 @@ impl LayoutTable {
 
     /// Whether there are as many layouts as there may be.
     pub fn is_full(&self) -> bool
-        ensures { IsTrue result ↔ (max_layouts ≤ layout_count self.now) }
+        ensures { IsTrue result ↔ (max_layouts ≤ length self.now.by_name.entries) }
     {
         MAX_LAYOUTS <= self.by_name.len()
     }

@@ -1,7 +1,7 @@
 //! The commands, run.
-ghost use Rattle.std.specs.Prelude.{◌≡◌, None, IsTrue, string_bytes};
+ghost use Rattle.std.specs.Prelude.{◌≡◌, None, IsTrue, string_bytes, length};
 ghost use Rattle.descriptor_lines.specs.Commands.{IsRunnable};
-ghost use Rattle.descriptor_lines.specs.LayoutTables.{key_of, layout_count, layout_named};
+ghost use Rattle.descriptor_lines.specs.LayoutTables.{key_of, layout_named};
 ghost use Rattle.descriptor_lines.specs.LineStates.{line_state};
 ghost use Rattle.descriptor_lines.specs.Orders.{Limit, Layout as NewLayout, Script, order_of};
 ghost use Rattle.descriptor_lines.specs.Programs.{CanAnswer, Does, DoesOrder, RunsAs};
@@ -56,7 +56,7 @@ impl<D: LineDevice> Program<D> {
     /// Begins with this limit on marked descriptors, and puts the answer into the empty text.
     fn set_limit(&mut self, max: u32, answer: &mut String) -> Result<(), AllocError>
         requires can { CanAnswer (string_bytes answer.old) (line_state D.ledger D.script self.old) }
-        requires fresh { layout_count self.old.layouts ≡ 0 }
+        requires fresh { length self.old.layouts.by_name.entries ≡ 0 }
         ensures runs { RunsAs (DoesOrder (Limit max)) result (string_bytes answer.new)
             (line_state D.ledger D.script self.old) (line_state D.ledger D.script self.new) }
     {
