@@ -102,6 +102,7 @@ impl<S> Slots<S> {
     }
 
     /// Takes the set of a ticket out of its slot.
+    #[tactic(auto, using(crate::proofs::Emptied::held_one_less))]
     pub(crate) fn take(&mut self, ticket: usize) -> Option<DescriptorSet<S>>
         requires { IsSome (set_at self.old.sets.items ticket) }
         ensures set { result ≡ set_at self.old.sets.items ticket }

@@ -18,6 +18,7 @@ impl<L, P: Drop, S: Drop> Session<L, P, S> {
     ///
     /// A reply of `BadTicket`, `BadLayout` or `NoMemory` says that nothing changed, and that the
     /// device was not asked.
+    #[tactic(auto, using(crate::proofs::Given::no_fewer_tickets))]
     pub fn step<D: DescriptorDevice<L, P, S>>(&mut self, device: &mut D, command: &Command) -> Reply
         requires ready { IsReady D.meaning (side (value_of self.old) (D.ledger device.old)) }
         ensures step { StepsTo D.meaning command.now result

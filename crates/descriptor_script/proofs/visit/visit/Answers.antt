@@ -1,25 +1,14 @@
 use Rattle.std.proofs.Common.{◌≡◌, false, [], sym, ap, ◌∙◌}
-use Rattle.std.proofs.lemmas.Result.{IfOk-weaker}
-use Rattle.gpu_descriptor_types.specs.Side.{Side, side}
 use Rattle.gpu_descriptor.specs.Model.Agreement.{Item, State, count_of, outstanding}
 use Rattle.gpu_descriptor.specs.Caller.Sets.{items_of}
 use Rattle.gpu_descriptor.specs.Caller.States.{state_of}
 use Rattle.gpu_descriptor.proofs.cleanup.Cleaning.{nothing_left}
 use Rattle.gpu_descriptor.proofs.foreign.NoneLost.{restores}
 use Rattle.gpu_descriptor.proofs.foreign.OthersStay.{from_others}
-use Rattle.descriptor_script.specs.Sessions.Session.{SessionValue, value_of}
+use Rattle.descriptor_script.specs.Sessions.Session.{value_of}
 use Rattle.descriptor_script.specs.Sessions.Tickets.{held_sets}
 use Rattle.descriptor_script.proofs.visit.visit.Goals.{After-cleanup}
 use Rattle.descriptor_script.proofs.visit.visit.Goals as goal
-
--- the session once the commands were run, and once it was cleaned up
-abbrev used : (g : _) (c : After-cleanup g) → Side (SessionValue g.row.L.Denot g.row.P.Denot g.row.S.Denot)
-used g c = side (value_of c.run-replies.new.self) (g.D.DescriptorDevice.ledger c.run-replies.new.device)
-
-pub returns-clause-runs : goal.returns-clause-runs
-returns-clause-runs g c =
-    let at = (goal.at.returns-clause-runs g c).After-cleanup in
-    IfOk-weaker c.run-replies.result _ _ (λ replies ran. (used g at, ran, at.cleanup.ensures.cleans)) c.run-replies.ensures.runs
 
 nothing : (g : _) (c : After-cleanup g) → held_sets (value_of c.cleanup.new.self).sets ≡ [] → (i : Item) → outstanding (state_of g.D.DescriptorDevice.meaning.pool_name (value_of c.run-replies.new.self).allocator (g.D.DescriptorDevice.ledger c.run-replies.new.device)) i ≡ 0
 nothing g c none i = c.run-replies.ensures.keeps.ready.held i ∙ ap (λ l. count_of i (items_of g.D.DescriptorDevice.meaning.set_name (held_sets l))) (sym c.cleanup.ensures.cleans.1) ∙ ap (λ l. count_of i (items_of g.D.DescriptorDevice.meaning.set_name l)) none

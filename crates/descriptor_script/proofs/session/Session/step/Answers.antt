@@ -1,8 +1,5 @@
-use Rattle.descriptor_script.proofs.Given.{freed_stay, no_fewer_tickets}
+use Rattle.descriptor_script.proofs.Given.{freed_stay}
 use Rattle.descriptor_script.proofs.session.Session.step.Goals as goal
-
-pub returns-in-Free-clause-tickets : goal.returns-in-Free-clause-tickets
-returns-in-Free-clause-tickets g c = no_fewer_tickets _ _ _ _ _ c.free.ensures.step
 
 pub returns-in-Free-clause-freed : goal.returns-in-Free-clause-freed
 returns-in-Free-clause-freed g c ticket lt none = freed_stay _ _ _ _ _ c.free.ensures.step ticket none

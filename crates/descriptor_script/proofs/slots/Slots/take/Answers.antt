@@ -8,10 +8,3 @@ overflow_sub-self g c =
     let less = held_one_less s.sets.items c.args.ticket c.requires in
     let counted = s.counted in
     omega arith
-
-pub invariant_of-self-clause-counted : goal.invariant_of-self-clause-counted
-invariant_of-self-clause-counted g c =
-    let s = c.args.self.now in
-    let less = held_one_less s.sets.items c.args.ticket c.requires in
-    let counted = s.counted in
-    rw c.take-set.ensures.after (omega arith)
