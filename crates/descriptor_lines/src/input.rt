@@ -109,7 +109,8 @@ impl LineBuffer {
     pub fn line(&self, span: Span) -> &[u8]
         // Two calls, so that no byte is copied: a method that lends a part of what it changes can't say
         // what it left.
-        ensures bytes { result.now ≡ strip_last 13 (slice_range self.now.bytes.items span.start span.end) }
+        ensures bytes { result.now ≡ strip_last 13 (slice_range self.now.bytes.items span.start
+            span.end) }
         ensures short { length result.now ≤ span.end - span.start }
     {
         let line = &self.bytes[span.start..span.end];
@@ -121,7 +122,8 @@ impl LineBuffer {
         ensures short { IfOk result (λ span. IfSome span (λ span.
             span.end - span.start ≤ longest_line)) }
         ensures found { IfOk result (λ span. IfSome span (λ _. HasEnd (buffered self.old))) }
-        ensures line { IfOk result (λ span. IfSome span (λ span. slice_range self.new.bytes.items span.start span.end
+        ensures line { IfOk result (λ span. IfSome span (λ span.
+            slice_range self.new.bytes.items span.start span.end
             ≡ before_end (buffered self.old))) }
         ensures rest { IfOk result (λ span. IfSome span (λ _. buffered self.new
             ≡ after_end (buffered self.old))) }
@@ -164,7 +166,8 @@ impl LineBuffer {
         ensures whole { IfSome result (λ span. span.end - span.start
             ≡ self.old.end - self.old.start) }
         ensures some { IfSome result (λ _. 0 < length (buffered self.old)) }
-        ensures line { IfSome result (λ span. slice_range self.new.bytes.items span.start span.end ≡ buffered self.old) }
+        ensures line { IfSome result (λ span. slice_range self.new.bytes.items span.start span.end
+            ≡ buffered self.old) }
         ensures none { IfNone result (buffered self.old ≡ []) }
         ensures empty { buffered self.new ≡ [] }
         ensures end { self.new.is_at_end ≡ self.old.is_at_end }
