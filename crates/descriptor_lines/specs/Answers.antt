@@ -1,7 +1,8 @@
 -- The texts of the output.
-use Rattle.std.specs.Prelude.{◌≤◌, ◌+◌, ◌-◌, ◌^◌, min, ℕ, List, [], ◌++◌, length, codes, String, string_bytes, string_capacity, if◌then◌else◌, ◌==◌}
+use Rattle.std.specs.Prelude.{◌≤◌, ◌+◌, min, ℕ, List, [], ◌++◌, length, codes, String, string_bytes, string_capacity, if◌then◌else◌, ◌==◌}
 use Rattle.std.specs.Fmt.{decimal}
 use Rattle.std.specs.List.{flat_map, zip}
+use Rattle.gpu_descriptor_types.specs.Bounds.{greatest_u64}
 use Rattle.gpu_descriptor_types.specs.Ledger.{Counters}
 use Rattle.descriptor_lines.specs.declared.words.fault.Fault.{Fault}
 use Rattle.descriptor_lines.specs.Fault.{words_of_fault}
@@ -31,7 +32,7 @@ pool_answer name number allocated available =
 
 -- a counter as readers see it, up to the greatest `u64`
 abbrev pub shown : ℕ → ℕ
-shown count = min count (2 ^ 64 - 1)
+shown count = min count greatest_u64
 
 -- the line of `show` for the calls that the device had
 abbrev pub device_answer : Counters → List ℕ
