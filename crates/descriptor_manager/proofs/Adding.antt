@@ -1,9 +1,9 @@
 -- A layout that comes into a slot and has a handle, and one that leaves: for `LayoutRegistry::add` and `remove`.
 use Rattle.std.proofs.lemmas.Grind.{common_steps}
-use Rattle.std.proofs.Common.{◌≡◌, ◌≢◌, ℕ, ◌+◌, ◌<◌, ◌⊎◌, Bool, true, false, List, [], ◌∷◌, set, slice_index_or, if◌then◌else◌, Option, None, Some, IsSome, inl, inr, refl, sym, ap, subst, ◌∙◌, arith}
-use Rattle.descriptor_table.specs.Sets.{AreHeldOnce, LoseNames, Names, is_held, sets_of}
+use Rattle.std.proofs.Common.{◌≡◌, ◌≢◌, ℕ, ◌+◌, ◌<◌, ◌⊎◌, Bool, true, false, List, [], ◌∷◌, set, slice_index_or, if◌then◌else◌, Option, None, Some, IsSome, inl, inr, refl, sym, ap, ◌∙◌, arith}
+use Rattle.descriptor_table.specs.Sets.{AreHeldOnce, LoseNames, NameEach, find, is_held, sets_of}
 use Rattle.descriptor_table.specs.Slots.{is_live, slot_at}
-use Rattle.descriptor_table.specs.Tables.{Grows, Puts, Renews, place_at, renewed, vacated}
+use Rattle.descriptor_table.specs.Tables.{Grows, Puts, Renews, current, place_at, renewed, vacated}
 use Rattle.descriptor_table.specs.declared.handle.SetHandle.{SetHandle}
 use Rattle.descriptor_table.specs.Slots.{Slot}
 use Rattle.descriptor_table.specs.declared.slot.Use.TheVariants.{Held}
@@ -13,7 +13,9 @@ use Rattle.descriptor_table.proofs.Naming.{names_lost}
 use Rattle.descriptor_table.proofs.Listed.{other_slots, slot_set}
 use Rattle.descriptor_manager.proofs.Cleared.{same_clears}
 use Rattle.descriptor_manager.proofs.Growing.{grow_new}
-use Rattle.descriptor_manager.proofs.Handing.{named, new_fills}
+use Rattle.descriptor_manager.proofs.Handing.{new_one}
+use Rattle.descriptor_manager.proofs.Joining.{are_named}
+use Rattle.descriptor_manager.proofs.Naming.{seen_next}
 use Rattle.descriptor_manager.proofs.Owned.{same_some}
 
 one_more : (b c : Bool) (r g h : ℕ) → b ≡ false → c ≡ true → h ≡ g + 1 → g ≡ r + (if b then 1 else 0) → h ≡ r + (if c then 1 else 0)
@@ -29,13 +31,16 @@ module _ {T : Type 0} (number p : ℕ) (x : T) (handle : SetHandle) (old mid new
   added_there : (n : ℕ) → n ≢ p → slot_at new n ≡ slot_at old n
   added_there n ne = ap (λ l. slot_at l n) renews.slots ∙ other_slots mid p (renewed Held (slot_at mid p)) n ne ∙ puts.others n ne
 
-  -- no handle but the new one names something else
-  pub added_names : Names handle x (sets_of number 0 false old) (sets_of number 0 false new)
-  added_names =
-      let fills = new_fills (λ n y. y ≡ x) number generations 0 p Held handle x old mid new puts refl renews in
-      let is = named (λ n y. y ≡ x) number generations 0 p Held handle old new (record { mid = old; clears = λ q. same_clears (slot_at old q) (slot_at old q) refl; fills = fills }) in
-      let at : (slot_at new handle.place).set ≡ Some x = ap (λ (h : SetHandle). (slot_at new h.place).set) renews.is ∙ added_here in
-      subst (λ y. Names handle y (sets_of number 0 false old) (sets_of number 0 false new)) (same_some is.set x (sym is.here ∙ at)) (is.names 0 false refl)
+  -- the handle, and no other one, names something else
+  pub added_names : NameEach (handle ∷ []) (sets_of number 0 false old) (sets_of number 0 false new)
+  added_names = are_named number (current generations 0) Held (handle ∷ []) old old new (λ q. same_clears (slot_at old q) (slot_at old q) refl) (new_one number p Held handle generations 0 x old mid new puts renews) 0 false refl
+
+  -- it names the layout
+  pub added_is : find number 0 false new handle ≡ Some x
+  added_is =
+      let n = slot_at new p in
+      let generation = ap (λ (s : Slot T). s.generation) slot_here in
+      ap (find number 0 false new) renews.is ∙ seen_next number 0 false p (slot_at mid p) n generation (ap (λ (s : Slot T). is_live 0 false s.used) slot_here) ∙ added_here
 
   -- each layout that is there was there before, or is the new one
   pub added_only : (n : ℕ) (y : T) → (slot_at new n).set ≡ Some y → ((slot_at old n).set ≡ Some y) ⊎ (y ≡ x)

@@ -9,7 +9,6 @@ use Rattle.descriptor_table.specs.Slots.{Slot}
 use Rattle.descriptor_table.proofs.Counting.{below_or}
 use Rattle.descriptor_table.proofs.Counts.{count_none}
 use Rattle.descriptor_table.proofs.Listed.{past_end}
-use Rattle.descriptor_table.proofs.Leaving.{same_sets}
 use Rattle.descriptor_table.proofs.Renewing.{kept_full}
 use Rattle.descriptor_manager.specs.Stores.{AreCleaned}
 use Rattle.descriptor_manager.proofs.Back.{turned_sets}

@@ -1,31 +1,25 @@
--- Sets that are held, one after another: for `Store::hold_next`, `hold_last`, `hold_kept`, `hold_coming` and `allocate_each`.
+-- Sets that come to a use, one after another: for `Store::hold_kept`, `hold_coming`, `allocate` and `allocate_each`.
 -- The slots are `old` before the handles `a` are given, `mid` between, and `new` after the handles `b`; `x` and `y` say so of `a` and `b`.
 -- Handles are written into a list `now`, of which the first are given: those before the place `n`.
 use Rattle.std.proofs.lemmas.Grind.{common_steps}
-use Rattle.std.proofs.Common.{◌≡◌, ◌≢◌, ℕ, ◌+◌, ◌-◌, ◌<◌, ◌⊎◌, ◌&&◌, ◌||◌, Bool, true, false, List, [], ◌∷◌, ◌++◌, length, get_or, Some, is_some, IsSome, inl, inr, refl, sym, ap, subst, ◌∙◌, add-one, arith, set, take}
+use Rattle.std.proofs.Common.{◌≡◌, ◌≢◌, ℕ, ◌+◌, ◌-◌, ◌<◌, ◌⊎◌, ◌||◌, Bool, true, false, List, [], ◌∷◌, ◌++◌, length, get_or, Some, is_some, IsSome, inl, inr, refl, sym, ap, subst, ◌∙◌, add-one, arith, set, take}
 use Rattle.std.proofs.lemmas.Bool.{cases_lt, false≢true}
 use Rattle.std.proofs.Math.Seq.{take-length, take-suc-set}
 use Rattle.std.proofs.lemmas.List.{get_or-append-add, get_or-set_other, get_or-set_same, get_or_append_left, length-append}
 use Rattle.gpu_descriptor_types.specs.declared.device.DescriptorDevice.{Ghosts}
 use Rattle.gpu_descriptor.specs.declared.set.DescriptorSet.{DescriptorSet}
-use Rattle.descriptor_table.specs.Slots.{is_kept_of, is_live, slot_at, waits_for}
+use Rattle.descriptor_table.specs.Slots.{Slot, frame_of, is_kept_of, is_live, slot_at, waits_for}
 use Rattle.descriptor_table.specs.Sets.{NameEach, find, is_given, sets_of}
-use Rattle.descriptor_table.specs.Tables.{came_under, current, holds, is_held_use, place_at}
+use Rattle.descriptor_table.specs.Tables.{came_under, current, is_held_use, place_at}
 use Rattle.descriptor_table.specs.declared.handle.SetHandle.{SetHandle}
-use Rattle.descriptor_table.specs.Slots.{Slot}
 use Rattle.descriptor_table.specs.declared.slot.Use.{Use}
-use Rattle.descriptor_table.specs.declared.slot.Use.TheVariants.{Held}
-use Rattle.descriptor_table.proofs.Chains.{and_true}
 use Rattle.descriptor_table.proofs.Holding.{named_or}
-use Rattle.descriptor_manager.specs.Stores.{HoldEach, NoneComes, SetsCome, KeepsStore, current_in, is_free, number_of, slots_in}
+use Rattle.descriptor_manager.specs.Stores.{ComesInto, HoldEach, KeepsStore, NoneComes, SetsCome, current_in, number_of, slots_in}
 use Rattle.descriptor_manager.specs.declared.store.Store.{Store}
 use Rattle.descriptor_manager.proofs.Arriving.{Arrives, arrives_then, clears_arrives, same_arrives, used_placed}
 use Rattle.descriptor_manager.proofs.Cleared.{Clears}
-use Rattle.descriptor_manager.proofs.Handing.{Fills, some_of}
-use Rattle.descriptor_manager.proofs.Naming.{free_is, free_kept, given_apart, given_clear, given_never, given_next, kept_as, next_of, seen_apart, seen_clear, seen_free, seen_next}
-
-held_use : (u : Use) → is_held_use u ≡ true → u ≡ Held
-held_use u e = grind (arith, common_steps)
+use Rattle.descriptor_manager.proofs.Handing.{came_free, came_full, came_next, came_used, some_of}
+use Rattle.descriptor_manager.proofs.Naming.{free_is, free_kept, is_free, given_apart, given_clear, given_never, given_next, kept_as, next_of, seen_apart, seen_clear, seen_free, seen_next}
 
 -- a place of two lists is one of the first, or of the second
 spot : (a b : List SetHandle) (i : ℕ) → i < length (a ++ b) → ((i < length a) × (place_at (a ++ b) i ≡ place_at a i)) ⊎ ((k : ℕ) × (k < length b) × (i ≡ length a + k) × (place_at (a ++ b) i ≡ place_at b k))
@@ -47,52 +41,34 @@ place_here : (now : List SetHandle) (n : ℕ) (handle : SetHandle) → n < lengt
 place_here now n handle lt = ap (λ (h : SetHandle). h.place) (get_or-set_same now n handle (record { manager = 0; place = 0; generation = 0 }) lt)
 
 module _ {T : Type 0} where
-  held_is : (s : Slot T) → holds s ≡ true → (s.used ≡ Held) × (is_some s.set ≡ true)
-  held_is s e = (let both = and_true (is_held_use s.used) (is_some s.set) e in (held_use s.used both.0, both.1))
-
-  held_not_free : (s : Slot T) → holds s ≡ true → is_free s ≡ true → ⊥
-  held_not_free s held free = elim (free_is s free) [
-    | inl none ↦ (false≢true (sym (ap is_some none) ∙ (held_is s held).1))
-    | inr kept ↦ (false≢true (ap is_held_use (sym kept ∙ (held_is s held).0)))
+  -- a slot in a use with a handle isn't free
+  used_not_free : (u : Use) (s : Slot T) → is_live (frame_of u) true u ≡ true → s.used ≡ u → is_some s.set ≡ true → is_free s ≡ true → ⊥
+  used_not_free u s live is full free = elim (free_is s free) [
+    | inl none ↦ (false≢true (sym (ap is_some none) ∙ full))
+    | inr kept ↦ (false≢true (ap (λ u. is_live (frame_of u) true u) (sym kept ∙ is) ∙ live))
   ]
 
-  pub hold_none : (number : ℕ) (layout : ℕ × ℕ) (old : List (Slot T)) → HoldEach number layout [] old old
-  hold_none number layout old = record {
+  pub hold_none : (number : ℕ) (layout : ℕ × ℕ) (u : Use) (old : List (Slot T)) → HoldEach number layout u [] old old
+  hold_none number layout u old = record {
     apart = λ i j lt less. absurd (omega arith);
-    was = λ i lt. absurd (omega arith);
     is = λ i e lt. absurd (omega arith);
-    generation = λ i lt. absurd (omega arith);
-    of_layout = λ i lt. absurd (omega arith);
-    held = λ i lt. absurd (omega arith);
+    comes = λ i lt. absurd (omega arith);
     rest = λ p none. refl;
   }
 
-  -- a set that got a handle is held by it
-  pub hold_one : (comes : ℕ → T → Type 0) (number : ℕ) (generations : ℕ → ℕ) (layout p : ℕ) (handle : SetHandle) (old new : List (Slot T)) → Fills comes number generations layout p Held handle old new → HoldEach number (current generations layout) (handle ∷ []) old new
-  hold_one comes number generations layout p handle old new f = record {
-    apart = λ i j lt less. absurd (omega arith);
-    was = λ i lt. subst (λ q. is_free (slot_at old q) ≡ true) (sym (at i lt)) f.free;
-    is = is_next;
-    generation = λ i lt. subst (λ q. (slot_at new q).generation ≡ (slot_at old q).generation + 1) (sym (at i lt)) f.generation;
-    of_layout = λ i lt. subst (λ q. came_under (slot_at new q) ≡ current generations layout) (sym (at i lt)) f.of_layout;
-    held = λ i lt. subst (λ q. holds (slot_at new q) ≡ true) (sym (at i lt)) (ap (λ u. is_held_use u && is_some (slot_at new p).set) f.used ∙ ap is_some f.here);
-    rest = λ q none. f.others q (λ e. none 0 (omega arith) (at 0 (omega arith) ∙ sym e));
-  }
-    where
-      at : (i : ℕ) → i < length (handle ∷ []) → place_at (handle ∷ []) i ≡ p
-      at x0 lt = grind (arith, common_steps)
+  -- a set with a handle is there
+  pub held_full : (number : ℕ) (layout : ℕ × ℕ) (u : Use) (handle : SetHandle) (old new : List (Slot T)) → HoldEach number layout u (handle ∷ []) old new → is_some (slot_at new handle.place).set ≡ true
+  held_full number layout u handle old new x = came_full layout u (slot_at old handle.place) (slot_at new handle.place) (x.comes 0 (omega arith))
 
-      is_next : (i : ℕ) (e : SetHandle) → i < length (handle ∷ []) → get_or (handle ∷ []) i e ≡ next_of number (place_at (handle ∷ []) i) (slot_at old (place_at (handle ∷ []) i))
-      is_next x0 e lt = grind (arith, common_steps)
-
-  -- a set that is held by its handle is there
-  pub held_full : (number : ℕ) (layout : ℕ × ℕ) (handle : SetHandle) (old new : List (Slot T)) → HoldEach number layout (handle ∷ []) old new → is_some (slot_at new handle.place).set ≡ true
-  held_full number layout handle old new x = (held_is (slot_at new handle.place) (x.held 0 (omega arith))).1
-
-  module _ (number : ℕ) (layout : ℕ × ℕ) (a b : List SetHandle) (old mid new : List (Slot T)) (x : HoldEach number layout a old mid) (y : HoldEach number layout b mid new) where
-    -- no handle of `b` has a place of `a`: the set there is held by then, and so it is not free
+  module _ (number : ℕ) (layout : ℕ × ℕ) (u : Use) (live : is_live (frame_of u) true u ≡ true) (a b : List SetHandle) (old mid new : List (Slot T)) (x : HoldEach number layout u a old mid) (y : HoldEach number layout u b mid new) where
+    -- no handle of `b` has a place of `a`: the set there is in use by then, and so it is not free
     apart_places : (i k : ℕ) → i < length a → k < length b → place_at a i ≢ place_at b k
-    apart_places i k lt less e = held_not_free (slot_at mid (place_at b k)) (subst (λ q. holds (slot_at mid q) ≡ true) e (x.held i lt)) (y.was k less)
+    apart_places i k lt less e =
+        let o = slot_at old (place_at a i) in
+        let m = slot_at mid (place_at a i) in
+        let came = x.comes i lt in
+        let free = came_free layout u (slot_at mid (place_at b k)) (slot_at new (place_at b k)) (y.comes k less) in
+        used_not_free u m live (came_used layout u o m came) (came_full layout u o m came) (subst (λ q. is_free (slot_at mid q) ≡ true) (sym e) free)
 
     -- the later places are as they were before
     later : (k : ℕ) → k < length b → slot_at mid (place_at b k) ≡ slot_at old (place_at b k)
@@ -115,29 +91,17 @@ module _ {T : Type 0} where
       ]
     ]
 
-    -- sets that are held by `a`, and then sets that are held by `b`, are held by the handles of both lists
-    pub joined : HoldEach number layout (a ++ b) old new
+    -- sets with the handles `a`, and then sets with `b`, have the handles of both lists
+    pub joined : HoldEach number layout u (a ++ b) old new
     joined = record {
       apart = join_apart;
-      was = λ i lt. elim (spot a b i lt) [
-        | inl u ↦ subst (λ q. is_free (slot_at old q) ≡ true) (sym u.1) (x.was i u.0)
-        | inr u ↦ subst (λ q. is_free (slot_at old q) ≡ true) (sym u.3) (ap is_free (sym (later u.0 u.1)) ∙ y.was u.0 u.1)
-      ];
       is = λ i e lt. elim (spot a b i lt) [
         | inl u ↦ get_or_append_left a b e i u.0 ∙ x.is i e u.0 ∙ ap (λ q. next_of number q (slot_at old q)) (sym u.1)
         | inr u ↦ ap (λ j. get_or (a ++ b) j e) u.2 ∙ get_or-append-add a b u.0 e ∙ y.is u.0 e u.1 ∙ ap (next_of number (place_at b u.0)) (later u.0 u.1) ∙ ap (λ q. next_of number q (slot_at old q)) (sym u.3)
       ];
-      generation = λ i lt. elim (spot a b i lt) [
-        | inl u ↦ subst (λ q. (slot_at new q).generation ≡ (slot_at old q).generation + 1) (sym u.1) (ap (λ (s : Slot T). s.generation) (first i u.0) ∙ x.generation i u.0)
-        | inr u ↦ subst (λ q. (slot_at new q).generation ≡ (slot_at old q).generation + 1) (sym u.3) (y.generation u.0 u.1 ∙ ap (λ (s : Slot T). s.generation + 1) (later u.0 u.1))
-      ];
-      of_layout = λ i lt. elim (spot a b i lt) [
-        | inl u ↦ subst (λ q. came_under (slot_at new q) ≡ layout) (sym u.1) (ap came_under (first i u.0) ∙ x.of_layout i u.0)
-        | inr u ↦ subst (λ q. came_under (slot_at new q) ≡ layout) (sym u.3) (y.of_layout u.0 u.1)
-      ];
-      held = λ i lt. elim (spot a b i lt) [
-        | inl u ↦ subst (λ q. holds (slot_at new q) ≡ true) (sym u.1) (ap holds (first i u.0) ∙ x.held i u.0)
-        | inr u ↦ subst (λ q. holds (slot_at new q) ≡ true) (sym u.3) (y.held u.0 u.1)
+      comes = λ i lt. elim (spot a b i lt) [
+        | inl v ↦ subst (λ q. ComesInto layout u (slot_at old q) (slot_at new q)) (sym v.1) (subst (ComesInto layout u (slot_at old (place_at a i))) (sym (first i v.0)) (x.comes i v.0))
+        | inr v ↦ subst (λ q. ComesInto layout u (slot_at old q) (slot_at new q)) (sym v.3) (subst (λ o. ComesInto layout u o (slot_at new (place_at b v.0))) (later v.0 v.1) (y.comes v.0 v.1))
       ];
       rest = λ p none.
           y.rest p (λ k less e. none (length a + k) (let long = length-append a b in omega arith) (ap (λ (h : SetHandle). h.place) (get_or-append-add a b k (record { manager = 0; place = 0; generation = 0 })) ∙ e))
@@ -146,39 +110,46 @@ module _ {T : Type 0} where
 
   -- the sets of the given handles were kept, and so was that of one more
   pub were_kept :
-      (number : ℕ) (under : ℕ × ℕ) (layout n : ℕ) (now : List SetHandle) (handle : SetHandle) (old mid : List (Slot T)) → n < length now
-      → HoldEach number under (take n now) old mid → ((i : ℕ) → i < n → is_kept_of layout (slot_at old (place_at now i)) ≡ true)
+      (number : ℕ) (under : ℕ × ℕ) (u : Use) (layout n : ℕ) (now : List SetHandle) (handle : SetHandle) (old mid : List (Slot T)) → is_live (frame_of u) true u ≡ true → n < length now
+      → HoldEach number under u (take n now) old mid → ((i : ℕ) → i < n → is_kept_of layout (slot_at old (place_at now i)) ≡ true)
       → is_kept_of layout (slot_at mid handle.place) ≡ true
       → (i : ℕ) → i < n + 1 → is_kept_of layout (slot_at old (place_at (set now n handle) i)) ≡ true
-  were_kept number under layout n now handle old mid within x each last i lt = elim (cases_lt i n) [
+  were_kept number under u layout n now handle old mid live within x each last i lt = elim (cases_lt i n) [
     | inl less ↦ subst (λ p. is_kept_of layout (slot_at old p) ≡ true) (sym (place_other now n handle i (λ e. omega arith))) (each i less)
     | inr le ↦ subst (λ j. is_kept_of layout (slot_at old (place_at (set now n handle) j)) ≡ true) (omega arith) (subst (λ p. is_kept_of layout (slot_at old p) ≡ true) (sym (place_here now n handle within)) before)
   ]
     where
       before : is_kept_of layout (slot_at old handle.place) ≡ true
       before = elim (named_or (length (take n now)) (place_at (take n now)) handle.place) [
-        | inl found ↦ absurd (held_not_free (slot_at mid handle.place) (subst (λ q. holds (slot_at mid q) ≡ true) found.2 (x.held found.0 found.1)) (free_kept (slot_at mid handle.place) (kept_as layout (slot_at mid handle.place) last).2))
+        | inl found ↦ absurd (
+            let q = place_at (take n now) found.0 in
+            let came = x.comes found.0 found.1 in
+            let kept = subst (λ p. is_kept_of layout (slot_at mid p) ≡ true) (sym found.2) last in
+            used_not_free u (slot_at mid q) live (came_used under u (slot_at old q) (slot_at mid q) came) (came_full under u (slot_at old q) (slot_at mid q) came) (free_kept (slot_at mid q) (kept_as layout (slot_at mid q) kept).2))
         | inr none ↦ ap (is_kept_of layout) (sym (x.rest handle.place none)) ∙ last
       ]
 
   -- all handles of the list are given
-  pub held_all : (number : ℕ) (under : ℕ × ℕ) (n : ℕ) (now : List SetHandle) (old new : List (Slot T)) → n ≡ length now → HoldEach number under (take n now) old new → HoldEach number under now old new
-  held_all number under n now old new is x = subst (λ l. HoldEach number under l old new) (ap (λ n. take n now) is ∙ take-length now) x
+  pub held_all : (number : ℕ) (under : ℕ × ℕ) (u : Use) (n : ℕ) (now : List SetHandle) (old new : List (Slot T)) → n ≡ length now → HoldEach number under u (take n now) old new → HoldEach number under u now old new
+  held_all number under u n now old new is x = subst (λ l. HoldEach number under u l old new) (ap (λ n. take n now) is ∙ take-length now) x
 
-  -- kept sets may have left their slots before the first set was held
-  module _ (number : ℕ) (layout : ℕ × ℕ) (handles : List SetHandle) (old mid new : List (Slot T)) (clear : (q : ℕ) → Clears (slot_at old q) (slot_at mid q)) (x : HoldEach number layout handles mid new) where
+  -- kept sets may have left their slots before the first set came
+  module _ (number : ℕ) (layout : ℕ × ℕ) (u : Use) (handles : List SetHandle) (old mid new : List (Slot T)) (clear : (q : ℕ) → Clears (slot_at old q) (slot_at mid q)) (x : HoldEach number layout u handles mid new) where
     -- each set was there, or came
-    pub holds_arrives : (comes : ℕ → T → Type 0) → ((p : ℕ) (t : T) → (slot_at new p).set ≡ Some t → (((slot_at mid p).set ≡ Some t) × (came_under (slot_at new p) ≡ came_under (slot_at mid p))) ⊎ comes (slot_at new p).layout t) → (q : ℕ) → Arrives comes (slot_at old q) (slot_at new q)
-    holds_arrives comes sets q = arrives_then comes (slot_at old q) (slot_at mid q) (slot_at new q) (clears_arrives comes (slot_at old q) (slot_at mid q) (clear q)) (elim (named_or (length handles) (place_at handles) q) [
+    pub holds_arrives : is_live (frame_of u) true u ≡ true → (comes : ℕ → T → Type 0) → ((p : ℕ) (t : T) → (slot_at new p).set ≡ Some t → (((slot_at mid p).set ≡ Some t) × (came_under (slot_at new p) ≡ came_under (slot_at mid p))) ⊎ comes (slot_at new p).layout t) → (q : ℕ) → Arrives comes (slot_at old q) (slot_at new q)
+    holds_arrives live comes sets q = arrives_then comes (slot_at old q) (slot_at mid q) (slot_at new q) (clears_arrives comes (slot_at old q) (slot_at mid q) (clear q)) (elim (named_or (length handles) (place_at handles) q) [
       | inl found ↦
-          let held = held_is (slot_at new q) (subst (λ q. holds (slot_at new q) ≡ true) found.2 (x.held found.0 found.1)) in
-          let full = some_of (slot_at new q).set held.1 in
+          let came = subst (λ q. ComesInto layout u (slot_at mid q) (slot_at new q)) found.2 (x.comes found.0 found.1) in
+          let full = some_of (slot_at new q).set (came_full layout u (slot_at mid q) (slot_at new q) came) in
           record {
             set = sets q;
-            placed = λ was. used_placed (slot_at new q) full.0 full.1 (ap (λ u. is_held_use u || waits_for (λ w. true) u) held.0);
+            placed = λ was. used_placed (slot_at new q) full.0 full.1 (ap (λ u. is_held_use u || waits_for (λ w. true) u) (came_used layout u (slot_at mid q) (slot_at new q) came) ∙ live_placed u live);
           }
       | inr none ↦ same_arrives comes (slot_at mid q) (slot_at new q) (x.rest q none)
     ])
+      where
+        live_placed : (u : Use) → is_live (frame_of u) true u ≡ true → (is_held_use u || waits_for (λ w. true) u) ≡ true
+        live_placed u live = grind (arith, common_steps)
 
     -- a handle that is none of these names what it named
     others_keep : (frame : ℕ) (opened : Bool) (other : SetHandle) → ((i : ℕ) (d : SetHandle) → i < length handles → get_or handles i d ≢ other) → (find number frame opened new other ≡ find number frame opened old other) × (is_given number new other ≡ is_given number old other)
@@ -186,8 +157,9 @@ module _ {T : Type 0} where
       | inl found ↦
           let m = slot_at mid other.place in
           let n = slot_at new other.place in
-          let more = subst (λ q. (slot_at new q).generation ≡ (slot_at mid q).generation + 1) found.2 (x.generation found.0 found.1) in
-          let free = subst (λ q. is_free (slot_at mid q) ≡ true) found.2 (x.was found.0 found.1) in
+          let came = subst (λ q. ComesInto layout u (slot_at mid q) (slot_at new q)) found.2 (x.comes found.0 found.1) in
+          let more = came_next layout u m n came in
+          let free = came_free layout u m n came in
           let apart : other ≢ next_of number other.place m = λ e. none found.0 other found.1 (x.is found.0 other found.1 ∙ ap (λ q. next_of number q (slot_at mid q)) found.2 ∙ sym e) in (
             seen_apart number frame opened m n other more apart ∙ sym (sym (seen_clear number frame opened (slot_at old other.place) m other (clear other.place)) ∙ seen_free number frame opened m other free),
             given_apart number m n other more apart ∙ given_clear number (slot_at old other.place) m other (clear other.place),
@@ -198,20 +170,21 @@ module _ {T : Type 0} where
     ]
 
     -- each of the handles names a set
-    names_set : (frame : ℕ) (opened : Bool) (i : ℕ) (d : SetHandle) → i < length handles → IsSome (find number frame opened new (get_or handles i d))
-    names_set frame opened i d lt =
+    names_set : (frame : ℕ) (opened : Bool) → is_live frame opened u ≡ true → (i : ℕ) (d : SetHandle) → i < length handles → IsSome (find number frame opened new (get_or handles i d))
+    names_set frame opened live i d lt =
         let q = place_at handles i in
+        let m = slot_at mid q in
         let n = slot_at new q in
-        let held = held_is n (x.held i lt) in
-        subst (λ h. IsSome (find number frame opened new h)) (sym (x.is i d lt)) (subst IsSome (sym (seen_next number frame opened q (slot_at mid q) n (x.generation i lt) (ap (is_live frame opened) held.0))) held.1)
+        let came = x.comes i lt in
+        subst (λ h. IsSome (find number frame opened new h)) (sym (x.is i d lt)) (subst IsSome (sym (seen_next number frame opened q m n (came_next layout u m n came) (ap (is_live frame opened) (came_used layout u m n came) ∙ live))) (came_full layout u m n came))
 
     -- none of them was ever given before, and all others name what they named
-    pub are_named : (frame : ℕ) (opened : Bool) → NameEach handles (sets_of number frame opened old) (sets_of number frame opened new)
-    are_named frame opened = record {
+    pub are_named : (frame : ℕ) (opened : Bool) → is_live frame opened u ≡ true → NameEach handles (sets_of number frame opened old) (sets_of number frame opened new)
+    are_named frame opened live = record {
       never = λ i d lt. subst (λ h. is_given number old h ≡ false) (sym (x.is i d lt)) (let q = place_at handles i in sym (given_clear number (slot_at old q) (slot_at mid q) (next_of number q (slot_at mid q)) (clear q)) ∙ given_never number q (slot_at mid q));
       once = λ i j d lt less e. x.apart i j lt less (ap (λ (h : SetHandle). h.place) (sym (x.is i d (omega arith)) ∙ e ∙ x.is j d less));
-      given = λ i d lt. subst (λ h. is_given number new h ≡ true) (sym (x.is i d lt)) (let q = place_at handles i in given_next number q (slot_at mid q) (slot_at new q) (x.generation i lt));
-      named = names_set frame opened;
+      given = λ i d lt. subst (λ h. is_given number new h ≡ true) (sym (x.is i d lt)) (let q = place_at handles i in given_next number q (slot_at mid q) (slot_at new q) (came_next layout u (slot_at mid q) (slot_at new q) (x.comes i lt)));
+      named = names_set frame opened live;
       others = others_keep frame opened;
     }
 
@@ -248,32 +221,34 @@ module _ {L P S D : Type 0} {d : Ghosts D L P S} where
     keeps = b.keeps ∙ a.keeps;
   }
 
-  -- the number and the layouts are as they were
-  pub held_stays : (layout : ℕ) (handles : List SetHandle) (mid new : List (Slot (DescriptorSet S))) (old now : Store L P S D d) → KeepsStore old now → HoldEach (number_of now) (current_in layout now) handles mid new → HoldEach (number_of old) (current_in layout old) handles mid new
-  held_stays layout handles mid new old now stays holds = subst (λ generations. HoldEach (number_of old) (current generations layout) handles mid new) stays.generations (subst (λ number. HoldEach number (current_in layout now) handles mid new) stays.number holds)
+  module _ (layout : ℕ) (u : Use) where
+    -- the number and the layouts are as they were
+    pub held_stays : (handles : List SetHandle) (mid new : List (Slot (DescriptorSet S))) (old now : Store L P S D d) → KeepsStore old now → HoldEach (number_of now) (current_in layout now) u handles mid new → HoldEach (number_of old) (current_in layout old) u handles mid new
+    held_stays handles mid new old now stays holds = subst (λ generations. HoldEach (number_of old) (current generations layout) u handles mid new) stays.generations (subst (λ number. HoldEach number (current_in layout now) u handles mid new) stays.number holds)
 
-  -- one handle more is given
-  pub held_next :
-      (layout n : ℕ) (now : List SetHandle) (handle : SetHandle) (old mid new : Store L P S D d) → KeepsStore old mid → n < length now
-      → HoldEach (number_of old) (current_in layout old) (take n now) (slots_in old) (slots_in mid)
-      → HoldEach (number_of mid) (current_in layout mid) (handle ∷ []) (slots_in mid) (slots_in new)
-      → HoldEach (number_of old) (current_in layout old) (take (n + 1) (set now n handle)) (slots_in old) (slots_in new)
-  held_next layout n now handle old mid new stays within a b =
-      let under = current_in layout old in
-      let each = held_stays layout (handle ∷ []) (slots_in mid) (slots_in new) old mid stays b in
-      subst (λ l. HoldEach (number_of old) under l (slots_in old) (slots_in new)) (sym (take-suc-set now n handle within) ∙ ap (λ m. take m (set now n handle)) (sym (add-one n)))
-      (joined (number_of old) under (take n now) (handle ∷ []) (slots_in old) (slots_in mid) (slots_in new) a each)
+    -- none is given yet
+    pub held_start : (old : Store L P S D d) → HoldEach (number_of old) (current_in layout old) u [] (slots_in old) (slots_in old)
+    held_start old = hold_none (number_of old) (current_in layout old) u (slots_in old)
 
-  -- none is given yet
-  pub held_start : (layout : ℕ) (old : Store L P S D d) → HoldEach (number_of old) (current_in layout old) [] (slots_in old) (slots_in old)
-  held_start layout old = hold_none (number_of old) (current_in layout old) (slots_in old)
+    module _ (live : is_live (frame_of u) true u ≡ true) where
+      -- one handle more is given
+      pub held_next :
+          (n : ℕ) (now : List SetHandle) (handle : SetHandle) (old mid new : Store L P S D d) → KeepsStore old mid → n < length now
+          → HoldEach (number_of old) (current_in layout old) u (take n now) (slots_in old) (slots_in mid)
+          → HoldEach (number_of mid) (current_in layout mid) u (handle ∷ []) (slots_in mid) (slots_in new)
+          → HoldEach (number_of old) (current_in layout old) u (take (n + 1) (set now n handle)) (slots_in old) (slots_in new)
+      held_next n now handle old mid new stays within a b =
+          let under = current_in layout old in
+          let each = held_stays (handle ∷ []) (slots_in mid) (slots_in new) old mid stays b in
+          subst (λ l. HoldEach (number_of old) under u l (slots_in old) (slots_in new)) (sym (take-suc-set now n handle within) ∙ ap (λ m. take m (set now n handle)) (sym (add-one n)))
+          (joined (number_of old) under u live (take n now) (handle ∷ []) (slots_in old) (slots_in mid) (slots_in new) a each)
 
-  -- kept sets have the first handles, and others the last ones
-  pub held_both :
-      (layout : ℕ) (first last : List SetHandle) (old mid new : Store L P S D d) → KeepsStore old mid
-      → HoldEach (number_of old) (current_in layout old) first (slots_in old) (slots_in mid)
-      → HoldEach (number_of mid) (current_in layout mid) last (slots_in mid) (slots_in new)
-      → HoldEach (number_of old) (current_in layout old) (first ++ last) (slots_in old) (slots_in new)
-  held_both layout first last old mid new stays a b =
-      joined (number_of old) (current_in layout old) first last (slots_in old) (slots_in mid) (slots_in new) a
-      (held_stays layout last (slots_in mid) (slots_in new) old mid stays b)
+      -- kept sets have the first handles, and others the last ones
+      pub held_both :
+          (first last : List SetHandle) (old mid new : Store L P S D d) → KeepsStore old mid
+          → HoldEach (number_of old) (current_in layout old) u first (slots_in old) (slots_in mid)
+          → HoldEach (number_of mid) (current_in layout mid) u last (slots_in mid) (slots_in new)
+          → HoldEach (number_of old) (current_in layout old) u (first ++ last) (slots_in old) (slots_in new)
+      held_both first last old mid new stays a b =
+          joined (number_of old) (current_in layout old) u live first last (slots_in old) (slots_in mid) (slots_in new) a
+          (held_stays last (slots_in mid) (slots_in new) old mid stays b)

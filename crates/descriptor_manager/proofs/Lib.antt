@@ -16,10 +16,11 @@ mod Naming
 mod Owned
 mod Remaining
 mod Removing
+mod Requested
+mod Requests
 mod Reserved
 mod Resting
 mod Results
 mod Returned
 mod Settling
 mod Showing
-mod Taking

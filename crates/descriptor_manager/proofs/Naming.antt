@@ -1,4 +1,4 @@
--- What handles name when sets come to slots, or leave them: for `Handing`, `Joining` and `Removing`.
+-- What handles name when sets come to slots, or leave them: for `Joining` and `Removing`.
 -- `o` is a slot before, `n` the same slot after, and `h` a handle of its place; a handle is *apart* if it isn't the next one of the slot.
 use Rattle.std.proofs.lemmas.Grind.{common_steps}
 use Rattle.std.proofs.Common.{◌≡◌, ◌≢◌, ℕ, ◌+◌, ◌<◌, ◌≤◌, ◌⊎◌, ◌==◌, ◌&&◌, ◌||◌, nat_le, nat_lt, not, Bool, true, false, if◌then◌else◌, Option, None, is_some, inl, inr, refl, sym, ap, ◌∙◌, arith, eq-eqb, ne_eqb}
@@ -9,8 +9,11 @@ use Rattle.descriptor_table.specs.declared.handle.SetHandle.{SetHandle}
 use Rattle.descriptor_table.specs.Slots.{Slot}
 use Rattle.descriptor_table.specs.declared.slot.Use.{Use}
 use Rattle.descriptor_table.specs.declared.slot.Use.TheVariants.{Kept}
-use Rattle.descriptor_manager.specs.Stores.{is_free}
 use Rattle.descriptor_manager.proofs.Cleared.{Clears}
+
+-- whether the slot has no set, or a kept one
+abbrev pub is_free : {T : Type 0} → Slot T → Bool
+is_free s = is_kept s || not (is_some s.set)
 
 kept_use : (k generation : ℕ) (u : Use) (layout : ℕ) (full : Bool) → in_list (k + 2) u layout generation full ≡ true → (u ≡ Kept) × (k ≡ layout)
 kept_use k generation u layout full e = grind (arith, common_steps)

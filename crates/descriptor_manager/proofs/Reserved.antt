@@ -1,12 +1,12 @@
 -- A request over memory that the table reserved before it, which changed nothing else, and what a refusal and a cleanup leave.
-use Rattle.std.proofs.Common.{◌≡◌, ◌≢◌, ◌∙◌, ℕ, ◌<◌, Ok, Err, ◌∷◌, [], ap, subst, arith}
+use Rattle.std.proofs.Common.{◌≡◌, ◌≢◌, ◌∙◌, ℕ, ◌<◌, Ok, Err, ap, subst, arith}
 use Rattle.gpu_descriptor_types.specs.declared.device.DescriptorDevice.{Ghosts}
 use Rattle.gpu_descriptor.specs.Caller.Call.{layout_key}
 use Rattle.gpu_descriptor.specs.Caller.HandsOut.{HandsOut}
 use Rattle.gpu_descriptor.specs.Model.Load.{set_descriptors}
 use Rattle.gpu_descriptor.specs.declared.errors.AllocationError.{AllocationError}
-use Rattle.descriptor_table.specs.Tables.{Puts, count, is_kept}
-use Rattle.descriptor_manager.specs.Stores.{AreCleaned, Asks, Cleans, ExceedsLimitAlone, Gets, IsCleared, IsRefused, KeepsContents, coming_in, generations_in, limit_of, side_of, slots_in}
+use Rattle.descriptor_table.specs.Tables.{count, is_kept}
+use Rattle.descriptor_manager.specs.Stores.{AreCleaned, Asks, Cleans, ExceedsLimitAlone, IsCleared, IsRefused, KeepsContents, coming_in, limit_of, side_of, slots_in}
 use Rattle.descriptor_manager.specs.declared.store.Store.{Store}
 
 module _ {L P S D : Type 0} {d : Ghosts D L P S} where
@@ -17,15 +17,6 @@ module _ {L P S D : Type 0} {d : Ghosts D L P S} where
       slots = refused.slots ∙ same.slots;
       room = refused.room;
       hands_out = subst (λ s. HandsOut d.meaning (layout_key d.meaning layout) many (Err error) s (side_of new)) same.side refused.hands_out;
-    }
-
-    -- a set came
-    pub gets_from : (number place : ℕ) → Gets layout number place mid new → Gets layout number place old new
-    gets_from number place gets = record {
-      set = gets.set;
-      puts = subst (λ l. Puts (generations_in new) number gets.set place l (slots_in new)) same.slots gets.puts;
-      own = gets.own;
-      hands_out = subst (λ s. HandsOut d.meaning (layout_key d.meaning layout) 1 (Ok (gets.set ∷ [])) s (side_of new)) same.side gets.hands_out;
     }
 
     -- so many sets are on their way

@@ -9,7 +9,7 @@ use Rattle.gpu_descriptor.specs.Caller.Values.{Allocations}
 use Rattle.gpu_descriptor.specs.Model.Books.{BucketOf, books_of}
 use Rattle.gpu_descriptor.specs.declared.layout.SetLayout.{SetLayout}
 use Rattle.gpu_descriptor.specs.declared.set.DescriptorSet.{DescriptorSet}
-use Rattle.descriptor_table.specs.Sets.{NameEach, Names, Sets, sets_of, AreHeldOnce, LoseNames}
+use Rattle.descriptor_table.specs.Sets.{NameEach, Sets, sets_of, AreHeldOnce, LoseNames}
 use Rattle.descriptor_table.specs.declared.handle.SetHandle.{SetHandle}
 use Rattle.descriptor_table.specs.Slots.{Slot}
 use Rattle.descriptor_manager.specs.LayoutRegistries.{layout_at, layout_slots, layouts_by}
@@ -141,12 +141,6 @@ module _ {L P S D : Type 0} {d : Ghosts D L P S} where
   -- all that is seen stays, except the slots of sets, and their pools
   abbrev pub OnlySetsChange : ManagerOver d → ManagerOver d → Type 0
   OnlySetsChange old new = seen new ≡ record (seen old) { slots = slots_of new; side = side_of new }
-
-  -- a set of the layout has the handle, which was never given; each other handle has the set that it had
-  pub record Comes (layout : L) (handle : SetHandle) (old new : ManagerOver d) : Type 0 where
-    pub set : DescriptorSet S
-    pub own : IsOfLayout d.meaning layout set.raw
-    pub names : Names handle set (sets_by old) (sets_by new)
 
   -- sets of the layout have the handles, none of which was ever given; each other handle has the set that it had
   pub record ComeEach (layout : L) (handles : List SetHandle) (old new : ManagerOver d) : Type 0 where

@@ -1,5 +1,5 @@
 -- What a set manager's store has (the table of its sets, and the allocator over a device), and what its calls do.
-use Rattle.std.specs.Prelude.{◌≡◌, ◌≢◌, ℕ, zero, suc, ◌+◌, ◌-◌, ◌<◌, ◌⊎◌, ◌||◌, true, not, Bool, List, [], ◌∷◌, length, slice_index_or, if◌then◌else◌, is_some, Option, Result, Some, Ok, Err, None, IfOk, IfErr, OnOk}
+use Rattle.std.specs.Prelude.{◌≡◌, ◌≢◌, ℕ, zero, suc, ◌+◌, ◌-◌, ◌<◌, ◌≤◌, ◌⊎◌, ◌||◌, true, not, Bool, List, [], ◌∷◌, length, slice_index_or, if◌then◌else◌, is_some, Option, Result, Some, Ok, Err, None, IfErr, IsOk, OnOk}
 use Rattle.gpu_descriptor_types.specs.Ledger.{Ledger, Pool}
 use Rattle.gpu_descriptor.specs.Caller.Others.{others_of}
 use Rattle.gpu_descriptor_types.specs.Meaning.{IsOfLayout, Meaning}
@@ -19,9 +19,9 @@ use Rattle.gpu_descriptor.specs.declared.errors.AllocationError.{AllocationError
 use Rattle.gpu_descriptor.specs.declared.errors.AllocationError.TheVariants.{OutOfHostMemory}
 use Rattle.gpu_descriptor.specs.declared.layout.SetLayout.{SetLayout}
 use Rattle.gpu_descriptor.specs.declared.set.DescriptorSet.{DescriptorSet}
-use Rattle.descriptor_table.specs.Sets.{NameEach, Names, sets_in, sets_of}
-use Rattle.descriptor_table.specs.Slots.{is_kept_of, is_live, slot_at, waits}
-use Rattle.descriptor_table.specs.Tables.{Grows, HasRoom, Picks, Puts, Renews, Turns, Becomes, aged, came_under, count, current, generations_of, holds, is_kept, is_usable, place_at, lists_of, removed_at, slots_of, vacated, MayBecome, IsBack, TurnEach}
+use Rattle.descriptor_table.specs.Sets.{NameEach, sets_in, sets_of}
+use Rattle.descriptor_table.specs.Slots.{filled, is_kept_of, is_live, slot_at, waits}
+use Rattle.descriptor_table.specs.Tables.{Becomes, Grows, HasRoom, IsBack, MayBecome, TurnEach, Turns, aged, came_under, count, current, generations_of, holds, is_kept, is_usable, lists_of, place_at, removed_at, renewed, slots_of, vacated}
 use Rattle.descriptor_table.specs.declared.handle.SetHandle.{SetHandle}
 use Rattle.descriptor_table.specs.Slots.{Slot}
 use Rattle.descriptor_table.specs.declared.slot.Use.{Use}
@@ -37,37 +37,23 @@ pub record AreCleaned {T : Type 0} (old new : List (Slot T)) : Type 0 where
   pub long : length new ≡ length old
   pub each : (p : ℕ) → p < length old → slot_at new p ≡ (if is_kept (slot_at old p) then vacated (aged (slot_at old p)) else aged (slot_at old p))
 
--- a set has the handle, which was never given, and is in this use; each other handle has the set that it had, in every frame
-pub record IsNamed {T : Type 0} (number : ℕ) (under : ℕ × ℕ) (u : Use) (handle : SetHandle) (old new : List (Slot T)) : Type 0 where
-  pub set : T
-  pub of_layout : came_under (slot_at new handle.place) ≡ under
-  pub here : (slot_at new handle.place).set ≡ Some set
-  pub names : (frame : ℕ) (opened : Bool) → is_live frame opened u ≡ true → Names handle set (sets_of number frame opened old) (sets_of number frame opened new)
+-- a kept set of the layout, or one that came under it into a vacant slot, is in this use, under the next handle of the slot
+abbrev pub ComesInto : {T : Type 0} → ℕ × ℕ → Use → Slot T → Slot T → Type 0
+ComesInto {T} under u o n = ((is_kept_of under.0 o ≡ true) × (came_under o ≡ under) × (n ≡ renewed u o)) ⊎ ((o.set ≡ None) × (x : T) × (n ≡ renewed u (filled under.0 under.1 x o)))
 
--- whether the slot has no set and can get one, or has a kept one
-abbrev pub is_free : {T : Type 0} → Slot T → Bool
-is_free s = is_kept s || not (is_some s.set)
-
--- sets that were kept or are new are held by the next handles of their slots, and all else is as it was
-pub record HoldEach {T : Type 0} (number : ℕ) (under : ℕ × ℕ) (handles : List SetHandle) (old new : List (Slot T)) : Type 0 where
+-- sets that were kept or are new are in this use under the handles, and all else is as it was
+pub record HoldEach {T : Type 0} (number : ℕ) (under : ℕ × ℕ) (u : Use) (handles : List SetHandle) (old new : List (Slot T)) : Type 0 where
   -- no two have one place
   pub apart : (i j : ℕ) → i < j → j < length handles → place_at handles i ≢ place_at handles j
-  -- each slot had no set, or a kept one
-  pub was : (i : ℕ) → i < length handles → is_free (slot_at old (place_at handles i)) ≡ true
   -- each is the next handle of its slot
   pub is : (i : ℕ) (e : SetHandle) → i < length handles → slice_index_or handles i e ≡ record { manager = number; place = place_at handles i; generation = (slot_at old (place_at handles i)).generation + 1 }
-  pub generation : (i : ℕ) → i < length handles → (slot_at new (place_at handles i)).generation ≡ (slot_at old (place_at handles i)).generation + 1
-  pub of_layout : (i : ℕ) → i < length handles → came_under (slot_at new (place_at handles i)) ≡ under
-  pub held : (i : ℕ) → i < length handles → holds (slot_at new (place_at handles i)) ≡ true
+  pub comes : (i : ℕ) → i < length handles → ComesInto under u (slot_at old (place_at handles i)) (slot_at new (place_at handles i))
   pub rest : (p : ℕ) → ((i : ℕ) → i < length handles → place_at handles i ≢ p) → slot_at new p ≡ slot_at old p
 
--- the sets of the handles were kept or are new, perhaps after all kept sets left their slots, if there were some; all else is as it was
-pub record HoldAtLast {T : Type 0} (number : ℕ) (under : ℕ × ℕ) (handles : List SetHandle) (old new : List (Slot T)) : Type 0 where
-  pub mid : List (Slot T)
-  pub cleared : (mid ≡ old) ⊎ ((0 < count is_kept old) × AreCleaned old mid)
-  -- the first handles have the kept sets of the layout, as many as were kept then
-  pub kept_first : (i : ℕ) → i < length handles → i < count (is_kept_of under.0) mid → is_kept_of under.0 (slot_at mid (place_at handles i)) ≡ true
-  pub holds : HoldEach number under handles mid new
+-- the handle of a request for one set, if it was met
+abbrev pub handles_in : {E : Type 0} → Result SetHandle E → List SetHandle
+handles_in (Ok handle) = handle ∷ []
+handles_in (Err error) = []
 
 -- no set is new
 abbrev pub NoneComes : {S : Type 0} → ℕ → DescriptorSet S → Type 0
@@ -251,34 +237,6 @@ module _ {L P S D : Type 0} {d : Ghosts D L P S} where
     pub none : (count is_kept (slots_in new) ≡ 0) ⊎ ExceedsLimitAlone known last old ⊎ LacksRoom first error old new
     pub why : IsUnmet known first error old new ⊎ ((mid : StoreOver d) × IsCleared known first last old mid × IsUnmet known last error mid new)
 
-  -- the set at the place is a new one of the layout, from the allocator
-  pub record Gets (known : L) (layout place : ℕ) (old new : StoreOver d) : Type 0 where
-    pub set : DescriptorSet S
-    pub puts : Puts (generations_in new) layout set place (slots_in old) (slots_in new)
-    pub own : IsOfLayout d.meaning known set.raw
-    pub hands_out : HandsOut d.meaning (layout_key d.meaning known) 1 (Ok (set ∷ [])) (side_of old) (side_of new)
-
-  -- the allocator gave a new set, at once, or after all kept sets returned to their pools
-  abbrev pub GetsAtLast : L → ℕ → ℕ → StoreOver d → StoreOver d → Type 0
-  GetsAtLast known layout place old new = Gets known layout place old new ⊎ ((mid : StoreOver d) × IsCleared known 1 1 old mid × Gets known layout place mid new)
-
-  -- a new set has the handle, and is in this use
-  abbrev pub HandlesNew : L → ℕ → Use → SetHandle → StoreOver d → StoreOver d → Type 0
-  HandlesNew known layout u handle old new = (mid : StoreOver d) × GetsAtLast known layout handle.place old mid × Renews (number_of old) handle.place u handle (slots_in mid) (slots_in new) × (side_of new ≡ side_of mid)
-
-  -- a kept set of the layout has the handle, and is in this use. The device isn't called
-  pub record HandlesKept (layout : ℕ) (u : Use) (handle : SetHandle) (old new : StoreOver d) : Type 0 where
-    pub was : is_kept_of layout (slot_at (slots_in old) handle.place) ≡ true
-    pub renews : Renews (number_of old) handle.place u handle (slots_in old) (slots_in new)
-    pub side : side_of new ≡ side_of old
-
-  -- a kept set of the layout was taken, without a call of the device
-  pub record TakesKept (layout : ℕ) (result : Result ℕ AllocationError) (old new : StoreOver d) : Type 0 where
-    pub place : ℕ
-    pub is : result ≡ Ok place
-    pub picks : Picks (is_kept_of layout) place (slots_in old) (slots_in new)
-    pub side : side_of new ≡ side_of old
-
   -- the allocator gave `many` sets of the layout, which are on their way into the table
   pub record Asks (known : L) (many : ℕ) (old new : StoreOver d) : Type 0 where
     pub slots : slots_in new ≡ slots_in old
@@ -288,10 +246,6 @@ module _ {L P S D : Type 0} {d : Ghosts D L P S} where
   -- the allocator gave the first number of sets at once, or the last after all kept sets returned to their pools
   abbrev pub AsksAtLast : L → ℕ → ℕ → StoreOver d → StoreOver d → Type 0
   AsksAtLast known first last old new = Asks known first old new ⊎ ((mid : StoreOver d) × IsCleared known first last old mid × Asks known last mid new)
-
-  -- the same, and the device was not called after that
-  abbrev pub BringsAtLast : L → ℕ → ℕ → StoreOver d → StoreOver d → Type 0
-  BringsAtLast known first last old new = (mid : StoreOver d) × AsksAtLast known first last old mid × (side_of new ≡ side_of mid)
 
   -- the sets that pass the test were freed: each is kept, or left its slot. One free_from returned those that aren't kept to their pools, if there were any
   pub record ComeBack (test : Slot (DescriptorSet S) → Bool) (old new : StoreOver d) : Type 0 where
@@ -329,18 +283,24 @@ module _ {L P S D : Type 0} {d : Ghosts D L P S} where
     pub vacant : (p : ℕ) → (slot_at (slots_in new) p).used ≡ (if is_some (slot_at (slots_in old) p).set then Vacant else (slot_at (slots_in old) p).used)
     pub back : GaveBack d.meaning (side_of old) (side_of new)
 
-  -- a set of the layout has a handle, and is in this use: a kept one, or, if there was none, a new one. It is refused only if no set of the layout is kept
-  pub record TakesOne (known : L) (layout : ℕ) (u : Use) (result : Result SetHandle AllocationError) (old new : StoreOver d) : Type 0 where
-    pub named : IfOk result (λ handle. IsNamed (number_of old) (current_in layout old) u handle (slots_in old) (slots_in new))
-    pub kept : 0 < kept_of layout old → (handle : SetHandle) × (result ≡ Ok handle) × HandlesKept layout u handle old new
-    pub comes : kept_of layout old ≡ 0 → IfOk result (λ handle. HandlesNew known layout u handle old new)
-    pub refused : IfErr result (λ error. IsRefusedAtLast known 1 1 error old new)
-    pub settles : Settles (ComesOf d.meaning known layout) old new
-    pub grows : Grows (slots_in old) (slots_in new)
+  -- `many` sets of the layout are in this use under the handles: kept ones first, and then new ones from the allocator
+  pub record Takes (known : L) (layout many : ℕ) (u : Use) (handles : List SetHandle) (old new : StoreOver d) : Type 0 where
+    -- the store once the new sets are on their way into the table
+    pub ready : StoreOver d
+    pub enough : many ≤ kept_of layout old → ready ≡ old
+    pub asks : kept_of layout old < many → AsksAtLast known (many - kept_of layout old) many old ready
+    pub kept_first : (i : ℕ) → i < length handles → i < kept_of layout ready → is_kept_of layout (slot_at (slots_in ready) (place_at handles i)) ≡ true
+    pub holds : HoldEach (number_of old) (current_in layout old) u handles (slots_in ready) (slots_in new)
+    pub side : side_of new ≡ side_of ready
+    -- the sets that were on their way are in the table
+    pub gained : (t : Item) → count_of t (items_of d.meaning.set_name (sets_in (slots_in new))) ≡ count_of t (items_of d.meaning.set_name (sets_in (slots_in ready))) + count_of t (items_of d.meaning.set_name (coming_in ready))
 
-  -- sets of the layout are held by the handles: kept ones first, and then new ones; or the request for those that are missing is refused
-  pub record TakesEach (known : L) (layout many : ℕ) (handles : List SetHandle) (result : Result Unit AllocationError) (old new : StoreOver d) : Type 0 where
-    pub creates : OnOk result (((frame : ℕ) (opened : Bool) → NameEach handles (sets_of (number_of old) frame opened (slots_in old)) (sets_of (number_of old) frame opened (slots_in new))) × HoldAtLast (number_of old) (current_in layout old) handles (slots_in old) (slots_in new))
+  -- a request for `many` sets of the layout in this use: the handles name them, or it is refused
+  pub record Requests {R : Type 0} (known : L) (layout many : ℕ) (u : Use) (handles : List SetHandle) (result : Result R AllocationError) (old new : StoreOver d) : Type 0 where
+    pub takes : OnOk result (Takes known layout many u handles old new)
+    pub names : OnOk result ((frame : ℕ) (opened : Bool) → is_live frame opened u ≡ true → NameEach handles (sets_of (number_of old) frame opened (slots_in old)) (sets_of (number_of old) frame opened (slots_in new)))
+    -- if as many are kept the device isn't called
+    pub kept : many ≤ kept_of layout old → IsOk result × (side_of new ≡ side_of old) × (length (slots_in new) ≡ length (slots_in old))
     pub refused : IfErr result (λ error. IsRefusedAtLast known (many - kept_of layout old) many error old new)
     pub settles : Settles (ComesOf d.meaning known layout) old new
     pub grows : Grows (slots_in old) (slots_in new)
@@ -350,17 +310,9 @@ module _ {L P S D : Type 0} {d : Ghosts D L P S} where
     pub layout : HasLayout number s
     pub table : HasRoom (length (coming_in s)) s.table
 
-  -- the sets that were on their way are held: the device isn't called, and if all were of a layout, only sets of it are new
-  pub record HoldsComing (layout : ℕ) (old new : StoreOver d) : Type 0 where
+  -- sets are held without a call of the device: each was in its slot before, or passes the test
+  pub record Holds (comes : ℕ → DescriptorSet S → Type 0) (old new : StoreOver d) : Type 0 where
     pub side : side_of new ≡ side_of old
-    pub sets : (known : L) → AreOfLayout d.meaning known (coming_in old) → SetsCome (ComesOf d.meaning known layout) (slots_in old) (slots_in new)
+    pub sets : SetsCome comes (slots_in old) (slots_in new)
     pub grows : Grows (slots_in old) (slots_in new)
     pub stays : KeepsStore old new
-
-  -- kept sets are held: the device isn't called, no set is new, and there is as much room as before
-  pub record HoldsKept (old new : StoreOver d) : Type 0 where
-    pub side : side_of new ≡ side_of old
-    pub sets : SetsCome NoneComes (slots_in old) (slots_in new)
-    pub table : (n : ℕ) → HasRoom n old.table → HasRoom n new.table
-    pub grows : Grows (slots_in old) (slots_in new)
-    pub stays : KeepsComing old new

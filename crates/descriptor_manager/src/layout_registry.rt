@@ -6,7 +6,7 @@ ghost use Rattle.gpu_descriptor.specs.Caller.SetLayouts.{IsMeant};
 ghost use Rattle.descriptor_table.specs.Tables.{lists_of, slots_of};
 ghost use Rattle.descriptor_manager.specs.Own.{AreCounted, AreMeant};
 
-use descriptor_table::{SetHandle, SetTable, place_of};
+use descriptor_table::{SetHandle, SetTable, Use, place_of};
 use gpu_descriptor::{DescriptorDevice, SetLayout};
 use std::alloc::{AllocError, AllocFailed, Global};
 use std::marker::PhantomData;
@@ -43,7 +43,7 @@ pub struct LayoutRegistry<L, P, S, D: DescriptorDevice<L, P, S>> {
 }
 
 impl<L, P, S, D: DescriptorDevice<L, P, S>> LayoutRegistry<L, P, S, D> {
-    ghost use Rattle.descriptor_table.specs.Sets.{LoseNames, Names};
+    ghost use Rattle.descriptor_table.specs.Sets.{LoseNames, NameEach};
     ghost use Rattle.descriptor_table.specs.Slots.{slot_at};
     ghost use Rattle.descriptor_table.specs.Tables.{Grows, HasRoom, vacated};
     ghost use Rattle.descriptor_manager.specs.LayoutRegistries.{KeepsLayouts, layout_at, layout_slots, layouts_by};
@@ -97,8 +97,9 @@ impl<L, P, S, D: DescriptorDevice<L, P, S>> LayoutRegistry<L, P, S, D> {
     /// If memory runs out it returns the layout in the error, and nothing changes.
     pub fn add(&mut self, layout: SetLayout<L>) -> Result<LayoutHandle, AllocFailed<SetLayout<L>>>
         requires meant { IsMeant D.meaning layout }
-        ensures names { IfOk result (λ handle. Names handle.slot layout (layouts_by self.old)
+        ensures names { IfOk result (λ handle. NameEach (handle.slot ∷ []) (layouts_by self.old)
             (layouts_by self.new)) }
+        ensures added { IfOk result (λ handle. layout_at self.new handle ≡ Some layout) }
         ensures fresh { IfOk result (λ handle. layout_at self.old handle ≡ None) }
         ensures counted { (generations : ℕ → ℕ) → AreCounted generations (layout_slots self.old)
             → AreCounted generations (layout_slots self.new) }
@@ -117,7 +118,7 @@ impl<L, P, S, D: DescriptorDevice<L, P, S>> LayoutRegistry<L, P, S, D> {
         // In their own table all layouts have one number.
         let place = self.table.put(0, layout);
         Ok(LayoutHandle {
-            slot: self.table.hold(place),
+            slot: self.table.hold(place, Use::Held),
         })
     }
 

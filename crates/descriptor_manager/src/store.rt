@@ -12,8 +12,8 @@ ghost use Rattle.descriptor_table.specs.Tables.{HasListRoom, HasRoom, HasSetting
 ghost use Rattle.descriptor_manager.specs.Exact.{AreExactly};
 
 mod back;
-mod batch;
-mod take;
+mod hold;
+mod request;
 
 use bitflags::Flags;
 use descriptor_table::{SetHandle, SetTable};

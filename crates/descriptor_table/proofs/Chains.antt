@@ -5,7 +5,7 @@ use Rattle.std.proofs.Common.{◌≡◌, ◌≢◌, ℕ, suc, ◌+◌, ◌-◌, 
 use Rattle.std.proofs.lemmas.List.{get_or-set_other, get_or-set_same, length-set}
 use Rattle.std.proofs.lemmas.Bool.{false≢true, true≢false}
 use Rattle.descriptor_table.specs.Places.{times, walk}
-use Rattle.descriptor_table.specs.Slots.{AreFew, AreLinked, HasLists, IsListed, IsNowhere, Lists, Slot, chain_at, in_list, is_in, slot_at, waits, waits_for}
+use Rattle.descriptor_table.specs.Slots.{AreFew, AreLinked, HasLists, IsListed, IsNowhere, Lists, Slot, chain_at, frame_of, in_list, is_in, is_live, slot_at, waits, waits_for}
 use Rattle.descriptor_table.specs.Tables.{is_held_use, is_kept, used_for}
 use Rattle.descriptor_table.specs.declared.slot.Use.{Use}
 use Rattle.descriptor_table.specs.declared.slot.Use.TheVariants.{Held, Taken}
@@ -42,7 +42,14 @@ module _ {T : Type 0} where
       by_use : (u : Use) (layout generation : ℕ) (full : Bool) → (waits_for (λ w. true) u && full) ≡ true → in_list k u layout generation full ≡ false
       by_use u layout generation full e = grind (arith, common_steps)
 
-  -- nor is it kept
+  -- and neither is one that has a handle
+  pub live_no_list : (s : Slot T) → is_live (frame_of s.used) true s.used ≡ true → (k : ℕ) → is_in k s ≡ false
+  live_no_list s e k = by_use s.used e
+    where
+      by_use : (u : Use) → is_live (frame_of u) true u ≡ true → in_list k u s.layout s.generation (is_some s.set) ≡ false
+      by_use u e = grind (arith, common_steps)
+
+  -- nor is a set kept that is in no list
   pub waits_unkept : (s : Slot T) {X : Type 0} → waits s ≡ true → is_kept s ≡ true → X
   waits_unkept s waiting kept = absurd (true≢false (sym kept ∙ waits_no_list s waiting (s.layout + 2)))
 

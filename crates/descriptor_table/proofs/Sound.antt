@@ -1,10 +1,9 @@
 -- What a table says of its lists stays when a slot comes to a list or leaves one, or comes to the table: for all methods that write slots.
 -- `l` are the slots before, `l'` after.
-use Rattle.std.proofs.Common.{◌≡◌, ◌≢◌, ℕ, ◌+◌, ◌-◌, ◌<◌, ◌≤◌, ◌⊎◌, inl, inr, true, false, if◌then◌else◌, List, [], ◌∷◌, ◌++◌, is_some, length, get_or, set, insert, refl, sym, ap, subst, ◌∙◌, arith, eq-eqb, ne_eqb}
+use Rattle.std.proofs.Common.{◌≡◌, ◌≢◌, ℕ, ◌+◌, ◌-◌, ◌<◌, ◌≤◌, ◌⊎◌, inl, inr, true, false, if◌then◌else◌, List, [], ◌∷◌, ◌++◌, is_some, length, get_or, set, refl, sym, ap, subst, ◌∙◌, arith, eq-eqb, ne_eqb}
 use Rattle.std.proofs.lemmas.Bool.{true≢false}
 use Rattle.std.proofs.lemmas.List.{get_or-set_other, get_or-set_same, length-map, length-set, length_push}
-use Rattle.std.specs.List.Sorted.{IsPartitionPoint}
-use Rattle.descriptor_table.specs.Slots.{AreLinked, AreSized, AreSound, HasLists, IsListed, IsNowhere, IsQueue, Slot, chain_at, frame_of, generation_at, is_in, nexts_in, slot_at, slot_of, slots_in, waits}
+use Rattle.descriptor_table.specs.Slots.{AreLinked, AreSized, AreSound, HasLists, IsListed, IsNowhere, IsQueue, Slot, chain_at, generation_at, is_in, nexts_in, slot_at, slot_of, slots_in, waits}
 use Rattle.descriptor_table.specs.Tables.{is_kept, removed_at}
 use Rattle.descriptor_table.specs.declared.slot.Chain.{Chain}
 use Rattle.descriptor_table.specs.declared.slot.Use.TheVariants.{Held, Taken}
@@ -14,7 +13,7 @@ use Rattle.descriptor_table.proofs.Chains.{few_set, filled_linked, known_chains,
 use Rattle.descriptor_table.proofs.Counting.{same_or}
 use Rattle.descriptor_table.proofs.Entries.{in_place}
 use Rattle.descriptor_table.proofs.Growing.{known_grown, linked_grown, queue_grown}
-use Rattle.descriptor_table.proofs.Waiting.{first_waits, out_queue, pop_queue, put_queue}
+use Rattle.descriptor_table.proofs.Waiting.{first_waits, out_queue, pop_queue}
 
 -- there are as many nexts as slots
 pub same_long : {T : Type 0} (l : SlotList T) → length (nexts_in l) ≡ length (slots_in l)
@@ -41,18 +40,18 @@ module _ {T : Type 0} (l l' : SlotList T) (chains : List Chain) (generations wai
     known : p < length (slots_in l) → IsListed (length chains) (generation_at generations) s → HasLists (slots_in l') (length chains) (generation_at generations)
     known within here = subst (λ l. HasLists l (length chains) (generation_at generations)) (sym slots) (lists_set (slots_in l) p s (length chains) (generation_at generations) h.known within here)
 
-    -- one list changed
-    changed : (k : ℕ) (d : Chain) → k < length chains → p < length (slots_in l) → IsListed (length chains) (generation_at generations) s → (2 ≤ k → d.count ≤ keep) → AreLinked (slots_in l') (nexts_in l') (set chains k d) → waits (slot_at (slots_in l) p) ≡ false → waits s ≡ false → AreSound l' (set chains k d) generations waiting room keep newest
-    changed k d there within here few linked was now = record {
+    -- one list changed, and perhaps the queue
+    changed : (k : ℕ) (d : Chain) (waiting' : List ℕ) (newest' : ℕ) → k < length chains → p < length (slots_in l) → IsListed (length chains) (generation_at generations) s → (2 ≤ k → d.count ≤ keep) → AreLinked (slots_in l') (nexts_in l') (set chains k d) → IsQueue (set (slots_in l) p s) waiting' newest' → AreSound l' (set chains k d) generations waiting' room keep newest'
+    changed k d waiting' newest' there within here few linked queue = record {
       sized = sized;
       linked = linked;
-      queue = subst (λ l. IsQueue l waiting newest) (sym slots) (out_queue (slots_in l) waiting newest h.queue p s within was now);
+      queue = subst (λ l. IsQueue l waiting' newest') (sym slots) queue;
       known = known_chains (slots_in l') chains k d (generation_at generations) (known within here);
       few = few_set keep chains k d h.few there few;
     }
 
     -- the queue changed
-    queued : (waiting' : List ℕ) (newest' : ℕ) → p < length (slots_in l) → IsListed (length chains) (generation_at generations) s → nexts_in l' ≡ nexts_in l → ((k : ℕ) → is_in k (slot_at (slots_in l) p) ≡ false) → ((k : ℕ) → is_in k s ≡ false) → IsQueue (set (slots_in l) p s) waiting' newest' → AreSound l' chains generations waiting' room keep newest'
+    pub queued : (waiting' : List ℕ) (newest' : ℕ) → p < length (slots_in l) → IsListed (length chains) (generation_at generations) s → nexts_in l' ≡ nexts_in l → ((k : ℕ) → is_in k (slot_at (slots_in l) p) ≡ false) → ((k : ℕ) → is_in k s ≡ false) → IsQueue (set (slots_in l) p s) waiting' newest' → AreSound l' chains generations waiting' room keep newest'
     queued waiting' newest' within here nexts was now queue = record {
       sized = sized;
       linked = in_place (λ l n. AreLinked l n chains) _ _ _ _ slots nexts (out_linked (slots_in l) (nexts_in l) chains h.linked p s within was now);
@@ -65,33 +64,26 @@ module _ {T : Type 0} (l l' : SlotList T) (chains : List Chain) (generations wai
     pub out_sound : p < length (slots_in l) → nexts_in l' ≡ nexts_in l → (waits (slot_at (slots_in l) p) ≡ false) × ((k : ℕ) → is_in k (slot_at (slots_in l) p) ≡ false) → (waits s ≡ false) × ((k : ℕ) → is_in k s ≡ false) → s.layout ≡ (slot_at (slots_in l) p).layout → s.layout_generation ≡ (slot_at (slots_in l) p).layout_generation → s.kept_below ≡ (slot_at (slots_in l) p).kept_below → (s.used ≡ Held → is_some s.set ≡ true) → AreSound l' chains generations waiting room keep newest
     out_sound within nexts was now layout generation below full = queued waiting newest within (listed p s within layout generation below (λ kept. absurd (true≢false (sym kept ∙ now.1 (s.layout + 2)))) full) nexts was.1 now.1 (out_queue (slots_in l) waiting newest h.queue p s within was.0 now.0)
 
-    -- the first slot of a list left it
-    pub pick_sound : (k : ℕ) (c : Chain) (after : ℕ) → chain_at chains k ≡ c → c.count ≢ 0 → k < length chains → after ≡ get_or (nexts_in l) p 0 → p ≡ c.first → nexts_in l' ≡ nexts_in l → ((j : ℕ) → is_in j s ≡ false) → waits s ≡ false → IsListed (length chains) (generation_at generations) s → AreSound l' (set chains k (record { first = after; count = c.count - 1 })) generations waiting room keep newest
-    pick_sound k c after is some there told at nexts out now here =
+    -- the first slot of a list left it, perhaps for the queue
+    pub pick_sound : (k : ℕ) (c : Chain) (after : ℕ) (waiting' : List ℕ) (newest' : ℕ) → chain_at chains k ≡ c → c.count ≢ 0 → k < length chains → after ≡ get_or (nexts_in l) p 0 → p ≡ c.first → nexts_in l' ≡ nexts_in l → ((j : ℕ) → is_in j s ≡ false) → IsListed (length chains) (generation_at generations) s → IsQueue (set (slots_in l) p s) waiting' newest' → AreSound l' (set chains k (record { first = after; count = c.count - 1 })) generations waiting' room keep newest'
+    pick_sound k c after waiting' newest' is some there told at nexts out here queue =
         let first = picked (slots_in l) (nexts_in l) chains h.linked k c is some in
         let d : Chain = record { first = after; count = c.count - 1 } in
         let within = subst (λ p. p < length (slots_in l)) (sym at) first.0 in
-        let was = subst (λ p. is_in k (slot_at (slots_in l) p) ≡ true) (sym at) first.1 in
         let same = ap (λ (d : Chain). d.count) is in
-        changed k d there within here
+        changed k d waiting' newest' there within here
         (λ two. let few = h.few k two in omega arith)
         (in_place (λ l n. AreLinked l n (set chains k d)) _ _ _ _ (slots ∙ ap (λ p. set (slots_in l) p s) at) nexts (pick_linked (slots_in l) (nexts_in l) chains h.linked k c is s after some there (told ∙ ap (λ p. get_or (nexts_in l) p 0) at) out))
-        (listed_out k (slot_at (slots_in l) p) was) now
+        queue
 
     -- a slot that a call had came first in a list
     pub link_sound : (k : ℕ) (c : Chain) → chain_at chains k ≡ c → k < length chains → p < length (slots_in l) → IsNowhere (slot_at (slots_in l) p).used → is_in k s ≡ true → nexts_in l' ≡ set (nexts_in l) p c.first → IsListed (length chains) (generation_at generations) s → (2 ≤ k → c.count < keep) → AreSound l' (set chains k (record { first = p; count = c.count + 1 })) generations waiting room keep newest
     link_sound k c is there within idle goes nexts here few =
         let d : Chain = record { first = p; count = c.count + 1 } in
-        changed k d there within here
+        changed k d waiting newest there within here
         (λ two. let less = few two in omega arith)
         (in_place (λ l n. AreLinked l n (set chains k d)) _ _ _ _ slots nexts (link_linked (slots_in l) (nexts_in l) chains h.linked k c is p s within idle goes (same_long l) there))
-        (nowhere_out (slot_at (slots_in l) p) idle).0 (listed_out k s goes)
-
-    -- a set came to wait
-    pub wait_sound : (f i newest' : ℕ) → newest ≤ newest' → f ≤ newest' → frame_of s.used ≡ f → i ≤ length waiting → IsPartitionPoint (λ q. frame_of (slot_at (slots_in l) q).used ≤ f) (λ q. f < frame_of (slot_at (slots_in l) q).used) waiting i → p < length (slots_in l) → (slot_at (slots_in l) p).used ≡ Taken → waits s ≡ true → nexts_in l' ≡ nexts_in l → IsListed (length chains) (generation_at generations) s → AreSound l' chains generations (insert waiting i p) room keep newest'
-    wait_sound f i newest' more is of le point within taken goes nexts here =
-        let was = slot_at (slots_in l) p in
-        queued (insert waiting i p) newest' within here nexts (taken_no_list was taken) (waits_no_list s goes) (put_queue (slots_in l) waiting newest h.queue p s within (taken_out was taken) goes f i newest' of le point more is)
+        (out_queue (slots_in l) waiting newest h.queue p s within (nowhere_out (slot_at (slots_in l) p) idle).0 (listed_out k s goes))
 
     -- the first set that waits leaves the queue
     pub leave_sound : (rest : List ℕ) → waiting ≡ p ∷ rest → nexts_in l' ≡ nexts_in l → ((k : ℕ) → is_in k s ≡ false) → waits s ≡ false → IsListed (length chains) (generation_at generations) s → AreSound l' chains generations rest room keep newest

@@ -47,14 +47,6 @@ module _ {T : Type 0} where
     abbrev pub sets_of : ℕ → Bool → Slots T → Sets T
     sets_of frame opened slots = record { set = find frame opened slots; given = is_given slots }
 
-  -- the handle, which was never given, has the set, and each other handle has what it had
-  pub record Names (handle : SetHandle) (x : T) (old new : Sets T) : Type 0 where
-    pub never : old.given handle ≡ false
-    pub given : new.given handle ≡ true
-    pub given_others : (other : SetHandle) → other ≢ handle → new.given other ≡ old.given other
-    pub named : new.set handle ≡ Some x
-    pub others : (other : SetHandle) → other ≢ handle → new.set other ≡ old.set other
-
   -- the handles, none of which was ever given, have sets, and each other handle has what it had
   pub record NameEach (handles : List SetHandle) (old new : Sets T) : Type 0 where
     pub never : All (λ h. old.given h ≡ false) handles

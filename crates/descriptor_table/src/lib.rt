@@ -11,3 +11,4 @@ mod slot_list;
 pub use giving::{Giving, Group};
 pub use handle::{SetHandle, SetName, place_of};
 pub use set_table::SetTable;
+pub use slot::Use;

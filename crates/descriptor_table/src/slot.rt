@@ -1,6 +1,6 @@
 //! Slots, and the lists that they are in.
-ghost use Rattle.std.specs.Prelude.{◌≡◌};
-ghost use Rattle.descriptor_table.specs.Slots.{frame_of, is_live, state_of};
+ghost use Rattle.std.specs.Prelude.{◌≡◌, true};
+ghost use Rattle.descriptor_table.specs.Slots.{frame_of, is_live, state_of, waits_for};
 
 /// What a set is in use for.
 #[derive(Clone, Copy)]
@@ -64,6 +64,17 @@ impl Use {
         match self {
             Use::InFrame(frame) | Use::Waits(frame) => frame,
             Use::Held | Use::Kept | Use::Going | Use::Taken | Use::Vacant => 0,
+        }
+    }
+
+    /// Whether a set in this use waits for a frame.
+    #[inline]
+    pub(crate) fn waits(self) -> bool
+        ensures { result ≡ waits_for (λ frame. true) self }
+    {
+        match self {
+            Use::InFrame(_) | Use::Waits(_) => true,
+            Use::Held | Use::Kept | Use::Going | Use::Taken | Use::Vacant => false,
         }
     }
 

@@ -150,6 +150,16 @@ impl<T> SlotList<T> {
         self.entries[place].frame
     }
 
+    /// The frame that the set of a slot waits for. It is 0 if it waits for none.
+    pub(crate) fn frame_at(&self, place: u32) -> u64
+        ensures { result ≡ frame_of (slot_at (slots_in self.now) place).used }
+    {
+        match self.get(place) {
+            Some(slot) => slot.used().frame(),
+            None => 0,
+        }
+    }
+
     /// Changes what the set of a slot is in use for.
     #[inline]
     pub(crate) fn set_use(&mut self, place: usize, used: Use)

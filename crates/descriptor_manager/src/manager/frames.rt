@@ -1,23 +1,22 @@
 //! Frames and their sets.
-ghost use Rattle.std.specs.Prelude.{◌≡◌, ℕ, ◌+◌, ◌<◌, ◌^◌, ◌↔◌, ◌⊎◌, max, Ok};
+ghost use Rattle.std.specs.Prelude.{◌≡◌, ℕ, ◌+◌, ◌<◌, ◌^◌, ◌↔◌, ◌⊎◌, [], ◌∷◌, length, max};
 ghost use Rattle.std.specs.Prelude.{IfErr, IfOk, IfSome, IsErrOf, IsOk, IsSome, None, OnErr, OnOk};
 ghost use Rattle.std.specs.Prelude.{false, true};
 ghost use Rattle.descriptor_table.specs.Slots.{is_due, slot_at};
-ghost use Rattle.descriptor_manager.specs.Stores.{ComeBack, HandlesKept, HandlesNew};
-ghost use Rattle.descriptor_manager.specs.Stores.{IsRefusedAtLast};
+ghost use Rattle.descriptor_manager.specs.Stores.{ComeBack, IsRefusedAtLast, Takes};
 
 use super::SetManager;
 use crate::errors::{BeginFrameError, RequestError};
 use crate::layout_registry::LayoutHandle;
-use descriptor_table::SetHandle;
+use descriptor_table::{SetHandle, Use};
 use gpu_descriptor::{AllocationError, DescriptorDevice};
 
 impl<L: Drop, P: Drop, S: Drop, D: DescriptorDevice<L, P, S>> SetManager<L, P, S, D> {
     ghost use Rattle.gpu_descriptor.specs.declared.errors.AllocationError.{AllocationError};
     ghost use Rattle.descriptor_table.specs.declared.handle.SetHandle.{SetHandle};
     ghost use Rattle.descriptor_table.specs.declared.slot.Use.{Use};
-    ghost use Rattle.descriptor_manager.specs.Managers.{Comes, OnlySetsChange, OnlySetsCome, done_of, frame_of, is_open, kept_of};
-    ghost use Rattle.descriptor_manager.specs.Managers.{layout_of, seen, sets_by, slots_of};
+    ghost use Rattle.descriptor_manager.specs.Managers.{ComeEach, OnlySetsChange, OnlySetsCome, done_of, frame_of, is_open, kept_of};
+    ghost use Rattle.descriptor_manager.specs.Managers.{layout_of, seen, sets_by, side_of, slots_of};
     ghost use Rattle.descriptor_manager.specs.Managers.{store_of};
 
     /// Opens the next frame and returns its number. The first frame has number 1.
@@ -76,14 +75,13 @@ impl<L: Drop, P: Drop, S: Drop, D: DescriptorDevice<L, P, S>> SetManager<L, P, S
     #[inline]
     pub fn allocate_for_frame(&mut self, layout: LayoutHandle) -> Result<SetHandle, RequestError>
         ensures allocates { IfOk result (λ handle. IfSome (layout_of self.old layout) (λ known.
-            Comes known.layout handle self.old self.new)) }
+            ComeEach known.layout (handle ∷ []) self.old self.new)) }
+        ensures takes { IfOk result (λ handle. IfSome (layout_of self.old layout) (λ known.
+            Takes known.layout layout.slot.place 1 (Use.InFrame (frame_of self.old)) (handle ∷ [])
+            (store_of self.old) (store_of self.new))) }
         ensures kept { is_open self.old ≡ true → IsSome (layout_of self.old layout)
-            → 0 < kept_of layout self.old → (handle : SetHandle) × (result ≡ Ok handle)
-            × HandlesKept layout.slot.place (Use.InFrame (frame_of self.old)) handle (store_of self.old)
-            (store_of self.new) }
-        ensures comes { kept_of layout self.old ≡ 0 → IfOk result (λ handle.
-            IfSome (layout_of self.old layout) (λ known. HandlesNew known.layout layout.slot.place
-            (Use.InFrame (frame_of self.old)) handle (store_of self.old) (store_of self.new))) }
+            → 0 < kept_of layout self.old → IsOk result × (side_of self.new ≡ side_of self.old)
+            × (length (slots_of self.new) ≡ length (slots_of self.old)) }
         ensures no_frame { (IsErrOf result RequestError.NoFrame) ↔ (is_open self.old ≡ false) }
         ensures no_layout { (IsErrOf result RequestError.NoLayout) ↔ ((is_open self.old ≡ true)
             × (layout_of self.old layout ≡ None)) }
@@ -97,16 +95,7 @@ impl<L: Drop, P: Drop, S: Drop, D: DescriptorDevice<L, P, S>> SetManager<L, P, S
         if !self.is_open {
             return Err(RequestError::NoFrame);
         }
-        let Some(known) = self.layouts.get(layout) else {
-            return Err(RequestError::NoLayout);
-        };
-        match self
-            .store
-            .allocate_for_frame(known, layout.place(), self.frame)
-        {
-            Ok(handle) => Ok(handle),
-            Err(error) => Err(RequestError::Allocation(error)),
-        }
+        self.allocate_as(layout, Use::InFrame(self.frame))
     }
 
     /// Ends the open frame: the handles of its sets are invalid from now on. It can't fail.

@@ -1,41 +1,43 @@
 //! Sets that are held until they are freed.
 ghost use Rattle.std.specs.Prelude.{◌≡◌, ◌-◌, ◌<◌, ◌≤◌, ◌⊎◌, [], ◌∷◌, length};
-ghost use Rattle.std.specs.Prelude.{IfErr, IfOk, IfSome, IsErrOf, IsSome, None, OnErr, OnOk, Ok, false};
+ghost use Rattle.std.specs.Prelude.{IfErr, IfOk, IfSome, IsErrOf, IsSome, None, OnErr, OnOk, false, true};
 ghost use Rattle.std.specs.Prelude.{IsOk, option_map};
 ghost use Rattle.std.specs.Option.{option_copied};
 ghost use Rattle.gpu_descriptor.specs.Caller.Sets.{raw_of};
 ghost use Rattle.descriptor_table.specs.Sets.{AreHeldOnce, LoseNames};
-ghost use Rattle.descriptor_manager.specs.Stores.{BringsAtLast, FreesAll, FreesEach, HandlesKept};
-ghost use Rattle.descriptor_manager.specs.Stores.{HandlesNew, HoldAtLast, IsRefusedAtLast};
-ghost use Rattle.descriptor_manager.specs.Stores.{current_in};
+ghost use Rattle.descriptor_table.specs.Slots.{is_live};
+ghost use Rattle.descriptor_manager.specs.Stores.{FreesAll, FreesEach, IsRefusedAtLast, Takes};
 
 use super::SetManager;
 use crate::errors::{FreeError, RequestError};
 use crate::layout_registry::LayoutHandle;
-use descriptor_table::{SetHandle, SetName};
+use descriptor_table::{SetHandle, SetName, Use};
 use gpu_descriptor::{AllocationError, DescriptorDevice, DescriptorSet};
 
 impl<L: Drop, P: Drop, S: Drop, D: DescriptorDevice<L, P, S>> SetManager<L, P, S, D> {
     ghost use Rattle.gpu_descriptor.specs.declared.errors.AllocationError.{AllocationError};
     ghost use Rattle.descriptor_table.specs.declared.handle.SetHandle.{SetHandle};
     ghost use Rattle.descriptor_table.specs.declared.slot.Use.{Use};
-    ghost use Rattle.descriptor_manager.specs.Managers.{ComeEach, Comes, Destroys, NeedsLayout, OnlySetsChange, OnlySetsCome};
-    ghost use Rattle.descriptor_manager.specs.Managers.{kept_of, layout_of, number_of, seen, sets_by};
+    ghost use Rattle.descriptor_manager.specs.Managers.{ComeEach, Destroys, NeedsLayout, OnlySetsChange, OnlySetsCome};
+    ghost use Rattle.descriptor_manager.specs.Managers.{frame_of, is_open, kept_of, layout_of, number_of, seen, sets_by};
     ghost use Rattle.descriptor_manager.specs.Managers.{side_of, slots_of, store_of};
 
-    /// Allocates a set of a layout, which is held until it is freed. A frame may be open or not. It
-    /// takes the set of the layout that was kept last, or else a new one, and fails as
-    /// `allocate_for_frame` does.
-    #[inline]
-    pub fn allocate(&mut self, layout: LayoutHandle) -> Result<SetHandle, RequestError>
+    /// Allocates a set of a layout for a use in which its handle is valid now.
+    #[inline(always)]
+    pub(super) fn allocate_as(
+        &mut self,
+        layout: LayoutHandle,
+        used: Use,
+    ) -> Result<SetHandle, RequestError>
+        requires live { is_live (frame_of self.old) (is_open self.old) used ≡ true }
         ensures creates { IfOk result (λ handle. IfSome (layout_of self.old layout) (λ known.
-            Comes known.layout handle self.old self.new)) }
+            ComeEach known.layout (handle ∷ []) self.old self.new)) }
+        ensures takes { IfOk result (λ handle. IfSome (layout_of self.old layout) (λ known.
+            Takes known.layout layout.slot.place 1 used (handle ∷ []) (store_of self.old)
+            (store_of self.new))) }
         ensures kept { IsSome (layout_of self.old layout) → 0 < kept_of layout self.old
-            → (handle : SetHandle) × (result ≡ Ok handle) × HandlesKept layout.slot.place Use.Held handle
-            (store_of self.old) (store_of self.new) }
-        ensures comes { kept_of layout self.old ≡ 0 → IfOk result (λ handle.
-            IfSome (layout_of self.old layout) (λ known. HandlesNew known.layout layout.slot.place
-            Use.Held handle (store_of self.old) (store_of self.new))) }
+            → IsOk result × (side_of self.new ≡ side_of self.old)
+            × (length (slots_of self.new) ≡ length (slots_of self.old)) }
         ensures needs { NeedsLayout layout result self.old self.new }
         ensures refused { (error : AllocationError) → IsErrOf result (RequestError.Allocation error)
             → IfSome (layout_of self.old layout) (λ known. IsRefusedAtLast known.layout 1 1 error
@@ -45,10 +47,32 @@ impl<L: Drop, P: Drop, S: Drop, D: DescriptorDevice<L, P, S>> SetManager<L, P, S
         let Some(known) = self.layouts.get(layout) else {
             return Err(RequestError::NoLayout);
         };
-        match self.store.allocate(known, layout.place()) {
+        match self.store.allocate(known, layout.place(), used) {
             Ok(handle) => Ok(handle),
             Err(error) => Err(RequestError::Allocation(error)),
         }
+    }
+
+    /// Allocates a set of a layout, which is held until it is freed. A frame may be open or not. It
+    /// takes the set of the layout that was kept last, or else a new one, and fails as
+    /// `allocate_for_frame` does.
+    #[inline]
+    pub fn allocate(&mut self, layout: LayoutHandle) -> Result<SetHandle, RequestError>
+        ensures creates { IfOk result (λ handle. IfSome (layout_of self.old layout) (λ known.
+            ComeEach known.layout (handle ∷ []) self.old self.new)) }
+        ensures takes { IfOk result (λ handle. IfSome (layout_of self.old layout) (λ known.
+            Takes known.layout layout.slot.place 1 Use.Held (handle ∷ []) (store_of self.old)
+            (store_of self.new))) }
+        ensures kept { IsSome (layout_of self.old layout) → 0 < kept_of layout self.old
+            → IsOk result × (side_of self.new ≡ side_of self.old)
+            × (length (slots_of self.new) ≡ length (slots_of self.old)) }
+        ensures needs { NeedsLayout layout result self.old self.new }
+        ensures refused { (error : AllocationError) → IsErrOf result (RequestError.Allocation error)
+            → IfSome (layout_of self.old layout) (λ known. IsRefusedAtLast known.layout 1 1 error
+            (store_of self.old) (store_of self.new)) }
+        ensures sets { OnlySetsCome result self.old self.new }
+    {
+        self.allocate_as(layout, Use::Held)
     }
 
     /// Allocates a set of a layout for each place of `sets`, all or none, and writes their names there.
@@ -67,17 +91,14 @@ impl<L: Drop, P: Drop, S: Drop, D: DescriptorDevice<L, P, S>> SetManager<L, P, S
         sets: &mut [N],
     ) -> Result<(), RequestError>
         ensures creates { OnOk result (IfSome (layout_of self.old layout) (λ known.
-            ComeEach known.layout (N.handles_of sets.new) self.old self.new
-            × HoldAtLast (number_of self.old) (current_in layout.slot.place (store_of self.old))
-            (N.handles_of sets.new) (slots_of self.old) (slots_of self.new))) }
-        ensures kept { length sets.old ≤ kept_of layout self.old → side_of self.new
-            ≡ side_of self.old }
+            ComeEach known.layout (N.handles_of sets.new) self.old self.new)) }
+        ensures takes { OnOk result (IfSome (layout_of self.old layout) (λ known.
+            Takes known.layout layout.slot.place (length sets.old) Use.Held (N.handles_of sets.new)
+            (store_of self.old) (store_of self.new))) }
+        ensures kept { length sets.old ≤ kept_of layout self.old → (side_of self.new
+            ≡ side_of self.old) × (length (slots_of self.new) ≡ length (slots_of self.old)) }
         ensures fits { IsSome (layout_of self.old layout) → length sets.old
             ≤ kept_of layout self.old → IsOk result }
-        ensures comes { kept_of layout self.old < length sets.old → OnOk result (IfSome
-            (layout_of self.old layout) (λ known. BringsAtLast known.layout
-            (length sets.old - kept_of layout self.old) (length sets.old) (store_of self.old)
-            (store_of self.new))) }
         ensures needs { NeedsLayout layout result self.old self.new }
         ensures refused { (error : AllocationError) → IsErrOf result (RequestError.Allocation error)
             → ((error ≡ AllocationError.OutOfHostMemory) × (4294967295 < length sets.old)

@@ -1,6 +1,7 @@
 //! The lists of slots without a set, of sets that go back to their pools, and of kept sets.
 ghost use Rattle.std.specs.Prelude.{◌≡◌, ◌+◌, ◌<◌, ◌≤◌, IfSome, IsTrue, length, true, false, ℕ};
 
+use super::waiting::enqueue;
 use super::{GOING, KEPT, SetTable};
 use crate::giving::Group;
 use crate::handle::{SetHandle, SetName};
@@ -8,7 +9,7 @@ use crate::slot::{Chain, Use};
 
 impl<T> SetTable<T> {
     ghost use Rattle.descriptor_table.specs.Giving.{is_of};
-    ghost use Rattle.descriptor_table.specs.Slots.{IsNowhere, chain_at, chains_in, is_in, is_kept_of, slot_at};
+    ghost use Rattle.descriptor_table.specs.Slots.{IsNowhere, chain_at, chains_in, frame_of, is_in, is_kept_of, is_live, slot_at};
     ghost use Rattle.descriptor_table.specs.Tables.{At, Changes, PicksAny, Pops, Pushes, Renews, Stays, count, count_of};
     ghost use Rattle.descriptor_table.specs.Tables.{generations_of, is_kept, lists_of};
     ghost use Rattle.descriptor_table.specs.Tables.{keep_of, number_of, slots_of, used_for};
@@ -73,28 +74,28 @@ impl<T> SetTable<T> {
         head.chain.count += 1;
     }
 
-    /// Takes a kept set of a layout.
-    #[inline]
-    pub fn take_kept(&mut self, layout: u32) -> Option<usize>
-        ensures { Changes (PicksAny (is_kept_of layout) result) self.old self.new }
-    {
-        self.pick(layout as usize + KEPT)
-    }
-
-    /// Holds a kept set of a layout, under its next handle, and returns its name.
-    #[inline]
-    pub fn hold_kept<N: SetName<T>>(&mut self, layout: u32) -> N
-        requires { 0 < count (is_kept_of layout) (slots_of self.old) }
+    /// Takes a kept set of a layout, puts it to a use under its next handle, and returns its name.
+    #[inline(always)]
+    pub fn hold_kept<N: SetName<T>>(&mut self, layout: u32, used: Use) -> N
+        requires some { 0 < count (is_kept_of layout) (slots_of self.old) }
+        requires live { is_live (frame_of used) true used ≡ true }
         ensures kept { is_kept_of layout (slot_at (slots_of self.old) (N.handle_of result).place)
             ≡ true }
-        ensures renews { Renews (number_of self.old) (N.handle_of result).place Use.Held
+        ensures renews { Renews (number_of self.old) (N.handle_of result).place used
             (N.handle_of result) (slots_of self.old) (slots_of self.new) }
         ensures stays { Stays self.old self.new }
     {
         let head = &mut self.lists[layout as usize + KEPT];
         let place = head.chain.first;
         let next = self.slots.at(place as usize).next;
-        let generation = self.slots.renew(place as usize, Use::Held);
+        enqueue(
+            &mut self.waiting,
+            &mut self.newest,
+            &self.slots,
+            place,
+            used,
+        );
+        let generation = self.slots.renew(place as usize, used);
         head.chain.first = next;
         head.chain.count -= 1;
         self.name_of(SetHandle {

@@ -1,7 +1,7 @@
 //! Sets that are put into slots, get handles, and leave.
 ghost use Rattle.std.specs.Prelude.{◌≡◌, ◌+◌, ◌<◌, true, false, is_some, IsSome, None, Some};
 
-use super::{GOING, SetTable, VACANT};
+use super::{GOING, KEPT, SetTable, VACANT};
 use crate::giving::Group;
 use crate::handle::{SetHandle, SetName};
 use crate::slot::Use;
@@ -54,33 +54,6 @@ impl<T> SetTable<T> {
         let layout_generation = self.generation(layout);
         self.slots.push(layout, layout_generation, set);
         place
-    }
-
-    /// Changes what the set at a place is in use for, and returns its next handle, for which the slot's
-    /// generation rises.
-    #[inline]
-    fn renew(&mut self, place: usize, used: Use) -> SetHandle
-        requires taken { HasTaken place (slots_of self.old) }
-        requires next { (slot_at (slots_of self.old) place).generation < 4294967295 }
-        requires used { IsNowhere used }
-        ensures { Changes (Renews (number_of self.old) place used result) self.old self.new }
-    {
-        SetHandle {
-            manager: self.number,
-            place: place as u32,
-            generation: self.slots.renew(place, used),
-        }
-    }
-
-    /// Holds the set at a place, which a call has taken.
-    #[inline]
-    pub fn hold(&mut self, place: usize) -> SetHandle
-        requires taken { HasTaken place (slots_of self.old) }
-        requires next { (slot_at (slots_of self.old) place).generation < 4294967295 }
-        ensures { Changes (Renews (number_of self.old) place Use.Held result) self.old
-            self.new }
-    {
-        self.renew(place, Use::Held)
     }
 
     /// The name of the set of a handle.
@@ -138,7 +111,7 @@ impl<T> SetTable<T> {
         match group {
             Group::Going => self.pick(GOING),
             Group::Due(frame) => self.pick_due(frame),
-            Group::KeptOf(layout) => self.take_kept(layout),
+            Group::KeptOf(layout) => self.pick(layout as usize + KEPT),
         }
     }
 

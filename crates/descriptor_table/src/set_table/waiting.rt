@@ -1,11 +1,13 @@
 //! The queue of the sets that wait for a frame.
-ghost use Rattle.std.specs.Prelude.{◌≡◌, ℕ, ◌+◌, ◌<◌, ◌≤◌, length, insert, true};
+ghost use Rattle.std.specs.Prelude.{◌≡◌, ℕ, ◌<◌, ◌≤◌, length, insert, is_some, slice_set, false, true};
 ghost use Rattle.std.specs.VecDeque.{deque_capacity};
-ghost use Rattle.std.specs.List.Sorted.{IsPartitionPoint};
+ghost use Rattle.std.specs.List.Sorted.{IsNonDecreasingBy, IsPartitionPoint};
+ghost use Rattle.descriptor_table.specs.Slots.{IsQueue, Slot, frame_of, slot_at, slots_in, waits};
 
 use super::SetTable;
 use crate::handle::SetHandle;
 use crate::slot::Use;
+use crate::slot_list::SlotList;
 use std::collections::VecDeque;
 
 /// Puts a place into the queue. Only later ones move, or only earlier ones if these are fewer.
@@ -26,54 +28,57 @@ fn put_place(waiting: &mut VecDeque<u32>, at: usize, place: u32)
     waiting.rotate_left(later);
 }
 
+/// Puts a slot into the queue whose set comes to wait for a frame before the newest. It is out of line, so
+/// that a set for the newest saves no registers for it.
+#[inline(never)]
+fn enqueue_earlier<T>(waiting: &mut VecDeque<u32>, slots: &SlotList<T>, place: u32, frame: u64)
+    requires room { length waiting.old.items < deque_capacity waiting.old }
+    requires rises { IsNonDecreasingBy (λ p. frame_of (slot_at (slots_in slots.now) p).used)
+        waiting.old.items }
+    ensures items { (at : ℕ) × (at ≤ length waiting.old.items) × IsPartitionPoint
+        (λ p. frame_of (slot_at (slots_in slots.now) p).used ≤ frame)
+        (λ p. frame < frame_of (slot_at (slots_in slots.now) p).used) waiting.old.items at
+        × (waiting.new.items ≡ insert waiting.old.items at place) }
+    ensures capacity { deque_capacity waiting.new ≡ deque_capacity waiting.old }
+{
+    let at = waiting.partition_point(|place: &u32| slots.frame_at(*place) <= frame);
+    put_place(waiting, at, place);
+}
+
+/// Puts a slot into the queue whose set comes to this use, if a set in it waits for a frame.
+#[inline]
+pub(super) fn enqueue<T>(
+    waiting: &mut VecDeque<u32>,
+    newest: &mut u64,
+    slots: &SlotList<T>,
+    place: u32,
+    used: Use,
+)
+    requires queue { IsQueue (slots_in slots.now) waiting.old.items newest.old }
+    requires within { place < length (slots_in slots.now) }
+    requires idle { waits (slot_at (slots_in slots.now) place) ≡ false }
+    requires room { length (slots_in slots.now) ≤ deque_capacity waiting.old }
+    requires full { is_some (slot_at (slots_in slots.now) place).set ≡ true }
+    ensures queue { (s : Slot T) → s.used ≡ used → is_some s.set ≡ true → IsQueue
+        (slice_set (slots_in slots.now) place s) waiting.new.items newest.new }
+    ensures capacity { deque_capacity waiting.new ≡ deque_capacity waiting.old }
+{
+    if !used.waits() {
+        return;
+    }
+    let frame = used.frame();
+    if *newest > frame {
+        enqueue_earlier(waiting, slots, place, frame);
+        return;
+    }
+    waiting.push_back_reserved(place);
+    *newest = frame;
+}
+
 impl<T> SetTable<T> {
-    ghost use Rattle.descriptor_table.specs.Slots.{frame_of, is_due, slot_at, waits};
+    ghost use Rattle.descriptor_table.specs.Slots.{is_due, is_live};
     ghost use Rattle.descriptor_table.specs.Tables.{At, Changes, HasTaken, PicksAny, Renews};
     ghost use Rattle.descriptor_table.specs.Tables.{number_of, slots_of, used_for};
-
-    /// The frame that the set of a slot waits for. It is 0 if it waits for none.
-    fn frame_at(&self, place: u32) -> u64
-        ensures { result ≡ frame_of (slot_at (slots_of self.now) place).used }
-    {
-        match self.slots.get(place) {
-            Some(slot) => slot.used().frame(),
-            None => 0,
-        }
-    }
-
-    /// How many places of the queue are before those of sets that wait for a later frame. If the frame is
-    /// the newest, these are all.
-    #[inline]
-    fn place_of_frame(&self, frame: u64) -> usize
-        ensures within { result ≤ length self.now.waiting.items }
-        ensures place { IsPartitionPoint (λ p. frame_of (slot_at (slots_of self.now) p).used ≤ frame)
-            (λ p. frame < frame_of (slot_at (slots_of self.now) p).used) self.now.waiting.items result }
-    {
-        if self.newest <= frame {
-            return self.waiting.len();
-        }
-        self.place_before(frame)
-    }
-
-    /// `place_of_frame` of a frame that may not be the newest. It is out of line, so that a set for the
-    /// newest saves no registers for it.
-    #[inline(never)]
-    fn place_before(&self, frame: u64) -> usize
-        ensures within { result ≤ length self.now.waiting.items }
-        ensures place { IsPartitionPoint (λ p. frame_of (slot_at (slots_of self.now) p).used ≤ frame)
-            (λ p. frame < frame_of (slot_at (slots_of self.now) p).used) self.now.waiting.items result }
-    {
-        match self.waiting.back() {
-            None => 0,
-            Some(last) => {
-                if self.slots.frame(*last as usize) <= frame {
-                    return self.waiting.len();
-                }
-                self.waiting
-                    .partition_point(|place: &u32| self.frame_at(*place) <= frame)
-            }
-        }
-    }
 
     /// Lets the set at a place, which a call has taken, wait for a frame.
     #[inline]
@@ -81,27 +86,37 @@ impl<T> SetTable<T> {
         requires { HasTaken place (slots_of self.old) }
         ensures { Changes (At place (used_for (Use.Waits frame))) self.old self.new }
     {
-        let at = self.place_of_frame(frame);
-        put_place(&mut self.waiting, at, place as u32);
-        self.newest = self.newest.max(frame);
-        self.slots.set_use(place, Use::Waits(frame));
+        let used = Use::Waits(frame);
+        enqueue(
+            &mut self.waiting,
+            &mut self.newest,
+            &self.slots,
+            place as u32,
+            used,
+        );
+        self.slots.set_use(place, used);
     }
 
-    /// Makes the set at a place, which a call has taken, one of a frame.
+    /// Puts the set at a place, which a call has taken, to a use, and returns its next handle, for which
+    /// the slot's generation rises.
     #[inline]
-    pub fn hold_for_frame(&mut self, place: usize, frame: u64) -> SetHandle
+    pub fn hold(&mut self, place: usize, used: Use) -> SetHandle
         requires taken { HasTaken place (slots_of self.old) }
         requires next { (slot_at (slots_of self.old) place).generation < 4294967295 }
-        ensures { Changes (Renews (number_of self.old) place (Use.InFrame frame) result)
-            self.old self.new }
+        requires live { is_live (frame_of used) true used ≡ true }
+        ensures { Changes (Renews (number_of self.old) place used result) self.old self.new }
     {
-        let at = self.place_of_frame(frame);
-        put_place(&mut self.waiting, at, place as u32);
-        self.newest = self.newest.max(frame);
+        enqueue(
+            &mut self.waiting,
+            &mut self.newest,
+            &self.slots,
+            place as u32,
+            used,
+        );
         SetHandle {
             manager: self.number,
             place: place as u32,
-            generation: self.slots.renew(place, Use::InFrame(frame)),
+            generation: self.slots.renew(place, used),
         }
     }
 

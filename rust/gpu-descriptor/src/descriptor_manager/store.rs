@@ -2,8 +2,8 @@
 //! A set manager's table of sets, its allocator and its device.
 
 mod back;
-mod batch;
-mod take;
+mod hold;
+mod request;
 
 use crate::descriptor_table::{SetHandle, SetTable};
 use crate::gpu_descriptor::{

@@ -64,6 +64,16 @@ impl Use {
         }
     }
 
+    /// Whether a set in this use waits for a frame.
+    #[inline]
+    pub(crate) fn waits(self) -> bool
+    {
+        match self {
+            Use::InFrame(_) | Use::Waits(_) => true,
+            Use::Held | Use::Kept | Use::Going | Use::Taken | Use::Vacant => false,
+        }
+    }
+
     /// Whether the handle of a set in this use is valid, while `frame` is the open frame if `is_open`.
     #[inline]
     pub fn is_live(self, frame: u64, is_open: bool) -> bool

@@ -121,6 +121,15 @@ impl<T> SlotList<T> {
         self.entries[place].frame
     }
 
+    /// The frame that the set of a slot waits for. It is 0 if it waits for none.
+    pub(crate) fn frame_at(&self, place: u32) -> u64
+    {
+        match self.get(place) {
+            Some(slot) => slot.used().frame(),
+            None => 0,
+        }
+    }
+
     /// Changes what the set of a slot is in use for.
     #[inline]
     pub(crate) fn set_use(&mut self, place: usize, used: Use)

@@ -4,7 +4,7 @@
 use super::SetManager;
 use crate::descriptor_manager::errors::{BeginFrameError, RequestError};
 use crate::descriptor_manager::layout_registry::LayoutHandle;
-use crate::descriptor_table::SetHandle;
+use crate::descriptor_table::{SetHandle, Use};
 use crate::gpu_descriptor::DescriptorDevice;
 
 impl<L, P, S, D: DescriptorDevice<L, P, S>> SetManager<L, P, S, D> {
@@ -54,16 +54,7 @@ impl<L, P, S, D: DescriptorDevice<L, P, S>> SetManager<L, P, S, D> {
         if !self.is_open {
             return Err(RequestError::NoFrame);
         }
-        let Some(known) = self.layouts.get(layout) else {
-            return Err(RequestError::NoLayout);
-        };
-        match self
-            .store
-            .allocate_for_frame(known, layout.place(), self.frame)
-        {
-            Ok(handle) => Ok(handle),
-            Err(error) => Err(RequestError::Allocation(error)),
-        }
+        self.allocate_as(layout, Use::InFrame(self.frame))
     }
 
     /// Ends the open frame: the handles of its sets are invalid from now on. It can't fail.

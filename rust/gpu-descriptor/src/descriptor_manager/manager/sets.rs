@@ -4,23 +4,34 @@
 use super::SetManager;
 use crate::descriptor_manager::errors::{FreeError, RequestError};
 use crate::descriptor_manager::layout_registry::LayoutHandle;
-use crate::descriptor_table::{SetHandle, SetName};
+use crate::descriptor_table::{SetHandle, SetName, Use};
 use crate::gpu_descriptor::{AllocationError, DescriptorDevice, DescriptorSet};
 
 impl<L, P, S, D: DescriptorDevice<L, P, S>> SetManager<L, P, S, D> {
+    /// Allocates a set of a layout for a use in which its handle is valid now.
+    #[inline(always)]
+    pub(super) fn allocate_as(
+        &mut self,
+        layout: LayoutHandle,
+        used: Use,
+    ) -> Result<SetHandle, RequestError>
+    {
+        let Some(known) = self.layouts.get(layout) else {
+            return Err(RequestError::NoLayout);
+        };
+        match self.store.allocate(known, layout.place(), used) {
+            Ok(handle) => Ok(handle),
+            Err(error) => Err(RequestError::Allocation(error)),
+        }
+    }
+
     /// Allocates a set of a layout, which is held until it is freed. A frame may be open or not. It
     /// takes the set of the layout that was kept last, or else a new one, and fails as
     /// `allocate_for_frame` does.
     #[inline]
     pub fn allocate(&mut self, layout: LayoutHandle) -> Result<SetHandle, RequestError>
     {
-        let Some(known) = self.layouts.get(layout) else {
-            return Err(RequestError::NoLayout);
-        };
-        match self.store.allocate(known, layout.place()) {
-            Ok(handle) => Ok(handle),
-            Err(error) => Err(RequestError::Allocation(error)),
-        }
+        self.allocate_as(layout, Use::Held)
     }
 
     /// Allocates a set of a layout for each place of `sets`, all or none, and writes their names there.

@@ -4,6 +4,7 @@
 use super::SetTable;
 use crate::descriptor_table::handle::SetHandle;
 use crate::descriptor_table::slot::Use;
+use crate::descriptor_table::slot_list::SlotList;
 use crate::kit::collections::VecDeque;
 
 /// Puts a place into the queue. Only later ones move, or only earlier ones if these are fewer.
@@ -20,65 +21,69 @@ fn put_place(waiting: &mut VecDeque<u32>, at: usize, place: u32)
     waiting.rotate_left(later);
 }
 
+/// Puts a slot into the queue whose set comes to wait for a frame before the newest. It is out of line, so
+/// that a set for the newest saves no registers for it.
+#[inline(never)]
+fn enqueue_earlier<T>(waiting: &mut VecDeque<u32>, slots: &SlotList<T>, place: u32, frame: u64)
+{
+    let at = waiting.partition_point(|place: &u32| slots.frame_at(*place) <= frame);
+    put_place(waiting, at, place);
+}
+
+/// Puts a slot into the queue whose set comes to this use, if a set in it waits for a frame.
+#[inline]
+pub(super) fn enqueue<T>(
+    waiting: &mut VecDeque<u32>,
+    newest: &mut u64,
+    slots: &SlotList<T>,
+    place: u32,
+    used: Use,
+)
+{
+    if !used.waits() {
+        return;
+    }
+    let frame = used.frame();
+    if *newest > frame {
+        enqueue_earlier(waiting, slots, place, frame);
+        return;
+    }
+    waiting.push_back_reserved(place);
+    *newest = frame;
+}
+
 impl<T> SetTable<T> {
-    /// The frame that the set of a slot waits for. It is 0 if it waits for none.
-    fn frame_at(&self, place: u32) -> u64
-    {
-        match self.slots.get(place) {
-            Some(slot) => slot.used().frame(),
-            None => 0,
-        }
-    }
-
-    /// How many places of the queue are before those of sets that wait for a later frame. If the frame is
-    /// the newest, these are all.
-    #[inline]
-    fn place_of_frame(&self, frame: u64) -> usize
-    {
-        if self.newest <= frame {
-            return self.waiting.len();
-        }
-        self.place_before(frame)
-    }
-
-    /// `place_of_frame` of a frame that may not be the newest. It is out of line, so that a set for the
-    /// newest saves no registers for it.
-    #[inline(never)]
-    fn place_before(&self, frame: u64) -> usize
-    {
-        match self.waiting.back() {
-            None => 0,
-            Some(last) => {
-                if self.slots.frame(*last as usize) <= frame {
-                    return self.waiting.len();
-                }
-                self.waiting
-                    .partition_point(|place: &u32| self.frame_at(*place) <= frame)
-            }
-        }
-    }
-
     /// Lets the set at a place, which a call has taken, wait for a frame.
     #[inline]
     pub(super) fn wait(&mut self, place: usize, frame: u64)
     {
-        let at = self.place_of_frame(frame);
-        put_place(&mut self.waiting, at, place as u32);
-        self.newest = self.newest.max(frame);
-        self.slots.set_use(place, Use::Waits(frame));
+        let used = Use::Waits(frame);
+        enqueue(
+            &mut self.waiting,
+            &mut self.newest,
+            &self.slots,
+            place as u32,
+            used,
+        );
+        self.slots.set_use(place, used);
     }
 
-    /// Makes the set at a place, which a call has taken, one of a frame.
+    /// Puts the set at a place, which a call has taken, to a use, and returns its next handle, for which
+    /// the slot's generation rises.
     #[inline]
-    pub fn hold_for_frame(&mut self, place: usize, frame: u64) -> SetHandle
+    pub fn hold(&mut self, place: usize, used: Use) -> SetHandle
     {
-        let at = self.place_of_frame(frame);
-        put_place(&mut self.waiting, at, place as u32);
-        self.newest = self.newest.max(frame);
+        enqueue(
+            &mut self.waiting,
+            &mut self.newest,
+            &self.slots,
+            place as u32,
+            used,
+        );
         SetHandle {
             manager: self.number,
             place: place as u32,
-            generation: self.slots.renew(place, Use::InFrame(frame)),
+            generation: self.slots.renew(place, used),
         }
     }
 

@@ -1,8 +1,8 @@
-use Rattle.std.proofs.Common.{false, inl, inr, sym, subst, ◌∙◌}
+use Rattle.std.proofs.Common.{◌≡◌, ◌∷◌, [], Some, false, inl, inr, sym, subst, ◌∙◌}
 use Rattle.gpu_descriptor.specs.Caller.SetLayouts.{IsMeant}
-use Rattle.descriptor_table.specs.Sets.{Names, sets_of}
+use Rattle.descriptor_table.specs.Sets.{NameEach, find, sets_of}
 use Rattle.descriptor_table.specs.Tables.{Grows, generations_of, number_of, slots_of}
-use Rattle.descriptor_manager.proofs.Adding.{added_grows, added_names, added_only}
+use Rattle.descriptor_manager.proofs.Adding.{added_grows, added_is, added_names, added_only}
 use Rattle.descriptor_manager.proofs.layout_registry.LayoutRegistry.add.Goals as goal
 
 pub invariant_of-self-clause-meant : goal.invariant_of-self-clause-meant
@@ -19,12 +19,19 @@ returns-clause-names g c =
     let mid = c.put-place.new.self in
     let new = c.hold.new.self in
     let names = added_names (number_of mid) c.put-place.result c.args.layout c.hold.result (slots_of c.reserve.new.self.table) (slots_of mid) (slots_of new) (generations_of c.reserve.new.self.table) c.put-place.ensures.puts c.hold.ensures.slots in
-    let from = subst (λ l. Names c.hold.result c.args.layout (sets_of (number_of mid) 0 false l) (sets_of (number_of mid) 0 false (slots_of new))) c.reserve.ensures.keeps.slots names in
-    let to = subst (λ n. Names c.hold.result c.args.layout (sets_of (number_of mid) 0 false (slots_of old)) (sets_of n 0 false (slots_of new))) (sym c.hold.ensures.stays.settings.number) from in
-    subst (λ n. Names c.hold.result c.args.layout (sets_of n 0 false (slots_of old)) (sets_of (number_of new) 0 false (slots_of new))) (c.put-place.ensures.settings.number ∙ c.reserve.ensures.keeps.registry) to
+    let from = subst (λ l. NameEach (c.hold.result ∷ []) (sets_of (number_of mid) 0 false l) (sets_of (number_of mid) 0 false (slots_of new))) c.reserve.ensures.keeps.slots names in
+    let to = subst (λ n. NameEach (c.hold.result ∷ []) (sets_of (number_of mid) 0 false (slots_of old)) (sets_of n 0 false (slots_of new))) (sym c.hold.ensures.stays.settings.number) from in
+    subst (λ n. NameEach (c.hold.result ∷ []) (sets_of n 0 false (slots_of old)) (sets_of (number_of new) 0 false (slots_of new))) (c.put-place.ensures.settings.number ∙ c.reserve.ensures.keeps.registry) to
 
 pub returns-clause-grows : goal.returns-clause-grows
 returns-clause-grows g c =
     let mid = c.put-place.new.self in
     let new = slots_of c.hold.new.self in
     subst (λ l. Grows l new) c.reserve.ensures.keeps.slots (added_grows (number_of mid) c.put-place.result c.args.layout c.hold.result (slots_of c.reserve.new.self.table) (slots_of mid) new (generations_of c.reserve.new.self.table) c.put-place.ensures.puts c.hold.ensures.slots)
+
+pub returns-clause-added : goal.returns-clause-added
+returns-clause-added g c =
+    let mid = c.put-place.new.self in
+    let new = c.hold.new.self in
+    subst (λ n. find n 0 false (slots_of new) c.hold.result ≡ Some c.args.layout) (sym c.hold.ensures.stays.settings.number)
+    (added_is (number_of mid) c.put-place.result c.args.layout c.hold.result (slots_of c.reserve.new.self.table) (slots_of mid) (slots_of new) (generations_of c.reserve.new.self.table) c.put-place.ensures.puts c.hold.ensures.slots)

@@ -1,8 +1,9 @@
-use Rattle.std.proofs.Common.{◌≡◌, suc, length, inl, inr, refl, sym, ap, ◌∙◌, subst, arith}
+use Rattle.std.proofs.Common.{◌≡◌, ◌≢◌, ◌<◌, ℕ, zero, suc, [], ◌∷◌, length, slice_index_or, inl, inr, refl, sym, ap, ◌∙◌, subst, arith}
 use Rattle.descriptor_table.specs.Tables.{Grows, lists_with}
+use Rattle.descriptor_table.specs.declared.handle.SetHandle.{SetHandle}
 use Rattle.descriptor_manager.specs.LayoutRegistries.{layout_slots}
 use Rattle.descriptor_manager.specs.Own.{HasSetsOf}
-use Rattle.descriptor_manager.specs.Managers.{layouts_in}
+use Rattle.descriptor_manager.specs.Managers.{layout_given, layout_of, layouts_in}
 use Rattle.descriptor_manager.specs.Stores.{generations_in, lists_for}
 use Rattle.descriptor_manager.proofs.Owned.{lists_more, sets_as}
 use Rattle.descriptor_manager.proofs.manager.SetManager.add_layout.Goals.{After-reserve_layout, then-places, else-places}
@@ -66,3 +67,20 @@ returns-after-places-clause-grows g c = elim c.if-places.branch [
   | then-places w ↦ subst (λ r. Grows (layouts_in c.args.self.now) (layouts_in r)) (sym w.self-is) c.in-Ok.ensures.grows
   | else-places w ↦ subst (λ r. Grows (layouts_in c.args.self.now) (layouts_in r)) (sym w.self-is) c.in-Ok.ensures.grows
 ]
+
+pub returns-after-places-clause-never : goal.returns-after-places-clause-never
+returns-after-places-clause-never g c = c.in-Ok.ensures.names.never 0 c.in-Ok.handle.slot (omega arith)
+
+-- another handle isn't the one of the list
+apart_from : (slot other : SetHandle) → other ≢ slot → (i : ℕ) (d : SetHandle) → i < length (slot ∷ []) → slice_index_or (slot ∷ []) i d ≢ other
+apart_from slot other ne zero d lt = λ e. ne (sym e)
+apart_from slot other ne (suc i) d lt = absurd (omega arith)
+
+pub returns-after-places-clause-others : goal.returns-after-places-clause-others
+returns-after-places-clause-others g c = λ other ne.
+    let old = c.args.self.now in
+    let stay = c.in-Ok.ensures.names.others other.slot (apart_from c.in-Ok.handle.slot other.slot (λ e. ne (λ i. record { slot = e i }))) in
+    elim c.if-places.branch [
+      | then-places w ↦ subst (λ r. (layout_of r other ≡ layout_of old other) × (layout_given r other ≡ layout_given old other)) (sym w.self-is) stay
+      | else-places w ↦ subst (λ r. (layout_of r other ≡ layout_of old other) × (layout_given r other ≡ layout_given old other)) (sym w.self-is) stay
+    ]

@@ -9,11 +9,12 @@ use Rattle.descriptor_manager.proofs.store.Store.hold_coming.Goals as goal
 pub loop-index-init : goal.loop-index-init
 loop-index-init g c = record {
   long = refl;
-  holds = held_start c.args.layout c.args.self.now;
+  holds = held_start c.args.layout c.args.used c.args.self.now;
   fewer = omega arith;
   own = λ known own. own;
   table = c.requires.can.table;
-  keeps = record { side = refl; sets = λ known own p x e. inl (e, refl); grows = inl refl; stays = store_same c.args.self.now };
+  stays = store_same c.args.self.now;
+  keeps = λ known own. record { side = refl; sets = λ p x e. inl (e, refl); grows = inl refl; stays = store_same c.args.self.now };
 }
 
 pub loop-index-preserved : goal.loop-index-preserved
@@ -30,17 +31,21 @@ loop-index-preserved g c =
     let long = was.long in
     record {
       long = length-set c.loop-index.names i c.name_of.result ∙ was.long;
-      holds = subst (λ l. HoldEach (number_of s) (current_in c.args.layout s) (take (i + 1) l) (slots_in s) (slots_in c.hold_last-handle.new.self)) (sym written)
-          (held_next c.args.layout i handles handle s c.loop-index.self c.hold_last-handle.new.self was.keeps.stays (omega arith) was.holds now.holds);
+      holds = subst (λ l. HoldEach (number_of s) (current_in c.args.layout s) c.args.used (take (i + 1) l) (slots_in s) (slots_in c.hold_last-handle.new.self)) (sym written)
+          (held_next c.args.layout c.args.used c.requires.live i handles handle s c.loop-index.self c.hold_last-handle.new.self was.stays (omega arith) was.holds now.holds);
       fewer = (let a = was.fewer in let b = now.fewer in omega arith);
       own = λ known own. now.own known (was.own known own);
       table = now.table;
-      keeps = record {
-        side = now.keeps.side ∙ was.keeps.side;
-        sets = λ known own. sets_then (ComesOf g.D.DescriptorDevice.meaning known c.args.layout) (slots_in s) (slots_in c.loop-index.self) (slots_in c.hold_last-handle.new.self) (was.keeps.sets known own) (now.keeps.sets known (was.own known own));
-        grows = grow_more (number_of c.loop-index.self) (current_in c.args.layout c.loop-index.self) (handle ∷ []) (slots_in s) (slots_in c.loop-index.self) (slots_in c.hold_last-handle.new.self) was.keeps.grows now.keeps.grows now.holds;
-        stays = stays_then s c.loop-index.self c.hold_last-handle.new.self was.keeps.stays now.keeps.stays;
-      };
+      stays = stays_then s c.loop-index.self c.hold_last-handle.new.self was.stays now.stays;
+      keeps = λ known own.
+          let before = was.keeps known own in
+          let here = now.keeps known (was.own known own) in
+          record {
+            side = here.side ∙ before.side;
+            sets = sets_then (ComesOf g.D.DescriptorDevice.meaning known c.args.layout) (slots_in s) (slots_in c.loop-index.self) (slots_in c.hold_last-handle.new.self) before.sets here.sets;
+            grows = grow_more (number_of c.loop-index.self) (current_in c.args.layout c.loop-index.self) c.args.used (handle ∷ []) (slots_in s) (slots_in c.loop-index.self) (slots_in c.hold_last-handle.new.self) c.requires.live before.grows here.grows now.holds;
+            stays = stays_then s c.loop-index.self c.hold_last-handle.new.self before.stays here.stays;
+          };
     }
 
 pub returns-clause-holds : goal.returns-clause-holds
@@ -49,7 +54,7 @@ returns-clause-holds g c =
     let end = c.loop-index-test.false in
     let long = was.long in
     let all = handles_long g.N.SetName g.met.N.SetName.each c.loop-index.names in
-    held_all (number_of c.args.self.now) (current_in c.args.layout c.args.self.now) c.loop-index.index (g.N.SetName.handles_of c.loop-index.names) (slots_in c.args.self.now) (slots_in c.loop-index.self) (omega arith) was.holds
+    held_all (number_of c.args.self.now) (current_in c.args.layout c.args.self.now) c.args.used c.loop-index.index (g.N.SetName.handles_of c.loop-index.names) (slots_in c.args.self.now) (slots_in c.loop-index.self) (omega arith) was.holds
 
 pub name_of-requires : goal.name_of-requires
-name_of-requires g c = held_full (number_of c.loop-index.self) (current_in c.args.layout c.loop-index.self) c.hold_last-handle.result (slots_in c.loop-index.self) (slots_in c.hold_last-handle.new.self) c.hold_last-handle.ensures.holds
+name_of-requires g c = held_full (number_of c.loop-index.self) (current_in c.args.layout c.loop-index.self) c.args.used c.hold_last-handle.result (slots_in c.loop-index.self) (slots_in c.hold_last-handle.new.self) c.hold_last-handle.ensures.holds

@@ -11,10 +11,13 @@ use Rattle.descriptor_manager.proofs.store.Store.hold_kept.Goals as goal
 pub loop-index-init : goal.loop-index-init
 loop-index-init g c = record {
   long = refl;
-  holds = held_start c.args.layout c.args.self.now;
+  holds = held_start c.args.layout c.args.used c.args.self.now;
   were_kept = λ i lt. absurd (omega arith);
   fewer = omega arith;
-  keeps = record { side = refl; sets = λ p x e. inl (e, refl); table = λ n room. room; grows = inl refl; stays = record { store = store_same c.args.self.now; coming = refl } };
+  as_many = refl;
+  table = λ n room. room;
+  keeps = record { side = refl; sets = λ p x e. inl (e, refl); grows = inl refl; stays = store_same c.args.self.now };
+  coming = refl;
 }
 
 pub loop-index-preserved : goal.loop-index-preserved
@@ -31,17 +34,19 @@ loop-index-preserved g c =
     let long = was.long in
     record {
       long = length-set c.loop-index.names i c.hold_next.result ∙ was.long;
-      holds = subst (λ l. HoldEach (number_of s) (current_in c.args.layout s) (take (i + 1) l) (slots_in s) (slots_in c.hold_next.new.self)) (sym written)
-          (held_next c.args.layout i handles handle s c.loop-index.self c.hold_next.new.self was.keeps.stays.store (omega arith) was.holds now.holds);
+      holds = subst (λ l. HoldEach (number_of s) (current_in c.args.layout s) c.args.used (take (i + 1) l) (slots_in s) (slots_in c.hold_next.new.self)) (sym written)
+          (held_next c.args.layout c.args.used c.requires.live i handles handle s c.loop-index.self c.hold_next.new.self was.keeps.stays (omega arith) was.holds now.holds);
       were_kept = subst (λ l. (j : ℕ) → j < i + 1 → is_kept_of c.args.layout (slot_at (slots_in s) (place_at l j)) ≡ true) (sym written)
-          (were_kept (number_of s) (current_in c.args.layout s) c.args.layout i handles handle (slots_in s) (slots_in c.loop-index.self) (omega arith) was.holds was.were_kept now.was_kept);
+          (were_kept (number_of s) (current_in c.args.layout s) c.args.used c.args.layout i handles handle (slots_in s) (slots_in c.loop-index.self) c.requires.live (omega arith) was.holds was.were_kept now.was_kept);
       fewer = (let a = was.fewer in let b = now.fewer in omega arith);
+      as_many = now.as_many ∙ was.as_many;
+      table = λ n room. now.table n (was.table n room);
+      coming = now.coming ∙ was.coming;
       keeps = record {
         side = now.keeps.side ∙ was.keeps.side;
         sets = kept_then NoneComes (slots_in s) (slots_in c.loop-index.self) (slots_in c.hold_next.new.self) was.keeps.sets now.keeps.sets;
-        table = λ n room. now.keeps.table n (was.keeps.table n room);
-        grows = grow_more (number_of c.loop-index.self) (current_in c.args.layout c.loop-index.self) (handle ∷ []) (slots_in s) (slots_in c.loop-index.self) (slots_in c.hold_next.new.self) was.keeps.grows now.keeps.grows now.holds;
-        stays = record { store = stays_then s c.loop-index.self c.hold_next.new.self was.keeps.stays.store now.keeps.stays.store; coming = now.keeps.stays.coming ∙ was.keeps.stays.coming };
+        grows = grow_more (number_of c.loop-index.self) (current_in c.args.layout c.loop-index.self) c.args.used (handle ∷ []) (slots_in s) (slots_in c.loop-index.self) (slots_in c.hold_next.new.self) c.requires.live was.keeps.grows now.keeps.grows now.holds;
+        stays = stays_then s c.loop-index.self c.hold_next.new.self was.keeps.stays now.keeps.stays;
       };
     }
 
@@ -51,4 +56,4 @@ returns-clause-holds g c =
     let end = c.loop-index-test.false in
     let long = was.long in
     let all = handles_long g.N.SetName g.met.N.SetName.each c.loop-index.names in
-    held_all (number_of c.args.self.now) (current_in c.args.layout c.args.self.now) c.loop-index.index (g.N.SetName.handles_of c.loop-index.names) (slots_in c.args.self.now) (slots_in c.loop-index.self) (omega arith) was.holds
+    held_all (number_of c.args.self.now) (current_in c.args.layout c.args.self.now) c.args.used c.loop-index.index (g.N.SetName.handles_of c.loop-index.names) (slots_in c.args.self.now) (slots_in c.loop-index.self) (omega arith) was.holds

@@ -1,5 +1,5 @@
-use Rattle.std.proofs.Common.{◌≡◌, ◌≢◌, ℕ, ◌+◌, ◌-◌, ◌<◌, inl, inr, is_some, length, set, true, refl, sym, ap, ◌∙◌, arith}
-use Rattle.std.proofs.lemmas.Bool.{false≢true}
+use Rattle.std.proofs.Common.{◌≡◌, ◌≢◌, ℕ, ◌+◌, ◌-◌, ◌<◌, inl, inr, is_some, length, set, subst, true, refl, sym, ap, ◌∙◌, arith}
+use Rattle.std.proofs.lemmas.Bool.{true≢false}
 use Rattle.std.proofs.lemmas.List.{get_or_past, length-map, length-set}
 use Rattle.descriptor_table.specs.Slots.{AreSound, Slot, chain_at, chains_in, generation_at, generations_in, is_in, nexts_in, slot_at, slots_in}
 use Rattle.descriptor_table.specs.Tables.{count, renewed, slots_of}
@@ -7,8 +7,7 @@ use Rattle.descriptor_table.specs.declared.handle.SetHandle.{SetHandle}
 use Rattle.descriptor_table.specs.declared.set_table.SetTable.{SetTable}
 use Rattle.descriptor_table.specs.declared.slot.Chain.{Chain}
 use Rattle.descriptor_table.specs.declared.slot.ListHead.{ListHead}
-use Rattle.descriptor_table.specs.declared.slot.Use.TheVariants.{Held}
-use Rattle.descriptor_table.proofs.Chains.{picked}
+use Rattle.descriptor_table.proofs.Chains.{listed_out, live_no_list, picked}
 use Rattle.descriptor_table.proofs.Counting.{below_or}
 use Rattle.descriptor_table.proofs.Counts.{chain_count}
 use Rattle.descriptor_table.proofs.Entries.{chain_was, chain_written, generations_stay, in_place}
@@ -30,14 +29,14 @@ there s layout some =
 
 -- and is the one that was read
 is_list : (g : Over) (c : After-index_mut-head g) → chain_at (chains_in c.args.self.now.lists.items) (c.args.layout + 2) ≡ c.index_mut-head.result.now.chain
-is_list g c = sym (chain_was c.args.self.now.lists.items (c.args.layout + 2) c.index_mut-head.result.now c.index_mut-head.ensures.value (there c.args.self.now c.args.layout c.requires))
+is_list g c = sym (chain_was c.args.self.now.lists.items (c.args.layout + 2) c.index_mut-head.result.now c.index_mut-head.ensures.value (there c.args.self.now c.args.layout c.requires.some))
 
 some : (g : Over) (c : After-index_mut-head g) → c.index_mut-head.result.now.chain.count ≢ 0
 some g c =
     let s = c.args.self.now in
     let all = chain_count (slots_in s.slots) (nexts_in s.slots) (chains_in s.lists.items) s.sound.linked (c.args.layout + 2) in
     let is = ap (λ (d : Chain). d.count) (is_list g c) in
-    let some = c.requires in
+    let some = c.requires.some in
     λ none. omega arith
 
 -- its first slot is there, and in it
@@ -56,10 +55,19 @@ generations : (g : Over) (c : After-renew-generation g) → generations_in (set 
 generations g c = generations_stay c.args.self.now.lists.items (c.args.layout + 2) c.index_mut-head.result.now c.index_mut-head.ensures.value (new_head g c) refl
 
 pub index_mut-head-requires : goal.index_mut-head-requires
-index_mut-head-requires g c = (let s = c.args.self.now in let within = there s c.args.layout c.requires in let long = length-map s.lists.items (λ (h : ListHead). h.chain) in omega arith)
+index_mut-head-requires g c = (let s = c.args.self.now in let within = there s c.args.layout c.requires.some in let long = length-map s.lists.items (λ (h : ListHead). h.chain) in omega arith)
 
 pub at-requires : goal.at-requires
 at-requires g c = (first g (goal.at.at-requires g c).After-index_mut-head).0
+
+pub enqueue-requires-clause-within : goal.enqueue-requires-clause-within
+enqueue-requires-clause-within g c = (first g (goal.at.enqueue-requires-clause-within g c).After-index_mut-head).0
+
+pub enqueue-requires-clause-idle : goal.enqueue-requires-clause-idle
+enqueue-requires-clause-idle g c = listed_out (c.args.layout + 2) (slot_at (slots_in c.args.self.now.slots) c.index_mut-head.result.now.chain.first) (first g (goal.at.enqueue-requires-clause-idle g c).After-index_mut-head).1
+
+pub enqueue-requires-clause-full : goal.enqueue-requires-clause-full
+enqueue-requires-clause-full g c = (kept_is (c.args.layout + 2) (slot_at (slots_in c.args.self.now.slots) c.index_mut-head.result.now.chain.first) (omega arith) (first g (goal.at.enqueue-requires-clause-full g c).After-index_mut-head).1).1
 
 pub renew-generation-requires-clause-within : goal.renew-generation-requires-clause-within
 renew-generation-requires-clause-within g c = (first g (goal.at.renew-generation-requires-clause-within g c).After-index_mut-head).0
@@ -79,9 +87,11 @@ invariant_of-self g c =
     let d = (goal.at.invariant_of-self g c).After-index_mut-head in
     let at = c.index_mut-head.result.now.chain.first in
     let p = first g d in
-    let new = renewed Held (slot_at (slots_in s.slots) at) in
-    let sound = pick_sound s.slots c.renew-generation.new.self (chains_in s.lists.items) (generations_in s.lists.items) s.waiting.items s.waiting.cap s.keep s.newest s.sound at new c.renew-generation.ensures.writes.slots (c.args.layout + 2) c.index_mut-head.result.now.chain c.at.result.now.next (is_list g d) (some g d) (there s c.args.layout c.requires) c.at.ensures.next refl c.renew-generation.ensures.nexts (λ j. refl) refl (listed s.slots s.slots (chains_in s.lists.items) (generations_in s.lists.items) s.waiting.items s.waiting.cap s.keep s.newest s.sound at new p.0 refl refl refl (λ e. absurd (false≢true e)) (λ held. (kept_is (c.args.layout + 2) (slot_at (slots_in s.slots) at) (omega arith) p.1).1)) in
-    record { sound = in_place (λ chains generations. AreSound c.renew-generation.new.self chains generations s.waiting.items s.waiting.cap s.keep s.newest) _ _ _ _ (chains g a) (generations g a) sound }
+    let new = renewed c.args.used (slot_at (slots_in s.slots) at) in
+    let out = live_no_list new c.requires.live in
+    let full = (kept_is (c.args.layout + 2) (slot_at (slots_in s.slots) at) (omega arith) p.1).1 in
+    let sound = pick_sound s.slots c.renew-generation.new.self (chains_in s.lists.items) (generations_in s.lists.items) s.waiting.items s.waiting.cap s.keep s.newest s.sound at new c.renew-generation.ensures.writes.slots (c.args.layout + 2) c.index_mut-head.result.now.chain c.at.result.now.next c.enqueue.new.waiting.items c.enqueue.new.newest (is_list g d) (some g d) (there s c.args.layout c.requires.some) c.at.ensures.next refl c.renew-generation.ensures.nexts out (listed s.slots s.slots (chains_in s.lists.items) (generations_in s.lists.items) s.waiting.items s.waiting.cap s.keep s.newest s.sound at new p.0 refl refl refl (λ kept. absurd (true≢false (sym kept ∙ out (new.layout + 2)))) (λ held. full)) (c.enqueue.ensures.queue new refl full) in
+    record { sound = subst (λ room. AreSound c.renew-generation.new.self (chains_in (set s.lists.items (c.args.layout + 2) (new_head g a))) (generations_in (set s.lists.items (c.args.layout + 2) (new_head g a))) c.enqueue.new.waiting.items room s.keep c.enqueue.new.newest) (sym c.enqueue.ensures.capacity) (in_place (λ chains generations. AreSound c.renew-generation.new.self chains generations c.enqueue.new.waiting.items s.waiting.cap s.keep c.enqueue.new.newest) _ _ _ _ (chains g a) (generations g a) sound) }
 
 pub name_of-requires : goal.name_of-requires
 name_of-requires g c =
@@ -89,7 +99,7 @@ name_of-requires g c =
     let p = first g (goal.at.name_of-requires g c).After-index_mut-head in
     let o = slot_at (slots_in s.slots) c.index_mut-head.result.now.chain.first in
     ap (λ l. is_some (slot_at l c.index_mut-head.result.now.chain.first).set) c.renew-generation.ensures.writes.slots
-    ∙ ap (λ (w : Slot g.row.T.Denot). is_some w.set) (slot_set (slots_in s.slots) c.index_mut-head.result.now.chain.first (renewed Held o) p.0)
+    ∙ ap (λ (w : Slot g.row.T.Denot). is_some w.set) (slot_set (slots_in s.slots) c.index_mut-head.result.now.chain.first (renewed c.args.used o) p.0)
     ∙ (kept_is (c.args.layout + 2) o (omega arith) p.1).1
 
 pub returns-clause-kept : goal.returns-clause-kept
@@ -104,5 +114,5 @@ returns-clause-stays g c =
     record {
       settings = record { number = refl; lists = length-map _ _ ∙ length-set s.lists.items (c.args.layout + 2) (new_head g a) ∙ sym (length-map _ _); generations = ap generation_at (generations g a); keep = refl };
       space = c.renew-generation.ensures.writes.space;
-      waiting = refl;
+      waiting = c.enqueue.ensures.capacity;
     }

@@ -5,9 +5,10 @@ use Rattle.descriptor_table.specs.Tables.{used_for}
 use Rattle.descriptor_table.specs.declared.slot.Chain.{Chain}
 use Rattle.descriptor_table.specs.declared.slot.ListHead.{ListHead}
 use Rattle.descriptor_table.specs.declared.slot.Use.TheVariants.{Taken}
-use Rattle.descriptor_table.proofs.Chains.{picked, taken_unkept, unheld}
+use Rattle.descriptor_table.proofs.Chains.{listed_out, picked, taken_unkept, unheld}
 use Rattle.descriptor_table.proofs.Entries.{chain_was, chain_written, generations_stay, in_place}
 use Rattle.descriptor_table.proofs.Sound.{listed, pick_sound}
+use Rattle.descriptor_table.proofs.Waiting.{out_queue}
 use Rattle.descriptor_table.proofs.set_table.SetTable.pick.Goals.{After-set_use, Else-head-eq0}
 use Rattle.descriptor_table.proofs.set_table.SetTable.pick.Goals as goal
 
@@ -48,7 +49,7 @@ invariant_of-self-2 g c =
     let at = c.in_ok-head.head.now.chain.first in
     let p = first g d in
     let new = used_for Taken (slot_at (slots_in s.slots) at) in
-    let sound = pick_sound s.slots c.set_use.new.self (chains_in s.lists.items) (generations_in s.lists.items) s.waiting.items s.waiting.cap s.keep s.newest s.sound at new c.set_use.ensures.writes.slots c.args.list c.in_ok-head.head.now.chain c.at.result.now.next (is_list g d) c.if-head-eq0.false (there g d) c.at.ensures.next refl c.set_use.ensures.nexts (λ j. refl) refl (listed s.slots s.slots (chains_in s.lists.items) (generations_in s.lists.items) s.waiting.items s.waiting.cap s.keep s.newest s.sound at new p.0 refl refl refl (taken_unkept new) (unheld Taken refl)) in
+    let sound = pick_sound s.slots c.set_use.new.self (chains_in s.lists.items) (generations_in s.lists.items) s.waiting.items s.waiting.cap s.keep s.newest s.sound at new c.set_use.ensures.writes.slots c.args.list c.in_ok-head.head.now.chain c.at.result.now.next s.waiting.items s.newest (is_list g d) c.if-head-eq0.false (there g d) c.at.ensures.next refl c.set_use.ensures.nexts (λ j. refl) (listed s.slots s.slots (chains_in s.lists.items) (generations_in s.lists.items) s.waiting.items s.waiting.cap s.keep s.newest s.sound at new p.0 refl refl refl (taken_unkept new) (unheld Taken refl)) (out_queue (slots_in s.slots) s.waiting.items s.newest s.sound.queue at new p.0 (listed_out c.args.list (slot_at (slots_in s.slots) at) p.1) refl) in
     record { sound = in_place (λ chains generations. AreSound c.set_use.new.self chains generations s.waiting.items s.waiting.cap s.keep s.newest) _ _ _ _ (chains g a) (generations g a) sound }
 
 pub returns-clause-picks : goal.returns-clause-picks

@@ -1,0 +1,64 @@
+-- What a request for sets of a layout leaves of a set manager: for `SetManager::allocate_as` and `allocate_into`.
+use Rattle.std.proofs.Common.{◌≡◌, ◌∙◌, ℕ, ◌+◌, ◌<◌, true, List, length, slice_index_or, Result, Ok, Err, Some, inl, inr, sym, ap, subst, arith}
+use Rattle.std.proofs.lemmas.Bool.{false≢true}
+use Rattle.gpu_descriptor_types.specs.Meaning.{IsOfLayout}
+use Rattle.gpu_descriptor_types.specs.declared.device.DescriptorDevice.{Ghosts}
+use Rattle.gpu_descriptor.specs.Caller.SetLayouts.{IsMeant}
+use Rattle.gpu_descriptor.specs.declared.errors.AllocationError.{AllocationError}
+use Rattle.gpu_descriptor.specs.declared.layout.SetLayout.{SetLayout}
+use Rattle.gpu_descriptor.specs.declared.set.DescriptorSet.{DescriptorSet}
+use Rattle.descriptor_table.specs.Sets.{NameEach, sets_of}
+use Rattle.descriptor_table.specs.Slots.{is_live, slot_at}
+use Rattle.descriptor_table.specs.Tables.{came_under, current, place_at}
+use Rattle.descriptor_table.specs.declared.handle.SetHandle.{SetHandle}
+use Rattle.descriptor_table.specs.declared.slot.Use.{Use}
+use Rattle.descriptor_table.proofs.Counting.{below_or}
+use Rattle.descriptor_table.proofs.Holding.{same_default}
+use Rattle.descriptor_manager.specs.LayoutRegistries.{layout_at, layout_slots}
+use Rattle.descriptor_manager.specs.Own.{HasSetsOf}
+use Rattle.descriptor_manager.specs.Stores.{CanTake, ComesOf, IsRefusedAtLast, Requests, Takes, current_in, generations_in, kept_of, slots_in}
+use Rattle.descriptor_manager.specs.declared.layout_registry.LayoutHandle.{LayoutHandle}
+use Rattle.descriptor_manager.specs.declared.manager.SetManager.{SetManager}
+use Rattle.descriptor_manager.specs.declared.store.Store.{Store}
+use Rattle.descriptor_manager.proofs.Handing.{came_layout}
+use Rattle.descriptor_manager.proofs.Owned.{found_set, layout_here, layout_listed, own_comes, own_known, sets_settle}
+
+module _ {L P S D : Type 0} {d : Ghosts D L P S} (r : SetManager L P S D d) (layout : LayoutHandle) (known : SetLayout L) (place : ℕ) (at : place ≡ layout.slot.place) (found : layout_at r.layouts layout ≡ Some known) where
+  here : (slot_at (layout_slots r.layouts) place).set ≡ Some known
+  here = layout_here r.layouts layout known place at found
+
+  -- its sets may be requested
+  pub can_take : IsMeant d.meaning known → CanTake known place r.store
+  can_take meant = record { meant = meant; layout = subst (λ n. place + 2 < n) (sym r.sets.lists) (layout_listed (layout_slots r.layouts) place known here); rest = r.sets.rest }
+
+  module _ {R : Type 0} (many : ℕ) (u : Use) (handles : List SetHandle) (new : Store L P S D d) where
+    -- all sets are of their layouts then
+    pub sets_then : (result : Result R AllocationError) → Requests known.layout place many u handles result r.store new → HasSetsOf (layout_slots r.layouts) r.manager new
+    sets_then result requests = sets_settle (ComesOf d.meaning known.layout place) (layout_slots r.layouts) r.manager r.store new requests.settles (own_comes d.meaning place (layout_slots r.layouts) known here) r.sets
+
+    module _ (result : R) (requests : Requests known.layout place many u handles (Ok result) r.store new) where
+      pub names_then : is_live r.frame r.is_open u ≡ true → NameEach handles (sets_of r.manager r.frame r.is_open (slots_in r.store)) (sets_of r.manager r.frame r.is_open (slots_in new))
+      names_then live = subst (λ n. NameEach handles (sets_of n r.frame r.is_open (slots_in r.store)) (sets_of n r.frame r.is_open (slots_in new))) r.sets.number (requests.names r.frame r.is_open live)
+
+      -- the named sets are of the layout
+      pub own_then : (i : ℕ) (e : SetHandle) (x : DescriptorSet S) → i < length handles → (sets_of r.manager r.frame r.is_open (slots_in new)).set (slice_index_or handles i e) ≡ Some x → IsOfLayout d.meaning known.layout x.raw
+      own_then i e x lt is =
+          let h = slice_index_or handles i e in
+          let p = place_at handles i in
+          let slots = slots_in new in
+          let same = ap (λ (h : SetHandle). h.place) (same_default handles i e (record { manager = 0; place = 0; generation = 0 }) lt) in
+          own_known d.meaning (generations_in new) (layout_slots r.layouts) slots (sets_then (Ok result) requests).own h.place place x known (found_set r.manager r.frame r.is_open slots h x is)
+          (ap (λ p. came_under (slot_at slots p)) same
+          ∙ came_layout (current_in place r.store) u (slot_at (slots_in requests.takes.ready) p) (slot_at slots p) (requests.takes.holds.comes i lt)
+          ∙ ap (λ generations. current generations place) (sym requests.settles.stays.generations))
+          here
+
+      pub takes_then : Takes known.layout layout.slot.place many u handles r.store new
+      takes_then = subst (λ p. Takes known.layout p many u handles r.store new) at requests.takes
+
+  -- a request for one set is refused only if none is kept
+  pub one_refused : {R : Type 0} (u : Use) (handles : List SetHandle) (new : Store L P S D d) (error : AllocationError) → Requests {R = R} known.layout place 1 u handles (Err error) r.store new → IsRefusedAtLast known.layout 1 1 error r.store new
+  one_refused u handles new error requests = elim (below_or 0 (kept_of place r.store)) [
+    | inl some ↦ absurd (false≢true (requests.kept (omega arith)).0)
+    | inr none ↦ subst (λ n. IsRefusedAtLast known.layout n 1 error r.store new) (omega arith) requests.refused
+  ]

@@ -1,0 +1,109 @@
+-- Requests that kept sets met, or kept and new ones, or none: for `Store::allocate`, `allocate_new`, `allocate_each` and `allocate_with_new`.
+use Rattle.std.proofs.Common.{◌≡◌, ◌∙◌, ℕ, ◌+◌, ◌-◌, ◌<◌, ◌≤◌, true, List, [], length, Ok, Err, inl, refl, ap, arith}
+use Rattle.gpu_descriptor_types.specs.declared.device.DescriptorDevice.{Ghosts}
+use Rattle.gpu_descriptor_types.specs.Side.{Side}
+use Rattle.gpu_descriptor.specs.Caller.Sets.{items_of}
+use Rattle.gpu_descriptor.specs.Caller.States.{state_of}
+use Rattle.gpu_descriptor.specs.Caller.Values.{Allocations}
+use Rattle.gpu_descriptor.specs.Model.Agreement.{Item, count_of, outstanding}
+use Rattle.gpu_descriptor.specs.declared.errors.AllocationError.{AllocationError}
+use Rattle.descriptor_table.specs.Sets.{sets_in}
+use Rattle.descriptor_table.specs.Slots.{frame_of, is_kept_of, is_live, slot_at}
+use Rattle.descriptor_table.specs.Tables.{place_at}
+use Rattle.descriptor_table.specs.declared.handle.SetHandle.{SetHandle}
+use Rattle.descriptor_table.specs.declared.slot.Use.{Use}
+use Rattle.descriptor_manager.specs.Stores.{AsksAtLast, ComesOf, HoldEach, Holds, IsAtRest, IsRefusedAtLast, KeepsStore, NoneComes, Requests, coming_in, current_in, kept_of, number_of, side_of, slots_in}
+use Rattle.descriptor_manager.specs.declared.store.Store.{Store}
+use Rattle.descriptor_manager.proofs.Arriving.{arrived}
+use Rattle.descriptor_manager.proofs.Cleared.{Clears, same_clears}
+use Rattle.descriptor_manager.proofs.Bringing.{brought}
+use Rattle.descriptor_manager.proofs.Growing.{grow_from, grow_refused}
+use Rattle.descriptor_manager.proofs.Handing.{refused_arrives}
+use Rattle.descriptor_manager.proofs.Joining.{are_named, held_stays, holds_arrives, kept_then, stays_then}
+
+-- the sets that were on their way are in the table if none is any more, and the device wasn't called
+pub gained :
+    {L P S D : Type 0} {d : Ghosts D L P S} (ready new : Store L P S D d) → side_of new ≡ side_of ready → coming_in new ≡ [] → (t : Item)
+    → count_of t (items_of d.meaning.set_name (sets_in (slots_in new))) ≡ count_of t (items_of d.meaning.set_name (sets_in (slots_in ready))) + count_of t (items_of d.meaning.set_name (coming_in ready))
+gained {L} {P} {S} {D} {d} ready new side none t =
+    let same = ap (λ (s : Side (Allocations P)). outstanding (state_of d.meaning.pool_name s.value s.ledger) t) side in
+    let empty = ap (λ l. count_of t (items_of d.meaning.set_name l)) none in
+    let was = ready.exact t in
+    let is = new.exact t in
+    omega arith
+
+-- as many were kept
+module _ {L P S D : Type 0} {d : Ghosts D L P S} {R : Type 0} (known : L) (layout many : ℕ) (u : Use) (handles : List SetHandle) (old new : Store L P S D d) where
+  pub from_kept :
+      (result : R) → is_live (frame_of u) true u ≡ true → IsAtRest old → many ≤ kept_of layout old
+      → HoldEach (number_of old) (current_in layout old) u handles (slots_in old) (slots_in new)
+      → ((i : ℕ) → i < length handles → is_kept_of layout (slot_at (slots_in old) (place_at handles i)) ≡ true)
+      → length (slots_in new) ≡ length (slots_in old) → Holds NoneComes old new → coming_in new ≡ coming_in old
+      → Requests known layout many u handles (Ok result) old new
+  from_kept result live rest enough holds were_kept long keeps coming =
+      let number = number_of old in
+      let under = current_in layout old in
+      let before = slots_in old in
+      let after = slots_in new in
+      let clear : (q : ℕ) → Clears (slot_at before q) (slot_at before q) = λ q. same_clears (slot_at before q) (slot_at before q) refl in
+      let comes = ComesOf d.meaning known layout in
+      record {
+        takes = record {
+          ready = old;
+          enough = λ le. refl;
+          asks = λ few. absurd (omega arith);
+          kept_first = λ i lt some. were_kept i lt;
+          holds = holds;
+          side = keeps.side;
+          gained = gained old new keeps.side (coming ∙ rest.none_coming);
+        };
+        names = are_named number under u handles before before after clear holds;
+        kept = λ le. (refl, keeps.side, long);
+        refused = tt;
+        settles = arrived comes old new (holds_arrives number under u handles before before after clear holds live comes (kept_then comes before after after keeps.sets (λ p x e. inl (e, refl)))) (coming ∙ rest.none_coming) rest keeps.stays;
+        grows = keeps.grows;
+      }
+
+module _ {L P S D : Type 0} {d : Ghosts D L P S} {R : Type 0} (known : L) (layout many : ℕ) (u : Use) (old asked : Store L P S D d) (rest : IsAtRest old) (short : kept_of layout old < many) where
+  -- the allocator gave the sets that were missing, and all have handles
+  pub from_asked :
+      (handles : List SetHandle) (result : R) (new : Store L P S D d) → is_live (frame_of u) true u ≡ true → KeepsStore old asked → AsksAtLast known (many - kept_of layout old) many old asked
+      → HoldEach (number_of asked) (current_in layout asked) u handles (slots_in asked) (slots_in new)
+      → ((i : ℕ) → i < length handles → i < kept_of layout asked → is_kept_of layout (slot_at (slots_in asked) (place_at handles i)) ≡ true)
+      → Holds (ComesOf d.meaning known layout) asked new → coming_in new ≡ []
+      → Requests known layout many u handles (Ok result) old new
+  from_asked handles result new live stays asks holds kept_first keeps none =
+      let brings = brought known layout many old asked short asks in
+      let held = held_stays layout u handles (slots_in asked) (slots_in new) old asked stays holds in
+      let comes = ComesOf d.meaning known layout in
+      record {
+        takes = record {
+          ready = asked;
+          enough = λ enough. absurd (omega arith);
+          asks = λ few. asks;
+          kept_first = kept_first;
+          holds = held;
+          side = keeps.side;
+          gained = gained asked new keeps.side none;
+        };
+        names = are_named (number_of old) (current_in layout old) u handles (slots_in old) (slots_in asked) (slots_in new) brings.clear held;
+        kept = λ enough. absurd (omega arith);
+        refused = tt;
+        settles = arrived comes old new (holds_arrives (number_of old) (current_in layout old) u handles (slots_in old) (slots_in asked) (slots_in new) brings.clear held live comes keeps.sets) none rest (stays_then old asked new stays keeps.stays);
+        grows = grow_from (slots_in old) (slots_in asked) (slots_in new) brings.long keeps.grows;
+      }
+
+  -- it refused them
+  pub from_refused :
+      (handles : List SetHandle) (error : AllocationError) → KeepsStore old asked → IsRefusedAtLast known (many - kept_of layout old) many error old asked → coming_in asked ≡ []
+      → Requests {R = R} known layout many u handles (Err error) old asked
+  from_refused handles error stays refused none =
+      let comes = ComesOf d.meaning known layout in
+      record {
+        takes = tt;
+        names = tt;
+        kept = λ enough. absurd (omega arith);
+        refused = refused;
+        settles = arrived comes old asked (refused_arrives comes known (many - kept_of layout old) many error old asked refused) none rest stays;
+        grows = grow_refused known (many - kept_of layout old) many error old asked refused;
+      }

@@ -1,0 +1,46 @@
+use Rattle.std.proofs.Common.{◌≡◌, ◌<◌, ℕ, zero, suc, [], ◌∷◌, length, List, inl, inr, true, refl, arith}
+use Rattle.gpu_descriptor.proofs.request.Passed.{passed}
+use Rattle.descriptor_table.specs.Slots.{is_kept_of, slot_at}
+use Rattle.descriptor_table.specs.Tables.{place_at}
+use Rattle.descriptor_manager.specs.Stores.{coming_in, kept_of, slots_in}
+use Rattle.descriptor_manager.proofs.Bringing.{Brings, brought}
+use Rattle.descriptor_manager.proofs.Requests.{from_asked, from_refused}
+use Rattle.descriptor_manager.proofs.store.Store.allocate_new.Given.{Over}
+use Rattle.descriptor_manager.proofs.store.Store.allocate_new.Goals as goal
+use Rattle.descriptor_manager.proofs.store.Store.allocate_new.Goals.{After-hold_last, In_ok-bring}
+
+no_more : {A : Type 0} (l : List A) → length l ≡ 0 → l ≡ []
+no_more [] long = refl
+no_more (x ∷ l) long = absurd (omega arith)
+
+-- one set is on its way
+one : (g : Over) (c : In_ok-bring g) → length (coming_in c.bring.new.self) ≡ 1
+one g c = elim c.in_ok-bring.ensures.asks [
+  | inl once ↦ (let many = once.hands_out.many in let short = c.requires.short in omega arith)
+  | inr later ↦ (let many = later.2.hands_out.many in omega arith)
+]
+
+brings : (g : Over) (c : In_ok-bring g) → Brings c.args.known.now.layout c.args.layout 1 c.args.self.now c.bring.new.self
+brings g c = brought c.args.known.now.layout c.args.layout 1 c.args.self.now c.bring.new.self c.requires.short c.in_ok-bring.ensures.asks
+
+-- so none is kept
+kept_first : (g : Over) (c : In_ok-bring g) (handle : _) (i : ℕ) → i < length (handle ∷ []) → i < kept_of c.args.layout c.bring.new.self → is_kept_of c.args.layout (slot_at (slots_in c.bring.new.self) (place_at (handle ∷ []) i)) ≡ true
+kept_first g c handle zero lt some = absurd (let few = (brings g c).besides 0 (omega arith) some in let one = one g c in omega arith)
+kept_first g c handle (suc i) lt some = absurd (omega arith)
+
+pub returns-in_err-bring : goal.returns-in_err-bring
+returns-in_err-bring g c =
+    rw (passed c.from_residual.result c.in_err-bring.field-0.0 c.from_residual.ensures.1)
+    (from_refused c.args.known.now.layout c.args.layout 1 c.args.used c.args.self.now c.bring.new.self c.requires.can.rest c.requires.short [] c.in_err-bring.field-0.0 c.bring.ensures.stays c.in_err-bring.ensures.refused c.in_err-bring.ensures.none)
+
+pub hold_last-requires-clause-some : goal.hold_last-requires-clause-some
+hold_last-requires-clause-some g c = (let one = one g (goal.at.hold_last-requires-clause-some g c).In_ok-bring in omega arith)
+
+pub returns : goal.returns
+returns g c =
+    let a = (goal.at.returns g c).In_ok-bring in
+    let fewer = c.hold_last.ensures.fewer in
+    let one = one g a in
+    from_asked c.args.known.now.layout c.args.layout 1 c.args.used c.args.self.now c.bring.new.self c.requires.can.rest c.requires.short
+    (c.hold_last.result ∷ []) c.hold_last.result c.hold_last.new.self c.requires.live c.bring.ensures.stays c.in_ok-bring.ensures.asks c.hold_last.ensures.holds (kept_first g a c.hold_last.result)
+    (c.hold_last.ensures.keeps c.args.known.now.layout (brings g a).own) (no_more (coming_in c.hold_last.new.self) (omega arith))

@@ -1,0 +1,106 @@
+//! Sets that are put to a use, under the next handles of their slots.
+ghost use Rattle.std.specs.Prelude.{◌≡◌, ℕ, ◌+◌, ◌<◌, ◌≤◌, [], ◌∷◌, length, true};
+ghost use Rattle.gpu_descriptor.specs.Caller.Sets.{AreOfLayout};
+
+use super::Store;
+use descriptor_table::{SetHandle, SetName, Use};
+use gpu_descriptor::{DescriptorDevice, DescriptorSet};
+
+impl<L: Drop, P: Drop, S: Drop, D: DescriptorDevice<L, P, S>> Store<L, P, S, D> {
+    ghost use Rattle.descriptor_table.specs.Slots.{frame_of, is_kept_of, is_live, slot_at};
+    ghost use Rattle.descriptor_table.specs.Tables.{HasRoom, place_at};
+    ghost use Rattle.descriptor_manager.specs.Stores.{CanHold, ComesOf, HoldEach, Holds, KeepsStore};
+    ghost use Rattle.descriptor_manager.specs.Stores.{NoneComes, coming_in, current_in, kept_of, number_of};
+    ghost use Rattle.descriptor_manager.specs.Stores.{slots_in};
+
+    /// Puts a kept set of a layout to a use, and returns its name.
+    #[inline]
+    pub(super) fn hold_next<N: SetName<DescriptorSet<S>>>(&mut self, layout: u32, used: Use) -> N
+        requires kept { 0 < kept_of layout self.old }
+        requires live { is_live (frame_of used) true used ≡ true }
+        ensures holds { HoldEach (number_of self.old) (current_in layout self.old) used
+            (N.handle_of result ∷ []) (slots_in self.old) (slots_in self.new) }
+        ensures was_kept { is_kept_of layout (slot_at (slots_in self.old)
+            (N.handle_of result).place) ≡ true }
+        ensures fewer { kept_of layout self.new + 1 ≡ kept_of layout self.old }
+        ensures as_many { length (slots_in self.new) ≡ length (slots_in self.old) }
+        ensures table { (n : ℕ) → HasRoom n self.old.table → HasRoom n self.new.table }
+        ensures keeps { Holds NoneComes self.old self.new }
+        ensures coming { coming_in self.new ≡ coming_in self.old }
+    {
+        self.table.hold_kept(layout, used)
+    }
+
+    /// Puts kept sets of a layout to a use, and writes their names.
+    #[inline]
+    pub(super) fn hold_kept<N: SetName<DescriptorSet<S>> + Drop>(
+        &mut self,
+        layout: u32,
+        used: Use,
+        names: &mut [N],
+    )
+        requires kept { length names.old ≤ kept_of layout self.old }
+        requires live { is_live (frame_of used) true used ≡ true }
+        ensures holds { HoldEach (number_of self.old) (current_in layout self.old) used
+            (N.handles_of names.new) (slots_in self.old) (slots_in self.new) }
+        ensures were_kept { (i : ℕ) → i < length names.old → is_kept_of layout (slot_at
+            (slots_in self.old) (place_at (N.handles_of names.new) i)) ≡ true }
+        ensures long { length names.new ≡ length names.old }
+        ensures as_many { length (slots_in self.new) ≡ length (slots_in self.old) }
+        ensures table { (n : ℕ) → HasRoom n self.old.table → HasRoom n self.new.table }
+        ensures keeps { Holds NoneComes self.old self.new }
+        ensures coming { coming_in self.new ≡ coming_in self.old }
+    {
+        for index in 0..names.len() {
+            names[index] = self.hold_next(layout, used);
+        }
+    }
+
+    /// Puts one of the new sets in `coming` to a use.
+    #[inline(always)]
+    pub(super) fn hold_last(&mut self, layout: u32, used: Use) -> SetHandle
+        requires some { 0 < length (coming_in self.old) }
+        requires can { CanHold layout self.old }
+        requires live { is_live (frame_of used) true used ≡ true }
+        ensures holds { HoldEach (number_of self.old) (current_in layout self.old) used (result ∷ [])
+            (slots_in self.old) (slots_in self.new) }
+        ensures fewer { length (coming_in self.new) + 1 ≡ length (coming_in self.old) }
+        ensures own { (known : L) → AreOfLayout D.meaning known (coming_in self.old)
+            → AreOfLayout D.meaning known (coming_in self.new) }
+        ensures table { HasRoom (length (coming_in self.new)) self.new.table }
+        ensures keeps { (known : L) → AreOfLayout D.meaning known (coming_in self.old)
+            → Holds (ComesOf D.meaning known layout) self.old self.new }
+        ensures stays { KeepsStore self.old self.new }
+    {
+        match self.coming.pop() {
+            Some(set) => {
+                let place = self.table.put(layout, set);
+                self.table.hold(place, used)
+            }
+            None => unreachable!(),
+        }
+    }
+
+    /// Puts the new sets in `coming` to a use, and writes their names.
+    pub(super) fn hold_coming<N: SetName<DescriptorSet<S>> + Drop>(
+        &mut self,
+        layout: u32,
+        used: Use,
+        names: &mut [N],
+    )
+        requires can { CanHold layout self.old }
+        requires as_many { length names.old ≡ length (coming_in self.old) }
+        requires live { is_live (frame_of used) true used ≡ true }
+        ensures holds { HoldEach (number_of self.old) (current_in layout self.old) used
+            (N.handles_of names.new) (slots_in self.old) (slots_in self.new) }
+        ensures none { coming_in self.new ≡ [] }
+        ensures long { length names.new ≡ length names.old }
+        ensures keeps { (known : L) → AreOfLayout D.meaning known (coming_in self.old)
+            → Holds (ComesOf D.meaning known layout) self.old self.new }
+    {
+        for index in 0..names.len() {
+            let handle = self.hold_last(layout, used);
+            names[index] = self.table.name_of(handle);
+        }
+    }
+}
