@@ -3,7 +3,7 @@ use Rattle.std.proofs.Common.{◌≡◌, ℕ, ◌+◌, ◌≤◌, ◌&&◌, nat_
 use Rattle.descriptor_table.specs.Sets.{sets_in}
 use Rattle.descriptor_table.specs.Slots.{goes, is_due, is_in, slot_at}
 use Rattle.descriptor_table.specs.Tables.{IsBack, Becomes, MayBecome, Turns, count, is_kept, used_for, vacated}
-use Rattle.descriptor_table.specs.declared.slot.Use.TheVariants.{Kept, Going, Waits}
+use Rattle.descriptor_table.specs.declared.slot.Use.TheVariants.{Kept, Going}
 use Rattle.descriptor_table.specs.Slots.{Slot}
 use Rattle.descriptor_table.proofs.Chains.{lists_apart}
 use Rattle.descriptor_table.proofs.Leaving.{same_sets}
@@ -25,9 +25,6 @@ module _ {T : Type 0} where
     | inl kept ↦ ap (λ (s : Slot T). s.set) kept.0
     | inr going ↦ ap (λ (s : Slot T). s.set) going.0
   ])
-
-  pub waiting_sets : (test : Slot T → Bool) (frame : ℕ) (old new : List (Slot T)) → Turns test (Becomes (used_for (Waits frame))) old new → sets_in new ≡ sets_in old
-  waiting_sets test frame old new t = turned_sets test (Becomes (used_for (Waits frame))) old new t (λ o n waits. ap (λ (s : Slot T). s.set) waits)
 
   pub leaving_sets : (test : Slot T → Bool) (old new : List (Slot T)) → Turns test (Becomes (used_for Going)) old new → sets_in new ≡ sets_in old
   leaving_sets test old new t = turned_sets test (Becomes (used_for Going)) old new t (λ o n going. ap (λ (s : Slot T). s.set) going)

@@ -3,7 +3,7 @@
 use Rattle.std.proofs.lemmas.Grind.{common_steps}
 use Rattle.std.proofs.Common.{◌≡◌, ◌≢◌, ℕ, ◌+◌, ◌<◌, ◌&&◌, ◌||◌, not, Bool, true, false, List, length, is_some, inl, inr, refl, ap, subst, ◌∙◌, arith}
 use Rattle.descriptor_table.specs.Slots.{goes, in_list, slot_at, waits_for}
-use Rattle.descriptor_table.specs.Tables.{Turns, aged, came_under, is_held_use, is_taken, is_taken_use, place_at, used_for, vacated, MayBecome, IsBack}
+use Rattle.descriptor_table.specs.Tables.{Turns, aged, came_under, is_held_use, place_at, used_for, vacated, MayBecome, IsBack}
 use Rattle.descriptor_table.specs.declared.handle.SetHandle.{SetHandle}
 use Rattle.descriptor_table.specs.Slots.{Slot}
 use Rattle.descriptor_table.specs.declared.slot.Use.{Use}
@@ -16,24 +16,18 @@ use Rattle.descriptor_manager.proofs.Settling.{Follows}
 abbrev placed_use : Use → ℕ → ℕ → Bool → Bool
 placed_use u layout generation full = not full || ((is_held_use u && full) || ((waits_for (λ w. true) u && full) || in_list (layout + 2) u layout generation full))
 
--- a set that is held, waits or is kept doesn't go, nor does a call have it
+-- a set that is held, waits or is kept doesn't go
 going_use : (u : Use) (layout generation : ℕ) (full : Bool) → placed_use u layout generation full ≡ true → in_list 1 u layout generation full ≡ false
 going_use u layout generation full e = grind (arith, common_steps)
-
-taken_use : (u : Use) (layout generation : ℕ) (full : Bool) → placed_use u layout generation full ≡ true → (is_taken_use u && full) ≡ false
-taken_use u layout generation full e = grind (arith, common_steps)
 
 module _ {T : Type 0} where
   abbrev pub ArePlaced : List (Slot T) → Type 0
   ArePlaced slots = (p : ℕ) → is_placed (slot_at slots p) ≡ true
 
-  -- no set goes that is placed, and no call has one
+  -- no set goes that is placed
   module _ (slots : List (Slot T)) (placed : ArePlaced slots) where
     pub none_goes : (p : ℕ) → goes (slot_at slots p) ≡ false
     none_goes p = let s = slot_at slots p in going_use s.used s.layout s.generation (is_some s.set) (placed p)
-
-    pub none_taken : (p : ℕ) → is_taken (slot_at slots p) ≡ false
-    none_taken p = let s = slot_at slots p in taken_use s.used s.layout s.generation (is_some s.set) (placed p)
 
   module _ where
     -- changes of a slot that `Follows` allows: none, aged, vacated, one after another, back, and left

@@ -1,5 +1,5 @@
 -- Sets that come into slots, or are taken out of a list.
-use Rattle.std.proofs.Common.{◌≡◌, ℕ, zero, suc, ◌+◌, Bool, List, [], ◌∷◌, length, set, Option, None, Some, refl, ap, ◌∙◌, arith}
+use Rattle.std.proofs.Common.{◌≡◌, ℕ, zero, suc, ◌+◌, Bool, List, [], ◌∷◌, length, set, refl, ap, ◌∙◌, arith}
 use Rattle.gpu_descriptor_types.specs.declared.device.DescriptorDevice.{Ghosts}
 use Rattle.gpu_descriptor.specs.Caller.Sets.{item_of, items_of}
 use Rattle.gpu_descriptor.specs.Caller.States.{outstanding_of, state_of}
@@ -8,7 +8,7 @@ use Rattle.gpu_descriptor.specs.declared.set.DescriptorSet.{DescriptorSet}
 use Rattle.gpu_descriptor.proofs.callers.HeldSets.{count_parts}
 use Rattle.descriptor_table.specs.Sets.{joined, sets_in}
 use Rattle.descriptor_table.specs.Slots.{slot_at}
-use Rattle.descriptor_table.specs.Tables.{Picks, PicksAny, Puts, Renews, renewed, used_for}
+use Rattle.descriptor_table.specs.Tables.{Picks, Puts, Renews, renewed, used_for}
 use Rattle.descriptor_table.specs.declared.handle.SetHandle.{SetHandle}
 use Rattle.descriptor_table.specs.Slots.{Slot}
 use Rattle.descriptor_table.specs.declared.slot.Use.{Use}
@@ -62,10 +62,3 @@ module _ {T : Type 0} where
   -- no set comes or leaves if a handle is given, or a slot is picked
   pub renewed_sets : (number p : ℕ) (u : Use) (handle : SetHandle) (old new : List (Slot T)) → Renews number p u handle old new → sets_in new ≡ sets_in old
   renewed_sets number p u handle old new renews = ap sets_in renews.slots ∙ set_sets old p (renewed u (slot_at old p)) refl
-
-  pub picked_sets : (test : Slot T → Bool) (p : ℕ) (old new : List (Slot T)) → Picks test p old new → sets_in new ≡ sets_in old
-  picked_sets test p old new picks = ap sets_in picks.slots ∙ set_sets old p (used_for Taken (slot_at old p)) refl
-
-  pub first_sets : (test : Slot T → Bool) (r : Option ℕ) (old new : List (Slot T)) → PicksAny test r old new → sets_in new ≡ sets_in old
-  first_sets test None old new picks = ap sets_in picks.slots
-  first_sets test (Some p) old new picks = picked_sets test p old new picks

@@ -1,64 +1,31 @@
--- Held sets that are freed by their handles: for `Store::wait_each`, where `took` says that a call has all of them, and `free_each`.
-use Rattle.std.proofs.Common.{arith, ◌≡◌, ◌≢◌, ℕ, ◌+◌, ◌<◌, ◌&&◌, Bool, true, false, List, get_or, length, is_some, inl, inr, refl, sym, ap, subst, ◌∙◌}
-use Rattle.std.proofs.lemmas.Bool.{true≢false}
+-- Held sets that are freed by their handles: for `Store::wait_each` and `free_each`.
+use Rattle.std.proofs.Common.{arith, ◌≡◌, ℕ, ◌+◌, ◌<◌, ◌&&◌, Bool, true, false, List, get_or, length, is_some, inl, inr, refl, ap, subst, ◌∙◌}
 use Rattle.descriptor_table.specs.Sets.{AreHeldOnce, is_last, sets_in}
 use Rattle.descriptor_table.specs.Slots.{goes, slot_at}
-use Rattle.descriptor_table.specs.Tables.{AreAllTaken, IsBack, TookEach, Turns, Becomes, is_held_use, is_taken, place_at, used_for, vacated}
+use Rattle.descriptor_table.specs.Tables.{Becomes, ChangeUse, IsBack, TurnEach, Turns, is_held_use, place_at, used_for, vacated}
 use Rattle.descriptor_table.specs.declared.handle.SetHandle.{SetHandle}
 use Rattle.descriptor_table.specs.Slots.{Slot}
 use Rattle.descriptor_table.specs.declared.slot.Use.TheVariants.{Waits, Going}
 use Rattle.descriptor_table.proofs.Chains.{and_true}
 use Rattle.descriptor_table.proofs.Holding.{named_or}
 use Rattle.descriptor_table.proofs.Leaving.{same_sets}
-use Rattle.descriptor_table.specs.Tables.{TurnEach}
 use Rattle.descriptor_manager.proofs.Back.{given_kept, kept_stays}
-use Rattle.descriptor_manager.proofs.Following.{ArePlaced, none_goes, none_taken}
+use Rattle.descriptor_manager.proofs.Following.{ArePlaced, none_goes}
 
-module _ {T : Type 0} (handles : List SetHandle) (old now : List (Slot T)) (took : TookEach handles (length handles) old now) where
-  -- those that were taken are those of the handles
-  pub took_named : ArePlaced old → AreAllTaken handles now
-  took_named placed = record {
-    within = λ i lt. (let there = took.within i lt in let long = took.long in omega arith);
-    all = λ p e. elim (named_or (length handles) (place_at handles) p) [
-      | inl found ↦ found
-      | inr apart ↦ absurd (true≢false (sym e ∙ ap is_taken (took.rest p apart) ∙ none_taken old placed p))
-    ];
+-- sets that were taken, and then wait
+module _ {T : Type 0} (handles : List SetHandle) (frame : ℕ) (old now new : List (Slot T)) (took : ChangeUse handles (length handles) old now) (waits : TurnEach handles (Becomes (used_for (Waits frame))) now new) where
+  pub waited : TurnEach handles (Becomes (used_for (Waits frame))) old new
+  waited = record {
+    long = waits.long ∙ took.long;
+    named = λ i lt. waits.named i lt ∙ ap (used_for (Waits frame)) (took.named i lt);
+    rest = λ p apart. waits.rest p apart ∙ took.rest p apart;
   }
 
-  pub took_sets : sets_in now ≡ sets_in old
-  took_sets = same_sets old now took.long (λ p. elim (named_or (length handles) (place_at handles) p) [
-    | inl found ↦ subst (λ p. (slot_at now p).set ≡ (slot_at old p).set) found.2 (ap (λ (s : Slot T). s.set) (took.named found.0 found.1))
-    | inr apart ↦ ap (λ (s : Slot T). s.set) (took.rest p apart)
+  pub waited_sets : sets_in new ≡ sets_in old
+  waited_sets = same_sets old new waited.long (λ p. elim (named_or (length handles) (place_at handles) p) [
+    | inl found ↦ subst (λ p. (slot_at new p).set ≡ (slot_at old p).set) found.2 (ap (λ (s : Slot T). s.set) (waited.named found.0 found.1))
+    | inr apart ↦ ap (λ (s : Slot T). s.set) (waited.rest p apart)
   ])
-
-  -- none goes
-  took_none : ArePlaced old → (p : ℕ) → goes (slot_at now p) ≡ false
-  took_none placed p = elim (named_or (length handles) (place_at handles) p) [
-    | inl found ↦ subst (λ p. goes (slot_at now p) ≡ false) found.2 (ap goes (took.named found.0 found.1))
-    | inr apart ↦ ap goes (took.rest p apart) ∙ none_goes old placed p
-  ]
-
-  -- each set of a handle was taken
-  took_full : (number : ℕ) → AreHeldOnce number old handles → (i : ℕ) → i < length handles → is_taken (slot_at now (place_at handles i)) ≡ true
-  took_full number once i lt =
-      let z : SetHandle = record { manager = 0; place = 0; generation = 0 } in
-      let held = once.held i z lt in
-      ap is_taken (took.named i lt) ∙ full (slot_at old (place_at handles i)) _ held
-    where
-      full : (s : Slot T) (b : Bool) → (b && (is_held_use s.used && is_some s.set)) ≡ true → is_some s.set ≡ true
-      full s b e = (and_true (is_held_use s.used) (is_some s.set) (and_true b (is_held_use s.used && is_some s.set) e).1).1
-
-  -- all others were not
-  took_rest : ArePlaced old → (p : ℕ) → ((i : ℕ) → i < length handles → place_at handles i ≢ p) → is_taken (slot_at now p) ≡ false
-  took_rest placed p apart = ap is_taken (took.rest p apart) ∙ none_taken old placed p
-
-  -- those that wait are those of the handles
-  pub waited : (number frame : ℕ) (new : List (Slot T)) → AreHeldOnce number old handles → ArePlaced old → Turns is_taken (Becomes (used_for (Waits frame))) now new → TurnEach handles (Becomes (used_for (Waits frame))) old new
-  waited number frame new once placed turns = record {
-    long = turns.long ∙ took.long;
-    named = λ i lt. turns.here (place_at handles i) (took_full number once i lt) ∙ ap (used_for (Waits frame)) (took.named i lt);
-    rest = λ p apart. turns.rest p (took_rest placed p apart) ∙ took.rest p apart;
-  }
 
 module _ {T : Type 0} (handles : List SetHandle) (number : ℕ) (generations : ℕ → ℕ) (max : ℕ) (old mid : List (Slot T)) where
   -- held sets that settled, if any did, are in their slots still

@@ -1,9 +1,5 @@
 -- What holds of a result's value, given the result: for the store's and the set manager's clauses `IfOk`, `IfErr`, `OnOk`.
-use Rattle.std.specs.Prelude.{IfErr, IfOk, OnOk, Result, Ok, Err}
-
-pub if_ok : {X E : Type 0} (P Q : X → Type 0) (r : Result X E) → IfOk r P → ((x : X) → P x → Q x) → IfOk r Q
-if_ok P Q (Ok x) h f = f x h
-if_ok P Q (Err e) h f = tt
+use Rattle.std.specs.Prelude.{IfErr, OnOk, Result, Ok, Err}
 
 pub if_err : {X E : Type 0} (P Q : E → Type 0) (r : Result X E) → IfErr r P → ((e : E) → P e → Q e) → IfErr r Q
 if_err P Q (Ok x) h f = tt

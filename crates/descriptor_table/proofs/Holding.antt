@@ -1,13 +1,13 @@
 -- Held sets whose slots turn by their handles, one after another, unless one of the handles has no held set, or is there twice: for
--- `SetTable::take_each` and `settle_held` (`TurnedSome`). Those that were taken are held again then: for `put_back` (`PutSome`).
--- `n` is how many turned, `m` how many of them are held again.
+-- `SetTable::take_each` and `settle_held` (`TurnedSome`). Those that turned are held again then, the last one first: for `put_back`.
+-- `n` is how many turned.
 use Rattle.std.proofs.lemmas.Grind.{common_steps}
 use Rattle.std.proofs.Common.{◌≡◌, ◌≢◌, ℕ, zero, suc, ◌+◌, ◌<◌, ◌≤◌, ◌⊎◌, ◌==◌, ◌&&◌, Bool, true, false, List, [], ◌∷◌, length, get_or, set, is_some, inl, inr, refl, sym, ap, subst, ◌∙◌, arith, eqb-true}
 use Rattle.std.proofs.lemmas.List.{length-set}
 use Rattle.std.proofs.lemmas.Bool.{true≢false}
 use Rattle.descriptor_table.specs.Sets.{AreHeldOnce, is_held}
-use Rattle.descriptor_table.specs.Slots.{IsNowhere, slot_at}
-use Rattle.descriptor_table.specs.Tables.{Becomes, TookEach, holds, is_held_use, place_at, used_for}
+use Rattle.descriptor_table.specs.Slots.{slot_at}
+use Rattle.descriptor_table.specs.Tables.{Becomes, CanBeHeld, ChangeUse, holds, is_held_use, place_at, used_for}
 use Rattle.descriptor_table.specs.declared.handle.SetHandle.{SetHandle}
 use Rattle.descriptor_table.specs.declared.slot.Use.{Use}
 use Rattle.descriptor_table.specs.declared.slot.Use.TheVariants.{Held, Taken}
@@ -75,7 +75,7 @@ module _ {T : Type 0} where
         within = test_within (λ s. ((h.manager == number) && (h.generation == s.generation)) && (is_held_use s.used && is_some s.set)) slots h.place (and_none ((h.manager == number) && (h.generation == 0))) e;
       }
 
-  used_same : (s : Slot T) (u : Use) → s.used ≡ u → used_for u s ≡ s
+  pub used_same : (s : Slot T) (u : Use) → s.used ≡ u → used_for u s ≡ s
   used_same s u e = ap (λ v. used_for v s) (sym e)
 
   -- lists with the same slot at each place are the same
@@ -160,76 +160,47 @@ module _ {T : Type 0} where
   pub taken_not_held : (l : List (Slot T)) (o x : Slot T) → Becomes (used_for Taken) l o x → x.used ≢ Held
   taken_not_held l o x is held = true≢false (ap is_held_use (sym held ∙ ap (λ (s : Slot T). s.used) is))
 
-  -- taken sets were held
-  pub took_each : (number : ℕ) (handles : List SetHandle) (n : ℕ) (old now : List (Slot T)) → n ≤ length handles → TurnedSome number handles (Becomes (used_for Taken)) n old now → TookEach handles n old now
-  took_each number handles n old now le some =
+  -- only the use of the sets changed, if that is what the relation allows
+  pub changed : (number : ℕ) (handles : List SetHandle) (becomes : List (Slot T) → Slot T → Slot T → Type 0) (n : ℕ) (old now : List (Slot T)) → n ≤ length handles → ((o x : Slot T) → holds o ≡ true → becomes now o x → (x ≡ used_for x.used o) × CanBeHeld x) → TurnedSome number handles becomes n old now → ChangeUse handles n old now
+  changed number handles becomes n old now le only some =
       let z : SetHandle = record { manager = 0; place = 0; generation = 0 } in
       let was = λ (i : ℕ) (lt : i < n). held_is number old (get_or handles i z) (some.held i z lt (omega arith)) in
-      record { long = some.long; held = λ i lt. (was i lt).holds; within = λ i lt. (was i lt).within; named = some.named; rest = some.rest }
+      let is = λ (i : ℕ) (lt : i < n). only (slot_at old (place_at handles i)) (slot_at now (place_at handles i)) (was i lt).holds (some.named i lt) in
+      record { long = some.long; apart = some.apart; held = λ i lt. (was i lt).holds; within = λ i lt. (was i lt).within; named = λ i lt. (is i lt).0; free = λ i lt. (is i lt).1; rest = some.rest }
 
-  -- the sets of the first handles are held again
-  pub record PutSome (handles : List SetHandle) (n m : ℕ) (before now : List (Slot T)) : Type 0 where
-    pub long : length now ≡ length before
-    -- a slot of the handles is as it was before, or its set is taken still
-    pub each : (i : ℕ) → i < n → (slot_at now (place_at handles i) ≡ slot_at before (place_at handles i)) ⊎ (slot_at now (place_at handles i) ≡ used_for Taken (slot_at before (place_at handles i)))
-    pub done : (i : ℕ) → i < m → slot_at now (place_at handles i) ≡ slot_at before (place_at handles i)
-    pub rest : (p : ℕ) → ((i : ℕ) → i < n → place_at handles i ≢ p) → slot_at now p ≡ slot_at before p
+  -- the set of the last of the handles is held again
+  module _ (handles : List SetHandle) (n : ℕ) (before now : List (Slot T)) (change : ChangeUse handles (n + 1) before now) where
+    pub last_within : place_at handles n < length now
+    last_within = (let a = change.within n (omega arith) in let b = change.long in omega arith)
 
-  module _ (handles : List SetHandle) (n m : ℕ) (before now start : List (Slot T)) (took : TookEach handles n before start) (some : PutSome handles n m before now) (lt : m < n) where
-    pub put_inside : place_at handles m < length now
-    put_inside = (let a = took.within m lt in let b = some.long in omega arith)
+    pub last_full : is_some (slot_at now (place_at handles n)).set ≡ true
+    last_full = ap (λ (s : Slot T). is_some s.set) (change.named n (omega arith)) ∙ (and_true (is_held_use (slot_at before (place_at handles n)).used) (is_some (slot_at before (place_at handles n)).set) (change.held n (omega arith))).1
 
-    -- it is in no list
-    pub put_nowhere : IsNowhere (slot_at now (place_at handles m)).used
-    put_nowhere = elim (some.each m lt) [
-      | inl same ↦ subst IsNowhere (sym (ap (λ (s : Slot T). s.used) same ∙ holds_used (slot_at before (place_at handles m)) (took.held m lt))) tt
-      | inr taken ↦ subst IsNowhere (sym (ap (λ (s : Slot T). s.used) taken)) tt
-    ]
-
-    pub put_full : is_some (slot_at now (place_at handles m)).set ≡ true
-    put_full =
-        let before_full = (and_true (is_held_use (slot_at before (place_at handles m)).used) (is_some (slot_at before (place_at handles m)).set) (took.held m lt)).1 in
-        elim (some.each m lt) [
-          | inl same ↦ ap (λ (s : Slot T). is_some s.set) same ∙ before_full
-          | inr taken ↦ ap (λ (s : Slot T). is_some s.set) taken ∙ before_full
-        ]
-
-    -- one set more is held again
-    pub put_more : (new : List (Slot T)) → new ≡ with_use (place_at handles m) Held now → PutSome handles n (m + 1) before new
-    put_more new made =
-        let p = place_at handles m in
+    pub change_less : (new : List (Slot T)) → new ≡ with_use (place_at handles n) Held now → ChangeUse handles n before new
+    change_less new made =
+        let p = place_at handles n in
         let s = used_for Held (slot_at now p) in
         let far : (q : ℕ) → q ≢ p → slot_at new q ≡ slot_at now q = λ q ne. ap (λ l. slot_at l q) made ∙ other_slots now p s q ne in
-        let whole : s ≡ slot_at before p = elim (some.each m lt) [
-          | inl same ↦ ap (used_for Held) same ∙ used_same (slot_at before p) Held (holds_used (slot_at before (place_at handles m)) (took.held m lt))
-          | inr taken ↦ ap (used_for Held) taken ∙ used_same (slot_at before p) Held (holds_used (slot_at before (place_at handles m)) (took.held m lt))
-        ] in
-        let here : slot_at new p ≡ slot_at before p = ap (λ l. slot_at l p) made ∙ slot_set now p s put_inside ∙ whole in
+        let here : slot_at new p ≡ slot_at before p = ap (λ l. slot_at l p) made ∙ slot_set now p s last_within ∙ ap (used_for Held) (change.named n (omega arith)) ∙ used_same (slot_at before p) Held (holds_used (slot_at before p) (change.held n (omega arith))) in
         record {
-          long = ap length made ∙ length-set now p s ∙ some.long;
-          each = λ i less. elim (same_or (place_at handles i) p) [
-            | inl e ↦ inl (subst (λ q. slot_at new q ≡ slot_at before q) (sym e) here)
-            | inr ne ↦ elim (some.each i less) [
-              | inl same ↦ inl (far (place_at handles i) ne ∙ same)
-              | inr taken ↦ inr (far (place_at handles i) ne ∙ taken)
-            ]
-          ];
-          done = λ i less. elim (same_or (place_at handles i) p) [
+          long = ap length made ∙ length-set now p s ∙ change.long;
+          apart = λ i j less lt. change.apart i j less (omega arith);
+          held = λ i lt. change.held i (omega arith);
+          within = λ i lt. change.within i (omega arith);
+          named = λ i lt. subst (λ (x : Slot T). x ≡ used_for x.used (slot_at before (place_at handles i))) (sym (far (place_at handles i) (change.apart i n lt (omega arith)))) (change.named i (omega arith));
+          free = λ i lt. subst CanBeHeld (sym (far (place_at handles i) (change.apart i n lt (omega arith)))) (change.free i (omega arith));
+          rest = λ q none. elim (same_or q p) [
             | inl e ↦ subst (λ q. slot_at new q ≡ slot_at before q) (sym e) here
-            | inr ne ↦ elim (same_or i m) [
-              | inl e ↦ absurd (ne (ap (place_at handles) e))
-              | inr apart ↦ far (place_at handles i) ne ∙ some.done i (omega arith)
-            ]
+            | inr ne ↦ far q ne ∙ change.rest q (λ i lt. elim (same_or i n) [
+              | inl e ↦ (λ f. ne (sym f ∙ ap (place_at handles) e))
+              | inr other ↦ none i (omega arith)
+            ])
           ];
-          rest = λ q none. far q (λ e. none m lt (sym e)) ∙ some.rest q none;
         }
 
   -- once all are held again, the slots are as they were before
-  pub put_all : (handles : List SetHandle) (n : ℕ) (before now : List (Slot T)) → PutSome handles n n before now → now ≡ before
-  put_all handles n before now some = all_same now before some.long (λ p. elim (named_or n (place_at handles) p) [
-    | inl found ↦ subst (λ q. slot_at now q ≡ slot_at before q) found.2 (some.done found.0 found.1)
-    | inr none ↦ some.rest p none
-  ])
+  pub change_none : (handles : List SetHandle) (before now : List (Slot T)) → ChangeUse handles 0 before now → now ≡ before
+  change_none handles before now change = all_same now before change.long (λ p. change.rest p (λ i lt. absurd (omega arith)))
 
 -- a handle of the list, whatever is said of those past the end
 pub handle_at : (handles : List SetHandle) (i : ℕ) → i < length handles → (d : SetHandle) → get_or handles i (record { manager = 0; place = 0; generation = 0 }) ≡ get_or handles i d

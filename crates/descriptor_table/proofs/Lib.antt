@@ -3,7 +3,6 @@ pub mod Coming
 pub mod Counting
 pub mod Counts
 pub mod Entries
-pub mod Freeing
 pub mod Growing
 pub mod Holding
 pub mod Leaving

@@ -1,7 +1,7 @@
 -- A set that comes into a slot, gets a handle, or leaves: for `SetTable::put`, `allocate_for_frame`, `take_out` and `take_of`.
 -- `old` are the slots before, `mid` those once the slot was picked from its list or its set taken out, `new` those after.
 use Rattle.std.proofs.lemmas.Grind.{common_steps}
-use Rattle.std.proofs.Common.{◌≡◌, ◌≢◌, ℕ, ◌+◌, ◌<◌, ◌≤◌, ◌==◌, ◌&&◌, Bool, true, false, nat_lt, List, length, set, Option, Some, None, is_some, inl, inr, refl, sym, ap, ◌∙◌, arith, ltb-true}
+use Rattle.std.proofs.Common.{◌≡◌, ℕ, ◌+◌, ◌<◌, ◌≤◌, ◌==◌, ◌&&◌, Bool, true, false, nat_lt, List, length, set, Option, Some, None, is_some, inl, inr, refl, sym, ap, ◌∙◌, arith, ltb-true}
 use Rattle.std.proofs.lemmas.List.{length-set, set-set}
 use Rattle.std.proofs.lemmas.Bool.{false≢true}
 use Rattle.descriptor_table.specs.Slots.{goes, in_list, is_in, slot_at}
@@ -11,7 +11,7 @@ use Rattle.descriptor_table.specs.declared.set_table.SetTable.{SetTable}
 use Rattle.descriptor_table.specs.declared.slot.Use.{Use}
 use Rattle.descriptor_table.specs.declared.slot.Use.TheVariants.{Held, InFrame, Waits, Kept, Taken, Vacant}
 use Rattle.descriptor_table.specs.Slots.{Slot}
-use Rattle.descriptor_table.proofs.Chains.{and_true, lists_apart, taken_no_list}
+use Rattle.descriptor_table.proofs.Chains.{and_true, taken_no_list}
 use Rattle.descriptor_table.proofs.Counting.{same_or}
 use Rattle.descriptor_table.proofs.Counts.{bit, count_set, same_count}
 use Rattle.descriptor_table.proofs.Listed.{other_slots, slot_set, with_use}
@@ -76,27 +76,9 @@ module _ {T : Type 0} where
       let waiting = after.waiting ∙ before.waiting in
       record { few = (let h = room.few in omega arith); slots = (let h = room.slots in omega arith); waiting = (let h = room.waiting in omega arith) }
 
-  -- a set that leaves a list of sets leaves as many slots to which another can come
-  pub usable_picked : (k p : ℕ) (old new : List (Slot T)) → 0 ≢ k → Picks (is_in k) p old new → count is_usable new ≡ count is_usable old
-  usable_picked k p old new apart picks = ap (count is_usable) picks.slots ∙ same_count is_usable old p (used_for Taken (slot_at old p)) picks.within (sym (lists_apart 0 k (slot_at old p) picks.was apart))
-
   -- and so does one that gets a handle, if a call has its slot
   pub usable_renewed : (number p : ℕ) (u : Use) (handle : SetHandle) (old new : List (Slot T)) → Renews number p u handle old new → p < length old → (slot_at old p).used ≡ Taken → is_usable (renewed u (slot_at old p)) ≡ false → count is_usable new ≡ count is_usable old
   usable_renewed number p u handle old new r within taken used = ap (count is_usable) r.slots ∙ same_count is_usable old p (renewed u (slot_at old p)) within (used ∙ sym (taken_no_list (slot_at old p) taken 0))
-
-  -- a slot in a list that gets a handle left the list, and got the handle then
-  pub renews_picked :
-      (test : Slot T → Bool) (number p : ℕ) (u : Use) (handle : SetHandle) (old new : List (Slot T)) → test (slot_at old p) ≡ true
-      → p < length old → Renews number p u handle old new → Picks test p old (with_use p Taken old) × Renews number p u handle (with_use p Taken old) new
-  renews_picked test number p u handle old new was within r =
-      let o = slot_at old p in
-      let slot = slot_set old p (used_for Taken o) within in (
-        record { was = was; within = within; slots = refl },
-        record {
-          is = r.is ∙ ap (λ (s : Slot T). record { manager = number; place = p; generation = s.generation + 1 }) (sym slot);
-          slots = r.slots ∙ sym (set-set old p (used_for Taken o) (renewed u o)) ∙ ap (λ s. set (with_use p Taken old) p (renewed u s)) (sym slot);
-        },
-      )
 
   -- each slot has the set that it had, under the same layout
   pub renews_stay : (number p : ℕ) (u : Use) (handle : SetHandle) (old new : List (Slot T)) → p < length old → Renews number p u handle old new → (q : ℕ) → ((slot_at new q).set ≡ (slot_at old q).set) × (came_under (slot_at new q) ≡ came_under (slot_at old q))

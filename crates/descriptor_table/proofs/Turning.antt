@@ -2,11 +2,11 @@
 -- `old` are the slots before a loop, `now` those before a step of it, `new` those after; `Turning` is the loop's invariant, and `Turns`
 -- what it leaves at its end. A set that is freed *settles*: it is kept, or goes. `o` is a slot before that, `n` the same slot after.
 use Rattle.std.proofs.lemmas.Grind.{common_steps}
-use Rattle.std.proofs.Common.{◌≡◌, ◌≢◌, ℕ, zero, suc, ◌+◌, ◌<◌, ◌≤◌, ◌⊎◌, ◌&&◌, nat_lt, Bool, true, false, if◌then◌else◌, List, [], ◌∷◌, length, set, ne_eqb, is_some, inl, inr, refl, sym, ap, subst, ◌∙◌, arith, nat_le}
+use Rattle.std.proofs.Common.{◌≡◌, ◌≢◌, ℕ, zero, suc, ◌+◌, ◌<◌, ◌≤◌, ◌⊎◌, ◌==◌, ◌&&◌, nat_lt, Bool, true, false, if◌then◌else◌, List, [], ◌∷◌, length, set, eq-eqb, ne_eqb, is_some, inl, inr, refl, sym, ap, subst, ◌∙◌, arith, nat_le}
 use Rattle.std.proofs.lemmas.List.{length-set, set-set}
 use Rattle.std.proofs.lemmas.Bool.{false≢true, ltb-false, true≢false}
 use Rattle.descriptor_table.specs.Slots.{IsNowhere, Slot, in_list, is_due, is_in, slot_at, waits_for}
-use Rattle.descriptor_table.specs.Tables.{AtIf, IsBack, KeepsSettings, MayBecome, Picks, Stays, Turns, count, generations_of, holds, is_held_use, is_kept, is_taken, is_taken_use, may_stay, keep_of, next_use, stays, used_for, Becomes}
+use Rattle.descriptor_table.specs.Tables.{AtIf, CanBeHeld, IsBack, KeepsSettings, MayBecome, Picks, Stays, Turns, count, generations_of, holds, is_held_use, is_kept, may_stay, keep_of, next_use, stays, used_for, Becomes}
 use Rattle.descriptor_table.specs.declared.set_table.SetTable.{SetTable}
 use Rattle.descriptor_table.specs.declared.slot.Use.{Use}
 use Rattle.descriptor_table.specs.declared.slot.Use.TheVariants.{Held, Kept, Going, Taken}
@@ -14,9 +14,6 @@ use Rattle.descriptor_table.proofs.Chains.{and_true, lists_apart, nowhere_out}
 use Rattle.descriptor_table.proofs.Counting.{same_or}
 use Rattle.descriptor_table.proofs.Counts.{bit, count_set, same_count}
 use Rattle.descriptor_table.proofs.Listed.{other_slots, slot_set, with_use}
-
-taken_use : (u : Use) → is_taken_use u ≡ true → u ≡ Taken
-taken_use u e = grind (arith, common_steps)
 
 module _ {T : Type 0} where
   -- a slot in use for one thing after another
@@ -119,6 +116,16 @@ module _ {T : Type 0} where
   settled_not_held generations max l o n (inl kept) held = false≢true (ap is_held_use (ap (λ (s : Slot T). s.used) (sym kept.0) ∙ held))
   settled_not_held generations max l o n (inr goes) held = false≢true (ap is_held_use (ap (λ (s : Slot T). s.used) (sym goes.0) ∙ held))
 
+  -- only its use changed, and it can be held again
+  pub back_only : (generations : ℕ → ℕ) (max : ℕ) (l : List (Slot T)) (o x : Slot T) → holds o ≡ true → IsBack (used_for Going) generations max l o x → (x ≡ used_for x.used o) × CanBeHeld x
+  back_only generations max l o x held (inl kept) =
+      let full = (and_true (is_held_use o.used) (is_some o.set) held).1 in
+      let young = (and_true (nat_lt o.generation 4294967295) (nat_lt o.generation o.kept_below) (and_true (nat_lt o.generation 4294967295 && nat_lt o.generation o.kept_below) (o.layout_generation == generations o.layout) kept.1).0).0 in (
+        kept.0 ∙ ap (λ u. used_for u o) (sym (ap (λ (s : Slot T). s.used) kept.0)),
+        inr (o.layout + 2, λ e. omega arith, ap (is_in (o.layout + 2)) kept.0 ∙ ap (λ b. b && (nat_lt o.generation 4294967295 && is_some o.set)) (eq-eqb (o.layout + 2) (o.layout + 2) refl) ∙ ap (λ b. b && is_some o.set) young ∙ full),
+      )
+  back_only generations max l o x held (inr goes) = (goes.0 ∙ ap (λ u. used_for u o) (sym (ap (λ (s : Slot T). s.used) goes.0)), inr (1, λ e. omega arith, ap (is_in 1) goes.0 ∙ (and_true (is_held_use o.used) (is_some o.set) held).1))
+
   -- a set that waits, or that a call has, is in no list
   pub due_not_listed : (frame : ℕ) (s : Slot T) → is_due frame s ≡ true → (k : ℕ) → is_in k s ≡ false
   due_not_listed frame s e k = by_use s.used e
@@ -128,9 +135,6 @@ module _ {T : Type 0} where
 
   pub due_full : (frame : ℕ) (s : Slot T) → is_due frame s ≡ true → is_some s.set ≡ true
   due_full frame s e = (and_true (waits_for (λ w. nat_le w frame) s.used) (is_some s.set) e).1
-
-  pub taken_is : (s : Slot T) → is_taken s ≡ true → (s.used ≡ Taken) × (is_some s.set ≡ true)
-  taken_is s e = let both = and_true (is_taken_use s.used) (is_some s.set) e in (taken_use s.used both.0, both.1)
 
   -- a slot in use as before
   pub same_use : (slots : List (Slot T)) (p : ℕ) (u : Use) → (slot_at slots p).used ≡ u → p < length slots → with_use p u slots ≡ slots

@@ -1,26 +1,16 @@
 -- How calls change the slots of a table.
 use Rattle.std.specs.Prelude.{◌≡◌, ◌≢◌, ℕ, zero, suc, ◌+◌, ◌-◌, ◌<◌, ◌≤◌, ◌⊎◌, ◌==◌, ◌&&◌, nat_lt, Bool, true, false, List, [], ◌∷◌, length, slice_index_or, slice_set, vec_capacity, is_some, if◌then◌else◌, Option, Some, None, MatchOption}
 use Rattle.std.specs.VecDeque.{deque_capacity}
-use Rattle.descriptor_table.specs.Slots.{Slot, Slots, chains_in, generations_in, nexts_in, slots_in, space_in, taken_slot, chain_at, generation_at, is_in, is_kept_of, slot_at}
+use Rattle.descriptor_table.specs.Slots.{IsNowhere, Slot, Slots, chains_in, generations_in, slots_in, space_in, taken_slot, chain_at, generation_at, is_in, is_kept_of, slot_at}
 use Rattle.descriptor_table.specs.declared.handle.SetHandle.{SetHandle}
 use Rattle.descriptor_table.specs.declared.set_table.SetTable.{SetTable}
 use Rattle.descriptor_table.specs.declared.slot.Use.{Use}
 use Rattle.descriptor_table.specs.declared.slot.Use.TheVariants.{Held, Kept, Going, Taken, Vacant}
 
--- whether a set in this use is one that a call has taken
-abbrev pub is_taken_use : Use → Bool
-is_taken_use Taken = true
-is_taken_use _ = false
-
 -- whether a set in this use is held
 abbrev pub is_held_use : Use → Bool
 is_held_use Held = true
 is_held_use _ = false
-
--- the list of a set in this use, of a layout, if it is kept or goes
-abbrev pub list_for : Use → ℕ → ℕ
-list_for Kept layout = layout + 2
-list_for _ layout = 1
 
 -- the place of the i-th handle
 abbrev pub place_at : List SetHandle → ℕ → ℕ
@@ -171,10 +161,6 @@ module _ {T : Type 0} where
   abbrev pub PicksAny : (Slot T → Bool) → Option ℕ → Slots T → Slots T → Type 0
   PicksAny test result old new = MatchOption result (PicksNone test old new) (λ p. Picks test p old new)
 
-  -- whether a call has taken a set
-  abbrev pub is_taken : Slot T → Bool
-  is_taken s = is_taken_use s.used && is_some s.set
-
   -- the layout of a set: its number, and how many had the number before
   abbrev pub came_under : Slot T → ℕ × ℕ
   came_under s = (s.layout, s.layout_generation)
@@ -274,12 +260,18 @@ module _ {T : Type 0} where
   abbrev pub GivesAny : (Slot T → Bool) → Option T → Slots T → Slots T → Type 0
   GivesAny test result old new = MatchOption result (PicksNone test old new) (λ x. Gives test x old new)
 
-  -- the held sets of the first n handles were taken, and all else is as it was
-  pub record TookEach (handles : List SetHandle) (n : ℕ) (old new : Slots T) : Type 0 where
+  -- a set in a slot is held, a call has it, or it is kept or goes
+  abbrev pub CanBeHeld : Slot T → Type 0
+  CanBeHeld s = IsNowhere s.used ⊎ ((k : ℕ) × (k ≢ 0) × (is_in k s ≡ true))
+
+  -- the first n handles had held sets, no two at one place, of which only the use changed. All else is as it was
+  pub record ChangeUse (handles : List SetHandle) (n : ℕ) (old new : Slots T) : Type 0 where
     pub long : length new ≡ length old
+    pub apart : (i j : ℕ) → i < j → j < n → place_at handles i ≢ place_at handles j
     pub held : (i : ℕ) → i < n → holds (slot_at old (place_at handles i)) ≡ true
     pub within : (i : ℕ) → i < n → place_at handles i < length old
-    pub named : (i : ℕ) → i < n → slot_at new (place_at handles i) ≡ used_for Taken (slot_at old (place_at handles i))
+    pub named : (i : ℕ) → i < n → slot_at new (place_at handles i) ≡ used_for (slot_at new (place_at handles i)).used (slot_at old (place_at handles i))
+    pub free : (i : ℕ) → i < n → CanBeHeld (slot_at new (place_at handles i))
     pub rest : (p : ℕ) → ((i : ℕ) → i < n → place_at handles i ≢ p) → slot_at new p ≡ slot_at old p
 
   -- the slots of the handles became what the relation says, given the new slots. All others are as they were
@@ -288,50 +280,6 @@ module _ {T : Type 0} where
     pub named : (i : ℕ) → i < length handles → becomes new (slot_at old (place_at handles i)) (slot_at new (place_at handles i))
     pub rest : (p : ℕ) → ((i : ℕ) → i < length handles → place_at handles i ≢ p) → slot_at new p ≡ slot_at old p
 
-  -- the handles have places, and each set that a call has taken is at one of these
-  pub record AreAllTaken (handles : List SetHandle) (slots : Slots T) : Type 0 where
-    pub within : (i : ℕ) → i < length handles → place_at handles i < length slots
-    pub all : (p : ℕ) → is_taken (slot_at slots p) ≡ true → (i : ℕ) × (i < length handles) × (place_at handles i ≡ p)
-
   -- no set is kept once it is freed
   abbrev pub AreAged : Slots T → Slots T → Type 0
   AreAged = Turns (λ s. true) (Becomes aged)
-
-  -- the list of a set that is kept or goes
-  abbrev pub list_of : Slot T → ℕ
-  list_of s = list_for s.used s.layout
-
-  -- the lists of sets are as they were
-  pub record KeepsLists (old new : SetTable T) : Type 0 where
-    pub chains : chains_in new.lists.items ≡ chains_in old.lists.items
-    pub next : nexts_in new.slots ≡ nexts_in old.slots
-
-  -- a slot was put first into a list, and the other lists are as they were
-  pub record Pushes (k p : ℕ) (old new : SetTable T) : Type 0 where
-    pub there : k < length (chains_in old.lists.items)
-    pub chains : chains_in new.lists.items ≡ slice_set (chains_in old.lists.items) k (record { first = p; count = (chain_at (chains_in old.lists.items) k).count + 1 })
-    pub next : nexts_in new.slots ≡ slice_set (nexts_in old.slots) p (chain_at (chains_in old.lists.items) k).first
-
-  -- the first slot of a list left it, and the other lists are as they were
-  pub record Pops (k p : ℕ) (old new : SetTable T) : Type 0 where
-    pub first : (chain_at (chains_in old.lists.items) k).first ≡ p
-    pub chains : chains_in new.lists.items ≡ slice_set (chains_in old.lists.items) k (record { first = slice_index_or (nexts_in old.slots) p 0; count = (chain_at (chains_in old.lists.items) k).count - 1 })
-    pub next : nexts_in new.slots ≡ nexts_in old.slots
-
-  -- the set of a slot was put first into the list of the kept, or of those that go
-  pub record JoinsList (p : ℕ) (old new : SetTable T) : Type 0 where
-    pub listed : is_in (list_of (slot_at (slots_of new) p)) (slot_at (slots_of new) p) ≡ true
-    pub pushes : Pushes (list_of (slot_at (slots_of new) p)) p old new
-
-  -- a held set was put first into such a list
-  pub record SettlesOne (p : ℕ) (old new : SetTable T) : Type 0 where
-    pub within : p < length (slots_of old)
-    pub held : (slot_at (slots_of old) p).used ≡ Held
-    pub new_use : Use
-    pub turns : At p (used_for new_use) (slots_of old) (slots_of new)
-    pub joins : JoinsList p old new
-
-  -- the sets of the first handles were, one after another
-  abbrev pub SettleEach : List SetHandle → ℕ → SetTable T → SetTable T → Type 0
-  SettleEach handles zero old new = (slots_of new ≡ slots_of old) × KeepsLists old new
-  SettleEach handles (suc n) old new = (mid : SetTable T) × SettleEach handles n old mid × SettlesOne (place_at handles n) mid new

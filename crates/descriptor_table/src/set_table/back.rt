@@ -1,20 +1,19 @@
 //! Sets that are freed: each is kept, or goes. A set that goes joins the list of those that return to
 //! their pools.
-ghost use Rattle.std.specs.Prelude.{◌≡◌, ◌↔◌, ◌+◌, ◌<◌, ◌≤◌, ℕ, true, false, IsFalse, IsTrue, is_some, length};
+ghost use Rattle.std.specs.Prelude.{◌≡◌, ◌≢◌, ◌↔◌, ◌+◌, ◌<◌, ◌≤◌, ℕ, true, false, IsFalse, IsTrue, is_some, length};
 
 use super::{GOING, KEPT, SetTable};
 use crate::handle::SetName;
 use crate::slot::{ListHead, Use};
 
 impl<T> SetTable<T> {
-    ghost use Rattle.descriptor_table.specs.declared.set_table.SetTable.{SetTable};
     ghost use Rattle.descriptor_table.specs.Sets.{AreHeldOnce};
-    ghost use Rattle.descriptor_table.specs.Slots.{IsNowhere, chain_at, chains_in, is_due, is_in, is_kept_of, slot_at, waits};
-    ghost use Rattle.descriptor_table.specs.Tables.{AreAllTaken, At, AtIf, Becomes, Changes};
-    ghost use Rattle.descriptor_table.specs.Tables.{IsBack, JoinsList, KeepsUpTo, MayBecome, Pops};
-    ghost use Rattle.descriptor_table.specs.Tables.{SettleEach, Stays, TurnEach, Turns, count};
-    ghost use Rattle.descriptor_table.specs.Tables.{generations_of, holds, is_kept, is_taken, keep_of};
-    ghost use Rattle.descriptor_table.specs.Tables.{list_of, lists_of, may_stay, next_use, number_of};
+    ghost use Rattle.descriptor_table.specs.Slots.{IsNowhere, is_due, is_in, is_kept_of, slot_at, waits};
+    ghost use Rattle.descriptor_table.specs.Tables.{At, AtIf, Becomes, Changes, HasTaken};
+    ghost use Rattle.descriptor_table.specs.Tables.{IsBack, KeepsUpTo, MayBecome};
+    ghost use Rattle.descriptor_table.specs.Tables.{Stays, TurnEach, Turns, count};
+    ghost use Rattle.descriptor_table.specs.Tables.{generations_of, holds, is_kept, keep_of};
+    ghost use Rattle.descriptor_table.specs.Tables.{lists_of, may_stay, next_use, number_of, place_at};
     ghost use Rattle.descriptor_table.specs.Tables.{slots_of, used_for};
 
     /// The list of a layout's kept sets.
@@ -48,9 +47,8 @@ impl<T> SetTable<T> {
         requires within { place < length (slots_of self.old) }
         requires idle { IsNowhere (slot_at (slots_of self.old) place).used }
         requires full { is_some (slot_at (slots_of self.old) place).set ≡ true }
-        ensures changes { Changes (At place (used_for (next_use (generations_of self.old)
+        ensures { Changes (At place (used_for (next_use (generations_of self.old)
             (keep_of self.old) (slots_of self.old) place))) self.old self.new }
-        ensures joins { JoinsList place self.old self.new }
     {
         if self.may_stay(place) {
             let list = self.slots.at(place).layout as usize + KEPT;
@@ -70,20 +68,6 @@ impl<T> SetTable<T> {
         }
     }
 
-    /// Whether a call has taken the set of a slot.
-    #[inline]
-    fn has_taken(&self, place: usize) -> bool
-        requires { place < length (slots_of self.now) }
-        ensures { result ≡ is_taken (slot_at (slots_of self.now) place) }
-    {
-        let slot = self.slots.at(place);
-        match slot.used() {
-            Use::Taken => slot.set.is_some(),
-            Use::Held | Use::InFrame(_) | Use::Waits(_) | Use::Kept | Use::Going | Use::Vacant =>
-                false,
-        }
-    }
-
     /// Frees the held sets of `names`, all or none: each is kept, or goes. If a name has no held set, or
     /// is in the list twice, it frees none and returns `false`.
     pub fn settle_held<N: SetName<T>>(&mut self, names: &[N]) -> bool
@@ -97,7 +81,7 @@ impl<T> SetTable<T> {
         for index in 0..names.len() {
             let handle = names[index].handle();
             if !self.holds(handle) {
-                self.unsettle(names, index);
+                self.put_back(names, index);
                 return false;
             }
             self.settle(handle.place as usize);
@@ -105,70 +89,17 @@ impl<T> SetTable<T> {
         true
     }
 
-    /// Holds the sets of the first `count` names again. Each was put first into its list, in the order
-    /// of the names.
-    #[cold]
-    fn unsettle<N: SetName<T>>(&mut self, names: &[N], count: usize)
-        requires few { count ≤ length names.now }
-        requires settled { (before : SetTable T) × SettleEach (N.handles_of names.now) count before
-            self.old }
-        ensures { Changes (λ settled back. (before : SetTable T) → SettleEach (N.handles_of names.now)
-            count before self.old → back ≡ slots_of before) self.old self.new }
-    {
-        for index in 0..count {
-            self.hold_again(names[count - 1 - index].handle().place as usize);
-        }
-    }
-
-    /// Holds the set of a slot again, which is the first of its list.
-    fn hold_again(&mut self, place: usize)
-        requires listed { is_in (list_of (slot_at (slots_of self.old) place))
-            (slot_at (slots_of self.old) place) ≡ true }
-        requires first { (chain_at (chains_in self.old.lists.items)
-            (list_of (slot_at (slots_of self.old) place))).first ≡ place }
-        ensures held { Changes (At place (used_for Use.Held)) self.old self.new }
-        ensures pops { Pops (list_of (slot_at (slots_of self.old) place)) place self.old self.new }
-    {
-        let list = self.list_of(place);
-        match self.pick(list) {
-            Some(first) => self.assign(first, Use::Held),
-            None => unreachable!(),
-        }
-    }
-
-    /// The list of a slot's set, which is kept or goes.
-    fn list_of(&self, place: usize) -> usize
-        requires { place < length (slots_of self.now) }
-        ensures { result ≡ list_of (slot_at (slots_of self.now) place) }
-    {
-        let slot = self.slots.at(place);
-        match slot.used() {
-            Use::Kept => slot.layout as usize + KEPT,
-            Use::Held | Use::InFrame(_) | Use::Waits(_) | Use::Going | Use::Taken | Use::Vacant =>
-                GOING,
-        }
-    }
-
-    /// Lets the set of a slot wait for a frame, if a call has taken it.
-    #[inline]
-    fn wait_taken(&mut self, place: usize, frame: u64)
-        requires { place < length (slots_of self.old) }
-        ensures { Changes (AtIf is_taken place (used_for (Use.Waits frame))) self.old self.new }
-    {
-        if !self.has_taken(place) {
-            return;
-        }
-        self.wait(place, frame);
-    }
-
-    /// Lets the sets of `names` wait for a frame. Just these sets were taken.
+    /// Lets the sets of `names` wait for a frame. A call has taken them.
     pub fn wait_each<N: SetName<T>>(&mut self, names: &[N], frame: u64)
-        requires taken { AreAllTaken (N.handles_of names.now) (slots_of self.old) }
-        ensures { Changes (Turns is_taken (Becomes (used_for (Use.Waits frame)))) self.old
-            self.new }
+        requires apart { (i j : ℕ) → i < j → j < length (N.handles_of names.now)
+            → place_at (N.handles_of names.now) i ≢ place_at (N.handles_of names.now) j }
+        requires taken { (i : ℕ) → i < length (N.handles_of names.now)
+            → HasTaken (place_at (N.handles_of names.now) i) (slots_of self.old) }
+        ensures { Changes (TurnEach (N.handles_of names.now) (Becomes (used_for (Use.Waits frame))))
+            self.old self.new }
     {
         for index in 0..names.len() {
-            self.wait_taken(names[index].handle().place as usize, frame);
+            self.wait(names[index].handle().place as usize, frame);
         }
     }
 

@@ -1,15 +1,16 @@
 //! Sets that are taken by their names, all or none.
-ghost use Rattle.std.specs.Prelude.{◌≡◌, ◌<◌, ◌≤◌, ◌↔◌, List, IsTrue, IsFalse, is_some, length, true};
+ghost use Rattle.std.specs.Prelude.{◌≡◌, ◌<◌, ◌≤◌, ◌↔◌, ◌≢◌, ℕ, List, IsTrue, IsFalse, is_some, length, true};
 
-use super::SetTable;
+use super::{GOING, KEPT, SetTable};
 use crate::handle::SetName;
 use crate::slot::Use;
 
 impl<T> SetTable<T> {
     ghost use Rattle.descriptor_table.specs.Slots.{Slot};
     ghost use Rattle.descriptor_table.specs.Sets.{AreHeldOnce};
-    ghost use Rattle.descriptor_table.specs.Slots.{IsNowhere, slot_at};
-    ghost use Rattle.descriptor_table.specs.Tables.{At, Changes, KeepsLists, Stays, TookEach, number_of};
+    ghost use Rattle.descriptor_table.specs.Slots.{IsNowhere, is_in, slot_at};
+    ghost use Rattle.descriptor_table.specs.Tables.{At, CanBeHeld, ChangeUse, Changes, HasTaken, Stays};
+    ghost use Rattle.descriptor_table.specs.Tables.{number_of, place_at};
     ghost use Rattle.descriptor_table.specs.Tables.{slots_of, used_for};
 
     /// Changes the use of a slot's set, which is in no list before and after.
@@ -19,8 +20,7 @@ impl<T> SetTable<T> {
         requires was { IsNowhere (slot_at (slots_of self.old) place).used }
         requires used { IsNowhere used }
         requires full { used ≡ Use.Held → is_some (slot_at (slots_of self.old) place).set ≡ true }
-        ensures changes { Changes (At place (used_for used)) self.old self.new }
-        ensures lists { KeepsLists self.old self.new }
+        ensures { Changes (At place (used_for used)) self.old self.new }
     {
         self.slots.set_use(place, used);
     }
@@ -30,8 +30,10 @@ impl<T> SetTable<T> {
     pub fn take_each<N: SetName<T>>(&mut self, names: &[N]) -> bool
         ensures once { IsTrue result ↔ AreHeldOnce (number_of self.old) (slots_of self.old)
             (N.handles_of names.now) }
-        ensures took { IsTrue result → TookEach (N.handles_of names.now)
+        ensures took { IsTrue result → ChangeUse (N.handles_of names.now)
             (length (N.handles_of names.now)) (slots_of self.old) (slots_of self.new) }
+        ensures taken { IsTrue result → (i : ℕ) → i < length (N.handles_of names.now)
+            → HasTaken (place_at (N.handles_of names.now) i) (slots_of self.new) }
         ensures none { IsFalse result → slots_of self.new ≡ slots_of self.old }
         ensures stays { Stays self.old self.new }
     {
@@ -46,17 +48,56 @@ impl<T> SetTable<T> {
         true
     }
 
-    /// Holds the sets of the first `count` names again, which were taken.
+    /// Holds the sets of the first `count` names again, the last one first.
     #[cold]
-    fn put_back<N: SetName<T>>(&mut self, names: &[N], count: usize)
+    pub(super) fn put_back<N: SetName<T>>(&mut self, names: &[N], count: usize)
         requires few { count ≤ length names.now }
-        requires took { (before : List (Slot T)) × TookEach (N.handles_of names.now) count before
+        requires changed { (before : List (Slot T)) × ChangeUse (N.handles_of names.now) count before
             (slots_of self.old) }
-        ensures { Changes (λ taken back. (before : List (Slot T)) → TookEach (N.handles_of names.now)
-            count before taken → back ≡ before) self.old self.new }
+        ensures { Changes (λ changed back. (before : List (Slot T)) → ChangeUse
+            (N.handles_of names.now) count before changed → back ≡ before) self.old self.new }
     {
         for index in 0..count {
-            self.assign(names[index].handle().place as usize, Use::Held);
+            self.hold_again(names[count - 1 - index].handle().place as usize);
+        }
+    }
+
+    /// Holds the set of a slot again.
+    fn hold_again(&mut self, place: usize)
+        requires within { place < length (slots_of self.old) }
+        requires free { CanBeHeld (slot_at (slots_of self.old) place) }
+        requires full { is_some (slot_at (slots_of self.old) place).set ≡ true }
+        ensures { Changes (At place (used_for Use.Held)) self.old self.new }
+    {
+        let slot = self.slots.at(place);
+        match slot.used() {
+            Use::Kept => {
+                let list = slot.layout as usize + KEPT;
+                self.unlink(list, Use::Kept, place);
+            }
+            Use::Going => self.unlink(GOING, Use::Going, place),
+            Use::Held | Use::InFrame(_) | Use::Waits(_) | Use::Taken | Use::Vacant => {}
+        }
+        self.assign(place, Use::Held);
+    }
+
+    /// Takes a slot out of its list of sets. That of the set that came last is the first of the list. Others
+    /// that are before it come back.
+    fn unlink(&mut self, list: usize, used: Use, place: usize)
+        requires list { list ≢ 0 }
+        requires listed { is_in list (slot_at (slots_of self.old) place) ≡ true }
+        requires used { (slot_at (slots_of self.old) place).used ≡ used }
+        ensures { Changes (At place (used_for Use.Taken)) self.old self.new }
+    {
+        match self.pick(list) {
+            Some(first) => {
+                if first == place {
+                    return;
+                }
+                self.unlink(list, used, place);
+                self.link(list, first, used);
+            }
+            None => unreachable!(),
         }
     }
 }

@@ -10,7 +10,7 @@ use crate::slot::{Chain, Use};
 impl<T> SetTable<T> {
     ghost use Rattle.descriptor_table.specs.Giving.{is_of};
     ghost use Rattle.descriptor_table.specs.Slots.{IsNowhere, chain_at, chains_in, frame_of, is_in, is_kept_of, is_live, slot_at};
-    ghost use Rattle.descriptor_table.specs.Tables.{At, Changes, PicksAny, Pops, Pushes, Renews, Stays, count, count_of};
+    ghost use Rattle.descriptor_table.specs.Tables.{At, Changes, PicksAny, Renews, Stays, count, count_of};
     ghost use Rattle.descriptor_table.specs.Tables.{generations_of, is_kept, lists_of};
     ghost use Rattle.descriptor_table.specs.Tables.{keep_of, number_of, slots_of, used_for};
 
@@ -39,8 +39,7 @@ impl<T> SetTable<T> {
     /// Takes the first slot out of a list.
     #[inline]
     pub(super) fn pick(&mut self, list: usize) -> Option<usize>
-        ensures picks { Changes (PicksAny (is_in list) result) self.old self.new }
-        ensures pops { IfSome result (λ place. Pops list place self.old self.new) }
+        ensures { Changes (PicksAny (is_in list) result) self.old self.new }
     {
         let head = self.lists.get_mut(list)?;
         if head.chain.count == 0 {
@@ -65,8 +64,7 @@ impl<T> SetTable<T> {
             → (slot_at (slots_of self.old) place).layout_generation ≡ generations_of self.old
             (slot_at (slots_of self.old) place).layout }
         requires few { 2 ≤ list → count_of list self.old < keep_of self.old }
-        ensures changes { Changes (At place (used_for used)) self.old self.new }
-        ensures pushes { Pushes list place self.old self.new }
+        ensures { Changes (At place (used_for used)) self.old self.new }
     {
         let head = &mut self.lists[list];
         self.slots.link(place, head.chain.first, used);

@@ -28,8 +28,8 @@ impl<L, P, S, D: DescriptorDevice<L, P, S>> Store<L, P, S, D> {
     }
 
     /// Puts one of the new sets in `coming` to a use.
-    #[inline]
-    fn hold_last(&mut self, layout: u32, used: Use) -> SetHandle
+    #[inline(always)]
+    pub(super) fn hold_last(&mut self, layout: u32, used: Use) -> SetHandle
     {
         match self.coming.pop() {
             Some(set) => {

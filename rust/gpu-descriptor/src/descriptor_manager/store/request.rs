@@ -16,6 +16,7 @@ impl<L, P, S, D: DescriptorDevice<L, P, S>> Store<L, P, S, D> {
     /// Asks the allocator for those of `many` sets for which no set is kept; there are some. If it
     /// refuses them while sets are kept, all kept sets return to their pools, empty pools are destroyed,
     /// and it retries once, for all sets. It doesn't if all of them alone exceed the limit.
+    #[inline(always)]
     fn bring(&mut self, known: &SetLayout<L>, layout: u32, many: u32) -> Result<(), AllocationError>
     {
         let missing = many - self.table.kept_count(layout);
@@ -58,9 +59,8 @@ impl<L, P, S, D: DescriptorDevice<L, P, S>> Store<L, P, S, D> {
         used: Use,
     ) -> Result<SetHandle, AllocationError>
     {
-        let mut handles = [SetHandle::NONE];
-        self.allocate_with_new(known, layout, used, &mut handles)?;
-        Ok(handles[0])
+        self.bring(known, layout, 1)?;
+        Ok(self.hold_last(layout, used))
     }
 
     /// Takes a set of a layout for each place of `names`, kept ones first, and writes their names. The

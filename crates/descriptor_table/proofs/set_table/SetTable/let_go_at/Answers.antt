@@ -12,6 +12,6 @@ returns g c =
     let held = sym c.used.ensures ∙ c.in-Held.is in
     let full = ap (λ (s : Slot g.row.T.Denot). is_some s.set) c.at-slot.ensures.slot ∙ (c.args.self.now.sound.known c.args.place c.requires).full (ap (λ (s : Slot g.row.T.Denot). s.used) (sym c.at-slot.ensures.slot) ∙ held) in
     record {
-      slots = held_goes old (slots_of c.link.new.self) c.args.place Going slot c.at-slot.ensures.slot held full c.link.ensures.changes.slots;
+      slots = held_goes old (slots_of c.link.new.self) c.args.place Going slot c.at-slot.ensures.slot held full c.link.ensures.slots;
       stays = search rules;
     }

@@ -42,10 +42,10 @@ invariant_of-self g c =
     let sound = link_sound s.slots c.link.new.self (chains_in s.lists.items) (generations_in s.lists.items) s.waiting.items s.waiting.cap s.keep s.newest s.sound p new c.link.ensures.writes.slots c.args.list c.index_mut-head.result.now.chain (sym is) c.requires.list c.requires.within c.requires.idle c.requires.goes c.link.ensures.nexts (listed s.slots s.slots (chains_in s.lists.items) (generations_in s.lists.items) s.waiting.items s.waiting.cap s.keep s.newest s.sound p new c.requires.within refl refl refl c.requires.current (λ held. absurd (held_nowhere new c.args.list c.requires.goes held))) (λ two. let few = c.requires.few two in let same = ap (λ (d : Chain). d.count) is in omega arith) in
     record { sound = in_place (λ chains generations. AreSound c.link.new.self chains generations s.waiting.items s.waiting.cap s.keep s.newest) _ _ _ _ (chains g d) (generations g d) sound }
 
-pub returns-clause-changes : goal.returns-clause-changes
-returns-clause-changes g c =
+pub returns : goal.returns
+returns g c =
     let s = c.args.self.now in
-    let d = (goal.at.returns-clause-changes g c).After-index_mut-head in
+    let d = (goal.at.returns g c).After-index_mut-head in
     record {
       slots = c.link.ensures.writes.slots;
       stays = record {
@@ -53,15 +53,4 @@ returns-clause-changes g c =
         space = c.link.ensures.writes.space;
         waiting = refl;
       };
-    }
-
-pub returns-clause-pushes : goal.returns-clause-pushes
-returns-clause-pushes g c =
-    let s = c.args.self.now in
-    let d = (goal.at.returns-clause-pushes g c).After-index_mut-head in
-    let is = is_list g d in
-    record {
-      there = c.requires.list;
-      chains = chains g d ∙ (λ i. set (chains_in s.lists.items) c.args.list (record { first = c.args.place; count = (is i).count + 1 }));
-      next = c.link.ensures.nexts ∙ (λ i. set (nexts_in s.slots) c.args.place (is i).first);
     }

@@ -2,7 +2,6 @@ use Rattle.std.proofs.Common.{◌≡◌, ◌-◌, ◌<◌, length, true, refl, s
 use Rattle.std.proofs.lemmas.List.{length-map, length-set}
 use Rattle.descriptor_table.specs.Slots.{AreSound, chain_at, chains_in, generation_at, generations_in, is_in, nexts_in, slot_at, slots_in}
 use Rattle.descriptor_table.specs.Tables.{used_for}
-use Rattle.descriptor_table.specs.declared.slot.Chain.{Chain}
 use Rattle.descriptor_table.specs.declared.slot.ListHead.{ListHead}
 use Rattle.descriptor_table.specs.declared.slot.Use.TheVariants.{Taken}
 use Rattle.descriptor_table.proofs.Chains.{listed_out, picked, taken_unkept, unheld}
@@ -52,11 +51,11 @@ invariant_of-self-2 g c =
     let sound = pick_sound s.slots c.set_use.new.self (chains_in s.lists.items) (generations_in s.lists.items) s.waiting.items s.waiting.cap s.keep s.newest s.sound at new c.set_use.ensures.writes.slots c.args.list c.in_ok-head.head.now.chain c.at.result.now.next s.waiting.items s.newest (is_list g d) c.if-head-eq0.false (there g d) c.at.ensures.next refl c.set_use.ensures.nexts (λ j. refl) (listed s.slots s.slots (chains_in s.lists.items) (generations_in s.lists.items) s.waiting.items s.waiting.cap s.keep s.newest s.sound at new p.0 refl refl refl (taken_unkept new) (unheld Taken refl)) (out_queue (slots_in s.slots) s.waiting.items s.newest s.sound.queue at new p.0 (listed_out c.args.list (slot_at (slots_in s.slots) at) p.1) refl) in
     record { sound = in_place (λ chains generations. AreSound c.set_use.new.self chains generations s.waiting.items s.waiting.cap s.keep s.newest) _ _ _ _ (chains g a) (generations g a) sound }
 
-pub returns-clause-picks : goal.returns-clause-picks
-returns-clause-picks g c =
+pub returns : goal.returns
+returns g c =
     let s = c.args.self.now in
-    let a = (goal.at.returns-clause-picks g c).After-set_use in
-    let p = first g (goal.at.returns-clause-picks g c).Else-head-eq0 in
+    let a = (goal.at.returns g c).After-set_use in
+    let p = first g (goal.at.returns g c).Else-head-eq0 in
     record {
       slots = record { was = p.1; within = p.0; slots = c.set_use.ensures.writes.slots };
       stays = record {
@@ -64,15 +63,4 @@ returns-clause-picks g c =
         space = c.set_use.ensures.writes.space;
         waiting = refl;
       };
-    }
-
-pub returns-clause-pops : goal.returns-clause-pops
-returns-clause-pops g c =
-    let s = c.args.self.now in
-    let a = (goal.at.returns-clause-pops g c).After-set_use in
-    let is = is_list g (goal.at.returns-clause-pops g c).Else-head-eq0 in
-    record {
-      first = ap (λ (x : Chain). x.first) is;
-      chains = chains g a ∙ (λ i. set (chains_in s.lists.items) c.args.list (record { first = c.at.ensures.next i; count = (sym is i).count - 1 }));
-      next = c.set_use.ensures.nexts;
     }

@@ -14,5 +14,5 @@ returns-clause-slots g c = λ some.
     let o = slot_at old p in
     let mid = slots_of c.assign.new.self in
     let held = held_is (number_of c.args.self.now) old c.args.handle (sym c.if-not-holds.ensures) in
-    let there = ap (λ l. slot_at l p) c.assign.ensures.changes.slots ∙ slot_set old p (used_for Taken o) held.within in
-    c.take_out.ensures.changes.slots some ∙ ap (λ s. set mid p (vacated s)) there ∙ ap (λ l. set l p (vacated o)) c.assign.ensures.changes.slots ∙ set-set old p (used_for Taken o) (vacated o)
+    let there = ap (λ l. slot_at l p) c.assign.ensures.slots ∙ slot_set old p (used_for Taken o) held.within in
+    c.take_out.ensures.changes.slots some ∙ ap (λ s. set mid p (vacated s)) there ∙ ap (λ l. set l p (vacated o)) c.assign.ensures.slots ∙ set-set old p (used_for Taken o) (vacated o)

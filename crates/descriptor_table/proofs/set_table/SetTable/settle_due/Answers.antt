@@ -12,7 +12,7 @@ settled : (g : _) (c : After-settle g) → slots_of c.settle.new.self ≡ with_u
 settled g c =
     let mid = slots_of c.pick_due.new.self in
     let stays = stays_more c.args.self.now c.loop-place.self c.pick_due.new.self c.loop-place.invariant.stays c.in-Some.ensures.stays in
-    c.settle.ensures.changes.slots ∙ ap (λ u. with_use c.in-Some.place u mid) (same_next c.args.self.now c.pick_due.new.self stays.settings mid c.in-Some.place)
+    c.settle.ensures.slots ∙ ap (λ u. with_use c.in-Some.place u mid) (same_next c.args.self.now c.pick_due.new.self stays.settings mid c.in-Some.place)
 
 pub loop-place-preserved : goal.loop-place-preserved
 loop-place-preserved g c =
@@ -34,7 +34,7 @@ loop-place-preserved g c =
           (settled_grows generations max now mid new p picks.within out Taken tt picks.slots is)
           (settled_not_due generations c.args.frame max now)
           (settled_here generations max now mid new p picks.within out Taken tt picks.slots is);
-      stays = stays_more c.args.self.now c.loop-place.self c.settle.new.self inv.stays (stays_more c.loop-place.self c.pick_due.new.self c.settle.new.self c.in-Some.ensures.stays c.settle.ensures.changes.stays);
+      stays = stays_more c.args.self.now c.loop-place.self c.settle.new.self inv.stays (stays_more c.loop-place.self c.pick_due.new.self c.settle.new.self c.in-Some.ensures.stays c.settle.ensures.stays);
     }
 
 pub loop-place-smaller : goal.loop-place-smaller

@@ -1,15 +1,15 @@
-use Rattle.std.proofs.Common.{◌≡◌, ◌<◌, ℕ, false, get_or, length, is_some, refl, sym, ap, subst, ◌∙◌, arith, add-one}
+use Rattle.std.proofs.Common.{◌≡◌, ◌<◌, ℕ, false, get_or, length, is_some, refl, sym, ap, subst, ◌∙◌, arith}
 use Rattle.std.proofs.lemmas.Bool.{false≢true}
 use Rattle.descriptor_table.specs.Sets.{is_held}
 use Rattle.descriptor_table.specs.Slots.{in_list, is_in, slot_at}
-use Rattle.descriptor_table.specs.Tables.{IsBack, SettleEach, SettlesOne, generations_of, next_use, place_at, slots_of, used_for}
+use Rattle.descriptor_table.specs.Tables.{ChangeUse, IsBack, generations_of, next_use, place_at, slots_of, used_for}
 use Rattle.descriptor_table.specs.declared.handle.SetHandle.{SetHandle}
 use Rattle.descriptor_table.specs.declared.slot.Use.TheVariants.{Going, Held}
-use Rattle.descriptor_table.proofs.Holding.{TurnedSome, held_is, turn_more, turned_all, turned_no, turned_none}
+use Rattle.descriptor_table.proofs.Holding.{TurnedSome, changed, held_is, turn_more, turned_all, turned_no, turned_none}
 use Rattle.descriptor_table.proofs.Listed.{with_use}
 use Rattle.descriptor_table.proofs.Names.{handle_read, handles_long, place_read}
-use Rattle.descriptor_table.proofs.Turning.{same_next, same_use, settled_grows, settled_here, settled_not_held, settled_set, stays_more, stays_same}
-use Rattle.descriptor_table.proofs.set_table.SetTable.settle_held.Goals.{After-handle-handle, After-holds}
+use Rattle.descriptor_table.proofs.Turning.{back_only, same_next, same_use, settled_grows, settled_here, settled_not_held, settled_set, stays_more, stays_same}
+use Rattle.descriptor_table.proofs.set_table.SetTable.settle_held.Goals.{After-handle-handle, After-holds, At-loop-index}
 use Rattle.descriptor_table.proofs.set_table.SetTable.settle_held.Goals as goal
 
 -- the handle of the name
@@ -30,7 +30,6 @@ holds g c = subst (λ n. c.holds.result ≡ is_held n (slots_of c.loop-index.sel
 pub loop-index-init : goal.loop-index-init
 loop-index-init g c = record {
   some = turned_none c.args.self.now.number (g.N.SetName.handles_of c.args.names.now) (IsBack (used_for Going) (generations_of c.args.self.now) c.args.self.now.keep) (slots_of c.args.self.now);
-  settled = (refl, record { chains = refl; next = refl });
   stays = stays_same c.args.self.now;
 }
 
@@ -48,7 +47,7 @@ loop-index-preserved g c =
     let held = held_is s.number now h has in
     let out : (k : ℕ) → is_in k (slot_at now p) ≡ false = (λ k. ap (λ u. in_list k u (slot_at now p).layout (slot_at now p).generation (is_some (slot_at now p).set)) held.used) in
     let same : now ≡ with_use p Held now = sym (same_use now p Held held.used held.within) in
-    let made = c.settle.ensures.changes.slots ∙ ap (λ u. with_use p u now) (same_next s c.loop-index.self inv.stays.settings now p) in
+    let made = c.settle.ensures.slots ∙ ap (λ u. with_use p u now) (same_next s c.loop-index.self inv.stays.settings now p) in
     let u = next_use (generations_of s) s.keep now p in
     record {
       some =
@@ -58,17 +57,18 @@ loop-index-preserved g c =
           (settled_set (generations_of s) s.keep now now new p held.within out Held tt same made)
           (settled_grows (generations_of s) s.keep now now new p held.within out Held tt same made)
           (settled_here (generations_of s) s.keep now now new p held.within out Held tt same made);
-      settled = subst (λ n. SettleEach (g.N.SetName.handles_of c.args.names.now) n s c.settle.new.self) (sym (add-one c.loop-index.index)) (
-        c.loop-index.self,
-        inv.settled,
-        subst (λ q. SettlesOne q c.loop-index.self c.settle.new.self) (sym (at g d.After-handle-handle))
-            (record { within = held.within; held = held.used; new_use = next_use (generations_of c.loop-index.self) c.loop-index.self.keep now p; turns = c.settle.ensures.changes.slots; joins = c.settle.ensures.joins }),
-      );
-      stays = stays_more s c.loop-index.self c.settle.new.self inv.stays c.settle.ensures.changes.stays;
+      stays = stays_more s c.loop-index.self c.settle.new.self inv.stays c.settle.ensures.stays;
     }
 
-pub unsettle-requires-clause-settled : goal.unsettle-requires-clause-settled
-unsettle-requires-clause-settled g c = (c.args.self.now, c.loop-index.invariant.settled)
+-- the sets of the names so far changed in their use alone
+change : (g : _) (c : At-loop-index g) → c.loop-index.index < length c.args.names.now → ChangeUse (g.N.SetName.handles_of c.args.names.now) c.loop-index.index (slots_of c.args.self.now) (slots_of c.loop-index.self)
+change g c lt =
+    let s = c.args.self.now in
+    let long = handles_long g.N.SetName g.met.N.SetName.each c.args.names.now in
+    changed s.number (g.N.SetName.handles_of c.args.names.now) (IsBack (used_for Going) (generations_of s) s.keep) c.loop-index.index (slots_of s) (slots_of c.loop-index.self) (omega arith) (back_only (generations_of s) s.keep (slots_of c.loop-index.self)) c.loop-index.invariant.some
+
+pub put_back-requires-clause-changed : goal.put_back-requires-clause-changed
+put_back-requires-clause-changed g c = (slots_of c.args.self.now, change g (goal.at.put_back-requires-clause-changed g c).At-loop-index c.loop-index-test.true)
 
 pub returns-then-not-holds-clause-once : goal.returns-then-not-holds-clause-once
 returns-then-not-holds-clause-once g c =
@@ -78,10 +78,10 @@ returns-then-not-holds-clause-once g c =
     (λ t. absurd (false≢true t), λ once. absurd (turned_no s.number (g.N.SetName.handles_of c.args.names.now) (IsBack (used_for Going) (generations_of s) s.keep) c.loop-index.index (slots_of s) (slots_of c.loop-index.self) inv.some c.handle-handle.result (within g d.After-handle-handle) (named g d.After-handle-handle) (sym (holds g d.After-holds) ∙ c.if-not-holds.true) once))
 
 pub returns-then-not-holds-clause-none : goal.returns-then-not-holds-clause-none
-returns-then-not-holds-clause-none g c = λ f. c.unsettle.ensures.slots c.args.self.now c.loop-index.invariant.settled
+returns-then-not-holds-clause-none g c = λ f. c.put_back.ensures.slots (slots_of c.args.self.now) (change g (goal.at.returns-then-not-holds-clause-none g c).At-loop-index c.loop-index-test.true)
 
 pub returns-then-not-holds-clause-stays : goal.returns-then-not-holds-clause-stays
-returns-then-not-holds-clause-stays g c = stays_more c.args.self.now c.loop-index.self c.unsettle.new.self c.loop-index.invariant.stays c.unsettle.ensures.stays
+returns-then-not-holds-clause-stays g c = stays_more c.args.self.now c.loop-index.self c.put_back.new.self c.loop-index.invariant.stays c.put_back.ensures.stays
 
 pub returns-clause-once : goal.returns-clause-once
 returns-clause-once g c =

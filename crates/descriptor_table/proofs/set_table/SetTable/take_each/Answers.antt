@@ -1,14 +1,15 @@
-use Rattle.std.proofs.Common.{◌≡◌, ◌<◌, ◌∙◌, get_or, length, refl, sym, subst, arith}
+use Rattle.std.proofs.Common.{◌≡◌, ◌<◌, ◌≤◌, ◌∙◌, get_or, inl, is_some, length, refl, sym, ap, subst, arith}
 use Rattle.std.proofs.lemmas.Bool.{false≢true}
 use Rattle.descriptor_table.specs.Sets.{is_held}
-use Rattle.descriptor_table.specs.Slots.{slot_at}
-use Rattle.descriptor_table.specs.Tables.{Becomes, TookEach, slots_of, used_for}
+use Rattle.descriptor_table.specs.Slots.{IsNowhere, Slot, slot_at}
+use Rattle.descriptor_table.specs.Tables.{Becomes, ChangeUse, is_held_use, place_at, slots_of, used_for}
 use Rattle.descriptor_table.specs.declared.handle.SetHandle.{SetHandle}
 use Rattle.descriptor_table.specs.declared.slot.Use.TheVariants.{Taken}
-use Rattle.descriptor_table.proofs.Holding.{TurnedSome, taken_not_held, took_each, turn_more, turned_all, turned_no, turned_none}
+use Rattle.descriptor_table.proofs.Chains.{and_true}
+use Rattle.descriptor_table.proofs.Holding.{TurnedSome, changed, taken_not_held, turn_more, turned_all, turned_no, turned_none}
 use Rattle.descriptor_table.proofs.Names.{handle_read, handles_long}
 use Rattle.descriptor_table.proofs.Turning.{stays_more, stays_same}
-use Rattle.descriptor_table.proofs.set_table.SetTable.take_each.Goals.{After-holds}
+use Rattle.descriptor_table.proofs.set_table.SetTable.take_each.Goals.{After-holds, At-loop-index}
 use Rattle.descriptor_table.proofs.set_table.SetTable.take_each.Goals as goal
 
 -- the handle of the name
@@ -38,16 +39,22 @@ loop-index-preserved g c =
           turn_more c.args.self.now.number (g.N.SetName.handles_of c.args.names.now) (Becomes (used_for Taken)) c.loop-index.index (slots_of c.args.self.now)
           now inv.some taken_not_held c.handle-handle.result (within g d)
           (named g d)
-          (sym (holds g d) ∙ c.if-not-holds.false) (used_for Taken (slot_at now c.handle-handle.result.place)) (slots_of c.assign.new.self) c.assign.ensures.changes.slots (λ o x is. is) refl;
-      stays = stays_more c.args.self.now c.loop-index.self c.assign.new.self inv.stays c.assign.ensures.changes.stays;
+          (sym (holds g d) ∙ c.if-not-holds.false) (used_for Taken (slot_at now c.handle-handle.result.place)) (slots_of c.assign.new.self) c.assign.ensures.slots (λ o x is. is) refl;
+      stays = stays_more c.args.self.now c.loop-index.self c.assign.new.self inv.stays c.assign.ensures.stays;
     }
 
-pub put_back-requires-clause-took : goal.put_back-requires-clause-took
-put_back-requires-clause-took g c =
-    let inv = c.loop-index.invariant in
+-- the sets of the names so far changed in their use alone
+change : (g : _) (c : At-loop-index g) → c.loop-index.index ≤ length (g.N.SetName.handles_of c.args.names.now) → ChangeUse (g.N.SetName.handles_of c.args.names.now) c.loop-index.index (slots_of c.args.self.now) (slots_of c.loop-index.self)
+change g c le =
+    changed c.args.self.now.number (g.N.SetName.handles_of c.args.names.now) (Becomes (used_for Taken)) c.loop-index.index (slots_of c.args.self.now) (slots_of c.loop-index.self) le
+    (λ o x held is. (is ∙ ap (λ u. used_for u o) (sym (ap (λ (s : Slot g.row.T.Denot). s.used) is)), inl (subst IsNowhere (sym (ap (λ (s : Slot g.row.T.Denot). s.used) is)) tt)))
+    c.loop-index.invariant.some
+
+pub put_back-requires-clause-changed : goal.put_back-requires-clause-changed
+put_back-requires-clause-changed g c =
     let lt = c.loop-index-test.true in
     let long = handles_long g.N.SetName g.met.N.SetName.each c.args.names.now in
-    (slots_of c.args.self.now, took_each c.args.self.now.number (g.N.SetName.handles_of c.args.names.now) c.loop-index.index (slots_of c.args.self.now) (slots_of c.loop-index.self) (omega arith) inv.some)
+    (slots_of c.args.self.now, change g (goal.at.put_back-requires-clause-changed g c).At-loop-index (omega arith))
 
 pub returns-then-not-holds-clause-once : goal.returns-then-not-holds-clause-once
 returns-then-not-holds-clause-once g c =
@@ -57,11 +64,9 @@ returns-then-not-holds-clause-once g c =
 
 pub returns-then-not-holds-clause-none : goal.returns-then-not-holds-clause-none
 returns-then-not-holds-clause-none g c = λ f.
-    let inv = c.loop-index.invariant in
     let lt = c.loop-index-test.true in
     let long = handles_long g.N.SetName g.met.N.SetName.each c.args.names.now in
-    let old = slots_of c.args.self.now in
-    c.put_back.ensures.slots old (took_each c.args.self.now.number (g.N.SetName.handles_of c.args.names.now) c.loop-index.index old (slots_of c.loop-index.self) (omega arith) inv.some)
+    c.put_back.ensures.slots (slots_of c.args.self.now) (change g (goal.at.returns-then-not-holds-clause-none g c).At-loop-index (omega arith))
 
 pub returns-clause-once : goal.returns-clause-once
 returns-clause-once g c =
@@ -73,12 +78,23 @@ returns-clause-once g c =
     let old = slots_of c.args.self.now in
     (λ t. turned_all c.args.self.now.number (g.N.SetName.handles_of c.args.names.now) (Becomes (used_for Taken)) old (slots_of c.loop-index.self) (subst (λ n. TurnedSome c.args.self.now.number (g.N.SetName.handles_of c.args.names.now) (Becomes (used_for Taken)) n old (slots_of c.loop-index.self)) same inv.some), λ o. refl)
 
+-- at the end all have turned
+all : (g : _) (c : At-loop-index g) → length c.args.names.now ≤ c.loop-index.index → c.loop-index.index ≡ length (g.N.SetName.handles_of c.args.names.now)
+all g c end = (let le = c.loop-index.auto.index-end in let long = handles_long g.N.SetName g.met.N.SetName.each c.args.names.now in omega arith)
+
 pub returns-clause-took : goal.returns-clause-took
 returns-clause-took g c = λ t.
-    let inv = c.loop-index.invariant in
-    let end = c.loop-index-test.false in
-    let le = c.loop-index.auto.index-end in
-    let long = handles_long g.N.SetName g.met.N.SetName.each c.args.names.now in
-    let same : c.loop-index.index ≡ length (g.N.SetName.handles_of c.args.names.now) = omega arith in
-    let old = slots_of c.args.self.now in
-    subst (λ n. TookEach (g.N.SetName.handles_of c.args.names.now) n old (slots_of c.loop-index.self)) same (took_each c.args.self.now.number (g.N.SetName.handles_of c.args.names.now) c.loop-index.index old (slots_of c.loop-index.self) (omega arith) inv.some)
+    let d = (goal.at.returns-clause-took g c).At-loop-index in
+    let same = all g d c.loop-index-test.false in
+    subst (λ n. ChangeUse (g.N.SetName.handles_of c.args.names.now) n (slots_of c.args.self.now) (slots_of c.loop-index.self)) same (change g d (omega arith))
+
+pub returns-clause-taken : goal.returns-clause-taken
+returns-clause-taken g c = λ t i lt.
+    let d = (goal.at.returns-clause-taken g c).At-loop-index in
+    let same = all g d c.loop-index-test.false in
+    let changed = change g d (omega arith) in
+    let within = changed.within i (omega arith) in
+    let long = changed.long in
+    let is = c.loop-index.invariant.some.named i (omega arith) in
+    let was = slot_at (slots_of c.args.self.now) (place_at (g.N.SetName.handles_of c.args.names.now) i) in
+    record { taken = record { within = omega arith; taken = ap (λ (s : Slot g.row.T.Denot). s.used) is }; full = ap (λ (s : Slot g.row.T.Denot). is_some s.set) is ∙ (and_true (is_held_use was.used) (is_some was.set) (changed.held i (omega arith))).1 }

@@ -15,7 +15,7 @@ pub unreachable-requires : goal.unreachable-requires
 unreachable-requires g c =
     let s = c.loop-self.self in
     let all = counted s c.args.list c.chain.result c.chain.ensures in
-    let none = none_count (is_in c.args.list) (slots_of s) c.in-None.ensures.picks.slots.none in
+    let none = none_count (is_in c.args.list) (slots_of s) c.in-None.ensures.slots.none in
     let more = c.loop-self-test.true in
     omega arith
 
@@ -26,7 +26,7 @@ returns-clause-few g c =
     omega arith
 
 pub loop-self-smaller : goal.loop-self-smaller
-loop-self-smaller g c = go_fewer (is_in c.args.list) (slots_of c.loop-self.self) (slots_of c.pick.new.self) (slots_of c.link.new.self) c.in-Some.place c.in-Some.ensures.picks.slots c.link.ensures.changes.slots (λ s. going_out c.args.list s c.requires.list)
+loop-self-smaller g c = go_fewer (is_in c.args.list) (slots_of c.loop-self.self) (slots_of c.pick.new.self) (slots_of c.link.new.self) c.in-Some.place c.in-Some.ensures.slots c.link.ensures.slots (λ s. going_out c.args.list s c.requires.list)
 
 pub loop-self-preserved : goal.loop-self-preserved
 loop-self-preserved g c =
@@ -37,12 +37,12 @@ loop-self-preserved g c =
     let mid = slots_of c.pick.new.self in
     let new = slots_of c.link.new.self in
     let p = c.in-Some.place in
-    let picks = c.in-Some.ensures.picks in
+    let picks = c.in-Some.ensures in
     let all = counted s k c.chain.result c.chain.ensures in
     let more = c.loop-self-test.true in
-    let one = go_less (is_in k) now mid new p picks.slots c.link.ensures.changes.slots (λ s. going_out k s c.requires.list) in
+    let one = go_less (is_in k) now mid new p picks.slots c.link.ensures.slots (λ s. going_out k s c.requires.list) in
     record {
-      turning = go_step (is_in k) now mid new p picks.slots c.link.ensures.changes.slots (λ s. going_out k s c.requires.list) (slots_of c.args.self.now) inv.turning;
+      turning = go_step (is_in k) now mid new p picks.slots c.link.ensures.slots (λ s. going_out k s c.requires.list) (slots_of c.args.self.now) inv.turning;
       enough = λ n le has. (let before = inv.enough n le has in omega arith);
-      stays = stays_more c.args.self.now c.pick.new.self c.link.new.self (stays_more c.args.self.now s c.pick.new.self inv.stays picks.stays) c.link.ensures.changes.stays;
+      stays = stays_more c.args.self.now c.pick.new.self c.link.new.self (stays_more c.args.self.now s c.pick.new.self inv.stays picks.stays) c.link.ensures.stays;
     }

@@ -1,0 +1,117 @@
+use Rattle.std.proofs.lemmas.Grind.{common_steps}
+use Rattle.std.proofs.Common.{◌≡◌, ◌≢◌, ◌∙◌, ◌+◌, ◌<◌, ℕ, Bool, true, inl, inr, is_some, length, List, refl, sym, ap, subst, arith}
+use Rattle.std.proofs.lemmas.List.{length-set}
+use Rattle.descriptor_table.specs.Slots.{Slot, chains_in, in_list, is_in, nexts_in, slot_at, slots_in}
+use Rattle.descriptor_table.specs.Tables.{Picks, count, is_kept, slots_of, used_for}
+use Rattle.descriptor_table.specs.declared.slot.Use.{Use}
+use Rattle.descriptor_table.specs.declared.slot.Use.TheVariants.{Taken}
+use Rattle.descriptor_table.proofs.Chains.{taken_no_list}
+use Rattle.descriptor_table.proofs.Counting.{same_or}
+use Rattle.descriptor_table.proofs.Counts.{bit, chain_count, count_set}
+use Rattle.descriptor_table.proofs.Holding.{all_same, used_same}
+use Rattle.descriptor_table.proofs.Listed.{other_slots, slot_set, test_within, with_use}
+use Rattle.descriptor_table.proofs.Turning.{stays_more}
+use Rattle.descriptor_table.proofs.set_table.SetTable.+unlink.Goals as goal
+
+-- two slots of one list of sets are in the same use
+one_use : {T : Type 0} (k : ℕ) (a b : Slot T) → k ≢ 0 → is_in k a ≡ true → is_in k b ≡ true → a.used ≡ b.used
+one_use k a b some e f = by_use a.used b.used a.layout b.layout a.generation b.generation (is_some a.set) (is_some b.set) e f
+  where
+    by_use : (u v : Use) (l m g h : ℕ) (x y : Bool) → in_list k u l g x ≡ true → in_list k v m h y ≡ true → u ≡ v
+    by_use u v l m g h x y e f = grind (arith, common_steps)
+
+-- `old` are the slots before, `mid` once the first was picked, `out` once the slot at the place left the list, `new` at the end
+module _ {T : Type 0} (k first place : ℕ) (used : Use) (old mid : List (Slot T)) (some : k ≢ 0) (picks : Picks (is_in k) first old mid) (ne : first ≢ place) (listed : is_in k (slot_at old place) ≡ true) (is : (slot_at old place).used ≡ used) where
+  as_was : slot_at mid place ≡ slot_at old place
+  as_was = ap (λ l. slot_at l place) picks.slots ∙ other_slots old first (used_for Taken (slot_at old first)) place (λ e. ne (sym e))
+
+  there : place < length mid
+  there = test_within (is_in k) mid place refl (ap (is_in k) as_was ∙ listed)
+
+  -- one slot of the list fewer
+  fewer : count (is_in k) mid + 1 ≡ count (is_in k) old
+  fewer =
+      let o = slot_at old first in
+      let a = count_set (is_in k) old first (used_for Taken o) picks.within in
+      let b = ap bit picks.was in
+      let d = ap bit (taken_no_list (used_for Taken o) refl k) in
+      let e = ap (count (is_in k)) picks.slots in
+      omega arith
+
+  module _ (out : List (Slot T)) (left : out ≡ with_use place Taken mid) where
+    -- and then another one
+    fewer_still : count (is_in k) out + 1 ≡ count (is_in k) mid
+    fewer_still =
+        let m = slot_at mid place in
+        let a = count_set (is_in k) mid place (used_for Taken m) there in
+        let b = ap bit (ap (is_in k) as_was ∙ listed) in
+        let d = ap bit (taken_no_list (used_for Taken m) refl k) in
+        let e = ap (count (is_in k)) left in
+        omega arith
+
+    -- the first slot with its use again is what it was
+    first_again : used_for used (slot_at out first) ≡ slot_at old first
+    first_again =
+        let o = slot_at old first in
+        ap (used_for used) (ap (λ l. slot_at l first) left ∙ other_slots mid place (used_for Taken (slot_at mid place)) first ne ∙ ap (λ l. slot_at l first) picks.slots ∙ slot_set old first (used_for Taken o) picks.within)
+        ∙ used_same o used (one_use k o (slot_at old place) some picks.was listed ∙ is)
+
+    long : length out ≡ length old
+    long = ap length left ∙ length-set mid place (used_for Taken (slot_at mid place)) ∙ ap length picks.slots ∙ length-set old first (used_for Taken (slot_at old first))
+
+    all_back : (new : List (Slot T)) → new ≡ with_use first used out → new ≡ with_use place Taken old
+    all_back new made = all_same new (with_use place Taken old) (ap length made ∙ length-set out first (used_for used (slot_at out first)) ∙ long ∙ sym (length-set old place (used_for Taken (slot_at old place)))) each
+      where
+        each : (q : ℕ) → slot_at new q ≡ slot_at (with_use place Taken old) q
+        each q = elim (same_or q first) [
+          | inl e ↦ subst (λ q. slot_at new q ≡ slot_at (with_use place Taken old) q) (sym e)
+              (ap (λ l. slot_at l first) made ∙ slot_set out first (used_for used (slot_at out first)) (let within = picks.within in let same = long in omega arith) ∙ first_again ∙ sym (other_slots old place (used_for Taken (slot_at old place)) first ne))
+          | inr far ↦ ap (λ l. slot_at l q) made ∙ other_slots out first (used_for used (slot_at out first)) q far ∙ ap (λ l. slot_at l q) left ∙ elim (same_or q place) [
+            | inl e ↦ subst (λ q. slot_at (with_use place Taken mid) q ≡ slot_at (with_use place Taken old) q) (sym e) (slot_set mid place (used_for Taken (slot_at mid place)) there ∙ ap (used_for Taken) as_was ∙ sym (slot_set old place (used_for Taken (slot_at old place)) (test_within (is_in k) old place refl listed)))
+            | inr apart ↦ other_slots mid place (used_for Taken (slot_at mid place)) q apart ∙ ap (λ l. slot_at l q) picks.slots ∙ other_slots old first (used_for Taken (slot_at old first)) q far ∙ sym (other_slots old place (used_for Taken (slot_at old place)) q apart)
+          ]
+        ]
+
+pub unlink-requires : goal.unlink-requires
+unlink-requires g t c κs within =
+    let old = slots_of c.args.self.now in
+    let mid = slots_of c.pick.new.self in
+    let picks = c.in-Some.ensures.slots in
+    let same = as_was c.args.list c.in-Some.first c.args.place c.args.used old mid c.requires.list picks c.if-first-place.false c.requires.listed c.requires.used in
+    (omega (arith, fewer c.args.list c.in-Some.first c.args.place c.args.used old mid c.requires.list picks c.if-first-place.false c.requires.listed c.requires.used), (within, (c.requires.list, (ap (is_in c.args.list) same ∙ c.requires.listed, ap (λ s. s.used) same ∙ c.requires.used))))
+
+pub link-requires-clause-current : goal.link-requires-clause-current
+link-requires-clause-current g t c = λ kept.
+    let s = c.args.self.now in
+    let first = c.in-Some.first in
+    let picks = c.in-Some.ensures in
+    let again = first_again c.args.list first c.args.place c.args.used (slots_of s) (slots_of c.pick.new.self) c.requires.list picks.slots c.if-first-place.false c.requires.listed c.requires.used (slots_of c.unlink.new.self) c.unlink.ensures.slots in
+    let o = slot_at (slots_of s) first in
+    let same = c.unlink.ensures.stays.settings.generations ∙ picks.stays.settings.generations in
+    let was = (s.sound.known first picks.slots.within).kept (ap is_kept (sym again) ∙ kept) in
+    ap (λ s. s.layout_generation) again ∙ was ∙ (λ i. (sym same i) (sym again i).layout)
+
+pub link-requires-clause-few : goal.link-requires-clause-few
+link-requires-clause-few g t c = λ two.
+    let s = c.args.self.now in
+    let k = c.args.list in
+    let first = c.in-Some.first in
+    let picks = c.in-Some.ensures in
+    let new = c.unlink.new.self in
+    let one = fewer k first c.args.place c.args.used (slots_of s) (slots_of c.pick.new.self) c.requires.list picks.slots c.if-first-place.false c.requires.listed c.requires.used in
+    let other = fewer_still k first c.args.place c.args.used (slots_of s) (slots_of c.pick.new.self) c.requires.list picks.slots c.if-first-place.false c.requires.listed c.requires.used (slots_of new) c.unlink.ensures.slots in
+    let few = s.sound.few k two in
+    let was = chain_count (slots_in s.slots) (nexts_in s.slots) (chains_in s.lists.items) s.sound.linked k in
+    let is = chain_count (slots_in new.slots) (nexts_in new.slots) (chains_in new.lists.items) new.sound.linked k in
+    let keep = c.unlink.ensures.stays.settings.keep ∙ picks.stays.settings.keep in
+    omega arith
+
+pub returns : goal.returns
+returns g t c =
+    let s = c.args.self.now in
+    let first = c.in-Some.first in
+    let picks = c.in-Some.ensures in
+    record {
+      slots = all_back c.args.list first c.args.place c.args.used (slots_of s) (slots_of c.pick.new.self) c.requires.list picks.slots c.if-first-place.false c.requires.listed c.requires.used (slots_of c.unlink.new.self) c.unlink.ensures.slots (slots_of c.link.new.self) c.link.ensures.slots;
+      stays = stays_more s c.unlink.new.self c.link.new.self (stays_more s c.pick.new.self c.unlink.new.self picks.stays c.unlink.ensures.stays) c.link.ensures.stays;
+    }
