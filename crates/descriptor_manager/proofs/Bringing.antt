@@ -23,22 +23,18 @@ none_left_of old new c layout = none_count (is_kept_of layout) new (λ p. by_tes
     by_test p true e = absurd (true≢false (sym (kept_as layout (slot_at new p) e).2 ∙ count_none is_kept new refl (none_left old new c) p))
 
 module _ {L P S D : Type 0} {d : Ghosts D L P S} where
-  -- kept sets may have gone, and at most so many of the layout, which has this number, are on their way: so many besides those that are kept
+  -- kept sets may have gone, and sets of the layout are on their way: fewer than were requested, if some are kept
   pub record Brings (layout : L) (number many : ℕ) (old new : Store L P S D d) : Type 0 where
-    pub cleared : (slots_in new ≡ slots_in old) ⊎ ((0 < count is_kept (slots_in old)) × AreCleaned (slots_in old) (slots_in new))
     pub clear : (q : ℕ) → Clears (slot_at (slots_in old) q) (slot_at (slots_in new) q)
     pub long : length (slots_in new) ≡ length (slots_in old)
-    pub few : length (coming_in new) ≤ many
     pub besides : (i : ℕ) → i < many → i < kept_of number new → i + length (coming_in new) < many
     pub own : AreOfLayout d.meaning layout (coming_in new)
 
   module _ (layout : L) (number first many : ℕ) (old mid new : Store L P S D d) (clear : (q : ℕ) → Clears (slot_at (slots_in old) q) (slot_at (slots_in mid) q)) (long : length (slots_in mid) ≡ length (slots_in old)) where
-    asked : ((slots_in mid ≡ slots_in old) ⊎ ((0 < count is_kept (slots_in old)) × AreCleaned (slots_in old) (slots_in mid))) → first ≤ many → ((i : ℕ) → i < many → i < kept_of number mid → i + first < many) → Asks layout first mid new → Brings layout number many old new
-    asked cleared le besides asks = record {
-      cleared = subst (λ l. (l ≡ slots_in old) ⊎ ((0 < count is_kept (slots_in old)) × AreCleaned (slots_in old) l)) (sym asks.slots) cleared;
+    asked : ((i : ℕ) → i < many → i < kept_of number mid → i + first < many) → Asks layout first mid new → Brings layout number many old new
+    asked besides asks = record {
       clear = λ q. subst (λ l. Clears (slot_at (slots_in old) q) (slot_at l q)) (sym asks.slots) (clear q);
       long = ap length asks.slots ∙ long;
-      few = (let n = asks.hands_out.many in omega arith);
       besides = λ i lt some. (let n = asks.hands_out.many in let same = ap (count (is_kept_of number)) asks.slots in let less = besides i lt (omega arith) in omega arith);
       own = asks.own;
     }
@@ -46,10 +42,10 @@ module _ {L P S D : Type 0} {d : Ghosts D L P S} where
   -- what `Store::bring` leaves
   pub brought : (layout : L) (number many : ℕ) (old new : Store L P S D d) → kept_of number old < many → AsksAtLast layout (many - kept_of number old) many old new → Brings layout number many old new
   brought layout number many old new few asks = elim asks [
-    | inl at_once ↦ asked layout number (many - kept_of number old) many old old new (λ q. same_clears (slot_at (slots_in old) q) (slot_at (slots_in old) q) refl) refl (inl refl) (omega arith) (λ i lt some. omega arith) at_once
+    | inl at_once ↦ asked layout number (many - kept_of number old) many old old new (λ q. same_clears (slot_at (slots_in old) q) (slot_at (slots_in old) q) refl) refl (λ i lt some. omega arith) at_once
     | inr later ↦
         let cleaned = cleared_of layout (many - kept_of number old) many old later.0 later.1 in
         let long = cleared_long layout (many - kept_of number old) many old later.0 later.1 in
         let none = none_left_of (slots_in old) (slots_in later.0) cleaned number in
-        asked layout number many many old later.0 new (clears (slots_in old) (slots_in later.0) cleaned) long (inr (later.1.some, cleaned)) (omega arith) (λ i lt some. absurd (omega arith)) later.2
+        asked layout number many many old later.0 new (clears (slots_in old) (slots_in later.0) cleaned) long (λ i lt some. absurd (omega arith)) later.2
   ]

@@ -30,17 +30,18 @@ module _ {T : Type 0} where
   pub cleaned : (old a b new : List (Slot T)) → ArePlaced old → AreAged old a → Turns is_kept (MayBecome (used_for Going)) a b → ((layout : ℕ) → count (is_in (layout + 2)) b ≤ 0) → Turns goes (Becomes vacated) b new → AreCleaned old new
   cleaned old a b new placed aged_all trims few gives = record {
     long = gives.long ∙ trims.long ∙ aged_all.long;
-    each = λ p lt. by_test p lt (is_kept (slot_at old p)) refl;
+    rest = λ p no. absurd (true≢false no);
+    here = λ p yes. by_test p (is_kept (slot_at old p)) refl;
   }
     where
       -- a slot whose set isn't kept is aged; a kept one is aged, goes, and is returned
-      by_test : (p : ℕ) → p < length old → (c : Bool) → is_kept (slot_at old p) ≡ c → slot_at new p ≡ (if is_kept (slot_at old p) then vacated (aged (slot_at old p)) else aged (slot_at old p))
-      by_test p lt false e =
+      by_test : (p : ℕ) → (c : Bool) → is_kept (slot_at old p) ≡ c → slot_at new p ≡ (if is_kept (slot_at old p) then vacated (aged (slot_at old p)) else aged (slot_at old p))
+      by_test p false e =
           let here = aged_all.here p refl in
           let same : slot_at b p ≡ slot_at a p = trims.rest p (ap is_kept here ∙ e) in
           let stays : slot_at new p ≡ slot_at b p = gives.rest p (ap goes (same ∙ here) ∙ none_goes old placed p) in
           stays ∙ same ∙ here ∙ sym (ap (λ c. if c then vacated (aged (slot_at old p)) else aged (slot_at old p)) e)
-      by_test p lt true e =
+      by_test p true e =
           let here = aged_all.here p refl in
           let kept : is_kept (slot_at a p) ≡ true = ap is_kept here ∙ e in
           let leaves : slot_at b p ≡ used_for Going (slot_at a p) = elim (trims.here p kept) [
@@ -53,10 +54,7 @@ module _ {T : Type 0} where
 
   -- and so each slot follows what it was
   pub follow_cleaned : (old new : List (Slot T)) → AreCleaned old new → (p : ℕ) → Follows (slot_at old p) (slot_at new p)
-  follow_cleaned old new c p = elim (below_or p (length old)) [
-    | inl lt ↦ by_test (is_kept (slot_at old p)) refl (c.each p lt)
-    | inr le ↦ (let long = c.long in follows_same (slot_at old p) (slot_at new p) (past_end new p (omega arith) ∙ sym (past_end old p le)))
-  ]
+  follow_cleaned old new c p = by_test (is_kept (slot_at old p)) refl (c.here p refl)
     where
       by_test : (b : Bool) → is_kept (slot_at old p) ≡ b → slot_at new p ≡ (if is_kept (slot_at old p) then vacated (aged (slot_at old p)) else aged (slot_at old p)) → Follows (slot_at old p) (slot_at new p)
       by_test true e is =

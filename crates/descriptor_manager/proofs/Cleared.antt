@@ -38,17 +38,11 @@ module _ {T : Type 0} where
   }
 
   pub clears : (old new : List (Slot T)) → AreCleaned old new → (p : ℕ) → Clears (slot_at old p) (slot_at new p)
-  clears old new c p = elim (below_or p (length old)) [
-    | inl lt ↦ cleared_as (slot_at old p) (slot_at new p) (is_kept (slot_at old p)) refl (c.each p lt)
-    | inr le ↦ (let long = c.long in same_clears (slot_at old p) (slot_at new p) (past_end new p (omega arith) ∙ sym (past_end old p le)))
-  ]
+  clears old new c p = cleared_as (slot_at old p) (slot_at new p) (is_kept (slot_at old p)) refl (c.here p refl)
 
   -- no set is kept then
   pub none_left : (old new : List (Slot T)) → AreCleaned old new → count is_kept new ≡ 0
-  none_left old new c = none_count is_kept new (λ p. elim (below_or p (length old)) [
-    | inl lt ↦ ap is_kept (c.each p lt) ∙ by_test (slot_at old p) (is_kept (slot_at old p)) refl
-    | inr le ↦ (let long = c.long in ap is_kept (past_end new p (omega arith)))
-  ])
+  none_left old new c = none_count is_kept new (λ p. ap is_kept (c.here p refl) ∙ by_test (slot_at old p) (is_kept (slot_at old p)) refl)
     where
       vacant_out : (s : Slot T) → is_kept (vacated s) ≡ false
       vacant_out s = ap (λ b. b && (nat_lt s.generation 4294967295 && true)) (ne_eqb (s.layout + 2) 0 (λ e. omega arith))

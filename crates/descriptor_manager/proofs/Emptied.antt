@@ -37,17 +37,6 @@ empty_kept s e = by_kept (is_kept s) refl
     by_kept : (b : Bool) → is_kept s ≡ b → b ≡ false
     by_kept x0 k = grind (arith, common_steps)
 
--- a slot has no set, and is as it was, or it had one, which left
-abbrev HasLeft : {T : Type 0} → Slot T → Slot T → Type 0
-HasLeft o n = ((n ≡ o) × (o.set ≡ None)) ⊎ ((n ≡ vacated o) × (is_some o.set ≡ true))
-
--- no set is left, no handle is given again, and a slot that had a set is vacant
-pub record IsEmptied {T : Type 0} (o n : Slot T) : Type 0 where
-  pub none : n.set ≡ None
-  pub given : n.generation ≡ o.generation
-  pub vacant : n.used ≡ (if is_some o.set then Vacant else o.used)
-  pub follows : Follows o n
-
 module _ {T : Type 0} (a b c d new : List (Slot T)) (placed : ArePlaced a) (wait : Turns waits (Becomes (used_for Going)) a b)
     (leave : Turns holds (Becomes (used_for Going)) b c) (trims : Turns is_kept (MayBecome (used_for Going)) c d)
     (few : (layout : ℕ) → count (is_in (layout + 2)) d ≤ 0) (gives : Turns goes (Becomes vacated) d new) where
@@ -92,38 +81,45 @@ module _ {T : Type 0} (a b c d new : List (Slot T)) (placed : ArePlaced a) (wait
       given p s (kept_full s e) three
 
   -- so each set of a store at rest left its slot
-  all_leave : (p : ℕ) → HasLeft (slot_at a p) (slot_at new p)
-  all_leave p = by_full (is_some (slot_at a p).set) refl
-    where
-      s : Slot T
-      s = slot_at a p
-
-      by_full : (full : Bool) → is_some s.set ≡ full → HasLeft s (slot_at new p)
-      by_full false e = inl (empty_stays p e, empty_none s.set e)
-      by_full true full = elim (placed_or (is_some s.set) (holds s) (waits s) (is_kept s) (placed p)) [
-        | inl empty ↦ absurd (true≢false (sym full ∙ empty))
-        | inr one ↦ elim one [
-          | inl held ↦ inr (held_leaves p held full, full)
-          | inr two ↦ elim two [
-            | inl waiting ↦ inr (waiting_leaves p waiting full, full)
-            | inr kept ↦ inr (kept_leaves p kept, full)
-          ]
+  pub all_leave : Turns (λ s. is_some s.set) (Becomes vacated) a new
+  all_leave = record {
+    long = gives.long ∙ trims.long ∙ leave.long ∙ wait.long;
+    rest = empty_stays;
+    here = λ p full. elim (placed_or (is_some (slot_at a p).set) (holds (slot_at a p)) (waits (slot_at a p)) (is_kept (slot_at a p)) (placed p)) [
+      | inl empty ↦ absurd (true≢false (sym full ∙ empty))
+      | inr one ↦ elim one [
+        | inl held ↦ held_leaves p held full
+        | inr two ↦ elim two [
+          | inl waiting ↦ waiting_leaves p waiting full
+          | inr kept ↦ kept_leaves p kept
         ]
       ]
+    ];
+  }
 
-  -- no place has a set then
-  pub emptied : (p : ℕ) → IsEmptied (slot_at a p) (slot_at new p)
-  emptied p = elim (all_leave p) [
-    | inl same ↦ record {
-      none = ap (λ (s : Slot T). s.set) same.0 ∙ same.1;
-      given = ap (λ (s : Slot T). s.generation) same.0;
-      vacant = ap (λ (s : Slot T). s.used) same.0 ∙ sym (ap (λ x. if is_some x then Vacant else (slot_at a p).used) same.1);
-      follows = follows_same (slot_at a p) (slot_at new p) same.0;
-    }
-    | inr gone ↦ record {
-      none = ap (λ (s : Slot T). s.set) gone.0;
-      given = ap (λ (s : Slot T). s.generation) gone.0;
-      vacant = ap (λ (s : Slot T). s.used) gone.0 ∙ sym (ap (λ b. if b then Vacant else (slot_at a p).used) gone.1);
-      follows = follows_vacated (slot_at a p) (slot_at new p) gone.0;
-    }
+-- no slot has a set then, and each has its generation
+module _ {T : Type 0} (old new : List (Slot T)) (left : Turns (λ s. is_some s.set) (Becomes vacated) old new) (p : ℕ) where
+  stays_or : ((slot_at new p ≡ slot_at old p) × ((slot_at old p).set ≡ None)) ⊎ (slot_at new p ≡ vacated (slot_at old p))
+  stays_or = by_full (is_some (slot_at old p).set) refl
+    where
+      by_full : (full : Bool) → is_some (slot_at old p).set ≡ full → ((slot_at new p ≡ slot_at old p) × ((slot_at old p).set ≡ None)) ⊎ (slot_at new p ≡ vacated (slot_at old p))
+      by_full false e = inl (left.rest p e, empty_none (slot_at old p).set e)
+      by_full true e = inr (left.here p e)
+
+  pub left_none : (slot_at new p).set ≡ None
+  left_none = elim stays_or [
+    | inl same ↦ ap (λ (s : Slot T). s.set) same.0 ∙ same.1
+    | inr gone ↦ ap (λ (s : Slot T). s.set) gone
+  ]
+
+  pub left_generation : (slot_at new p).generation ≡ (slot_at old p).generation
+  left_generation = elim stays_or [
+    | inl same ↦ ap (λ (s : Slot T). s.generation) same.0
+    | inr gone ↦ ap (λ (s : Slot T). s.generation) gone
+  ]
+
+  pub left_follows : Follows (slot_at old p) (slot_at new p)
+  left_follows = elim stays_or [
+    | inl same ↦ follows_same (slot_at old p) (slot_at new p) same.0
+    | inr gone ↦ follows_vacated (slot_at old p) (slot_at new p) gone
   ]

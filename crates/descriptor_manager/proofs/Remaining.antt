@@ -19,11 +19,7 @@ module _ {T : Type 0} where
 
   -- with none held, and none that waits, no set is left
   pub cleaned_empty : (old new : List (Slot T)) → ((p : ℕ) → is_placed (slot_at old p) ≡ true) → AreCleaned old new → count holds old ≡ 0 → count waits old ≡ 0 → length (sets_in new) ≡ 0
-  cleaned_empty old new placed cleaned held waiting = ap length (no_sets new (λ p within. (
-      let long = cleaned.long in
-      let inside : p < length old = omega arith in
-      ap (λ (s : Slot T). s.set) (cleaned.each p inside) ∙ by_kept (slot_at old p) (is_kept (slot_at old p)) (slot_at old p).set refl refl (placed p) (count_none holds old refl held p) (count_none waits old refl waiting p)
-      )))
+  cleaned_empty old new placed cleaned held waiting = ap length (no_sets new (λ p within. ap (λ (s : Slot T). s.set) (cleaned.here p refl) ∙ by_kept (slot_at old p) (is_kept (slot_at old p)) (slot_at old p).set refl refl (placed p) (count_none holds old refl held p) (count_none waits old refl waiting p)))
     where
       by_kept : (o : Slot T) (b : Bool) (x : Option T) → is_kept o ≡ b → o.set ≡ x → is_placed o ≡ true → holds o ≡ false → waits o ≡ false → (if b then vacated (aged o) else aged o).set ≡ None
       by_kept o x1 x e is at h w = grind (arith, common_steps)

@@ -62,10 +62,7 @@ module _ {T : Type 0} (frame : ℕ) (opened : Bool) where
   ]))
 
   pub cleaned_names : (number : ℕ) (old new : List (Slot T)) → AreCleaned old new → sets_of number frame opened new ≡ sets_of number frame opened old
-  cleaned_names number old new cleaned = names_kept number frame opened old new (λ p. elim (below_or p (length old)) [
-    | inl within ↦ by_kept (slot_at old p) (slot_at new p) (is_kept (slot_at old p)) refl (cleaned.each p within)
-    | inr past ↦ same_shown (slot_at old p) (slot_at new p) (get_or_past new p _ (let long = cleaned.long in omega arith) ∙ sym (get_or_past old p _ past))
-  ])
+  cleaned_names number old new cleaned = names_kept number frame opened old new (λ p. by_kept (slot_at old p) (slot_at new p) (is_kept (slot_at old p)) refl (cleaned.here p refl))
     where
       by_kept : (o n : Slot T) (b : Bool) → is_kept o ≡ b → n ≡ (if is_kept o then vacated (aged o) else aged o) → ShowsSame frame opened o n
       by_kept o n true e is =

@@ -21,11 +21,10 @@ use Rattle.gpu_descriptor.specs.declared.layout.SetLayout.{SetLayout}
 use Rattle.gpu_descriptor.specs.declared.set.DescriptorSet.{DescriptorSet}
 use Rattle.descriptor_table.specs.Sets.{NameEach, sets_in, sets_of}
 use Rattle.descriptor_table.specs.Slots.{filled, is_kept_of, is_live, slot_at, waits}
-use Rattle.descriptor_table.specs.Tables.{Becomes, Grows, HasRoom, IsBack, MayBecome, TurnEach, Turns, aged, came_under, count, current, generations_of, holds, is_kept, is_usable, lists_of, place_at, removed_at, renewed, slots_of, vacated}
+use Rattle.descriptor_table.specs.Tables.{Becomes, Grows, HasRoom, IsBack, Turns, aged, came_under, count, current, generations_of, holds, is_kept, is_usable, lists_of, place_at, removed_at, renewed, slots_of, vacated}
 use Rattle.descriptor_table.specs.declared.handle.SetHandle.{SetHandle}
 use Rattle.descriptor_table.specs.Slots.{Slot}
 use Rattle.descriptor_table.specs.declared.slot.Use.{Use}
-use Rattle.descriptor_table.specs.declared.slot.Use.TheVariants.{Vacant}
 use Rattle.descriptor_manager.specs.declared.store.Store.{Store}
 
 -- whether a slot has no set, or a set that is held, that waits for a frame, or that is kept
@@ -33,9 +32,8 @@ abbrev pub is_placed : {T : Type 0} → Slot T → Bool
 is_placed s = not (is_some s.set) || (holds s || (waits s || is_kept s))
 
 -- all kept sets left their slots, and no set that is left is kept once it is freed
-pub record AreCleaned {T : Type 0} (old new : List (Slot T)) : Type 0 where
-  pub long : length new ≡ length old
-  pub each : (p : ℕ) → p < length old → slot_at new p ≡ (if is_kept (slot_at old p) then vacated (aged (slot_at old p)) else aged (slot_at old p))
+abbrev pub AreCleaned : {T : Type 0} → List (Slot T) → List (Slot T) → Type 0
+AreCleaned {T} = Turns (λ s. true) (Becomes (λ (s : Slot T). if is_kept s then vacated (aged s) else aged s))
 
 -- a kept set of the layout, or one that came under it into a vacant slot, is in this use, under the next handle of the slot
 abbrev pub ComesInto : {T : Type 0} → ℕ × ℕ → Use → Slot T → Slot T → Type 0
@@ -185,13 +183,6 @@ module _ {L P S D : Type 0} {d : Ghosts D L P S} where
     pub layout : HasLayout number s
     pub rest : IsAtRest s
 
-  -- the sets that pass the test left their slots, and one free_from returned them to their pools, if there were any
-  pub record GivesBack (test : Slot (DescriptorSet S) → Bool) (old new : StoreOver d) : Type 0 where
-    pub back : GaveBack d.meaning (side_of old) (side_of new)
-    pub turns : Turns test (Becomes vacated) (slots_in old) (slots_in new)
-    pub keeps : Keeps d.meaning (side_of old) (side_of new)
-    pub stays : KeepsComing old new
-
   -- sets returned to their pools, and then all empty pools were destroyed
   pub record Cleans (old new : StoreOver d) : Type 0 where
     pub sets : List (DescriptorSet S)
@@ -247,10 +238,14 @@ module _ {L P S D : Type 0} {d : Ghosts D L P S} where
   abbrev pub AsksAtLast : L → ℕ → ℕ → StoreOver d → StoreOver d → Type 0
   AsksAtLast known first last old new = Asks known first old new ⊎ ((mid : StoreOver d) × IsCleared known first last old mid × Asks known last mid new)
 
-  -- the sets that pass the test were freed: each is kept, or left its slot. One free_from returned those that aren't kept to their pools, if there were any
-  pub record ComeBack (test : Slot (DescriptorSet S) → Bool) (old new : StoreOver d) : Type 0 where
-    pub turns : Turns test (IsBack vacated (generations_in old) (keep_of old)) (slots_in old) (slots_in new)
+  -- the slots became what the relation says, and one free_from returned sets to their pools, if there were any
+  pub record FreesSets (becomes : List (Slot (DescriptorSet S)) → List (Slot (DescriptorSet S)) → Type 0) (old new : StoreOver d) : Type 0 where
+    pub turns : becomes (slots_in old) (slots_in new)
     pub back : GaveBack d.meaning (side_of old) (side_of new)
+
+  -- a set that is freed is kept, or left its slot
+  abbrev pub IsFreed : StoreOver d → List (Slot (DescriptorSet S)) → Slot (DescriptorSet S) → Slot (DescriptorSet S) → Type 0
+  IsFreed s = IsBack vacated (generations_in s) (keep_of s)
 
   -- one free_from returned the kept sets of the layout to their pools, if there were any, and all other slots are as they were. Then the empty pools of its key were destroyed
   pub record Removes (known : L) (layout : ℕ) (old new : StoreOver d) : Type 0 where
@@ -263,25 +258,6 @@ module _ {L P S D : Type 0} {d : Ghosts D L P S} where
     -- the sets that were there are the returned ones and those that are left
     pub gave : (t : Item) → count_of t (items_of d.meaning.set_name (sets_in (slots_in old))) ≡ count_of t (items_of d.meaning.set_name back.sets) + count_of t (items_of d.meaning.set_name (sets_in (slots_in new)))
     pub trims : TrimsKey d.meaning (layout_key d.meaning known) mid (side_of new)
-
-  -- the sets of the handles were freed: each is kept, or left its slot. One free_from returned those that aren't kept to their pools, if there were any
-  pub record FreesEach (handles : List SetHandle) (old new : StoreOver d) : Type 0 where
-    pub turns : TurnEach handles (IsBack vacated (generations_in old) (keep_of old)) (slots_in old) (slots_in new)
-    pub back : GaveBack d.meaning (side_of old) (side_of new)
-
-  -- one free_from returned kept sets to their pools, if there were any, and all else is as it was
-  pub record Trims (old new : StoreOver d) : Type 0 where
-    pub turns : Turns is_kept (MayBecome vacated) (slots_in old) (slots_in new)
-    pub back : GaveBack d.meaning (side_of old) (side_of new)
-
-  -- one free_from returned all sets to their pools, if there were any, and no handle is given again
-  pub record FreesAll (old new : StoreOver d) : Type 0 where
-    pub long : length (slots_in new) ≡ length (slots_in old)
-    pub none : (p : ℕ) → (slot_at (slots_in new) p).set ≡ None
-    pub given : (p : ℕ) → (slot_at (slots_in new) p).generation ≡ (slot_at (slots_in old) p).generation
-    -- each slot that had a set is vacant, and each other is in the use that it was in
-    pub vacant : (p : ℕ) → (slot_at (slots_in new) p).used ≡ (if is_some (slot_at (slots_in old) p).set then Vacant else (slot_at (slots_in old) p).used)
-    pub back : GaveBack d.meaning (side_of old) (side_of new)
 
   -- `many` sets of the layout are in this use under the handles: kept ones first, and then new ones from the allocator
   pub record Takes (known : L) (layout many : ℕ) (u : Use) (handles : List SetHandle) (old new : StoreOver d) : Type 0 where

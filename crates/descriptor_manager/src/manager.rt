@@ -5,10 +5,11 @@ ghost use Rattle.std.specs.Option.{option_copied};
 ghost use Rattle.gpu_descriptor.specs.Caller.CleansUp.{Sweeps};
 ghost use Rattle.gpu_descriptor.specs.Caller.SetLayouts.{IsMeant};
 ghost use Rattle.descriptor_table.specs.Slots.{is_kept_of, waits};
-ghost use Rattle.descriptor_table.specs.Tables.{Grows, KeepsUpTo, count, holds, is_kept};
+ghost use Rattle.descriptor_table.specs.Tables.{Grows, KeepsUpTo, MayBecome, Turns, count, holds, is_kept};
+ghost use Rattle.descriptor_table.specs.Tables.{vacated};
 ghost use Rattle.descriptor_manager.specs.LayoutRegistries.{layout_slots, registry_of};
 ghost use Rattle.descriptor_manager.specs.Own.{HasSetsOf};
-ghost use Rattle.descriptor_manager.specs.Stores.{AreCleaned, Cleans, Removes, Trims};
+ghost use Rattle.descriptor_manager.specs.Stores.{AreCleaned, Cleans, FreesSets, Removes};
 
 mod frames;
 mod pools;
@@ -200,7 +201,8 @@ impl<L: Drop, P: Drop, S: Drop, D: DescriptorDevice<L, P, S>> SetManager<L, P, S
         ensures as_many { (layout : LayoutHandle) → KeepsUpTo max (is_kept_of layout.slot.place)
             (slots_of self.old) (slots_of self.new) }
         ensures names { sets_by self.new ≡ sets_by self.old }
-        ensures trims { Trims (store_of self.old) (store_of self.new) }
+        ensures trims { FreesSets (Turns is_kept (MayBecome vacated)) (store_of self.old)
+            (store_of self.new) }
         ensures rest { seen self.new ≡ record (seen self.old)
             { slots = slots_of self.new; keep = max; side = side_of self.new } }
     {

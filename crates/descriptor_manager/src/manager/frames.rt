@@ -3,7 +3,8 @@ ghost use Rattle.std.specs.Prelude.{◌≡◌, ℕ, ◌+◌, ◌<◌, ◌^◌, �
 ghost use Rattle.std.specs.Prelude.{IfErr, IfOk, IfSome, IsErrOf, IsOk, IsSome, None, OnErr, OnOk};
 ghost use Rattle.std.specs.Prelude.{false, true};
 ghost use Rattle.descriptor_table.specs.Slots.{is_due, slot_at};
-ghost use Rattle.descriptor_manager.specs.Stores.{ComeBack, IsRefusedAtLast, Takes};
+ghost use Rattle.descriptor_manager.specs.Stores.{FreesSets, IsFreed, IsRefusedAtLast, Takes};
+ghost use Rattle.descriptor_table.specs.Tables.{Turns};
 
 use super::SetManager;
 use crate::errors::{BeginFrameError, RequestError};
@@ -109,8 +110,8 @@ impl<L: Drop, P: Drop, S: Drop, D: DescriptorDevice<L, P, S>> SetManager<L, P, S
     /// wait for these frames are kept, or return to their pools. Whenever the oldest pools of a returned
     /// set's key have no sets left, they are destroyed, except the key's last pool.
     pub fn frame_done(&mut self, frame: u64)
-        ensures back { ComeBack (is_due (done_of frame self.old)) (store_of self.old)
-            (store_of self.new) }
+        ensures back { FreesSets (Turns (is_due (done_of frame self.old))
+            (IsFreed (store_of self.old))) (store_of self.old) (store_of self.new) }
         ensures none_due { (p : ℕ) → is_due (done_of frame self.old) (slot_at (slots_of self.new) p)
             ≡ false }
         ensures names { sets_by self.new ≡ sets_by self.old }

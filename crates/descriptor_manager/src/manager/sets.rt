@@ -1,12 +1,13 @@
 //! Sets that are held until they are freed.
 ghost use Rattle.std.specs.Prelude.{◌≡◌, ◌-◌, ◌<◌, ◌≤◌, ◌⊎◌, [], ◌∷◌, length};
 ghost use Rattle.std.specs.Prelude.{IfErr, IfOk, IfSome, IsErrOf, IsSome, None, OnErr, OnOk, false, true};
-ghost use Rattle.std.specs.Prelude.{IsOk, option_map};
+ghost use Rattle.std.specs.Prelude.{IsOk, is_some, option_map};
 ghost use Rattle.std.specs.Option.{option_copied};
 ghost use Rattle.gpu_descriptor.specs.Caller.Sets.{raw_of};
 ghost use Rattle.descriptor_table.specs.Sets.{AreHeldOnce, LoseNames};
 ghost use Rattle.descriptor_table.specs.Slots.{is_live};
-ghost use Rattle.descriptor_manager.specs.Stores.{FreesAll, FreesEach, IsRefusedAtLast, Takes};
+ghost use Rattle.descriptor_manager.specs.Stores.{FreesSets, IsFreed, IsRefusedAtLast, Takes};
+ghost use Rattle.descriptor_table.specs.Tables.{Becomes, TurnEach, Turns, vacated};
 
 use super::SetManager;
 use crate::errors::{FreeError, RequestError};
@@ -128,8 +129,8 @@ impl<L: Drop, P: Drop, S: Drop, D: DescriptorDevice<L, P, S>> SetManager<L, P, S
     /// It fails with `NoSet` if a handle isn't that of a held set, or is in the list twice. Then nothing
     /// changes.
     pub fn free<N: SetName<DescriptorSet<S>>>(&mut self, sets: &[N]) -> Result<(), FreeError>
-        ensures frees { OnOk result (FreesEach (N.handles_of sets.now) (store_of self.old)
-            (store_of self.new)) }
+        ensures frees { OnOk result (FreesSets (TurnEach (N.handles_of sets.now)
+            (IsFreed (store_of self.old))) (store_of self.old) (store_of self.new)) }
         ensures names { OnOk result (LoseNames (N.handles_of sets.now) (sets_by self.old)
             (sets_by self.new)) }
         ensures once { OnOk result (AreHeldOnce (number_of self.old) (slots_of self.old)
@@ -171,7 +172,8 @@ impl<L: Drop, P: Drop, S: Drop, D: DescriptorDevice<L, P, S>> SetManager<L, P, S
     /// that are kept, and those of the open frame, which is ended. It allocates no memory. The device
     /// must be done with the work that uses the sets.
     pub fn free_all(&mut self)
-        ensures frees { FreesAll (store_of self.old) (store_of self.new) }
+        ensures frees { FreesSets (Turns (λ slot. is_some slot.set) (Becomes vacated))
+            (store_of self.old) (store_of self.new) }
         ensures gone { (handle : SetHandle) → (sets_by self.new).set handle ≡ None }
         ensures given { (handle : SetHandle) → (sets_by self.new).given handle
             ≡ (sets_by self.old).given handle }

@@ -1,6 +1,7 @@
 //! Sets that are freed: each is kept, or returns to its pool.
-ghost use Rattle.std.specs.Prelude.{◌≡◌, ℕ, ◌<◌, ◌≤◌, ◌↔◌, length, false, true, IsFalse, IsTrue};
+ghost use Rattle.std.specs.Prelude.{◌≡◌, ℕ, ◌<◌, ◌≤◌, ◌↔◌, length, false, true, is_some, IsFalse, IsTrue};
 ghost use Rattle.gpu_descriptor.specs.Caller.CleansUp.{Sweeps};
+ghost use Rattle.gpu_descriptor.specs.Caller.Keeps.{Keeps};
 ghost use Rattle.gpu_descriptor.specs.Caller.SetLayouts.{IsMeant};
 
 use super::Store;
@@ -11,18 +12,21 @@ impl<L: Drop, P: Drop, S: Drop, D: DescriptorDevice<L, P, S>> Store<L, P, S, D> 
     ghost use Rattle.descriptor_table.specs.Giving.{is_of};
     ghost use Rattle.descriptor_table.specs.Sets.{AreHeldOnce, sets_in};
     ghost use Rattle.descriptor_table.specs.Slots.{is_due, is_kept_of, slot_at};
-    ghost use Rattle.descriptor_table.specs.Tables.{Becomes, KeepsUpTo, TurnEach, removed_at, used_for};
+    ghost use Rattle.descriptor_table.specs.Tables.{Becomes, KeepsUpTo, MayBecome, TurnEach, Turns, is_kept, removed_at};
+    ghost use Rattle.descriptor_table.specs.Tables.{used_for, vacated};
     ghost use Rattle.descriptor_table.specs.declared.slot.Use.{Use};
-    ghost use Rattle.descriptor_manager.specs.Stores.{AreCleaned, Cleans, ComeBack, FreesAll, FreesEach};
-    ghost use Rattle.descriptor_manager.specs.Stores.{GivesBack, HasLayout, IsAtRest, NoneComes};
-    ghost use Rattle.descriptor_manager.specs.Stores.{Removes, Settles, SettlesTo, Trims};
+    ghost use Rattle.descriptor_manager.specs.Stores.{AreCleaned, Cleans, FreesSets, IsFreed, KeepsComing};
+    ghost use Rattle.descriptor_manager.specs.Stores.{HasLayout, IsAtRest, NoneComes};
+    ghost use Rattle.descriptor_manager.specs.Stores.{Removes, Settles, SettlesTo};
     ghost use Rattle.descriptor_manager.specs.Stores.{coming_in, generations_in, kept_of, ledger_of};
     ghost use Rattle.descriptor_manager.specs.Stores.{keep_of, number_of, pools_besides, side_of, slots_in};
 
     /// Returns the sets of a group to their pools. In most frames none goes.
     #[inline]
     fn give(&mut self, group: Group)
-        ensures { GivesBack (is_of group) self.old self.new }
+        ensures frees { FreesSets (Turns (is_of group) (Becomes vacated)) self.old self.new }
+        ensures keeps { Keeps D.meaning (side_of self.old) (side_of self.new) }
+        ensures stays { KeepsComing self.old self.new }
     {
         if self.table.is_known_empty(group) {
             // A proof knows the allocator's invariant only from what its readers promise.
@@ -35,7 +39,9 @@ impl<L: Drop, P: Drop, S: Drop, D: DescriptorDevice<L, P, S>> Store<L, P, S, D> 
 
     /// Returns the sets of a group to their pools, run by run.
     fn give_each(&mut self, group: Group)
-        ensures { GivesBack (is_of group) self.old self.new }
+        ensures frees { FreesSets (Turns (is_of group) (Becomes vacated)) self.old self.new }
+        ensures keeps { Keeps D.meaning (side_of self.old) (side_of self.new) }
+        ensures stays { KeepsComing self.old self.new }
     {
         let mut giving = Giving {
             table: &mut self.table,
@@ -76,7 +82,7 @@ impl<L: Drop, P: Drop, S: Drop, D: DescriptorDevice<L, P, S>> Store<L, P, S, D> 
     /// Frees the sets that wait for `frame` or an earlier one: each is kept, or returns to its pool.
     pub(crate) fn finish(&mut self, frame: u64)
         requires rest { IsAtRest self.old }
-        ensures back { ComeBack (is_due frame) self.old self.new }
+        ensures back { FreesSets (Turns (is_due frame) (IsFreed self.old)) self.old self.new }
         ensures none_due { (p : ℕ) → is_due frame (slot_at (slots_in self.new) p) ≡ false }
         ensures settles { Settles NoneComes self.old self.new }
     {
@@ -94,7 +100,8 @@ impl<L: Drop, P: Drop, S: Drop, D: DescriptorDevice<L, P, S>> Store<L, P, S, D> 
         requires rest { IsAtRest self.old }
         ensures once { IsTrue result ↔ AreHeldOnce (number_of self.old) (slots_in self.old)
             (N.handles_of names.now) }
-        ensures frees { IsTrue result → FreesEach (N.handles_of names.now) self.old self.new }
+        ensures frees { IsTrue result → FreesSets (TurnEach (N.handles_of names.now)
+            (IsFreed self.old)) self.old self.new }
         ensures none { IsFalse result → (slots_in self.new ≡ slots_in self.old)
             × (side_of self.new ≡ side_of self.old) }
         ensures settles { Settles NoneComes self.old self.new }
@@ -132,7 +139,7 @@ impl<L: Drop, P: Drop, S: Drop, D: DescriptorDevice<L, P, S>> Store<L, P, S, D> 
     /// Sets how many sets of a layout are kept at most. Those above `max` return to their pools.
     pub(crate) fn set_max_kept(&mut self, max: u32)
         requires rest { IsAtRest self.old }
-        ensures trims { Trims self.old self.new }
+        ensures trims { FreesSets (Turns is_kept (MayBecome vacated)) self.old self.new }
         ensures few { (layout : ℕ) → kept_of layout self.new ≤ max }
         ensures as_many { (layout : ℕ) → KeepsUpTo max (is_kept_of layout) (slots_in self.old)
             (slots_in self.new) }
@@ -163,7 +170,8 @@ impl<L: Drop, P: Drop, S: Drop, D: DescriptorDevice<L, P, S>> Store<L, P, S, D> 
     /// are kept.
     pub(crate) fn free_all(&mut self)
         requires rest { IsAtRest self.old }
-        ensures frees { FreesAll self.old self.new }
+        ensures frees { FreesSets (Turns (λ slot. is_some slot.set) (Becomes vacated)) self.old
+            self.new }
         ensures settles { Settles NoneComes self.old self.new }
     {
         self.table.let_waiting_go();

@@ -45,18 +45,6 @@ impl<T> SetTable<T> {
         }
     }
 
-    /// Whether a call has taken the set of a slot.
-    #[inline]
-    fn has_taken(&self, place: usize) -> bool
-    {
-        let slot = self.slots.at(place);
-        match slot.used() {
-            Use::Taken => slot.set.is_some(),
-            Use::Held | Use::InFrame(_) | Use::Waits(_) | Use::Kept | Use::Going | Use::Vacant =>
-                false,
-        }
-    }
-
     /// Frees the held sets of `names`, all or none: each is kept, or goes. If a name has no held set, or
     /// is in the list twice, it frees none and returns `false`.
     pub fn settle_held<N: SetName<T>>(&mut self, names: &[N]) -> bool
@@ -64,7 +52,7 @@ impl<T> SetTable<T> {
         for index in 0..names.len() {
             let handle = names[index].handle();
             if !self.holds(handle) {
-                self.unsettle(names, index);
+                self.put_back(names, index);
                 return false;
             }
             self.settle(handle.place as usize);
@@ -72,52 +60,11 @@ impl<T> SetTable<T> {
         true
     }
 
-    /// Holds the sets of the first `count` names again. Each was put first into its list, in the order
-    /// of the names.
-    #[cold]
-    fn unsettle<N: SetName<T>>(&mut self, names: &[N], count: usize)
-    {
-        for index in 0..count {
-            self.hold_again(names[count - 1 - index].handle().place as usize);
-        }
-    }
-
-    /// Holds the set of a slot again, which is the first of its list.
-    fn hold_again(&mut self, place: usize)
-    {
-        let list = self.list_of(place);
-        match self.pick(list) {
-            Some(first) => self.assign(first, Use::Held),
-            None => unreachable!(),
-        }
-    }
-
-    /// The list of a slot's set, which is kept or goes.
-    fn list_of(&self, place: usize) -> usize
-    {
-        let slot = self.slots.at(place);
-        match slot.used() {
-            Use::Kept => slot.layout as usize + KEPT,
-            Use::Held | Use::InFrame(_) | Use::Waits(_) | Use::Going | Use::Taken | Use::Vacant =>
-                GOING,
-        }
-    }
-
-    /// Lets the set of a slot wait for a frame, if a call has taken it.
-    #[inline]
-    fn wait_taken(&mut self, place: usize, frame: u64)
-    {
-        if !self.has_taken(place) {
-            return;
-        }
-        self.wait(place, frame);
-    }
-
-    /// Lets the sets of `names` wait for a frame. Just these sets were taken.
+    /// Lets the sets of `names` wait for a frame. A call has taken them.
     pub fn wait_each<N: SetName<T>>(&mut self, names: &[N], frame: u64)
     {
         for index in 0..names.len() {
-            self.wait_taken(names[index].handle().place as usize, frame);
+            self.wait(names[index].handle().place as usize, frame);
         }
     }
 

@@ -21,11 +21,11 @@ invariant_of-self-clause-accounted g c = accounted_as c.args.self.now (same_sets
 pub returns-clause-cleaned : goal.returns-clause-cleaned
 returns-clause-cleaned g c =
     let old = slots_of c.args.self.now.table in
-    cleaned old (slots_of c.age.new.self) (slots_of c.trim.new.self) (slots_of c.give.new.self.table) c.requires.rest.placed c.age.ensures.slots c.trim.ensures.turns.slots c.trim.ensures.few c.give.ensures.turns
+    cleaned old (slots_of c.age.new.self) (slots_of c.trim.new.self) (slots_of c.give.new.self.table) c.requires.rest.placed c.age.ensures.slots c.trim.ensures.turns.slots c.trim.ensures.few c.give.ensures.frees.turns
 
 pub returns-clause-settles : goal.returns-clause-settles
 returns-clause-settles g c =
     let old = slots_of c.args.self.now.table in
     let new = slots_of c.give.new.self.table in
-    let all = cleaned old (slots_of c.age.new.self) (slots_of c.trim.new.self) new c.requires.rest.placed c.age.ensures.slots c.trim.ensures.turns.slots c.trim.ensures.few c.give.ensures.turns in
+    let all = cleaned old (slots_of c.age.new.self) (slots_of c.trim.new.self) new c.requires.rest.placed c.age.ensures.slots c.trim.ensures.turns.slots c.trim.ensures.few c.give.ensures.frees.turns in
     settled _ _ (follow_cleaned old new all) (c.give.ensures.stays.coming ∙ c.requires.rest.none_coming) c.requires.rest (search rules)

@@ -26,10 +26,10 @@ invariant_of-self-clause-accounted g c = accounted_as c.args.self.now (same_sets
 turns : (g : Over) (c : After-give-2 g) → Turns (is_due c.args.frame) (IsBack vacated (generations_of c.args.self.now.table) c.args.self.now.table.keep) (slots_of c.args.self.now.table) (slots_of c.give-2.new.self.table)
 turns g c =
     let old = slots_of c.args.self.now.table in
-    came_back (is_due c.args.frame) (generations_of c.args.self.now.table) c.args.self.now.table.keep old (slots_of c.settle_due.new.self) (slots_of c.give-2.new.self.table) (due_full c.args.frame) (none_goes old c.requires.rest.placed) c.settle_due.ensures.slots c.give-2.ensures.turns
+    came_back (is_due c.args.frame) (generations_of c.args.self.now.table) c.args.self.now.table.keep old (slots_of c.settle_due.new.self) (slots_of c.give-2.new.self.table) (due_full c.args.frame) (none_goes old c.requires.rest.placed) c.settle_due.ensures.slots c.give-2.ensures.frees.turns
 
 pub returns-clause-back : goal.returns-clause-back
-returns-clause-back g c = record { turns = turns g c; back = c.give-2.ensures.back }
+returns-clause-back g c = record { turns = turns g c; back = c.give-2.ensures.frees.back }
 
 pub returns-clause-none_due : goal.returns-clause-none_due
 returns-clause-none_due g c = back_not_due (generations_of c.args.self.now.table) c.args.frame c.args.self.now.table.keep (slots_of c.args.self.now.table) (slots_of c.give-2.new.self.table) (turns g c)

@@ -1,11 +1,11 @@
-use Rattle.std.proofs.Common.{◌≡◌, ℕ, ◌∙◌, rules}
+use Rattle.std.proofs.Common.{◌≡◌, ◌∙◌, is_some, rules}
 use Rattle.descriptor_table.specs.Sets.{sets_in}
-use Rattle.descriptor_table.specs.Slots.{slot_at, waits}
-use Rattle.descriptor_table.specs.Tables.{holds, is_kept, slots_of}
+use Rattle.descriptor_table.specs.Slots.{waits}
+use Rattle.descriptor_table.specs.Tables.{Becomes, Turns, holds, is_kept, slots_of, vacated}
 use Rattle.descriptor_manager.proofs.Given.{accounted_as, exact_as}
 use Rattle.descriptor_manager.proofs.Back.{leaving_sets}
 use Rattle.descriptor_manager.proofs.Cleaned.{gone_sets}
-use Rattle.descriptor_manager.proofs.Emptied.{IsEmptied, emptied}
+use Rattle.descriptor_manager.proofs.Emptied.{all_leave, left_follows}
 use Rattle.descriptor_manager.proofs.Settling.{settled}
 use Rattle.descriptor_manager.proofs.store.Store.free_all.Goals.{After-give, After-trim}
 use Rattle.descriptor_manager.proofs.store.Store.free_all.Goals as goal
@@ -25,18 +25,13 @@ pub invariant_of-self-clause-accounted : goal.invariant_of-self-clause-accounted
 invariant_of-self-clause-accounted g c = accounted_as c.args.self.now (same_sets g (goal.at.invariant_of-self-clause-accounted g c).After-trim)
 
 -- each left its slot
-all : (g : _) (c : After-give g) (p : ℕ) → IsEmptied (slot_at (slots_of c.args.self.now.table) p) (slot_at (slots_of c.give.new.self.table) p)
-all g c p = emptied (slots_of c.args.self.now.table) (slots_of c.let_waiting_go.new.self) (slots_of c.let_held_go.new.self) (slots_of c.trim.new.self) (slots_of c.give.new.self.table) c.requires.rest.placed c.let_waiting_go.ensures.slots c.let_held_go.ensures.slots c.trim.ensures.turns.slots c.trim.ensures.few c.give.ensures.turns p
+left : (g : _) (c : After-give g) → Turns (λ s. is_some s.set) (Becomes vacated) (slots_of c.args.self.now.table) (slots_of c.give.new.self.table)
+left g c = all_leave (slots_of c.args.self.now.table) (slots_of c.let_waiting_go.new.self) (slots_of c.let_held_go.new.self) (slots_of c.trim.new.self) (slots_of c.give.new.self.table) c.requires.rest.placed c.let_waiting_go.ensures.slots c.let_held_go.ensures.slots c.trim.ensures.turns.slots c.trim.ensures.few c.give.ensures.frees.turns
 
 pub returns-clause-frees : goal.returns-clause-frees
-returns-clause-frees g c =
-    record {
-      long = c.give.ensures.turns.long ∙ c.trim.ensures.turns.slots.long ∙ c.let_held_go.ensures.slots.long ∙ c.let_waiting_go.ensures.slots.long;
-      none = λ p. (all g c p).none;
-      given = λ p. (all g c p).given;
-      vacant = λ p. (all g c p).vacant;
-      back = c.give.ensures.back;
-    }
+returns-clause-frees g c = record { turns = left g (goal.at.returns-clause-frees g c).After-give; back = c.give.ensures.frees.back }
 
 pub returns-clause-settles : goal.returns-clause-settles
-returns-clause-settles g c = settled c.args.self.now c.give.new.self (λ p. (all g c p).follows) (c.give.ensures.stays.coming ∙ c.requires.rest.none_coming) c.requires.rest (search rules)
+returns-clause-settles g c =
+    let left = left g (goal.at.returns-clause-settles g c).After-give in
+    settled c.args.self.now c.give.new.self (left_follows (slots_of c.args.self.now.table) (slots_of c.give.new.self.table) left) (c.give.ensures.stays.coming ∙ c.requires.rest.none_coming) c.requires.rest (search rules)

@@ -43,8 +43,7 @@ returns g c =
     let all = given_all (is_of c.args.group) (group_out c.args.group) f.sets _ _ (group_all c.args.group f.sets _ _ refl f.drained) in
     let settings = (subst (Stays c.args.self.now.table) (sym c.end.ensures) all.2).settings in
     record {
-      back = record { sets = f.sets; returns = f.returns };
-      turns = subst (λ t. Turns (is_of c.args.group) (Becomes vacated) (slots_of c.args.self.now.table) (slots_of t)) (sym c.end.ensures) all.0;
+      frees = record { turns = subst (λ t. Turns (is_of c.args.group) (Becomes vacated) (slots_of c.args.self.now.table) (slots_of t)) (sym c.end.ensures) all.0; back = record { sets = f.sets; returns = f.returns } };
       keeps = keeps;
       stays = record { store = record { number = settings.number; lists = settings.lists; generations = settings.generations; limit = keeps.limit; bound = keeps.bound; besides = keeps.others; keeps = settings.keep }; coming = refl };
     }

@@ -19,7 +19,7 @@ same_sets : (g : Over) (c : After-remove_layout g) → sets_in (slots_of c.remov
 same_sets g c = ap (λ v. sets_in (table.slots_in v)) c.remove_layout.ensures.only.slots
 
 turns : (g : Over) (c : After-remove_layout g) → Turns (is_kept_of c.args.layout) (Becomes vacated) (slots_in c.args.self.now) (slots_of c.remove_layout.new.self)
-turns g c = subst (λ v. Turns (is_kept_of c.args.layout) (Becomes vacated) (slots_in c.args.self.now) (table.slots_in v)) (sym c.remove_layout.ensures.only.slots) c.give.ensures.turns
+turns g c = subst (λ v. Turns (is_kept_of c.args.layout) (Becomes vacated) (slots_in c.args.self.now) (table.slots_in v)) (sym c.remove_layout.ensures.only.slots) c.give.ensures.frees.turns
 
 pub invariant_of-self-clause-exact : goal.invariant_of-self-clause-exact
 invariant_of-self-clause-exact g c = λ t.
@@ -31,24 +31,24 @@ pub invariant_of-self-clause-accounted : goal.invariant_of-self-clause-accounted
 invariant_of-self-clause-accounted g c = c.trim_layout.ensures.trims.totals_stay.0 ∙ accounted_as c.give.new.self (same_sets g (goal.at.invariant_of-self-clause-accounted g c).After-remove_layout)
 
 pub remove_layout-requires-clause-none_kept : goal.remove_layout-requires-clause-none_kept
-remove_layout-requires-clause-none_kept g c = removed_out c.args.layout (slots_in c.args.self.now) (slots_in c.give.new.self) c.give.ensures.turns
+remove_layout-requires-clause-none_kept g c = removed_out c.args.layout (slots_in c.args.self.now) (slots_in c.give.new.self) c.give.ensures.frees.turns
 
 pub remove_layout-requires-clause-next : goal.remove_layout-requires-clause-next
 remove_layout-requires-clause-next g c = subst (λ (generations : ℕ → ℕ). generations c.args.layout < 4294967295) (sym c.give.ensures.stays.store.generations) c.requires.next
 
 pub returns-clause-removes : goal.returns-clause-removes
 returns-clause-removes g c =
-    let gives = c.give.ensures in
+    let gives = c.give.ensures.frees in
     record {
       turns = turns g (goal.at.returns-clause-removes g c).After-remove_layout;
-      generations = c.remove_layout.ensures.only.settings.generations ∙ ap (removed_at c.args.layout) gives.stays.store.generations;
+      generations = c.remove_layout.ensures.only.settings.generations ∙ ap (removed_at c.args.layout) c.give.ensures.stays.store.generations;
       past = c.remove_layout.ensures.past;
       mid = side_of c.give.new.self;
       back = gives.back;
       trims = c.trim_layout.ensures.trims;
       gave = λ t. (
           let coming = λ (l : List (DescriptorSet g.row.S.Denot)). count_of t (items_of g.D.DescriptorDevice.meaning.set_name l) in
-          let none = ap coming gives.stays.coming in
+          let none = ap coming c.give.ensures.stays.coming in
           let was = c.args.self.now.exact t in
           let is = c.give.new.self.exact t in
           let back = gives.back.returns.back.returned t in

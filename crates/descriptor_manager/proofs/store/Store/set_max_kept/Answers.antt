@@ -34,7 +34,7 @@ invariant_of-self-clause-accounted g c = accounted_as c.args.self.now (same_sets
 
 -- those that were let go were returned
 gives : (g : Over) (c : After-give g) → Turns goes (Becomes vacated) (slots_of c.trim.new.self) (slots_of c.give.new.self.table)
-gives g c = subst (λ v. Turns goes (Becomes vacated) (slots_in v) (slots_of c.give.new.self.table)) c.set_max_kept.ensures.slots c.give.ensures.turns
+gives g c = subst (λ v. Turns goes (Becomes vacated) (slots_in v) (slots_of c.give.new.self.table)) c.set_max_kept.ensures.slots c.give.ensures.frees.turns
 
 all : (g : Over) (c : After-give g) → Turns is_kept (MayBecome vacated) (slots_of c.args.self.now.table) (slots_of c.give.new.self.table)
 all g c =
@@ -42,7 +42,7 @@ all g c =
     left old (slots_of c.trim.new.self) (slots_of c.give.new.self.table) (none_goes old c.requires.rest.placed) c.trim.ensures.turns.slots (gives g c)
 
 pub returns-clause-trims : goal.returns-clause-trims
-returns-clause-trims g c = record { turns = all g c; back = c.give.ensures.back }
+returns-clause-trims g c = record { turns = all g c; back = c.give.ensures.frees.back }
 
 pub returns-clause-few : goal.returns-clause-few
 returns-clause-few g c = λ layout.
