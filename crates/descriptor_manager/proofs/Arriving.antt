@@ -8,7 +8,7 @@ use Rattle.descriptor_table.specs.Slots.{in_list, slot_at, waits_for}
 use Rattle.descriptor_table.specs.Tables.{came_under, is_held_use}
 use Rattle.descriptor_table.specs.Slots.{Slot}
 use Rattle.descriptor_table.specs.declared.slot.Use.{Use}
-use Rattle.descriptor_manager.specs.Stores.{IsAtRest, KeepsStore, Settles, coming_in, is_placed, slots_in}
+use Rattle.descriptor_manager.specs.Stores.{IsAtRest, KeepsStore, Settles, is_placed, slots_in}
 use Rattle.descriptor_manager.specs.declared.store.Store.{Store}
 use Rattle.descriptor_manager.proofs.Cleared.{Clears}
 
@@ -60,7 +60,7 @@ module _ {T : Type 0} where
 
 module _ {L P S D : Type 0} {d : Ghosts D L P S} where
   -- if each slot became what `Arrives` says, the store settles
-  pub arrived : (comes : ℕ → DescriptorSet S → Type 0) (old new : Store L P S D d) → ((p : ℕ) → Arrives comes (slot_at (slots_in old) p) (slot_at (slots_in new) p)) → coming_in new ≡ [] → IsAtRest old → KeepsStore old new → Settles comes old new
+  pub arrived : (comes : ℕ → DescriptorSet S → Type 0) (old new : Store L P S D d) → ((p : ℕ) → Arrives comes (slot_at (slots_in old) p) (slot_at (slots_in new) p)) → new.coming.items ≡ [] → IsAtRest old → KeepsStore old new → Settles comes old new
   arrived comes old new arrives none rest stays = record {
     sets = λ p x e. (arrives p).set x e;
     rest = record { none_coming = none; placed = λ p. (arrives p).placed (rest.placed p) };

@@ -1,5 +1,5 @@
 -- Sets that were asked for, and are on their way.
-use Rattle.std.proofs.Common.{◌≡◌, ℕ, ◌+◌, ◌-◌, ◌<◌, ◌≤◌, ◌⊎◌, Bool, true, false, List, length, inl, inr, refl, sym, ap, subst, ◌∙◌, arith}
+use Rattle.std.proofs.Common.{◌≡◌, ℕ, ◌+◌, ◌-◌, ◌<◌, Bool, true, false, List, length, inl, inr, refl, sym, ap, subst, ◌∙◌, arith}
 use Rattle.std.proofs.lemmas.Bool.{true≢false}
 use Rattle.gpu_descriptor_types.specs.declared.device.DescriptorDevice.{Ghosts}
 use Rattle.gpu_descriptor.specs.Caller.Sets.{AreOfLayout}
@@ -7,7 +7,7 @@ use Rattle.descriptor_table.specs.Slots.{is_kept_of, slot_at}
 use Rattle.descriptor_table.specs.Tables.{count, is_kept}
 use Rattle.descriptor_table.specs.Slots.{Slot}
 use Rattle.descriptor_table.proofs.Counts.{count_none, none_count}
-use Rattle.descriptor_manager.specs.Stores.{AreCleaned, Asks, AsksAtLast, coming_in, kept_of, slots_in}
+use Rattle.descriptor_manager.specs.Stores.{AreCleaned, Asks, AsksAtLast, kept_of, slots_in}
 use Rattle.descriptor_manager.specs.declared.store.Store.{Store}
 use Rattle.descriptor_manager.proofs.Cleared.{Clears, clears, none_left, same_clears}
 use Rattle.descriptor_manager.proofs.Growing.{cleared_long}
@@ -27,8 +27,8 @@ module _ {L P S D : Type 0} {d : Ghosts D L P S} where
   pub record Brings (layout : L) (number many : ℕ) (old new : Store L P S D d) : Type 0 where
     pub clear : (q : ℕ) → Clears (slot_at (slots_in old) q) (slot_at (slots_in new) q)
     pub long : length (slots_in new) ≡ length (slots_in old)
-    pub besides : (i : ℕ) → i < many → i < kept_of number new → i + length (coming_in new) < many
-    pub own : AreOfLayout d.meaning layout (coming_in new)
+    pub besides : (i : ℕ) → i < many → i < kept_of number new → i + length new.coming.items < many
+    pub own : AreOfLayout d.meaning layout new.coming.items
 
   module _ (layout : L) (number first many : ℕ) (old mid new : Store L P S D d) (clear : (q : ℕ) → Clears (slot_at (slots_in old) q) (slot_at (slots_in mid) q)) (long : length (slots_in mid) ≡ length (slots_in old)) where
     asked : ((i : ℕ) → i < many → i < kept_of number mid → i + first < many) → Asks layout first mid new → Brings layout number many old new

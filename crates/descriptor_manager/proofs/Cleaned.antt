@@ -1,18 +1,16 @@
 -- Kept sets that all go: for `Store::cleanup`, `set_max_kept` and `free_all`.
-use Rattle.std.proofs.Common.{◌≡◌, ℕ, ◌+◌, ◌<◌, ◌≤◌, Bool, true, false, if◌then◌else◌, List, length, inl, inr, refl, sym, ap, ◌∙◌, arith}
+use Rattle.std.proofs.Common.{◌≡◌, ℕ, ◌+◌, ◌≤◌, Bool, true, false, if◌then◌else◌, List, inl, inr, refl, sym, ap, ◌∙◌, arith}
 use Rattle.std.proofs.lemmas.Bool.{true≢false}
 use Rattle.descriptor_table.specs.Sets.{sets_in}
 use Rattle.descriptor_table.specs.Slots.{goes, is_in, slot_at}
 use Rattle.descriptor_table.specs.Tables.{AreAged, MayBecome, Turns, Becomes, aged, count, is_kept, used_for, vacated}
 use Rattle.descriptor_table.specs.declared.slot.Use.TheVariants.{Going}
 use Rattle.descriptor_table.specs.Slots.{Slot}
-use Rattle.descriptor_table.proofs.Counting.{below_or}
 use Rattle.descriptor_table.proofs.Counts.{count_none}
-use Rattle.descriptor_table.proofs.Listed.{past_end}
 use Rattle.descriptor_table.proofs.Renewing.{kept_full}
 use Rattle.descriptor_manager.specs.Stores.{AreCleaned}
 use Rattle.descriptor_manager.proofs.Back.{turned_sets}
-use Rattle.descriptor_manager.proofs.Following.{ArePlaced, follows_aged, follows_same, follows_then, follows_vacated, none_goes}
+use Rattle.descriptor_manager.proofs.Following.{ArePlaced, follows_aged, follows_then, follows_vacated, none_goes}
 use Rattle.descriptor_manager.proofs.Settling.{Follows}
 
 module _ {T : Type 0} where

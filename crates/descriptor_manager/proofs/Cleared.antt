@@ -1,13 +1,11 @@
 -- What a slot is like after all kept sets went.
 use Rattle.std.proofs.lemmas.Grind.{common_steps}
-use Rattle.std.proofs.Common.{◌≡◌, ℕ, ◌+◌, ◌⊎◌, ◌&&◌, nat_lt, ne_eqb, Bool, true, false, if◌then◌else◌, List, length, None, inl, inr, refl, sym, ap, ◌∙◌, arith}
+use Rattle.std.proofs.Common.{◌≡◌, ℕ, ◌+◌, ◌⊎◌, ◌&&◌, nat_lt, ne_eqb, Bool, true, false, if◌then◌else◌, List, None, inl, inr, refl, ap, ◌∙◌, arith}
 use Rattle.descriptor_table.specs.Slots.{slot_at}
 use Rattle.descriptor_table.specs.Tables.{aged, came_under, count, is_kept, vacated}
 use Rattle.descriptor_table.specs.Slots.{Slot}
 use Rattle.descriptor_table.specs.declared.slot.Use.TheVariants.{Vacant}
-use Rattle.descriptor_table.proofs.Counting.{below_or}
 use Rattle.descriptor_table.proofs.Counts.{none_count}
-use Rattle.descriptor_table.proofs.Listed.{past_end}
 use Rattle.descriptor_manager.specs.Stores.{AreCleaned}
 
 -- a set that was kept may be gone, and any other is there

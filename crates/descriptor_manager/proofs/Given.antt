@@ -1,5 +1,5 @@
 -- Sets that come into slots, or are taken out of a list.
-use Rattle.std.proofs.Common.{◌≡◌, ℕ, zero, suc, ◌+◌, Bool, List, [], ◌∷◌, length, set, refl, ap, ◌∙◌, arith}
+use Rattle.std.proofs.Common.{◌≡◌, ℕ, zero, suc, ◌+◌, List, [], ◌∷◌, length, set, refl, ap, ◌∙◌, arith}
 use Rattle.gpu_descriptor_types.specs.declared.device.DescriptorDevice.{Ghosts}
 use Rattle.gpu_descriptor.specs.Caller.Sets.{item_of, items_of}
 use Rattle.gpu_descriptor.specs.Caller.States.{outstanding_of, state_of}
@@ -8,12 +8,11 @@ use Rattle.gpu_descriptor.specs.declared.set.DescriptorSet.{DescriptorSet}
 use Rattle.gpu_descriptor.proofs.callers.HeldSets.{count_parts}
 use Rattle.descriptor_table.specs.Sets.{joined, sets_in}
 use Rattle.descriptor_table.specs.Slots.{slot_at}
-use Rattle.descriptor_table.specs.Tables.{Picks, Puts, Renews, renewed, used_for}
+use Rattle.descriptor_table.specs.Tables.{Puts, Renews, renewed}
 use Rattle.descriptor_table.specs.declared.handle.SetHandle.{SetHandle}
 use Rattle.descriptor_table.specs.Slots.{Slot}
 use Rattle.descriptor_table.specs.declared.slot.Use.{Use}
-use Rattle.descriptor_table.specs.declared.slot.Use.TheVariants.{Taken}
-use Rattle.descriptor_manager.specs.Stores.{coming_in, slots_in}
+use Rattle.descriptor_manager.specs.Stores.{slots_in}
 use Rattle.descriptor_manager.specs.declared.store.Store.{Store}
 use Rattle.descriptor_table.proofs.Coming.{put_weigh}
 use Rattle.descriptor_table.proofs.Leaving.{tally, tally_length}
@@ -39,10 +38,10 @@ module _ {S : Type 0} (name : S → ℕ) where
 
 module _ {L P S D : Type 0} {d : Ghosts D L P S} (s : Store L P S D d) {l : List (DescriptorSet S)} (same : l ≡ sets_in (slots_in s)) where
   -- with the sets that a store has its table is exact
-  pub exact_as : (t : Item) → outstanding (state_of d.meaning.pool_name s.allocator (d.ledger s.device)) t ≡ count_of t (items_of d.meaning.set_name l) + count_of t (items_of d.meaning.set_name (coming_in s))
+  pub exact_as : (t : Item) → outstanding (state_of d.meaning.pool_name s.allocator (d.ledger s.device)) t ≡ count_of t (items_of d.meaning.set_name l) + count_of t (items_of d.meaning.set_name s.coming.items)
   exact_as t = (let count = ap (λ l. count_of t (items_of d.meaning.set_name l)) same in let is = s.exact t in omega arith)
 
-  pub accounted_as : outstanding_of s.allocator ≡ length l + length (coming_in s)
+  pub accounted_as : outstanding_of s.allocator ≡ length l + length s.coming.items
   accounted_as = (let count = ap length same in let is = s.accounted in omega arith)
 
 module _ {T : Type 0} where

@@ -10,11 +10,11 @@ use Rattle.gpu_descriptor_types.specs.declared.device.DescriptorDevice.{Ghosts}
 use Rattle.gpu_descriptor.specs.declared.set.DescriptorSet.{DescriptorSet}
 use Rattle.descriptor_table.specs.Slots.{Slot, frame_of, is_kept_of, is_live, slot_at, waits_for}
 use Rattle.descriptor_table.specs.Sets.{NameEach, find, is_given, sets_of}
-use Rattle.descriptor_table.specs.Tables.{came_under, current, is_held_use, place_at}
+use Rattle.descriptor_table.specs.Tables.{Settings, came_under, current, is_held_use, place_at}
 use Rattle.descriptor_table.specs.declared.handle.SetHandle.{SetHandle}
 use Rattle.descriptor_table.specs.declared.slot.Use.{Use}
 use Rattle.descriptor_table.proofs.Holding.{named_or}
-use Rattle.descriptor_manager.specs.Stores.{ComesInto, HoldEach, KeepsStore, NoneComes, SetsCome, current_in, number_of, slots_in}
+use Rattle.descriptor_manager.specs.Stores.{ComesInto, HoldEach, KeepsStore, NoneComes, SetsCome, current_in, slots_in}
 use Rattle.descriptor_manager.specs.declared.store.Store.{Store}
 use Rattle.descriptor_manager.proofs.Arriving.{Arrives, arrives_then, clears_arrives, same_arrives, used_placed}
 use Rattle.descriptor_manager.proofs.Cleared.{Clears}
@@ -208,47 +208,44 @@ module _ {S : Type 0} where
 
 module _ {L P S D : Type 0} {d : Ghosts D L P S} where
   pub store_same : (s : Store L P S D d) → KeepsStore s s
-  store_same s = record { number = refl; lists = refl; generations = refl; limit = refl; bound = refl; besides = refl; keeps = refl }
+  store_same s = record { settings = refl; limit = refl; bound = refl; besides = refl }
 
   pub stays_then : (old mid new : Store L P S D d) → KeepsStore old mid → KeepsStore mid new → KeepsStore old new
   stays_then old mid new a b = record {
-    number = b.number ∙ a.number;
-    lists = b.lists ∙ a.lists;
-    generations = b.generations ∙ a.generations;
+    settings = b.settings ∙ a.settings;
     limit = b.limit ∙ a.limit;
     bound = b.bound ∙ a.bound;
     besides = b.besides ∙ a.besides;
-    keeps = b.keeps ∙ a.keeps;
   }
 
   module _ (layout : ℕ) (u : Use) where
     -- the number and the layouts are as they were
-    pub held_stays : (handles : List SetHandle) (mid new : List (Slot (DescriptorSet S))) (old now : Store L P S D d) → KeepsStore old now → HoldEach (number_of now) (current_in layout now) u handles mid new → HoldEach (number_of old) (current_in layout old) u handles mid new
-    held_stays handles mid new old now stays holds = subst (λ generations. HoldEach (number_of old) (current generations layout) u handles mid new) stays.generations (subst (λ number. HoldEach number (current_in layout now) u handles mid new) stays.number holds)
+    pub held_stays : (handles : List SetHandle) (mid new : List (Slot (DescriptorSet S))) (old now : Store L P S D d) → KeepsStore old now → HoldEach now.table.number (current_in layout now) u handles mid new → HoldEach old.table.number (current_in layout old) u handles mid new
+    held_stays handles mid new old now stays holds = subst (λ generations. HoldEach old.table.number (current generations layout) u handles mid new) (ap (λ (s : Settings). s.generations) stays.settings) (subst (λ number. HoldEach number (current_in layout now) u handles mid new) (ap (λ (s : Settings). s.number) stays.settings) holds)
 
     -- none is given yet
-    pub held_start : (old : Store L P S D d) → HoldEach (number_of old) (current_in layout old) u [] (slots_in old) (slots_in old)
-    held_start old = hold_none (number_of old) (current_in layout old) u (slots_in old)
+    pub held_start : (old : Store L P S D d) → HoldEach old.table.number (current_in layout old) u [] (slots_in old) (slots_in old)
+    held_start old = hold_none old.table.number (current_in layout old) u (slots_in old)
 
     module _ (live : is_live (frame_of u) true u ≡ true) where
       -- one handle more is given
       pub held_next :
           (n : ℕ) (now : List SetHandle) (handle : SetHandle) (old mid new : Store L P S D d) → KeepsStore old mid → n < length now
-          → HoldEach (number_of old) (current_in layout old) u (take n now) (slots_in old) (slots_in mid)
-          → HoldEach (number_of mid) (current_in layout mid) u (handle ∷ []) (slots_in mid) (slots_in new)
-          → HoldEach (number_of old) (current_in layout old) u (take (n + 1) (set now n handle)) (slots_in old) (slots_in new)
+          → HoldEach old.table.number (current_in layout old) u (take n now) (slots_in old) (slots_in mid)
+          → HoldEach mid.table.number (current_in layout mid) u (handle ∷ []) (slots_in mid) (slots_in new)
+          → HoldEach old.table.number (current_in layout old) u (take (n + 1) (set now n handle)) (slots_in old) (slots_in new)
       held_next n now handle old mid new stays within a b =
           let under = current_in layout old in
           let each = held_stays (handle ∷ []) (slots_in mid) (slots_in new) old mid stays b in
-          subst (λ l. HoldEach (number_of old) under u l (slots_in old) (slots_in new)) (sym (take-suc-set now n handle within) ∙ ap (λ m. take m (set now n handle)) (sym (add-one n)))
-          (joined (number_of old) under u live (take n now) (handle ∷ []) (slots_in old) (slots_in mid) (slots_in new) a each)
+          subst (λ l. HoldEach old.table.number under u l (slots_in old) (slots_in new)) (sym (take-suc-set now n handle within) ∙ ap (λ m. take m (set now n handle)) (sym (add-one n)))
+          (joined old.table.number under u live (take n now) (handle ∷ []) (slots_in old) (slots_in mid) (slots_in new) a each)
 
       -- kept sets have the first handles, and others the last ones
       pub held_both :
           (first last : List SetHandle) (old mid new : Store L P S D d) → KeepsStore old mid
-          → HoldEach (number_of old) (current_in layout old) u first (slots_in old) (slots_in mid)
-          → HoldEach (number_of mid) (current_in layout mid) u last (slots_in mid) (slots_in new)
-          → HoldEach (number_of old) (current_in layout old) u (first ++ last) (slots_in old) (slots_in new)
+          → HoldEach old.table.number (current_in layout old) u first (slots_in old) (slots_in mid)
+          → HoldEach mid.table.number (current_in layout mid) u last (slots_in mid) (slots_in new)
+          → HoldEach old.table.number (current_in layout old) u (first ++ last) (slots_in old) (slots_in new)
       held_both first last old mid new stays a b =
-          joined (number_of old) (current_in layout old) u live first last (slots_in old) (slots_in mid) (slots_in new) a
+          joined old.table.number (current_in layout old) u live first last (slots_in old) (slots_in mid) (slots_in new) a
           (held_stays last (slots_in mid) (slots_in new) old mid stays b)

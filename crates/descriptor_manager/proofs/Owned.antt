@@ -11,13 +11,13 @@ use Rattle.std.proofs.lemmas.List.{get_or_past}
 use Rattle.std.proofs.lemmas.Option.{none-some}
 use Rattle.descriptor_table.specs.Sets.{Sets, find, is_last, sets_of}
 use Rattle.descriptor_table.specs.Slots.{is_live, slot_at}
-use Rattle.descriptor_table.specs.Tables.{came_under, current, lists_with}
+use Rattle.descriptor_table.specs.Tables.{Settings, came_under, current, lists_with}
 use Rattle.descriptor_table.specs.declared.handle.SetHandle.{SetHandle}
 use Rattle.descriptor_table.specs.Slots.{Slot}
 use Rattle.descriptor_table.proofs.Counting.{below_or}
 use Rattle.descriptor_manager.specs.LayoutRegistries.{layout_at, layout_slots, registry_of}
 use Rattle.descriptor_manager.specs.Own.{AreCounted, AreOwn, HasSetsOf, IsOwn}
-use Rattle.descriptor_manager.specs.Stores.{ComesOf, IsRefusedAtLast, SettlesTo, coming_in, generations_in, is_placed, lists_for, lists_in, number_of, slots_in}
+use Rattle.descriptor_manager.specs.Stores.{ComesOf, IsRefusedAtLast, SettlesTo, generations_in, is_placed, lists_for, lists_in, slots_in}
 use Rattle.descriptor_manager.specs.declared.layout_registry.LayoutHandle.{LayoutHandle}
 use Rattle.descriptor_manager.specs.declared.layout_registry.LayoutRegistry.{LayoutRegistry}
 use Rattle.descriptor_manager.specs.declared.store.Store.{Store}
@@ -57,19 +57,19 @@ module _ {L P S D : Type 0} {d : Ghosts D L P S} where
     sets_settle settles own was = record {
       rest = settles.rest;
       own = λ p n x full at. elim (settles.sets p x full) [
-        | inl stays ↦ was.own p n x stays.0 (sym stays.1 ∙ at ∙ ap (λ generations. current generations n) settles.stays.generations)
+        | inl stays ↦ was.own p n x stays.0 (sym stays.1 ∙ at ∙ ap (λ generations. current generations n) (ap (λ (s : Settings). s.generations) settles.stays.settings))
         | inr come ↦ own n x (subst (λ n. comes n x) (ap (λ (u : ℕ × ℕ). u.0) at) come)
       ];
-      counted = subst (λ generations. AreCounted generations layouts) (sym settles.stays.generations) was.counted;
-      lists = settles.stays.lists ∙ was.lists;
-      number = settles.stays.number ∙ was.number;
+      counted = subst (λ generations. AreCounted generations layouts) (sym (ap (λ (s : Settings). s.generations) settles.stays.settings)) was.counted;
+      lists = (ap (λ (s : Settings). s.lists) settles.stays.settings) ∙ was.lists;
+      number = (ap (λ (s : Settings). s.number) settles.stays.settings) ∙ was.number;
     }
 
   -- the sets are as they were, and their layouts are there
   module _ (layouts more : List (Slot (SetLayout L))) (number : ℕ) (old new : Store L P S D d) where
     pub sets_as :
-        slots_in new ≡ slots_in old → generations_in new ≡ generations_in old → coming_in new ≡ coming_in old
-        → number_of new ≡ number_of old → lists_in new ≡ lists_for (length more) → ((n : ℕ) (known : SetLayout L) → (slot_at layouts n).set ≡ Some known → (slot_at more n).set ≡ Some known)
+        slots_in new ≡ slots_in old → generations_in new ≡ generations_in old → new.coming.items ≡ old.coming.items
+        → new.table.number ≡ old.table.number → lists_in new ≡ lists_for (length more) → ((n : ℕ) (known : SetLayout L) → (slot_at layouts n).set ≡ Some known → (slot_at more n).set ≡ Some known)
         → (AreCounted (generations_in new) layouts → AreCounted (generations_in new) more) → HasSetsOf layouts number old → HasSetsOf more number new
     sets_as slots generations coming numbers lists stay counted was = record {
       rest = record { none_coming = coming ∙ was.rest.none_coming; placed = λ p. ap (λ l. is_placed (slot_at l p)) slots ∙ was.rest.placed p };

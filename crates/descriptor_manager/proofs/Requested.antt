@@ -9,7 +9,7 @@ use Rattle.gpu_descriptor.specs.declared.layout.SetLayout.{SetLayout}
 use Rattle.gpu_descriptor.specs.declared.set.DescriptorSet.{DescriptorSet}
 use Rattle.descriptor_table.specs.Sets.{NameEach, sets_of}
 use Rattle.descriptor_table.specs.Slots.{is_live, slot_at}
-use Rattle.descriptor_table.specs.Tables.{came_under, current, place_at}
+use Rattle.descriptor_table.specs.Tables.{Settings, came_under, current, place_at}
 use Rattle.descriptor_table.specs.declared.handle.SetHandle.{SetHandle}
 use Rattle.descriptor_table.specs.declared.slot.Use.{Use}
 use Rattle.descriptor_table.proofs.Counting.{below_or}
@@ -20,7 +20,10 @@ use Rattle.descriptor_manager.specs.Stores.{CanTake, ComesOf, IsRefusedAtLast, R
 use Rattle.descriptor_manager.specs.declared.layout_registry.LayoutHandle.{LayoutHandle}
 use Rattle.descriptor_manager.specs.declared.manager.SetManager.{SetManager}
 use Rattle.descriptor_manager.specs.declared.store.Store.{Store}
+use Rattle.descriptor_manager.proofs.Bringing.{brought}
+use Rattle.descriptor_manager.proofs.Cleared.{Clears, same_clears}
 use Rattle.descriptor_manager.proofs.Handing.{came_layout}
+use Rattle.descriptor_manager.proofs.Joining.{are_named}
 use Rattle.descriptor_manager.proofs.Owned.{found_set, layout_here, layout_listed, own_comes, own_known, sets_settle}
 
 module _ {L P S D : Type 0} {d : Ghosts D L P S} (r : SetManager L P S D d) (layout : LayoutHandle) (known : SetLayout L) (place : ℕ) (at : place ≡ layout.slot.place) (found : layout_at r.layouts layout ≡ Some known) where
@@ -37,8 +40,17 @@ module _ {L P S D : Type 0} {d : Ghosts D L P S} (r : SetManager L P S D d) (lay
     sets_then result requests = sets_settle (ComesOf d.meaning known.layout place) (layout_slots r.layouts) r.manager r.store new requests.settles (own_comes d.meaning place (layout_slots r.layouts) known here) r.sets
 
     module _ (result : R) (requests : Requests known.layout place many u handles (Ok result) r.store new) where
+      -- kept sets may have gone before
+      clear : (q : ℕ) → Clears (slot_at (slots_in r.store) q) (slot_at (slots_in requests.takes.ready) q)
+      clear q = elim (below_or (kept_of place r.store) many) [
+        | inl short ↦ (brought known.layout place many r.store requests.takes.ready short (requests.takes.asks short)).clear q
+        | inr enough ↦ same_clears (slot_at (slots_in r.store) q) (slot_at (slots_in requests.takes.ready) q) (ap (λ s. slot_at (slots_in s) q) (requests.takes.enough enough))
+      ]
+
       pub names_then : is_live r.frame r.is_open u ≡ true → NameEach handles (sets_of r.manager r.frame r.is_open (slots_in r.store)) (sets_of r.manager r.frame r.is_open (slots_in new))
-      names_then live = subst (λ n. NameEach handles (sets_of n r.frame r.is_open (slots_in r.store)) (sets_of n r.frame r.is_open (slots_in new))) r.sets.number (requests.names r.frame r.is_open live)
+      names_then live =
+          subst (λ n. NameEach handles (sets_of n r.frame r.is_open (slots_in r.store)) (sets_of n r.frame r.is_open (slots_in new))) r.sets.number
+          (are_named r.store.table.number (current_in place r.store) u handles (slots_in r.store) (slots_in requests.takes.ready) (slots_in new) clear requests.takes.holds r.frame r.is_open live)
 
       -- the named sets are of the layout
       pub own_then : (i : ℕ) (e : SetHandle) (x : DescriptorSet S) → i < length handles → (sets_of r.manager r.frame r.is_open (slots_in new)).set (slice_index_or handles i e) ≡ Some x → IsOfLayout d.meaning known.layout x.raw
@@ -50,7 +62,7 @@ module _ {L P S D : Type 0} {d : Ghosts D L P S} (r : SetManager L P S D d) (lay
           own_known d.meaning (generations_in new) (layout_slots r.layouts) slots (sets_then (Ok result) requests).own h.place place x known (found_set r.manager r.frame r.is_open slots h x is)
           (ap (λ p. came_under (slot_at slots p)) same
           ∙ came_layout (current_in place r.store) u (slot_at (slots_in requests.takes.ready) p) (slot_at slots p) (requests.takes.holds.comes i lt)
-          ∙ ap (λ generations. current generations place) (sym requests.settles.stays.generations))
+          ∙ ap (λ generations. current generations place) (sym (ap (λ (s : Settings). s.generations) requests.settles.stays.settings)))
           here
 
       pub takes_then : Takes known.layout layout.slot.place many u handles r.store new

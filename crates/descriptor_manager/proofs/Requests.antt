@@ -12,19 +12,19 @@ use Rattle.descriptor_table.specs.Slots.{frame_of, is_kept_of, is_live, slot_at}
 use Rattle.descriptor_table.specs.Tables.{place_at}
 use Rattle.descriptor_table.specs.declared.handle.SetHandle.{SetHandle}
 use Rattle.descriptor_table.specs.declared.slot.Use.{Use}
-use Rattle.descriptor_manager.specs.Stores.{AsksAtLast, ComesOf, HoldEach, Holds, IsAtRest, IsRefusedAtLast, KeepsStore, NoneComes, Requests, coming_in, current_in, kept_of, number_of, side_of, slots_in}
+use Rattle.descriptor_manager.specs.Stores.{AsksAtLast, ComesOf, HoldEach, Holds, IsAtRest, IsRefusedAtLast, KeepsStore, NoneComes, Requests, current_in, kept_of, side_of, slots_in}
 use Rattle.descriptor_manager.specs.declared.store.Store.{Store}
 use Rattle.descriptor_manager.proofs.Arriving.{arrived}
 use Rattle.descriptor_manager.proofs.Cleared.{Clears, same_clears}
 use Rattle.descriptor_manager.proofs.Bringing.{brought}
 use Rattle.descriptor_manager.proofs.Growing.{grow_from, grow_refused}
 use Rattle.descriptor_manager.proofs.Handing.{refused_arrives}
-use Rattle.descriptor_manager.proofs.Joining.{are_named, held_stays, holds_arrives, kept_then, stays_then}
+use Rattle.descriptor_manager.proofs.Joining.{held_stays, holds_arrives, kept_then, stays_then}
 
 -- the sets that were on their way are in the table if none is any more, and the device wasn't called
 pub gained :
-    {L P S D : Type 0} {d : Ghosts D L P S} (ready new : Store L P S D d) → side_of new ≡ side_of ready → coming_in new ≡ [] → (t : Item)
-    → count_of t (items_of d.meaning.set_name (sets_in (slots_in new))) ≡ count_of t (items_of d.meaning.set_name (sets_in (slots_in ready))) + count_of t (items_of d.meaning.set_name (coming_in ready))
+    {L P S D : Type 0} {d : Ghosts D L P S} (ready new : Store L P S D d) → side_of new ≡ side_of ready → new.coming.items ≡ [] → (t : Item)
+    → count_of t (items_of d.meaning.set_name (sets_in (slots_in new))) ≡ count_of t (items_of d.meaning.set_name (sets_in (slots_in ready))) + count_of t (items_of d.meaning.set_name ready.coming.items)
 gained {L} {P} {S} {D} {d} ready new side none t =
     let same = ap (λ (s : Side (Allocations P)). outstanding (state_of d.meaning.pool_name s.value s.ledger) t) side in
     let empty = ap (λ l. count_of t (items_of d.meaning.set_name l)) none in
@@ -36,12 +36,12 @@ gained {L} {P} {S} {D} {d} ready new side none t =
 module _ {L P S D : Type 0} {d : Ghosts D L P S} {R : Type 0} (known : L) (layout many : ℕ) (u : Use) (handles : List SetHandle) (old new : Store L P S D d) where
   pub from_kept :
       (result : R) → is_live (frame_of u) true u ≡ true → IsAtRest old → many ≤ kept_of layout old
-      → HoldEach (number_of old) (current_in layout old) u handles (slots_in old) (slots_in new)
+      → HoldEach old.table.number (current_in layout old) u handles (slots_in old) (slots_in new)
       → ((i : ℕ) → i < length handles → is_kept_of layout (slot_at (slots_in old) (place_at handles i)) ≡ true)
-      → length (slots_in new) ≡ length (slots_in old) → Holds NoneComes old new → coming_in new ≡ coming_in old
+      → length (slots_in new) ≡ length (slots_in old) → Holds NoneComes old new → new.coming.items ≡ old.coming.items
       → Requests known layout many u handles (Ok result) old new
   from_kept result live rest enough holds were_kept long keeps coming =
-      let number = number_of old in
+      let number = old.table.number in
       let under = current_in layout old in
       let before = slots_in old in
       let after = slots_in new in
@@ -57,7 +57,6 @@ module _ {L P S D : Type 0} {d : Ghosts D L P S} {R : Type 0} (known : L) (layou
           side = keeps.side;
           gained = gained old new keeps.side (coming ∙ rest.none_coming);
         };
-        names = are_named number under u handles before before after clear holds;
         kept = λ le. (refl, keeps.side, long);
         refused = tt;
         settles = arrived comes old new (holds_arrives number under u handles before before after clear holds live comes (kept_then comes before after after keeps.sets (λ p x e. inl (e, refl)))) (coming ∙ rest.none_coming) rest keeps.stays;
@@ -68,9 +67,9 @@ module _ {L P S D : Type 0} {d : Ghosts D L P S} {R : Type 0} (known : L) (layou
   -- the allocator gave the sets that were missing, and all have handles
   pub from_asked :
       (handles : List SetHandle) (result : R) (new : Store L P S D d) → is_live (frame_of u) true u ≡ true → KeepsStore old asked → AsksAtLast known (many - kept_of layout old) many old asked
-      → HoldEach (number_of asked) (current_in layout asked) u handles (slots_in asked) (slots_in new)
+      → HoldEach asked.table.number (current_in layout asked) u handles (slots_in asked) (slots_in new)
       → ((i : ℕ) → i < length handles → i < kept_of layout asked → is_kept_of layout (slot_at (slots_in asked) (place_at handles i)) ≡ true)
-      → Holds (ComesOf d.meaning known layout) asked new → coming_in new ≡ []
+      → Holds (ComesOf d.meaning known layout) asked new → new.coming.items ≡ []
       → Requests known layout many u handles (Ok result) old new
   from_asked handles result new live stays asks holds kept_first keeps none =
       let brings = brought known layout many old asked short asks in
@@ -86,22 +85,20 @@ module _ {L P S D : Type 0} {d : Ghosts D L P S} {R : Type 0} (known : L) (layou
           side = keeps.side;
           gained = gained asked new keeps.side none;
         };
-        names = are_named (number_of old) (current_in layout old) u handles (slots_in old) (slots_in asked) (slots_in new) brings.clear held;
         kept = λ enough. absurd (omega arith);
         refused = tt;
-        settles = arrived comes old new (holds_arrives (number_of old) (current_in layout old) u handles (slots_in old) (slots_in asked) (slots_in new) brings.clear held live comes keeps.sets) none rest (stays_then old asked new stays keeps.stays);
+        settles = arrived comes old new (holds_arrives old.table.number (current_in layout old) u handles (slots_in old) (slots_in asked) (slots_in new) brings.clear held live comes keeps.sets) none rest (stays_then old asked new stays keeps.stays);
         grows = grow_from (slots_in old) (slots_in asked) (slots_in new) brings.long keeps.grows;
       }
 
   -- it refused them
   pub from_refused :
-      (handles : List SetHandle) (error : AllocationError) → KeepsStore old asked → IsRefusedAtLast known (many - kept_of layout old) many error old asked → coming_in asked ≡ []
+      (handles : List SetHandle) (error : AllocationError) → KeepsStore old asked → IsRefusedAtLast known (many - kept_of layout old) many error old asked → asked.coming.items ≡ []
       → Requests {R = R} known layout many u handles (Err error) old asked
   from_refused handles error stays refused none =
       let comes = ComesOf d.meaning known layout in
       record {
         takes = tt;
-        names = tt;
         kept = λ enough. absurd (omega arith);
         refused = refused;
         settles = arrived comes old asked (refused_arrives comes known (many - kept_of layout old) many error old asked refused) none rest stays;

@@ -6,7 +6,7 @@ use Rattle.gpu_descriptor.specs.Caller.HandsOut.{HandsOut}
 use Rattle.gpu_descriptor.specs.Model.Load.{set_descriptors}
 use Rattle.gpu_descriptor.specs.declared.errors.AllocationError.{AllocationError}
 use Rattle.descriptor_table.specs.Tables.{count, is_kept}
-use Rattle.descriptor_manager.specs.Stores.{AreCleaned, Asks, Cleans, ExceedsLimitAlone, IsCleared, IsRefused, KeepsContents, coming_in, limit_of, side_of, slots_in}
+use Rattle.descriptor_manager.specs.Stores.{AreCleaned, Asks, Cleans, ExceedsLimitAlone, IsCleared, IsRefused, KeepsContents, side_of, slots_in}
 use Rattle.descriptor_manager.specs.declared.store.Store.{Store}
 
 module _ {L P S D : Type 0} {d : Ghosts D L P S} where
@@ -24,13 +24,13 @@ module _ {L P S D : Type 0} {d : Ghosts D L P S} where
     asks_from many asks = record {
       slots = asks.slots ∙ same.slots;
       own = asks.own;
-      hands_out = subst (λ s. HandsOut d.meaning (layout_key d.meaning layout) many (Ok (coming_in new)) s (side_of new)) same.side asks.hands_out;
+      hands_out = subst (λ s. HandsOut d.meaning (layout_key d.meaning layout) many (Ok new.coming.items) s (side_of new)) same.side asks.hands_out;
     }
 
   -- a refusal, and a cleanup
   pub cleared :
       (layout : L) (first last : ℕ) (error : AllocationError) (old refused new : Store L P S D d)
-      → IsRefused layout first error old refused → limit_of refused ≡ limit_of old
+      → IsRefused layout first error old refused → refused.allocator.limit ≡ old.allocator.limit
       → ¬ (ExceedsLimitAlone layout last refused) → count is_kept (slots_in refused) ≢ 0
       → AreCleaned (slots_in refused) (slots_in new) → Cleans refused new → IsCleared layout first last old new
   cleared layout first last error old refused new is limit fits some cleaned cleans = record {

@@ -5,7 +5,7 @@ use Rattle.gpu_descriptor_types.specs.declared.device.DescriptorDevice.{Ghosts}
 use Rattle.descriptor_table.specs.Slots.{slot_at}
 use Rattle.descriptor_table.specs.Tables.{came_under}
 use Rattle.descriptor_table.specs.Slots.{Slot}
-use Rattle.descriptor_manager.specs.Stores.{IsAtRest, NoneComes, SettlesTo, StoreStays, coming_in, is_placed, slots_in}
+use Rattle.descriptor_manager.specs.Stores.{IsAtRest, NoneComes, SettlesTo, StoreStays, is_placed, slots_in}
 use Rattle.descriptor_manager.specs.declared.store.Store.{Store}
 
 -- a slot's set left, or is there under the same layout. If the slot was placed, it is
@@ -15,7 +15,7 @@ pub record Follows {T : Type 0} (o n : Slot T) : Type 0 where
 
 module _ {L P S D : Type 0} {d : Ghosts D L P S} where
   -- if each slot follows what it was, the store settles
-  pub settled : {generations : ℕ → ℕ} {max : ℕ} (old new : Store L P S D d) → ((p : ℕ) → Follows (slot_at (slots_in old) p) (slot_at (slots_in new) p)) → coming_in new ≡ [] → IsAtRest old → StoreStays generations max old new → SettlesTo generations max NoneComes old new
+  pub settled : {generations : ℕ → ℕ} {max : ℕ} (old new : Store L P S D d) → ((p : ℕ) → Follows (slot_at (slots_in old) p) (slot_at (slots_in new) p)) → new.coming.items ≡ [] → IsAtRest old → StoreStays generations max old new → SettlesTo generations max NoneComes old new
   settled old new follows none rest stays = record {
     sets = λ p x e. elim ((follows p).set) [
       | inl gone ↦ absurd (none-some x (sym (sym e ∙ gone)))

@@ -1,7 +1,6 @@
 -- What handles name once sets were freed, waited, or were returned to their pools: for `SetManager::frame_done`, `free`, `cleanup` and others.
 use Rattle.std.proofs.lemmas.Grind.{common_steps}
 use Rattle.std.proofs.Common.{◌≡◌, ℕ, ◌+◌, ◌<◌, ◌&&◌, nat_le, Bool, true, false, List, length, if◌then◌else◌, is_some, None, inl, inr, refl, sym, ap, ◌∙◌, arith}
-use Rattle.std.proofs.lemmas.List.{get_or_past}
 use Rattle.descriptor_table.specs.Sets.{AreHeldOnce, LoseNames, sets_of}
 use Rattle.descriptor_table.specs.Slots.{in_list, is_due, is_live, slot_at, waits_for}
 use Rattle.descriptor_table.specs.Tables.{Turns, aged, is_kept, place_at, vacated, MayBecome, IsBack, used_for, Becomes}
@@ -9,7 +8,6 @@ use Rattle.descriptor_table.specs.declared.handle.SetHandle.{SetHandle}
 use Rattle.descriptor_table.specs.Slots.{Slot}
 use Rattle.descriptor_table.specs.declared.slot.Use.{Use}
 use Rattle.descriptor_table.specs.declared.slot.Use.TheVariants.{Waits}
-use Rattle.descriptor_table.proofs.Counting.{below_or}
 use Rattle.descriptor_table.proofs.Naming.{ShowsSame, names_kept, names_lost, shown}
 use Rattle.descriptor_manager.specs.Stores.{AreCleaned}
 use Rattle.descriptor_table.specs.Tables.{TurnEach}

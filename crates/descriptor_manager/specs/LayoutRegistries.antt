@@ -11,7 +11,7 @@ use Rattle.descriptor_manager.specs.declared.layout_registry.LayoutRegistry.{Lay
 module _ {L P S D : Type 0} {d : Ghosts D L P S} where
   -- the number that marks the registry's handles
   abbrev pub registry_of : LayoutRegistry L P S D d → ℕ
-  registry_of r = tables.number_of r.table
+  registry_of r = r.table.number
 
   -- the slots of the layouts
   abbrev pub layout_slots : LayoutRegistry L P S D d → List (Slot (SetLayout L))

@@ -1,6 +1,6 @@
 -- What a set manager has: layouts, frames, sets by handle, and the pools of its device.
-use Rattle.std.specs.Prelude.{◌≡◌, ℕ, ◌-◌, ◌<◌, Bool, List, length, Option, None, Some, min, slice_index_or, if◌then◌else◌, ◌≤◌, ◌↔◌, Result, OnOk, OnErr, IsErrOf}
-use Rattle.gpu_descriptor_types.specs.Ledger.{Ledger, Pool}
+use Rattle.std.specs.Prelude.{◌≡◌, ℕ, ◌-◌, ◌<◌, Bool, List, length, Option, None, Some, min, slice_index_or, ◌↔◌, Result, OnErr, IsErrOf, if◌then◌else◌}
+use Rattle.gpu_descriptor_types.specs.Ledger.{Pool}
 use Rattle.gpu_descriptor_types.specs.Meaning.{IsOfLayout}
 use Rattle.gpu_descriptor_types.specs.Side.{Side}
 use Rattle.gpu_descriptor_types.specs.declared.device.DescriptorDevice.{Ghosts}
@@ -9,19 +9,16 @@ use Rattle.gpu_descriptor.specs.Caller.Values.{Allocations}
 use Rattle.gpu_descriptor.specs.Model.Books.{BucketOf, books_of}
 use Rattle.gpu_descriptor.specs.declared.layout.SetLayout.{SetLayout}
 use Rattle.gpu_descriptor.specs.declared.set.DescriptorSet.{DescriptorSet}
-use Rattle.descriptor_table.specs.Sets.{NameEach, Sets, sets_of, AreHeldOnce, LoseNames}
+use Rattle.descriptor_table.specs.Sets.{NameEach, Sets, sets_of}
 use Rattle.descriptor_table.specs.declared.handle.SetHandle.{SetHandle}
 use Rattle.descriptor_table.specs.Slots.{Slot}
 use Rattle.descriptor_manager.specs.LayoutRegistries.{layout_at, layout_slots, layouts_by}
 use Rattle.descriptor_manager.specs.Stores as stores
 use Rattle.descriptor_manager.specs.declared.layout_registry.LayoutHandle.{LayoutHandle}
 use Rattle.descriptor_manager.specs.declared.manager.SetManager.{SetManager}
-use Rattle.descriptor_table.specs.Tables.{used_for, Becomes, Grows, TurnEach}
-use Rattle.descriptor_table.specs.declared.slot.Use.TheVariants.{Waits}
+use Rattle.descriptor_table.specs.Tables.{Grows}
 use Rattle.descriptor_manager.specs.declared.errors.RequestError.{RequestError}
 use Rattle.descriptor_manager.specs.declared.errors.RequestError.TheVariants.{NoFrame, NoLayout}
-use Rattle.descriptor_manager.specs.declared.errors.FreeError.{FreeError}
-use Rattle.descriptor_manager.specs.declared.errors.FreeError.TheVariants.{FrameAhead, NoSet}
 
 -- what a caller sees of a set manager
 pub record Rendering (L P S : Type 0) : Type 0 where
@@ -53,10 +50,6 @@ module _ {L P S D : Type 0} {d : Ghosts D L P S} where
   abbrev pub store_of : ManagerOver d → stores.StoreOver d
   store_of r = r.store
 
-  -- the number that marks the handles of its sets and layouts
-  abbrev pub number_of : ManagerOver d → ℕ
-  number_of r = r.manager
-
   -- the slots of the layouts
   abbrev pub layouts_in : ManagerOver d → List (Slot (SetLayout L))
   layouts_in r = layout_slots r.layouts
@@ -64,10 +57,6 @@ module _ {L P S D : Type 0} {d : Ghosts D L P S} where
   -- the layout of a handle; None if the layout was removed, or if the handle is another set manager's
   abbrev pub layout_of : ManagerOver d → LayoutHandle → Option (SetLayout L)
   layout_of r = layout_at r.layouts
-
-  -- whether a handle was ever given for a layout
-  abbrev pub layout_given : ManagerOver d → LayoutHandle → Bool
-  layout_given r h = (layouts_by r.layouts).given h.slot
 
   -- the frame that was opened or skipped last, 0 before the first
   abbrev pub frame_of : ManagerOver d → ℕ
@@ -85,21 +74,9 @@ module _ {L P S D : Type 0} {d : Ghosts D L P S} where
   abbrev pub sets_by : ManagerOver d → Sets (DescriptorSet S)
   sets_by r = sets_of r.manager r.frame r.is_open (slots_of r)
 
-  -- how many layouts of each number were removed
-  abbrev pub generations_of : ManagerOver d → ℕ → ℕ
-  generations_of r = stores.generations_in r.store
-
   -- how many sets of a layout are kept
   abbrev pub kept_of : LayoutHandle → ManagerOver d → ℕ
   kept_of layout r = stores.kept_of layout.slot.place r.store
-
-  -- the max of the kept sets of a layout
-  abbrev pub keep_of : ManagerOver d → ℕ
-  keep_of r = stores.keep_of r.store
-
-  -- the ledger of the device
-  abbrev pub ledger_in : ManagerOver d → Ledger
-  ledger_in r = d.ledger r.store.device
 
   -- the live pools of the device that aren't the set manager's
   abbrev pub pools_besides : ManagerOver d → ℕ → Option Pool
@@ -109,14 +86,6 @@ module _ {L P S D : Type 0} {d : Ghosts D L P S} where
   abbrev pub side_of : ManagerOver d → Side (Allocations P)
   side_of r = stores.side_of r.store
 
-  -- the limit on update-after-bind descriptors
-  abbrev pub limit_of : ManagerOver d → ℕ
-  limit_of r = stores.limit_of r.store
-
-  -- the bound on the descriptors of a new pool, which only the sets still needed exceed
-  abbrev pub bound_of : ManagerOver d → Option ℕ
-  bound_of r = stores.bound_of r.store
-
   -- the last frame, of those up to this one, that the device can be done with: the open frame is not among them
   abbrev pub done_of : ℕ → ManagerOver d → ℕ
   done_of frame r = if r.is_open then min frame (r.frame - 1) else frame
@@ -124,18 +93,18 @@ module _ {L P S D : Type 0} {d : Ghosts D L P S} where
   -- all that callers see of a set manager. A clause says with it that all this stays, except the fields that the call may change: a clause for each field was 72 clauses more
   abbrev pub seen : ManagerOver d → Rendering L P S
   seen r = record {
-    number = number_of r;
+    number = r.manager;
     layouts = layout_of r;
-    given = layout_given r;
+    given = λ h. (layouts_by r.layouts).given h.slot;
     frame = frame_of r;
     is_open = is_open r;
     slots = slots_of r;
-    generations = generations_of r;
-    keep = keep_of r;
+    generations = stores.generations_in r.store;
+    keep = r.store.table.keep;
     side = side_of r;
     pools_besides = pools_besides r;
-    limit = limit_of r;
-    bound = bound_of r;
+    limit = r.store.allocator.limit;
+    bound = r.store.allocator.bound;
   }
 
   -- all that is seen stays, except the slots of sets, and their pools
@@ -158,16 +127,6 @@ module _ {L P S D : Type 0} {d : Ghosts D L P S} where
     pub no_frame : ¬ (IsErrOf result NoFrame)
     pub no_layout : (IsErrOf result NoLayout) ↔ (layout_of old layout ≡ None)
     pub early : IsErrOf result NoLayout → seen new ≡ seen old
-
-  -- the sets wait for the frame, and their handles are invalid. Nothing changes if the frame is later than the last one, or if a handle has no held set or is there twice
-  pub record Destroys (handles : List SetHandle) (frame : ℕ) (result : Result Unit FreeError) (old new : ManagerOver d) : Type 0 where
-    pub waits : OnOk result (TurnEach handles (Becomes (used_for (Waits frame))) (slots_of old) (slots_of new))
-    pub names : OnOk result (LoseNames handles (sets_by old) (sets_by new))
-    pub once : OnOk result (AreHeldOnce (number_of old) (slots_of old) handles)
-    pub ahead : (IsErrOf result FrameAhead) ↔ (frame_of old < frame)
-    pub no_set : (IsErrOf result NoSet) ↔ ((frame ≤ frame_of old) × ¬ (AreHeldOnce (number_of old) (slots_of old) handles))
-    pub stay : OnErr result (slots_of new ≡ slots_of old)
-    pub rest : seen new ≡ record (seen old) { slots = slots_of new }
 
   -- the pools for sets of layouts with this one's key
   abbrev pub pools_for : L → ManagerOver d → BucketOf P

@@ -8,7 +8,7 @@ use Rattle.gpu_descriptor.specs.declared.set.DescriptorSet.{DescriptorSet}
 use Rattle.descriptor_table.specs.Slots.{slot_at}
 use Rattle.descriptor_table.specs.Tables.{came_under, current}
 use Rattle.descriptor_table.specs.Slots.{Slot}
-use Rattle.descriptor_manager.specs.Stores.{IsAtRest, generations_in, lists_for, lists_in, number_of, slots_in}
+use Rattle.descriptor_manager.specs.Stores.{IsAtRest, generations_in, lists_for, lists_in, slots_in}
 use Rattle.descriptor_manager.specs.declared.store.Store.{Store}
 
 module _ {L P S : Type 0} (means : Meaning L P S) where
@@ -42,4 +42,4 @@ pub record HasSetsOf {L P S D : Type 0} {d : Ghosts D L P S} (layouts : List (Sl
   pub counted : AreCounted (generations_in s) layouts
   -- the table has a list for each layout
   pub lists : lists_in s ≡ lists_for (length layouts)
-  pub number : number_of s ≡ manager
+  pub number : s.table.number ≡ manager

@@ -1,6 +1,6 @@
 -- What a set manager's store has (the table of its sets, and the allocator over a device), and what its calls do.
 use Rattle.std.specs.Prelude.{◌≡◌, ◌≢◌, ℕ, zero, suc, ◌+◌, ◌-◌, ◌<◌, ◌≤◌, ◌⊎◌, ◌||◌, true, not, Bool, List, [], ◌∷◌, length, slice_index_or, if◌then◌else◌, is_some, Option, Result, Some, Ok, Err, None, IfErr, IsOk, OnOk}
-use Rattle.gpu_descriptor_types.specs.Ledger.{Ledger, Pool}
+use Rattle.gpu_descriptor_types.specs.Ledger.{Pool}
 use Rattle.gpu_descriptor.specs.Caller.Others.{others_of}
 use Rattle.gpu_descriptor_types.specs.Meaning.{IsOfLayout, Meaning}
 use Rattle.gpu_descriptor_types.specs.Side.{Side, side}
@@ -9,7 +9,6 @@ use Rattle.gpu_descriptor.specs.Caller.Call.{layout_key}
 use Rattle.gpu_descriptor.specs.Caller.CleansUp.{Sweeps, TrimsKey}
 use Rattle.gpu_descriptor.specs.Caller.Frees.{Returns}
 use Rattle.gpu_descriptor.specs.Caller.HandsOut.{HandsOut}
-use Rattle.gpu_descriptor.specs.Caller.Keeps.{Keeps}
 use Rattle.gpu_descriptor.specs.Caller.SetLayouts.{IsMeant}
 use Rattle.gpu_descriptor.specs.Caller.Sets.{AreOfLayout, items_of}
 use Rattle.gpu_descriptor.specs.Caller.Values.{Allocations}
@@ -19,9 +18,9 @@ use Rattle.gpu_descriptor.specs.declared.errors.AllocationError.{AllocationError
 use Rattle.gpu_descriptor.specs.declared.errors.AllocationError.TheVariants.{OutOfHostMemory}
 use Rattle.gpu_descriptor.specs.declared.layout.SetLayout.{SetLayout}
 use Rattle.gpu_descriptor.specs.declared.set.DescriptorSet.{DescriptorSet}
-use Rattle.descriptor_table.specs.Sets.{NameEach, sets_in, sets_of}
-use Rattle.descriptor_table.specs.Slots.{filled, is_kept_of, is_live, slot_at, waits}
-use Rattle.descriptor_table.specs.Tables.{Becomes, Grows, HasRoom, IsBack, Turns, aged, came_under, count, current, generations_of, holds, is_kept, is_usable, lists_of, place_at, removed_at, renewed, slots_of, vacated}
+use Rattle.descriptor_table.specs.Sets.{sets_in}
+use Rattle.descriptor_table.specs.Slots.{filled, is_kept_of, slot_at, waits}
+use Rattle.descriptor_table.specs.Tables.{Becomes, Grows, HasRoom, IsBack, Turns, aged, came_under, count, current, generations_of, holds, is_kept, is_usable, lists_of, place_at, removed_at, settings_of, renewed, slots_of, vacated}
 use Rattle.descriptor_table.specs.declared.handle.SetHandle.{SetHandle}
 use Rattle.descriptor_table.specs.Slots.{Slot}
 use Rattle.descriptor_table.specs.declared.slot.Use.{Use}
@@ -89,26 +88,6 @@ module _ {L P S D : Type 0} {d : Ghosts D L P S} where
   abbrev pub side_of : StoreOver d → Side (Allocations P)
   side_of s = side s.allocator (d.ledger s.device)
 
-  -- the ledger of the device
-  abbrev pub ledger_of : StoreOver d → Ledger
-  ledger_of s = d.ledger s.device
-
-  -- the limit of the allocator
-  abbrev pub limit_of : StoreOver d → ℕ
-  limit_of s = s.allocator.limit
-
-  -- the bound on the descriptors of a new pool, which only the sets still needed exceed
-  abbrev pub bound_of : StoreOver d → Option ℕ
-  bound_of s = s.allocator.bound
-
-  -- the number that marks the handles of the table
-  abbrev pub number_of : StoreOver d → ℕ
-  number_of s = s.table.number
-
-  -- the max of the kept sets of a layout
-  abbrev pub keep_of : StoreOver d → ℕ
-  keep_of s = s.table.keep
-
   -- how many lists the table has
   abbrev pub lists_in : StoreOver d → ℕ
   lists_in s = lists_of s.table
@@ -125,10 +104,6 @@ module _ {L P S D : Type 0} {d : Ghosts D L P S} where
   abbrev pub HasLayout : ℕ → StoreOver d → Type 0
   HasLayout layout s = layout + 2 < lists_in s
 
-  -- the new sets of a request that are not in the table yet
-  abbrev pub coming_in : StoreOver d → List (DescriptorSet S)
-  coming_in s = s.coming.items
-
   -- the live pools of the device that aren't the allocator's
   abbrev pub pools_besides : StoreOver d → ℕ → Option Pool
   pools_besides s = others_of d.meaning.pool_name s.allocator (d.ledger s.device)
@@ -139,33 +114,30 @@ module _ {L P S D : Type 0} {d : Ghosts D L P S} where
 
   -- no set is on its way into the table, and each set is held, waits for a frame, or is kept
   pub record IsAtRest (s : StoreOver d) : Type 0 where
-    pub none_coming : coming_in s ≡ []
+    pub none_coming : s.coming.items ≡ []
     pub placed : (p : ℕ) → is_placed (slot_at (slots_in s) p) ≡ true
 
-  -- number, lists, limit and bound are as they were, and so are the pools that aren't the allocator's. This many layouts of each number were removed, and at most `max` sets of a layout are kept
+  -- this many layouts of each number were removed, and at most `max` sets of a layout are kept. Else the settings of the table are as they were, and so are limit, bound, and the pools that aren't the allocator's
   pub record StoreStays (removed : ℕ → ℕ) (max : ℕ) (old new : StoreOver d) : Type 0 where
-    pub number : number_of new ≡ number_of old
-    pub lists : lists_in new ≡ lists_in old
-    pub generations : generations_in new ≡ removed
-    pub limit : limit_of new ≡ limit_of old
-    pub bound : bound_of new ≡ bound_of old
+    pub settings : settings_of new.table ≡ record (settings_of old.table) { generations = removed; keep = max }
+    pub limit : new.allocator.limit ≡ old.allocator.limit
+    pub bound : new.allocator.bound ≡ old.allocator.bound
     pub besides : pools_besides new ≡ pools_besides old
-    pub keeps : keep_of new ≡ max
 
   -- all of these are as they were
   abbrev pub KeepsStore : StoreOver d → StoreOver d → Type 0
-  KeepsStore old new = StoreStays (generations_in old) (keep_of old) old new
+  KeepsStore old new = StoreStays (generations_in old) old.table.keep old new
 
   -- the same, and the same sets are on their way into the table
   pub record KeepsComing (old new : StoreOver d) : Type 0 where
     pub store : KeepsStore old new
-    pub coming : coming_in new ≡ coming_in old
+    pub coming : new.coming.items ≡ old.coming.items
 
   -- the slots, the allocator and the ledger are as they were, and the same sets are on their way into the table
   pub record KeepsContents (old new : StoreOver d) : Type 0 where
     pub slots : slots_in new ≡ slots_in old
     pub side : side_of new ≡ side_of old
-    pub coming : coming_in new ≡ coming_in old
+    pub coming : new.coming.items ≡ old.coming.items
 
   -- each set was in its slot before, under its layout, or passes the test; none is on its way into the table
   pub record SettlesTo (removed : ℕ → ℕ) (max : ℕ) (comes : ℕ → DescriptorSet S → Type 0) (old new : StoreOver d) : Type 0 where
@@ -175,7 +147,7 @@ module _ {L P S D : Type 0} {d : Ghosts D L P S} where
 
   -- the same, with layouts and the max of kept sets as they were
   abbrev pub Settles : (ℕ → DescriptorSet S → Type 0) → StoreOver d → StoreOver d → Type 0
-  Settles comes old new = SettlesTo (generations_in old) (keep_of old) comes old new
+  Settles comes old new = SettlesTo (generations_in old) old.table.keep comes old new
 
   -- sets of the layout, which has this number, may be requested
   pub record CanTake (known : SetLayout L) (number : ℕ) (s : StoreOver d) : Type 0 where
@@ -185,14 +157,14 @@ module _ {L P S D : Type 0} {d : Ghosts D L P S} where
 
   -- sets returned to their pools, and then all empty pools were destroyed
   pub record Cleans (old new : StoreOver d) : Type 0 where
-    pub sets : List (DescriptorSet S)
     pub mid : Side (Allocations P)
-    pub returns : Returns d.meaning sets (side_of old) mid
+    pub mid : Side (Allocations P)
+    pub back : GaveBack d.meaning (side_of old) mid
     pub cleans : Sweeps true d.meaning mid (side_of new)
 
   -- `many` sets of the layout alone have more descriptors than the limit allows
   abbrev pub ExceedsLimitAlone : L → ℕ → StoreOver d → Type 0
-  ExceedsLimitAlone known many s = limit_of s < set_descriptors (layout_key d.meaning known) many
+  ExceedsLimitAlone known many s = s.allocator.limit < set_descriptors (layout_key d.meaning known) many
 
   -- the allocator refused `many` sets, for which the table had room. All slots are as they were
   pub record IsRefused (known : L) (many : ℕ) (error : AllocationError) (old new : StoreOver d) : Type 0 where
@@ -231,8 +203,8 @@ module _ {L P S D : Type 0} {d : Ghosts D L P S} where
   -- the allocator gave `many` sets of the layout, which are on their way into the table
   pub record Asks (known : L) (many : ℕ) (old new : StoreOver d) : Type 0 where
     pub slots : slots_in new ≡ slots_in old
-    pub own : AreOfLayout d.meaning known (coming_in new)
-    pub hands_out : HandsOut d.meaning (layout_key d.meaning known) many (Ok (coming_in new)) (side_of old) (side_of new)
+    pub own : AreOfLayout d.meaning known new.coming.items
+    pub hands_out : HandsOut d.meaning (layout_key d.meaning known) many (Ok new.coming.items) (side_of old) (side_of new)
 
   -- the allocator gave the first number of sets at once, or the last after all kept sets returned to their pools
   abbrev pub AsksAtLast : L → ℕ → ℕ → StoreOver d → StoreOver d → Type 0
@@ -245,7 +217,7 @@ module _ {L P S D : Type 0} {d : Ghosts D L P S} where
 
   -- a set that is freed is kept, or left its slot
   abbrev pub IsFreed : StoreOver d → List (Slot (DescriptorSet S)) → Slot (DescriptorSet S) → Slot (DescriptorSet S) → Type 0
-  IsFreed s = IsBack vacated (generations_in s) (keep_of s)
+  IsFreed s = IsBack vacated (generations_in s) s.table.keep
 
   -- one free_from returned the kept sets of the layout to their pools, if there were any, and all other slots are as they were. Then the empty pools of its key were destroyed
   pub record Removes (known : L) (layout : ℕ) (old new : StoreOver d) : Type 0 where
@@ -266,15 +238,14 @@ module _ {L P S D : Type 0} {d : Ghosts D L P S} where
     pub enough : many ≤ kept_of layout old → ready ≡ old
     pub asks : kept_of layout old < many → AsksAtLast known (many - kept_of layout old) many old ready
     pub kept_first : (i : ℕ) → i < length handles → i < kept_of layout ready → is_kept_of layout (slot_at (slots_in ready) (place_at handles i)) ≡ true
-    pub holds : HoldEach (number_of old) (current_in layout old) u handles (slots_in ready) (slots_in new)
+    pub holds : HoldEach old.table.number (current_in layout old) u handles (slots_in ready) (slots_in new)
     pub side : side_of new ≡ side_of ready
     -- the sets that were on their way are in the table
-    pub gained : (t : Item) → count_of t (items_of d.meaning.set_name (sets_in (slots_in new))) ≡ count_of t (items_of d.meaning.set_name (sets_in (slots_in ready))) + count_of t (items_of d.meaning.set_name (coming_in ready))
+    pub gained : (t : Item) → count_of t (items_of d.meaning.set_name (sets_in (slots_in new))) ≡ count_of t (items_of d.meaning.set_name (sets_in (slots_in ready))) + count_of t (items_of d.meaning.set_name ready.coming.items)
 
   -- a request for `many` sets of the layout in this use: the handles name them, or it is refused
   pub record Requests {R : Type 0} (known : L) (layout many : ℕ) (u : Use) (handles : List SetHandle) (result : Result R AllocationError) (old new : StoreOver d) : Type 0 where
     pub takes : OnOk result (Takes known layout many u handles old new)
-    pub names : OnOk result ((frame : ℕ) (opened : Bool) → is_live frame opened u ≡ true → NameEach handles (sets_of (number_of old) frame opened (slots_in old)) (sets_of (number_of old) frame opened (slots_in new)))
     -- if as many are kept the device isn't called
     pub kept : many ≤ kept_of layout old → IsOk result × (side_of new ≡ side_of old) × (length (slots_in new) ≡ length (slots_in old))
     pub refused : IfErr result (λ error. IsRefusedAtLast known (many - kept_of layout old) many error old new)
@@ -284,7 +255,7 @@ module _ {L P S D : Type 0} {d : Ghosts D L P S} where
   -- the table has room to hold the sets that are on their way, under the layout of this number
   pub record CanHold (number : ℕ) (s : StoreOver d) : Type 0 where
     pub layout : HasLayout number s
-    pub table : HasRoom (length (coming_in s)) s.table
+    pub table : HasRoom (length s.coming.items) s.table
 
   -- sets are held without a call of the device: each was in its slot before, or passes the test
   pub record Holds (comes : ℕ → DescriptorSet S → Type 0) (old new : StoreOver d) : Type 0 where

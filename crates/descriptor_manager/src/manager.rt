@@ -69,10 +69,10 @@ pub struct SetManager<L, P, S, D: DescriptorDevice<L, P, S>> {
 impl<L: Drop, P: Drop, S: Drop, D: DescriptorDevice<L, P, S>> SetManager<L, P, S, D> {
     ghost use Rattle.gpu_descriptor.specs.declared.layout.SetLayout.{SetLayout};
     ghost use Rattle.descriptor_manager.specs.declared.layout_registry.LayoutHandle.{LayoutHandle};
-    ghost use Rattle.descriptor_manager.specs.Managers.{OnlySetsChange, bound_of, frame_of, generations_of, is_open};
-    ghost use Rattle.descriptor_manager.specs.Managers.{kept_of, layout_given, layout_of};
-    ghost use Rattle.descriptor_manager.specs.Managers.{layouts_in, ledger_in, limit_of, keep_of};
-    ghost use Rattle.descriptor_manager.specs.Managers.{number_of, pools_besides, seen};
+    ghost use Rattle.descriptor_manager.specs.Managers.{OnlySetsChange, frame_of, is_open};
+    ghost use Rattle.descriptor_manager.specs.Managers.{kept_of, layout_of};
+    ghost use Rattle.descriptor_manager.specs.Managers.{layouts_in};
+    ghost use Rattle.descriptor_manager.specs.Managers.{pools_besides, seen};
     ghost use Rattle.descriptor_manager.specs.Managers.{sets_by, side_of, slots_of, store_of};
 
     /// A set manager over a device, without layouts, sets or an open frame. It allocates no memory.
@@ -86,12 +86,12 @@ impl<L: Drop, P: Drop, S: Drop, D: DescriptorDevice<L, P, S>> SetManager<L, P, S
         ensures frame { frame_of result ≡ 0 }
         ensures open { is_open result ≡ false }
         ensures slots { slots_of result ≡ [] }
-        ensures keep { keep_of result ≡ u32.MAX }
+        ensures keep { (seen result).keep ≡ u32.MAX }
         ensures pools { pools_besides result ≡ (D.ledger device).pools }
-        ensures limit { limit_of result ≡ limit }
-        ensures bound { bound_of result ≡ Some 65536 }
-        ensures ledger { ledger_in result ≡ D.ledger device }
-        ensures number { number_of result ≡ manager }
+        ensures limit { (seen result).limit ≡ limit }
+        ensures bound { (seen result).bound ≡ Some 65536 }
+        ensures ledger { (side_of result).ledger ≡ D.ledger device }
+        ensures number { (seen result).number ≡ manager }
     {
         SetManager {
             store: Store::new(alloc, device, limit, manager),
@@ -110,17 +110,17 @@ impl<L: Drop, P: Drop, S: Drop, D: DescriptorDevice<L, P, S>> SetManager<L, P, S
     ) -> Result<LayoutHandle, AllocFailed<SetLayout<L>>>
         requires { IsMeant D.meaning layout }
         ensures added { IfOk result (λ handle. layout_of self.new handle ≡ Some layout) }
-        ensures never { IfOk result (λ handle. layout_given self.old handle ≡ false) }
-        ensures given { IfOk result (λ handle. layout_given self.new handle ≡ true) }
+        ensures never { IfOk result (λ handle. (seen self.old).given handle ≡ false) }
+        ensures given { IfOk result (λ handle. (seen self.new).given handle ≡ true) }
         ensures fresh { IfOk result (λ handle. layout_of self.old handle ≡ None) }
         ensures others { IfOk result (λ handle. (other : LayoutHandle) → other ≢ handle
             → (layout_of self.new other ≡ layout_of self.old other)
-            × (layout_given self.new other ≡ layout_given self.old other)) }
+            × ((seen self.new).given other ≡ (seen self.old).given other)) }
         ensures grows { Grows (layouts_in self.old) (layouts_in self.new) }
         ensures stay { OnErr result (seen self.new ≡ seen self.old) }
         ensures back { IfErr result (λ failed. failed.value ≡ layout) }
         ensures rest { seen self.new ≡ record (seen self.old)
-            { layouts = layout_of self.new; given = layout_given self.new } }
+            { layouts = layout_of self.new; given = (seen self.new).given } }
     {
         if self.store.reserve_layout().is_err() {
             return Err(AllocFailed { value: layout });
@@ -158,7 +158,7 @@ impl<L: Drop, P: Drop, S: Drop, D: DescriptorDevice<L, P, S>> SetManager<L, P, S
         ensures rest { seen self.new ≡ record (seen self.old) {
           layouts = layout_of self.new;
           slots = slots_of self.new;
-          generations = generations_of self.new;
+          generations = (seen self.new).generations;
           side = side_of self.new;
         } }
     {
@@ -176,7 +176,7 @@ impl<L: Drop, P: Drop, S: Drop, D: DescriptorDevice<L, P, S>> SetManager<L, P, S
     /// when memory is short.
     pub fn cleanup(&mut self)
         ensures emptied { count holds (slots_of self.old) ≡ 0 → count waits (slots_of self.old) ≡ 0
-            → (ledger_in self.new).pools ≡ pools_besides self.old }
+            → ((side_of self.new).ledger).pools ≡ pools_besides self.old }
         ensures none_kept { count is_kept (slots_of self.new) ≡ 0 }
         ensures names { sets_by self.new ≡ sets_by self.old }
         ensures cleaned { AreCleaned (slots_of self.old) (slots_of self.new) }
@@ -212,7 +212,7 @@ impl<L: Drop, P: Drop, S: Drop, D: DescriptorDevice<L, P, S>> SetManager<L, P, S
     /// Bounds a new pool to the sets that have at most `max` descriptors, or to the sets still needed if
     /// these are more. `None` removes the bound. Existing pools stay as they are.
     pub fn set_max_pool_descriptors(&mut self, max: Option<u64>)
-        ensures ledger { ledger_in self.new ≡ ledger_in self.old }
+        ensures ledger { (side_of self.new).ledger ≡ (side_of self.old).ledger }
         ensures rest { seen self.new ≡ record (seen self.old)
             { bound = max; side = side_of self.new } }
     {
@@ -221,7 +221,7 @@ impl<L: Drop, P: Drop, S: Drop, D: DescriptorDevice<L, P, S>> SetManager<L, P, S
 
     /// The bound on the descriptors of a new pool, `None` without one. See `set_max_pool_descriptors`.
     pub fn max_pool_descriptors(&self) -> Option<u64>
-        ensures { result ≡ bound_of self.now }
+        ensures { result ≡ (seen self.now).bound }
     {
         self.store.max_pool_descriptors()
     }
@@ -235,7 +235,7 @@ impl<L: Drop, P: Drop, S: Drop, D: DescriptorDevice<L, P, S>> SetManager<L, P, S
 
     /// The device, to write sets and to bind them.
     pub fn device(&self) -> &D
-        ensures { D.ledger result.now ≡ ledger_in self.now }
+        ensures { D.ledger result.now ≡ (side_of self.now).ledger }
     {
         self.store.device()
     }
@@ -273,7 +273,7 @@ impl<L: Drop, P: Drop, S: Drop, D: DescriptorDevice<L, P, S>> SetManager<L, P, S
     pub fn kept_count(&self, layout: LayoutHandle) -> u32
         ensures kept { IsSome (layout_of self.now layout) → result ≡ kept_of layout self.now }
         ensures none { layout_of self.now layout ≡ None → result ≡ 0 }
-        ensures few { result ≤ keep_of self.now }
+        ensures few { result ≤ (seen self.now).keep }
     {
         match self.layouts.get(layout) {
             Some(_) => self.store.kept_count(layout.place()),
@@ -294,7 +294,7 @@ impl<L: Drop, P: Drop, S: Drop, D: DescriptorDevice<L, P, S>> SetManager<L, P, S
     /// Returns the device without a call to it: its pools stay, with their sets. It is for a device that
     /// was lost or that misbehaved. Otherwise use `shutdown`, which destroys the pools.
     pub fn into_device(self) -> D
-        ensures { D.ledger result ≡ ledger_in self }
+        ensures { D.ledger result ≡ (side_of self).ledger }
     {
         let SetManager {
             layouts: _,

@@ -8,7 +8,7 @@ ghost use Rattle.gpu_descriptor.specs.Caller.States.{Agrees, outstanding_of, sta
 ghost use Rattle.gpu_descriptor.proofs.callers.OneAgreement.{Agrees-prop};
 ghost use Rattle.descriptor_table.specs.Sets.{find, sets_in};
 ghost use Rattle.descriptor_table.specs.Slots.{generation_at, waits};
-ghost use Rattle.descriptor_table.specs.Tables.{HasListRoom, HasRoom, HasSettings, count, holds, is_kept, lists_with, settings_of, slots_of};
+ghost use Rattle.descriptor_table.specs.Tables.{HasListRoom, HasRoom, count, holds, is_kept, lists_with, settings_of, slots_of};
 ghost use Rattle.descriptor_manager.specs.Exact.{AreExactly};
 
 mod back;
@@ -50,25 +50,25 @@ pub(crate) struct Store<L, P, S, D: DescriptorDevice<L, P, S>> {
 }
 
 impl<L: Drop, P: Drop, S: Drop, D: DescriptorDevice<L, P, S>> Store<L, P, S, D> {
-    ghost use Rattle.descriptor_manager.specs.Stores.{HasLayout, IsAtRest, KeepsContents, KeepsStore, coming_in, kept_of, ledger_of};
+    ghost use Rattle.descriptor_manager.specs.Stores.{HasLayout, IsAtRest, KeepsContents, KeepsStore, kept_of};
     ghost use Rattle.descriptor_manager.specs.Stores.{ExceedsLimitAlone, LacksRoom};
-    ghost use Rattle.descriptor_manager.specs.Stores.{bound_of, keep_of, limit_of, lists_in, number_of};
+    ghost use Rattle.descriptor_manager.specs.Stores.{lists_in};
     ghost use Rattle.descriptor_manager.specs.Stores.{pools_besides, side_of, slots_in};
 
     /// A store without sets and layouts, for the set manager of this number. `limit` is the allocator's
     /// limit on update-after-bind descriptors. New pools are bounded. It allocates no memory.
     pub(crate) fn new(alloc: Global, device: D, limit: u32, number: u64) -> Self
         ensures slots { slots_in result ≡ [] }
-        ensures ledger { ledger_of result ≡ D.ledger device }
+        ensures ledger { (side_of result).ledger ≡ D.ledger device }
         ensures besides { pools_besides result ≡ (D.ledger device).pools }
-        ensures limit { limit_of result ≡ limit }
-        ensures bound { bound_of result ≡ Some 65536 }
-        ensures settings { HasSettings (record {
+        ensures limit { result.allocator.limit ≡ limit }
+        ensures bound { result.allocator.bound ≡ Some 65536 }
+        ensures settings { settings_of result.table ≡ record {
           number = number;
           lists = 0;
           generations = generation_at [];
           keep = u32.MAX;
-        }) result.table }
+        } }
         ensures rest { IsAtRest result }
     {
         let mut allocator = DescriptorAllocator::new(alloc, limit);
@@ -94,8 +94,8 @@ impl<L: Drop, P: Drop, S: Drop, D: DescriptorDevice<L, P, S>> Store<L, P, S, D> 
     /// Adds a layout into reserved memory.
     pub(crate) fn add_layout(&mut self)
         requires { HasListRoom self.old.table }
-        ensures settings { HasSettings (record (settings_of self.old.table)
-            { lists = lists_with (lists_in self.old) }) self.new.table }
+        ensures settings { settings_of self.new.table ≡ record (settings_of self.old.table)
+            { lists = lists_with (lists_in self.old) } }
         ensures contents { KeepsContents self.old self.new }
     {
         self.table.add_layout();
@@ -128,19 +128,19 @@ impl<L: Drop, P: Drop, S: Drop, D: DescriptorDevice<L, P, S>> Store<L, P, S, D> 
     /// Bounds a new pool to `max` descriptors, unless the sets still needed have more. `None` removes
     /// the bound.
     pub(crate) fn set_max_pool_descriptors(&mut self, max: Option<u64>)
-        ensures bound { bound_of self.new ≡ max }
+        ensures bound { self.new.allocator.bound ≡ max }
         ensures table { self.new.table ≡ self.old.table }
-        ensures ledger { ledger_of self.new ≡ ledger_of self.old }
+        ensures ledger { (side_of self.new).ledger ≡ (side_of self.old).ledger }
         ensures besides { pools_besides self.new ≡ pools_besides self.old }
-        ensures limit { limit_of self.new ≡ limit_of self.old }
-        ensures coming { coming_in self.new ≡ coming_in self.old }
+        ensures limit { self.new.allocator.limit ≡ self.old.allocator.limit }
+        ensures coming { self.new.coming.items ≡ self.old.coming.items }
     {
         self.allocator.set_max_pool_descriptors(max);
     }
 
     /// The bound on the descriptors of a new pool, `None` without one.
     pub(crate) fn max_pool_descriptors(&self) -> Option<u64>
-        ensures { result ≡ bound_of self.now }
+        ensures { result ≡ self.now.allocator.bound }
     {
         self.allocator.max_pool_descriptors()
     }
@@ -148,7 +148,7 @@ impl<L: Drop, P: Drop, S: Drop, D: DescriptorDevice<L, P, S>> Store<L, P, S, D> 
     /// The raw set of a handle, while `frame` is the open frame if `is_open`.
     #[inline]
     pub(crate) fn get(&self, handle: SetHandle, frame: u64, is_open: bool) -> Option<&S>
-        ensures { option_copied result ≡ option_map raw_of (find (number_of self.now) frame is_open
+        ensures { option_copied result ≡ option_map raw_of (find self.now.table.number frame is_open
             (slots_in self.now) handle) }
     {
         let set = self.table.get(handle, frame, is_open)?;
@@ -159,7 +159,7 @@ impl<L: Drop, P: Drop, S: Drop, D: DescriptorDevice<L, P, S>> Store<L, P, S, D> 
     pub(crate) fn kept_count(&self, layout: u32) -> u32
         requires { HasLayout layout self.now }
         ensures count { result ≡ kept_of layout self.now }
-        ensures few { result ≤ keep_of self.now }
+        ensures few { result ≤ self.now.table.keep }
     {
         self.table.kept_count(layout)
     }
@@ -187,14 +187,14 @@ impl<L: Drop, P: Drop, S: Drop, D: DescriptorDevice<L, P, S>> Store<L, P, S, D> 
     }
 
     pub(crate) fn device(&self) -> &D
-        ensures { D.ledger result.now ≡ ledger_of self.now }
+        ensures { D.ledger result.now ≡ (side_of self.now).ledger }
     {
         &self.device
     }
 
     /// Returns the device without a call to it.
     pub(crate) fn into_device(self) -> D
-        ensures { D.ledger result ≡ ledger_of self }
+        ensures { D.ledger result ≡ (side_of self).ledger }
     {
         let Store {
             device,

@@ -1,7 +1,7 @@
 -- What a list of entries says of slots and of their nexts, when an entry changes: for the methods of `SlotList`.
 use Rattle.std.proofs.Common.{◌≡◌, ℕ, ◌<◌, List, length, get_or, set, map, sym, ap, subst, ◌∙◌, arith}
 use Rattle.std.proofs.Math.Seq.{map-set_same}
-use Rattle.std.proofs.lemmas.List.{get_or-map, length-map, map-set}
+use Rattle.std.proofs.lemmas.List.{get_or-map, length-map, length-set, map-set}
 use Rattle.descriptor_table.specs.Slots.{Slot, chain_at, chains_in, generations_in, no_slot, slot_at, slot_of}
 use Rattle.descriptor_table.specs.declared.slot.ListHead.{ListHead}
 use Rattle.descriptor_table.specs.declared.slot_list.Entry.{Entry}
@@ -16,6 +16,10 @@ module _ (lists : List ListHead) (k : ℕ) (h : ListHead) (is : h ≡ get_or lis
 
   pub generations_stay : (h' : ListHead) → h'.generation ≡ h.generation → generations_in (set lists k h') ≡ generations_in lists
   generations_stay h' same = map-set_same (λ (h : ListHead). h.generation) lists k h' h (same ∙ ap (λ (h : ListHead). h.generation) is)
+
+-- there are as many lists as before
+pub lists_stay : (lists : List ListHead) (k : ℕ) (h : ListHead) → length (chains_in (set lists k h)) ≡ length (chains_in lists)
+lists_stay lists k h = length-map (set lists k h) (λ (h : ListHead). h.chain) ∙ length-set lists k h ∙ sym (length-map lists (λ (h : ListHead). h.chain))
 
 -- in the place of two things the same two
 pub in_place : {X Y : Type 0} (P : X → Y → Type 0) (x x' : X) (y y' : Y) → x' ≡ x → y' ≡ y → P x y → P x' y'

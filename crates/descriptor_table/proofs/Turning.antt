@@ -6,7 +6,7 @@ use Rattle.std.proofs.Common.{◌≡◌, ◌≢◌, ℕ, zero, suc, ◌+◌, ◌
 use Rattle.std.proofs.lemmas.List.{length-set, set-set}
 use Rattle.std.proofs.lemmas.Bool.{false≢true, ltb-false, true≢false}
 use Rattle.descriptor_table.specs.Slots.{IsNowhere, Slot, in_list, is_due, is_in, slot_at, waits_for}
-use Rattle.descriptor_table.specs.Tables.{AtIf, CanBeHeld, IsBack, KeepsSettings, MayBecome, Picks, Stays, Turns, count, generations_of, holds, is_held_use, is_kept, may_stay, keep_of, next_use, stays, used_for, Becomes}
+use Rattle.descriptor_table.specs.Tables.{AtIf, Settings, CanBeHeld, IsBack, KeepsSettings, MayBecome, Picks, Stays, Turns, count, generations_of, holds, is_held_use, is_kept, may_stay, next_use, stays, used_for, Becomes}
 use Rattle.descriptor_table.specs.declared.set_table.SetTable.{SetTable}
 use Rattle.descriptor_table.specs.declared.slot.Use.{Use}
 use Rattle.descriptor_table.specs.declared.slot.Use.TheVariants.{Held, Kept, Going, Taken}
@@ -144,19 +144,14 @@ module _ {T : Type 0} where
 
   pub stays_more : (a b c : SetTable T) → Stays a b → Stays b c → Stays a c
   stays_more a b c one two = record {
-    settings = record {
-      number = two.settings.number ∙ one.settings.number;
-      lists = two.settings.lists ∙ one.settings.lists;
-      generations = two.settings.generations ∙ one.settings.generations;
-      keep = two.settings.keep ∙ one.settings.keep;
-    };
+    settings = two.settings ∙ one.settings;
     space = two.space ∙ one.space;
     waiting = two.waiting ∙ one.waiting;
   }
 
   -- with settings as they were, a freed set comes to the same use
-  pub same_next : (a b : SetTable T) → KeepsSettings a b → (slots : List (Slot T)) (p : ℕ) → next_use (generations_of b) (keep_of b) slots p ≡ next_use (generations_of a) (keep_of a) slots p
-  same_next a b same slots p = ap (λ m. next_use (generations_of b) m slots p) same.keep ∙ ap (λ generations. next_use generations (keep_of a) slots p) same.generations
+  pub same_next : (a b : SetTable T) → KeepsSettings a b → (slots : List (Slot T)) (p : ℕ) → next_use (generations_of b) b.keep slots p ≡ next_use (generations_of a) a.keep slots p
+  same_next a b same slots p = ap (λ (s : Settings). next_use s.generations s.keep slots p) same
 
   -- a slot that passed the test doesn't any more
   pub one_less : (test : Slot T → Bool) (now new : List (Slot T)) (p : ℕ) (s : Slot T) → p < length now → test (slot_at now p) ≡ true → test s ≡ false → new ≡ set now p s → count test new + 1 ≡ count test now
@@ -220,12 +215,6 @@ module _ {T : Type 0} where
               others = λ q none. ap (λ l. test (slot_at l q)) all ∙ none;
             }
 
-  -- a slot whose set is held goes
-  pub held_goes : (old new : List (Slot T)) (p : ℕ) (u : Use) (s : Slot T) → s ≡ slot_at old p → s.used ≡ Held → is_some s.set ≡ true → new ≡ with_use p u old → AtIf holds p (used_for u) old new
-  held_goes old new p u s is held full goes =
-      let was : holds (slot_at old p) ≡ true = ap holds (sym is) ∙ ap (λ u. is_held_use u && is_some s.set) held ∙ full in
-      goes ∙ sym (ap (λ b. if b then with_use p u old else old) was)
-
   -- a slot that passes the test comes to be in use for something, and doesn't pass it then
   pub use_one : (test : Slot T → Bool) (u : Use) (old now new : List (Slot T)) (p : ℕ) → Turning test (λ l o n. n ≡ used_for u o) old now → p < length now → AtIf test p (used_for u) now new → ((s : Slot T) → test (used_for u s) ≡ false) → TurnsOne test (λ l o n. n ≡ used_for u o) old now new p
   use_one test u old now new p turning within is out = turn_one test (λ l o n. n ≡ used_for u o) old now new p u turning within is step (out (slot_at now p))
@@ -240,7 +229,7 @@ module _ {T : Type 0} where
   going_out k s two = ap (λ b. b && is_some s.set) (ne_eqb k 1 (λ e. omega arith))
 
   pub stays_same : (a : SetTable T) → Stays a a
-  stays_same a = record { settings = record { number = refl; lists = refl; generations = refl; keep = refl }; space = refl; waiting = refl }
+  stays_same a = record { settings = refl; space = refl; waiting = refl }
 
   -- as many slots pass the test, if at each place the slot does as before
   pub count_same : (test : Slot T → Bool) (l m : List (Slot T)) → length m ≡ length l → ((p : ℕ) → test (slot_at m p) ≡ test (slot_at l p)) → count test m ≡ count test l

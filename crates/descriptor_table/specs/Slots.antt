@@ -23,16 +23,6 @@ pub record Slot (T : Type 0) : Type 0 where
   pub kept_below : ℕ
   pub set : Option T
 
--- a use without its frame
-abbrev pub state_of : Use → State
-state_of Held = state.Held
-state_of (InFrame frame) = state.InFrame
-state_of (Waits frame) = state.Waits
-state_of Kept = state.Kept
-state_of Going = state.Going
-state_of Taken = state.Taken
-state_of Vacant = state.Vacant
-
 -- the use of a state, with this frame if it has one
 abbrev pub use_of : ℕ → State → Use
 use_of frame state.Held = Held

@@ -66,14 +66,6 @@ module _ {T : Type 0} where
   abbrev pub lists_of : SetTable T → ℕ
   lists_of t = length (chains_in t.lists.items)
 
-  -- the number that marks the set manager's handles
-  abbrev pub number_of : SetTable T → ℕ
-  number_of t = t.number
-
-  -- the max of the kept sets of a layout
-  abbrev pub keep_of : SetTable T → ℕ
-  keep_of t = t.keep
-
   -- how many layouts of each number were removed
   abbrev pub generations_of : SetTable T → ℕ → ℕ
   generations_of t = generation_at (generations_in t.lists.items)
@@ -84,23 +76,16 @@ module _ {T : Type 0} where
 
   -- the settings of a table
   abbrev pub settings_of : SetTable T → Settings
-  settings_of t = record { number = number_of t; lists = lists_of t; generations = generations_of t; keep = keep_of t }
-
-  -- the settings of the table are these
-  pub record HasSettings (settings : Settings) (t : SetTable T) : Type 0 where
-    pub number : number_of t ≡ settings.number
-    pub lists : lists_of t ≡ settings.lists
-    pub generations : generations_of t ≡ settings.generations
-    pub keep : keep_of t ≡ settings.keep
+  settings_of t = record { number = t.number; lists = lists_of t; generations = generations_of t; keep = t.keep }
 
   -- the settings are as they were
   abbrev pub KeepsSettings : SetTable T → SetTable T → Type 0
-  KeepsSettings old new = HasSettings (settings_of old) new
+  KeepsSettings old new = settings_of new ≡ settings_of old
 
   -- the settings became these, and the slots are as they were
   pub record OnlySettings (these : Settings) (old new : SetTable T) : Type 0 where
     pub slots : new.slots ≡ old.slots
-    pub settings : HasSettings these new
+    pub settings : settings_of new ≡ these
 
   -- slots and settings are as they were
   pub record OnlyMemory (old new : SetTable T) : Type 0 where

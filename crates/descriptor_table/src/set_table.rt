@@ -55,18 +55,18 @@ pub struct SetTable<T> {
 
 impl<T> SetTable<T> {
     ghost use Rattle.descriptor_table.specs.Sets.{find, is_held};
-    ghost use Rattle.descriptor_table.specs.Tables.{HasPlaces, HasRoom, HasSettings, OnlyMemory};
-    ghost use Rattle.descriptor_table.specs.Tables.{number_of, slots_of, usable_of};
+    ghost use Rattle.descriptor_table.specs.Tables.{HasPlaces, HasRoom, OnlyMemory, settings_of};
+    ghost use Rattle.descriptor_table.specs.Tables.{slots_of, usable_of};
 
     /// A table without sets and layouts. It allocates no memory.
     pub fn new(alloc: Global, number: u64) -> Self
         ensures slots { slots_of result ≡ [] }
-        ensures settings { HasSettings (record {
+        ensures settings { settings_of result ≡ record {
           number = number;
           lists = 0;
           generations = generation_at [];
           keep = u32.MAX;
-        }) result }
+        } }
     {
         SetTable {
             number,
@@ -81,7 +81,7 @@ impl<T> SetTable<T> {
     /// The set of a handle, while `frame` is the open frame if `is_open`.
     #[inline]
     pub fn get(&self, handle: SetHandle, frame: u64, is_open: bool) -> Option<&T>
-        ensures { option_copied result ≡ find (number_of self.now) frame is_open (slots_of self.now)
+        ensures { option_copied result ≡ find self.now.number frame is_open (slots_of self.now)
             handle }
     {
         if handle.manager != self.number {
@@ -97,7 +97,7 @@ impl<T> SetTable<T> {
     /// Whether a handle has a held set.
     #[inline]
     fn holds(&self, handle: SetHandle) -> bool
-        ensures { result ≡ is_held (number_of self.now) (slots_of self.now) handle }
+        ensures { result ≡ is_held self.now.number (slots_of self.now) handle }
     {
         if handle.manager != self.number {
             return false;

@@ -1,6 +1,6 @@
 //! Slots, and the lists that they are in.
-ghost use Rattle.std.specs.Prelude.{◌≡◌, true};
-ghost use Rattle.descriptor_table.specs.Slots.{frame_of, is_live, state_of, waits_for};
+ghost use Rattle.std.specs.Prelude.{◌≡◌, ℕ, true};
+ghost use Rattle.descriptor_table.specs.Slots.{frame_of, is_live, use_of, waits_for};
 
 /// What a set is in use for.
 #[derive(Clone, Copy)]
@@ -43,7 +43,8 @@ impl Use {
     /// This use without its frame.
     #[inline]
     pub(crate) fn state(self) -> State
-        ensures { result ≡ state_of self }
+        ensures { (frame : ℕ) → (waits_for (λ f. true) self ≡ true → frame ≡ frame_of self)
+            → use_of frame result ≡ self }
     {
         match self {
             Use::Held => State::Held,

@@ -9,20 +9,20 @@ use crate::store::is_marked;
 use gpu_descriptor::{DescriptorDevice, PoolView};
 
 impl<L: Drop, P: Drop, S: Drop, D: DescriptorDevice<L, P, S>> SetManager<L, P, S, D> {
-    ghost use Rattle.descriptor_manager.specs.Managers.{layout_of, limit_of, pools_for, side_of};
+    ghost use Rattle.descriptor_manager.specs.Managers.{seen, layout_of, pools_for, side_of};
 
     /// How much of the limit is in use: the number of descriptors with which the pools for
     /// update-after-bind layouts were created. A pool for sets without descriptors counts as one.
     pub fn update_after_bind_capacity(&self) -> u32
         ensures sum { result ≡ pool_load_of (side_of self.now).value }
-        ensures within { result ≤ limit_of self.now }
+        ensures within { result ≤ (seen self.now).limit }
     {
         self.store.allocator().update_after_bind_capacity()
     }
 
     /// The limit on update-after-bind descriptors that the set manager was made with.
     pub fn update_after_bind_limit(&self) -> u32
-        ensures { result ≡ limit_of self.now }
+        ensures { result ≡ (seen self.now).limit }
     {
         self.store.allocator().update_after_bind_limit()
     }

@@ -1,5 +1,5 @@
 //! Sets that are held until they are freed.
-ghost use Rattle.std.specs.Prelude.{◌≡◌, ◌-◌, ◌<◌, ◌≤◌, ◌⊎◌, [], ◌∷◌, length};
+ghost use Rattle.std.specs.Prelude.{◌≡◌, ◌-◌, ◌<◌, ◌≤◌, ◌⊎◌, ◌↔◌, [], ◌∷◌, length};
 ghost use Rattle.std.specs.Prelude.{IfErr, IfOk, IfSome, IsErrOf, IsSome, None, OnErr, OnOk, false, true};
 ghost use Rattle.std.specs.Prelude.{IsOk, is_some, option_map};
 ghost use Rattle.std.specs.Option.{option_copied};
@@ -7,7 +7,7 @@ ghost use Rattle.gpu_descriptor.specs.Caller.Sets.{raw_of};
 ghost use Rattle.descriptor_table.specs.Sets.{AreHeldOnce, LoseNames};
 ghost use Rattle.descriptor_table.specs.Slots.{is_live};
 ghost use Rattle.descriptor_manager.specs.Stores.{FreesSets, IsFreed, IsRefusedAtLast, Takes};
-ghost use Rattle.descriptor_table.specs.Tables.{Becomes, TurnEach, Turns, vacated};
+ghost use Rattle.descriptor_table.specs.Tables.{Becomes, TurnEach, Turns, used_for, vacated};
 
 use super::SetManager;
 use crate::errors::{FreeError, RequestError};
@@ -19,8 +19,8 @@ impl<L: Drop, P: Drop, S: Drop, D: DescriptorDevice<L, P, S>> SetManager<L, P, S
     ghost use Rattle.gpu_descriptor.specs.declared.errors.AllocationError.{AllocationError};
     ghost use Rattle.descriptor_table.specs.declared.handle.SetHandle.{SetHandle};
     ghost use Rattle.descriptor_table.specs.declared.slot.Use.{Use};
-    ghost use Rattle.descriptor_manager.specs.Managers.{ComeEach, Destroys, NeedsLayout, OnlySetsChange, OnlySetsCome};
-    ghost use Rattle.descriptor_manager.specs.Managers.{frame_of, is_open, kept_of, layout_of, number_of, seen, sets_by};
+    ghost use Rattle.descriptor_manager.specs.Managers.{ComeEach, NeedsLayout, OnlySetsChange, OnlySetsCome};
+    ghost use Rattle.descriptor_manager.specs.Managers.{frame_of, is_open, kept_of, layout_of, seen, sets_by};
     ghost use Rattle.descriptor_manager.specs.Managers.{side_of, slots_of, store_of};
 
     /// Allocates a set of a layout for a use in which its handle is valid now.
@@ -133,10 +133,10 @@ impl<L: Drop, P: Drop, S: Drop, D: DescriptorDevice<L, P, S>> SetManager<L, P, S
             (IsFreed (store_of self.old))) (store_of self.old) (store_of self.new)) }
         ensures names { OnOk result (LoseNames (N.handles_of sets.now) (sets_by self.old)
             (sets_by self.new)) }
-        ensures once { OnOk result (AreHeldOnce (number_of self.old) (slots_of self.old)
+        ensures once { OnOk result (AreHeldOnce (seen self.old).number (slots_of self.old)
             (N.handles_of sets.now)) }
         ensures no_set { IfErr result (λ e. (e ≡ FreeError.NoSet)
-            × ¬ (AreHeldOnce (number_of self.old) (slots_of self.old) (N.handles_of sets.now))) }
+            × ¬ (AreHeldOnce (seen self.old).number (slots_of self.old) (N.handles_of sets.now))) }
         ensures stay { OnErr result (seen self.new ≡ seen self.old) }
         ensures rest { OnlySetsChange self.old self.new }
     {
@@ -157,7 +157,17 @@ impl<L: Drop, P: Drop, S: Drop, D: DescriptorDevice<L, P, S>> SetManager<L, P, S
         sets: &[N],
         last_use: u64,
     ) -> Result<(), FreeError>
-        ensures { Destroys (N.handles_of sets.now) last_use result self.old self.new }
+        ensures waits { OnOk result (TurnEach (N.handles_of sets.now)
+            (Becomes (used_for (Use.Waits last_use))) (slots_of self.old) (slots_of self.new)) }
+        ensures names { OnOk result (LoseNames (N.handles_of sets.now) (sets_by self.old)
+            (sets_by self.new)) }
+        ensures once { OnOk result (AreHeldOnce (seen self.old).number (slots_of self.old)
+            (N.handles_of sets.now)) }
+        ensures ahead { (IsErrOf result FreeError.FrameAhead) ↔ (frame_of self.old < last_use) }
+        ensures no_set { (IsErrOf result FreeError.NoSet) ↔ ((last_use ≤ frame_of self.old)
+            × ¬ (AreHeldOnce (seen self.old).number (slots_of self.old) (N.handles_of sets.now))) }
+        ensures stay { OnErr result (seen self.new ≡ seen self.old) }
+        ensures rest { seen self.new ≡ record (seen self.old) { slots = slots_of self.new } }
     {
         if last_use > self.frame {
             return Err(FreeError::FrameAhead);

@@ -18,8 +18,8 @@ impl<L: Drop, P: Drop, S: Drop, D: DescriptorDevice<L, P, S>> Store<L, P, S, D> 
     ghost use Rattle.descriptor_manager.specs.Stores.{AreCleaned, Cleans, FreesSets, IsFreed, KeepsComing};
     ghost use Rattle.descriptor_manager.specs.Stores.{HasLayout, IsAtRest, NoneComes};
     ghost use Rattle.descriptor_manager.specs.Stores.{Removes, Settles, SettlesTo};
-    ghost use Rattle.descriptor_manager.specs.Stores.{coming_in, generations_in, kept_of, ledger_of};
-    ghost use Rattle.descriptor_manager.specs.Stores.{keep_of, number_of, pools_besides, side_of, slots_in};
+    ghost use Rattle.descriptor_manager.specs.Stores.{generations_in, kept_of};
+    ghost use Rattle.descriptor_manager.specs.Stores.{pools_besides, side_of, slots_in};
 
     /// Returns the sets of a group to their pools. In most frames none goes.
     #[inline]
@@ -58,10 +58,10 @@ impl<L: Drop, P: Drop, S: Drop, D: DescriptorDevice<L, P, S>> Store<L, P, S, D> 
         requires rest { IsAtRest self.old }
         ensures cleaned { AreCleaned (slots_in self.old) (slots_in self.new) }
         ensures emptied { length (sets_in (slots_in self.new)) ≡ 0
-            → (ledger_of self.new).pools ≡ pools_besides self.old }
+            → ((side_of self.new).ledger).pools ≡ pools_besides self.old }
         ensures cleans { Cleans self.old self.new }
         ensures settles { Settles NoneComes self.old self.new }
-        ensures coming { coming_in self.new ≡ coming_in self.old }
+        ensures coming { self.new.coming.items ≡ self.old.coming.items }
     {
         self.table.age();
         self.table.trim(0);
@@ -98,7 +98,7 @@ impl<L: Drop, P: Drop, S: Drop, D: DescriptorDevice<L, P, S>> Store<L, P, S, D> 
     /// held set, or is in the list twice, it changes nothing and returns `false`.
     pub(crate) fn free_each<N: SetName<DescriptorSet<S>>>(&mut self, names: &[N]) -> bool
         requires rest { IsAtRest self.old }
-        ensures once { IsTrue result ↔ AreHeldOnce (number_of self.old) (slots_in self.old)
+        ensures once { IsTrue result ↔ AreHeldOnce self.old.table.number (slots_in self.old)
             (N.handles_of names.now) }
         ensures frees { IsTrue result → FreesSets (TurnEach (N.handles_of names.now)
             (IsFreed self.old)) self.old self.new }
@@ -121,7 +121,7 @@ impl<L: Drop, P: Drop, S: Drop, D: DescriptorDevice<L, P, S>> Store<L, P, S, D> 
         frame: u64,
     ) -> bool
         requires rest { IsAtRest self.old }
-        ensures once { IsTrue result ↔ AreHeldOnce (number_of self.old) (slots_in self.old)
+        ensures once { IsTrue result ↔ AreHeldOnce self.old.table.number (slots_in self.old)
             (N.handles_of names.now) }
         ensures waits { IsTrue result → TurnEach (N.handles_of names.now)
             (Becomes (used_for (Use.Waits frame))) (slots_in self.old) (slots_in self.new) }
@@ -158,7 +158,7 @@ impl<L: Drop, P: Drop, S: Drop, D: DescriptorDevice<L, P, S>> Store<L, P, S, D> 
         requires layout { HasLayout layout self.old }
         requires next { generations_in self.old layout < 4294967295 }
         ensures removes { Removes known.now.layout layout self.old self.new }
-        ensures settles { SettlesTo (removed_at layout (generations_in self.old)) (keep_of self.old)
+        ensures settles { SettlesTo (removed_at layout (generations_in self.old)) self.old.table.keep
             NoneComes self.old self.new }
     {
         self.give(Group::KeptOf(layout));

@@ -10,7 +10,7 @@ impl<L: Drop, P: Drop, S: Drop, D: DescriptorDevice<L, P, S>> Store<L, P, S, D> 
     ghost use Rattle.descriptor_table.specs.Slots.{frame_of, is_kept_of, is_live, slot_at};
     ghost use Rattle.descriptor_table.specs.Tables.{HasRoom, place_at};
     ghost use Rattle.descriptor_manager.specs.Stores.{CanHold, ComesOf, HoldEach, Holds, KeepsStore};
-    ghost use Rattle.descriptor_manager.specs.Stores.{NoneComes, coming_in, current_in, kept_of, number_of};
+    ghost use Rattle.descriptor_manager.specs.Stores.{NoneComes, current_in, kept_of};
     ghost use Rattle.descriptor_manager.specs.Stores.{slots_in};
 
     /// Puts a kept set of a layout to a use, and returns its name.
@@ -18,7 +18,7 @@ impl<L: Drop, P: Drop, S: Drop, D: DescriptorDevice<L, P, S>> Store<L, P, S, D> 
     pub(super) fn hold_next<N: SetName<DescriptorSet<S>>>(&mut self, layout: u32, used: Use) -> N
         requires kept { 0 < kept_of layout self.old }
         requires live { is_live (frame_of used) true used ≡ true }
-        ensures holds { HoldEach (number_of self.old) (current_in layout self.old) used
+        ensures holds { HoldEach self.old.table.number (current_in layout self.old) used
             (N.handle_of result ∷ []) (slots_in self.old) (slots_in self.new) }
         ensures was_kept { is_kept_of layout (slot_at (slots_in self.old)
             (N.handle_of result).place) ≡ true }
@@ -26,7 +26,7 @@ impl<L: Drop, P: Drop, S: Drop, D: DescriptorDevice<L, P, S>> Store<L, P, S, D> 
         ensures as_many { length (slots_in self.new) ≡ length (slots_in self.old) }
         ensures table { (n : ℕ) → HasRoom n self.old.table → HasRoom n self.new.table }
         ensures keeps { Holds NoneComes self.old self.new }
-        ensures coming { coming_in self.new ≡ coming_in self.old }
+        ensures coming { self.new.coming.items ≡ self.old.coming.items }
     {
         self.table.hold_kept(layout, used)
     }
@@ -41,7 +41,7 @@ impl<L: Drop, P: Drop, S: Drop, D: DescriptorDevice<L, P, S>> Store<L, P, S, D> 
     )
         requires kept { length names.old ≤ kept_of layout self.old }
         requires live { is_live (frame_of used) true used ≡ true }
-        ensures holds { HoldEach (number_of self.old) (current_in layout self.old) used
+        ensures holds { HoldEach self.old.table.number (current_in layout self.old) used
             (N.handles_of names.new) (slots_in self.old) (slots_in self.new) }
         ensures were_kept { (i : ℕ) → i < length names.old → is_kept_of layout (slot_at
             (slots_in self.old) (place_at (N.handles_of names.new) i)) ≡ true }
@@ -49,7 +49,7 @@ impl<L: Drop, P: Drop, S: Drop, D: DescriptorDevice<L, P, S>> Store<L, P, S, D> 
         ensures as_many { length (slots_in self.new) ≡ length (slots_in self.old) }
         ensures table { (n : ℕ) → HasRoom n self.old.table → HasRoom n self.new.table }
         ensures keeps { Holds NoneComes self.old self.new }
-        ensures coming { coming_in self.new ≡ coming_in self.old }
+        ensures coming { self.new.coming.items ≡ self.old.coming.items }
     {
         for index in 0..names.len() {
             names[index] = self.hold_next(layout, used);
@@ -59,16 +59,16 @@ impl<L: Drop, P: Drop, S: Drop, D: DescriptorDevice<L, P, S>> Store<L, P, S, D> 
     /// Puts one of the new sets in `coming` to a use.
     #[inline(always)]
     pub(super) fn hold_last(&mut self, layout: u32, used: Use) -> SetHandle
-        requires some { 0 < length (coming_in self.old) }
+        requires some { 0 < length self.old.coming.items }
         requires can { CanHold layout self.old }
         requires live { is_live (frame_of used) true used ≡ true }
-        ensures holds { HoldEach (number_of self.old) (current_in layout self.old) used (result ∷ [])
+        ensures holds { HoldEach self.old.table.number (current_in layout self.old) used (result ∷ [])
             (slots_in self.old) (slots_in self.new) }
-        ensures fewer { length (coming_in self.new) + 1 ≡ length (coming_in self.old) }
-        ensures own { (known : L) → AreOfLayout D.meaning known (coming_in self.old)
-            → AreOfLayout D.meaning known (coming_in self.new) }
-        ensures table { HasRoom (length (coming_in self.new)) self.new.table }
-        ensures keeps { (known : L) → AreOfLayout D.meaning known (coming_in self.old)
+        ensures fewer { length self.new.coming.items + 1 ≡ length self.old.coming.items }
+        ensures own { (known : L) → AreOfLayout D.meaning known self.old.coming.items
+            → AreOfLayout D.meaning known self.new.coming.items }
+        ensures table { HasRoom (length self.new.coming.items) self.new.table }
+        ensures keeps { (known : L) → AreOfLayout D.meaning known self.old.coming.items
             → Holds (ComesOf D.meaning known layout) self.old self.new }
         ensures stays { KeepsStore self.old self.new }
     {
@@ -89,13 +89,13 @@ impl<L: Drop, P: Drop, S: Drop, D: DescriptorDevice<L, P, S>> Store<L, P, S, D> 
         names: &mut [N],
     )
         requires can { CanHold layout self.old }
-        requires as_many { length names.old ≡ length (coming_in self.old) }
+        requires as_many { length names.old ≡ length self.old.coming.items }
         requires live { is_live (frame_of used) true used ≡ true }
-        ensures holds { HoldEach (number_of self.old) (current_in layout self.old) used
+        ensures holds { HoldEach self.old.table.number (current_in layout self.old) used
             (N.handles_of names.new) (slots_in self.old) (slots_in self.new) }
-        ensures none { coming_in self.new ≡ [] }
+        ensures none { self.new.coming.items ≡ [] }
         ensures long { length names.new ≡ length names.old }
-        ensures keeps { (known : L) → AreOfLayout D.meaning known (coming_in self.old)
+        ensures keeps { (known : L) → AreOfLayout D.meaning known self.old.coming.items
             → Holds (ComesOf D.meaning known layout) self.old self.new }
     {
         for index in 0..names.len() {

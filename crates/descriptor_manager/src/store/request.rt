@@ -11,17 +11,17 @@ impl<L: Drop, P: Drop, S: Drop, D: DescriptorDevice<L, P, S>> Store<L, P, S, D> 
     ghost use Rattle.descriptor_table.specs.Tables.{HasRoom};
     ghost use Rattle.descriptor_manager.specs.Stores.{Asks, AsksAtLast, CanTake, IsRefused};
     ghost use Rattle.descriptor_manager.specs.Stores.{IsRefusedAtLast, KeepsStore, Requests};
-    ghost use Rattle.descriptor_manager.specs.Stores.{coming_in, handles_in, kept_of};
+    ghost use Rattle.descriptor_manager.specs.Stores.{handles_in, kept_of};
 
     /// Asks the allocator for `many` sets of a layout. The table has room for them.
     fn ask_for(&mut self, known: &SetLayout<L>, many: u32) -> Result<(), AllocationError>
         requires meant { IsMeant D.meaning known.now }
-        requires none { coming_in self.old ≡ [] }
+        requires none { self.old.coming.items ≡ [] }
         requires room { HasRoom many self.old.table }
         ensures asks { OnOk result (Asks known.now.layout many self.old self.new) }
         ensures refused { IfErr result (λ error. IsRefused known.now.layout many error self.old
             self.new) }
-        ensures none { OnErr result (coming_in self.new ≡ []) }
+        ensures none { OnErr result (self.new.coming.items ≡ []) }
         ensures table { OnOk result (HasRoom many self.new.table) }
         ensures stays { KeepsStore self.old self.new }
     {
@@ -40,8 +40,8 @@ impl<L: Drop, P: Drop, S: Drop, D: DescriptorDevice<L, P, S>> Store<L, P, S, D> 
             self.old self.new) }
         ensures refused { IfErr result (λ error. IsRefusedAtLast known.now.layout
             (many - kept_of layout self.old) many error self.old self.new) }
-        ensures none { OnErr result (coming_in self.new ≡ []) }
-        ensures table { OnOk result (HasRoom (length (coming_in self.new)) self.new.table) }
+        ensures none { OnErr result (self.new.coming.items ≡ []) }
+        ensures table { OnOk result (HasRoom (length self.new.coming.items) self.new.table) }
         ensures stays { KeepsStore self.old self.new }
     {
         let missing = many - self.table.kept_count(layout);

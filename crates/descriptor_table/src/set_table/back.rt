@@ -12,8 +12,8 @@ impl<T> SetTable<T> {
     ghost use Rattle.descriptor_table.specs.Tables.{At, AtIf, Becomes, Changes, HasTaken};
     ghost use Rattle.descriptor_table.specs.Tables.{IsBack, KeepsUpTo, MayBecome};
     ghost use Rattle.descriptor_table.specs.Tables.{Stays, TurnEach, Turns, count};
-    ghost use Rattle.descriptor_table.specs.Tables.{generations_of, holds, is_kept, keep_of};
-    ghost use Rattle.descriptor_table.specs.Tables.{lists_of, may_stay, next_use, number_of, place_at};
+    ghost use Rattle.descriptor_table.specs.Tables.{generations_of, holds, is_kept};
+    ghost use Rattle.descriptor_table.specs.Tables.{lists_of, may_stay, next_use, place_at};
     ghost use Rattle.descriptor_table.specs.Tables.{slots_of, used_for};
 
     /// The list of a layout's kept sets.
@@ -22,7 +22,7 @@ impl<T> SetTable<T> {
         requires { layout + 2 < lists_of self.now }
         ensures generation { result.now.generation ≡ generations_of self.now layout }
         ensures count { result.now.chain.count ≡ count (is_kept_of layout) (slots_of self.now) }
-        ensures few { result.now.chain.count ≤ keep_of self.now }
+        ensures few { result.now.chain.count ≤ self.now.keep }
     {
         &self.lists[layout as usize + KEPT]
     }
@@ -31,7 +31,7 @@ impl<T> SetTable<T> {
     #[inline]
     fn may_stay(&self, place: usize) -> bool
         requires { place < length (slots_of self.now) }
-        ensures { result ≡ may_stay (generations_of self.now) (keep_of self.now)
+        ensures { result ≡ may_stay (generations_of self.now) self.now.keep
             (slots_of self.now) (slot_at (slots_of self.now) place) }
     {
         let slot = self.slots.at(place);
@@ -48,7 +48,7 @@ impl<T> SetTable<T> {
         requires idle { IsNowhere (slot_at (slots_of self.old) place).used }
         requires full { is_some (slot_at (slots_of self.old) place).set ≡ true }
         ensures { Changes (At place (used_for (next_use (generations_of self.old)
-            (keep_of self.old) (slots_of self.old) place))) self.old self.new }
+            self.old.keep (slots_of self.old) place))) self.old self.new }
     {
         if self.may_stay(place) {
             let list = self.slots.at(place).layout as usize + KEPT;
@@ -61,7 +61,7 @@ impl<T> SetTable<T> {
     /// Frees the sets that wait for `frame` or an earlier one: each is kept, or goes.
     pub fn settle_due(&mut self, frame: u64)
         ensures { Changes (Turns (is_due frame) (IsBack (used_for Use.Going)
-            (generations_of self.old) (keep_of self.old))) self.old self.new }
+            (generations_of self.old) self.old.keep)) self.old self.new }
     {
         while let Some(place) = self.pick_due(frame) {
             self.settle(place);
@@ -71,10 +71,10 @@ impl<T> SetTable<T> {
     /// Frees the held sets of `names`, all or none: each is kept, or goes. If a name has no held set, or
     /// is in the list twice, it frees none and returns `false`.
     pub fn settle_held<N: SetName<T>>(&mut self, names: &[N]) -> bool
-        ensures once { IsTrue result ↔ AreHeldOnce (number_of self.old) (slots_of self.old)
+        ensures once { IsTrue result ↔ AreHeldOnce self.old.number (slots_of self.old)
             (N.handles_of names.now) }
         ensures back { IsTrue result → TurnEach (N.handles_of names.now) (IsBack (used_for Use.Going)
-            (generations_of self.old) (keep_of self.old)) (slots_of self.old) (slots_of self.new) }
+            (generations_of self.old) self.old.keep) (slots_of self.old) (slots_of self.new) }
         ensures none { IsFalse result → slots_of self.new ≡ slots_of self.old }
         ensures stays { Stays self.old self.new }
     {

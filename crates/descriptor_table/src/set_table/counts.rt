@@ -5,7 +5,7 @@ use super::{KEPT, SetTable};
 
 impl<T> SetTable<T> {
     ghost use Rattle.descriptor_table.specs.Slots.{chain_at, chains_in, waits};
-    ghost use Rattle.descriptor_table.specs.Tables.{OnlySettings, count, is_kept, keep_of};
+    ghost use Rattle.descriptor_table.specs.Tables.{OnlySettings, count, is_kept};
     ghost use Rattle.descriptor_table.specs.Tables.{settings_of, slots_of};
 
     /// How many slots there are.
@@ -19,7 +19,7 @@ impl<T> SetTable<T> {
     /// How many sets of a layout are kept at most.
     #[inline]
     pub fn keep(&self) -> u32
-        ensures { result ≡ keep_of self.now }
+        ensures { result ≡ self.now.keep }
     {
         self.keep
     }

@@ -10,7 +10,7 @@ impl<T> SetTable<T> {
     ghost use Rattle.descriptor_table.specs.Sets.{AreHeldOnce};
     ghost use Rattle.descriptor_table.specs.Slots.{IsNowhere, is_in, slot_at};
     ghost use Rattle.descriptor_table.specs.Tables.{At, CanBeHeld, ChangeUse, Changes, HasTaken, Stays};
-    ghost use Rattle.descriptor_table.specs.Tables.{number_of, place_at};
+    ghost use Rattle.descriptor_table.specs.Tables.{place_at};
     ghost use Rattle.descriptor_table.specs.Tables.{slots_of, used_for};
 
     /// Changes the use of a slot's set, which is in no list before and after.
@@ -28,7 +28,7 @@ impl<T> SetTable<T> {
     /// Takes the held sets of `names`, all or none. If a name has no held set, or is in the list twice,
     /// it takes none and returns `false`.
     pub fn take_each<N: SetName<T>>(&mut self, names: &[N]) -> bool
-        ensures once { IsTrue result ↔ AreHeldOnce (number_of self.old) (slots_of self.old)
+        ensures once { IsTrue result ↔ AreHeldOnce self.old.number (slots_of self.old)
             (N.handles_of names.now) }
         ensures took { IsTrue result → ChangeUse (N.handles_of names.now)
             (length (N.handles_of names.now)) (slots_of self.old) (slots_of self.new) }

@@ -12,7 +12,7 @@ impl<T> SetTable<T> {
     ghost use Rattle.descriptor_table.specs.Slots.{IsNowhere, chain_at, chains_in, frame_of, is_in, is_kept_of, is_live, slot_at};
     ghost use Rattle.descriptor_table.specs.Tables.{At, Changes, PicksAny, Renews, Stays, count, count_of};
     ghost use Rattle.descriptor_table.specs.Tables.{generations_of, is_kept, lists_of};
-    ghost use Rattle.descriptor_table.specs.Tables.{keep_of, number_of, slots_of, used_for};
+    ghost use Rattle.descriptor_table.specs.Tables.{slots_of, used_for};
 
     /// A list by its number; an empty one if there is no such list.
     #[inline]
@@ -63,7 +63,7 @@ impl<T> SetTable<T> {
         requires current { is_kept (used_for used (slot_at (slots_of self.old) place)) ≡ true
             → (slot_at (slots_of self.old) place).layout_generation ≡ generations_of self.old
             (slot_at (slots_of self.old) place).layout }
-        requires few { 2 ≤ list → count_of list self.old < keep_of self.old }
+        requires few { 2 ≤ list → count_of list self.old < self.old.keep }
         ensures { Changes (At place (used_for used)) self.old self.new }
     {
         let head = &mut self.lists[list];
@@ -79,7 +79,7 @@ impl<T> SetTable<T> {
         requires live { is_live (frame_of used) true used ≡ true }
         ensures kept { is_kept_of layout (slot_at (slots_of self.old) (N.handle_of result).place)
             ≡ true }
-        ensures renews { Renews (number_of self.old) (N.handle_of result).place used
+        ensures renews { Renews self.old.number (N.handle_of result).place used
             (N.handle_of result) (slots_of self.old) (slots_of self.new) }
         ensures stays { Stays self.old self.new }
     {
@@ -108,7 +108,7 @@ impl<T> SetTable<T> {
     pub fn kept_count(&self, layout: u32) -> u32
         requires { layout + 2 < lists_of self.now }
         ensures count { result ≡ count (is_kept_of layout) (slots_of self.now) }
-        ensures few { result ≤ keep_of self.now }
+        ensures few { result ≤ self.now.keep }
     {
         self.kept_list(layout).chain.count
     }

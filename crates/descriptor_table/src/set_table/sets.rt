@@ -12,7 +12,7 @@ impl<T> SetTable<T> {
     ghost use Rattle.descriptor_table.specs.Slots.{IsNowhere, filled, slot_at};
     ghost use Rattle.descriptor_table.specs.Tables.{AreAllUsed, At, Changes, GivesAny};
     ghost use Rattle.descriptor_table.specs.Tables.{HasRoom, HasTaken, IsTaken, PicksAny, PutsInto, Renews, Stays};
-    ghost use Rattle.descriptor_table.specs.Tables.{generations_of, lists_of, number_of};
+    ghost use Rattle.descriptor_table.specs.Tables.{generations_of, lists_of};
     ghost use Rattle.descriptor_table.specs.Tables.{slots_of, used_for, vacated};
 
     /// Puts a set into a slot, in reserved memory, and returns its place.
@@ -126,8 +126,8 @@ impl<T> SetTable<T> {
 
     /// Takes the held set of a handle out of its slot.
     pub fn remove(&mut self, handle: SetHandle) -> Option<T>
-        ensures set { result ≡ find (number_of self.old) 0 false (slots_of self.old) handle }
-        ensures held { IsSome result → is_held (number_of self.old) (slots_of self.old) handle ≡ true }
+        ensures set { result ≡ find self.old.number 0 false (slots_of self.old) handle }
+        ensures held { IsSome result → is_held self.old.number (slots_of self.old) handle ≡ true }
         ensures slots { IsSome result → At handle.place vacated (slots_of self.old)
             (slots_of self.new) }
         ensures none { result ≡ None → slots_of self.new ≡ slots_of self.old }

@@ -78,7 +78,7 @@ pub(super) fn enqueue<T>(
 impl<T> SetTable<T> {
     ghost use Rattle.descriptor_table.specs.Slots.{is_due, is_live};
     ghost use Rattle.descriptor_table.specs.Tables.{At, Changes, HasTaken, PicksAny, Renews};
-    ghost use Rattle.descriptor_table.specs.Tables.{number_of, slots_of, used_for};
+    ghost use Rattle.descriptor_table.specs.Tables.{slots_of, used_for};
 
     /// Lets the set at a place, which a call has taken, wait for a frame.
     #[inline]
@@ -104,7 +104,7 @@ impl<T> SetTable<T> {
         requires taken { HasTaken place (slots_of self.old) }
         requires next { (slot_at (slots_of self.old) place).generation < 4294967295 }
         requires live { is_live (frame_of used) true used ≡ true }
-        ensures { Changes (Renews (number_of self.old) place used result) self.old self.new }
+        ensures { Changes (Renews self.old.number place used result) self.old self.new }
     {
         enqueue(
             &mut self.waiting,

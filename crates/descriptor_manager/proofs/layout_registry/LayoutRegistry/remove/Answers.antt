@@ -1,6 +1,6 @@
-use Rattle.std.proofs.Common.{[], ◌∷◌, false, sym, subst}
+use Rattle.std.proofs.Common.{[], ◌∷◌, false, sym, subst, ap}
 use Rattle.descriptor_table.specs.Sets.{LoseNames, sets_of}
-use Rattle.descriptor_table.specs.Tables.{number_of, slots_of}
+use Rattle.descriptor_table.specs.Tables.{Settings, slots_of}
 use Rattle.descriptor_manager.proofs.Adding.{left_names, left_only}
 use Rattle.descriptor_manager.proofs.layout_registry.LayoutRegistry.remove.Goals as goal
 
@@ -8,13 +8,13 @@ pub invariant_of-self-clause-meant : goal.invariant_of-self-clause-meant
 invariant_of-self-clause-meant g c = λ p known is.
     let old = c.args.self.now.table in
     let e = c.remove.ensures in
-    c.args.self.now.meant p known (left_only (number_of old) c.args.handle.slot (slots_of old) (slots_of c.remove.new.self) c.remove.result e.held e.slots e.none p known is)
+    c.args.self.now.meant p known (left_only old.number c.args.handle.slot (slots_of old) (slots_of c.remove.new.self) c.remove.result e.held e.slots e.none p known is)
 
 pub returns-clause-names : goal.returns-clause-names
 returns-clause-names g c = λ some.
     let old = c.args.self.now.table in
     let new = c.remove.new.self in
     let h = c.args.handle.slot in
-    let n = number_of old in
+    let n = old.number in
     let names = left_names n h (slots_of old) (slots_of new) (c.remove.ensures.held some) (c.remove.ensures.slots some) in
-    subst (λ m. LoseNames (h ∷ []) (sets_of n 0 false (slots_of old)) (sets_of m 0 false (slots_of new))) (sym c.remove.ensures.stays.settings.number) names
+    subst (λ m. LoseNames (h ∷ []) (sets_of n 0 false (slots_of old)) (sets_of m 0 false (slots_of new))) (sym (ap (λ (s : Settings). s.number) c.remove.ensures.stays.settings)) names

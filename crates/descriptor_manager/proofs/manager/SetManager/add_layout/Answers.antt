@@ -1,9 +1,9 @@
 use Rattle.std.proofs.Common.{◌≡◌, ◌≢◌, ◌<◌, ℕ, zero, suc, [], ◌∷◌, length, slice_index_or, inl, inr, refl, sym, ap, ◌∙◌, subst, arith}
-use Rattle.descriptor_table.specs.Tables.{Grows, lists_with}
+use Rattle.descriptor_table.specs.Tables.{Settings, Grows, lists_with}
 use Rattle.descriptor_table.specs.declared.handle.SetHandle.{SetHandle}
 use Rattle.descriptor_manager.specs.LayoutRegistries.{layout_slots}
 use Rattle.descriptor_manager.specs.Own.{HasSetsOf}
-use Rattle.descriptor_manager.specs.Managers.{layout_given, layout_of, layouts_in}
+use Rattle.descriptor_manager.specs.Managers.{seen, layout_of, layouts_in}
 use Rattle.descriptor_manager.specs.Stores.{generations_in, lists_for}
 use Rattle.descriptor_manager.proofs.Owned.{lists_more, sets_as}
 use Rattle.descriptor_manager.proofs.manager.SetManager.add_layout.Goals.{After-reserve_layout, then-places, else-places}
@@ -15,7 +15,7 @@ reserved g c =
     let old = c.args.self.now in
     let now = c.reserve_layout.ensures in
     sets_as (layout_slots old.layouts) (layout_slots old.layouts) old.manager
-    old.store c.reserve_layout.new.self now.contents.slots now.stays.generations now.contents.coming now.stays.number (now.stays.lists ∙ old.sets.lists) (λ n known is. is) (λ counted. counted) old.sets
+    old.store c.reserve_layout.new.self now.contents.slots (ap (λ (s : Settings). s.generations) now.stays.settings) now.contents.coming (ap (λ (s : Settings). s.number) now.stays.settings) ((ap (λ (s : Settings). s.lists) now.stays.settings) ∙ old.sets.lists) (λ n known is. is) (λ counted. counted) old.sets
 
 pub invariant_of-self-clause-sets : goal.invariant_of-self-clause-sets
 invariant_of-self-clause-sets g c = reserved g (goal.at.invariant_of-self-clause-sets g c).After-reserve_layout
@@ -43,8 +43,8 @@ invariant_of-self-then-places-clause-sets g c =
     let now = c.add_layout.ensures in
     let sets = reserved g (goal.at.invariant_of-self-then-places-clause-sets g c).After-reserve_layout in
     sets_as layouts (layout_slots c.add.new.self) old.manager
-    c.reserve_layout.new.self c.add_layout.new.self now.contents.slots now.settings.generations now.contents.coming now.settings.number
-    (now.settings.lists ∙ ap lists_with sets.lists ∙ lists_more (length layouts) ∙ ap lists_for long) c.in-Ok.ensures.stay (c.add.ensures.counted (generations_in c.add_layout.new.self)) sets
+    c.reserve_layout.new.self c.add_layout.new.self now.contents.slots (ap (λ (s : Settings). s.generations) now.settings) now.contents.coming (ap (λ (s : Settings). s.number) now.settings)
+    ((ap (λ (s : Settings). s.lists) now.settings) ∙ ap lists_with sets.lists ∙ lists_more (length layouts) ∙ ap lists_for long) c.in-Ok.ensures.stay (c.add.ensures.counted (generations_in c.add_layout.new.self)) sets
 
 pub invariant_of-self-else-places-clause-sets : goal.invariant_of-self-else-places-clause-sets
 invariant_of-self-else-places-clause-sets g c =
@@ -81,6 +81,6 @@ returns-after-places-clause-others g c = λ other ne.
     let old = c.args.self.now in
     let stay = c.in-Ok.ensures.names.others other.slot (apart_from c.in-Ok.handle.slot other.slot (λ e. ne (λ i. record { slot = e i }))) in
     elim c.if-places.branch [
-      | then-places w ↦ subst (λ r. (layout_of r other ≡ layout_of old other) × (layout_given r other ≡ layout_given old other)) (sym w.self-is) stay
-      | else-places w ↦ subst (λ r. (layout_of r other ≡ layout_of old other) × (layout_given r other ≡ layout_given old other)) (sym w.self-is) stay
+      | then-places w ↦ subst (λ r. (layout_of r other ≡ layout_of old other) × ((seen r).given other ≡ (seen old).given other)) (sym w.self-is) stay
+      | else-places w ↦ subst (λ r. (layout_of r other ≡ layout_of old other) × ((seen r).given other ≡ (seen old).given other)) (sym w.self-is) stay
     ]

@@ -1,6 +1,6 @@
 use Rattle.std.proofs.Common.{◌-◌, min, if◌then◌else◌, ap, arith}
 use Rattle.descriptor_manager.specs.LayoutRegistries.{layout_slots}
-use Rattle.descriptor_manager.specs.Stores.{NoneComes, generations_in, keep_of, slots_in}
+use Rattle.descriptor_manager.specs.Stores.{NoneComes, generations_in, slots_in}
 use Rattle.descriptor_manager.proofs.Owned.{sets_settle}
 use Rattle.descriptor_manager.proofs.Showing.{back_names}
 use Rattle.descriptor_manager.proofs.manager.SetManager.frame_done.Goals as goal
@@ -13,7 +13,7 @@ invariant_of-self-clause-sets g c =
 pub returns-clause-names : goal.returns-clause-names
 returns-clause-names g c =
     let old = c.args.self.now in
-    back_names old.frame old.is_open (generations_in old.store) old.manager c.done-done.result (keep_of old.store) (slots_in old.store) (slots_in c.finish.new.self) (λ opened. (
+    back_names old.frame old.is_open (generations_in old.store) old.manager c.done-done.result old.store.table.keep (slots_in old.store) (slots_in c.finish.new.self) (λ opened. (
     let is = c.done-done.ensures in
     let limit = ap (λ b. if b then min c.args.frame (old.frame - 1) else c.args.frame) opened in
     let begun = old.begun opened in

@@ -1,7 +1,7 @@
 use Rattle.std.proofs.Common.{refl, subst}
 use Rattle.descriptor_table.specs.Sets.{AreHeldOnce}
 use Rattle.descriptor_manager.specs.LayoutRegistries.{layout_slots}
-use Rattle.descriptor_manager.specs.Stores.{NoneComes, generations_in, keep_of, slots_in}
+use Rattle.descriptor_manager.specs.Stores.{NoneComes, generations_in, slots_in}
 use Rattle.descriptor_manager.proofs.Owned.{sets_settle}
 use Rattle.descriptor_manager.proofs.Showing.{freed_names}
 use Rattle.descriptor_manager.proofs.manager.SetManager.free.Goals as goal
@@ -16,4 +16,4 @@ returns-clause-names g c =
     let old = c.args.self.now in
     let once = subst (λ n. AreHeldOnce n (slots_in old.store) (g.N.SetName.handles_of c.args.sets.now)) old.sets.number (c.if-not-free_each.ensures.once.0 refl) in
     let frees = c.if-not-free_each.ensures.frees refl in
-    freed_names old.frame old.is_open (generations_in old.store) old.manager (keep_of old.store) (g.N.SetName.handles_of c.args.sets.now) (slots_in old.store) (slots_in c.free_each.new.self) once frees.turns
+    freed_names old.frame old.is_open (generations_in old.store) old.manager old.store.table.keep (g.N.SetName.handles_of c.args.sets.now) (slots_in old.store) (slots_in c.free_each.new.self) once frees.turns

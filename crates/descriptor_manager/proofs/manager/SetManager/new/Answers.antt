@@ -1,3 +1,4 @@
+use Rattle.descriptor_table.specs.Tables.{Settings}
 use Rattle.std.proofs.Common.{false, ◌≡◌, ℕ, [], length, sym, ap, subst, ◌∙◌, arith}
 use Rattle.std.proofs.lemmas.Option.{none-some}
 use Rattle.descriptor_table.specs.Slots.{slot_at}
@@ -14,9 +15,9 @@ invariant_of-result-clause-sets g c =
     record {
       rest = store.rest;
       own = λ p n x full at. absurd (none-some x (sym (ap (λ l. (slot_at l p).set) store.slots) ∙ full));
-      counted = λ n. subst (λ l. IsCounted (generations_in c.new.result n) (slot_at l n)) (sym none) (let e = ap (λ (generations : ℕ → ℕ). generations n) store.settings.generations in (omega arith, omega arith));
-      lists = store.settings.lists ∙ ap (λ l. lists_for (length l)) (sym none);
-      number = store.settings.number;
+      counted = λ n. subst (λ l. IsCounted (generations_in c.new.result n) (slot_at l n)) (sym none) (let e = ap (λ (generations : ℕ → ℕ). generations n) (ap (λ (s : Settings). s.generations) store.settings) in (omega arith, omega arith));
+      lists = (ap (λ (s : Settings). s.lists) store.settings) ∙ ap (λ l. lists_for (length l)) (sym none);
+      number = (ap (λ (s : Settings). s.number) store.settings);
     }
 
 pub returns-clause-layouts : goal.returns-clause-layouts

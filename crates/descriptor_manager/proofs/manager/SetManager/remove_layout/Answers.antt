@@ -2,7 +2,7 @@ use Rattle.std.proofs.Common.{[], ◌≡◌, ◌≢◌, ℕ, ◌+◌, ◌<◌, S
 use Rattle.std.proofs.lemmas.List.{length-set}
 use Rattle.std.proofs.lemmas.List.Elements.{All-cons, All-nil}
 use Rattle.descriptor_table.specs.Slots.{is_kept_of, slot_at}
-use Rattle.descriptor_table.specs.Tables.{count, removed_at, vacated}
+use Rattle.descriptor_table.specs.Tables.{Settings, count, removed_at, vacated}
 use Rattle.descriptor_table.proofs.Listed.{other_slots, slot_set}
 use Rattle.descriptor_manager.specs.LayoutRegistries.{layout_slots, layouts_by}
 use Rattle.descriptor_manager.specs.Own.{AreCounted, AreOwn, HasSetsOf}
@@ -64,8 +64,8 @@ invariant_of-self-clause-sets g c =
           own_removed g.D.DescriptorDevice.meaning c.place.result (generations_in old.store) (layout_slots old.layouts) fewer (others g d) (slots_in old.store) new removes.turns past old.sets.own);
       counted = subst (λ generations. AreCounted generations fewer) (sym removes.generations) (
           counted_removed c.place.result (generations_in old.store) layouts fewer old.sets.counted (ap is_some (here g d)) (gone g d) (others g d));
-      lists = settles.stays.lists ∙ old.sets.lists ∙ ap lists_for (sym long);
-      number = settles.stays.number ∙ old.sets.number;
+      lists = (ap (λ (s : Settings). s.lists) settles.stays.settings) ∙ old.sets.lists ∙ ap lists_for (sym long);
+      number = (ap (λ (s : Settings). s.number) settles.stays.settings) ∙ old.sets.number;
     }
 
 pub invariant_of-self-in-None-clause-sets : goal.invariant_of-self-in-None-clause-sets
@@ -100,7 +100,7 @@ returns-in-Some-clause-rest g c =
       is_open = old.is_open;
       slots = slots_in c.remove_layout.new.self;
       generations = generations_in c.remove_layout.new.self;
-      keep = now.keeps i;
+      keep = (now.settings i).keep;
       side = side_of c.remove_layout.new.self;
       pools_besides = now.besides i;
       limit = now.limit i;

@@ -2,7 +2,7 @@ use Rattle.std.proofs.Common.{◌≡◌, ◌<◌, ℕ, zero, suc, [], ◌∷◌,
 use Rattle.gpu_descriptor.proofs.request.Passed.{passed}
 use Rattle.descriptor_table.specs.Slots.{is_kept_of, slot_at}
 use Rattle.descriptor_table.specs.Tables.{place_at}
-use Rattle.descriptor_manager.specs.Stores.{coming_in, kept_of, slots_in}
+use Rattle.descriptor_manager.specs.Stores.{kept_of, slots_in}
 use Rattle.descriptor_manager.proofs.Bringing.{Brings, brought}
 use Rattle.descriptor_manager.proofs.Requests.{from_asked, from_refused}
 use Rattle.descriptor_manager.proofs.store.Store.allocate_new.Given.{Over}
@@ -14,7 +14,7 @@ no_more [] long = refl
 no_more (x ∷ l) long = absurd (omega arith)
 
 -- one set is on its way
-one : (g : Over) (c : In_ok-bring g) → length (coming_in c.bring.new.self) ≡ 1
+one : (g : Over) (c : In_ok-bring g) → length c.bring.new.self.coming.items ≡ 1
 one g c = elim c.in_ok-bring.ensures.asks [
   | inl once ↦ (let many = once.hands_out.many in let short = c.requires.short in omega arith)
   | inr later ↦ (let many = later.2.hands_out.many in omega arith)
@@ -43,4 +43,4 @@ returns g c =
     let one = one g a in
     from_asked c.args.known.now.layout c.args.layout 1 c.args.used c.args.self.now c.bring.new.self c.requires.can.rest c.requires.short
     (c.hold_last.result ∷ []) c.hold_last.result c.hold_last.new.self c.requires.live c.bring.ensures.stays c.in_ok-bring.ensures.asks c.hold_last.ensures.holds (kept_first g a c.hold_last.result)
-    (c.hold_last.ensures.keeps c.args.known.now.layout (brings g a).own) (no_more (coming_in c.hold_last.new.self) (omega arith))
+    (c.hold_last.ensures.keeps c.args.known.now.layout (brings g a).own) (no_more c.hold_last.new.self.coming.items (omega arith))

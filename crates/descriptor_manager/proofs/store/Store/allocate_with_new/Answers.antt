@@ -6,7 +6,7 @@ use Rattle.descriptor_table.specs.Slots.{is_kept_of, slot_at}
 use Rattle.descriptor_table.specs.Tables.{HasRoom, place_at}
 use Rattle.descriptor_table.specs.declared.handle.SetHandle.{SetHandle}
 use Rattle.descriptor_table.proofs.Names.{handles_both, handles_long}
-use Rattle.descriptor_manager.specs.Stores.{ComesOf, HoldEach, coming_in, current_in, kept_of, number_of, slots_in}
+use Rattle.descriptor_manager.specs.Stores.{ComesOf, HoldEach, current_in, kept_of, slots_in}
 use Rattle.descriptor_manager.proofs.Bringing.{Brings, brought}
 use Rattle.descriptor_manager.proofs.Growing.{grow_more}
 use Rattle.descriptor_manager.proofs.Joining.{held_both, kept_then, stays_then}
@@ -22,10 +22,10 @@ brings g c = brought c.args.known.now.layout c.args.layout (length c.args.names.
 both : (g : Over) (c : After-hold_coming g) → g.N.SetName.handles_of (c.hold_kept.new.names ++ c.hold_coming.new.names) ≡ g.N.SetName.handles_of c.hold_kept.new.names ++ g.N.SetName.handles_of c.hold_coming.new.names
 both g c = handles_both g.N.SetName g.met.N.SetName.each c.hold_kept.new.names c.hold_coming.new.names
 
-all_held : (g : Over) (c : After-hold_coming g) → HoldEach (number_of c.bring.new.self) (current_in c.args.layout c.bring.new.self) c.args.used (g.N.SetName.handles_of (c.hold_kept.new.names ++ c.hold_coming.new.names)) (slots_in c.bring.new.self) (slots_in c.hold_coming.new.self)
+all_held : (g : Over) (c : After-hold_coming g) → HoldEach c.bring.new.self.table.number (current_in c.args.layout c.bring.new.self) c.args.used (g.N.SetName.handles_of (c.hold_kept.new.names ++ c.hold_coming.new.names)) (slots_in c.bring.new.self) (slots_in c.hold_coming.new.self)
 all_held g c =
     let brought = c.bring.new.self in
-    subst (λ h. HoldEach (number_of brought) (current_in c.args.layout brought) c.args.used h (slots_in brought) (slots_in c.hold_coming.new.self)) (sym (both g c))
+    subst (λ h. HoldEach brought.table.number (current_in c.args.layout brought) c.args.used h (slots_in brought) (slots_in c.hold_coming.new.self)) (sym (both g c))
     (held_both c.args.layout c.args.used c.requires.live (g.N.SetName.handles_of c.hold_kept.new.names) (g.N.SetName.handles_of c.hold_coming.new.names) brought c.hold_kept.new.self c.hold_coming.new.self c.hold_kept.ensures.keeps.stays c.hold_kept.ensures.holds c.hold_coming.ensures.holds)
 
 -- the kept ones have the first handles
@@ -50,7 +50,7 @@ first g c i lt some =
 pub hold_coming-requires-clause-can : goal.hold_coming-requires-clause-can
 hold_coming-requires-clause-can g c =
     let same = ap length c.hold_kept.ensures.coming in
-    record { layout = search rules; table = subst (λ n. HasRoom n c.hold_kept.new.self.table) (sym same) (c.hold_kept.ensures.table (length (coming_in c.bring.new.self)) c.in_ok-bring.ensures.table) }
+    record { layout = search rules; table = subst (λ n. HasRoom n c.hold_kept.new.self.table) (sym same) (c.hold_kept.ensures.table (length c.bring.new.self.coming.items) c.in_ok-bring.ensures.table) }
 
 pub returns-in_err-bring-clause-requests : goal.returns-in_err-bring-clause-requests
 returns-in_err-bring-clause-requests g c =
@@ -70,7 +70,7 @@ returns-clause-requests g c =
     (record {
       side = came.side ∙ kept.side;
       sets = kept_then (ComesOf g.D.DescriptorDevice.meaning c.args.known.now.layout c.args.layout) brought mid new kept.sets came.sets;
-      grows = grow_more (number_of c.hold_kept.new.self) (current_in c.args.layout c.hold_kept.new.self) c.args.used (g.N.SetName.handles_of c.hold_coming.new.names) brought mid new c.requires.live kept.grows came.grows c.hold_coming.ensures.holds;
+      grows = grow_more c.hold_kept.new.self.table.number (current_in c.args.layout c.hold_kept.new.self) c.args.used (g.N.SetName.handles_of c.hold_coming.new.names) brought mid new c.requires.live kept.grows came.grows c.hold_coming.ensures.holds;
       stays = stays_then c.bring.new.self c.hold_kept.new.self c.hold_coming.new.self kept.stays came.stays;
     })
     c.hold_coming.ensures.none

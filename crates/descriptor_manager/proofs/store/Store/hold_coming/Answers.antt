@@ -1,7 +1,7 @@
 use Rattle.std.proofs.Common.{◌+◌, ◌∙◌, [], ◌∷◌, inl, refl, sym, subst, take, arith}
 use Rattle.std.proofs.lemmas.List.{length-set}
 use Rattle.descriptor_table.proofs.Names.{handles_long, handles_written}
-use Rattle.descriptor_manager.specs.Stores.{HoldEach, ComesOf, current_in, number_of, slots_in}
+use Rattle.descriptor_manager.specs.Stores.{HoldEach, ComesOf, current_in, slots_in}
 use Rattle.descriptor_manager.proofs.Growing.{grow_more}
 use Rattle.descriptor_manager.proofs.Joining.{held_all, held_full, held_next, held_start, sets_then, stays_then, store_same}
 use Rattle.descriptor_manager.proofs.store.Store.hold_coming.Goals as goal
@@ -31,7 +31,7 @@ loop-index-preserved g c =
     let long = was.long in
     record {
       long = length-set c.loop-index.names i c.name_of.result ∙ was.long;
-      holds = subst (λ l. HoldEach (number_of s) (current_in c.args.layout s) c.args.used (take (i + 1) l) (slots_in s) (slots_in c.hold_last-handle.new.self)) (sym written)
+      holds = subst (λ l. HoldEach s.table.number (current_in c.args.layout s) c.args.used (take (i + 1) l) (slots_in s) (slots_in c.hold_last-handle.new.self)) (sym written)
           (held_next c.args.layout c.args.used c.requires.live i handles handle s c.loop-index.self c.hold_last-handle.new.self was.stays (omega arith) was.holds now.holds);
       fewer = (let a = was.fewer in let b = now.fewer in omega arith);
       own = λ known own. now.own known (was.own known own);
@@ -43,7 +43,7 @@ loop-index-preserved g c =
           record {
             side = here.side ∙ before.side;
             sets = sets_then (ComesOf g.D.DescriptorDevice.meaning known c.args.layout) (slots_in s) (slots_in c.loop-index.self) (slots_in c.hold_last-handle.new.self) before.sets here.sets;
-            grows = grow_more (number_of c.loop-index.self) (current_in c.args.layout c.loop-index.self) c.args.used (handle ∷ []) (slots_in s) (slots_in c.loop-index.self) (slots_in c.hold_last-handle.new.self) c.requires.live before.grows here.grows now.holds;
+            grows = grow_more c.loop-index.self.table.number (current_in c.args.layout c.loop-index.self) c.args.used (handle ∷ []) (slots_in s) (slots_in c.loop-index.self) (slots_in c.hold_last-handle.new.self) c.requires.live before.grows here.grows now.holds;
             stays = stays_then s c.loop-index.self c.hold_last-handle.new.self before.stays here.stays;
           };
     }
@@ -54,7 +54,7 @@ returns-clause-holds g c =
     let end = c.loop-index-test.false in
     let long = was.long in
     let all = handles_long g.N.SetName g.met.N.SetName.each c.loop-index.names in
-    held_all (number_of c.args.self.now) (current_in c.args.layout c.args.self.now) c.args.used c.loop-index.index (g.N.SetName.handles_of c.loop-index.names) (slots_in c.args.self.now) (slots_in c.loop-index.self) (omega arith) was.holds
+    held_all c.args.self.now.table.number (current_in c.args.layout c.args.self.now) c.args.used c.loop-index.index (g.N.SetName.handles_of c.loop-index.names) (slots_in c.args.self.now) (slots_in c.loop-index.self) (omega arith) was.holds
 
 pub name_of-requires : goal.name_of-requires
-name_of-requires g c = held_full (number_of c.loop-index.self) (current_in c.args.layout c.loop-index.self) c.args.used c.hold_last-handle.result (slots_in c.loop-index.self) (slots_in c.hold_last-handle.new.self) c.hold_last-handle.ensures.holds
+name_of-requires g c = held_full c.loop-index.self.table.number (current_in c.args.layout c.loop-index.self) c.args.used c.hold_last-handle.result (slots_in c.loop-index.self) (slots_in c.hold_last-handle.new.self) c.hold_last-handle.ensures.holds

@@ -6,10 +6,10 @@ use Rattle.gpu_descriptor_types.specs.Meaning.{IsOfLayout}
 use Rattle.gpu_descriptor.proofs.callers.HeldSets.{count_parts}
 use Rattle.descriptor_table.specs.Sets.{sets_in}
 use Rattle.descriptor_table.specs.Slots.{slot_at}
-use Rattle.descriptor_table.specs.Tables.{HasRoom, Renews, renewed, slots_of}
+use Rattle.descriptor_table.specs.Tables.{Settings, HasRoom, Renews, renewed, slots_of}
 use Rattle.descriptor_table.proofs.Chains.{live_no_list}
 use Rattle.descriptor_table.proofs.Renewing.{room_stays, usable_renewed}
-use Rattle.descriptor_manager.specs.Stores.{ComesOf, coming_in, generations_in, number_of, slots_in}
+use Rattle.descriptor_manager.specs.Stores.{ComesOf, generations_in, slots_in}
 use Rattle.descriptor_manager.proofs.Given.{put_count, put_many, renewed_sets}
 use Rattle.descriptor_manager.proofs.Growing.{grow_new}
 use Rattle.descriptor_manager.proofs.Handing.{new_comes, new_one}
@@ -17,13 +17,13 @@ use Rattle.descriptor_manager.proofs.store.Store.hold_last.Given.{Over}
 use Rattle.descriptor_manager.proofs.store.Store.hold_last.Goals as goal
 use Rattle.descriptor_manager.proofs.store.Store.hold_last.Goals.{After-hold}
 
-renews : (g : Over) (c : After-hold g) → Renews (number_of c.args.self.now) c.put-place.result c.args.used c.hold.result (slots_of c.put-place.new.self) (slots_of c.hold.new.self)
-renews g c = subst (λ n. Renews n c.put-place.result c.args.used c.hold.result (slots_of c.put-place.new.self) (slots_of c.hold.new.self)) c.put-place.ensures.settings.number c.hold.ensures.slots
+renews : (g : Over) (c : After-hold g) → Renews c.args.self.now.table.number c.put-place.result c.args.used c.hold.result (slots_of c.put-place.new.self) (slots_of c.hold.new.self)
+renews g c = subst (λ n. Renews n c.put-place.result c.args.used c.hold.result (slots_of c.put-place.new.self) (slots_of c.hold.new.self)) (ap (λ (s : Settings). s.number) c.put-place.ensures.settings) c.hold.ensures.slots
 
 same_sets : (g : Over) (c : After-hold g) → sets_in (slots_of c.hold.new.self) ≡ sets_in (slots_of c.put-place.new.self)
-same_sets g c = renewed_sets (number_of c.args.self.now) c.put-place.result c.args.used c.hold.result (slots_of c.put-place.new.self) (slots_of c.hold.new.self) (renews g c)
+same_sets g c = renewed_sets c.args.self.now.table.number c.put-place.result c.args.used c.hold.result (slots_of c.put-place.new.self) (slots_of c.hold.new.self) (renews g c)
 
-fewer : (g : Over) (c : After-hold g) → length (coming_in c.args.self.now) ≡ length c.pop.new.self.items + 1
+fewer : (g : Over) (c : After-hold g) → length c.args.self.now.coming.items ≡ length c.pop.new.self.items + 1
 fewer g c = ap length c.in-Some.ensures.items ∙ length-append c.pop.new.self.items (c.in-Some.set ∷ [])
 
 pub invariant_of-self-clause-exact : goal.invariant_of-self-clause-exact
@@ -45,7 +45,7 @@ invariant_of-self-clause-accounted g c =
     omega arith
 
 pub returns-clause-holds : goal.returns-clause-holds
-returns-clause-holds g c = (let old = c.args.self.now in new_one (number_of old) c.put-place.result c.args.used c.hold.result (generations_in old) c.args.layout c.in-Some.set (slots_in old) (slots_of c.put-place.new.self) (slots_of c.hold.new.self) c.put-place.ensures.puts (renews g (goal.at.returns-clause-holds g c).After-hold))
+returns-clause-holds g c = (let old = c.args.self.now in new_one old.table.number c.put-place.result c.args.used c.hold.result (generations_in old) c.args.layout c.in-Some.set (slots_in old) (slots_of c.put-place.new.self) (slots_of c.hold.new.self) c.put-place.ensures.puts (renews g (goal.at.returns-clause-holds g c).After-hold))
 
 pub returns-clause-own : goal.returns-clause-own
 returns-clause-own g c = λ known own k d lt.
@@ -62,7 +62,7 @@ returns-clause-table g c =
     let room = subst (λ n. HasRoom n c.args.self.now.table) (fewer g h) c.requires.can.table in
     room_stays (length c.pop.new.self.items) c.put-place.new.self c.hold.new.self c.hold.ensures.stays
     (ap length r.slots ∙ length-set put c.put-place.result (renewed c.args.used (slot_at put c.put-place.result)))
-    (usable_renewed (number_of c.args.self.now) c.put-place.result c.args.used c.hold.result put (slots_of c.hold.new.self) r
+    (usable_renewed c.args.self.now.table.number c.put-place.result c.args.used c.hold.result put (slots_of c.hold.new.self) r
     puts.within (ap (λ s. s.used) puts.here) (live_no_list (renewed c.args.used (slot_at put c.put-place.result)) c.requires.live 0))
     (c.put-place.ensures.reserve (length c.pop.new.self.items) room)
 
@@ -79,7 +79,7 @@ returns-clause-keeps g c = λ known own.
     let is = subst (λ x. IsOfLayout g.D.DescriptorDevice.meaning known x.raw) last (own left x (omega arith)) in
     record {
       side = refl;
-      sets = new_comes (number_of old) c.put-place.result c.args.used c.hold.result (ComesOf g.D.DescriptorDevice.meaning known c.args.layout) (generations_in old) c.args.layout x (slots_in old) put (slots_of c.hold.new.self) puts (renews g h) (refl, is);
-      grows = grow_new (number_of old) (generations_in old) c.args.layout c.put-place.result x c.args.used c.hold.result (slots_in old) put (slots_of c.hold.new.self) (λ s. live_no_list (renewed c.args.used s) c.requires.live 0) puts (renews g h);
+      sets = new_comes old.table.number c.put-place.result c.args.used c.hold.result (ComesOf g.D.DescriptorDevice.meaning known c.args.layout) (generations_in old) c.args.layout x (slots_in old) put (slots_of c.hold.new.self) puts (renews g h) (refl, is);
+      grows = grow_new old.table.number (generations_in old) c.args.layout c.put-place.result x c.args.used c.hold.result (slots_in old) put (slots_of c.hold.new.self) (λ s. live_no_list (renewed c.args.used s) c.requires.live 0) puts (renews g h);
       stays = search rules;
     }

@@ -6,7 +6,7 @@ use Rattle.descriptor_table.specs.Tables.{came_under, renewed, slots_of}
 use Rattle.descriptor_table.specs.declared.handle.SetHandle.{SetHandle}
 use Rattle.descriptor_table.proofs.Listed.{test_within}
 use Rattle.descriptor_table.proofs.Renewing.{renews_stay, room_stays}
-use Rattle.descriptor_manager.specs.Stores.{current_in, number_of, slots_in}
+use Rattle.descriptor_manager.specs.Stores.{current_in, slots_in}
 use Rattle.descriptor_manager.proofs.Given.{accounted_as, exact_as, renewed_sets}
 use Rattle.descriptor_manager.proofs.Handing.{kept_fewer, kept_one, usable_stays}
 use Rattle.descriptor_manager.proofs.Naming.{kept_as}
@@ -29,7 +29,7 @@ under g c =
     λ i. (kept.1 i, (now ∙ ap (λ n. (current_in n s).1) kept.1) i)
 
 same_sets : (g : Over) (c : After-hold_kept g) → sets_in (slots_of c.hold_kept.new.self) ≡ sets_in (slots_in c.args.self.now)
-same_sets g c = renewed_sets (number_of c.args.self.now) (handle g c).place c.args.used (handle g c) (slots_in c.args.self.now) (slots_of c.hold_kept.new.self) c.hold_kept.ensures.renews
+same_sets g c = renewed_sets c.args.self.now.table.number (handle g c).place c.args.used (handle g c) (slots_in c.args.self.now) (slots_of c.hold_kept.new.self) c.hold_kept.ensures.renews
 
 long : (g : Over) (c : After-hold_kept g) → length (slots_of c.hold_kept.new.self) ≡ length (slots_in c.args.self.now)
 long g c = (let old = slots_in c.args.self.now in ap length c.hold_kept.ensures.renews.slots ∙ length-set old (handle g c).place (renewed c.args.used (slot_at old (handle g c).place)))
@@ -45,14 +45,14 @@ returns-clause-holds g c =
     let s = c.args.self.now in
     let i = (goal.at.returns-clause-holds g c).After-hold_kept in
     let h = handle g i in
-    kept_one (number_of s) h.place c.args.used h (current_in c.args.layout s) (slots_in s) (slots_of c.hold_kept.new.self) c.hold_kept.ensures.kept (under g i) (within g i) c.hold_kept.ensures.renews
+    kept_one s.table.number h.place c.args.used h (current_in c.args.layout s) (slots_in s) (slots_of c.hold_kept.new.self) c.hold_kept.ensures.kept (under g i) (within g i) c.hold_kept.ensures.renews
 
 pub returns-clause-fewer : goal.returns-clause-fewer
 returns-clause-fewer g c =
     let s = c.args.self.now in
     let i = (goal.at.returns-clause-fewer g c).After-hold_kept in
     let h = handle g i in
-    kept_fewer (number_of s) h.place c.args.used h c.args.layout (slots_in s) (slots_of c.hold_kept.new.self) c.hold_kept.ensures.kept (within g i) c.requires.live c.hold_kept.ensures.renews
+    kept_fewer s.table.number h.place c.args.used h c.args.layout (slots_in s) (slots_of c.hold_kept.new.self) c.hold_kept.ensures.kept (within g i) c.requires.live c.hold_kept.ensures.renews
 
 pub returns-clause-as_many : goal.returns-clause-as_many
 returns-clause-as_many g c = long g (goal.at.returns-clause-as_many g c).After-hold_kept
@@ -62,7 +62,7 @@ returns-clause-table g c = λ n room.
     let s = c.args.self.now in
     let i = (goal.at.returns-clause-table g c).After-hold_kept in
     let h = handle g i in
-    room_stays n s.table c.hold_kept.new.self c.hold_kept.ensures.stays (long g i) (usable_stays (number_of s) h.place c.args.used h c.args.layout (slots_in s) (slots_of c.hold_kept.new.self) c.hold_kept.ensures.kept (within g i) c.requires.live c.hold_kept.ensures.renews) room
+    room_stays n s.table c.hold_kept.new.self c.hold_kept.ensures.stays (long g i) (usable_stays s.table.number h.place c.args.used h c.args.layout (slots_in s) (slots_of c.hold_kept.new.self) c.hold_kept.ensures.kept (within g i) c.requires.live c.hold_kept.ensures.renews) room
 
 pub returns-clause-keeps : goal.returns-clause-keeps
 returns-clause-keeps g c =
@@ -71,7 +71,7 @@ returns-clause-keeps g c =
     let h = handle g i in
     record {
       side = refl;
-      sets = λ p x e. (let stay = renews_stay (number_of s) h.place c.args.used h (slots_in s) (slots_of c.hold_kept.new.self) (within g i) c.hold_kept.ensures.renews p in inl (sym stay.0 ∙ e, stay.1));
+      sets = λ p x e. (let stay = renews_stay s.table.number h.place c.args.used h (slots_in s) (slots_of c.hold_kept.new.self) (within g i) c.hold_kept.ensures.renews p in inl (sym stay.0 ∙ e, stay.1));
       grows = inl (long g i);
       stays = search rules;
     }

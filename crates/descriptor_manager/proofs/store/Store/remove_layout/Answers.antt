@@ -5,7 +5,7 @@ use Rattle.gpu_descriptor.specs.declared.set.DescriptorSet.{DescriptorSet}
 use Rattle.descriptor_table.specs.Sets.{sets_in}
 use Rattle.descriptor_table.specs.Slots as table
 use Rattle.descriptor_table.specs.Slots.{is_kept_of}
-use Rattle.descriptor_table.specs.Tables.{Turns, Becomes, removed_at, slots_of, vacated}
+use Rattle.descriptor_table.specs.Tables.{Settings, Turns, Becomes, removed_at, slots_of, vacated}
 use Rattle.descriptor_manager.specs.Stores.{side_of, slots_in}
 use Rattle.descriptor_manager.proofs.Given.{accounted_as, exact_as}
 use Rattle.descriptor_manager.proofs.Following.{follow_turns, follows_vacated}
@@ -34,14 +34,14 @@ pub remove_layout-requires-clause-none_kept : goal.remove_layout-requires-clause
 remove_layout-requires-clause-none_kept g c = removed_out c.args.layout (slots_in c.args.self.now) (slots_in c.give.new.self) c.give.ensures.frees.turns
 
 pub remove_layout-requires-clause-next : goal.remove_layout-requires-clause-next
-remove_layout-requires-clause-next g c = subst (λ (generations : ℕ → ℕ). generations c.args.layout < 4294967295) (sym c.give.ensures.stays.store.generations) c.requires.next
+remove_layout-requires-clause-next g c = subst (λ (generations : ℕ → ℕ). generations c.args.layout < 4294967295) (sym (ap (λ (s : Settings). s.generations) c.give.ensures.stays.store.settings)) c.requires.next
 
 pub returns-clause-removes : goal.returns-clause-removes
 returns-clause-removes g c =
     let gives = c.give.ensures.frees in
     record {
       turns = turns g (goal.at.returns-clause-removes g c).After-remove_layout;
-      generations = c.remove_layout.ensures.only.settings.generations ∙ ap (removed_at c.args.layout) c.give.ensures.stays.store.generations;
+      generations = (ap (λ (s : Settings). s.generations) c.remove_layout.ensures.only.settings) ∙ ap (removed_at c.args.layout) (ap (λ (s : Settings). s.generations) c.give.ensures.stays.store.settings);
       past = c.remove_layout.ensures.past;
       mid = side_of c.give.new.self;
       back = gives.back;

@@ -2,7 +2,7 @@ use Rattle.std.proofs.lemmas.Grind.{common_steps}
 use Rattle.std.proofs.Common.{◌≡◌, ◌≢◌, ◌∙◌, ◌+◌, ◌<◌, ℕ, Bool, true, inl, inr, is_some, length, List, refl, sym, ap, subst, arith}
 use Rattle.std.proofs.lemmas.List.{length-set}
 use Rattle.descriptor_table.specs.Slots.{Slot, chains_in, in_list, is_in, nexts_in, slot_at, slots_in}
-use Rattle.descriptor_table.specs.Tables.{Picks, count, is_kept, slots_of, used_for}
+use Rattle.descriptor_table.specs.Tables.{Settings, Picks, count, is_kept, slots_of, used_for}
 use Rattle.descriptor_table.specs.declared.slot.Use.{Use}
 use Rattle.descriptor_table.specs.declared.slot.Use.TheVariants.{Taken}
 use Rattle.descriptor_table.proofs.Chains.{taken_no_list}
@@ -80,6 +80,11 @@ unlink-requires g t c κs within =
     let same = as_was c.args.list c.in-Some.first c.args.place c.args.used old mid c.requires.list picks c.if-first-place.false c.requires.listed c.requires.used in
     (omega (arith, fewer c.args.list c.in-Some.first c.args.place c.args.used old mid c.requires.list picks c.if-first-place.false c.requires.listed c.requires.used), (within, (c.requires.list, (ap (is_in c.args.list) same ∙ c.requires.listed, ap (λ s. s.used) same ∙ c.requires.used))))
 
+pub link-requires-clause-goes : goal.link-requires-clause-goes
+link-requires-clause-goes g t c =
+    let picks = c.in-Some.ensures.slots in
+    ap (is_in c.args.list) (first_again c.args.list c.in-Some.first c.args.place c.args.used (slots_of c.args.self.now) (slots_of c.pick.new.self) c.requires.list picks c.if-first-place.false c.requires.listed c.requires.used (slots_of c.unlink.new.self) c.unlink.ensures.slots) ∙ picks.was
+
 pub link-requires-clause-current : goal.link-requires-clause-current
 link-requires-clause-current g t c = λ kept.
     let s = c.args.self.now in
@@ -87,7 +92,7 @@ link-requires-clause-current g t c = λ kept.
     let picks = c.in-Some.ensures in
     let again = first_again c.args.list first c.args.place c.args.used (slots_of s) (slots_of c.pick.new.self) c.requires.list picks.slots c.if-first-place.false c.requires.listed c.requires.used (slots_of c.unlink.new.self) c.unlink.ensures.slots in
     let o = slot_at (slots_of s) first in
-    let same = c.unlink.ensures.stays.settings.generations ∙ picks.stays.settings.generations in
+    let same = (ap (λ (s : Settings). s.generations) c.unlink.ensures.stays.settings) ∙ (ap (λ (s : Settings). s.generations) picks.stays.settings) in
     let was = (s.sound.known first picks.slots.within).kept (ap is_kept (sym again) ∙ kept) in
     ap (λ s. s.layout_generation) again ∙ was ∙ (λ i. (sym same i) (sym again i).layout)
 
@@ -103,7 +108,7 @@ link-requires-clause-few g t c = λ two.
     let few = s.sound.few k two in
     let was = chain_count (slots_in s.slots) (nexts_in s.slots) (chains_in s.lists.items) s.sound.linked k in
     let is = chain_count (slots_in new.slots) (nexts_in new.slots) (chains_in new.lists.items) new.sound.linked k in
-    let keep = c.unlink.ensures.stays.settings.keep ∙ picks.stays.settings.keep in
+    let keep = (ap (λ (s : Settings). s.keep) c.unlink.ensures.stays.settings) ∙ (ap (λ (s : Settings). s.keep) picks.stays.settings) in
     omega arith
 
 pub returns : goal.returns

@@ -2,12 +2,9 @@ use Rattle.std.proofs.Common.{◌+◌, ◌∙◌, refl, subst, sym}
 use Rattle.std.proofs.lemmas.Bool.{true≢false}
 use Rattle.descriptor_table.specs.Slots.{AreSound, chains_in, generations_in, slot_at, slots_in}
 use Rattle.descriptor_table.specs.Tables.{renewed}
-use Rattle.descriptor_table.proofs.Chains.{live_no_list, taken_no_list, taken_out}
+use Rattle.descriptor_table.proofs.Chains.{live_no_list, taken_no_list}
 use Rattle.descriptor_table.proofs.Sound.{listed, queued}
 use Rattle.descriptor_table.proofs.set_table.SetTable.hold.Goals as goal
-
-pub enqueue-requires-clause-idle : goal.enqueue-requires-clause-idle
-enqueue-requires-clause-idle g c = taken_out (slot_at (slots_in c.args.self.now.slots) c.args.place) c.requires.taken.taken.taken
 
 pub invariant_of-self : goal.invariant_of-self
 invariant_of-self g c =

@@ -1,6 +1,6 @@
 use Rattle.std.proofs.Common.{◌≡◌, ◌≢◌, ℕ, ◌+◌, ◌-◌, ◌<◌, inl, inr, is_some, length, set, subst, true, refl, sym, ap, ◌∙◌, arith}
 use Rattle.std.proofs.lemmas.Bool.{true≢false}
-use Rattle.std.proofs.lemmas.List.{get_or_past, length-map, length-set}
+use Rattle.std.proofs.lemmas.List.{get_or_past, length-map}
 use Rattle.descriptor_table.specs.Slots.{AreSound, Slot, chain_at, chains_in, generation_at, generations_in, is_in, nexts_in, slot_at, slots_in}
 use Rattle.descriptor_table.specs.Tables.{count, renewed, slots_of}
 use Rattle.descriptor_table.specs.declared.handle.SetHandle.{SetHandle}
@@ -10,7 +10,7 @@ use Rattle.descriptor_table.specs.declared.slot.ListHead.{ListHead}
 use Rattle.descriptor_table.proofs.Chains.{listed_out, live_no_list, picked}
 use Rattle.descriptor_table.proofs.Counting.{below_or}
 use Rattle.descriptor_table.proofs.Counts.{chain_count}
-use Rattle.descriptor_table.proofs.Entries.{chain_was, chain_written, generations_stay, in_place}
+use Rattle.descriptor_table.proofs.Entries.{chain_was, chain_written, generations_stay, in_place, lists_stay}
 use Rattle.descriptor_table.proofs.Listed.{slot_set}
 use Rattle.descriptor_table.proofs.Renewing.{kept_is}
 use Rattle.descriptor_table.proofs.Sound.{listed, pick_sound}
@@ -112,7 +112,7 @@ returns-clause-stays g c =
     let s = c.args.self.now in
     let a = (goal.at.returns-clause-stays g c).After-renew-generation in
     record {
-      settings = record { number = refl; lists = length-map _ _ ∙ length-set s.lists.items (c.args.layout + 2) (new_head g a) ∙ sym (length-map _ _); generations = ap generation_at (generations g a); keep = refl };
+      settings = λ i. record { number = s.number; lists = lists_stay s.lists.items (c.args.layout + 2) (new_head g a) i; generations = generation_at (generations g a i); keep = s.keep };
       space = c.renew-generation.ensures.writes.space;
       waiting = c.enqueue.ensures.capacity;
     }

@@ -1,11 +1,10 @@
-use Rattle.std.proofs.Common.{◌≡◌, ◌+◌, refl, sym, ap, set, ◌∙◌, arith}
-use Rattle.std.proofs.lemmas.List.{length-map, length-set}
+use Rattle.std.proofs.Common.{◌≡◌, ◌+◌, refl, sym, ap, set, arith}
 use Rattle.descriptor_table.specs.Slots.{AreSound, chain_at, chains_in, generation_at, generations_in, nexts_in, slot_at, slots_in}
 use Rattle.descriptor_table.specs.Tables.{used_for}
 use Rattle.descriptor_table.specs.declared.slot.Chain.{Chain}
 use Rattle.descriptor_table.specs.declared.slot.ListHead.{ListHead}
 use Rattle.descriptor_table.proofs.Chains.{held_nowhere, link_more}
-use Rattle.descriptor_table.proofs.Entries.{chain_was, chain_written, generations_stay, in_place}
+use Rattle.descriptor_table.proofs.Entries.{chain_was, chain_written, generations_stay, in_place, lists_stay}
 use Rattle.descriptor_table.proofs.Sound.{link_sound, listed}
 use Rattle.descriptor_table.proofs.set_table.SetTable.link.Goals.{After-index_mut-head}
 use Rattle.descriptor_table.proofs.set_table.SetTable.link.Goals as goal
@@ -49,7 +48,7 @@ returns g c =
     record {
       slots = c.link.ensures.writes.slots;
       stays = record {
-        settings = record { number = refl; lists = length-map _ _ ∙ length-set s.lists.items c.args.list (new_head g d) ∙ sym (length-map _ _); generations = ap generation_at (generations g d); keep = refl };
+        settings = λ i. record { number = s.number; lists = lists_stay s.lists.items c.args.list (new_head g d) i; generations = generation_at (generations g d i); keep = s.keep };
         space = c.link.ensures.writes.space;
         waiting = refl;
       };

@@ -1,11 +1,11 @@
-use Rattle.std.proofs.Common.{◌≡◌, ◌-◌, ◌<◌, length, true, refl, sym, ap, set, ◌∙◌, arith}
-use Rattle.std.proofs.lemmas.List.{length-map, length-set}
+use Rattle.std.proofs.Common.{◌≡◌, ◌-◌, ◌<◌, length, true, refl, sym, set, arith}
+use Rattle.std.proofs.lemmas.List.{length-map}
 use Rattle.descriptor_table.specs.Slots.{AreSound, chain_at, chains_in, generation_at, generations_in, is_in, nexts_in, slot_at, slots_in}
 use Rattle.descriptor_table.specs.Tables.{used_for}
 use Rattle.descriptor_table.specs.declared.slot.ListHead.{ListHead}
 use Rattle.descriptor_table.specs.declared.slot.Use.TheVariants.{Taken}
 use Rattle.descriptor_table.proofs.Chains.{listed_out, picked, taken_unkept, unheld}
-use Rattle.descriptor_table.proofs.Entries.{chain_was, chain_written, generations_stay, in_place}
+use Rattle.descriptor_table.proofs.Entries.{chain_was, chain_written, generations_stay, in_place, lists_stay}
 use Rattle.descriptor_table.proofs.Sound.{listed, pick_sound}
 use Rattle.descriptor_table.proofs.Waiting.{out_queue}
 use Rattle.descriptor_table.proofs.set_table.SetTable.pick.Goals.{After-set_use, Else-head-eq0}
@@ -59,7 +59,7 @@ returns g c =
     record {
       slots = record { was = p.1; within = p.0; slots = c.set_use.ensures.writes.slots };
       stays = record {
-        settings = record { number = refl; lists = length-map _ _ ∙ length-set s.lists.items c.args.list (new_head g a) ∙ sym (length-map _ _); generations = ap generation_at (generations g a); keep = refl };
+        settings = λ i. record { number = s.number; lists = lists_stay s.lists.items c.args.list (new_head g a) i; generations = generation_at (generations g a i); keep = s.keep };
         space = c.set_use.ensures.writes.space;
         waiting = refl;
       };

@@ -16,7 +16,7 @@ returns-then-frame g c =
     let read = c.frame.ensures in
     record {
       slots = record { none = none_due (slots_in s.slots) s.waiting.items s.newest s.sound.queue c.args.frame first (omega arith); slots = refl };
-      stays = record { settings = record { number = refl; lists = refl; generations = refl; keep = refl }; space = refl; waiting = c.push_front_reserved.ensures.capacity ∙ c.in_ok-first.ensures.capacity };
+      stays = record { settings = refl; space = refl; waiting = c.push_front_reserved.ensures.capacity ∙ c.in_ok-first.ensures.capacity };
     }
 
 pub invariant_of-self-2 : goal.invariant_of-self-2

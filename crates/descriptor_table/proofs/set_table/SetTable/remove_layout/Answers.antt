@@ -38,12 +38,9 @@ returns-clause-only g c =
     let a = (goal.at.returns-clause-only g c).After-index_mut in
     record {
       slots = refl;
-      settings = record {
-        number = refl;
-        lists = ap length (chains g a);
-        generations = ap generation_at (generations g a) ∙ (λ i n. removed_is (generations_in c.args.self.now.lists.items) c.args.layout (within g a) n i);
-        keep = refl;
-      };
+      settings =
+          let removed = ap generation_at (generations g a) ∙ (λ i n. removed_is (generations_in c.args.self.now.lists.items) c.args.layout (within g a) n i) in
+          λ i. record { number = c.args.self.now.number; lists = length (chains g a i); generations = removed i; keep = c.args.self.now.keep };
     }
 
 pub returns-clause-past : goal.returns-clause-past

@@ -2,7 +2,7 @@ use Rattle.std.proofs.Common.{◌≡◌, ◌<◌, ℕ, false, get_or, length, is
 use Rattle.std.proofs.lemmas.Bool.{false≢true}
 use Rattle.descriptor_table.specs.Sets.{is_held}
 use Rattle.descriptor_table.specs.Slots.{in_list, is_in, slot_at}
-use Rattle.descriptor_table.specs.Tables.{ChangeUse, IsBack, generations_of, next_use, place_at, slots_of, used_for}
+use Rattle.descriptor_table.specs.Tables.{Settings, ChangeUse, IsBack, generations_of, next_use, place_at, slots_of, used_for}
 use Rattle.descriptor_table.specs.declared.handle.SetHandle.{SetHandle}
 use Rattle.descriptor_table.specs.declared.slot.Use.TheVariants.{Going, Held}
 use Rattle.descriptor_table.proofs.Holding.{TurnedSome, changed, held_is, turn_more, turned_all, turned_no, turned_none}
@@ -25,7 +25,7 @@ at g c = place_read g.N.SetName g.met.N.SetName.each c.args.names.now c.loop-ind
 
 -- whether it has a held set now
 holds : (g : _) (c : After-holds g) → c.holds.result ≡ is_held c.args.self.now.number (slots_of c.loop-index.self) c.handle-handle.result
-holds g c = subst (λ n. c.holds.result ≡ is_held n (slots_of c.loop-index.self) c.handle-handle.result) c.loop-index.invariant.stays.settings.number c.holds.ensures
+holds g c = subst (λ n. c.holds.result ≡ is_held n (slots_of c.loop-index.self) c.handle-handle.result) (ap (λ (s : Settings). s.number) c.loop-index.invariant.stays.settings) c.holds.ensures
 
 pub loop-index-init : goal.loop-index-init
 loop-index-init g c = record {
@@ -79,9 +79,6 @@ returns-then-not-holds-clause-once g c =
 
 pub returns-then-not-holds-clause-none : goal.returns-then-not-holds-clause-none
 returns-then-not-holds-clause-none g c = λ f. c.put_back.ensures.slots (slots_of c.args.self.now) (change g (goal.at.returns-then-not-holds-clause-none g c).At-loop-index c.loop-index-test.true)
-
-pub returns-then-not-holds-clause-stays : goal.returns-then-not-holds-clause-stays
-returns-then-not-holds-clause-stays g c = stays_more c.args.self.now c.loop-index.self c.put_back.new.self c.loop-index.invariant.stays c.put_back.ensures.stays
 
 pub returns-clause-once : goal.returns-clause-once
 returns-clause-once g c =

@@ -1,11 +1,10 @@
-use Rattle.std.proofs.Common.{◌≡◌, ◌<◌, ◌≤◌, ◌∙◌, get_or, inl, is_some, length, refl, sym, ap, subst, arith}
+use Rattle.std.proofs.Common.{◌≡◌, ◌<◌, ◌≤◌, ◌∙◌, get_or, inl, length, refl, sym, ap, subst, arith}
 use Rattle.std.proofs.lemmas.Bool.{false≢true}
 use Rattle.descriptor_table.specs.Sets.{is_held}
 use Rattle.descriptor_table.specs.Slots.{IsNowhere, Slot, slot_at}
-use Rattle.descriptor_table.specs.Tables.{Becomes, ChangeUse, is_held_use, place_at, slots_of, used_for}
+use Rattle.descriptor_table.specs.Tables.{Settings, Becomes, ChangeUse, slots_of, used_for}
 use Rattle.descriptor_table.specs.declared.handle.SetHandle.{SetHandle}
 use Rattle.descriptor_table.specs.declared.slot.Use.TheVariants.{Taken}
-use Rattle.descriptor_table.proofs.Chains.{and_true}
 use Rattle.descriptor_table.proofs.Holding.{TurnedSome, changed, taken_not_held, turn_more, turned_all, turned_no, turned_none}
 use Rattle.descriptor_table.proofs.Names.{handle_read, handles_long}
 use Rattle.descriptor_table.proofs.Turning.{stays_more, stays_same}
@@ -21,7 +20,7 @@ within g c = (let long = handles_long g.N.SetName g.met.N.SetName.each c.args.na
 
 -- whether it has a held set now
 holds : (g : _) (c : After-holds g) → c.holds.result ≡ is_held c.args.self.now.number (slots_of c.loop-index.self) c.handle-handle.result
-holds g c = subst (λ n. c.holds.result ≡ is_held n (slots_of c.loop-index.self) c.handle-handle.result) c.loop-index.invariant.stays.settings.number c.holds.ensures
+holds g c = subst (λ n. c.holds.result ≡ is_held n (slots_of c.loop-index.self) c.handle-handle.result) (ap (λ (s : Settings). s.number) c.loop-index.invariant.stays.settings) c.holds.ensures
 
 pub loop-index-init : goal.loop-index-init
 loop-index-init g c = record {
@@ -87,14 +86,3 @@ returns-clause-took g c = λ t.
     let d = (goal.at.returns-clause-took g c).At-loop-index in
     let same = all g d c.loop-index-test.false in
     subst (λ n. ChangeUse (g.N.SetName.handles_of c.args.names.now) n (slots_of c.args.self.now) (slots_of c.loop-index.self)) same (change g d (omega arith))
-
-pub returns-clause-taken : goal.returns-clause-taken
-returns-clause-taken g c = λ t i lt.
-    let d = (goal.at.returns-clause-taken g c).At-loop-index in
-    let same = all g d c.loop-index-test.false in
-    let changed = change g d (omega arith) in
-    let within = changed.within i (omega arith) in
-    let long = changed.long in
-    let is = c.loop-index.invariant.some.named i (omega arith) in
-    let was = slot_at (slots_of c.args.self.now) (place_at (g.N.SetName.handles_of c.args.names.now) i) in
-    record { taken = record { within = omega arith; taken = ap (λ (s : Slot g.row.T.Denot). s.used) is }; full = ap (λ (s : Slot g.row.T.Denot). is_some s.set) is ∙ (and_true (is_held_use was.used) (is_some was.set) (changed.held i (omega arith))).1 }

@@ -1,7 +1,7 @@
 use Rattle.std.proofs.Common.{◌≤◌, ◌+◌, length, inl, inr, sym, subst, ap, arith}
 use Rattle.std.proofs.lemmas.List.{get_or_past, length-map}
 use Rattle.descriptor_table.specs.Slots.{is_in, slots_in, nexts_in, chains_in}
-use Rattle.descriptor_table.specs.Tables.{count, slots_of}
+use Rattle.descriptor_table.specs.Tables.{Settings, count, slots_of}
 use Rattle.descriptor_table.specs.declared.slot.Chain.{Chain}
 use Rattle.descriptor_table.specs.declared.slot.ListHead.{ListHead}
 use Rattle.descriptor_table.proofs.Counting.{below_or, same_or}
@@ -31,9 +31,6 @@ loop-list-preserved g c =
       stays = stays_more c.args.self.now c.loop-list.self c.trim_list.new.self inv.stays e.turns.stays;
     }
 
-pub returns-clause-as_many : goal.returns-clause-as_many
-returns-clause-as_many g c = λ layout n le has. c.loop-list.invariant.enough (layout + 2) (omega arith) n le has
-
 pub returns-clause-few : goal.returns-clause-few
 returns-clause-few g c = λ layout.
     let s = c.loop-list.self in
@@ -41,7 +38,7 @@ returns-clause-few g c = λ layout.
     let end = c.loop-list-test.false in
     let n = c.len-list-end.ensures in
     let ok = c.args.self.now.lists.ok.0 in
-    let lists = inv.stays.settings.lists in
+    let lists = (ap (λ (s : Settings). s.lists) inv.stays.settings) in
     let long = length-map c.args.self.now.lists.items (λ (h : ListHead). h.chain) in
     elim (below_or (layout + 2) (length (chains_in s.lists.items))) [
       | inl lt ↦ inv.few (layout + 2) (omega arith) (omega arith)

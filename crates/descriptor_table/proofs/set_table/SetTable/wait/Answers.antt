@@ -2,12 +2,9 @@ use Rattle.std.proofs.Common.{refl, subst, sym}
 use Rattle.descriptor_table.specs.Slots.{AreSound, chains_in, generations_in, slot_at, slots_in}
 use Rattle.descriptor_table.specs.Tables.{used_for}
 use Rattle.descriptor_table.specs.declared.slot.Use.TheVariants.{Waits}
-use Rattle.descriptor_table.proofs.Chains.{taken_no_list, taken_out, unheld, waits_no_list, waits_unkept}
+use Rattle.descriptor_table.proofs.Chains.{taken_no_list, unheld, waits_no_list, waits_unkept}
 use Rattle.descriptor_table.proofs.Sound.{listed, queued}
 use Rattle.descriptor_table.proofs.set_table.SetTable.wait.Goals as goal
-
-pub enqueue-requires-clause-idle : goal.enqueue-requires-clause-idle
-enqueue-requires-clause-idle g c = taken_out (slot_at (slots_in c.args.self.now.slots) c.args.place) c.requires.taken.taken
 
 pub invariant_of-self : goal.invariant_of-self
 invariant_of-self g c =
