@@ -158,7 +158,6 @@ module _ {L P S D : Type 0} {d : Ghosts D L P S} where
   -- sets returned to their pools, and then all empty pools were destroyed
   pub record Cleans (old new : StoreOver d) : Type 0 where
     pub mid : Side (Allocations P)
-    pub mid : Side (Allocations P)
     pub back : GaveBack d.meaning (side_of old) mid
     pub cleans : Sweeps true d.meaning mid (side_of new)
 

@@ -1,8 +1,8 @@
-use Rattle.std.proofs.Common.{◌≡◌, ◌∷◌, [], Some, false, inl, inr, sym, subst, ◌∙◌, ap}
+use Rattle.std.proofs.Common.{◌∷◌, [], false, inl, inr, sym, subst, ◌∙◌, ap}
 use Rattle.gpu_descriptor.specs.Caller.SetLayouts.{IsMeant}
-use Rattle.descriptor_table.specs.Sets.{NameEach, find, sets_of}
+use Rattle.descriptor_table.specs.Sets.{NameEach, sets_of}
 use Rattle.descriptor_table.specs.Tables.{Settings, Grows, generations_of, slots_of}
-use Rattle.descriptor_manager.proofs.Adding.{added_grows, added_is, added_names, added_only}
+use Rattle.descriptor_manager.proofs.Adding.{added_grows, added_names, added_only}
 use Rattle.descriptor_manager.proofs.layout_registry.LayoutRegistry.add.Goals as goal
 
 pub invariant_of-self-clause-meant : goal.invariant_of-self-clause-meant
@@ -28,10 +28,3 @@ returns-clause-grows g c =
     let mid = c.put-place.new.self in
     let new = slots_of c.hold.new.self in
     subst (λ l. Grows l new) c.reserve.ensures.keeps.slots (added_grows mid.number c.put-place.result c.args.layout c.hold.result (slots_of c.reserve.new.self.table) (slots_of mid) new (generations_of c.reserve.new.self.table) c.put-place.ensures.puts c.hold.ensures.slots)
-
-pub returns-clause-added : goal.returns-clause-added
-returns-clause-added g c =
-    let mid = c.put-place.new.self in
-    let new = c.hold.new.self in
-    subst (λ n. find n 0 false (slots_of new) c.hold.result ≡ Some c.args.layout) (sym (ap (λ (s : Settings). s.number) c.hold.ensures.stays.settings))
-    (added_is mid.number c.put-place.result c.args.layout c.hold.result (slots_of c.reserve.new.self.table) (slots_of mid) (slots_of new) (generations_of c.reserve.new.self.table) c.put-place.ensures.puts c.hold.ensures.slots)

@@ -1,11 +1,8 @@
 use Rattle.std.proofs.Common.{◌≡◌, [], ◌∷◌, subst, sym, rules}
 use Rattle.descriptor_manager.specs.Stores.{IsRefusedAtLast, handles_in}
 use Rattle.descriptor_manager.proofs.Owned.{if_some, refused_names}
-use Rattle.descriptor_manager.proofs.Requested.{can_take, names_then, one_refused, own_then, sets_then, takes_then}
+use Rattle.descriptor_manager.proofs.Requested.{names_then, one_refused, own_then, sets_then}
 use Rattle.descriptor_manager.proofs.manager.SetManager.allocate_as.Goals as goal
-
-pub allocate-requires-clause-can : goal.allocate-requires-clause-can
-allocate-requires-clause-can g c = can_take c.args.self.now c.args.layout c.in-Some.known.now c.place.result c.place.ensures (sym c.in-Some.ensures.layout) c.in-Some.ensures.meant
 
 pub invariant_of-self-2-clause-sets : goal.invariant_of-self-2-clause-sets
 invariant_of-self-2-clause-sets g c = sets_then c.args.self.now c.args.layout c.in-Some.known.now c.place.result c.place.ensures (sym c.in-Some.ensures.layout) 1 c.args.used (handles_in c.allocate.result) c.allocate.new.self c.allocate.result c.allocate.ensures
@@ -20,11 +17,6 @@ returns-in-Ok-clause-creates g c =
       names = names_then r c.args.layout known c.place.result c.place.ensures found 1 c.args.used handles c.allocate.new.self c.in-Ok.handle c.in-Ok.ensures c.requires.live;
       own = own_then r c.args.layout known c.place.result c.place.ensures found 1 c.args.used handles c.allocate.new.self c.in-Ok.handle c.in-Ok.ensures;
     })
-
-pub returns-in-Ok-clause-takes : goal.returns-in-Ok-clause-takes
-returns-in-Ok-clause-takes g c =
-    let known = c.in-Some.known.now in
-    if_some _ known _ c.in-Some.ensures.layout (takes_then c.args.self.now c.args.layout known c.place.result c.place.ensures (sym c.in-Some.ensures.layout) 1 c.args.used (c.in-Ok.handle ∷ []) c.allocate.new.self c.in-Ok.handle c.in-Ok.ensures)
 
 pub returns-in-Err-clause-refused : goal.returns-in-Err-clause-refused
 returns-in-Err-clause-refused g c = λ error is.

@@ -4,11 +4,8 @@ use Rattle.descriptor_table.specs.Tables.{slots_of}
 use Rattle.descriptor_table.specs.declared.slot.Use.TheVariants.{Held}
 use Rattle.descriptor_table.proofs.Counts.{count_few}
 use Rattle.descriptor_manager.proofs.Owned.{if_some, refused_names}
-use Rattle.descriptor_manager.proofs.Requested.{can_take, names_then, own_then, sets_then, takes_then}
+use Rattle.descriptor_manager.proofs.Requested.{names_then, own_then, sets_then}
 use Rattle.descriptor_manager.proofs.manager.SetManager.allocate_into.Goals as goal
-
-pub allocate_each-requires-clause-can : goal.allocate_each-requires-clause-can
-allocate_each-requires-clause-can g c = can_take c.args.self.now c.args.layout c.in-Some.known.now c.place.result c.place.ensures (sym c.in-Some.ensures.layout) c.in-Some.ensures.meant
 
 pub invariant_of-self-2-clause-sets : goal.invariant_of-self-2-clause-sets
 invariant_of-self-2-clause-sets g c = sets_then c.args.self.now c.args.layout c.in-Some.known.now c.place.result c.place.ensures (sym c.in-Some.ensures.layout) (length c.args.sets.now) Held (g.N.SetName.handles_of c.allocate_each.new.names) c.allocate_each.new.self c.allocate_each.result c.allocate_each.ensures.requests
@@ -24,11 +21,6 @@ returns-in-Ok-clause-creates g c =
       names = names_then r c.args.layout known c.place.result c.place.ensures found many Held handles c.allocate_each.new.self tt c.in-Ok.ensures.requests refl;
       own = own_then r c.args.layout known c.place.result c.place.ensures found many Held handles c.allocate_each.new.self tt c.in-Ok.ensures.requests;
     })
-
-pub returns-in-Ok-clause-takes : goal.returns-in-Ok-clause-takes
-returns-in-Ok-clause-takes g c =
-    let known = c.in-Some.known.now in
-    if_some _ known _ c.in-Some.ensures.layout (takes_then c.args.self.now c.args.layout known c.place.result c.place.ensures (sym c.in-Some.ensures.layout) (length c.args.sets.now) Held (g.N.SetName.handles_of c.allocate_each.new.names) c.allocate_each.new.self tt c.in-Ok.ensures.requests)
 
 pub returns-in-Err-clause-sets : goal.returns-in-Err-clause-sets
 returns-in-Err-clause-sets g c =

@@ -18,6 +18,3 @@ held g c = (let old = c.args.self.now in subst (λ n. AreHeldOnce n (slots_in ol
 
 pub returns-clause-names : goal.returns-clause-names
 returns-clause-names g c = (let old = c.args.self.now in waited_names old.frame old.is_open old.manager c.args.last_use (g.N.SetName.handles_of c.args.sets.now) (slots_in old.store) (slots_in c.wait_each.new.self) (held g (goal.at.returns-clause-names g c).Else-not-wait_each) (c.if-not-wait_each.ensures.waits refl))
-
-pub returns-clause-once : goal.returns-clause-once
-returns-clause-once g c = held g (goal.at.returns-clause-once g c).Else-not-wait_each

@@ -1,14 +1,14 @@
-use Rattle.std.proofs.Common.{[], ◌≡◌, ◌≢◌, ℕ, ◌+◌, ◌<◌, Some, is_some, length, refl, sym, ap, subst, ◌∙◌, arith}
+use Rattle.std.proofs.Common.{[], ◌≡◌, ◌≢◌, ℕ, ◌<◌, Some, is_some, length, refl, sym, ap, subst, ◌∙◌, arith}
 use Rattle.std.proofs.lemmas.List.{length-set}
 use Rattle.std.proofs.lemmas.List.Elements.{All-cons, All-nil}
 use Rattle.descriptor_table.specs.Slots.{is_kept_of, slot_at}
 use Rattle.descriptor_table.specs.Tables.{Settings, count, removed_at, vacated}
 use Rattle.descriptor_table.proofs.Listed.{other_slots, slot_set}
 use Rattle.descriptor_manager.specs.LayoutRegistries.{layout_slots, layouts_by}
-use Rattle.descriptor_manager.specs.Own.{AreCounted, AreOwn, HasSetsOf}
+use Rattle.descriptor_manager.specs.Own.{AreCounted, AreOwn}
 use Rattle.descriptor_manager.specs.Stores.{generations_in, lists_for, side_of, slots_in}
-use Rattle.descriptor_manager.proofs.Owned.{layout_here, layout_listed, layout_within}
-use Rattle.descriptor_manager.proofs.Removing.{counted_removed, own_removed, removed_fits, removed_names, removed_none}
+use Rattle.descriptor_manager.proofs.Owned.{layout_here, layout_within}
+use Rattle.descriptor_manager.proofs.Removing.{counted_removed, own_removed, removed_names, removed_none}
 use Rattle.descriptor_manager.proofs.manager.SetManager.remove_layout.Given.{Over}
 use Rattle.descriptor_manager.proofs.manager.SetManager.remove_layout.Goals as goal
 use Rattle.descriptor_manager.proofs.manager.SetManager.remove_layout.Goals.{After-place}
@@ -30,16 +30,6 @@ others g c n ne =
     let layouts = layout_slots c.args.self.now.layouts in
     let p = c.args.layout.slot.place in
     ap (λ l. slot_at l n) (c.in-Some.ensures.slots refl) ∙ other_slots layouts p (vacated (slot_at layouts p)) n (λ e. ne (e ∙ sym c.place.ensures))
-
-pub remove_layout-requires-clause-layout : goal.remove_layout-requires-clause-layout
-remove_layout-requires-clause-layout g c =
-    let old = c.args.self.now in
-    subst (λ n. c.place.result + 2 < n) (sym old.sets.lists) (layout_listed (layout_slots old.layouts) c.place.result c.in-Some.removed (here g c))
-
-pub remove_layout-requires-clause-next : goal.remove_layout-requires-clause-next
-remove_layout-requires-clause-next g c =
-    let old = c.args.self.now in
-    removed_fits c.place.result (generations_in old.store) (layout_slots old.layouts) old.sets.counted (ap is_some (here g c))
 
 pub invariant_of-self-clause-sets : goal.invariant_of-self-clause-sets
 invariant_of-self-clause-sets g c =
@@ -67,9 +57,6 @@ invariant_of-self-clause-sets g c =
       lists = (ap (λ (s : Settings). s.lists) settles.stays.settings) ∙ old.sets.lists ∙ ap lists_for (sym long);
       number = (ap (λ (s : Settings). s.number) settles.stays.settings) ∙ old.sets.number;
     }
-
-pub invariant_of-self-in-None-clause-sets : goal.invariant_of-self-in-None-clause-sets
-invariant_of-self-in-None-clause-sets g c = subst (λ l. HasSetsOf l c.args.self.now.manager c.args.self.now.store) (sym (c.in-None.ensures.none refl)) c.args.self.now.sets
 
 pub returns-in-Some-clause-none_kept : goal.returns-in-Some-clause-none_kept
 returns-in-Some-clause-none_kept g c =

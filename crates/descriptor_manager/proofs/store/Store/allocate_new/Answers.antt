@@ -33,9 +33,6 @@ returns-in_err-bring g c =
     rw (passed c.from_residual.result c.in_err-bring.field-0.0 c.from_residual.ensures.1)
     (from_refused c.args.known.now.layout c.args.layout 1 c.args.used c.args.self.now c.bring.new.self c.requires.can.rest c.requires.short [] c.in_err-bring.field-0.0 c.bring.ensures.stays c.in_err-bring.ensures.refused c.in_err-bring.ensures.none)
 
-pub hold_last-requires-clause-some : goal.hold_last-requires-clause-some
-hold_last-requires-clause-some g c = (let one = one g (goal.at.hold_last-requires-clause-some g c).In_ok-bring in omega arith)
-
 pub returns : goal.returns
 returns g c =
     let a = (goal.at.returns g c).In_ok-bring in

@@ -1,9 +1,9 @@
-use Rattle.std.proofs.Common.{◌≡◌, ℕ, ◌<◌, ◌++◌, ◌∙◌, true, length, sym, ap, subst, arith, rules}
+use Rattle.std.proofs.Common.{◌≡◌, ℕ, ◌<◌, ◌++◌, ◌∙◌, true, length, sym, ap, subst, arith}
 use Rattle.std.proofs.lemmas.List.{get_or_append_left, length-append}
 use Rattle.gpu_descriptor.specs.Caller.Sets.{AreOfLayout}
 use Rattle.gpu_descriptor.proofs.request.Passed.{passed}
 use Rattle.descriptor_table.specs.Slots.{is_kept_of, slot_at}
-use Rattle.descriptor_table.specs.Tables.{HasRoom, place_at}
+use Rattle.descriptor_table.specs.Tables.{place_at}
 use Rattle.descriptor_table.specs.declared.handle.SetHandle.{SetHandle}
 use Rattle.descriptor_table.proofs.Names.{handles_both, handles_long}
 use Rattle.descriptor_manager.specs.Stores.{ComesOf, HoldEach, current_in, kept_of, slots_in}
@@ -46,11 +46,6 @@ first g c i lt some =
     subst (λ p. is_kept_of c.args.layout (slot_at (slots_in c.bring.new.self) p) ≡ true)
     (sym (ap (λ l. place_at l i) (both g c) ∙ ap (λ (h : SetHandle). h.place) (get_or_append_left a b (record { manager = 0; place = 0; generation = 0 }) i (omega arith))))
     (c.hold_kept.ensures.were_kept i (omega arith))
-
-pub hold_coming-requires-clause-can : goal.hold_coming-requires-clause-can
-hold_coming-requires-clause-can g c =
-    let same = ap length c.hold_kept.ensures.coming in
-    record { layout = search rules; table = subst (λ n. HasRoom n c.hold_kept.new.self.table) (sym same) (c.hold_kept.ensures.table (length c.bring.new.self.coming.items) c.in_ok-bring.ensures.table) }
 
 pub returns-in_err-bring-clause-requests : goal.returns-in_err-bring-clause-requests
 returns-in_err-bring-clause-requests g c =

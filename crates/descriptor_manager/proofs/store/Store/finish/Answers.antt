@@ -1,12 +1,11 @@
-use Rattle.std.proofs.Common.{◌≡◌, ◌∙◌, rules}
+use Rattle.std.proofs.Common.{◌≡◌}
 use Rattle.descriptor_table.specs.Sets.{sets_in}
 use Rattle.descriptor_table.specs.Slots.{is_due}
 use Rattle.descriptor_table.specs.Tables.{generations_of, slots_of, vacated, IsBack, Turns}
 use Rattle.descriptor_table.proofs.Turning.{due_full}
 use Rattle.descriptor_manager.proofs.Given.{accounted_as, exact_as}
-use Rattle.descriptor_manager.proofs.Back.{back_not_due, came_back, settled_sets}
-use Rattle.descriptor_manager.proofs.Following.{follow_turns, follows_back, none_goes}
-use Rattle.descriptor_manager.proofs.Settling.{settled}
+use Rattle.descriptor_manager.proofs.Back.{came_back, settled_sets}
+use Rattle.descriptor_manager.proofs.Following.{none_goes}
 use Rattle.descriptor_manager.proofs.store.Store.finish.Given.{Over}
 use Rattle.descriptor_manager.proofs.store.Store.finish.Goals.{After-give-2, After-settle_due}
 use Rattle.descriptor_manager.proofs.store.Store.finish.Goals as goal
@@ -30,15 +29,3 @@ turns g c =
 
 pub returns-clause-back : goal.returns-clause-back
 returns-clause-back g c = record { turns = turns g c; back = c.give-2.ensures.frees.back }
-
-pub returns-clause-none_due : goal.returns-clause-none_due
-returns-clause-none_due g c = back_not_due (generations_of c.args.self.now.table) c.args.frame c.args.self.now.table.keep (slots_of c.args.self.now.table) (slots_of c.give-2.new.self.table) (turns g c)
-
-pub returns-clause-settles : goal.returns-clause-settles
-returns-clause-settles g c =
-    let old = slots_of c.args.self.now.table in
-    let new = slots_of c.give-2.new.self.table in
-    let max = c.args.self.now.table.keep in
-    settled c.args.self.now c.give-2.new.self
-    (follow_turns (is_due c.args.frame) (IsBack vacated (generations_of c.args.self.now.table) max) old new (turns g c) (follows_back (generations_of c.args.self.now.table) max new))
-    (c.give-2.ensures.stays.coming ∙ c.requires.rest.none_coming) c.requires.rest (search rules)

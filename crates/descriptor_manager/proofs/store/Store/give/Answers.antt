@@ -1,5 +1,4 @@
-use Rattle.std.proofs.Common.{[], refl}
-use Rattle.descriptor_manager.proofs.Joining.{store_same}
+use Rattle.std.proofs.Common.{[]}
 use Rattle.descriptor_table.specs.Giving.{is_of}
 use Rattle.descriptor_table.specs.Tables.{slots_of}
 use Rattle.descriptor_manager.proofs.Returned.{none_turns, returns_none}
@@ -10,6 +9,3 @@ pub returns-then-is_known_empty-clause-frees : goal.returns-then-is_known_empty-
 returns-then-is_known_empty-clause-frees g c =
     let s = c.args.self.now in
     record { turns = none_turns (is_of c.args.group) (slots_of s.table) (c.is_known_empty.ensures c.if-is_known_empty.true); back = record { sets = []; returns = returns_none g.D.DescriptorDevice.meaning s.allocator (side_of s).ledger } }
-
-pub returns-then-is_known_empty-clause-stays : goal.returns-then-is_known_empty-clause-stays
-returns-then-is_known_empty-clause-stays g c = record { store = store_same c.args.self.now; coming = refl }

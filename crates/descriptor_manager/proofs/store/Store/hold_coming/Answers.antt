@@ -3,7 +3,7 @@ use Rattle.std.proofs.lemmas.List.{length-set}
 use Rattle.descriptor_table.proofs.Names.{handles_long, handles_written}
 use Rattle.descriptor_manager.specs.Stores.{HoldEach, ComesOf, current_in, slots_in}
 use Rattle.descriptor_manager.proofs.Growing.{grow_more}
-use Rattle.descriptor_manager.proofs.Joining.{held_all, held_full, held_next, held_start, sets_then, stays_then, store_same}
+use Rattle.descriptor_manager.proofs.Joining.{held_full, held_next, held_start, sets_then, stays_then, store_same}
 use Rattle.descriptor_manager.proofs.store.Store.hold_coming.Goals as goal
 
 pub loop-index-init : goal.loop-index-init
@@ -47,14 +47,6 @@ loop-index-preserved g c =
             stays = stays_then s c.loop-index.self c.hold_last-handle.new.self before.stays here.stays;
           };
     }
-
-pub returns-clause-holds : goal.returns-clause-holds
-returns-clause-holds g c =
-    let was = c.loop-index.invariant in
-    let end = c.loop-index-test.false in
-    let long = was.long in
-    let all = handles_long g.N.SetName g.met.N.SetName.each c.loop-index.names in
-    held_all c.args.self.now.table.number (current_in c.args.layout c.args.self.now) c.args.used c.loop-index.index (g.N.SetName.handles_of c.loop-index.names) (slots_in c.args.self.now) (slots_in c.loop-index.self) (omega arith) was.holds
 
 pub name_of-requires : goal.name_of-requires
 name_of-requires g c = held_full c.loop-index.self.table.number (current_in c.args.layout c.loop-index.self) c.args.used c.hold_last-handle.result (slots_in c.loop-index.self) (slots_in c.hold_last-handle.new.self) c.hold_last-handle.ensures.holds

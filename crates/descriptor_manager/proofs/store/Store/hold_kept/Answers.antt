@@ -5,7 +5,7 @@ use Rattle.descriptor_table.specs.Tables.{place_at}
 use Rattle.descriptor_table.proofs.Names.{handles_long, handles_written}
 use Rattle.descriptor_manager.specs.Stores.{HoldEach, NoneComes, current_in, slots_in}
 use Rattle.descriptor_manager.proofs.Growing.{grow_more}
-use Rattle.descriptor_manager.proofs.Joining.{held_all, held_next, held_start, kept_then, stays_then, store_same, were_kept}
+use Rattle.descriptor_manager.proofs.Joining.{held_next, held_start, kept_then, stays_then, store_same, were_kept}
 use Rattle.descriptor_manager.proofs.store.Store.hold_kept.Goals as goal
 
 pub loop-index-init : goal.loop-index-init
@@ -49,11 +49,3 @@ loop-index-preserved g c =
         stays = stays_then s c.loop-index.self c.hold_next.new.self was.keeps.stays now.keeps.stays;
       };
     }
-
-pub returns-clause-holds : goal.returns-clause-holds
-returns-clause-holds g c =
-    let was = c.loop-index.invariant in
-    let end = c.loop-index-test.false in
-    let long = was.long in
-    let all = handles_long g.N.SetName g.met.N.SetName.each c.loop-index.names in
-    held_all c.args.self.now.table.number (current_in c.args.layout c.args.self.now) c.args.used c.loop-index.index (g.N.SetName.handles_of c.loop-index.names) (slots_in c.args.self.now) (slots_in c.loop-index.self) (omega arith) was.holds

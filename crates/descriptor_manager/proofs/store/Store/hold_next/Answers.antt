@@ -54,9 +54,6 @@ returns-clause-fewer g c =
     let h = handle g i in
     kept_fewer s.table.number h.place c.args.used h c.args.layout (slots_in s) (slots_of c.hold_kept.new.self) c.hold_kept.ensures.kept (within g i) c.requires.live c.hold_kept.ensures.renews
 
-pub returns-clause-as_many : goal.returns-clause-as_many
-returns-clause-as_many g c = long g (goal.at.returns-clause-as_many g c).After-hold_kept
-
 pub returns-clause-table : goal.returns-clause-table
 returns-clause-table g c = λ n room.
     let s = c.args.self.now in

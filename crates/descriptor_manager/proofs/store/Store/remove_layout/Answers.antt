@@ -7,9 +7,7 @@ use Rattle.descriptor_table.specs.Slots as table
 use Rattle.descriptor_table.specs.Slots.{is_kept_of}
 use Rattle.descriptor_table.specs.Tables.{Settings, Turns, Becomes, removed_at, slots_of, vacated}
 use Rattle.descriptor_manager.specs.Stores.{side_of, slots_in}
-use Rattle.descriptor_manager.proofs.Given.{accounted_as, exact_as}
 use Rattle.descriptor_manager.proofs.Following.{follow_turns, follows_vacated}
-use Rattle.descriptor_manager.proofs.Removing.{removed_out}
 use Rattle.descriptor_manager.proofs.Settling.{settled}
 use Rattle.descriptor_manager.proofs.store.Store.remove_layout.Given.{Over}
 use Rattle.descriptor_manager.proofs.store.Store.remove_layout.Goals as goal
@@ -20,18 +18,6 @@ same_sets g c = ap (λ v. sets_in (table.slots_in v)) c.remove_layout.ensures.on
 
 turns : (g : Over) (c : After-remove_layout g) → Turns (is_kept_of c.args.layout) (Becomes vacated) (slots_in c.args.self.now) (slots_of c.remove_layout.new.self)
 turns g c = subst (λ v. Turns (is_kept_of c.args.layout) (Becomes vacated) (slots_in c.args.self.now) (table.slots_in v)) (sym c.remove_layout.ensures.only.slots) c.give.ensures.frees.turns
-
-pub invariant_of-self-clause-exact : goal.invariant_of-self-clause-exact
-invariant_of-self-clause-exact g c = λ t.
-    let stay = c.trim_layout.ensures.trims.outstanding_stay t in
-    let was = exact_as c.give.new.self (same_sets g (goal.at.invariant_of-self-clause-exact g c).After-remove_layout) t in
-    omega arith
-
-pub invariant_of-self-clause-accounted : goal.invariant_of-self-clause-accounted
-invariant_of-self-clause-accounted g c = c.trim_layout.ensures.trims.totals_stay.0 ∙ accounted_as c.give.new.self (same_sets g (goal.at.invariant_of-self-clause-accounted g c).After-remove_layout)
-
-pub remove_layout-requires-clause-none_kept : goal.remove_layout-requires-clause-none_kept
-remove_layout-requires-clause-none_kept g c = removed_out c.args.layout (slots_in c.args.self.now) (slots_in c.give.new.self) c.give.ensures.frees.turns
 
 pub remove_layout-requires-clause-next : goal.remove_layout-requires-clause-next
 remove_layout-requires-clause-next g c = subst (λ (generations : ℕ → ℕ). generations c.args.layout < 4294967295) (sym (ap (λ (s : Settings). s.generations) c.give.ensures.stays.store.settings)) c.requires.next

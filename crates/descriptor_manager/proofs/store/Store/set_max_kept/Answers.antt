@@ -41,9 +41,6 @@ all g c =
     let old = slots_of c.args.self.now.table in
     left old (slots_of c.trim.new.self) (slots_of c.give.new.self.table) (none_goes old c.requires.rest.placed) c.trim.ensures.turns.slots (gives g c)
 
-pub returns-clause-trims : goal.returns-clause-trims
-returns-clause-trims g c = record { turns = all g c; back = c.give.ensures.frees.back }
-
 pub returns-clause-few : goal.returns-clause-few
 returns-clause-few g c = λ layout.
     let same = given_kept (slots_of c.trim.new.self) (slots_of c.give.new.self.table) (gives g c) (layout + 2) (omega arith) in

@@ -11,12 +11,6 @@ use Rattle.descriptor_manager.proofs.store.Store.wait_each.Given.{Over}
 use Rattle.descriptor_manager.proofs.store.Store.wait_each.Goals.{After-wait_each}
 use Rattle.descriptor_manager.proofs.store.Store.wait_each.Goals as goal
 
-pub wait_each-requires-clause-apart : goal.wait_each-requires-clause-apart
-wait_each-requires-clause-apart g c = (c.if-not-take_each.ensures.took refl).apart
-
-pub wait_each-requires-clause-taken : goal.wait_each-requires-clause-taken
-wait_each-requires-clause-taken g c = c.if-not-take_each.ensures.taken refl
-
 -- the sets are as they were
 same_sets : (g : Over) (c : After-wait_each g) → sets_in (slots_of c.wait_each.new.self) ≡ sets_in (slots_of c.args.self.now.table)
 same_sets g c = waited_sets (g.N.SetName.handles_of c.args.names.now) c.args.frame (slots_of c.args.self.now.table) (slots_of c.take_each.new.self) (slots_of c.wait_each.new.self) (c.if-not-take_each.ensures.took refl) c.wait_each.ensures.slots
@@ -29,9 +23,6 @@ invariant_of-self-2-clause-exact g c = exact_as c.args.self.now (same_sets g (go
 
 pub invariant_of-self-2-clause-accounted : goal.invariant_of-self-2-clause-accounted
 invariant_of-self-2-clause-accounted g c = accounted_as c.args.self.now (same_sets g (goal.at.invariant_of-self-2-clause-accounted g c).After-wait_each)
-
-pub returns-clause-waits : goal.returns-clause-waits
-returns-clause-waits g c = λ t. waits g (goal.at.returns-clause-waits g c).After-wait_each
 
 pub returns-clause-settles : goal.returns-clause-settles
 returns-clause-settles g c =
