@@ -1,4 +1,4 @@
--- A set that comes into a slot, gets a handle, or leaves: for `SetTable::put`, `allocate_for_frame`, `take_out` and `take_of`.
+-- A set that comes into a slot, gets a handle, or leaves: for `SetTable::put`, `hold_kept`, `take_out` and `take_of`, and for `Store`.
 -- `old` are the slots before, `mid` those once the slot was picked from its list or its set taken out, `new` those after.
 use Rattle.std.proofs.lemmas.Grind.{common_steps}
 use Rattle.std.proofs.Common.{◌≡◌, ℕ, ◌+◌, ◌<◌, ◌≤◌, ◌==◌, ◌&&◌, Bool, true, false, nat_lt, List, length, set, Option, Some, None, is_some, inl, inr, refl, sym, ap, ◌∙◌, arith, ltb-true}

@@ -1,5 +1,5 @@
--- The queue of the sets that wait, when a place comes to it or leaves it: for `put_place`, and
--- `SetTable::wait`, `hold_for_frame`, `pick_waiting` and `pick_due`.
+-- The queue of the sets that wait, when a place comes to it or leaves it: for `put_place`, `enqueue`, and
+-- `SetTable::pick_waiting` and `pick_due`.
 use Rattle.std.proofs.lemmas.Grind.{common_steps}
 use Rattle.std.proofs.Common.{◌≡◌, ◌≢◌, ℕ, zero, suc, ◌+◌, ◌-◌, ◌<◌, ◌≤◌, ◌==◌, ◌&&◌, Bool, true, false, if◌then◌else◌, List, [], ◌∷◌, ◌++◌, insert, length, take, drop, get_or, set, is_some, nat_le, inl, inr, refl, sym, ap, subst, ◌∙◌, arith}
 use Rattle.std.proofs.lemmas.List.{append_assoc, length-drop, length-set}
