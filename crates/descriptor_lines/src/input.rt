@@ -64,6 +64,7 @@ impl LineBuffer {
     pub fn new(alloc: Global, reads: u32) -> Result<Self, AllocError>
         ensures empty { IfOk result (λ buffer. buffer.start ≡ buffer.end) }
         ensures open { IfOk result (λ buffer. IsFalse buffer.is_at_end) }
+        ensures reads { IfOk result (λ buffer. buffer.reads_left ≡ reads) }
     {
         Ok(LineBuffer {
             bytes: vec![in alloc; 0; BUFFER_LEN]?,
@@ -79,20 +80,23 @@ impl LineBuffer {
     ///
     /// After an error the lines that were complete have been given, and the next one is not.
     pub fn next_line<R: Read>(&mut self, input: &mut R) -> Result<Option<Span>, InputFault>
-        requires sees { SeesEndOf self.old (R.remaining input.old) }
         ensures short { IfOk result (λ span. IfSome span (λ span.
             span.end - span.start ≤ longest_line)) }
 
         // Where the bytes are known that are in no line yet.
         ensures known { IfOk result (λ span. (bytes : List ℕ) → unread self.old
-            (R.remaining input.old) ≡ Some bytes → TakesLine bytes span self.new (unread self.new
-            (R.remaining input.new))) }
+            (R.remaining input.old) ≡ Some bytes → SeesEndOf self.old (R.remaining input.old)
+            → TakesLine bytes span self.new (unread self.new (R.remaining input.new))) }
+        ensures kept { OnErr result (Keeps (unread self.old (R.remaining input.old))
+            (unread self.new (R.remaining input.new))) }
         ensures too_long { result ≡ Err InputFault.LineTooLong → (bytes : List ℕ)
             → unread self.old (R.remaining input.old) ≡ Some bytes
             → longest_line < length (before_end bytes) }
 
-        ensures end { IfOk result (λ span. IfNone span (IsAtEnd (R.remaining input.new))) }
-        ensures sees { SeesEndOf self.new (R.remaining input.new) }
+        ensures end { IfOk result (λ span. IfNone span (SeesEndOf self.old (R.remaining input.old)
+            → IsAtEnd (R.remaining input.new))) }
+        ensures sees { SeesEndOf self.old (R.remaining input.old)
+            → SeesEndOf self.new (R.remaining input.new) }
     {
         loop {
             if let Some(span) = self.take_line()? {
