@@ -1,21 +1,21 @@
 -- How a run of lines ends: for `run_lines_on` and `run_to_end`. `Stands` says how far a run over known bytes came, and `Takes` what came of
 -- its next line.
-use Rattle.std.proofs.Common.{◌≡◌, ℕ, ◌+◌, ◌-◌, ◌<◌, ◌⊎◌, inl, inr, false, List, [], ◌∷◌, ◌++◌, Option, Some, Result, Ok, Err, drop, take, length, length-take, nat_le, append_assoc, subst, refl, sym, ap, ◌∙◌, arith, ◌≤◌, true, IsTrue, IfErr, slice_range}
-use Rattle.std.specs.List.{position_or_len}
+use Rattle.std.proofs.lemmas.Grind.{common_steps}
+use Rattle.std.proofs.Common.{◌≡◌, ℕ, ◌+◌, ◌-◌, ◌<◌, ◌⊎◌, inl, inr, List, [], ◌∷◌, ◌++◌, Option, Some, Result, Ok, Err, length, subst, refl, sym, ap, ◌∙◌, arith, ◌≤◌, IsTrue, IfErr, slice_range}
 use Rattle.std.specs.Io.BufRead.{strip_last}
 use Rattle.std.specs.Io.KnownBytes.{Appends}
 use Rattle.std.proofs.lemmas.Bool.Decides.{nat_tests}
 use Rattle.std.proofs.KnownBytes.{Appends-nil, Appends-trans}
-use Rattle.descriptor_lines.specs.Words.{is_byte, words}
+use Rattle.descriptor_lines.specs.Words.{words}
 use Rattle.descriptor_lines.specs.declared.words.fault.Fault.TheVariants.{LineTooLong}
 use Rattle.descriptor_lines.specs.declared.words.fault.Refusal.{Refusal}
 use Rattle.descriptor_lines.specs.declared.words.fault.Refusal.TheVariants as refusal
-use Rattle.descriptor_lines.specs.LineBuffers.{buffered, unread}
+use Rattle.descriptor_lines.specs.LineBuffers.{unread}
 use Rattle.descriptor_lines.specs.LineStates.{LineState}
 use Rattle.descriptor_lines.specs.Lines.{after_end, before_end, lines_of, longest_line}
 use Rattle.descriptor_lines.specs.Orders.{line_in}
 use Rattle.descriptor_lines.specs.Outcomes.{AppendsPrefix, IsNoFault, said_of}
-use Rattle.descriptor_lines.specs.Programs.{CanRun, DoesLine, IsReasonFor, Runs, RunsAs, asked_in}
+use Rattle.descriptor_lines.specs.Programs.{CanRun, DoesLine, IsReasonFor, Runs, RunsAs}
 use Rattle.descriptor_lines.specs.Transcripts.{Ends, Says}
 use Rattle.descriptor_lines.specs.declared.exit.Exit.{Exit}
 use Rattle.descriptor_lines.specs.declared.exit.Exit.TheVariants.{BadLine, Done, ReadFault, WriteFault}
@@ -44,35 +44,11 @@ pub takes_span :
     → RunsAs (DoesLine (line_in old.layouts old.has_begun (words line))) outcome text old new
     → IfErr outcome (IsReasonFor (line_in old.layouts old.has_begun (words line)) (words line))
     → (outcome ≡ Err refusal.NoMemory → IsTrue new.has_begun) → Takes bytes left outcome text old new
-takes_span bytes line buffer span left outcome text old new (some, first, gone) few is runs reason begun =
-    let stripped : line ≡ strip_last 13 (before_end bytes) = is ∙ ap (strip_last 13) first in
-    let short : length (before_end bytes) ≤ longest_line = omega (arith, ap length first, length-take (span.end - span.start) (drop span.start buffer.bytes.items)) in
-    let yes : nat_le (length (before_end bytes)) longest_line ≡ true = grind (arith, nat_tests) in
-    let asked : line_in old.layouts old.has_begun (words line) ≡ asked_in old (before_end bytes) = rw (yes, stripped) refl in
-    record {
-      some = some;
-      ran = record { runs = rw asked at runs; reason = rw yes (rw stripped at reason); begun = λ none. (begun none, short) };
-      gone = λ fine. gone;
-    }
+takes_span bytes line buffer span left outcome text old new (some, first, gone) few is runs reason begun = grind (arith, common_steps, nat_tests)
 
 -- a line that is too long
 pub too_long : (bytes text : List ℕ) (left : Option (List ℕ)) (p : LineState) → longest_line < length (before_end bytes) → CanRun p → Takes bytes left (Err (refusal.Fault LineTooLong)) text p p
-too_long bytes text left p long ready =
-    let no : nat_le (length (before_end bytes)) longest_line ≡ false = grind (arith, nat_tests) in
-    record {
-      some = omega (arith, length-take (position_or_len (is_byte 10) bytes) bytes);
-      ran = record {
-        runs = record {
-          done = tt;
-          err = record { layouts = refl; session = refl; script = refl };
-          ready = ready;
-          begun = λ is. is;
-        };
-        reason = rw no refl;
-        begun = λ is. absurd (cc);
-      };
-      gone = λ fine. absurd (cc);
-    }
+too_long bytes text left p long ready = grind (arith, common_steps, nat_tests)
 
 -- what a run of all lines wrote
 abbrev pub Wrote : Exit → List ℕ → LineState → Option (List ℕ) → Option (List ℕ) → LineState → Type 0
@@ -121,15 +97,7 @@ module _ (bytes : List ℕ) (start p : LineState) (answers : List ℕ) (number :
 
     -- the run goes on after it, if it had no fault
     pub stands_on : IsNoFault outcome → Stands bytes start (answers ++ said_of number outcome text) (number + 1) rest now
-    stands_on fine = record {
-      rest = after_end at.rest;
-      known = takes.gone fine;
-      goes = λ exit said last on.
-          subst (λ all. Says exit 1 (lines_of bytes) all start last) (sym (append_assoc answers (said_of number outcome text) said))
-          (at.goes exit (said_of number outcome text ++ said) last
-          (subst (λ lines. Says exit number lines (said_of number outcome text ++ said) p last) (sym split)
-          (inr (outcome, text, now, takes.ran, fine, said, refl, on))));
-    }
+    stands_on fine = grind (arith, common_steps, split)
 
     -- a faulty line was the last
     pub ends_at_fault : (old mid new : Option (List ℕ)) → ¬ (IsNoFault outcome) → Appends old mid answers → Appends mid new (said_of number outcome text) → Wrote BadLine bytes start old new now
@@ -153,7 +121,4 @@ ends_early exit bytes start last old new (inr broken) faulty failed = rw broken 
 
 -- a new buffer has read nothing
 pub unread_first : (buffer : LineBuffer) (known : Option (List ℕ)) (bytes : List ℕ) → buffer.start ≡ buffer.end → known ≡ Some bytes → unread buffer known ≡ Some bytes
-unread_first buffer known bytes empty is =
-    let none : buffer.end - buffer.start ≡ 0 = omega arith in
-    let nothing : buffered buffer ≡ [] = ap (λ n. take n (drop buffer.start buffer.bytes.items)) none in
-    rw is (ap (λ l. Some (l ++ bytes)) nothing)
+unread_first buffer known bytes empty is = grind (arith, common_steps)

@@ -2,6 +2,7 @@
 -- `bytes` are those of the buffer: from `start` on they are in no line yet, up to `searched` no line ends among them, and up to `end` they
 -- were read. Byte 10 ends a line. `known`
 -- are the bytes that the reader has left, if that is known.
+use Rattle.std.proofs.lemmas.Grind.{common_steps}
 use Rattle.std.proofs.Common.{◌≡◌, ℕ, ◌+◌, ◌-◌, ◌<◌, ◌≤◌, append_assoc, append-nil, length-take, List, [], ◌++◌, Option, None, Some, IfSome, IfNone, not, unwrap_or, position, length, length-take-le, take, drop, slice_range, length-append}
 use Rattle.std.proofs.Common.{refl, sym, ap, ◌∙◌, arith}
 use Rattle.std.specs.List.{position_or_len}
@@ -37,9 +38,7 @@ part_rest bytes a b n fits =
 
 -- a part of the front
 pub front_part : (bytes back : List ℕ) (a b end : ℕ) → b ≤ end → end ≤ length bytes → slice_range (take end bytes ++ back) a b ≡ slice_range bytes a b
-front_part bytes back a b end to fits =
-    let within : b ≤ length (take end bytes) = omega (arith, length-take-le end bytes fits) in
-    between_is (take end bytes ++ back) a b ∙ ap (drop a) (take-append-le b (take end bytes) back within ∙ take-take b end bytes to) ∙ sym (between_is bytes a b)
+front_part bytes back a b end to fits = grind (arith, common_steps, between_is, take-append-le, take-take)
 
 -- a part that goes on behind the front
 pub part_behind : (bytes got more : List ℕ) (a end n : ℕ) → a ≤ end → end ≤ length bytes → n ≤ length got → slice_range (take end bytes ++ (got ++ more)) a (end + n) ≡ slice_range bytes a end ++ take n got
@@ -116,12 +115,7 @@ pub takes_ended :
     (known : Option (List ℕ)) (bytes all line rest : List ℕ)
     → prepend_known bytes known ≡ Some all → HasEnd bytes → line ≡ before_end bytes → rest ≡ after_end bytes
     → (0 < length all) × (line ≡ before_end all) × (prepend_known rest known ≡ Some (after_end all))
-takes_ended known bytes all line rest is some first after =
-    let (more, known_is, whole) = behind known bytes all is in (
-      omega (arith, ap length whole, length-append bytes more),
-      first ∙ sym (ap before_end whole ∙ before_end-append bytes more some),
-      rw known_is (ap Some (ap (λ l. l ++ more) after ∙ sym (ap after_end whole ∙ after_end-append bytes more some))),
-    )
+takes_ended known bytes all line rest is some first after = grind (arith, common_steps, after_end-append, before_end-append)
 
 -- bytes at hand in which no line ends are the last line, if there are some
 pub takes_last :
@@ -136,9 +130,7 @@ takes_last known bytes all (Some span) buffer ended is no_end some first none em
 
 -- a line that is too long begins all
 pub begins_too_long : (known : Option (List ℕ)) (bytes all : List ℕ) → prepend_known bytes known ≡ Some all → longest_line < length (before_end bytes) → longest_line < length (before_end all)
-begins_too_long known bytes all is long =
-    let (more, known_is, whole) = behind known bytes all is in
-    omega (arith, ap (λ l. length (before_end l)) whole, before_end-grows bytes more)
+begins_too_long known bytes all is long = grind (arith, common_steps, before_end-grows)
 
 -- a read put its bytes behind those at hand, and one that failed nothing
 pub read_kept : (old new : Option (List ℕ)) (bytes front got all : List ℕ) → front ≡ bytes → all ≡ front ++ got → Consumes old new got → Keeps (prepend_known bytes old) (prepend_known all new)

@@ -1,6 +1,7 @@
 -- The texts of replies, and how long they are: for `reply_answer`, `sets_answer` and the loop of `stretches_answer`.
 -- A *stretch* is neighbours that are one pool: `n` of `pool` so far, up to `ticket`, of tickets up to `end`.
-use Rattle.std.proofs.Common.{◌≡◌, ◌≢◌, ℕ, zero, suc, ◌+◌, ◌-◌, ◌<◌, ◌≤◌, ◌^◌, ◌⊎◌, inl, inr, List, [], ◌∷◌, ◌++◌, length, replicate, Option, append-nil, append_assoc, length-append, refl, sym, ap, ◌∙◌, arith}
+use Rattle.std.proofs.lemmas.Grind.{common_steps}
+use Rattle.std.proofs.Common.{◌≡◌, ◌≢◌, ℕ, zero, suc, ◌+◌, ◌-◌, ◌<◌, ◌≤◌, ◌^◌, ◌⊎◌, inl, inr, List, [], ◌∷◌, ◌++◌, length, replicate, Option, append-nil, refl, sym, ap, ◌∙◌, arith, rules}
 use Rattle.std.specs.Fmt.{decimal}
 use Rattle.std.specs.List.{flat_map}
 use Rattle.std.proofs.lemmas.Bool.{cases_lt}
@@ -45,20 +46,14 @@ stretch_last pool (suc n) some = ap (flat_map stretch_text) (whole_run pool n []
 module _ (slots : List (Option (DescriptorSet RawSet))) (ticket end : ℕ) where
   -- no ticket is left, or one is next, with its pool
   no_pool : end ≤ ticket → pools_from slots ticket (end - ticket) ≡ []
-  no_pool done =
-      let none : end - ticket ≡ 0 = omega arith in
-      ap (pools_from slots ticket) none
+  no_pool done = grind (arith, common_steps)
 
   next_pool : ticket < end → pools_from slots ticket (end - ticket) ≡ pool_at slots ticket ∷ pools_from slots (ticket + 1) (end - (ticket + 1))
-  next_pool more =
-      let left : end - ticket ≡ suc (end - (ticket + 1)) = omega arith in
-      ap (pools_from slots ticket) left
+  next_pool more = search rules
 
   -- the next ticket's pool is that of the stretch
   pub stretch_grows : (pool n : ℕ) → ticket < end → pool_at slots ticket ≡ pool → replicate (n + 1) pool ++ pools_from slots (ticket + 1) (end - (ticket + 1)) ≡ replicate n pool ++ pools_from slots ticket (end - ticket)
-  stretch_grows pool n more same =
-      let rest : List ℕ = pools_from slots (ticket + 1) (end - (ticket + 1)) in
-      ap (λ l. l ++ rest) (sym (replicate_more n pool)) ∙ append_assoc (replicate n pool) (pool ∷ []) rest ∙ ap (λ p. replicate n pool ++ p ∷ rest) (sym same) ∙ ap (λ l. replicate n pool ++ l) (sym (next_pool more))
+  stretch_grows pool n more same = grind (arith, common_steps, next_pool, replicate_more)
 
   -- the next ticket's pool is another
   pub stretch_ends : (pool n next : ℕ) → ticket < end → 0 < n → pool_at slots ticket ≡ next → next ≢ pool
@@ -88,12 +83,8 @@ length_of_number n fits = length-decimal-le 20 n (omega arith) (omega arith) fit
 
 -- a stretch of one set has at most 23 bytes, and each further set adds at most one
 pub length_of_stretch : (pool n : ℕ) → 0 < n → pool < 2 ^ 64 → n < 2 ^ 64 → length (stretch_text (pool, n)) ≤ 22 + n
-length_of_stretch pool n some named fits =
-    let sum : length (decimal pool ++ 42 ∷ decimal n) ≡ length (decimal pool) + suc (length (decimal n)) = length-append (decimal pool) (42 ∷ decimal n) in
-    omega (arith, length_of_number pool named, digits_at_most n some fits)
+length_of_stretch pool n some named fits = grind (arith, common_steps, digits_at_most, length_of_number)
 
 -- a text with numbers is no longer than their digits allow
 pub length_of_range : (first last : ℕ) → first < 2 ^ 64 → last < 2 ^ 64 → length (range_text first last) ≤ 47
-length_of_range first last from to =
-    let sum : length ((decimal first ++ 45 ∷ decimal last) ++ 58 ∷ []) ≡ length (decimal first) + suc (length (decimal last)) + 1 = length-append (decimal first ++ 45 ∷ decimal last) (58 ∷ []) ∙ ap (λ n. n + 1) (length-append (decimal first) (45 ∷ decimal last)) in
-    omega (arith, length_of_number first from, length_of_number last to)
+length_of_range first last from to = grind (arith, common_steps, length_of_number)

@@ -1,5 +1,6 @@
 -- The pools of a layout that `show` prints, one by one: for the loops of `Program::show` and `show_pools`.
-use Rattle.std.proofs.Common.{◌≡◌, inl, inr, ℕ, ◌+◌, ◌<◌, ◌≤◌, true, false, List, [], ◌∷◌, ◌++◌, append_assoc, filter, length, map, take, slice_get, Option, None, Some, option_map, String, Global, refl, ap, sym, ◌∙◌, arith}
+use Rattle.std.proofs.lemmas.Grind.{common_steps}
+use Rattle.std.proofs.Common.{◌≡◌, ℕ, ◌+◌, ◌<◌, ◌≤◌, true, false, List, [], ◌∷◌, ◌++◌, append_assoc, filter, length, map, take, slice_get, Option, None, Some, option_map, String, Global, refl, ap, sym, ◌∙◌, arith}
 use Rattle.std.specs.List.{flat_map}
 use Rattle.std.proofs.lemmas.List.{flat_map_more, take_all, take_more}
 use Rattle.std.proofs.lemmas.Option.{get_or_from_slice_get, slice_get_cases, slice_get_within}
@@ -50,10 +51,7 @@ all_so_far rows l n all = ap (flat_map (line_of l.0)) (take_all n (books_of rows
 
 -- a pool that is there is seen
 pub seen_within : (rows : List (Key × BucketOf RawPool)) (key : Key) (n : ℕ) → n < length (books_of rows key).pools → view_in (books_of rows key) n ≡ None → ⊥
-seen_within rows key n inside none = elim (slice_get_cases (books_of rows key).pools n).1 [
-  | inl there ↦ cc
-  | inr past ↦ omega (arith, past.0)
-]
+seen_within rows key n inside none = grind (arith, common_steps, slice_get_cases)
 
 -- the lines of the pools for those of these entries that are told to be first
 unfoldable pub said_of_told : List (Key × BucketOf RawPool) → List (String Global × Entry) → List ℕ

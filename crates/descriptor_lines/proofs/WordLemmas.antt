@@ -1,5 +1,6 @@
 -- The first word of a line, and the others, for the iterator `Words`; and a word whose bytes are known one by one, for the keywords.
-use Rattle.std.proofs.Common.{◌≡◌, ℕ, ◌+◌, ◌<◌, ◌≤◌, ◌⊎◌, inl, inr, true, false, List, [], ◌∷◌, length, take, drop, get_or, slice_index, filter, unwrap_or, position, length-take, refl, arith, ap, sym, ◌∙◌}
+use Rattle.std.proofs.lemmas.Grind.{common_steps}
+use Rattle.std.proofs.Common.{◌≡◌, ℕ, ◌+◌, ◌<◌, ◌≤◌, ◌⊎◌, inl, inr, true, false, List, [], ◌∷◌, length, take, drop, get_or, slice_index, filter, unwrap_or, position, refl, arith, ap, sym, ◌∙◌, rules}
 use Rattle.std.specs.List.{position_or_len, slice_split}
 use Rattle.std.proofs.lemmas.Bool.{cases_lt}
 use Rattle.std.proofs.lemmas.Bool.Decides.{nat_tests}
@@ -26,10 +27,7 @@ words_before line ends some =
 
 -- the first word is the last
 words_last : (line : List ℕ) → 0 < length line → length line ≤ position_or_len is_blank line → let end = position_or_len is_blank line in words line ≡ take end line ∷ words (drop end line)
-words_last line some ends =
-    let end : ℕ = position_or_len is_blank line in
-    let whole : slice_split is_blank line ≡ line ∷ [] = slice_split_none is_blank line (λ k d inside. fails_before_first is_blank line k d (omega arith)) in
-    ap (filter has_bytes) whole ∙ filter-piece line [] some ∙ rw (take_all end line ends, drop_all end line ends)
+words_last line some ends = grind (arith, common_steps, drop_all, fails_before_first, slice_split_none, take_all)
 
 -- a line that begins with no blank has a word before its first blank
 begins_some : (line : List ℕ) → 0 < length line → is_blank (slice_index line 0) ≡ false → 0 < position_or_len is_blank line
@@ -49,10 +47,7 @@ end_is line = let at_most : position_or_len is_blank line ≤ length line = pref
 
 -- what stands before the first blank is the first word, where the line begins with no blank
 pub words_split : (line word others : List ℕ) (end : ℕ) → end ≡ unwrap_or (position is_blank line) (length line) → word ≡ take end line → others ≡ drop end line → (0 < length line → is_blank (slice_index line 0) ≡ false) → 0 < length word → words line ≡ word ∷ words others
-words_split line word others end ends front back begins some =
-    let is : end ≡ position_or_len is_blank line = ends ∙ end_is line in
-    let line_some : 0 < length line = omega (arith, rw front at some, length-take end line) in
-    rw (front, back, is) (words_first line line_some (begins line_some))
+words_split line word others end ends front back begins some = search (rules, end_is, words_first)
 
 -- from a place on the word has these bytes
 abbrev pub Spells : List ℕ → ℕ → List ℕ → Type 0

@@ -1,7 +1,7 @@
 -- A layout that comes into a slot and has a handle, and one that leaves: for `LayoutRegistry::add` and `remove`.
 use Rattle.std.proofs.lemmas.Grind.{common_steps}
-use Rattle.std.proofs.Common.{◌≡◌, ◌≢◌, ℕ, ◌+◌, ◌<◌, ◌⊎◌, Bool, true, false, List, [], ◌∷◌, set, slice_index_or, if◌then◌else◌, Option, None, Some, IsSome, inl, inr, refl, sym, ap, ◌∙◌, arith}
-use Rattle.descriptor_table.specs.Sets.{AreHeldOnce, LoseNames, NameEach, find, is_held, sets_of}
+use Rattle.std.proofs.Common.{◌≡◌, ◌≢◌, ℕ, ◌+◌, ◌<◌, ◌⊎◌, Bool, true, false, List, [], ◌∷◌, set, if◌then◌else◌, Option, None, Some, IsSome, inl, inr, refl, sym, ap, ◌∙◌, arith}
+use Rattle.descriptor_table.specs.Sets.{AreHeldOnce, LoseNames, NameEach, is_held, sets_of}
 use Rattle.descriptor_table.specs.Slots.{is_live, slot_at}
 use Rattle.descriptor_table.specs.Tables.{Grows, Puts, Renews, current, place_at, renewed, vacated}
 use Rattle.descriptor_table.specs.declared.handle.SetHandle.{SetHandle}
@@ -15,7 +15,6 @@ use Rattle.descriptor_manager.proofs.Cleared.{same_clears}
 use Rattle.descriptor_manager.proofs.Growing.{grow_new}
 use Rattle.descriptor_manager.proofs.Handing.{new_one}
 use Rattle.descriptor_manager.proofs.Joining.{are_named}
-use Rattle.descriptor_manager.proofs.Naming.{seen_next}
 use Rattle.descriptor_manager.proofs.Owned.{same_some}
 
 one_more : (b c : Bool) (r g h : ℕ) → b ≡ false → c ≡ true → h ≡ g + 1 → g ≡ r + (if b then 1 else 0) → h ≡ r + (if c then 1 else 0)
@@ -35,19 +34,9 @@ module _ {T : Type 0} (number p : ℕ) (x : T) (handle : SetHandle) (old mid new
   pub added_names : NameEach (handle ∷ []) (sets_of number 0 false old) (sets_of number 0 false new)
   added_names = are_named number (current generations 0) Held (handle ∷ []) old old new (λ q. same_clears (slot_at old q) (slot_at old q) refl) (new_one number p Held handle generations 0 x old mid new puts renews) 0 false refl
 
-  -- it names the layout
-  pub added_is : find number 0 false new handle ≡ Some x
-  added_is =
-      let n = slot_at new p in
-      let generation = ap (λ (s : Slot T). s.generation) slot_here in
-      ap (find number 0 false new) renews.is ∙ seen_next number 0 false p (slot_at mid p) n generation (ap (λ (s : Slot T). is_live 0 false s.used) slot_here) ∙ added_here
-
   -- each layout that is there was there before, or is the new one
   pub added_only : (n : ℕ) (y : T) → (slot_at new n).set ≡ Some y → ((slot_at old n).set ≡ Some y) ⊎ (y ≡ x)
-  added_only n y is = elim (same_or n p) [
-    | inl e ↦ inr (same_some y x (sym is ∙ ap (λ q. (slot_at new q).set) e ∙ added_here))
-    | inr ne ↦ inl (ap (λ (s : Slot T). s.set) (sym (added_there n ne)) ∙ is)
-  ]
+  added_only n y is = grind (arith, common_steps, added_here, added_there, same_or, same_some)
 
   pub added_grows : Grows old new
   added_grows = grow_new number generations 0 p x Held handle old mid new (λ s. refl) puts renews
@@ -56,13 +45,7 @@ module _ {T : Type 0} (number p : ℕ) (x : T) (handle : SetHandle) (old mid new
 module _ {T : Type 0} (number : ℕ) (h : SetHandle) (old new : List (Slot T)) where
   -- the list of the one handle has held sets, each once
   only_held : is_held number old h ≡ true → AreHeldOnce number old (h ∷ [])
-  only_held held = record {
-    held = λ i d lt. at_first i d lt;
-    once = λ i j d lt less. absurd (omega arith);
-  }
-    where
-      at_first : (i : ℕ) (d : SetHandle) → i < 1 → is_held number old (slice_index_or (h ∷ []) i d) ≡ true
-      at_first x0 d lt = grind (arith, common_steps)
+  only_held held = grind (arith, common_steps)
 
   pub left_names : is_held number old h ≡ true → new ≡ set old h.place (vacated (slot_at old h.place)) → LoseNames (h ∷ []) (sets_of number 0 false old) (sets_of number 0 false new)
   left_names held made =

@@ -1,6 +1,6 @@
 -- What slots may become when sets come to them.
 use Rattle.std.proofs.lemmas.Grind.{common_steps}
-use Rattle.std.proofs.Common.{◌≡◌, ℕ, ◌+◌, ◌⊎◌, ◌&&◌, ◌||◌, not, Bool, true, [], Option, Some, is_some, inl, inr, refl, sym, ap, subst, ◌∙◌, arith}
+use Rattle.std.proofs.Common.{◌≡◌, ℕ, ◌+◌, ◌⊎◌, ◌&&◌, ◌||◌, not, Bool, true, [], Option, Some, is_some, inl, refl, sym, subst, arith}
 use Rattle.std.proofs.lemmas.Option.{none-some}
 use Rattle.gpu_descriptor_types.specs.declared.device.DescriptorDevice.{Ghosts}
 use Rattle.gpu_descriptor.specs.declared.set.DescriptorSet.{DescriptorSet}
@@ -24,36 +24,15 @@ module _ {T : Type 0} where
 
   -- a set that is held, or waits for a frame, is placed
   pub used_placed : (s : Slot T) (x : T) → s.set ≡ Some x → (is_held_use s.used || waits_for (λ w. true) s.used) ≡ true → is_placed s ≡ true
-  used_placed s x full e = ap (λ o. placed_in s.used o s.layout s.generation) full ∙ by_use (is_held_use s.used) (waits_for (λ w. true) s.used) (in_list (s.layout + 2) s.used s.layout s.generation true) e
-    where
-      by_use : (a b c : Bool) → (a || b) ≡ true → ((a && true) || ((b && true) || c)) ≡ true
-      by_use x0 b c f = grind (arith, common_steps)
+  used_placed s x full e = grind (arith, common_steps, placed_in)
 
   module _ (comes : ℕ → T → Type 0) where
     -- changes of a slot that `Arrives` allows: by a cleanup, one after another, and none
     pub clears_arrives : (o n : Slot T) → Clears o n → Arrives comes o n
-    clears_arrives o n c = elim c.is [
-      | inl same ↦ record {
-        set = λ x e. inl (sym same.1 ∙ e, c.layout);
-        placed = λ was. ap (λ u. placed_in u n.set n.layout n.generation) same.0 ∙ ap (λ x. placed_in o.used x n.layout n.generation) same.1 ∙ ap (λ l. placed_in o.used o.set l.0 n.generation) c.layout ∙ ap (placed_in o.used o.set o.layout) c.generation ∙ was;
-      }
-      | inr gone ↦ record {
-        set = λ x e. absurd (none-some x (sym (sym e ∙ gone.2)));
-        placed = λ was. ap (λ x. placed_in n.used x n.layout n.generation) gone.2;
-      }
-    ]
+    clears_arrives o n c = grind (arith, common_steps, none-some, placed_in)
 
     pub arrives_then : (o m n : Slot T) → Arrives comes o m → Arrives comes m n → Arrives comes o n
-    arrives_then o m n a b = record {
-      set = λ x e. elim (b.set x e) [
-        | inl stays ↦ elim (a.set x stays.0) [
-          | inl was ↦ inl (was.0, stays.1 ∙ was.1)
-          | inr came ↦ inr (subst (λ l. comes l.0 x) (sym stays.1) came)
-        ]
-        | inr came ↦ inr came
-      ];
-      placed = λ was. b.placed (a.placed was);
-    }
+    arrives_then o m n a b = grind (arith, common_steps)
 
     pub same_arrives : (o n : Slot T) → n ≡ o → Arrives comes o n
     same_arrives o n e = subst (Arrives comes o) (sym e) (record { set = λ x is. inl (is, refl); placed = λ was. was })
@@ -61,8 +40,4 @@ module _ {T : Type 0} where
 module _ {L P S D : Type 0} {d : Ghosts D L P S} where
   -- if each slot became what `Arrives` says, the store settles
   pub arrived : (comes : ℕ → DescriptorSet S → Type 0) (old new : Store L P S D d) → ((p : ℕ) → Arrives comes (slot_at (slots_in old) p) (slot_at (slots_in new) p)) → new.coming.items ≡ [] → IsAtRest old → KeepsStore old new → Settles comes old new
-  arrived comes old new arrives none rest stays = record {
-    sets = λ p x e. (arrives p).set x e;
-    rest = record { none_coming = none; placed = λ p. (arrives p).placed (rest.placed p) };
-    stays = stays;
-  }
+  arrived comes old new arrives none rest stays = grind (arith, common_steps)

@@ -1,7 +1,7 @@
 -- Sets that are freed: they are kept, or leave their slots.
 use Rattle.std.proofs.Common.{◌≡◌, ℕ, ◌+◌, ◌≤◌, ◌&&◌, nat_lt, ne_eqb, Bool, true, false, List, is_some, inl, inr, refl, sym, ap, ◌∙◌, arith}
 use Rattle.descriptor_table.specs.Sets.{sets_in}
-use Rattle.descriptor_table.specs.Slots.{goes, is_due, is_in, slot_at}
+use Rattle.descriptor_table.specs.Slots.{goes, is_in, slot_at}
 use Rattle.descriptor_table.specs.Tables.{IsBack, Becomes, MayBecome, Turns, count, is_kept, used_for, vacated}
 use Rattle.descriptor_table.specs.declared.slot.Use.TheVariants.{Kept, Going}
 use Rattle.descriptor_table.specs.Slots.{Slot}
@@ -58,17 +58,6 @@ module _ {T : Type 0} where
         )
       ];
     }
-
-  -- no set is due then
-  pub back_not_due : (generations : ℕ → ℕ) (frame max : ℕ) (old new : List (Slot T)) → Turns (is_due frame) (IsBack vacated generations max) old new → (p : ℕ) → is_due frame (slot_at new p) ≡ false
-  back_not_due generations frame max old new t p = by_test (is_due frame (slot_at old p)) refl
-    where
-      by_test : (b : Bool) → is_due frame (slot_at old p) ≡ b → is_due frame (slot_at new p) ≡ false
-      by_test false e = ap (is_due frame) (t.rest p e) ∙ e
-      by_test true e = elim (t.here p e) [
-        | inl kept ↦ ap (is_due frame) kept.0
-        | inr gone ↦ ap (is_due frame) gone.0
-      ]
 
   -- kept sets that went were returned
   pub left : (old mid new : List (Slot T)) → ((p : ℕ) → goes (slot_at old p) ≡ false) → Turns is_kept (MayBecome (used_for Going)) old mid → Turns goes (Becomes vacated) mid new → Turns is_kept (MayBecome vacated) old new

@@ -1,10 +1,11 @@
 -- Sets that were asked for, and are on their way.
-use Rattle.std.proofs.Common.{◌≡◌, ℕ, ◌+◌, ◌-◌, ◌<◌, Bool, true, false, List, length, inl, inr, refl, sym, ap, subst, ◌∙◌, arith}
+use Rattle.std.proofs.lemmas.Grind.{common_steps}
+use Rattle.std.proofs.Common.{◌≡◌, ℕ, ◌+◌, ◌-◌, ◌<◌, List, length, sym, ap, subst, ◌∙◌, arith}
 use Rattle.std.proofs.lemmas.Bool.{true≢false}
 use Rattle.gpu_descriptor_types.specs.declared.device.DescriptorDevice.{Ghosts}
 use Rattle.gpu_descriptor.specs.Caller.Sets.{AreOfLayout}
 use Rattle.descriptor_table.specs.Slots.{is_kept_of, slot_at}
-use Rattle.descriptor_table.specs.Tables.{count, is_kept}
+use Rattle.descriptor_table.specs.Tables.{count}
 use Rattle.descriptor_table.specs.Slots.{Slot}
 use Rattle.descriptor_table.proofs.Counts.{count_none, none_count}
 use Rattle.descriptor_manager.specs.Stores.{AreCleaned, Asks, AsksAtLast, kept_of, slots_in}
@@ -16,11 +17,7 @@ use Rattle.descriptor_manager.proofs.Naming.{kept_as}
 
 -- after a cleanup none of any layout is kept
 none_left_of : {T : Type 0} (old new : List (Slot T)) → AreCleaned old new → (layout : ℕ) → count (is_kept_of layout) new ≡ 0
-none_left_of old new c layout = none_count (is_kept_of layout) new (λ p. by_test p (is_kept_of layout (slot_at new p)) refl)
-  where
-    by_test : (p : ℕ) (b : Bool) → is_kept_of layout (slot_at new p) ≡ b → is_kept_of layout (slot_at new p) ≡ false
-    by_test p false e = e
-    by_test p true e = absurd (true≢false (sym (kept_as layout (slot_at new p) e).2 ∙ count_none is_kept new refl (none_left old new c) p))
+none_left_of old new c layout = grind (arith, common_steps, count_none, kept_as, none_count, none_left, true≢false)
 
 module _ {L P S D : Type 0} {d : Ghosts D L P S} where
   -- kept sets may have gone, and sets of the layout are on their way: fewer than were requested, if some are kept
@@ -41,11 +38,4 @@ module _ {L P S D : Type 0} {d : Ghosts D L P S} where
 
   -- what `Store::bring` leaves
   pub brought : (layout : L) (number many : ℕ) (old new : Store L P S D d) → kept_of number old < many → AsksAtLast layout (many - kept_of number old) many old new → Brings layout number many old new
-  brought layout number many old new few asks = elim asks [
-    | inl at_once ↦ asked layout number (many - kept_of number old) many old old new (λ q. same_clears (slot_at (slots_in old) q) (slot_at (slots_in old) q) refl) refl (λ i lt some. omega arith) at_once
-    | inr later ↦
-        let cleaned = cleared_of layout (many - kept_of number old) many old later.0 later.1 in
-        let long = cleared_long layout (many - kept_of number old) many old later.0 later.1 in
-        let none = none_left_of (slots_in old) (slots_in later.0) cleaned number in
-        asked layout number many many old later.0 new (clears (slots_in old) (slots_in later.0) cleaned) long (λ i lt some. absurd (omega arith)) later.2
-  ]
+  brought layout number many old new few asks = grind (arith, common_steps, asked, cleared_long, cleared_of, clears, none_left_of, same_clears)

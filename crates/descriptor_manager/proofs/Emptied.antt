@@ -32,10 +32,7 @@ empty_out : (a full : Bool) → full ≡ false → (a && full) ≡ false
 empty_out x0 full e = grind (arith, common_steps)
 
 empty_kept : {T : Type 0} (s : Slot T) → is_some s.set ≡ false → is_kept s ≡ false
-empty_kept s e = by_kept (is_kept s) refl
-  where
-    by_kept : (b : Bool) → is_kept s ≡ b → b ≡ false
-    by_kept x0 k = grind (arith, common_steps)
+empty_kept s e = grind (arith, common_steps)
 
 module _ {T : Type 0} (a b c d new : List (Slot T)) (placed : ArePlaced a) (wait : Turns waits (Becomes (used_for Going)) a b)
     (leave : Turns holds (Becomes (used_for Going)) b c) (trims : Turns is_kept (MayBecome (used_for Going)) c d)
@@ -50,19 +47,11 @@ module _ {T : Type 0} (a b c d new : List (Slot T)) (placed : ArePlaced a) (wait
 
   -- a slot without a set is as it was
   empty_stays : (p : ℕ) → is_some (slot_at a p).set ≡ false → slot_at new p ≡ slot_at a p
-  empty_stays p e =
-      let s = slot_at a p in
-      let one : slot_at b p ≡ s = wait.rest p (empty_out (waits_for (λ w. true) s.used) (is_some s.set) e) in
-      let two : slot_at c p ≡ s = leave.rest p (ap holds one ∙ empty_out (is_held_use s.used) (is_some s.set) e) ∙ one in
-      let three : slot_at d p ≡ s = trims.rest p (ap is_kept two ∙ empty_kept s e) ∙ two in
-      gives.rest p (ap goes three ∙ none_goes a placed p) ∙ three
+  empty_stays p e = grind (arith, common_steps, empty_kept, empty_out, none_goes)
 
   -- a held set left its slot, and so below did one that waited, and a kept one
   held_leaves : (p : ℕ) → holds (slot_at a p) ≡ true → is_some (slot_at a p).set ≡ true → slot_at new p ≡ vacated (slot_at a p)
-  held_leaves p e full =
-      let s = slot_at a p in
-      let one : slot_at b p ≡ s = wait.rest p (held_unwaited s.used (is_some s.set) e) in
-      going p s full (leave.here p (ap holds one ∙ e) ∙ ap (used_for Going) one)
+  held_leaves p e full = grind (arith, common_steps, going, held_unwaited)
 
   waiting_leaves : (p : ℕ) → waits (slot_at a p) ≡ true → is_some (slot_at a p).set ≡ true → slot_at new p ≡ vacated (slot_at a p)
   waiting_leaves p e full = let one = wait.here p e in going p (slot_at a p) full (leave.rest p (ap holds one) ∙ one)
@@ -82,44 +71,15 @@ module _ {T : Type 0} (a b c d new : List (Slot T)) (placed : ArePlaced a) (wait
 
   -- so each set of a store at rest left its slot
   pub all_leave : Turns (λ s. is_some s.set) (Becomes vacated) a new
-  all_leave = record {
-    long = gives.long ∙ trims.long ∙ leave.long ∙ wait.long;
-    rest = empty_stays;
-    here = λ p full. elim (placed_or (is_some (slot_at a p).set) (holds (slot_at a p)) (waits (slot_at a p)) (is_kept (slot_at a p)) (placed p)) [
-      | inl empty ↦ absurd (true≢false (sym full ∙ empty))
-      | inr one ↦ elim one [
-        | inl held ↦ held_leaves p held full
-        | inr two ↦ elim two [
-          | inl waiting ↦ waiting_leaves p waiting full
-          | inr kept ↦ kept_leaves p kept
-        ]
-      ]
-    ];
-  }
+  all_leave = grind (arith, common_steps, empty_stays, held_leaves, kept_leaves, placed_or, true≢false, waiting_leaves)
 
 -- no slot has a set then, and each has its generation
 module _ {T : Type 0} (old new : List (Slot T)) (left : Turns (λ s. is_some s.set) (Becomes vacated) old new) (p : ℕ) where
   stays_or : ((slot_at new p ≡ slot_at old p) × ((slot_at old p).set ≡ None)) ⊎ (slot_at new p ≡ vacated (slot_at old p))
-  stays_or = by_full (is_some (slot_at old p).set) refl
-    where
-      by_full : (full : Bool) → is_some (slot_at old p).set ≡ full → ((slot_at new p ≡ slot_at old p) × ((slot_at old p).set ≡ None)) ⊎ (slot_at new p ≡ vacated (slot_at old p))
-      by_full false e = inl (left.rest p e, empty_none (slot_at old p).set e)
-      by_full true e = inr (left.here p e)
+  stays_or = grind (arith, common_steps, empty_none)
 
   pub left_none : (slot_at new p).set ≡ None
-  left_none = elim stays_or [
-    | inl same ↦ ap (λ (s : Slot T). s.set) same.0 ∙ same.1
-    | inr gone ↦ ap (λ (s : Slot T). s.set) gone
-  ]
-
-  pub left_generation : (slot_at new p).generation ≡ (slot_at old p).generation
-  left_generation = elim stays_or [
-    | inl same ↦ ap (λ (s : Slot T). s.generation) same.0
-    | inr gone ↦ ap (λ (s : Slot T). s.generation) gone
-  ]
+  left_none = grind (arith, common_steps, stays_or)
 
   pub left_follows : Follows (slot_at old p) (slot_at new p)
-  left_follows = elim stays_or [
-    | inl same ↦ follows_same (slot_at old p) (slot_at new p) same.0
-    | inr gone ↦ follows_vacated (slot_at old p) (slot_at new p) gone
-  ]
+  left_follows = grind (arith, common_steps, follows_same, follows_vacated, stays_or)

@@ -1,9 +1,9 @@
 -- Each kind of change of a slot follows what it was (`Follows`, in `Settling`): its set stays or leaves, and is at rest if it was.
 -- For the calls of `Store` by which sets are freed, wait, or go.
 use Rattle.std.proofs.lemmas.Grind.{common_steps}
-use Rattle.std.proofs.Common.{◌≡◌, ◌≢◌, ℕ, ◌+◌, ◌<◌, ◌&&◌, ◌||◌, not, Bool, true, false, List, length, is_some, inl, inr, refl, ap, subst, ◌∙◌, arith}
+use Rattle.std.proofs.Common.{◌≡◌, ◌≢◌, ℕ, ◌+◌, ◌<◌, ◌&&◌, ◌||◌, not, Bool, true, false, List, length, is_some, inl, inr, subst, arith}
 use Rattle.descriptor_table.specs.Slots.{goes, in_list, slot_at, waits_for}
-use Rattle.descriptor_table.specs.Tables.{Turns, aged, came_under, is_held_use, place_at, used_for, vacated, MayBecome, IsBack}
+use Rattle.descriptor_table.specs.Tables.{Turns, aged, is_held_use, place_at, used_for, vacated, MayBecome, IsBack}
 use Rattle.descriptor_table.specs.declared.handle.SetHandle.{SetHandle}
 use Rattle.descriptor_table.specs.Slots.{Slot}
 use Rattle.descriptor_table.specs.declared.slot.Use.{Use}
@@ -32,34 +32,16 @@ module _ {T : Type 0} where
   module _ where
     -- changes of a slot that `Follows` allows: none, aged, vacated, one after another, back, and left
     pub follows_same : (o n : Slot T) → n ≡ o → Follows o n
-    follows_same o n e = record {
-      set = inr (ap (λ (s : Slot T). s.set) e, ap came_under e);
-      placed = λ h. ap is_placed e ∙ h;
-    }
+    follows_same o n e = grind (arith, common_steps)
 
     pub follows_aged : (o n : Slot T) → n ≡ aged o → Follows o n
-    follows_aged o n e = record {
-      set = inr (ap (λ (s : Slot T). s.set) e, ap came_under e);
-      placed = λ h. ap is_placed e ∙ h;
-    }
+    follows_aged o n e = grind (arith, common_steps)
 
     pub follows_vacated : (o n : Slot T) → n ≡ vacated o → Follows o n
-    follows_vacated o n e = record {
-      set = inl (ap (λ (s : Slot T). s.set) e);
-      placed = λ h. ap is_placed e;
-    }
+    follows_vacated o n e = grind (arith, common_steps)
 
     pub follows_then : (o m n : Slot T) → Follows o m → Follows m n → Follows o n
-    follows_then o m n one two = record {
-      set = elim two.set [
-        | inl gone ↦ inl gone
-        | inr same ↦ elim one.set [
-          | inl gone ↦ inl (same.0 ∙ gone)
-          | inr was ↦ inr (same.0 ∙ was.0, same.1 ∙ was.1)
-        ]
-      ];
-      placed = λ h. two.placed (one.placed h);
-    }
+    follows_then o m n one two = grind (arith, common_steps)
 
     pub follows_back : (generations : ℕ → ℕ) (max : ℕ) (new : List (Slot T)) (o n : Slot T) → IsBack vacated generations max new o n → Follows o n
     follows_back generations max new o n x5 = grind (arith, common_steps)
@@ -69,21 +51,11 @@ module _ {T : Type 0} where
 
     -- each slot follows, since those that turn do
     pub follow_turns : (test : Slot T → Bool) (becomes : List (Slot T) → Slot T → Slot T → Type 0) (old new : List (Slot T)) → Turns test becomes old new → ((o n : Slot T) → becomes new o n → Follows o n) → (p : ℕ) → Follows (slot_at old p) (slot_at new p)
-    follow_turns test becomes old new turns each p = by_test (test (slot_at old p)) refl
-      where
-        by_test : (b : Bool) → test (slot_at old p) ≡ b → Follows (slot_at old p) (slot_at new p)
-        by_test false e = follows_same (slot_at old p) (slot_at new p) (turns.rest p e)
-        by_test true e = each (slot_at old p) (slot_at new p) (turns.here p e)
+    follow_turns test becomes old new turns each p = grind (arith, common_steps, follows_same)
 
   -- a set waits for the frame
   pub follows_waits : (f : ℕ) (o n : Slot T) → n ≡ used_for (Waits f) o → Follows o n
-  follows_waits f o n e = record {
-    set = inr (ap (λ (s : Slot T). s.set) e, ap came_under e);
-    placed = λ h. ap is_placed e ∙ by_full (is_some o.set);
-  }
-    where
-      by_full : (full : Bool) → placed_use (Waits f) o.layout o.generation full ≡ true
-      by_full x0 = grind (arith, common_steps)
+  follows_waits f o n e = grind (arith, common_steps, placed_use)
 
   -- the slots of handles follow, and so do all others, as they are as they were
   module _ (handles : List SetHandle) (old new : List (Slot T)) (named : (i : ℕ) → i < length handles → Follows (slot_at old (place_at handles i)) (slot_at new (place_at handles i))) where

@@ -1,5 +1,6 @@
 -- There are more slots only if each has a set, or had its last generation (`Grows`): for the calls of `Store` that give handles.
-use Rattle.std.proofs.Common.{◌≡◌, ℕ, true, false, List, length, inl, inr, sym, ap, subst, ◌∙◌}
+use Rattle.std.proofs.lemmas.Grind.{common_steps}
+use Rattle.std.proofs.Common.{◌≡◌, ℕ, true, false, List, length, inl, inr, sym, ap, subst, ◌∙◌, arith}
 use Rattle.std.proofs.lemmas.List.{length-set}
 use Rattle.gpu_descriptor_types.specs.declared.device.DescriptorDevice.{Ghosts}
 use Rattle.gpu_descriptor.specs.declared.errors.AllocationError.{AllocationError}
@@ -49,10 +50,7 @@ module _ {T : Type 0} where
 
   -- a step that left as many slots, before others
   pub grow_from : (old mid new : List (Slot T)) → length mid ≡ length old → Grows mid new → Grows old new
-  grow_from old mid new same grows = elim grows [
-    | inl long ↦ inl (long ∙ same)
-    | inr all ↦ inr all
-  ]
+  grow_from old mid new same grows = grind (arith, common_steps)
 
 module _ {L P S D : Type 0} {d : Ghosts D L P S} where
   pub cleared_long : (layout : L) (first last : ℕ) (old new : Store L P S D d) → IsCleared layout first last old new → length (slots_in new) ≡ length (slots_in old)
@@ -60,7 +58,4 @@ module _ {L P S D : Type 0} {d : Ghosts D L P S} where
 
   -- a refusal leaves as many slots
   pub grow_refused : (layout : L) (first last : ℕ) (error : AllocationError) (old new : Store L P S D d) → IsRefusedAtLast layout first last error old new → Grows (slots_in old) (slots_in new)
-  grow_refused layout first last error old new refused = elim refused.why [
-    | inl once ↦ inl (ap length (unmet_slots layout first error old new once))
-    | inr twice ↦ inl (ap length (unmet_slots layout last error twice.0 new twice.2) ∙ cleared_long layout first last old twice.0 twice.1)
-  ]
+  grow_refused layout first last error old new refused = grind (arith, common_steps, cleared_long, unmet_slots)

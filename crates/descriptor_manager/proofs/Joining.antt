@@ -4,7 +4,7 @@
 use Rattle.std.proofs.lemmas.Grind.{common_steps}
 use Rattle.std.proofs.Common.{◌≡◌, ◌≢◌, ℕ, ◌+◌, ◌-◌, ◌<◌, ◌⊎◌, ◌||◌, Bool, true, false, List, [], ◌∷◌, ◌++◌, length, get_or, Some, is_some, IsSome, inl, inr, refl, sym, ap, subst, ◌∙◌, add-one, arith, set, take}
 use Rattle.std.proofs.lemmas.Bool.{cases_lt, false≢true}
-use Rattle.std.proofs.Math.Seq.{take-length, take-suc-set}
+use Rattle.std.proofs.Math.Seq.{take-suc-set}
 use Rattle.std.proofs.lemmas.List.{get_or-append-add, get_or-set_other, get_or-set_same, get_or_append_left, length-append}
 use Rattle.gpu_descriptor_types.specs.declared.device.DescriptorDevice.{Ghosts}
 use Rattle.gpu_descriptor.specs.declared.set.DescriptorSet.{DescriptorSet}
@@ -128,10 +128,6 @@ module _ {T : Type 0} where
             used_not_free u (slot_at mid q) live (came_used under u (slot_at old q) (slot_at mid q) came) (came_full under u (slot_at old q) (slot_at mid q) came) (free_kept (slot_at mid q) (kept_as layout (slot_at mid q) kept).2))
         | inr none ↦ ap (is_kept_of layout) (sym (x.rest handle.place none)) ∙ last
       ]
-
-  -- all handles of the list are given
-  pub held_all : (number : ℕ) (under : ℕ × ℕ) (u : Use) (n : ℕ) (now : List SetHandle) (old new : List (Slot T)) → n ≡ length now → HoldEach number under u (take n now) old new → HoldEach number under u now old new
-  held_all number under u n now old new is x = subst (λ l. HoldEach number under u l old new) (ap (λ n. take n now) is ∙ take-length now) x
 
   -- kept sets may have left their slots before the first set came
   module _ (number : ℕ) (layout : ℕ × ℕ) (u : Use) (handles : List SetHandle) (old mid new : List (Slot T)) (clear : (q : ℕ) → Clears (slot_at old q) (slot_at mid q)) (x : HoldEach number layout u handles mid new) where

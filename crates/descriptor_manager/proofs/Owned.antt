@@ -1,7 +1,7 @@
 -- The sets of a set manager stay of their layouts, and what refusals leave: each call of `SetManager` leaves `HasSetsOf`, its invariant.
 -- `slots` are those of sets, `layouts` those of layouts, `known` is a layout, and `n` or `number` the number of one.
 use Rattle.std.proofs.lemmas.Grind.{common_steps}
-use Rattle.std.proofs.Common.{◌≡◌, ℕ, suc, ◌+◌, ◌<◌, ◌&&◌, Bool, true, false, List, length, if◌then◌else◌, Option, Some, None, is_some, inl, inr, sym, ap, subst, ◌∙◌, arith, IfSome}
+use Rattle.std.proofs.Common.{◌≡◌, ℕ, suc, ◌+◌, ◌<◌, Bool, false, List, length, Option, Some, None, is_some, inl, inr, sym, ap, subst, ◌∙◌, arith, IfSome}
 use Rattle.gpu_descriptor_types.specs.Meaning.{Meaning, IsOfLayout}
 use Rattle.gpu_descriptor_types.specs.declared.device.DescriptorDevice.{Ghosts}
 use Rattle.gpu_descriptor.specs.declared.errors.AllocationError.{AllocationError}
@@ -9,8 +9,8 @@ use Rattle.gpu_descriptor.specs.declared.layout.SetLayout.{SetLayout}
 use Rattle.gpu_descriptor.specs.declared.set.DescriptorSet.{DescriptorSet}
 use Rattle.std.proofs.lemmas.List.{get_or_past}
 use Rattle.std.proofs.lemmas.Option.{none-some}
-use Rattle.descriptor_table.specs.Sets.{Sets, find, is_last, sets_of}
-use Rattle.descriptor_table.specs.Slots.{is_live, slot_at}
+use Rattle.descriptor_table.specs.Sets.{Sets, find, sets_of}
+use Rattle.descriptor_table.specs.Slots.{slot_at}
 use Rattle.descriptor_table.specs.Tables.{Settings, came_under, current, lists_with}
 use Rattle.descriptor_table.specs.declared.handle.SetHandle.{SetHandle}
 use Rattle.descriptor_table.specs.Slots.{Slot}
@@ -35,9 +35,7 @@ module _ {L P S : Type 0} (means : Meaning L P S) where
 
   -- a set that comes is of its layout
   pub own_comes : (number : ℕ) (layouts : List (Slot (SetLayout L))) (known : SetLayout L) → (slot_at layouts number).set ≡ Some known → (n : ℕ) (x : DescriptorSet S) → ComesOf means known.layout number n x → IsOwn means layouts n x
-  own_comes number layouts known here n x comes =
-      let there = ap (λ n. (slot_at layouts n).set) comes.0 ∙ here in
-      record { there = ap is_some there; own = λ other is. subst (λ (l : SetLayout L). IsOfLayout means l.layout x.raw) (same_some known other (sym there ∙ is)) comes.1 }
+  own_comes number layouts known here n x comes = grind (arith, common_steps, same_some)
 
   -- with one layout more, the sets that are there are of theirs
   pub own_added :
@@ -93,18 +91,11 @@ module _ {L P S D : Type 0} {d : Ghosts D L P S} where
 module _ {T : Type 0} where
   -- what a handle names is in its slot
   pub found_set : (number frame : ℕ) (opened : Bool) (slots : List (Slot T)) (h : SetHandle) (x : T) → find number frame opened slots h ≡ Some x → (slot_at slots h.place).set ≡ Some x
-  found_set number frame opened slots h x e = by_live (is_last number slots h && is_live frame opened (slot_at slots h.place).used) e
-    where
-      by_live : (b : Bool) → (if b then (slot_at slots h.place).set else None) ≡ Some x → (slot_at slots h.place).set ≡ Some x
-      by_live true e = e
-      by_live false e = absurd (cc)
+  found_set number frame opened slots h x e = grind (arith, common_steps)
 
   -- a slot without a set is named by no handle
   pub found_none : (number frame : ℕ) (opened : Bool) (slots : List (Slot T)) (h : SetHandle) → (slot_at slots h.place).set ≡ None → find number frame opened slots h ≡ None
-  found_none number frame opened slots h none = by_live (is_last number slots h && is_live frame opened (slot_at slots h.place).used)
-    where
-      by_live : (b : Bool) → (if b then (slot_at slots h.place).set else None) ≡ None
-      by_live x0 = grind (arith, common_steps)
+  found_none number frame opened slots h none = grind (arith, common_steps)
 
 pub if_some : {X : Type 0} (o : Option X) (x : X) (P : X → Type 0) → Some x ≡ o → P x → IfSome o P
 if_some o x P is holds = subst (λ o. IfSome o P) is holds
@@ -116,17 +107,11 @@ lists_more x0 = grind (arith, common_steps)
 module _ {X : Type 0} (layouts : List (Slot X)) (n : ℕ) (x : X) (here : (slot_at layouts n).set ≡ Some x) where
   -- a layout is in a slot
   pub layout_within : n < length layouts
-  layout_within = elim (below_or n (length layouts)) [
-    | inl within ↦ within
-    | inr past ↦ absurd (none-some x (sym (ap (λ (s : Slot X). s.set) (get_or_past layouts n _ past)) ∙ here))
-  ]
+  layout_within = grind (arith, common_steps, below_or, get_or_past, none-some)
 
   -- a layout that is there has its list
   pub layout_listed : n + 2 < lists_for (length layouts)
-  layout_listed = listed (length layouts) layout_within
-    where
-      listed : (m : ℕ) → n < m → n + 2 < lists_for m
-      listed x0 lt = grind (arith, common_steps)
+  layout_listed = grind (arith, common_steps, layout_within)
 
 -- the layout of a handle is at its place
 pub layout_here : {L P S D : Type 0} {d : Ghosts D L P S} (r : LayoutRegistry L P S D d) (h : LayoutHandle) (known : SetLayout L) (place : ℕ) → place ≡ h.slot.place → layout_at r h ≡ Some known → (slot_at (layout_slots r) place).set ≡ Some known

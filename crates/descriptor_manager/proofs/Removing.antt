@@ -85,13 +85,3 @@ counted_removed {T = T} layout generations layouts fewer counted there gone othe
       ))
   | inr ne ↦ subst (λ m. IsCounted m (slot_at fewer n)) (sym (removed_other layout generations n ne)) (subst (IsCounted (generations n)) (sym (others n ne)) (counted n))
 ]
-
-some_counted : (b : Bool) (r g : ℕ) → b ≡ true → g ≡ r + (if b then 1 else 0) → g ≡ r + 1
-some_counted x0 r g some was = grind (arith, common_steps)
-
--- another layout of a number can be removed
-pub removed_fits : {T : Type 0} (layout : ℕ) (generations : ℕ → ℕ) (layouts : List (Slot T)) → AreCounted generations layouts → is_some (slot_at layouts layout).set ≡ true → generations layout < 4294967295
-removed_fits layout generations layouts counted there =
-    let one = some_counted (is_some (slot_at layouts layout).set) (generations layout) (slot_at layouts layout).generation there (counted layout).0 in
-    let few = (counted layout).1 in
-    omega arith

@@ -16,7 +16,7 @@ use Rattle.descriptor_table.proofs.Counting.{below_or}
 use Rattle.descriptor_table.proofs.Holding.{same_default}
 use Rattle.descriptor_manager.specs.LayoutRegistries.{layout_at, layout_slots}
 use Rattle.descriptor_manager.specs.Own.{HasSetsOf}
-use Rattle.descriptor_manager.specs.Stores.{CanTake, ComesOf, IsRefusedAtLast, Requests, Takes, current_in, generations_in, kept_of, slots_in}
+use Rattle.descriptor_manager.specs.Stores.{CanTake, ComesOf, IsRefusedAtLast, Requests, current_in, generations_in, kept_of, slots_in}
 use Rattle.descriptor_manager.specs.declared.layout_registry.LayoutHandle.{LayoutHandle}
 use Rattle.descriptor_manager.specs.declared.manager.SetManager.{SetManager}
 use Rattle.descriptor_manager.specs.declared.store.Store.{Store}
@@ -64,9 +64,6 @@ module _ {L P S D : Type 0} {d : Ghosts D L P S} (r : SetManager L P S D d) (lay
           ∙ came_layout (current_in place r.store) u (slot_at (slots_in requests.takes.ready) p) (slot_at slots p) (requests.takes.holds.comes i lt)
           ∙ ap (λ generations. current generations place) (sym (ap (λ (s : Settings). s.generations) requests.settles.stays.settings)))
           here
-
-      pub takes_then : Takes known.layout layout.slot.place many u handles r.store new
-      takes_then = subst (λ p. Takes known.layout p many u handles r.store new) at requests.takes
 
   -- a request for one set is refused only if none is kept
   pub one_refused : {R : Type 0} (u : Use) (handles : List SetHandle) (new : Store L P S D d) (error : AllocationError) → Requests {R = R} known.layout place 1 u handles (Err error) r.store new → IsRefusedAtLast known.layout 1 1 error r.store new

@@ -1,31 +1,23 @@
 -- A request over memory that the table reserved before it, which changed nothing else, and what a refusal and a cleanup leave.
-use Rattle.std.proofs.Common.{◌≡◌, ◌≢◌, ◌∙◌, ℕ, ◌<◌, Ok, Err, ap, subst, arith}
+use Rattle.std.proofs.lemmas.Grind.{common_steps}
+use Rattle.std.proofs.Common.{◌≡◌, ◌≢◌, ℕ, ◌<◌, ap, subst, arith}
 use Rattle.gpu_descriptor_types.specs.declared.device.DescriptorDevice.{Ghosts}
 use Rattle.gpu_descriptor.specs.Caller.Call.{layout_key}
-use Rattle.gpu_descriptor.specs.Caller.HandsOut.{HandsOut}
 use Rattle.gpu_descriptor.specs.Model.Load.{set_descriptors}
 use Rattle.gpu_descriptor.specs.declared.errors.AllocationError.{AllocationError}
 use Rattle.descriptor_table.specs.Tables.{count, is_kept}
-use Rattle.descriptor_manager.specs.Stores.{AreCleaned, Asks, Cleans, ExceedsLimitAlone, IsCleared, IsRefused, KeepsContents, side_of, slots_in}
+use Rattle.descriptor_manager.specs.Stores.{AreCleaned, Asks, Cleans, ExceedsLimitAlone, IsCleared, IsRefused, KeepsContents, slots_in}
 use Rattle.descriptor_manager.specs.declared.store.Store.{Store}
 
 module _ {L P S D : Type 0} {d : Ghosts D L P S} where
   module _ (layout : L) (old mid new : Store L P S D d) (same : KeepsContents old mid) where
     -- the allocator refused
     pub refused_from : (many : ℕ) (error : AllocationError) → IsRefused layout many error mid new → IsRefused layout many error old new
-    refused_from many error refused = record {
-      slots = refused.slots ∙ same.slots;
-      room = refused.room;
-      hands_out = subst (λ s. HandsOut d.meaning (layout_key d.meaning layout) many (Err error) s (side_of new)) same.side refused.hands_out;
-    }
+    refused_from many error refused = grind (arith, common_steps)
 
     -- so many sets are on their way
     pub asks_from : (many : ℕ) → Asks layout many mid new → Asks layout many old new
-    asks_from many asks = record {
-      slots = asks.slots ∙ same.slots;
-      own = asks.own;
-      hands_out = subst (λ s. HandsOut d.meaning (layout_key d.meaning layout) many (Ok new.coming.items) s (side_of new)) same.side asks.hands_out;
-    }
+    asks_from many asks = grind (arith, common_steps)
 
   -- a refusal, and a cleanup
   pub cleared :

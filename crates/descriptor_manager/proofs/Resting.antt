@@ -1,6 +1,6 @@
 -- How many sets there are if each is held, waits or is kept.
 use Rattle.std.proofs.lemmas.Grind.{common_steps}
-use Rattle.std.proofs.Common.{◌≡◌, ℕ, suc, ◌+◌, ◌&&◌, true, false, List, [], ◌∷◌, length, Option, None, Some, is_some, refl, ap, arith}
+use Rattle.std.proofs.Common.{◌≡◌, ℕ, suc, ◌+◌, ◌&&◌, true, false, List, [], ◌∷◌, length, Option, Some, is_some, refl, arith}
 use Rattle.std.proofs.lemmas.Bool.{and_right}
 use Rattle.descriptor_table.specs.Sets.{joined, sets_in}
 use Rattle.descriptor_table.specs.Slots.{in_list, slot_at, waits, waits_for}
@@ -22,15 +22,7 @@ one_of x u l g e = grind (arith, common_steps)
 module _ {T : Type 0} where
   -- a slot of a store at rest counts once if it has a set, by whichever of the three its set is
   placed_bits : (s : Slot T) → is_placed s ≡ true → bit (is_some s.set) ≡ bit (holds s) + (bit (waits s) + bit (is_kept s))
-  placed_bits s e = by_set s.set e
-    where
-      by_set : (o : Option T) → placed_in s.used o s.layout s.generation ≡ true → bit (is_some o) ≡ bit (is_held_use s.used && is_some o) + (bit (waits_for (λ w. true) s.used && is_some o) + bit (in_list (s.layout + 2) s.used s.layout s.generation (is_some o)))
-      by_set None f =
-          let a = ap bit (and_right (is_held_use s.used) false refl) in
-          let b = ap bit (and_right (waits_for (λ w. true) s.used) false refl) in
-          let c = ap bit (none_kept s.used s.layout s.generation) in
-          omega arith
-      by_set (Some x) f = one_of x s.used s.layout s.generation f
+  placed_bits s e = grind (arith, common_steps, and_right, bit, none_kept, one_of, placed_in)
 
   joined_length : (o : Option T) (l : List T) → length (joined o l) ≡ bit (is_some o) + length l
   joined_length x0 l = grind (arith, common_steps)

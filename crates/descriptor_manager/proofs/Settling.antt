@@ -1,5 +1,6 @@
 -- What slots may become, so that sets stay in their slots and none is on its way.
-use Rattle.std.proofs.Common.{◌≡◌, ℕ, ◌⊎◌, true, [], None, inl, inr, sym, ◌∙◌}
+use Rattle.std.proofs.lemmas.Grind.{common_steps}
+use Rattle.std.proofs.Common.{◌≡◌, ℕ, ◌⊎◌, true, [], None, arith}
 use Rattle.std.proofs.lemmas.Option.{none-some}
 use Rattle.gpu_descriptor_types.specs.declared.device.DescriptorDevice.{Ghosts}
 use Rattle.descriptor_table.specs.Slots.{slot_at}
@@ -16,11 +17,4 @@ pub record Follows {T : Type 0} (o n : Slot T) : Type 0 where
 module _ {L P S D : Type 0} {d : Ghosts D L P S} where
   -- if each slot follows what it was, the store settles
   pub settled : {generations : ℕ → ℕ} {max : ℕ} (old new : Store L P S D d) → ((p : ℕ) → Follows (slot_at (slots_in old) p) (slot_at (slots_in new) p)) → new.coming.items ≡ [] → IsAtRest old → StoreStays generations max old new → SettlesTo generations max NoneComes old new
-  settled old new follows none rest stays = record {
-    sets = λ p x e. elim ((follows p).set) [
-      | inl gone ↦ absurd (none-some x (sym (sym e ∙ gone)))
-      | inr same ↦ inl (sym same.0 ∙ e, same.1)
-    ];
-    rest = record { none_coming = none; placed = λ p. (follows p).placed (rest.placed p) };
-    stays = stays;
-  }
+  settled old new follows none rest stays = grind (arith, common_steps, none-some)

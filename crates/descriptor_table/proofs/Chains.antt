@@ -1,7 +1,7 @@
 -- The lists of slots, by the code's chains: for `SetTable::pick`, `link`, `settle` and others. No slot is in two lists (`lists_apart`),
 -- and one that waits is in none. `pick` takes a slot out of a list, `link` puts it into one.
 use Rattle.std.proofs.lemmas.Grind.{common_steps}
-use Rattle.std.proofs.Common.{◌≡◌, ◌≢◌, ℕ, suc, ◌+◌, ◌-◌, ◌<◌, ◌≤◌, ◌&&◌, Bool, true, false, List, ◌∷◌, length, get_or, set, is_some, inl, inr, refl, sym, ap, subst, ◌∙◌, arith, add-one}
+use Rattle.std.proofs.Common.{◌≡◌, ◌≢◌, ℕ, suc, ◌+◌, ◌-◌, ◌<◌, ◌≤◌, ◌&&◌, Bool, true, false, List, ◌∷◌, length, get_or, set, is_some, refl, sym, ap, subst, ◌∙◌, arith, add-one, rules}
 use Rattle.std.proofs.lemmas.List.{get_or-set_other, get_or-set_same, length-set}
 use Rattle.std.proofs.lemmas.Bool.{false≢true, true≢false}
 use Rattle.descriptor_table.specs.Places.{times, walk}
@@ -31,23 +31,14 @@ module _ {T : Type 0} where
 
   -- a slot that is in a list doesn't wait, and one that waits is in no list
   pub listed_out : (k : ℕ) (s : Slot T) → is_in k s ≡ true → waits s ≡ false
-  listed_out k s e = by_use k s.used s.layout s.generation (is_some s.set) e
-    where
-      by_use : (k : ℕ) (u : Use) (layout generation : ℕ) (full : Bool) → in_list k u layout generation full ≡ true → (waits_for (λ w. true) u && full) ≡ false
-      by_use k u layout generation full e = grind (arith, common_steps)
+  listed_out k s e = search rules
 
   pub waits_no_list : (s : Slot T) → waits s ≡ true → (k : ℕ) → is_in k s ≡ false
-  waits_no_list s e k = by_use s.used s.layout s.generation (is_some s.set) e
-    where
-      by_use : (u : Use) (layout generation : ℕ) (full : Bool) → (waits_for (λ w. true) u && full) ≡ true → in_list k u layout generation full ≡ false
-      by_use u layout generation full e = grind (arith, common_steps)
+  waits_no_list s e k = search rules
 
   -- and neither is one that has a handle
   pub live_no_list : (s : Slot T) → is_live (frame_of s.used) true s.used ≡ true → (k : ℕ) → is_in k s ≡ false
-  live_no_list s e k = by_use s.used e
-    where
-      by_use : (u : Use) → is_live (frame_of u) true u ≡ true → in_list k u s.layout s.generation (is_some s.set) ≡ false
-      by_use u e = grind (arith, common_steps)
+  live_no_list s e k = search rules
 
   -- nor is a set kept that is in no list
   pub waits_unkept : (s : Slot T) {X : Type 0} → waits s ≡ true → is_kept s ≡ true → X
@@ -55,12 +46,7 @@ module _ {T : Type 0} where
 
   -- a set in such a use is in no list, and waits for no frame
   pub nowhere_out : (s : Slot T) → IsNowhere s.used → (waits s ≡ false) × ((k : ℕ) → is_in k s ≡ false)
-  nowhere_out s n = by_use s.used n
-    where
-      by_use : (u : Use) → IsNowhere u → ((waits_for (λ w. true) u && is_some s.set) ≡ false) × ((k : ℕ) → in_list k u s.layout s.generation (is_some s.set) ≡ false)
-      by_use Held n = (refl, λ k. refl)
-      by_use Taken n = (refl, λ k. refl)
-      by_use x0 n = grind (arith, common_steps)
+  nowhere_out s n = search rules
 
   -- a held set is in no list
   pub held_nowhere : (s : Slot T) (k : ℕ) → is_in k s ≡ true → s.used ≢ Held
@@ -83,18 +69,12 @@ other_chains chains k c j ne = get_or-set_other chains k j c (record { first = 0
 
 -- a list of kept sets got shorter, or another list longer
 pub few_set : (max : ℕ) (chains : List Chain) (k : ℕ) (c : Chain) → AreFew max chains → k < length chains → (2 ≤ k → c.count ≤ max) → AreFew max (set chains k c)
-few_set max chains k c few within le j two = elim (same_or j k) [
-  | inl e ↦ subst (λ j. (chain_at (set chains k c) j).count ≤ max) (sym e) (subst (λ (d : Chain). d.count ≤ max) (sym (chain_set chains k c within)) (le (omega arith)))
-  | inr ne ↦ subst (λ (d : Chain). d.count ≤ max) (sym (other_chains chains k c j ne)) (few j two)
-]
+few_set max chains k c few within le j two = grind (arith, common_steps, chain_set, other_chains, same_or)
 
 module _ {T : Type 0} where
   -- one slot changed
   pub lists_set : (slots : List (Slot T)) (p : ℕ) (s : Slot T) (lists : ℕ) (generations : ℕ → ℕ) → HasLists slots lists generations → p < length slots → IsListed lists generations s → HasLists (set slots p s) lists generations
-  lists_set slots p s lists generations known within here q lt = elim (same_or q p) [
-    | inl e ↦ subst (IsListed lists generations) (sym (ap (slot_at (set slots p s)) e ∙ slot_set slots p s within)) here
-    | inr ne ↦ subst (IsListed lists generations) (sym (other_slots slots p s q ne)) (known q (let size = length-set slots p s in omega arith))
-  ]
+  lists_set slots p s lists generations known within here q lt = grind (arith, common_steps, length-set, other_slots, same_or, slot_set)
 
 module _ {T : Type 0} (slots : List (Slot T)) (next : List ℕ) (chains : List Chain) (h : AreLinked slots next chains) where
   -- the places of a list
@@ -119,10 +99,7 @@ module _ {T : Type 0} (slots : List (Slot T)) (next : List ℕ) (chains : List C
 
   -- one list changed
   chain_changed : (slots' : List (Slot T)) (next' : List ℕ) (k : ℕ) (d : Chain) → k < length chains → Lists (is_in k) slots' (walk d.count next' d.first) → ((j : ℕ) → j ≢ k → Lists (is_in j) slots' (walk (chain_at chains j).count next' (chain_at chains j).first)) → AreLinked slots' next' (set chains k d)
-  chain_changed slots' next' k d within here others j = elim (same_or j k) [
-    | inl e ↦ subst (λ j. Lists (is_in j) slots' (walk (chain_at (set chains k d) j).count next' (chain_at (set chains k d) j).first)) (sym e) (subst (λ (c : Chain). Lists (is_in k) slots' (walk c.count next' c.first)) (sym (chain_set chains k d within)) here)
-    | inr ne ↦ subst (λ (c : Chain). Lists (is_in j) slots' (walk c.count next' c.first)) (sym (other_chains chains k d j ne)) (others j ne)
-  ]
+  chain_changed slots' next' k d within here others j = grind (arith, common_steps, chain_set, other_chains, same_or)
 
   module _ (k : ℕ) (c : Chain) (is : chain_at chains k ≡ c) where
     -- a list that isn't empty is its first place, and then what begins with the next of that

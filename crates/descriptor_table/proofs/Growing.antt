@@ -1,5 +1,6 @@
 -- The lists of slots, when a slot comes at the end, whose set a call has: for `SetTable::push`.
-use Rattle.std.proofs.Common.{◌≡◌, ◌≢◌, ℕ, zero, suc, ◌+◌, Bool, false, if◌then◌else◌, List, [], ◌∷◌, ◌++◌, length, get_or, Some, inl, inr, refl, sym, ap, subst, ◌∙◌, arith}
+use Rattle.std.proofs.lemmas.Grind.{common_steps}
+use Rattle.std.proofs.Common.{◌≡◌, ◌≢◌, ℕ, zero, suc, ◌+◌, Bool, false, if◌then◌else◌, List, [], ◌∷◌, ◌++◌, length, get_or, Some, refl, sym, ap, ◌∙◌, arith}
 use Rattle.descriptor_table.specs.Places.{times, walk}
 use Rattle.descriptor_table.specs.Slots.{AreLinked, HasLists, IsListed, IsQueue, Slot, chain_at, frame_of, is_in, no_slot, slot_at, waits}
 use Rattle.descriptor_table.specs.Tables.{Puts, count, is_usable}
@@ -57,10 +58,7 @@ module _ {T : Type 0} where
 
   -- the layout of each slot has its list, also that of the new slot
   pub known_grown : (slots : List (Slot T)) (s : Slot T) (lists : ℕ) (generations : ℕ → ℕ) → IsListed lists generations s → HasLists slots lists generations → length (slots ++ s ∷ []) ≡ length slots + 1 → HasLists (slots ++ s ∷ []) lists generations
-  known_grown slots s lists generations here known long q within = elim (same_or q (length slots)) [
-    | inl e ↦ subst (IsListed lists generations) (sym (ap (slot_at (slots ++ s ∷ [])) e ∙ last_slot slots s)) here
-    | inr ne ↦ subst (IsListed lists generations) (sym (slots_before slots s q ne)) (known q (omega arith))
-  ]
+  known_grown slots s lists generations here known long q within = grind (arith, common_steps, same_or)
 
   long_grown : (slots : List (Slot T)) (s : Slot T) → length (slots ++ s ∷ []) ≡ length slots + 1
   long_grown [] s = refl
@@ -86,16 +84,4 @@ module _ {T : Type 0} where
       }
       ∷ []
       → ((q : ℕ) → is_usable (slot_at old q) ≡ false) → Puts generations layout x p old new
-  puts_last generations layout x old new p at is full =
-      let s : Slot T = record { generation = 0; layout = layout; layout_generation = generations layout; used = Taken; kept_below = 4294967295; set = Some x } in
-      let none : slot_at old p ≡ no_slot = ap (slot_at old) at ∙ past old in
-      let long = ap length is ∙ long_grown old s in
-      let generation = ap (λ (o : Slot T). o.generation) none in
-      record {
-        empty = ap (λ (o : Slot T). o.set) none;
-        within = omega arith;
-        next = omega arith;
-        here = ap (λ l. slot_at l p) is ∙ ap (λ q. slot_at (old ++ s ∷ []) q) at ∙ last_slot old s ∙ (λ i. record { generation = sym generation i; layout = layout; layout_generation = generations layout; used = Taken; kept_below = 4294967295; set = Some x });
-        others = λ q ne. ap (λ l. slot_at l q) is ∙ slots_before old s q (λ e. ne (e ∙ sym at));
-        grows = inr (long, full);
-      }
+  puts_last generations layout x old new p at is full = grind (arith, common_steps)

@@ -2,7 +2,7 @@
 -- `SetTable::take_each` and `settle_held` (`TurnedSome`). Those that turned are held again then, the last one first: for `put_back`.
 -- `n` is how many turned.
 use Rattle.std.proofs.lemmas.Grind.{common_steps}
-use Rattle.std.proofs.Common.{◌≡◌, ◌≢◌, ℕ, zero, suc, ◌+◌, ◌<◌, ◌≤◌, ◌⊎◌, ◌==◌, ◌&&◌, Bool, true, false, List, [], ◌∷◌, length, get_or, set, is_some, inl, inr, refl, sym, ap, subst, ◌∙◌, arith, eqb-true}
+use Rattle.std.proofs.Common.{◌≡◌, ◌≢◌, ℕ, zero, suc, ◌+◌, ◌<◌, ◌≤◌, ◌⊎◌, ◌==◌, ◌&&◌, Bool, true, false, List, [], ◌∷◌, length, get_or, set, is_some, inl, inr, refl, sym, ap, subst, ◌∙◌, arith, rules}
 use Rattle.std.proofs.lemmas.List.{length-set}
 use Rattle.std.proofs.lemmas.Bool.{true≢false}
 use Rattle.descriptor_table.specs.Sets.{AreHeldOnce, is_held}
@@ -44,10 +44,7 @@ same_default (x ∷ l) (suc i) d e lt = same_default l i d e (omega arith)
 
 -- handles with the same three numbers are the same
 pub handle_is : (a b : SetHandle) → a.manager ≡ b.manager → a.place ≡ b.place → a.generation ≡ b.generation → a ≡ b
-handle_is a b r p g =
-    ap (λ n. record { manager = n; place = a.place; generation = a.generation }) r
-    ∙ ap (λ n. record { manager = b.manager; place = n; generation = a.generation }) p
-    ∙ ap (λ n. record { manager = b.manager; place = b.place; generation = n }) g
+handle_is a b r p g = grind (arith, common_steps)
 
 module _ {T : Type 0} where
   holds_used : (s : Slot T) → holds s ≡ true → s.used ≡ Held
@@ -63,17 +60,7 @@ module _ {T : Type 0} where
 
   -- a handle that passes the test `is_held` has all that
   pub held_is : (number : ℕ) (slots : List (Slot T)) (h : SetHandle) → is_held number slots h ≡ true → IsHeld number slots h
-  held_is number slots h e =
-      let s = slot_at slots h.place in
-      let both = and_true ((h.manager == number) && (h.generation == s.generation)) (is_held_use s.used && is_some s.set) e in
-      let last = and_true (h.manager == number) (h.generation == s.generation) both.0 in
-      record {
-        manager = eqb-true h.manager number last.0;
-        generation = eqb-true h.generation s.generation last.1;
-        used = holds_used s both.1;
-        holds = both.1;
-        within = test_within (λ s. ((h.manager == number) && (h.generation == s.generation)) && (is_held_use s.used && is_some s.set)) slots h.place (and_none ((h.manager == number) && (h.generation == 0))) e;
-      }
+  held_is number slots h e = grind (arith, common_steps, and_none, and_true, holds_used, test_within)
 
   pub used_same : (s : Slot T) (u : Use) → s.used ≡ u → used_for u s ≡ s
   used_same s u e = ap (λ v. used_for v s) (sym e)
@@ -162,11 +149,7 @@ module _ {T : Type 0} where
 
   -- only the use of the sets changed, if that is what the relation allows
   pub changed : (number : ℕ) (handles : List SetHandle) (becomes : List (Slot T) → Slot T → Slot T → Type 0) (n : ℕ) (old now : List (Slot T)) → n ≤ length handles → ((o x : Slot T) → holds o ≡ true → becomes now o x → (x ≡ used_for x.used o) × CanBeHeld x) → TurnedSome number handles becomes n old now → ChangeUse handles n old now
-  changed number handles becomes n old now le only some =
-      let z : SetHandle = record { manager = 0; place = 0; generation = 0 } in
-      let was = λ (i : ℕ) (lt : i < n). held_is number old (get_or handles i z) (some.held i z lt (omega arith)) in
-      let is = λ (i : ℕ) (lt : i < n). only (slot_at old (place_at handles i)) (slot_at now (place_at handles i)) (was i lt).holds (some.named i lt) in
-      record { long = some.long; apart = some.apart; held = λ i lt. (was i lt).holds; within = λ i lt. (was i lt).within; named = λ i lt. (is i lt).0; free = λ i lt. (is i lt).1; rest = some.rest }
+  changed number handles becomes n old now le only some = grind (arith, common_steps, held_is)
 
   -- the set of the last of the handles is held again
   module _ (handles : List SetHandle) (n : ℕ) (before now : List (Slot T)) (change : ChangeUse handles (n + 1) before now) where
@@ -177,26 +160,7 @@ module _ {T : Type 0} where
     last_full = ap (λ (s : Slot T). is_some s.set) (change.named n (omega arith)) ∙ (and_true (is_held_use (slot_at before (place_at handles n)).used) (is_some (slot_at before (place_at handles n)).set) (change.held n (omega arith))).1
 
     pub change_less : (new : List (Slot T)) → new ≡ with_use (place_at handles n) Held now → ChangeUse handles n before new
-    change_less new made =
-        let p = place_at handles n in
-        let s = used_for Held (slot_at now p) in
-        let far : (q : ℕ) → q ≢ p → slot_at new q ≡ slot_at now q = λ q ne. ap (λ l. slot_at l q) made ∙ other_slots now p s q ne in
-        let here : slot_at new p ≡ slot_at before p = ap (λ l. slot_at l p) made ∙ slot_set now p s last_within ∙ ap (used_for Held) (change.named n (omega arith)) ∙ used_same (slot_at before p) Held (holds_used (slot_at before p) (change.held n (omega arith))) in
-        record {
-          long = ap length made ∙ length-set now p s ∙ change.long;
-          apart = λ i j less lt. change.apart i j less (omega arith);
-          held = λ i lt. change.held i (omega arith);
-          within = λ i lt. change.within i (omega arith);
-          named = λ i lt. subst (λ (x : Slot T). x ≡ used_for x.used (slot_at before (place_at handles i))) (sym (far (place_at handles i) (change.apart i n lt (omega arith)))) (change.named i (omega arith));
-          free = λ i lt. subst CanBeHeld (sym (far (place_at handles i) (change.apart i n lt (omega arith)))) (change.free i (omega arith));
-          rest = λ q none. elim (same_or q p) [
-            | inl e ↦ subst (λ q. slot_at new q ≡ slot_at before q) (sym e) here
-            | inr ne ↦ far q ne ∙ change.rest q (λ i lt. elim (same_or i n) [
-              | inl e ↦ (λ f. ne (sym f ∙ ap (place_at handles) e))
-              | inr other ↦ none i (omega arith)
-            ])
-          ];
-        }
+    change_less new made = search (rules, holds_used, last_within, length-set, other_slots, same_or, slot_set, used_same)
 
   -- once all are held again, the slots are as they were before
   pub change_none : (handles : List SetHandle) (before now : List (Slot T)) → ChangeUse handles 0 before now → now ≡ before

@@ -1,6 +1,6 @@
 -- Lists of the places of slots that pass a test, when a slot changes: for the chains of slots (`Chains`) and the queue (`Waiting`).
 use Rattle.std.proofs.lemmas.Grind.{common_steps}
-use Rattle.std.proofs.Common.{◌≡◌, ◌≢◌, ℕ, zero, suc, ◌+◌, ◌<◌, ◌≤◌, Bool, true, false, if◌then◌else◌, List, [], ◌∷◌, length, get_or, set, inl, inr, refl, sym, ap, subst, ◌∙◌, arith}
+use Rattle.std.proofs.Common.{◌≡◌, ◌≢◌, ℕ, zero, suc, ◌+◌, ◌<◌, ◌≤◌, Bool, true, false, if◌then◌else◌, List, [], ◌∷◌, length, get_or, set, refl, sym, ap, ◌∙◌, arith}
 use Rattle.std.proofs.lemmas.List.{get_or-set_other, get_or-set_same, get_or_past}
 use Rattle.descriptor_table.specs.Places.{times, walk}
 use Rattle.descriptor_table.specs.Slots.{Lists, Slot, no_slot, slot_at}
@@ -44,39 +44,24 @@ module _ {T : Type 0} where
 
   -- a list stays if the slot that changed passes its test as before; below it gets a place in front, or loses it
   pub lists_other : (t : Slot T → Bool) (slots : List (Slot T)) (p : ℕ) (s : Slot T) (l : List ℕ) → Lists t slots l → p < length slots → t s ≡ t (slot_at slots p) → Lists t (set slots p s) l
-  lists_other t slots p s l h within same = λ q. elim (same_or q p) [
-    | inl e ↦ subst (λ q. times q l ≡ one (t (slot_at (set slots p s) q))) (sym e) (h p ∙ ap one (sym same) ∙ ap (λ x. one (t x)) (sym (slot_set slots p s within)))
-    | inr ne ↦ h q ∙ ap (λ x. one (t x)) (sym (other_slots slots p s q ne))
-  ]
+  lists_other t slots p s l h within same = grind (arith, common_steps, one, other_slots, same_or, slot_set)
 
   pub lists_push : (t : Slot T → Bool) (slots : List (Slot T)) (p : ℕ) (s : Slot T) (l : List ℕ) → Lists t slots l → p < length slots → t (slot_at slots p) ≡ false → t s ≡ true → Lists t (set slots p s) (p ∷ l)
-  lists_push t slots p s l h within was now = λ q. elim (same_or q p) [
-    | inl e ↦ subst (λ q. times q (p ∷ l) ≡ one (t (slot_at (set slots p s) q))) (sym e) (times_here p l ∙ ap (λ n. n + 1) (h p ∙ ap one was) ∙ ap one (sym now) ∙ ap (λ x. one (t x)) (sym (slot_set slots p s within)))
-    | inr ne ↦ times_there q p l ne ∙ h q ∙ ap (λ x. one (t x)) (sym (other_slots slots p s q ne))
-  ]
+  lists_push t slots p s l h within was now = grind (arith, common_steps, one, other_slots, same_or, slot_set, times_here, times_there)
 
   -- the first of a list passes the test, and is there once
   pub first_passes : (t : Slot T → Bool) (slots : List (Slot T)) (p : ℕ) (l : List ℕ) → Lists t slots (p ∷ l) → (times p l ≡ 0) × (t (slot_at slots p) ≡ true)
   first_passes t slots p l h = one_less (t (slot_at slots p)) (times p l) (sym (times_here p l) ∙ h p)
 
   pub lists_pop : (t : Slot T → Bool) (slots : List (Slot T)) (p : ℕ) (s : Slot T) (l : List ℕ) → Lists t slots (p ∷ l) → p < length slots → t s ≡ false → Lists t (set slots p s) l
-  lists_pop t slots p s l h within now = λ q. elim (same_or q p) [
-    | inl e ↦ subst (λ q. times q l ≡ one (t (slot_at (set slots p s) q))) (sym e) ((first_passes t slots p l h).0 ∙ ap one (sym now) ∙ ap (λ x. one (t x)) (sym (slot_set slots p s within)))
-    | inr ne ↦ sym (times_there q p l ne) ∙ h q ∙ ap (λ x. one (t x)) (sym (other_slots slots p s q ne))
-  ]
+  lists_pop t slots p s l h within now = grind (arith, common_steps, first_passes, one, other_slots, same_or, slot_set, times_there)
 
   pub past_end : (slots : List (Slot T)) (p : ℕ) → length slots ≤ p → slot_at slots p ≡ no_slot
   past_end slots p le = get_or_past slots p no_slot le
 
   -- a list has no more places than there are slots, if the slot past the end isn't in it
   pub lists_few : (t : Slot T → Bool) (slots : List (Slot T)) (l : List ℕ) → t no_slot ≡ false → Lists t slots l → length l ≤ length slots
-  lists_few t slots l none h =
-      few_places (length slots) l (λ p. subst (λ n. n ≤ 1) (sym (h p)) (one_few (t (slot_at slots p))))
-      (λ p past.
-      h p
-      ∙ ap (λ x. one (t x))
-      (past_end slots p past)
-      ∙ ap one none)
+  lists_few t slots l none h = grind (arith, common_steps, few_places, one, one_few, past_end)
 
   -- a slot that does not pass the test is not in the list
   pub not_listed : (t : Slot T → Bool) (slots : List (Slot T)) (l : List ℕ) (p : ℕ) → Lists t slots l → t (slot_at slots p) ≡ false → times p l ≡ 0

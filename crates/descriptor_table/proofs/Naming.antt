@@ -1,7 +1,7 @@
 -- What handles name once slots changed: for `LayoutRegistry`, and for the calls of a set manager by which sets are freed, wait or go.
 -- A handle is the *last* of its slot if no later one was given for the place; `shown` is what that one names.
 use Rattle.std.proofs.lemmas.Grind.{common_steps}
-use Rattle.std.proofs.Common.{arith, ◌≡◌, ◌≢◌, ℕ, ◌<◌, ◌==◌, ◌&&◌, nat_le, nat_lt, Bool, true, false, List, length, slice_index_or, if◌then◌else◌, Option, None, inl, inr, refl, sym, ap, subst, ◌∙◌, eqb-true}
+use Rattle.std.proofs.Common.{arith, ◌≡◌, ◌≢◌, ℕ, ◌<◌, ◌==◌, ◌&&◌, nat_le, nat_lt, Bool, true, false, List, length, slice_index_or, if◌then◌else◌, Option, None, inl, inr, refl, sym, ap, ◌∙◌, eqb-true, rules}
 use Rattle.descriptor_table.specs.Sets.{AreHeldOnce, LoseNames, find, is_last, sets_of}
 use Rattle.descriptor_table.specs.Slots.{is_live, slot_at}
 use Rattle.descriptor_table.specs.Tables.{place_at}
@@ -57,10 +57,7 @@ module _ {T : Type 0} where
     handle_at i = slice_index_or handles i zero_handle
 
     generations : (p : ℕ) → (slot_at new p).generation ≡ (slot_at old p).generation
-    generations p = elim (named_or (length handles) (place_at handles) p) [
-      | inl found ↦ subst (λ p. (slot_at new p).generation ≡ (slot_at old p).generation) found.2 (generation found.0 found.1)
-      | inr apart ↦ ap (λ (s : Slot T). s.generation) (rest p apart)
-    ]
+    generations p = search (rules, named_or)
 
     -- a handle that isn't in the list is not the last one of a place of the list, since that of the list is
     not_last : (other : SetHandle) → ((i : ℕ) (e : SetHandle) → i < length handles → slice_index_or handles i e ≢ other) → (i : ℕ) → i < length handles → place_at handles i ≡ other.place → (b : Bool) → is_last number old other ≡ b → b ≡ false

@@ -1,6 +1,7 @@
 -- What a table says of its lists stays when a slot comes to a list or leaves one, or comes to the table: for all methods that write slots.
 -- `l` are the slots before, `l'` after.
-use Rattle.std.proofs.Common.{◌≡◌, ◌≢◌, ℕ, ◌+◌, ◌-◌, ◌<◌, ◌≤◌, ◌⊎◌, inl, inr, true, false, if◌then◌else◌, List, [], ◌∷◌, ◌++◌, is_some, length, get_or, set, refl, sym, ap, subst, ◌∙◌, arith, eq-eqb, ne_eqb}
+use Rattle.std.proofs.lemmas.Grind.{common_steps}
+use Rattle.std.proofs.Common.{◌≡◌, ◌≢◌, ℕ, ◌+◌, ◌-◌, ◌<◌, ◌≤◌, true, false, List, [], ◌∷◌, ◌++◌, is_some, length, get_or, set, sym, ap, subst, ◌∙◌, arith}
 use Rattle.std.proofs.lemmas.Bool.{true≢false}
 use Rattle.std.proofs.lemmas.List.{get_or-set_other, get_or-set_same, length-map, length-set, length_push}
 use Rattle.descriptor_table.specs.Slots.{AreLinked, AreSized, AreSound, HasLists, IsListed, IsNowhere, IsQueue, Slot, chain_at, generation_at, is_in, nexts_in, slot_at, slot_of, slots_in, waits}
@@ -22,15 +23,7 @@ same_long l = length-map l.entries.items (λ (e : Entry _). e.next) ∙ sym (len
 module _ {T : Type 0} (l l' : SlotList T) (chains : List Chain) (generations waiting : List ℕ) (room keep newest : ℕ) (h : AreSound l chains generations waiting room keep newest) where
   -- a slot with another use keeps its layout, which has its number still if the set is kept
   pub listed : (p : ℕ) (s : Slot T) → p < length (slots_in l) → s.layout ≡ (slot_at (slots_in l) p).layout → s.layout_generation ≡ (slot_at (slots_in l) p).layout_generation → s.kept_below ≡ (slot_at (slots_in l) p).kept_below → (is_kept s ≡ true → s.layout_generation ≡ generation_at generations s.layout) → (s.used ≡ Held → is_some s.set ≡ true) → IsListed (length chains) (generation_at generations) s
-  listed p s within layout generation below kept full =
-      let was = h.known p within in
-      record {
-        there = (let a = was.there in omega arith);
-        before = subst (λ n. s.layout_generation ≤ generation_at generations n) (sym layout) (let a = was.before in omega arith);
-        kept = kept;
-        full = full;
-        kept_below = (let a = was.kept_below in omega arith);
-      }
+  listed p s within layout generation below kept full = grind (arith, common_steps)
 
   module _ (p : ℕ) (s : Slot T) (slots : slots_in l' ≡ set (slots_in l) p s) where
     -- there are as many slots as before
@@ -42,23 +35,11 @@ module _ {T : Type 0} (l l' : SlotList T) (chains : List Chain) (generations wai
 
     -- one list changed, and perhaps the queue
     changed : (k : ℕ) (d : Chain) (waiting' : List ℕ) (newest' : ℕ) → k < length chains → p < length (slots_in l) → IsListed (length chains) (generation_at generations) s → (2 ≤ k → d.count ≤ keep) → AreLinked (slots_in l') (nexts_in l') (set chains k d) → IsQueue (set (slots_in l) p s) waiting' newest' → AreSound l' (set chains k d) generations waiting' room keep newest'
-    changed k d waiting' newest' there within here few linked queue = record {
-      sized = sized;
-      linked = linked;
-      queue = subst (λ l. IsQueue l waiting' newest') (sym slots) queue;
-      known = known_chains (slots_in l') chains k d (generation_at generations) (known within here);
-      few = few_set keep chains k d h.few there few;
-    }
+    changed k d waiting' newest' there within here few linked queue = grind (arith, common_steps, few_set, known, known_chains, sized)
 
     -- the queue changed
     pub queued : (waiting' : List ℕ) (newest' : ℕ) → p < length (slots_in l) → IsListed (length chains) (generation_at generations) s → nexts_in l' ≡ nexts_in l → ((k : ℕ) → is_in k (slot_at (slots_in l) p) ≡ false) → ((k : ℕ) → is_in k s ≡ false) → IsQueue (set (slots_in l) p s) waiting' newest' → AreSound l' chains generations waiting' room keep newest'
-    queued waiting' newest' within here nexts was now queue = record {
-      sized = sized;
-      linked = in_place (λ l n. AreLinked l n chains) _ _ _ _ slots nexts (out_linked (slots_in l) (nexts_in l) chains h.linked p s within was now);
-      queue = subst (λ l. IsQueue l waiting' newest') (sym slots) queue;
-      known = known within here;
-      few = h.few;
-    }
+    queued waiting' newest' within here nexts was now queue = grind (arith, common_steps, in_place, known, out_linked, sized)
 
     -- a slot that is in no list, and not in the queue, came to neither
     pub out_sound : p < length (slots_in l) → nexts_in l' ≡ nexts_in l → (waits (slot_at (slots_in l) p) ≡ false) × ((k : ℕ) → is_in k (slot_at (slots_in l) p) ≡ false) → (waits s ≡ false) × ((k : ℕ) → is_in k s ≡ false) → s.layout ≡ (slot_at (slots_in l) p).layout → s.layout_generation ≡ (slot_at (slots_in l) p).layout_generation → s.kept_below ≡ (slot_at (slots_in l) p).kept_below → (s.used ≡ Held → is_some s.set ≡ true) → AreSound l' chains generations waiting room keep newest
@@ -122,29 +103,8 @@ pub removed_others : (generations : List ℕ) (layout x n : ℕ) → n ≢ layou
 removed_others generations layout x n ne = get_or-set_other generations (layout + 2) (n + 2) x 0 (λ e. ne (omega arith))
 
 pub removed_is : (generations : List ℕ) (layout : ℕ) → layout + 2 < length generations → (n : ℕ) → generation_at (set generations (layout + 2) (generation_at generations layout + 1)) n ≡ removed_at layout (generation_at generations) n
-removed_is generations layout within n = elim (same_or n layout) [
-  | inl e ↦ subst (λ n. generation_at (set generations (layout + 2) (generation_at generations layout + 1)) n ≡ removed_at layout (generation_at generations) n) (sym e) (removed_here generations layout (generation_at generations layout + 1) within ∙ ap (λ b. if b then generation_at generations layout + 1 else generation_at generations layout) (sym (eq-eqb layout layout refl)))
-  | inr ne ↦ removed_others generations layout (generation_at generations layout + 1) n ne ∙ ap (λ b. if b then generation_at generations n + 1 else generation_at generations n) (sym (ne_eqb n layout ne))
-]
+removed_is generations layout within n = grind (arith, common_steps, removed_here, removed_others, same_or)
 
 -- a layout was removed, of which no set is kept
 pub remove_sound : {T : Type 0} (l : SlotList T) (chains : List Chain) (generations waiting : List ℕ) (room keep newest : ℕ) → AreSound l chains generations waiting room keep newest → (layout : ℕ) → layout + 2 < length generations → ((p : ℕ) → is_in (layout + 2) (slot_at (slots_in l) p) ≡ false) → AreSound l chains (set generations (layout + 2) (generation_at generations layout + 1)) waiting room keep newest
-remove_sound {T} l chains generations waiting room keep newest h layout within none = record {
-  sized = h.sized;
-  linked = h.linked;
-  queue = h.queue;
-  known = λ p lt. by_layout p (h.known p lt) (same_or (slot_at (slots_in l) p).layout layout);
-  few = h.few;
-}
-  where
-    by_layout : (p : ℕ) → IsListed (length chains) (generation_at generations) (slot_at (slots_in l) p) → ((slot_at (slots_in l) p).layout ≡ layout) ⊎ ((slot_at (slots_in l) p).layout ≢ layout) → IsListed (length chains) (generation_at (set generations (layout + 2) (generation_at generations layout + 1))) (slot_at (slots_in l) p)
-    by_layout p was (inl e) = record {
-      there = was.there;
-      before = (let a = was.before in let b = ap (generation_at (set generations (layout + 2) (generation_at generations layout + 1))) e ∙ removed_here generations layout (generation_at generations layout + 1) within in let d = ap (generation_at generations) e in omega arith);
-      kept = λ kept. absurd (true≢false (sym kept ∙ ap (λ n. is_in (n + 2) (slot_at (slots_in l) p)) e ∙ none p));
-      full = was.full;
-      kept_below = was.kept_below;
-    }
-    by_layout p was (inr ne) =
-        let same = removed_others generations layout (generation_at generations layout + 1) (slot_at (slots_in l) p).layout ne in
-        record { there = was.there; before = (let a = was.before in omega arith); kept = λ kept. was.kept kept ∙ sym same; full = was.full; kept_below = was.kept_below }
+remove_sound {T} l chains generations waiting room keep newest h layout within none = grind (arith, common_steps, known, removed_here, removed_others, same_or, sized, true≢false)

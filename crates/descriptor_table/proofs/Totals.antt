@@ -1,12 +1,10 @@
 -- How many slots there are in several lists together: the loop of `SetTable::kept_total`, at its start, with one list more, and with all.
 use Rattle.std.proofs.lemmas.Grind.{common_steps}
-use Rattle.std.proofs.Common.{◌≡◌, ℕ, ◌+◌, ◌≤◌, ◌==◌, ◌&&◌, nat_lt, not, Bool, true, false, List, length, is_some, inl, inr, refl, sym, ap, ◌∙◌, arith, eq-eqb, ne_eqb}
+use Rattle.std.proofs.Common.{◌≡◌, ℕ, ◌+◌, ◌≤◌, ◌==◌, ◌&&◌, nat_lt, Bool, true, false, List, length, refl, ap, arith}
 use Rattle.std.proofs.lemmas.Bool.{and_right, cases_order, le-ltb, lt-ltb}
 use Rattle.std.proofs.lemmas.List.{get_or_past}
-use Rattle.descriptor_table.specs.Slots.{AreLinked, Slot, chain_at, in_list, is_in, slot_at}
+use Rattle.descriptor_table.specs.Slots.{AreLinked, Slot, chain_at, is_in, slot_at}
 use Rattle.descriptor_table.specs.Tables.{count, is_kept}
-use Rattle.descriptor_table.specs.declared.slot.Use.{Use}
-use Rattle.descriptor_table.specs.declared.slot.Use.TheVariants.{Held, InFrame, Waits, Kept, Going, Taken, Vacant}
 use Rattle.descriptor_table.specs.declared.slot.Chain.{Chain}
 use Rattle.descriptor_table.proofs.Chains.{none_in}
 use Rattle.descriptor_table.proofs.Counting.{below_or}
@@ -24,13 +22,7 @@ bits_none x y more a b ex ey = let a' = ap (λ x. bit ((x && more) && a)) ex in 
 
 -- below one number more
 split_below : (n k : ℕ) (more : Bool) → bit (more && nat_lt n (k + 1)) ≡ bit (more && nat_lt n k) + bit ((k == n) && more)
-split_below n k more = elim (cases_order n k) [
-  | inl e ↦ bits_here more (nat_lt n (k + 1)) (nat_lt n k) (k == n) (lt-ltb n (k + 1) (omega arith)) (le-ltb n k (omega arith)) (eq-eqb k n (sym e))
-  | inr apart ↦ elim apart [
-    | inl lt ↦ bits_other more (nat_lt n (k + 1)) (nat_lt n k) (k == n) (lt-ltb n (k + 1) (omega arith) ∙ sym (lt-ltb n k lt)) (ne_eqb k n (λ e. omega arith))
-    | inr gt ↦ bits_other more (nat_lt n (k + 1)) (nat_lt n k) (k == n) (le-ltb n (k + 1) (omega arith) ∙ sym (le-ltb n k (omega arith))) (ne_eqb k n (λ e. omega arith))
-  ]
-]
+split_below n k more = grind (arith, common_steps, bits_here, bits_other, cases_order, le-ltb, lt-ltb)
 
 module _ {T : Type 0} where
   -- whether a slot has a kept set of a list before this one
@@ -39,20 +31,7 @@ module _ {T : Type 0} where
 
   -- a set in a list before the next one is in one before this, or in this
   kept_split : (k : ℕ) → 2 ≤ k → (s : Slot T) → bit (kept_below (k + 1) s) ≡ bit (kept_below k s) + bit (is_in k s)
-  kept_split k two s = by_use s.used
-    where
-      by_use : (u : Use) → let n = s.layout + 2 in let full = is_some s.set in bit (in_list n u s.layout s.generation full && nat_lt n (k + 1)) ≡ bit (in_list n u s.layout s.generation full && nat_lt n k) + bit (in_list k u s.layout s.generation full)
-      by_use Held = refl
-      by_use (InFrame f) = refl
-      by_use (Waits f) = refl
-      by_use Kept =
-          let n = s.layout + 2 in
-          let more = nat_lt s.generation 4294967295 && is_some s.set in
-          let same = ap (λ b. b && more) (eq-eqb n n refl) in
-          ap (λ b. bit (b && nat_lt n (k + 1))) same ∙ split_below n k more ∙ sym (ap (λ b. bit (b && nat_lt n k) + bit ((k == n) && more)) same)
-      by_use Going = bits_none ((s.layout + 2) == 1) (k == 1) (is_some s.set) (nat_lt (s.layout + 2) (k + 1)) (nat_lt (s.layout + 2) k) (ne_eqb (s.layout + 2) 1 (λ e. omega arith)) (ne_eqb k 1 (λ e. omega arith))
-      by_use Taken = refl
-      by_use Vacant = bits_none ((s.layout + 2) == 0) (k == 0) (nat_lt s.generation 4294967295 && not (is_some s.set)) (nat_lt (s.layout + 2) (k + 1)) (nat_lt (s.layout + 2) k) (ne_eqb (s.layout + 2) 0 (λ e. omega arith)) (ne_eqb k 0 (λ e. omega arith))
+  kept_split k two s = grind (arith, common_steps, bit, bits_none, split_below)
 
   -- no list is before the first of kept sets
   pub kept_start : (slots : List (Slot T)) → count (kept_below 2) slots ≡ 0
@@ -69,14 +48,8 @@ module _ {T : Type 0} where
   pub kept_end : (slots : List (Slot T)) (next : List ℕ) (chains : List Chain) (k : ℕ) → AreLinked slots next chains → length chains ≤ k → count (kept_below k) slots ≡ count is_kept slots
   kept_end slots next chains k linked all = count_as (kept_below k) is_kept slots (λ p lt. here (slot_at slots p) p refl)
     where
-      and_yes : (a b : Bool) → b ≡ true → (a && b) ≡ a
-      and_yes x0 b e = grind (arith, common_steps)
-
       none : (j : ℕ) → k ≤ j → (p : ℕ) → is_in j (slot_at slots p) ≡ false
       none j le = none_in slots next chains linked j (ap (λ (d : Chain). d.count) (get_or_past chains j (record { first = 0; count = 0 }) (omega arith)))
 
       here : (s : Slot T) (p : ℕ) → s ≡ slot_at slots p → kept_below k s ≡ is_kept s
-      here s p is = elim (below_or (s.layout + 2) k) [
-        | inl lt ↦ and_yes (is_kept s) (nat_lt (s.layout + 2) k) (lt-ltb (s.layout + 2) k lt)
-        | inr le ↦ (let out = ap (is_in (s.layout + 2)) is ∙ none (s.layout + 2) le p in ap (λ b. b && nat_lt (s.layout + 2) k) out ∙ sym out)
-      ]
+      here s p is = grind (arith, common_steps, below_or, lt-ltb, none)

@@ -1,15 +1,14 @@
 -- The queue of the sets that wait, when a place comes to it or leaves it: for `put_place`, `enqueue`, and
 -- `SetTable::pick_waiting` and `pick_due`.
 use Rattle.std.proofs.lemmas.Grind.{common_steps}
-use Rattle.std.proofs.Common.{◌≡◌, ◌≢◌, ℕ, zero, suc, ◌+◌, ◌-◌, ◌<◌, ◌≤◌, ◌==◌, ◌&&◌, Bool, true, false, if◌then◌else◌, List, [], ◌∷◌, ◌++◌, insert, length, take, drop, get_or, set, is_some, nat_le, inl, inr, refl, sym, ap, subst, ◌∙◌, arith}
+use Rattle.std.proofs.Common.{◌≡◌, ◌≢◌, ℕ, zero, suc, ◌+◌, ◌-◌, ◌<◌, ◌≤◌, ◌==◌, Bool, true, false, if◌then◌else◌, List, [], ◌∷◌, ◌++◌, insert, length, take, drop, get_or, set, inl, inr, refl, sym, ap, subst, ◌∙◌, arith, rules}
 use Rattle.std.proofs.lemmas.List.{append_assoc, length-drop, length-set}
 use Rattle.std.proofs.lemmas.Bool.{true≢false}
 use Rattle.std.proofs.lemmas.List.Sorted.{IsNonDecreasingBy-drop, IsNonDecreasingBy-insert}
 use Rattle.std.proofs.Math.Seq.{drop-append_seam, take-append_seam}
 use Rattle.std.specs.List.Sorted.{IsNonDecreasingBy, IsPartitionPoint}
 use Rattle.descriptor_table.specs.Places.{times}
-use Rattle.descriptor_table.specs.Slots.{IsQueue, Slot, frame_of, is_due, slot_at, waits, waits_for}
-use Rattle.descriptor_table.specs.declared.slot.Use.{Use}
+use Rattle.descriptor_table.specs.Slots.{IsQueue, Slot, frame_of, is_due, slot_at, waits}
 use Rattle.descriptor_table.proofs.Counting.{same_or, times_here, times_there}
 use Rattle.descriptor_table.proofs.Listed.{first_passes, lists_few, lists_other, lists_pop, lists_push, not_listed, one_none, other_slots, slot_set, test_within}
 
@@ -41,14 +40,7 @@ along P (q ∷ l) d each p is = elim (same_or p q) [
 
 -- the places `later` go before the others, one comes last, and they go back behind it: so it comes at its place
 pub turned : (l : List ℕ) (i n : ℕ) (p : ℕ) → n ≡ length l - i → drop n ((drop i l ++ take i l) ++ p ∷ []) ++ take n ((drop i l ++ take i l) ++ p ∷ []) ≡ insert l i p
-turned l i n p is =
-    let later = drop i l in
-    let earlier = take i l in
-    ap (λ n. drop n ((later ++ earlier) ++ p ∷ []) ++ take n ((later ++ earlier) ++ p ∷ [])) (is ∙ sym (length-drop i l))
-    ∙ ap (λ l. drop (length later) l ++ take (length later) l) (append_assoc later earlier (p ∷ []))
-    ∙ ap (λ l. l ++ take (length later) (later ++ (earlier ++ p ∷ []))) (drop-append_seam later (earlier ++ p ∷ []))
-    ∙ ap (λ l. (earlier ++ p ∷ []) ++ l) (take-append_seam later (earlier ++ p ∷ []))
-    ∙ append_assoc earlier (p ∷ []) later
+turned l i n p is = grind (arith, common_steps, append_assoc, drop-append_seam, length-drop, take-append_seam)
 
 module _ {T : Type 0} where
   -- the frame that the set at a place waits for
@@ -57,10 +49,7 @@ module _ {T : Type 0} where
 
   -- a set isn't due if it waits for a later frame, or doesn't wait
   not_due : (f : ℕ) (s : Slot T) → (waits s ≡ true → f < frame_of s.used) → is_due f s ≡ false
-  not_due f s late = by_use s.used (is_some s.set) late
-    where
-      by_use : (u : Use) (full : Bool) → ((waits_for (λ w. true) u && full) ≡ true → f < frame_of u) → (waits_for (λ w. nat_le w f) u && full) ≡ false
-      by_use u full late = grind (arith, common_steps)
+  not_due f s late = search rules
 
   -- a slot changed that isn't in a list: the frames along the list stay
   module _ (slots : List (Slot T)) (p : ℕ) (s : Slot T) (l : List ℕ) (none : times p l ≡ 0) where
@@ -72,10 +61,7 @@ module _ {T : Type 0} where
 
   -- a slot changed: no set waits for a later frame still
   bound_set : (slots : List (Slot T)) (p newest : ℕ) (s : Slot T) → p < length slots → ((q : ℕ) → waits (slot_at slots q) ≡ true → frame slots q ≤ newest) → (waits s ≡ true → frame_of s.used ≤ newest) → (q : ℕ) → waits (slot_at (set slots p s) q) ≡ true → frame (set slots p s) q ≤ newest
-  bound_set slots p newest s within before here q w = elim (same_or q p) [
-    | inl e ↦ (let is = ap (slot_at (set slots p s)) e ∙ slot_set slots p s within in let le = here (ap waits (sym is) ∙ w) in let at = ap (λ (s : Slot T). frame_of s.used) is in omega arith)
-    | inr ne ↦ (let is = other_slots slots p s q ne in let le = before q (ap waits (sym is) ∙ w) in let at = ap (λ (s : Slot T). frame_of s.used) is in omega arith)
-  ]
+  bound_set slots p newest s within before here q w = grind (arith, common_steps, other_slots, same_or, slot_set)
 
   module _ (slots : List (Slot T)) (l : List ℕ) (newest : ℕ) (queue : IsQueue slots l newest) where
     -- no set is due if the first one waits for a later frame

@@ -1,6 +1,7 @@
 -- Empty pools go: what stays of books and ledger.
 -- For cleanup and trim (cleanup.Cleaning), and for the fronts that go when sets are freed (release.Given). t is what is left of s.
-use Rattle.gpu_descriptor.proofs.Common.{if◌then◌else◌, ◌≡◌, ℕ, ◌==◌, ◌<◌, true, false, List, slice_get, Some, None, inl, inr, refl, sym, ap, ◌∙◌, subst, arith, ne_eqb, cases_eq, false_from_ne_true, set_of, Item, State, Pool, live_in, outstanding, Agree, live_at, Key, Entry, entry_at, are_named, is_empty}
+use Rattle.std.proofs.lemmas.Grind.{common_steps}
+use Rattle.gpu_descriptor.proofs.Common.{if◌then◌else◌, ◌≡◌, ℕ, ◌==◌, ◌<◌, true, false, List, slice_get, Some, None, inl, inr, refl, sym, ap, ◌∙◌, arith, ne_eqb, cases_eq, false_from_ne_true, set_of, Item, State, Pool, live_in, outstanding, Agree, live_at, Key, Entry, entry_at, are_named, is_empty}
 use Rattle.gpu_descriptor.proofs.Common.{rises, numbers_of, none-some, true≢false, IsForeign, KeepsForeign}
 use Rattle.gpu_descriptor.proofs.cleanup.Splitting.{Split, apart, gone_at, is_named_at, left_at, left_or_gone, left_rises, named_at, one_place}
 use Rattle.gpu_descriptor.proofs.lists.AtPlaces.{cases_option, if_none}
@@ -21,10 +22,7 @@ pub record Empties (s t : State) : Type 0 where
 module _ {s t : State} (x : Empties s t) where
   -- what stands at a place afterwards stood at one before
   was_kept : (k : Key) (i : ℕ) (e : Entry) → slice_get (t.books k).pools i ≡ Some e → (j : ℕ) × (slice_get (s.books k).pools j ≡ Some e) × (slice_get (x.left k) i ≡ Some e)
-  was_kept k i e at =
-      let here : slice_get (x.left k) i ≡ Some e = ap (λ es. slice_get es i) (sym (x.pools k)) ∙ at in
-      let was = left_at (s.books k).pools (x.left k) (x.gone k) (x.split k) i e here in
-      (was.0, was.1, here)
+  was_kept k i e at = grind (arith, common_steps, left_at)
 
   module _ (agree : Agree s) where
     left_rise : (k : Key) → rises (numbers_of (x.left k)) ≡ true
@@ -32,40 +30,15 @@ module _ {s t : State} (x : Empties s t) where
 
     -- a pool with sets keeps its number
     pub still_there : (k : Key) (n : ℕ) (e : Entry) → entry_at (s.books k) n ≡ Some e → is_empty e ≡ false → entry_at (t.books k) n ≡ Some e
-    still_there k n e at full =
-        let found = entry_at-found (s.books k) n e at in
-        elim (left_or_gone (s.books k).pools (x.left k) (x.gone k) (x.split k) found.0 e found.1) [
-          | inl l ↦ entry_at-named (t.books k) l.0 n e (ap (λ (es : List Entry). rises (numbers_of es)) (x.pools k) ∙ left_rise k) (ap (λ es. slice_get es l.0) (x.pools k) ∙ l.1) found.2
-          | inr g ↦ absurd (let empty = gone_at (s.books k).pools (x.left k) (x.gone k) (x.split k) g.0 e g.1 in true≢false (sym empty.2 ∙ full))
-        ]
+    still_there k n e at full = grind (arith, common_steps, entry_at-found, entry_at-named, gone_at, left_or_gone, left_rise, true≢false)
 
     -- the ledger keeps a pool that the books keep
     stays : (k : Key) (i : ℕ) (e : Entry) → slice_get (t.books k).pools i ≡ Some e → t.ledger e.pool ≡ s.ledger e.pool
-    stays k i e h = x.kept e.pool (λ l. false_from_ne_true (are_named (x.gone l) e.pool) (λ named.
-        let was = was_kept k i e h in
-        let g = named_at (x.gone l) e.pool named in
-        let there = gone_at (s.books l).pools (x.left l) (x.gone l) (x.split l) g.0 g.1 g.2 in
-        let same = agree.distinct l k there.0 was.0 g.1 e there.1 was.1 g.3 in
-        let here : slice_get (x.gone k) g.0 ≡ Some g.1 = subst (λ (q : Key). slice_get (x.gone q) g.0 ≡ Some g.1) same.0 g.2 in
-        apart (s.books k).pools (x.left k) (x.gone k) (x.split k) (λ i j d e a b same. (agree.distinct k k i j d e a b same).1) i g.0 e g.1 was.2 here (sym g.3)))
+    stays k i e h = grind (arith, common_steps, apart, false_from_ne_true, gone_at, named_at, was_kept)
 
     -- books and ledger agree afterwards, and the same sets are outstanding (`emptied_outstanding`)
     pub emptied_agree : Agree t
-    emptied_agree = record {
-      distinct = λ k l i j d e at at' same.
-          let p = was_kept k i d at in
-          let q = was_kept l j e at' in
-          let both = agree.distinct k l p.0 q.0 d e p.1 q.1 same in
-          let mine : slice_get (s.books l).pools q.0 ≡ Some d = subst (λ (x : Key). slice_get (s.books x).pools q.0 ≡ Some d) both.0 (subst (λ (n : ℕ). slice_get (s.books k).pools n ≡ Some d) both.1 p.1) in
-          let is : d ≡ e = cc in
-          let there : slice_get (x.left l) i ≡ Some e = subst (λ (q : Key). slice_get (x.left q) i ≡ Some e) both.0 (p.2 ∙ ap Some is) in
-          (both.0, one_place (x.left l) (left_rise l) i j e there q.2);
-      booked = λ k i e at.
-          let was = was_kept k i e at in
-          let booked = agree.booked k was.0 e was.1 in
-          (booked.0, stays k i e at ∙ booked.1, booked.2);
-      rising = λ k. ap (λ (es : List Entry). rises (numbers_of es)) (x.pools k) ∙ left_rise k;
-    }
+    emptied_agree = grind (arith, common_steps, left_rise, one_place, stays, was_kept)
 
     pub emptied_outstanding : (i : Item) → outstanding t i ≡ outstanding s i
     emptied_outstanding i = elim (cases_option (entry_at (t.books i.key) i.number)) [
@@ -99,16 +72,10 @@ module _ {s t : State} (x : Empties s t) where
   -- ---- pools of others
 
   outside_gone : (name : ℕ) → IsForeign s name → (k : Key) → are_named (x.gone k) name ≡ false
-  outside_gone name foreign k = false_from_ne_true _ (λ named.
-      let g = named_at (x.gone k) name named in
-      let there = gone_at (s.books k).pools (x.left k) (x.gone k) (x.split k) g.0 g.1 g.2 in
-      foreign k there.0 g.1 there.1 g.3)
+  outside_gone name foreign k = grind (arith, common_steps, false_from_ne_true, gone_at, named_at)
 
   pub emptied_foreign : KeepsForeign s t
-  emptied_foreign name pool foreign live = (
-    x.kept name (outside_gone name foreign) ∙ live,
-    λ k i e at same. (let was = was_kept k i e at in foreign k was.0 e was.1 same),
-  )
+  emptied_foreign name pool foreign live = grind (arith, common_steps, outside_gone, was_kept)
 
   -- a live pool that is foreign afterwards was so before
   was_foreign : (name : ℕ) (pool : Pool) → IsForeign t name → t.ledger name ≡ Some pool → IsForeign s name

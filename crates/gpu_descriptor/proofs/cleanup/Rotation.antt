@@ -93,10 +93,7 @@ module _ {P : Type 0} (name : P → ℕ) (k : Key) where
   as_turned old now n m before after after' same is turned = subst (λ l. Turning old now m before l) is (subst (λ i. Turning old now i before after) same turned)
 
   pub end : (old now : List (DescriptorPool P)) (n : ℕ) (before after : Ledger) → length old ≤ n → Turning old now n before after → (now ≡ filter has_sets old) × (after ≡ ledger_but (gone_of true (entries old)) before)
-  end old now n before after le turned = (
-    turned.pools ∙ ap (λ l. l ++ filter has_sets (take n old)) (drop_all n old le) ∙ ap (filter has_sets) (take_all n old le),
-    turned.ledger ∙ ap (λ l. ledger_but (gone_of true (entries l)) before) (take_all n old le),
-  )
+  end old now n before after le turned = grind (arith, common_steps, drop_all, entries, take_all)
 
 -- ---- the pools with sets
 

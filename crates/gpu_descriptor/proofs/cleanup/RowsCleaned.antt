@@ -117,11 +117,7 @@ module _ (everywhere : Bool) where
       }
 
   nothing_goes : (p : ℕ) → goes no_pools p ≡ false
-  nothing_goes p = none_named everywhere p
-    where
-      none_named : (everywhere : Bool) (p : ℕ) → are_named (gone_of everywhere []) p ≡ false
-      none_named true p = refl
-      none_named false p = refl
+  nothing_goes p = grind (arith, common_steps)
 
   -- what goes from the books of a key goes from a row
   any_gone : (rows : Rows) (k : Key) (p : ℕ) → goes (books_of rows k) p ≡ true → gone rows p ≡ true

@@ -1,6 +1,6 @@
 -- Giving one run back to a stored bucket.
 -- For `release_sets`. names are those of the run's sets, ls the live sets that left the pool q, whose entry e is at place i.
-use Rattle.gpu_descriptor.proofs.Common.{entry_at, greatest_pool_size, ◌≡◌, ℕ, zero, suc, ◌+◌, ◌-◌, ◌<◌, ◌≤◌, List, [], ◌∷◌, length, map, sum_by, set, get_or, slice_get, Option, Some, option_map, refl, ap, ◌∙◌, arith, IfSome, slice_get-map, slice_get_read, length-map}
+use Rattle.gpu_descriptor.proofs.Common.{entry_at, greatest_pool_size, ◌≡◌, ℕ, zero, suc, ◌+◌, ◌-◌, ◌<◌, ◌≤◌, List, [], ◌∷◌, length, map, sum_by, set, get_or, slice_get, Option, Some, option_map, refl, ap, ◌∙◌, arith, IfSome, slice_get-map, slice_get_read, length-map, rules}
 use Rattle.gpu_descriptor.proofs.Common.{Pool, live_sets, LiveSet, times, AreIn, DescriptorPool, live_in, IsAsBooked, Key, Entry, Bucket, ∥∥₁_elim, ∥∥₁_map, props, common_steps, AreBookedIn, IsTakenAt, entry_less, pool_less, entry_of}
 use Rattle.gpu_descriptor.proofs.foreign.LedgerPools.{taken_from, with_pool_same, with_pool_other, size_minus, only_these}
 use Rattle.gpu_descriptor.proofs.request.StateAgrees.{changed_booked}
@@ -34,9 +34,7 @@ pub are_taken :
     (k : Key) (b : Bucket) (pools : ℕ → Option Pool) (i : ℕ) (e : Entry) (names : List ℕ) (ls : List LiveSet)
     → AreBookedIn k pools b.pools → slice_get b.pools i ≡ Some e → map (λ x. x.name) ls ≡ names
     → IfSome (pools e.pool) (λ pool. AreIn ls pool.live) → AreTaken names (live_in pools e.pool) ls
-are_taken k b pools i e names ls stored at are live =
-    let booked = stored.each i e at in
-    grind (arith, common_steps)
+are_taken k b pools i e names ls stored at are live = search rules
 
 -- the sets that a call took of the place are the key's sets of their names
 pub took_these : (k : Key) (b : Bucket) (pools : ℕ → Option Pool) (i : ℕ) (e : Entry) (names : List ℕ) (ls : List LiveSet) → AreBookedIn k pools b.pools → slice_get b.pools i ≡ Some e → AreTaken names (live_in pools e.pool) ls → ls ≡ live_sets k.counts names
@@ -73,9 +71,7 @@ stored_after k es pools i e ls stored at within =
     (with_pool_same pools e.pool to ∙ ap (option_map (pool_less (times ls))) booked.1) (λ q apart. with_pool_other pools e.pool q to apart) is
 
 pub place_fits : (k : Key) (b : Bucket) (pools : ℕ → Option Pool) (i : ℕ) (e : Entry) → AreBookedIn k pools b.pools → slice_get b.pools i ≡ Some e → e.allocated + e.available ≤ greatest_pool_size
-place_fits k b pools i e stored at =
-    let booked = (stored.each i e at).2 in
-    grind (arith, common_steps)
+place_fits k b pools i e stored at = search rules
 
 pub length_names : (k : Key) (names : List ℕ) → length (live_sets k.counts names) ≡ length names
 length_names k names = length-map names (λ (name : ℕ). record { name = name; counts = k.counts })

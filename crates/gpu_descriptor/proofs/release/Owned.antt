@@ -1,5 +1,6 @@
 -- The row of a live set: its key's, and the only one with its id.
 -- For `release_run`, which finds the row of a run by its id and compares no keys. es are the entries of the map, and s is the state.
+use Rattle.std.proofs.lemmas.Grind.{common_steps}
 use Rattle.gpu_descriptor.proofs.Common.{◌≡◌, ◌<◌, ℕ, suc, true, false, List, [], ◌∷◌, ◌++◌, slice_get, Option, Some, None, IfSome, inl, inr, refl, sym, ap, subst, ◌∙◌, arith, eq-eqb, eqb-true, map, nat_eq, HoldsAlong, cases_Bool, and_from, and_parts, false_from_ne_true, IsDistinct}
 use Rattle.gpu_descriptor.proofs.Common.{Ledger, count_by_yes, BucketKey, DescriptorSet, DescriptorBucket, AreOutstanding, Item, State, item_eq, outstanding, Bucket, Entry, Key, key_eq, books_of, books_in, entry_at, key_of, Allocations, item_of, items_of, state_of, rises, stored_ids, stored_keys, EndsRun, AllByRecursion}
 use Rattle.gpu_descriptor.proofs.Common.{row_of, none-some, same_Some, true≢false}
@@ -36,10 +37,7 @@ module _ {P : Type 0} (es : List (BucketKey × DescriptorBucket P)) (rise : rise
 
   -- what stands where the id does is of the key
   pub own_key : (i : ℕ) (e : BucketKey × DescriptorBucket P) → slice_get es i ≡ Some e → slice_get (stored_ids es) i ≡ Some id → key_of e.0 ≡ k
-  own_key i e at there =
-      let place = rises_once (stored_ids es) rise i own.place id there own_id in
-      let same : e ≡ (own.row.key, own.bucket) = same_Some e (own.row.key, own.bucket) (sym at ∙ ap (slice_get es) place ∙ own.row.at) in
-      ap (λ (r : BucketKey × DescriptorBucket P). key_of r.0) same ∙ own.row.is
+  own_key i e at there = grind (arith, common_steps, own_id, rises_once, same_Some)
 
   -- so one key has an id
   pub one_owner : {l : Key} → Owns l id es → l ≡ k

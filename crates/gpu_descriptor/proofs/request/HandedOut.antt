@@ -1,6 +1,6 @@
 -- All that is promised of a request, from what it took: kept, freed, declined, or for no sets.
 -- For `fill`: each lemma makes a whole record of its contract, field by field.
-use Rattle.gpu_descriptor.proofs.Common.{◌≡◌, ◌≤◌, is_some, ℕ, ◌+◌, ◌<◌, List, Result, Ok, Err, sym, ap, ◌∙◌, arith, side, Meaning, Ledger, Counters, AllocationError, DescriptorSet, Stop, Agree, outstanding, HasDistinctKeys, Key, Allocations, run_digits}
+use Rattle.gpu_descriptor.proofs.Common.{◌≡◌, ◌≤◌, is_some, ℕ, ◌+◌, ◌<◌, List, Result, Ok, Err, sym, ap, ◌∙◌, arith, side, Meaning, Ledger, Counters, AllocationError, DescriptorSet, Stop, Agree, outstanding, HasDistinctKeys, Key, Allocations, run_digits, rules}
 use Rattle.gpu_descriptor.proofs.Common.{granted, items_in, stop_error, call_of, Returns, with_key, items_of, Agrees, marked_load_of, outstanding_of, pool_load_of, state_of, table_of, Allocates, None, taken_by, Takes, none-some, true≢false}
 use Rattle.gpu_descriptor.specs.Caller.HandsOut.{HandsOut}
 use Rattle.gpu_descriptor.specs.Caller.Keeps.{Keeps}
@@ -13,15 +13,7 @@ module _ {L P S : Type 0} {means : Meaning L P S} {k : Key} {count : ℕ} {sets 
     (t : Takes means k count sets ended (side old before) (side new after)) (agree : Agree (state_of means.pool_name old before)) where
   -- what every call keeps: once the sets came, and once they went back
   pub keeps_all : HasDistinctKeys (table_of means.pool_name new) → new.limit ≡ old.limit → new.bound ≡ old.bound → marked_load_of new ≤ new.limit → pool_load_of new ≤ new.limit → Keeps means (side old before) (side new after)
-  keeps_all rows limit bound load pool_load =
-      record {
-        agree = record { rows = rows; books = taken_agree t agree };
-        limit = limit;
-        bound = bound;
-        load = load;
-        pool_load = pool_load;
-        others = taken_others_of t agree;
-      }
+  keeps_all rows limit bound load pool_load = search (rules, taken_agree, taken_others_of)
 
 module _ {L P S : Type 0} {means : Meaning L P S} {k : Key} {count : ℕ} (sets : List (DescriptorSet S)) {ended : Result (Unit {0}) Stop} {old new : Allocations P} {before after : Ledger}
     (t : Takes means k count sets ended (side old before) (side new after)) (agree : Agrees means.pool_name old before) (keys : keys_of new ≡ with_key k (keys_of old))

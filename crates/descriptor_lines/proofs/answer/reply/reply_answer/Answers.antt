@@ -1,17 +1,14 @@
-use Rattle.std.proofs.Common.{◌++◌, ◌∷◌, [], ap, codes, length, length-append, string_bytes, arith}
+use Rattle.std.proofs.lemmas.Grind.{common_steps}
+use Rattle.std.proofs.Common.{◌∷◌, [], length-append, arith}
 use Rattle.std.specs.Fmt.{decimal}
 use Rattle.descriptor_lines.proofs.ReplyLemmas.{length_of_number}
 use Rattle.descriptor_lines.proofs.answer.reply.reply_answer.Goals as goal
 
 pub put_number-requires : goal.put_number-requires
-put_number-requires c =
-    let reserve = rw c.in-Freed.is at c.requires.reserve in
-    omega (arith, length_of_number c.in-Freed.count (omega arith))
+put_number-requires c = grind (arith, common_steps, length_of_number)
 
 pub put-requires-in-Freed : goal.put-requires-in-Freed
-put-requires-in-Freed c =
-    let reserve = rw c.in-Freed.is at c.requires.reserve in
-    omega (arith, ap length c.put_number.ensures.text, length-append (string_bytes c.args.answer.now) (codes "freed " ++ decimal c.in-Freed.count), length_of_number c.in-Freed.count (omega arith))
+put-requires-in-Freed c = grind (arith, common_steps, length_of_number)
 
 pub returns-in-Freed-clause-enough : goal.returns-in-Freed-clause-enough
 returns-in-Freed-clause-enough c = rw c.in-Freed.is (omega (arith, length-append (decimal c.in-Freed.count) (10 ∷ []), length_of_number c.in-Freed.count (omega arith)))

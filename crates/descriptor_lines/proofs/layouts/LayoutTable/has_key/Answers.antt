@@ -6,7 +6,6 @@ use Rattle.descriptor_lines.specs.declared.layouts.Entry.{Entry}
 use Rattle.descriptor_lines.specs.declared.layouts.Layout.{Layout}
 use Rattle.descriptor_lines.proofs.layouts.LayoutTable.has_key.Invariants.{any_left}
 use Rattle.descriptor_lines.proofs.layouts.LayoutTable.has_key.Goals as goal
-use Rattle.descriptor_lines.proofs.layouts.LayoutTable.has_key.Goals.{After-eq}
 
 all_left : (es : List (String Global × Entry)) (layout : Layout) → any_left (values_of es) layout ≡ has_key (map listed es) layout
 all_left [] layout = refl

@@ -1,28 +1,18 @@
-use Rattle.std.proofs.Common.{◌≡◌, [], ◌++◌, length, string_bytes, append-nil, append_assoc, ap, sym, ◌∙◌}
+use Rattle.std.proofs.lemmas.Grind.{common_steps}
+use Rattle.std.proofs.Common.{◌≡◌, [], ◌++◌, length, string_bytes, append-nil, ap, sym, ◌∙◌, arith}
 use Rattle.std.proofs.lemmas.Result.{IfOk-weaker}
 use Rattle.gpu_descriptor.specs.Caller.States.{marked_load_of}
-use Rattle.descriptor_script.specs.Sessions.Session.{value_of}
 use Rattle.descriptor_script.specs.Sessions.Tickets.{held_sets}
 use Rattle.descriptor_lines.specs.Answers.{held_answer}
 use Rattle.descriptor_lines.specs.LineStates.{line_state}
-use Rattle.descriptor_lines.specs.Shown.{pools_answer}
 use Rattle.descriptor_lines.proofs.ShownLemmas.{said_of_first, said_of_later, said_of_none, said_of_told, said_whole}
 use Rattle.descriptor_lines.proofs.program.Program.show.Goals as goal
 
 pub loop-name-preserved-in-Continue-1 : goal.loop-name-preserved-in-Continue-1
-loop-name-preserved-in-Continue-1 g c =
-    let table = (value_of c.args.self.now.session).allocator.table in
-    let so_far = string_bytes c.loop-name.answer in
-    let rest = said_of_told table c.next.new.self in
-    let entry = c.in-Some.entry.now in
-    let said : string_bytes c.show_pools.new.answer ≡ so_far ++ pools_answer table (string_bytes c.in-Some.name.now, entry.layout) = c.in_ok-show_pools.ensures ∙ ap (λ name. so_far ++ pools_answer table (name, entry.layout)) c.as_str.ensures.value in
-    ap (λ text. text ++ rest) said ∙ append_assoc so_far _ rest ∙ ap (λ text. so_far ++ text) (sym (said_of_first table (c.in-Some.name.now, entry) c.next.new.self c.if-entry.true)) ∙ ap (λ entries. so_far ++ said_of_told table entries) (sym c.in-Some.ensures.steps) ∙ c.loop-name.invariant
+loop-name-preserved-in-Continue-1 g c = grind (arith, common_steps, said_of_first, said_of_told)
 
 pub loop-name-preserved : goal.loop-name-preserved
-loop-name-preserved g c =
-    let table = (value_of c.args.self.now.session).allocator.table in
-    let so_far = string_bytes c.loop-name.answer in
-    ap (λ text. so_far ++ text) (sym (said_of_later table (c.in-Some.name.now, c.in-Some.entry.now) c.next.new.self c.if-entry.false)) ∙ ap (λ entries. so_far ++ said_of_told table entries) (sym c.in-Some.ensures.steps) ∙ c.loop-name.invariant
+loop-name-preserved g c = grind (arith, common_steps, said_of_later, said_of_told)
 
 pub returns : goal.returns
 returns g c =

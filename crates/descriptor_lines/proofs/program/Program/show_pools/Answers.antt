@@ -1,4 +1,5 @@
-use Rattle.std.proofs.Common.{◌≡◌, ◌++◌, string_bytes, append-nil, append_assoc, length, ap, sym, ◌∙◌, arith}
+use Rattle.std.proofs.lemmas.Grind.{common_steps}
+use Rattle.std.proofs.Common.{◌≡◌, ◌++◌, string_bytes, append_assoc, length, ap, sym, ◌∙◌, arith}
 use Rattle.gpu_descriptor.specs.Caller.Views.{view_in}
 use Rattle.gpu_descriptor.specs.Model.Books.{books_of}
 use Rattle.descriptor_script.specs.Sessions.Session.{value_of}
@@ -9,9 +10,7 @@ use Rattle.descriptor_lines.proofs.program.Program.show_pools.Goals as goal
 use Rattle.descriptor_lines.proofs.program.Program.show_pools.Goals.{in-Some+in_ok-pool_answer, in_default}
 
 pub loop-index-init : goal.loop-index-init
-loop-index-init g c =
-    let table = (value_of c.args.self.now.session).allocator.table in
-    rw (none_so_far table (c.args.name.now, c.args.layout.now)) (sym (append-nil (string_bytes c.args.answer.now)))
+loop-index-init g c = grind (arith, common_steps, none_so_far)
 
 pub loop-index-preserved : goal.loop-index-preserved
 loop-index-preserved g c =

@@ -1,12 +1,8 @@
-use Rattle.std.proofs.Common.{◌<◌, ◌++◌, length, length-append, arith}
+use Rattle.std.proofs.lemmas.Grind.{common_steps}
+use Rattle.std.proofs.Common.{arith}
 use Rattle.std.proofs.lemmas.Bool.Decides.{nat_tests}
-use Rattle.descriptor_lines.specs.Tickets.{max_tickets, tickets_between}
 use Rattle.descriptor_lines.proofs.TicketLemmas.{count_between}
 use Rattle.descriptor_lines.proofs.words.tickets.add_tickets.Goals as goal
 
 pub returns-then-len-steps-clause-added : goal.returns-then-len-steps-clause-added
-returns-then-len-steps-clause-added c =
-    let between = tickets_between c.args.span.first c.args.span.last in
-    let counted = c.args.tickets.now.ok in
-    let many : max_tickets < length (c.args.tickets.now.items ++ between) = omega (arith, length-append c.args.tickets.now.items between, count_between c.args.span.first c.args.span.last) in
-    grind (arith, nat_tests)
+returns-then-len-steps-clause-added c = grind (arith, common_steps, count_between, nat_tests)

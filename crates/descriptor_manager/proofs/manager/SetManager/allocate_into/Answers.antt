@@ -1,6 +1,5 @@
+use Rattle.std.proofs.lemmas.Grind.{common_steps}
 use Rattle.std.proofs.Common.{length, refl, inl, sym, arith, rules}
-use Rattle.descriptor_table.specs.Slots.{is_kept_of}
-use Rattle.descriptor_table.specs.Tables.{slots_of}
 use Rattle.descriptor_table.specs.declared.slot.Use.TheVariants.{Held}
 use Rattle.descriptor_table.proofs.Counts.{count_few}
 use Rattle.descriptor_manager.proofs.Owned.{if_some, refused_names}
@@ -28,12 +27,7 @@ returns-in-Err-clause-sets g c =
     record { stay = refused_names c.in-Some.known.now.layout _ (length c.args.sets.now) c.in-Err.error r.store c.allocate_each.new.self c.in-Err.ensures.requests.refused r.manager r.frame r.is_open; grows = c.allocate_each.ensures.requests.grows; rest = search rules }
 
 pub returns-then-sets-clause-fits : goal.returns-then-sets-clause-fits
-returns-then-sets-clause-fits g c = λ known enough.
-    let s = c.args.self.now.store.table in
-    let few = count_few (is_kept_of c.args.layout.slot.place) (slots_of s) in
-    let slots = s.sound.sized.few in
-    let many = c.if-sets.true in
-    absurd (omega arith)
+returns-then-sets-clause-fits g c = grind (arith, common_steps, count_few)
 
 pub returns-then-sets-clause-refused : goal.returns-then-sets-clause-refused
 returns-then-sets-clause-refused g c = λ error e. inl (cc, c.if-sets.true, refl)

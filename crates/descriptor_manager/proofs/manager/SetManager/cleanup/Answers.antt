@@ -1,3 +1,5 @@
+use Rattle.std.proofs.lemmas.Grind.{common_steps}
+use Rattle.std.proofs.Common.{arith}
 use Rattle.descriptor_manager.specs.LayoutRegistries.{layout_slots}
 use Rattle.descriptor_manager.specs.Stores.{NoneComes, slots_in}
 use Rattle.descriptor_manager.proofs.Owned.{sets_settle}
@@ -12,9 +14,7 @@ invariant_of-self-clause-sets g c =
     (λ n x none. absurd none) c.args.self.now.sets
 
 pub returns-clause-emptied : goal.returns-clause-emptied
-returns-clause-emptied g c = λ held waiting.
-    let old = c.args.self.now.store in
-    c.cleanup.ensures.emptied (cleaned_empty (slots_in old) (slots_in c.cleanup.new.self) c.args.self.now.sets.rest.placed c.cleanup.ensures.cleaned held waiting)
+returns-clause-emptied g c = grind (arith, common_steps, cleaned_empty)
 
 pub returns-clause-none_kept : goal.returns-clause-none_kept
 returns-clause-none_kept g c = none_left (slots_in c.args.self.now.store) (slots_in c.cleanup.new.self) c.cleanup.ensures.cleaned

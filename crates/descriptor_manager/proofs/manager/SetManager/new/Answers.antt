@@ -1,10 +1,11 @@
+use Rattle.std.proofs.lemmas.Grind.{common_steps}
 use Rattle.descriptor_table.specs.Tables.{Settings}
-use Rattle.std.proofs.Common.{false, ◌≡◌, ℕ, [], length, sym, ap, subst, ◌∙◌, arith}
+use Rattle.std.proofs.Common.{◌≡◌, ℕ, [], length, sym, ap, subst, ◌∙◌, arith}
 use Rattle.std.proofs.lemmas.Option.{none-some}
 use Rattle.descriptor_table.specs.Slots.{slot_at}
 use Rattle.descriptor_manager.specs.Own.{IsCounted}
 use Rattle.descriptor_manager.specs.Stores.{generations_in, lists_for}
-use Rattle.descriptor_manager.specs.LayoutRegistries.{layout_slots, registry_of}
+use Rattle.descriptor_manager.specs.LayoutRegistries.{layout_slots}
 use Rattle.descriptor_manager.proofs.Owned.{found_none}
 use Rattle.descriptor_manager.proofs.manager.SetManager.new.Goals as goal
 
@@ -21,6 +22,4 @@ invariant_of-result-clause-sets g c =
     }
 
 pub returns-clause-layouts : goal.returns-clause-layouts
-returns-clause-layouts g c handle =
-    let r = c.new-2.result in
-    found_none (registry_of r) 0 false (layout_slots r) handle.slot (ap (λ l. (slot_at l handle.slot.place).set) c.new-2.ensures.slots)
+returns-clause-layouts g c handle = grind (arith, common_steps, found_none)

@@ -1,8 +1,9 @@
+use Rattle.std.proofs.lemmas.Grind.{common_steps}
 use Rattle.std.proofs.Common.{[], ◌≡◌, ◌≢◌, ℕ, ◌<◌, Some, is_some, length, refl, sym, ap, subst, ◌∙◌, arith}
 use Rattle.std.proofs.lemmas.List.{length-set}
 use Rattle.std.proofs.lemmas.List.Elements.{All-cons, All-nil}
-use Rattle.descriptor_table.specs.Slots.{is_kept_of, slot_at}
-use Rattle.descriptor_table.specs.Tables.{Settings, count, removed_at, vacated}
+use Rattle.descriptor_table.specs.Slots.{slot_at}
+use Rattle.descriptor_table.specs.Tables.{Settings, removed_at, vacated}
 use Rattle.descriptor_table.proofs.Listed.{other_slots, slot_set}
 use Rattle.descriptor_manager.specs.LayoutRegistries.{layout_slots, layouts_by}
 use Rattle.descriptor_manager.specs.Own.{AreCounted, AreOwn}
@@ -19,17 +20,10 @@ here g c = layout_here c.args.self.now.layouts c.args.layout c.in-Some.removed c
 
 -- and leaves its slot
 gone : (g : Over) (c : After-place g) → slot_at (layout_slots c.remove.new.self) c.place.result ≡ vacated (slot_at (layout_slots c.args.self.now.layouts) c.place.result)
-gone g c =
-    let layouts = layout_slots c.args.self.now.layouts in
-    let within = layout_within layouts c.place.result c.in-Some.removed (here g c) in
-    subst (λ p. slot_at (layout_slots c.remove.new.self) p ≡ vacated (slot_at layouts p)) (sym c.place.ensures) (
-    ap (λ l. slot_at l c.args.layout.slot.place) (c.in-Some.ensures.slots refl) ∙ slot_set layouts c.args.layout.slot.place (vacated (slot_at layouts c.args.layout.slot.place)) (let at = c.place.ensures in omega arith))
+gone g c = grind (arith, common_steps, here, layout_within, slot_set)
 
 others : (g : Over) (c : After-place g) (n : ℕ) → n ≢ c.place.result → slot_at (layout_slots c.remove.new.self) n ≡ slot_at (layout_slots c.args.self.now.layouts) n
-others g c n ne =
-    let layouts = layout_slots c.args.self.now.layouts in
-    let p = c.args.layout.slot.place in
-    ap (λ l. slot_at l n) (c.in-Some.ensures.slots refl) ∙ other_slots layouts p (vacated (slot_at layouts p)) n (λ e. ne (e ∙ sym c.place.ensures))
+others g c n ne = grind (arith, common_steps, other_slots)
 
 pub invariant_of-self-clause-sets : goal.invariant_of-self-clause-sets
 invariant_of-self-clause-sets g c =
@@ -59,9 +53,7 @@ invariant_of-self-clause-sets g c =
     }
 
 pub returns-in-Some-clause-none_kept : goal.returns-in-Some-clause-none_kept
-returns-in-Some-clause-none_kept g c =
-    let new = slots_in c.remove_layout.new.self in
-    subst (λ p. count (is_kept_of p) new ≡ 0) c.place.ensures (removed_none c.place.result (slots_in c.args.self.now.store) new c.remove_layout.ensures.removes.turns)
+returns-in-Some-clause-none_kept g c = grind (arith, common_steps, removed_none)
 
 pub returns-in-Some-clause-names : goal.returns-in-Some-clause-names
 returns-in-Some-clause-names g c =

@@ -1,4 +1,5 @@
-use Rattle.std.proofs.Common.{◌≡◌, ◌<◌, ℕ, zero, suc, [], ◌∷◌, length, List, inl, inr, true, refl, arith}
+use Rattle.std.proofs.lemmas.Grind.{common_steps}
+use Rattle.std.proofs.Common.{◌≡◌, ◌<◌, ℕ, zero, suc, [], ◌∷◌, length, List, true, refl, arith}
 use Rattle.gpu_descriptor.proofs.request.Passed.{passed}
 use Rattle.descriptor_table.specs.Slots.{is_kept_of, slot_at}
 use Rattle.descriptor_table.specs.Tables.{place_at}
@@ -7,7 +8,7 @@ use Rattle.descriptor_manager.proofs.Bringing.{Brings, brought}
 use Rattle.descriptor_manager.proofs.Requests.{from_asked, from_refused}
 use Rattle.descriptor_manager.proofs.store.Store.allocate_new.Given.{Over}
 use Rattle.descriptor_manager.proofs.store.Store.allocate_new.Goals as goal
-use Rattle.descriptor_manager.proofs.store.Store.allocate_new.Goals.{After-hold_last, In_ok-bring}
+use Rattle.descriptor_manager.proofs.store.Store.allocate_new.Goals.{In_ok-bring}
 
 no_more : {A : Type 0} (l : List A) → length l ≡ 0 → l ≡ []
 no_more [] long = refl
@@ -15,10 +16,7 @@ no_more (x ∷ l) long = absurd (omega arith)
 
 -- one set is on its way
 one : (g : Over) (c : In_ok-bring g) → length c.bring.new.self.coming.items ≡ 1
-one g c = elim c.in_ok-bring.ensures.asks [
-  | inl once ↦ (let many = once.hands_out.many in let short = c.requires.short in omega arith)
-  | inr later ↦ (let many = later.2.hands_out.many in omega arith)
-]
+one g c = grind (arith, common_steps)
 
 brings : (g : Over) (c : In_ok-bring g) → Brings c.args.known.now.layout c.args.layout 1 c.args.self.now c.bring.new.self
 brings g c = brought c.args.known.now.layout c.args.layout 1 c.args.self.now c.bring.new.self c.requires.short c.in_ok-bring.ensures.asks

@@ -1,3 +1,4 @@
+use Rattle.std.proofs.lemmas.Grind.{common_steps}
 use Rattle.std.proofs.Common.{◌≡◌, ℕ, ◌<◌, ◌++◌, ◌∙◌, true, length, sym, ap, subst, arith}
 use Rattle.std.proofs.lemmas.List.{get_or_append_left, length-append}
 use Rattle.gpu_descriptor.specs.Caller.Sets.{AreOfLayout}
@@ -23,10 +24,7 @@ both : (g : Over) (c : After-hold_coming g) → g.N.SetName.handles_of (c.hold_k
 both g c = handles_both g.N.SetName g.met.N.SetName.each c.hold_kept.new.names c.hold_coming.new.names
 
 all_held : (g : Over) (c : After-hold_coming g) → HoldEach c.bring.new.self.table.number (current_in c.args.layout c.bring.new.self) c.args.used (g.N.SetName.handles_of (c.hold_kept.new.names ++ c.hold_coming.new.names)) (slots_in c.bring.new.self) (slots_in c.hold_coming.new.self)
-all_held g c =
-    let brought = c.bring.new.self in
-    subst (λ h. HoldEach brought.table.number (current_in c.args.layout brought) c.args.used h (slots_in brought) (slots_in c.hold_coming.new.self)) (sym (both g c))
-    (held_both c.args.layout c.args.used c.requires.live (g.N.SetName.handles_of c.hold_kept.new.names) (g.N.SetName.handles_of c.hold_coming.new.names) brought c.hold_kept.new.self c.hold_coming.new.self c.hold_kept.ensures.keeps.stays c.hold_kept.ensures.holds c.hold_coming.ensures.holds)
+all_held g c = grind (arith, common_steps, both, brought, held_both)
 
 -- the kept ones have the first handles
 first : (g : Over) (c : After-hold_coming g) (i : ℕ) → i < length (g.N.SetName.handles_of (c.hold_kept.new.names ++ c.hold_coming.new.names)) → i < kept_of c.args.layout c.bring.new.self → is_kept_of c.args.layout (slot_at (slots_in c.bring.new.self) (place_at (g.N.SetName.handles_of (c.hold_kept.new.names ++ c.hold_coming.new.names)) i)) ≡ true

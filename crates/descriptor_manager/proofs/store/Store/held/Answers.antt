@@ -1,4 +1,5 @@
-use Rattle.std.proofs.Common.{◌≡◌, ◌+◌, length, ap, arith}
+use Rattle.std.proofs.lemmas.Grind.{common_steps}
+use Rattle.std.proofs.Common.{◌≡◌, ◌+◌, arith}
 use Rattle.gpu_descriptor.specs.Caller.States.{outstanding_of}
 use Rattle.descriptor_table.specs.Slots.{waits}
 use Rattle.descriptor_table.specs.Tables.{count, holds, is_kept}
@@ -10,11 +11,7 @@ use Rattle.descriptor_manager.proofs.store.Store.held.Goals.{After-waiting}
 
 -- as many sets are live in the allocator as are held, wait and are kept
 all : (g : Over) (c : After-waiting g) → outstanding_of c.args.self.now.allocator ≡ count holds (slots_in c.args.self.now) + (count waits (slots_in c.args.self.now) + count is_kept (slots_in c.args.self.now))
-all g c =
-    let n = placed_count (slots_in c.args.self.now) c.requires.placed in
-    let none = ap length c.requires.none_coming in
-    let total = c.args.self.now.accounted in
-    omega arith
+all g c = grind (arith, common_steps, placed_count)
 
 pub overflow_sub-result : goal.overflow_sub-result
 overflow_sub-result g c = let n = all g c in omega arith

@@ -1,4 +1,5 @@
-use Rattle.std.proofs.Common.{◌+◌, ◌∙◌, [], ◌∷◌, inl, refl, sym, subst, take, arith}
+use Rattle.std.proofs.lemmas.Grind.{common_steps}
+use Rattle.std.proofs.Common.{◌+◌, ◌∙◌, [], ◌∷◌, sym, subst, take, arith}
 use Rattle.std.proofs.lemmas.List.{length-set}
 use Rattle.descriptor_table.proofs.Names.{handles_long, handles_written}
 use Rattle.descriptor_manager.specs.Stores.{HoldEach, ComesOf, current_in, slots_in}
@@ -7,15 +8,7 @@ use Rattle.descriptor_manager.proofs.Joining.{held_full, held_next, held_start, 
 use Rattle.descriptor_manager.proofs.store.Store.hold_coming.Goals as goal
 
 pub loop-index-init : goal.loop-index-init
-loop-index-init g c = record {
-  long = refl;
-  holds = held_start c.args.layout c.args.used c.args.self.now;
-  fewer = omega arith;
-  own = λ known own. own;
-  table = c.requires.can.table;
-  stays = store_same c.args.self.now;
-  keeps = λ known own. record { side = refl; sets = λ p x e. inl (e, refl); grows = inl refl; stays = store_same c.args.self.now };
-}
+loop-index-init g c = grind (arith, common_steps, held_start, store_same)
 
 pub loop-index-preserved : goal.loop-index-preserved
 loop-index-preserved g c =

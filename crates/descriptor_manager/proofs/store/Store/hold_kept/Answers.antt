@@ -1,4 +1,5 @@
-use Rattle.std.proofs.Common.{◌≡◌, ℕ, ◌+◌, ◌<◌, ◌∙◌, [], ◌∷◌, true, inl, refl, sym, subst, take, arith}
+use Rattle.std.proofs.lemmas.Grind.{common_steps}
+use Rattle.std.proofs.Common.{◌≡◌, ℕ, ◌+◌, ◌<◌, ◌∙◌, [], ◌∷◌, true, refl, sym, subst, take, arith}
 use Rattle.std.proofs.lemmas.List.{length-set}
 use Rattle.descriptor_table.specs.Slots.{is_kept_of, slot_at}
 use Rattle.descriptor_table.specs.Tables.{place_at}
@@ -9,16 +10,7 @@ use Rattle.descriptor_manager.proofs.Joining.{held_next, held_start, kept_then, 
 use Rattle.descriptor_manager.proofs.store.Store.hold_kept.Goals as goal
 
 pub loop-index-init : goal.loop-index-init
-loop-index-init g c = record {
-  long = refl;
-  holds = held_start c.args.layout c.args.used c.args.self.now;
-  were_kept = λ i lt. absurd (omega arith);
-  fewer = omega arith;
-  as_many = refl;
-  table = λ n room. room;
-  keeps = record { side = refl; sets = λ p x e. inl (e, refl); grows = inl refl; stays = store_same c.args.self.now };
-  coming = refl;
-}
+loop-index-init g c = grind (arith, common_steps, held_start, store_same, were_kept)
 
 pub loop-index-preserved : goal.loop-index-preserved
 loop-index-preserved g c =

@@ -1,4 +1,5 @@
-use Rattle.std.proofs.Common.{◌≡◌, ◌<◌, inl, length, refl, sym, ap, ◌∙◌, rules}
+use Rattle.std.proofs.lemmas.Grind.{common_steps}
+use Rattle.std.proofs.Common.{◌≡◌, ◌<◌, inl, length, refl, sym, ap, ◌∙◌, rules, arith}
 use Rattle.std.proofs.lemmas.List.{length-set}
 use Rattle.descriptor_table.specs.Sets.{sets_in}
 use Rattle.descriptor_table.specs.Slots.{is_kept_of, slot_at}
@@ -22,11 +23,7 @@ within g c = test_within (is_kept_of c.args.layout) (slots_in c.args.self.now) (
 
 -- its layout has the number now
 under : (g : Over) (c : After-hold_kept g) → came_under (slot_at (slots_in c.args.self.now) (handle g c).place) ≡ current_in c.args.layout c.args.self.now
-under g c =
-    let s = c.args.self.now in
-    let kept = kept_as c.args.layout (slot_at (slots_in s) (handle g c).place) c.hold_kept.ensures.kept in
-    let now = (s.table.sound.known (handle g c).place (within g c)).kept kept.2 in
-    λ i. (kept.1 i, (now ∙ ap (λ n. (current_in n s).1) kept.1) i)
+under g c = grind (arith, common_steps, handle, kept_as, within)
 
 same_sets : (g : Over) (c : After-hold_kept g) → sets_in (slots_of c.hold_kept.new.self) ≡ sets_in (slots_in c.args.self.now)
 same_sets g c = renewed_sets c.args.self.now.table.number (handle g c).place c.args.used (handle g c) (slots_in c.args.self.now) (slots_of c.hold_kept.new.self) c.hold_kept.ensures.renews

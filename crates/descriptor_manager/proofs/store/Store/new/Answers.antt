@@ -1,7 +1,8 @@
-use Rattle.std.proofs.Common.{◌≡◌, [], ◌∙◌, length, map, ap, arith}
+use Rattle.std.proofs.lemmas.Grind.{common_steps}
+use Rattle.std.proofs.Common.{◌≡◌, [], ◌∙◌, map, ap, arith}
 use Rattle.gpu_descriptor.specs.Caller.Others.{others_of}
 use Rattle.gpu_descriptor.specs.Caller.Sets.{items_of}
-use Rattle.gpu_descriptor.specs.Caller.States.{named_row, outstanding_of, state_of}
+use Rattle.gpu_descriptor.specs.Caller.States.{named_row, state_of}
 use Rattle.gpu_descriptor.specs.Model.Agreement.{count_of}
 use Rattle.gpu_descriptor.specs.Model.Books.{books_of}
 use Rattle.gpu_descriptor.proofs.release.Places.{none_out}
@@ -27,11 +28,7 @@ invariant_of-result-clause-exact g c = λ t.
     omega arith
 
 pub invariant_of-result-clause-accounted : goal.invariant_of-result-clause-accounted
-invariant_of-result-clause-accounted g c =
-    let none = ap outstanding_of c.set_max_pool_descriptors.ensures.value ∙ ap outstanding_of c.new-allocator.ensures.value in
-    let slots = ap (λ l. length (sets_in l)) c.new.ensures.slots in
-    let coming = ap length c.new-2.ensures.items in
-    omega arith
+invariant_of-result-clause-accounted g c = grind (arith, common_steps)
 
 pub returns-clause-besides : goal.returns-clause-besides
 unfolding others_of

@@ -11,7 +11,7 @@ use Rattle.descriptor_manager.proofs.Following.{follow_turns, follows_vacated}
 use Rattle.descriptor_manager.proofs.Settling.{settled}
 use Rattle.descriptor_manager.proofs.store.Store.remove_layout.Given.{Over}
 use Rattle.descriptor_manager.proofs.store.Store.remove_layout.Goals as goal
-use Rattle.descriptor_manager.proofs.store.Store.remove_layout.Goals.{After-give, After-remove_layout}
+use Rattle.descriptor_manager.proofs.store.Store.remove_layout.Goals.{After-remove_layout}
 
 same_sets : (g : Over) (c : After-remove_layout g) → sets_in (slots_of c.remove_layout.new.self) ≡ sets_in (slots_in c.give.new.self)
 same_sets g c = ap (λ v. sets_in (table.slots_in v)) c.remove_layout.ensures.only.slots

@@ -1,3 +1,4 @@
+use Rattle.std.proofs.lemmas.Grind.{common_steps}
 use Rattle.std.proofs.Common.{◌≡◌, ◌+◌, ◌-◌, ◌∙◌, ap, subst, arith, rules}
 use Rattle.descriptor_table.specs.Sets.{sets_in}
 use Rattle.descriptor_table.specs.Slots.{goes, is_in, chains_in, nexts_in, slots_in}
@@ -48,10 +49,7 @@ returns-clause-few g c = λ layout.
     omega arith
 
 pub returns-clause-as_many : goal.returns-clause-as_many
-returns-clause-as_many g c = λ layout n le has.
-    let same = given_kept (slots_of c.trim.new.self) (slots_of c.give.new.self.table) (gives g c) (layout + 2) (omega arith) in
-    let more = c.trim.ensures.as_many layout n le has in
-    omega arith
+returns-clause-as_many g c = grind (arith, common_steps, given_kept, gives)
 
 pub returns-clause-settles : goal.returns-clause-settles
 returns-clause-settles g c =

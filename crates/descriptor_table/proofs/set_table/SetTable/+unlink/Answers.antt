@@ -1,7 +1,7 @@
 use Rattle.std.proofs.lemmas.Grind.{common_steps}
-use Rattle.std.proofs.Common.{◌≡◌, ◌≢◌, ◌∙◌, ◌+◌, ◌<◌, ℕ, Bool, true, inl, inr, is_some, length, List, refl, sym, ap, subst, arith}
+use Rattle.std.proofs.Common.{◌≡◌, ◌≢◌, ◌∙◌, ◌+◌, ◌<◌, ℕ, true, length, List, refl, sym, ap, arith, rules}
 use Rattle.std.proofs.lemmas.List.{length-set}
-use Rattle.descriptor_table.specs.Slots.{Slot, chains_in, in_list, is_in, nexts_in, slot_at, slots_in}
+use Rattle.descriptor_table.specs.Slots.{Slot, chains_in, is_in, nexts_in, slot_at, slots_in}
 use Rattle.descriptor_table.specs.Tables.{Settings, Picks, count, is_kept, slots_of, used_for}
 use Rattle.descriptor_table.specs.declared.slot.Use.{Use}
 use Rattle.descriptor_table.specs.declared.slot.Use.TheVariants.{Taken}
@@ -15,10 +15,7 @@ use Rattle.descriptor_table.proofs.set_table.SetTable.+unlink.Goals as goal
 
 -- two slots of one list of sets are in the same use
 one_use : {T : Type 0} (k : ℕ) (a b : Slot T) → k ≢ 0 → is_in k a ≡ true → is_in k b ≡ true → a.used ≡ b.used
-one_use k a b some e f = by_use a.used b.used a.layout b.layout a.generation b.generation (is_some a.set) (is_some b.set) e f
-  where
-    by_use : (u v : Use) (l m g h : ℕ) (x y : Bool) → in_list k u l g x ≡ true → in_list k v m h y ≡ true → u ≡ v
-    by_use u v l m g h x y e f = grind (arith, common_steps)
+one_use k a b some e f = search rules
 
 -- `old` are the slots before, `mid` once the first was picked, `out` once the slot at the place left the list, `new` at the end
 module _ {T : Type 0} (k first place : ℕ) (used : Use) (old mid : List (Slot T)) (some : k ≢ 0) (picks : Picks (is_in k) first old mid) (ne : first ≢ place) (listed : is_in k (slot_at old place) ≡ true) (is : (slot_at old place).used ≡ used) where
@@ -30,47 +27,22 @@ module _ {T : Type 0} (k first place : ℕ) (used : Use) (old mid : List (Slot T
 
   -- one slot of the list fewer
   fewer : count (is_in k) mid + 1 ≡ count (is_in k) old
-  fewer =
-      let o = slot_at old first in
-      let a = count_set (is_in k) old first (used_for Taken o) picks.within in
-      let b = ap bit picks.was in
-      let d = ap bit (taken_no_list (used_for Taken o) refl k) in
-      let e = ap (count (is_in k)) picks.slots in
-      omega arith
+  fewer = grind (arith, common_steps, bit, count_set, taken_no_list)
 
   module _ (out : List (Slot T)) (left : out ≡ with_use place Taken mid) where
     -- and then another one
     fewer_still : count (is_in k) out + 1 ≡ count (is_in k) mid
-    fewer_still =
-        let m = slot_at mid place in
-        let a = count_set (is_in k) mid place (used_for Taken m) there in
-        let b = ap bit (ap (is_in k) as_was ∙ listed) in
-        let d = ap bit (taken_no_list (used_for Taken m) refl k) in
-        let e = ap (count (is_in k)) left in
-        omega arith
+    fewer_still = grind (arith, common_steps, as_was, bit, count_set, taken_no_list, there)
 
     -- the first slot with its use again is what it was
     first_again : used_for used (slot_at out first) ≡ slot_at old first
-    first_again =
-        let o = slot_at old first in
-        ap (used_for used) (ap (λ l. slot_at l first) left ∙ other_slots mid place (used_for Taken (slot_at mid place)) first ne ∙ ap (λ l. slot_at l first) picks.slots ∙ slot_set old first (used_for Taken o) picks.within)
-        ∙ used_same o used (one_use k o (slot_at old place) some picks.was listed ∙ is)
+    first_again = grind (arith, common_steps, one_use, other_slots, slot_set, used_same)
 
     long : length out ≡ length old
     long = ap length left ∙ length-set mid place (used_for Taken (slot_at mid place)) ∙ ap length picks.slots ∙ length-set old first (used_for Taken (slot_at old first))
 
     all_back : (new : List (Slot T)) → new ≡ with_use first used out → new ≡ with_use place Taken old
-    all_back new made = all_same new (with_use place Taken old) (ap length made ∙ length-set out first (used_for used (slot_at out first)) ∙ long ∙ sym (length-set old place (used_for Taken (slot_at old place)))) each
-      where
-        each : (q : ℕ) → slot_at new q ≡ slot_at (with_use place Taken old) q
-        each q = elim (same_or q first) [
-          | inl e ↦ subst (λ q. slot_at new q ≡ slot_at (with_use place Taken old) q) (sym e)
-              (ap (λ l. slot_at l first) made ∙ slot_set out first (used_for used (slot_at out first)) (let within = picks.within in let same = long in omega arith) ∙ first_again ∙ sym (other_slots old place (used_for Taken (slot_at old place)) first ne))
-          | inr far ↦ ap (λ l. slot_at l q) made ∙ other_slots out first (used_for used (slot_at out first)) q far ∙ ap (λ l. slot_at l q) left ∙ elim (same_or q place) [
-            | inl e ↦ subst (λ q. slot_at (with_use place Taken mid) q ≡ slot_at (with_use place Taken old) q) (sym e) (slot_set mid place (used_for Taken (slot_at mid place)) there ∙ ap (used_for Taken) as_was ∙ sym (slot_set old place (used_for Taken (slot_at old place)) (test_within (is_in k) old place refl listed)))
-            | inr apart ↦ other_slots mid place (used_for Taken (slot_at mid place)) q apart ∙ ap (λ l. slot_at l q) picks.slots ∙ other_slots old first (used_for Taken (slot_at old first)) q far ∙ sym (other_slots old place (used_for Taken (slot_at old place)) q apart)
-          ]
-        ]
+    all_back new made = search (rules, all_same, as_was, first_again, length-set, long, other_slots, same_or, slot_set, test_within, there, with_use)
 
 pub unlink-requires : goal.unlink-requires
 unlink-requires g t c κs within =
@@ -81,9 +53,7 @@ unlink-requires g t c κs within =
     (omega (arith, fewer c.args.list c.in-Some.first c.args.place c.args.used old mid c.requires.list picks c.if-first-place.false c.requires.listed c.requires.used), (within, (c.requires.list, (ap (is_in c.args.list) same ∙ c.requires.listed, ap (λ s. s.used) same ∙ c.requires.used))))
 
 pub link-requires-clause-goes : goal.link-requires-clause-goes
-link-requires-clause-goes g t c =
-    let picks = c.in-Some.ensures.slots in
-    ap (is_in c.args.list) (first_again c.args.list c.in-Some.first c.args.place c.args.used (slots_of c.args.self.now) (slots_of c.pick.new.self) c.requires.list picks c.if-first-place.false c.requires.listed c.requires.used (slots_of c.unlink.new.self) c.unlink.ensures.slots) ∙ picks.was
+link-requires-clause-goes g t c = grind (arith, common_steps, first_again)
 
 pub link-requires-clause-current : goal.link-requires-clause-current
 link-requires-clause-current g t c = λ kept.

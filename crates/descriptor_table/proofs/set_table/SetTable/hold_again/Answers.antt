@@ -1,10 +1,10 @@
-use Rattle.std.proofs.Common.{◌∙◌, ◌<◌, ℕ, length, ap, subst}
+use Rattle.std.proofs.lemmas.Grind.{common_steps}
+use Rattle.std.proofs.Common.{◌∙◌, ◌<◌, ℕ, length, ap, arith}
 use Rattle.descriptor_table.specs.Tables.{At, Changes, slots_of, used_for}
 use Rattle.descriptor_table.specs.declared.set_table.SetTable.{SetTable}
 use Rattle.descriptor_table.specs.declared.slot.Use.TheVariants.{Held, Taken}
 use Rattle.descriptor_table.proofs.Listed.{with_use}
 use Rattle.descriptor_table.proofs.Turning.{stays_more, use_again}
-use Rattle.descriptor_table.proofs.set_table.SetTable.hold_again.Goals.{in-Kept, in-Going, in-Held}
 use Rattle.descriptor_table.proofs.set_table.SetTable.hold_again.Goals as goal
 
 -- a slot that left its list is held
@@ -12,12 +12,4 @@ held_then : {T : Type 0} (p : ℕ) (a b c : SetTable T) → p < length (slots_of
 held_then p a b c within first last = record { slots = last.slots ∙ ap (with_use p Held) first.slots ∙ use_again (slots_of a) p Taken Held within; stays = stays_more a b c first.stays last.stays }
 
 pub returns : goal.returns
-returns g c =
-    let p = c.args.place in
-    let s = c.args.self.now in
-    let new = c.assign.new.self in
-    elim c.match-used.branch [
-      | in-Kept w ↦ held_then p s w.unlink.new.self new c.requires.within w.unlink.ensures (subst (λ t. Changes (At p (used_for Held)) t new) w.self-is c.assign.ensures)
-      | in-Going w ↦ held_then p s w.unlink-in-Going.new.self new c.requires.within w.unlink-in-Going.ensures (subst (λ t. Changes (At p (used_for Held)) t new) w.self-is c.assign.ensures)
-      | in-Held w ↦ subst (λ t. Changes (At p (used_for Held)) t new) w.self-is c.assign.ensures
-    ]
+returns g c = grind (arith, common_steps, held_then)

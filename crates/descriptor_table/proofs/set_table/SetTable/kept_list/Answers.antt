@@ -1,3 +1,4 @@
+use Rattle.std.proofs.lemmas.Grind.{common_steps}
 use Rattle.std.proofs.Common.{◌+◌, ap, arith, ◌∙◌}
 use Rattle.descriptor_table.specs.Slots.{chains_in, nexts_in, slots_in}
 use Rattle.descriptor_table.specs.declared.slot.Chain.{Chain}
@@ -12,8 +13,4 @@ returns-clause-count g c =
     ∙ chain_count (slots_in s.slots) (nexts_in s.slots) (chains_in s.lists.items) s.sound.linked (c.args.layout + 2)
 
 pub returns-clause-few : goal.returns-clause-few
-returns-clause-few g c =
-    let s = c.args.self.now in
-    let read = ap (λ (d : Chain). d.count) (chain_was s.lists.items (c.args.layout + 2) c.index.result.now c.index.ensures c.requires) in
-    let few = s.sound.few (c.args.layout + 2) (omega arith) in
-    omega arith
+returns-clause-few g c = grind (arith, common_steps, chain_was)

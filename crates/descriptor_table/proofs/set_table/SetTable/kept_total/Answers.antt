@@ -1,3 +1,4 @@
+use Rattle.std.proofs.lemmas.Grind.{common_steps}
 use Rattle.std.proofs.Common.{◌≡◌, ◌+◌, sym, ap, ◌∙◌, arith}
 use Rattle.std.proofs.lemmas.List.{length-map}
 use Rattle.descriptor_table.specs.declared.slot.ListHead.{ListHead}
@@ -23,12 +24,7 @@ pub loop-list-init : goal.loop-list-init
 loop-list-init g c = sym (kept_start (slots_in c.args.self.now.slots))
 
 pub overflow_add-total : goal.overflow_add-total
-overflow_add-total g c =
-    let s = c.args.self.now in
-    let is = total g c in
-    let few = count_few (kept_below (c.loop-list.list + 1)) (slots_in s.slots) in
-    let slots = s.sound.sized.few in
-    omega arith
+overflow_add-total g c = grind (arith, common_steps, count_few, kept_below, total)
 
 pub loop-list-preserved : goal.loop-list-preserved
 loop-list-preserved g c = total g c

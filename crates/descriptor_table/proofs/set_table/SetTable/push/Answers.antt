@@ -1,3 +1,4 @@
+use Rattle.std.proofs.lemmas.Grind.{common_steps}
 use Rattle.std.proofs.Common.{◌∙◌, ◌++◌, ◌∷◌, [], length, refl, ap, arith, rules}
 use Rattle.std.proofs.lemmas.List.{length_push}
 use Rattle.descriptor_table.specs.Slots.{Slot, slots_in, taken_slot, chains_in, generations_in}
@@ -15,10 +16,7 @@ abbrev put_slot : (g : _) (c : After-generation-layout_generation g) → Slot g.
 put_slot g c = taken_slot 0 c.args.layout c.generation-layout_generation.result c.args.set
 
 pub push-requires : goal.push-requires
-push-requires g c =
-    let full = none_count is_usable (slots_in c.args.self.now.slots) c.requires.full in
-    let room = c.requires.room.slots in
-    omega arith
+push-requires g c = grind (arith, common_steps, none_count)
 
 pub invariant_of-self : goal.invariant_of-self
 invariant_of-self g c =

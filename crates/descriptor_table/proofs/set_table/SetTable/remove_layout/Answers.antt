@@ -1,4 +1,5 @@
-use Rattle.std.proofs.Common.{◌≡◌, ◌+◌, ◌<◌, ◌≤◌, inl, inr, length, set, refl, sym, ap, subst, ◌∙◌, arith}
+use Rattle.std.proofs.lemmas.Grind.{common_steps}
+use Rattle.std.proofs.Common.{◌≡◌, ◌+◌, ◌<◌, ◌≤◌, inl, inr, length, set, refl, ap, subst, ◌∙◌, arith}
 use Rattle.std.proofs.Math.Seq.{map-set_same}
 use Rattle.std.proofs.lemmas.List.{get_or-map, length-map, map-set}
 use Rattle.descriptor_table.specs.Slots.{AreSound, chains_in, generation_at, generations_in, slot_at, slots_in}
@@ -20,12 +21,7 @@ chains : (g : _) (c : After-index_mut g) → chains_in (set c.args.self.now.list
 chains g c = map-set_same (λ (h : ListHead). h.chain) c.args.self.now.lists.items (c.args.layout + 2) (new_head g c) c.index_mut.result.now (ap (λ (h : ListHead). h.chain) c.index_mut.ensures.value)
 
 generations : (g : _) (c : After-index_mut g) → generations_in (set c.args.self.now.lists.items (c.args.layout + 2) (new_head g c)) ≡ set (generations_in c.args.self.now.lists.items) (c.args.layout + 2) (generation_at (generations_in c.args.self.now.lists.items) c.args.layout + 1)
-generations g c =
-    let lists = c.args.self.now.lists.items in
-    let there = within g c in
-    let long = length-map lists (λ (h : ListHead). h.generation) in
-    let was : c.index_mut.result.now.generation ≡ generation_at (generations_in lists) c.args.layout = ap (λ (h : ListHead). h.generation) c.index_mut.ensures.value ∙ sym (get_or-map (λ (h : ListHead). h.generation) lists (c.args.layout + 2) c.index_mut.result.now 0 (omega arith)) in
-    map-set (λ (h : ListHead). h.generation) lists (c.args.layout + 2) (new_head g c) ∙ ap (λ n. set (generations_in lists) (c.args.layout + 2) (n + 1)) was
+generations g c = grind (arith, common_steps, get_or-map, length-map, map-set, new_head, within)
 
 pub invariant_of-self : goal.invariant_of-self
 invariant_of-self g c =

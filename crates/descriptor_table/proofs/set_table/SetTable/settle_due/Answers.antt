@@ -1,4 +1,5 @@
-use Rattle.std.proofs.Common.{◌≡◌, ◌∙◌, ap}
+use Rattle.std.proofs.lemmas.Grind.{common_steps}
+use Rattle.std.proofs.Common.{◌≡◌, arith}
 use Rattle.descriptor_table.specs.Slots.{is_due, slot_at}
 use Rattle.descriptor_table.specs.Tables.{IsBack, generations_of, next_use, slots_of, used_for}
 use Rattle.descriptor_table.proofs.Turning.{due_not_listed, one_fewer, same_next, settled_grows, settled_here, settled_not_due, settled_set, stays_more, turn_step}
@@ -9,10 +10,7 @@ use Rattle.descriptor_table.proofs.set_table.SetTable.settle_due.Goals as goal
 
 -- the set that was picked settled
 settled : (g : _) (c : After-settle g) → slots_of c.settle.new.self ≡ with_use c.in-Some.place (next_use (generations_of c.args.self.now) c.args.self.now.keep (slots_of c.pick_due.new.self) c.in-Some.place) (slots_of c.pick_due.new.self)
-settled g c =
-    let mid = slots_of c.pick_due.new.self in
-    let stays = stays_more c.args.self.now c.loop-place.self c.pick_due.new.self c.loop-place.invariant.stays c.in-Some.ensures.stays in
-    c.settle.ensures.slots ∙ ap (λ u. with_use c.in-Some.place u mid) (same_next c.args.self.now c.pick_due.new.self stays.settings mid c.in-Some.place)
+settled g c = grind (arith, common_steps, same_next, stays_more, with_use)
 
 pub loop-place-preserved : goal.loop-place-preserved
 loop-place-preserved g c =

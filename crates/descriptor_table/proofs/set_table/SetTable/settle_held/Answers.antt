@@ -1,3 +1,4 @@
+use Rattle.std.proofs.lemmas.Grind.{common_steps}
 use Rattle.std.proofs.Common.{◌≡◌, ◌<◌, ℕ, false, get_or, length, is_some, refl, sym, ap, subst, ◌∙◌, arith}
 use Rattle.std.proofs.lemmas.Bool.{false≢true}
 use Rattle.descriptor_table.specs.Sets.{is_held}
@@ -28,10 +29,7 @@ holds : (g : _) (c : After-holds g) → c.holds.result ≡ is_held c.args.self.n
 holds g c = subst (λ n. c.holds.result ≡ is_held n (slots_of c.loop-index.self) c.handle-handle.result) (ap (λ (s : Settings). s.number) c.loop-index.invariant.stays.settings) c.holds.ensures
 
 pub loop-index-init : goal.loop-index-init
-loop-index-init g c = record {
-  some = turned_none c.args.self.now.number (g.N.SetName.handles_of c.args.names.now) (IsBack (used_for Going) (generations_of c.args.self.now) c.args.self.now.keep) (slots_of c.args.self.now);
-  stays = stays_same c.args.self.now;
-}
+loop-index-init g c = grind (arith, common_steps, stays_same, turned_none)
 
 pub loop-index-preserved : goal.loop-index-preserved
 loop-index-preserved g c =

@@ -1,7 +1,8 @@
-use Rattle.std.proofs.Common.{◌≡◌, ◌<◌, ◌≤◌, ◌∙◌, get_or, inl, length, refl, sym, ap, subst, arith}
+use Rattle.std.proofs.lemmas.Grind.{common_steps}
+use Rattle.std.proofs.Common.{◌≡◌, ◌<◌, ◌≤◌, ◌∙◌, get_or, length, refl, sym, ap, subst, arith}
 use Rattle.std.proofs.lemmas.Bool.{false≢true}
 use Rattle.descriptor_table.specs.Sets.{is_held}
-use Rattle.descriptor_table.specs.Slots.{IsNowhere, Slot, slot_at}
+use Rattle.descriptor_table.specs.Slots.{slot_at}
 use Rattle.descriptor_table.specs.Tables.{Settings, Becomes, ChangeUse, slots_of, used_for}
 use Rattle.descriptor_table.specs.declared.handle.SetHandle.{SetHandle}
 use Rattle.descriptor_table.specs.declared.slot.Use.TheVariants.{Taken}
@@ -23,10 +24,7 @@ holds : (g : _) (c : After-holds g) → c.holds.result ≡ is_held c.args.self.n
 holds g c = subst (λ n. c.holds.result ≡ is_held n (slots_of c.loop-index.self) c.handle-handle.result) (ap (λ (s : Settings). s.number) c.loop-index.invariant.stays.settings) c.holds.ensures
 
 pub loop-index-init : goal.loop-index-init
-loop-index-init g c = record {
-  some = turned_none c.args.self.now.number (g.N.SetName.handles_of c.args.names.now) (Becomes (used_for Taken)) (slots_of c.args.self.now);
-  stays = stays_same c.args.self.now;
-}
+loop-index-init g c = grind (arith, common_steps, stays_same, turned_none)
 
 pub loop-index-preserved : goal.loop-index-preserved
 loop-index-preserved g c =
@@ -44,10 +42,7 @@ loop-index-preserved g c =
 
 -- the sets of the names so far changed in their use alone
 change : (g : _) (c : At-loop-index g) → c.loop-index.index ≤ length (g.N.SetName.handles_of c.args.names.now) → ChangeUse (g.N.SetName.handles_of c.args.names.now) c.loop-index.index (slots_of c.args.self.now) (slots_of c.loop-index.self)
-change g c le =
-    changed c.args.self.now.number (g.N.SetName.handles_of c.args.names.now) (Becomes (used_for Taken)) c.loop-index.index (slots_of c.args.self.now) (slots_of c.loop-index.self) le
-    (λ o x held is. (is ∙ ap (λ u. used_for u o) (sym (ap (λ (s : Slot g.row.T.Denot). s.used) is)), inl (subst IsNowhere (sym (ap (λ (s : Slot g.row.T.Denot). s.used) is)) tt)))
-    c.loop-index.invariant.some
+change g c le = grind (arith, common_steps, changed)
 
 pub put_back-requires-clause-changed : goal.put_back-requires-clause-changed
 put_back-requires-clause-changed g c =

@@ -1,4 +1,5 @@
-use Rattle.std.proofs.Common.{◌≡◌, ◌&&◌, ◌<◌, is_some, length, false, true, get_or, slice_set, refl, sym, ap, subst, ◌∙◌, arith}
+use Rattle.std.proofs.lemmas.Grind.{common_steps}
+use Rattle.std.proofs.Common.{◌≡◌, ◌<◌, is_some, length, false, true, get_or, slice_set, refl, sym, ap, subst, ◌∙◌, arith}
 use Rattle.std.proofs.lemmas.List.Edits.{insert_end}
 use Rattle.descriptor_table.specs.Slots.{IsQueue, Slot, frame_of, slot_at, slots_in, waits, waits_for}
 use Rattle.descriptor_table.specs.declared.slot.Use.{Use}
@@ -9,11 +10,7 @@ use Rattle.descriptor_table.proofs.set_table.waiting.enqueue.Goals.{After-frame-
 
 -- whether a set in this use waits
 waits_in : {T : Type 0} (s : Slot T) (used : Use) (b : _) → s.used ≡ used → is_some s.set ≡ true → waits_for (λ f. true) used ≡ b → waits s ≡ b
-waits_in s used b is full e = ap (λ u. waits_for (λ f. true) u && is_some s.set) is ∙ ap (λ x. waits_for (λ f. true) used && x) full ∙ and_true (waits_for (λ f. true) used) ∙ e
-  where
-    and_true : (b : _) → (b && true) ≡ b
-    and_true true = refl
-    and_true false = refl
+waits_in s used b is full e = grind (arith, common_steps)
 
 -- there is memory for one more place
 room : (g : Over) (c : After-frame-frame g) → length c.args.waiting.now.items < c.args.waiting.now.cap

@@ -1,4 +1,4 @@
-use Rattle.gpu_descriptor.proofs.Common.{Some, arith, common_steps}
+use Rattle.gpu_descriptor.proofs.Common.{Some, arith, common_steps, rules}
 use Rattle.gpu_descriptor.proofs.foreign.OthersStay.{freed_others}
 use Rattle.gpu_descriptor.proofs.request.Requested.{load_within, pool_load_within, rows_apart}
 use Rattle.gpu_descriptor.proofs.release.Freed.{Freed, freed_none, call_out, freed_more}
@@ -25,16 +25,4 @@ pub loop-ahead-preserved : goal.loop-ahead-preserved
 loop-ahead-preserved g c = grind (arith, common_steps, freed_more)
 
 pub returns-clause-keeps : goal.returns-clause-keeps
-returns-clause-keeps g c =
-    let r = c.loop-ahead.invariant.freed in
-    let name = g.D.DescriptorDevice.meaning.pool_name in
-    let before = g.D.DescriptorDevice.ledger c.args.device.now in
-    let after = g.D.DescriptorDevice.ledger c.loop-ahead.device in
-    record {
-      agree = record { rows = rows_apart _ c.self.view_is name c.self.inside.table.distinct; books = r.agree };
-      limit = c.loop-ahead.invariant.limit;
-      bound = c.loop-ahead.invariant.bound;
-      load = load_within _ c.self.view_is c.self.invariant;
-      pool_load = pool_load_within _ c.self.view_is c.self.invariant;
-      others = freed_others g.D.DescriptorDevice.meaning r.sets _ c.args.self.now c.loop-ahead.self before after r.back;
-    }
+returns-clause-keeps g c = search (rules, freed_others, load_within, pool_load_within, rows_apart)

@@ -1,4 +1,4 @@
-use Rattle.gpu_descriptor.proofs.Common.{common_steps, ◌≡◌, ◌+◌, ◌*◌, ◌≤◌, length, arith, refl, None, ap, key_of, set_descriptors, IsConsistent, subst, ◌∙◌, Ledger, Bucket, Allocations, state_of, AreBookedIn}
+use Rattle.gpu_descriptor.proofs.Common.{common_steps, ◌≡◌, ◌+◌, ◌*◌, ◌≤◌, length, arith, refl, None, ap, key_of, set_descriptors, IsConsistent, ◌∙◌, Allocations, rules}
 use Rattle.gpu_descriptor.proofs.sums.Loads.{set_descriptors-each}
 use Rattle.gpu_descriptor.proofs.cleanup.KeyOrder.{keys_seen}
 use Rattle.gpu_descriptor.proofs.callers.Unchanged.{keeps_still}
@@ -86,7 +86,4 @@ pub returns-then-would_exceed_64_bits-clause-keeps : goal.returns-then-would_exc
 returns-then-would_exceed_64_bits-clause-keeps g c = keeps_still refl refl c.requires.agree (load_within _ c.self.view_is c.self.invariant) (pool_load_within _ c.self.view_is c.self.invariant)
 
 pub serve-requires-clause-booked : goal.serve-requires-clause-booked
-serve-requires-clause-booked g c =
-    let l : Ledger = g.D.DescriptorDevice.ledger c.args.device.now in
-    let is = books_at c.args.self.now c.self.inside.table.buckets.entries (table_is _ c.self.view_is) g.D.DescriptorDevice.meaning.pool_name l (key_of c.args.request.now.key) in
-    subst (λ (b : Bucket). AreBookedIn (key_of c.args.request.now.key) l.pools b.pools) is (booked_of (state_of g.D.DescriptorDevice.meaning.pool_name c.args.self.now l) (key_of c.args.request.now.key) c.requires.agree.books)
+serve-requires-clause-booked g c = search (rules, booked_of, books_at, table_is)

@@ -1,4 +1,4 @@
-use Rattle.gpu_descriptor.proofs.Common.{Agree, side, ◌≡◌, length-map, map, slice_get_within, refl, sym, ap, subst, ◌∙◌, arith, IsDistinct, Key, key_eq, key_of, layout_key, Bucket, Allocations, AreBookedIn, KeepsOutstanding, outstanding_of, marked_load_of, is_of, row_of, state_of, stored_keys, common_steps}
+use Rattle.gpu_descriptor.proofs.Common.{Agree, side, ◌≡◌, length-map, map, slice_get_within, refl, sym, ap, subst, ◌∙◌, arith, IsDistinct, Key, key_eq, key_of, layout_key, Bucket, Allocations, AreBookedIn, KeepsOutstanding, outstanding_of, marked_load_of, is_of, row_of, state_of, common_steps}
 use Rattle.indexmap.specs.Layout.{set_value_at}
 use Rattle.gpu_descriptor.specs.Caller.CleansUp.{TrimsKey}
 use Rattle.gpu_descriptor.proofs.cleanup.Cleaning.{emptied_key}
@@ -26,11 +26,7 @@ there : (g : _) (c : After-pair_mut-bucket g) → IsAt (key_of c.key-key.result)
 there g c = key_there (key_of c.key-key.result) c.self.inside.table.buckets.entries c.in-Some.place c.pair_mut-bucket.result.0.now c.pair_mut-bucket.result.1.now c.pair_mut-bucket.ensures.value c.in-Some.ensures.place
 
 pub pair_mut-bucket-requires : goal.pair_mut-bucket-requires
-pair_mut-bucket-requires g c =
-    let es = c.self.inside.table.buckets.entries in
-    let within = slice_get_within (stored_keys es) c.in-Some.place (key_of c.key-key.result) c.in-Some.ensures.place in
-    let long = length-map es (λ e. key_of e.0) in
-    omega arith
+pair_mut-bucket-requires g c = grind (arith, common_steps, length-map, slice_get_within)
 
 pub destroy_empty-requires-clause-room : goal.destroy_empty-requires-clause-room
 destroy_empty-requires-clause-room g c =

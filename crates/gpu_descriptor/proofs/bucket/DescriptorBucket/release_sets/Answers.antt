@@ -39,9 +39,7 @@ module _ (g : _) (c : After-finish-count g) where
   module _ (here : IsAt g.D.DescriptorDevice.meaning.pool_name c.args.first.number place c.args.self.now.pools.items c.index_mut-pool.result.now) where
     -- the sets of which the release speaks are live in the place
     taken : AreTaken (map g.D.DescriptorDevice.meaning.set_name c.dealloc_descriptor_sets.ensures.released.items) (live_in (g.D.DescriptorDevice.ledger c.args.device.now).pools e.pool) c.dealloc_descriptor_sets.ensures.released.gone
-    taken =
-        let t = c.dealloc_descriptor_sets.ensures.released in
-        are_taken c.args.first.key.is (bucket_of g.D.DescriptorDevice.meaning.pool_name c.args.self.now) (g.D.DescriptorDevice.ledger c.args.device.now).pools place e (map g.D.DescriptorDevice.meaning.set_name t.items) t.gone c.requires.stored here.at t.named t.live
+    taken = search (rules, are_taken, e, place)
 
     -- as many sets were counted as went
     counted : (c.finish-count.result ≤ e.allocated) × (c.finish-count.result ≡ length c.dealloc_descriptor_sets.ensures.released.gone) × (0 < c.finish-count.result)

@@ -1,4 +1,4 @@
-use Rattle.gpu_descriptor.proofs.Common.{common_steps, ◌≡◌, ℕ, suc, ◌+◌, ◌<◌, ◌++◌, ◌∷◌, [], List, length, take, arith, refl, sym, ap, ◌∙◌, slice_get, Some, length-take-le, slice_get_read, deque_capacity, DescriptorPool, free_in, open_ordinals}
+use Rattle.gpu_descriptor.proofs.Common.{common_steps, ◌≡◌, ℕ, suc, ◌+◌, ◌<◌, ◌++◌, ◌∷◌, [], List, length, take, arith, refl, ap, ◌∙◌, slice_get, Some, length-take-le, slice_get_read, deque_capacity, DescriptorPool, free_in, open_ordinals, rules}
 use Rattle.gpu_descriptor.proofs.lists.AtPlaces.{long_take, take_get}
 use Rattle.gpu_descriptor.proofs.lists.OpenList.{few_listed, listed_push_closed, listed_push_open}
 use Rattle.gpu_descriptor.proofs.bucket.trim.relist.Goals.{then-index-gt0, else-index-gt0}
@@ -9,10 +9,7 @@ module _ {P : Type 0} (first place : ℕ) (pools : List (DescriptorPool P)) (p :
   more = ap (λ (n : ℕ). take n pools) (let e : place + 1 ≡ suc place = omega arith in e) ∙ take_get pools place p at
 
   list_open : 0 < p.available → listed ++ (first + place) ∷ [] ≡ open_ordinals first (free_in (take (place + 1) pools))
-  list_open some =
-      ap (λ (n : ℕ). listed ++ (first + n) ∷ []) (sym (long_take pools place p at))
-      ∙ listed_push_open first (take place pools) listed is p some
-      ∙ ap (λ (ps : List (DescriptorPool P)). open_ordinals first (free_in ps)) (sym more)
+  list_open some = search (rules, listed_push_open, long_take, more)
 
   list_closed : p.available ≡ 0 → listed ≡ open_ordinals first (free_in (take (place + 1) pools))
   list_closed none = grind (arith, common_steps, listed_push_closed, more)
