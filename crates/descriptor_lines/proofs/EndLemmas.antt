@@ -1,7 +1,7 @@
 -- How a run of lines ends: for `run_lines_on` and `run_to_end`. `Stands` says how far a run over known bytes came, and `Takes` what came of
 -- its next line.
 use Rattle.std.proofs.lemmas.Grind.{common_steps}
-use Rattle.std.proofs.Common.{◌≡◌, ℕ, ◌+◌, ◌-◌, ◌<◌, ◌⊎◌, inl, inr, List, [], ◌∷◌, ◌++◌, Option, Some, Result, Ok, Err, length, subst, refl, sym, ap, ◌∙◌, arith, ◌≤◌, IsTrue, IfErr, slice_range}
+use Rattle.std.proofs.Common.{◌≡◌, ℕ, ◌+◌, ◌-◌, ◌<◌, ◌⊎◌, inl, inr, List, [], ◌∷◌, ◌++◌, Option, Some, Result, Ok, Err, length, subst, refl, sym, ap, ◌∙◌, arith, ◌≤◌, IsTrue, IsFalse, IfErr, slice_range}
 use Rattle.std.specs.Io.BufRead.{strip_last}
 use Rattle.std.specs.Io.KnownBytes.{Appends}
 use Rattle.std.proofs.lemmas.Bool.Decides.{nat_tests}
@@ -120,5 +120,5 @@ ends_early exit bytes start last old new (inr broken) faulty failed = rw broken 
 -- ---- the start
 
 -- a new buffer has read nothing
-pub unread_first : (buffer : LineBuffer) (known : Option (List ℕ)) (bytes : List ℕ) → buffer.start ≡ buffer.end → known ≡ Some bytes → unread buffer known ≡ Some bytes
-unread_first buffer known bytes empty is = grind (arith, common_steps)
+pub unread_first : (buffer : LineBuffer) (known : Option (List ℕ)) (bytes : List ℕ) → buffer.start ≡ buffer.end → IsFalse buffer.is_at_end → known ≡ Some bytes → unread buffer known ≡ Some bytes
+unread_first buffer known bytes empty begun is = grind (arith, common_steps)

@@ -1,9 +1,8 @@
 -- The lines that bytes begin with: for `LineBuffer::next_line`, `read_more` and `take_line`, which search a buffer for the end of a line.
 -- `bytes` are those of the buffer: from `start` on they are in no line yet, up to `searched` no line ends among them, and up to `end` they
--- were read. Byte 10 ends a line. `known`
--- are the bytes that the reader has left, if that is known.
+-- were read. Byte 10 ends a line. `known` are the bytes that the reader has left, if that is known.
 use Rattle.std.proofs.lemmas.Grind.{common_steps}
-use Rattle.std.proofs.Common.{◌≡◌, ℕ, ◌+◌, ◌-◌, ◌<◌, ◌≤◌, append_assoc, append-nil, length-take, List, [], ◌++◌, Option, None, Some, IfSome, IfNone, not, unwrap_or, position, length, length-take-le, take, drop, slice_range, length-append}
+use Rattle.std.proofs.Common.{◌≡◌, ℕ, ◌+◌, ◌-◌, ◌<◌, ◌≤◌, append_assoc, append-nil, length-take, List, [], ◌++◌, Option, None, Some, IfSome, IfNone, Bool, true, false, IsTrue, if◌then◌else◌, not, unwrap_or, position, length, length-take-le, take, drop, slice_range, length-append}
 use Rattle.std.proofs.Common.{refl, sym, ap, ◌∙◌, arith}
 use Rattle.std.specs.List.{position_or_len}
 use Rattle.std.specs.Io.KnownBytes.{Keeps, IsAtEnd, Consumes, prepend_known}
@@ -105,11 +104,6 @@ behind : (known : Option (List ℕ)) (bytes all : List ℕ) → prepend_known by
 behind None bytes all is = absurd (cc)
 behind (Some more) bytes all is = (more, refl, (let e : bytes ++ more ≡ all = cc in sym e))
 
--- at their end they are those at hand
-at_end : (known : Option (List ℕ)) (bytes all : List ℕ) → IsAtEnd known → prepend_known bytes known ≡ Some all → (known ≡ Some []) × (all ≡ bytes)
-at_end None bytes all ended is = absurd (cc)
-at_end (Some more) bytes all ended is = (ap Some ended, (let e : bytes ++ more ≡ all = cc in sym e ∙ ap (λ l. bytes ++ l) ended ∙ append-nil bytes))
-
 -- the line that ends among the bytes at hand is the first of all
 pub takes_ended :
     (known : Option (List ℕ)) (bytes all line rest : List ℕ)
@@ -117,26 +111,26 @@ pub takes_ended :
     → (0 < length all) × (line ≡ before_end all) × (prepend_known rest known ≡ Some (after_end all))
 takes_ended known bytes all line rest is some first after = grind (arith, common_steps, after_end-append, before_end-append)
 
--- bytes at hand in which no line ends are the last line, if there are some
+-- bytes at hand in which no line ends are the last line at the end of the reader, if there are some
 pub takes_last :
-    (known : Option (List ℕ)) (bytes all : List ℕ) (line : Option Span) (buffer : LineBuffer)
-    → IsAtEnd known → prepend_known bytes known ≡ Some all → HasNoEnd bytes → IfSome line (λ _. 0 < length bytes)
-    → IfSome line (λ span. slice_range buffer.bytes.items span.start span.end ≡ bytes) → IfNone line (bytes ≡ []) → buffered buffer ≡ []
-    → TakesLine all line buffer (unread buffer known)
-takes_last known bytes all None buffer ended is no_end some first none empty = (at_end known bytes all ended is).1 ∙ none
-takes_last known bytes all (Some span) buffer ended is no_end some first none empty =
-    let (nothing, whole) = at_end known bytes all ended is in
-    rw whole (some, first ∙ sym (before_end-whole bytes no_end), rw (nothing, empty) (ap Some (sym (after_end-whole bytes no_end))))
+    (known : Option (List ℕ)) (all : List ℕ) (line : Option Span) (old new : LineBuffer)
+    → IsTrue old.is_at_end → new.is_at_end ≡ old.is_at_end → unread old known ≡ Some all → HasNoEnd (buffered old)
+    → IfSome line (λ _. 0 < length (buffered old)) → IfSome line (λ span. slice_range new.bytes.items span.start span.end ≡ buffered old)
+    → IfNone line (buffered old ≡ []) → buffered new ≡ [] → TakesLine all line new (unread new known)
+takes_last known all None old new ended stays is no_end some first none empty = grind (arith, common_steps, append-nil)
+takes_last known all (Some span) old new ended stays is no_end some first none empty = grind (arith, common_steps, append-nil, before_end-whole, after_end-whole)
 
 -- a line that is too long begins all
 pub begins_too_long : (known : Option (List ℕ)) (bytes all : List ℕ) → prepend_known bytes known ≡ Some all → longest_line < length (before_end bytes) → longest_line < length (before_end all)
 begins_too_long known bytes all is long = grind (arith, common_steps, before_end-grows)
 
 -- a read put its bytes behind those at hand, and one that failed nothing
-pub read_kept : (old new : Option (List ℕ)) (bytes front got all : List ℕ) → front ≡ bytes → all ≡ front ++ got → Consumes old new got → Keeps (prepend_known bytes old) (prepend_known all new)
-read_kept None new bytes front got all same is took = tt
-read_kept (Some xs) None bytes front got all same is took = absurd took
-read_kept (Some xs) (Some ys) bytes front got all same is took = ap (λ l. l ++ ys) is ∙ append_assoc front got ys ∙ ap (λ l. l ++ (got ++ ys)) same ∙ ap (λ l. bytes ++ l) (sym took)
+pub read_kept : (old new : Option (List ℕ)) (ended : Bool) (bytes front got all : List ℕ) → front ≡ bytes → all ≡ front ++ got → Consumes old new got → (IsTrue ended → IsAtEnd new)
+    → Keeps (prepend_known bytes old) (prepend_known all (if ended then Some [] else new))
+read_kept None new ended bytes front got all same is took sees = tt
+read_kept (Some xs) None ended bytes front got all same is took sees = absurd took
+read_kept (Some xs) (Some ys) true bytes front got all same is took sees = grind (arith, append_assoc, sees refl)
+read_kept (Some xs) (Some ys) false bytes front got all same is took sees = grind (arith, append_assoc)
 
 pub read_failed_kept : (old new : Option (List ℕ)) (bytes front : List ℕ) → front ≡ bytes → Keeps old new → Keeps (prepend_known bytes old) (prepend_known front new)
 read_failed_kept None new bytes front is same = tt

@@ -1,5 +1,5 @@
 -- What a buffer of lines has to give. Only the code's own contracts say it.
-use Rattle.std.specs.Prelude.{◌≡◌, ◌<◌, ℕ, List, [], Option, None, Some, IsTrue, length, slice_range}
+use Rattle.std.specs.Prelude.{◌≡◌, ◌<◌, ℕ, List, [], Option, None, Some, IsTrue, if◌then◌else◌, length, slice_range}
 use Rattle.std.specs.Io.KnownBytes.{IsAtEnd, prepend_known}
 use Rattle.descriptor_lines.specs.Lines.{after_end, before_end}
 use Rattle.descriptor_lines.specs.declared.input.LineBuffer.{LineBuffer}
@@ -9,9 +9,10 @@ use Rattle.descriptor_lines.specs.declared.input.Span.{Span}
 abbrev pub buffered : LineBuffer → List ℕ
 buffered buffer = slice_range buffer.bytes.items buffer.start buffer.end
 
--- the bytes that are in no line yet: those in the buffer, and then those that the reader has left
+-- the bytes that are in no line yet: those in the buffer, and then, before the end of the reader was seen, those that it has left
 abbrev pub unread : LineBuffer → Option (List ℕ) → Option (List ℕ)
-unread buffer known = prepend_known (buffered buffer) known
+unread buffer known =
+    prepend_known (buffered buffer) (if buffer.is_at_end then Some [] else known)
 
 -- the buffer has seen the end of a reader only if that has nothing left
 abbrev pub SeesEndOf : LineBuffer → Option (List ℕ) → Type 0

@@ -85,8 +85,8 @@ impl LineBuffer {
 
         // Where the bytes are known that are in no line yet.
         ensures known { IfOk result (λ span. (bytes : List ℕ) → unread self.old
-            (R.remaining input.old) ≡ Some bytes → SeesEndOf self.old (R.remaining input.old)
-            → TakesLine bytes span self.new (unread self.new (R.remaining input.new))) }
+            (R.remaining input.old) ≡ Some bytes → TakesLine bytes span self.new (unread self.new
+            (R.remaining input.new))) }
         ensures kept { OnErr result (Keeps (unread self.old (R.remaining input.old))
             (unread self.new (R.remaining input.new))) }
         ensures too_long { result ≡ Err InputFault.LineTooLong → (bytes : List ℕ)

@@ -1,5 +1,5 @@
 use Rattle.std.proofs.lemmas.Grind.{common_steps}
-use Rattle.std.proofs.Common.{◌++◌, [], ap, ◌∙◌, arith}
+use Rattle.std.proofs.Common.{◌++◌, ap, ◌∙◌, arith}
 use Rattle.std.specs.String.{string_bytes}
 use Rattle.descriptor_lines.proofs.AnswerLemmas.{answer_of_none, answer_of_more, answer_of_all}
 use Rattle.descriptor_lines.proofs.answer.kinds_answer.Goals as goal

@@ -5,7 +5,7 @@ use Rattle.descriptor_lines.proofs.program.run_lines_on.Goals as goal
 
 pub returns-clause-runs : goal.returns-clause-runs
 returns-clause-runs g c = record {
-  writes = λ bytes known ran. (let wrote = c.run_to_end-exit.ensures.writes bytes (unread_first c.in-Ok.lines _ bytes c.in-Ok.ensures.empty known) in (
+  writes = λ bytes known ran. (let wrote = c.run_to_end-exit.ensures.writes bytes (unread_first c.in-Ok.lines _ bytes c.in-Ok.ensures.empty c.in-Ok.ensures.open known) in (
     line_state g.D.DescriptorDevice.ledger g.D.LineDevice.script c.new-program.result,
     line_state g.D.DescriptorDevice.ledger g.D.LineDevice.script c.run_to_end-exit.new.program,
     c.new-program.ensures.fresh,

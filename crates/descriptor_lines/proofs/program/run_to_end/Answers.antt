@@ -34,7 +34,7 @@ takes g c bytes answers start at =
           let ran = w.run_line-outcome.ensures in
           rw (w.program-is, w.answer-is, w.outcome-is)
           (takes_span _ _ c.next_line.new.self w.in-Ok-Some.span _ _ _ _ _
-          (rw w.in-Ok-Some.field-0-is at (w.in-Ok-Some.ensures.known at.rest at.known c.loop-number.invariant.sees))
+          (rw w.in-Ok-Some.field-0-is at (w.in-Ok-Some.ensures.known at.rest at.known))
           (rw w.in-Ok-Some.field-0-is at w.in-Ok-Some.ensures.short) w.line.ensures.bytes ran.runs ran.reason ran.begun)
       | in-Err-LineTooLong w ↦
           let long = c.next_line.ensures.too_long (w.in-Err-LineTooLong.is ∙ ap Err w.in-Err-LineTooLong.field-0-is) at.rest at.known in
@@ -72,7 +72,7 @@ pub returns-in-Ok-None-clause-writes : goal.returns-in-Ok-None-clause-writes
 returns-in-Ok-None-clause-writes g c bytes is =
     let (text, grown, stands) = c.loop-number.invariant.answers in
     let at = stands bytes is in
-    ends_done _ _ _ _ _ _ at _ _ (rw c.in-Ok-None.field-0-is at (c.in-Ok-None.ensures.known at.rest at.known c.loop-number.invariant.sees)) grown
+    ends_done _ _ _ _ _ _ at _ _ (rw c.in-Ok-None.field-0-is at (c.in-Ok-None.ensures.known at.rest at.known)) grown
 
 pub returns-in-Err-Read-clause-writes : goal.returns-in-Err-Read-clause-writes
 returns-in-Err-Read-clause-writes g c bytes is =

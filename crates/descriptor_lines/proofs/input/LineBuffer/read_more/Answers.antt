@@ -1,6 +1,6 @@
 use Rattle.std.proofs.lemmas.Grind.{common_steps}
 use borrow.Rule.Slice.PartMut.{post_of}
-use Rattle.std.proofs.Common.{ℕ, List, length, arith, ◌≤◌, ◌≡◌, ◌-◌, ◌+◌, ◌++◌, take, slice_range, subst, sym}
+use Rattle.std.proofs.Common.{ℕ, List, length, arith, ◌≤◌, ◌≡◌, ◌-◌, ◌++◌, take, slice_range, subst, sym}
 use Rattle.std.specs.declared.vec.Vec.{Vec}
 use Rattle.std.specs.Vec.{with_items}
 use Rattle.std.proofs.lemmas.List.{with_items_is}
