@@ -89,16 +89,22 @@ module _ {T : Type 0} where
       pub few_wait : length l < length slots
       few_wait = (let few = lists_few waits (set slots p s) (p ∷ l) refl (lists_push waits slots p s l queue.has within was now) in let size = length-set slots p s in omega arith)
 
+      -- along the places that are there the frames stay
+      pub still_rises : IsNonDecreasingBy (frame (set slots p s)) l
+      still_rises = other_rises slots p s l (not_listed waits slots l p queue.has was) queue.rises
+
+      pub still_bound : (k d : ℕ) → k < length l → frame (set slots p s) (get_or l k d) ≤ newest
+      still_bound k d lt = (let same = other_frame slots p s l (not_listed waits slots l p queue.has was) k d lt in let bound = queue.bound (get_or l k d) (waits_at k d lt) in omega arith)
+
       -- a set came to wait
-      pub put_queue : (f i newest' : ℕ) → frame_of s.used ≡ f → i ≤ length l → IsPartitionPoint (λ q. frame slots q ≤ f) (λ q. f < frame slots q) l i → newest ≤ newest' → f ≤ newest' → IsQueue (set slots p s) (insert l i p) newest'
+      pub put_queue : (f i newest' : ℕ) → frame_of s.used ≡ f → i ≤ length l → IsPartitionPoint (λ q. frame (set slots p s) q ≤ f) (λ q. f < frame (set slots p s) q) l i → newest ≤ newest' → f ≤ newest' → IsQueue (set slots p s) (insert l i p) newest'
       put_queue f i newest' of le point more is = record {
         has = λ q. times_insert q p l i ∙ lists_push waits slots p s l queue.has within was now q;
         rises =
-            let none = not_listed waits slots l p queue.has was in
             let here = ap (λ (s : Slot T). frame_of s.used) (slot_set slots p s within) in
-            IsNonDecreasingBy-insert (frame (set slots p s)) l i p (other_rises slots p s l none queue.rises) le
-            (λ k d lt. (let a = other_frame slots p s l none k d (omega arith) in let b = point.0 k d (omega arith) lt in omega arith))
-            (λ k d from lt. (let a = other_frame slots p s l none k d lt in let b = point.1 k d from lt in omega arith));
+            IsNonDecreasingBy-insert (frame (set slots p s)) l i p still_rises le
+            (λ k d lt. (let b = point.0 k d (omega arith) lt in omega arith))
+            (λ k d from lt. (let b = point.1 k d from lt in omega arith));
         bound = bound_set slots p newest' s within (λ q w. (let b = queue.bound q w in omega arith)) (λ w. omega arith);
       }
 

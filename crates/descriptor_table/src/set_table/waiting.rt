@@ -1,5 +1,5 @@
 //! The queue of the sets that wait for a frame.
-ghost use Rattle.std.specs.Prelude.{◌≡◌, ℕ, ◌<◌, ◌≤◌, length, insert, is_some, slice_set, false, true};
+ghost use Rattle.std.specs.Prelude.{◌≡◌, ℕ, ◌<◌, ◌≤◌, List, length, insert, is_some, slice_set, false, true};
 ghost use Rattle.std.specs.VecDeque.{deque_capacity};
 ghost use Rattle.std.specs.List.Sorted.{IsNonDecreasingBy, IsPartitionPoint};
 ghost use Rattle.descriptor_table.specs.Slots.{IsQueue, Slot, frame_of, slot_at, slots_in, waits};
@@ -45,7 +45,7 @@ fn enqueue_earlier<T>(waiting: &mut VecDeque<u32>, slots: &SlotList<T>, place: u
     put_place(waiting, at, place);
 }
 
-/// Puts a slot into the queue whose set comes to this use, if a set in it waits for a frame.
+/// Puts a slot into the queue whose set came to this use, if a set in it waits for a frame.
 #[inline]
 pub(super) fn enqueue<T>(
     waiting: &mut VecDeque<u32>,
@@ -54,13 +54,12 @@ pub(super) fn enqueue<T>(
     place: u32,
     used: Use,
 )
-    requires queue { IsQueue (slots_in slots.now) waiting.old.items newest.old }
     requires within { place < length (slots_in slots.now) }
-    requires idle { waits (slot_at (slots_in slots.now) place) ≡ false }
+    requires came { (old : List (Slot T)) × (s : Slot T) × (slots_in slots.now ≡ slice_set old place s)
+        × (s.used ≡ used) × (is_some s.set ≡ true) × (waits (slot_at old place) ≡ false)
+        × IsQueue old waiting.old.items newest.old }
     requires room { length (slots_in slots.now) ≤ deque_capacity waiting.old }
-    requires full { is_some (slot_at (slots_in slots.now) place).set ≡ true }
-    ensures queue { (s : Slot T) → s.used ≡ used → is_some s.set ≡ true → IsQueue
-        (slice_set (slots_in slots.now) place s) waiting.new.items newest.new }
+    ensures queue { IsQueue (slots_in slots.now) waiting.new.items newest.new }
     ensures capacity { deque_capacity waiting.new ≡ deque_capacity waiting.old }
 {
     if !used.waits() {
@@ -87,6 +86,7 @@ impl<T> SetTable<T> {
         ensures { Changes (At place (used_for (Use.Waits frame))) self.old self.new }
     {
         let used = Use::Waits(frame);
+        self.slots.set_use(place, used);
         enqueue(
             &mut self.waiting,
             &mut self.newest,
@@ -94,7 +94,6 @@ impl<T> SetTable<T> {
             place as u32,
             used,
         );
-        self.slots.set_use(place, used);
     }
 
     /// Puts the set at a place, which a call has taken, to a use, and returns its next handle, for which
@@ -106,6 +105,7 @@ impl<T> SetTable<T> {
         requires live { is_live (frame_of used) true used ≡ true }
         ensures { Changes (Renews self.old.number place used result) self.old self.new }
     {
+        let generation = self.slots.renew(place, used);
         enqueue(
             &mut self.waiting,
             &mut self.newest,
@@ -116,7 +116,7 @@ impl<T> SetTable<T> {
         SetHandle {
             manager: self.number,
             place: place as u32,
-            generation: self.slots.renew(place, used),
+            generation,
         }
     }
 

@@ -61,6 +61,15 @@ impl<T> SetTable<T> {
         let head = &mut self.lists[layout as usize + KEPT];
         let place = head.chain.first;
         let next = self.slots.at(place as usize).next;
+        let generation = self.slots.renew(place as usize, used);
+        head.chain.first = next;
+        head.chain.count -= 1;
+        let handle = SetHandle {
+            manager: self.number,
+            place,
+            generation,
+        };
+        let name = N::of(handle, self.slots.at(place as usize).set.as_ref());
         enqueue(
             &mut self.waiting,
             &mut self.newest,
@@ -68,14 +77,7 @@ impl<T> SetTable<T> {
             place,
             used,
         );
-        let generation = self.slots.renew(place as usize, used);
-        head.chain.first = next;
-        head.chain.count -= 1;
-        self.name_of(SetHandle {
-            manager: self.number,
-            place,
-            generation,
-        })
+        name
     }
 
     /// How many sets of a layout are kept.

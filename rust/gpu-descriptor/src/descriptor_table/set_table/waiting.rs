@@ -30,7 +30,7 @@ fn enqueue_earlier<T>(waiting: &mut VecDeque<u32>, slots: &SlotList<T>, place: u
     put_place(waiting, at, place);
 }
 
-/// Puts a slot into the queue whose set comes to this use, if a set in it waits for a frame.
+/// Puts a slot into the queue whose set came to this use, if a set in it waits for a frame.
 #[inline]
 pub(super) fn enqueue<T>(
     waiting: &mut VecDeque<u32>,
@@ -58,6 +58,7 @@ impl<T> SetTable<T> {
     pub(super) fn wait(&mut self, place: usize, frame: u64)
     {
         let used = Use::Waits(frame);
+        self.slots.set_use(place, used);
         enqueue(
             &mut self.waiting,
             &mut self.newest,
@@ -65,7 +66,6 @@ impl<T> SetTable<T> {
             place as u32,
             used,
         );
-        self.slots.set_use(place, used);
     }
 
     /// Puts the set at a place, which a call has taken, to a use, and returns its next handle, for which
@@ -73,6 +73,7 @@ impl<T> SetTable<T> {
     #[inline]
     pub fn hold(&mut self, place: usize, used: Use) -> SetHandle
     {
+        let generation = self.slots.renew(place, used);
         enqueue(
             &mut self.waiting,
             &mut self.newest,
@@ -83,7 +84,7 @@ impl<T> SetTable<T> {
         SetHandle {
             manager: self.number,
             place: place as u32,
-            generation: self.slots.renew(place, used),
+            generation,
         }
     }
 

@@ -1,7 +1,7 @@
-use Rattle.std.proofs.Common.{◌≡◌, ◌≢◌, ℕ, ◌+◌, ◌-◌, ◌<◌, inl, inr, is_some, length, set, subst, true, refl, sym, ap, ◌∙◌, arith}
+use Rattle.std.proofs.Common.{◌≡◌, ◌≢◌, ℕ, ◌+◌, ◌-◌, ◌<◌, inl, inr, length, set, subst, true, refl, sym, ap, ◌∙◌, arith}
 use Rattle.std.proofs.lemmas.Bool.{true≢false}
-use Rattle.std.proofs.lemmas.List.{get_or_past, length-map}
-use Rattle.descriptor_table.specs.Slots.{AreSound, Slot, chain_at, chains_in, generation_at, generations_in, is_in, nexts_in, slot_at, slots_in}
+use Rattle.std.proofs.lemmas.List.{get_or_past, length-map, length-set}
+use Rattle.descriptor_table.specs.Slots.{AreSound, IsQueue, chain_at, chains_in, generation_at, generations_in, is_in, nexts_in, slot_at, slots_in}
 use Rattle.descriptor_table.specs.Tables.{count, renewed, slots_of}
 use Rattle.descriptor_table.specs.declared.handle.SetHandle.{SetHandle}
 use Rattle.descriptor_table.specs.declared.set_table.SetTable.{SetTable}
@@ -11,7 +11,6 @@ use Rattle.descriptor_table.proofs.Chains.{listed_out, live_no_list, picked}
 use Rattle.descriptor_table.proofs.Counting.{below_or}
 use Rattle.descriptor_table.proofs.Counts.{chain_count}
 use Rattle.descriptor_table.proofs.Entries.{chain_was, chain_written, generations_stay, in_place, lists_stay}
-use Rattle.descriptor_table.proofs.Listed.{slot_set}
 use Rattle.descriptor_table.proofs.Renewing.{kept_is}
 use Rattle.descriptor_table.proofs.Sound.{listed, pick_sound}
 use Rattle.descriptor_table.proofs.set_table.SetTable.hold_kept.Given.{Over}
@@ -60,14 +59,22 @@ index_mut-head-requires g c = (let s = c.args.self.now in let within = there s c
 pub at-requires : goal.at-requires
 at-requires g c = (first g (goal.at.at-requires g c).After-index_mut-head).0
 
+-- its slot stays there
+still_there : (g : Over) (c : After-renew-generation g) → c.index_mut-head.result.now.chain.first < length (slots_in c.args.self.now.slots) → c.index_mut-head.result.now.chain.first < length (slots_in c.renew-generation.new.self)
+still_there g c lt = (let long = ap length c.renew-generation.ensures.writes.slots ∙ length-set (slots_in c.args.self.now.slots) c.index_mut-head.result.now.chain.first (renewed c.args.used (slot_at (slots_in c.args.self.now.slots) c.index_mut-head.result.now.chain.first)) in omega arith)
+
+pub at-requires-2 : goal.at-requires-2
+at-requires-2 g c = (let d = goal.at.at-requires-2 g c in still_there g d.After-renew-generation (first g d.After-index_mut-head).0)
+
 pub enqueue-requires-clause-within : goal.enqueue-requires-clause-within
-enqueue-requires-clause-within g c = (first g (goal.at.enqueue-requires-clause-within g c).After-index_mut-head).0
+enqueue-requires-clause-within g c = (let d = goal.at.enqueue-requires-clause-within g c in still_there g d.After-renew-generation (first g d.After-index_mut-head).0)
 
-pub enqueue-requires-clause-idle : goal.enqueue-requires-clause-idle
-enqueue-requires-clause-idle g c = listed_out (c.args.layout + 2) (slot_at (slots_in c.args.self.now.slots) c.index_mut-head.result.now.chain.first) (first g (goal.at.enqueue-requires-clause-idle g c).After-index_mut-head).1
-
-pub enqueue-requires-clause-full : goal.enqueue-requires-clause-full
-enqueue-requires-clause-full g c = (kept_is (c.args.layout + 2) (slot_at (slots_in c.args.self.now.slots) c.index_mut-head.result.now.chain.first) (omega arith) (first g (goal.at.enqueue-requires-clause-full g c).After-index_mut-head).1).1
+pub enqueue-requires-clause-came : goal.enqueue-requires-clause-came
+enqueue-requires-clause-came g c =
+    let s = c.args.self.now in
+    let o = slot_at (slots_in s.slots) c.index_mut-head.result.now.chain.first in
+    let p = first g (goal.at.enqueue-requires-clause-came g c).After-index_mut-head in
+    (slots_in s.slots, renewed c.args.used o, c.renew-generation.ensures.writes.slots, refl, (kept_is (c.args.layout + 2) o (omega arith) p.1).1, listed_out (c.args.layout + 2) o p.1, s.sound.queue)
 
 pub renew-generation-requires-clause-within : goal.renew-generation-requires-clause-within
 renew-generation-requires-clause-within g c = (first g (goal.at.renew-generation-requires-clause-within g c).After-index_mut-head).0
@@ -90,22 +97,13 @@ invariant_of-self g c =
     let new = renewed c.args.used (slot_at (slots_in s.slots) at) in
     let out = live_no_list new c.requires.live in
     let full = (kept_is (c.args.layout + 2) (slot_at (slots_in s.slots) at) (omega arith) p.1).1 in
-    let sound = pick_sound s.slots c.renew-generation.new.self (chains_in s.lists.items) (generations_in s.lists.items) s.waiting.items s.waiting.cap s.keep s.newest s.sound at new c.renew-generation.ensures.writes.slots (c.args.layout + 2) c.index_mut-head.result.now.chain c.at.result.now.next c.enqueue.new.waiting.items c.enqueue.new.newest (is_list g d) (some g d) (there s c.args.layout c.requires.some) c.at.ensures.next refl c.renew-generation.ensures.nexts out (listed s.slots s.slots (chains_in s.lists.items) (generations_in s.lists.items) s.waiting.items s.waiting.cap s.keep s.newest s.sound at new p.0 refl refl refl (λ kept. absurd (true≢false (sym kept ∙ out (new.layout + 2)))) (λ held. full)) (c.enqueue.ensures.queue new refl full) in
+    let sound = pick_sound s.slots c.renew-generation.new.self (chains_in s.lists.items) (generations_in s.lists.items) s.waiting.items s.waiting.cap s.keep s.newest s.sound at new c.renew-generation.ensures.writes.slots (c.args.layout + 2) c.index_mut-head.result.now.chain c.at.result.now.next c.enqueue.new.waiting.items c.enqueue.new.newest (is_list g d) (some g d) (there s c.args.layout c.requires.some) c.at.ensures.next refl c.renew-generation.ensures.nexts out (listed s.slots s.slots (chains_in s.lists.items) (generations_in s.lists.items) s.waiting.items s.waiting.cap s.keep s.newest s.sound at new p.0 refl refl refl (λ kept. absurd (true≢false (sym kept ∙ out (new.layout + 2)))) (λ held. full)) (subst (λ l. IsQueue l c.enqueue.new.waiting.items c.enqueue.new.newest) c.renew-generation.ensures.writes.slots c.enqueue.ensures.queue) in
     record { sound = subst (λ room. AreSound c.renew-generation.new.self (chains_in (set s.lists.items (c.args.layout + 2) (new_head g a))) (generations_in (set s.lists.items (c.args.layout + 2) (new_head g a))) c.enqueue.new.waiting.items room s.keep c.enqueue.new.newest) (sym c.enqueue.ensures.capacity) (in_place (λ chains generations. AreSound c.renew-generation.new.self chains generations c.enqueue.new.waiting.items s.waiting.cap s.keep c.enqueue.new.newest) _ _ _ _ (chains g a) (generations g a) sound) }
-
-pub name_of-requires : goal.name_of-requires
-name_of-requires g c =
-    let s = c.args.self.now in
-    let p = first g (goal.at.name_of-requires g c).After-index_mut-head in
-    let o = slot_at (slots_in s.slots) c.index_mut-head.result.now.chain.first in
-    ap (λ l. is_some (slot_at l c.index_mut-head.result.now.chain.first).set) c.renew-generation.ensures.writes.slots
-    ∙ ap (λ (w : Slot g.row.T.Denot). is_some w.set) (slot_set (slots_in s.slots) c.index_mut-head.result.now.chain.first (renewed c.args.used o) p.0)
-    ∙ (kept_is (c.args.layout + 2) o (omega arith) p.1).1
 
 pub returns-clause-kept : goal.returns-clause-kept
 returns-clause-kept g c =
     let p = first g (goal.at.returns-clause-kept g c).After-index_mut-head in
-    ap (λ (h : SetHandle). is_in (c.args.layout + 2) (slot_at (slots_in c.args.self.now.slots) h.place)) c.name_of.ensures ∙ p.1
+    ap (λ (h : SetHandle). is_in (c.args.layout + 2) (slot_at (slots_in c.args.self.now.slots) h.place)) c.of-name.ensures ∙ p.1
 
 pub returns-clause-stays : goal.returns-clause-stays
 returns-clause-stays g c =
