@@ -1,7 +1,6 @@
 -- Returned sets are counted, and what becomes of all if there are none.
 use Rattle.std.proofs.Common.{◌≡◌, ℕ, ◌+◌, false, Bool, List, [], length, None, refl, sym, ap, ◌∙◌, arith}
 use Rattle.std.proofs.lemmas.Bool.{false≢true}
-use Rattle.std.specs.Borrow.{MutBor}
 use Rattle.std.specs.Iterator.{Yields, YieldsThen}
 use Rattle.gpu_descriptor_types.specs.Ledger.{Ledger}
 use Rattle.gpu_descriptor_types.specs.Meaning.{Meaning}
@@ -12,11 +11,11 @@ use Rattle.gpu_descriptor.specs.Caller.Values.{Allocations}
 use Rattle.gpu_descriptor.specs.Model.Agreement.{Item, count_of}
 use Rattle.gpu_descriptor.specs.declared.set.DescriptorSet.{DescriptorSet}
 use Rattle.gpu_descriptor.proofs.release.Freed.{gives_none}
-use Rattle.descriptor_table.specs.Giving.{GivesFrom}
+use Rattle.descriptor_table.specs.Giving.{GivesNext}
 use Rattle.descriptor_table.specs.Sets.{sets_in}
 use Rattle.descriptor_table.specs.Slots.{slot_at}
 use Rattle.descriptor_table.specs.Tables.{Turns, Becomes, slots_of, vacated}
-use Rattle.descriptor_table.specs.declared.set_table.SetTable.{SetTable}
+use Rattle.descriptor_table.specs.declared.giving.Giving.{Giving}
 use Rattle.descriptor_table.specs.Slots.{Slot}
 use Rattle.descriptor_table.proofs.Leaving.{given_weigh, tally_length}
 use Rattle.descriptor_manager.proofs.Given.{counts, weight}
@@ -24,32 +23,31 @@ use Rattle.descriptor_manager.proofs.Given.{counts, weight}
 module _ {S : Type 0} (name : S → ℕ) where
   -- what was returned, and what is left, is what there was
   pub given_count :
-      (test : Slot (DescriptorSet S) → Bool) (xs : List (DescriptorSet S)) (s u : MutBor (SetTable (DescriptorSet S)))
-      → Yields (GivesFrom test) s xs u → (t : Item)
-      → count_of t (items_of name (sets_in (slots_of s.now)))
-      ≡ count_of t (items_of name xs) + count_of t (items_of name (sets_in (slots_of u.now)))
-  given_count test xs s u y t =
-      let h = given_weigh (weight name t) test xs s u y in
-      let a = counts name t (sets_in (slots_of s.now)) in
+      (xs : List (DescriptorSet S)) (s u : Giving (DescriptorSet S)) → Yields GivesNext s xs u → (t : Item)
+      → count_of t (items_of name (sets_in (slots_of s.table.now)))
+      ≡ count_of t (items_of name xs) + count_of t (items_of name (sets_in (slots_of u.table.now)))
+  given_count xs s u y t =
+      let h = given_weigh (weight name t) xs s u y in
+      let a = counts name t (sets_in (slots_of s.table.now)) in
       let b = counts name t xs in
-      let c = counts name t (sets_in (slots_of u.now)) in
+      let c = counts name t (sets_in (slots_of u.table.now)) in
       omega arith
 
-  given_many : (test : Slot (DescriptorSet S) → Bool) (xs : List (DescriptorSet S)) (s u : MutBor (SetTable (DescriptorSet S))) → Yields (GivesFrom test) s xs u → length (sets_in (slots_of s.now)) ≡ length xs + length (sets_in (slots_of u.now))
-  given_many test xs s u y =
-      let h = given_weigh (λ x. 1) test xs s u y in
-      let a = tally_length (sets_in (slots_of s.now)) in
-      let b = tally_length xs in
-      let c = tally_length (sets_in (slots_of u.now)) in
-      omega arith
+given_many : {S : Type 0} (xs : List (DescriptorSet S)) (s u : Giving (DescriptorSet S)) → Yields GivesNext s xs u → length (sets_in (slots_of s.table.now)) ≡ length xs + length (sets_in (slots_of u.table.now))
+given_many xs s u y =
+    let h = given_weigh (λ x. 1) xs s u y in
+    let a = tally_length (sets_in (slots_of s.table.now)) in
+    let b = tally_length xs in
+    let c = tally_length (sets_in (slots_of u.table.now)) in
+    omega arith
 
 -- an iterator gave sets to its end
-module _ {S : Type 0} (name : S → ℕ) (test : Slot (DescriptorSet S) → Bool) (xs : List (DescriptorSet S)) (s u : MutBor (SetTable (DescriptorSet S))) (d : YieldsThen (GivesFrom test) s xs None u) where
-  pub all_count : (t : Item) → count_of t (items_of name (sets_in (slots_of s.now))) ≡ count_of t (items_of name xs) + count_of t (items_of name (sets_in (slots_of u.now)))
-  all_count t = given_count name test xs s d.0 d.1 t ∙ ap (λ l. count_of t (items_of name xs) + count_of t (items_of name (sets_in l))) (sym d.2.gives.slots.slots)
+module _ {S : Type 0} (xs : List (DescriptorSet S)) (s u : Giving (DescriptorSet S)) (d : YieldsThen GivesNext s xs None u) where
+  pub all_count : (name : S → ℕ) (t : Item) → count_of t (items_of name (sets_in (slots_of s.table.now))) ≡ count_of t (items_of name xs) + count_of t (items_of name (sets_in (slots_of u.table.now)))
+  all_count name t = given_count name xs s d.0 d.1 t ∙ ap (λ l. count_of t (items_of name xs) + count_of t (items_of name (sets_in l))) (sym d.2.gives.slots.slots)
 
-  pub all_many : length (sets_in (slots_of s.now)) ≡ length xs + length (sets_in (slots_of u.now))
-  all_many = given_many name test xs s d.0 d.1 ∙ ap (λ l. length xs + length (sets_in l)) (sym d.2.gives.slots.slots)
+  pub all_many : length (sets_in (slots_of s.table.now)) ≡ length xs + length (sets_in (slots_of u.table.now))
+  all_many = given_many xs s d.0 d.1 ∙ ap (λ l. length xs + length (sets_in l)) (sym d.2.gives.slots.slots)
 
 -- no set is returned
 pub returns_none : {L P S : Type 0} (means : Meaning L P S) (old : Allocations P) (before : Ledger) → Returns means [] (side old before) (side old before)

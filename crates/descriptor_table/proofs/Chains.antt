@@ -5,7 +5,7 @@ use Rattle.std.proofs.Common.{◌≡◌, ◌≢◌, ℕ, suc, ◌+◌, ◌-◌, 
 use Rattle.std.proofs.lemmas.List.{get_or-set_other, get_or-set_same, length-set}
 use Rattle.std.proofs.lemmas.Bool.{false≢true, true≢false}
 use Rattle.descriptor_table.specs.Places.{times, walk}
-use Rattle.descriptor_table.specs.Slots.{AreFew, AreLinked, HasLists, IsListed, IsNowhere, Lists, Slot, chain_at, frame_of, in_list, is_in, is_live, slot_at, waits, waits_for}
+use Rattle.descriptor_table.specs.Slots.{AreLinked, HasLists, IsListed, IsNowhere, Lists, Slot, chain_at, frame_of, in_list, is_in, is_live, slot_at, waits, waits_for}
 use Rattle.descriptor_table.specs.Tables.{is_held_use, is_kept, used_for}
 use Rattle.descriptor_table.specs.declared.slot.Use.{Use}
 use Rattle.descriptor_table.specs.declared.slot.Use.TheVariants.{Held, Taken}
@@ -68,7 +68,7 @@ pub other_chains : (chains : List Chain) (k : ℕ) (c : Chain) (j : ℕ) → j �
 other_chains chains k c j ne = get_or-set_other chains k j c (record { first = 0; count = 0 }) ne
 
 -- a list of kept sets got shorter, or another list longer
-pub few_set : (max : ℕ) (chains : List Chain) (k : ℕ) (c : Chain) → AreFew max chains → k < length chains → (2 ≤ k → c.count ≤ max) → AreFew max (set chains k c)
+pub few_set : (max : ℕ) (chains : List Chain) (k : ℕ) (c : Chain) → ((j : ℕ) → 2 ≤ j → (chain_at chains j).count ≤ max) → k < length chains → (2 ≤ k → c.count ≤ max) → (j : ℕ) → 2 ≤ j → (chain_at (set chains k c) j).count ≤ max
 few_set max chains k c few within le j two = grind (arith, common_steps, chain_set, other_chains, same_or)
 
 module _ {T : Type 0} where

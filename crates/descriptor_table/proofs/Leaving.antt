@@ -6,10 +6,10 @@ use Rattle.std.proofs.Common.{◌≡◌, ℕ, zero, suc, ◌+◌, ◌<◌, ◌&&
 use Rattle.std.specs.Borrow.{MutBor}
 use Rattle.std.specs.Iterator.{MakesProgress, Yields, YieldsThen, at_most}
 use Rattle.std.specs.declared.iter.Iterator.{can_next-default}
-use Rattle.descriptor_table.specs.Giving.{GivesFrom, GivesNext, is_of, sets_left}
+use Rattle.descriptor_table.specs.Giving.{GivesNext, is_of, sets_left}
 use Rattle.descriptor_table.specs.Sets.{joined, sets_in}
 use Rattle.descriptor_table.specs.Slots.{slot_at}
-use Rattle.descriptor_table.specs.Tables.{Gives, GivesAny, Stays, Turns, Becomes, slots_of, vacated}
+use Rattle.descriptor_table.specs.Tables.{GivesAny, Stays, Turns, Becomes, slots_of, vacated}
 use Rattle.descriptor_table.specs.declared.giving.Giving.{Giving}
 use Rattle.descriptor_table.specs.declared.giving.Group.{Group}
 use Rattle.descriptor_table.specs.declared.giving.Group.TheVariants.{Going, Due, KeptOf}
@@ -39,20 +39,20 @@ module _ {T : Type 0} (weight : T → ℕ) where
   tally_set (y ∷ slots) (suc p) s within = let h = tally_set slots p s (omega arith) in let a = tally_joined y.set (sets_in (set slots p s)) in let b = tally_joined y.set (sets_in slots) in omega arith
 
   -- without a set that was taken out the others weigh less by its weight
-  pub gives_weigh : (test : Slot T → Bool) (x : T) (old new : List (Slot T)) → Gives test x old new → tally weight (sets_in old) ≡ weight x + tally weight (sets_in new)
+  pub gives_weigh : (test : Slot T → Bool) (x : T) (old new : List (Slot T)) → GivesAny test (Some x) old new → tally weight (sets_in old) ≡ weight x + tally weight (sets_in new)
   gives_weigh test x old new g =
-      let h = tally_set old g.place (vacated (slot_at old g.place)) g.within in
-      let a = ap (weight_of weight) g.full in
-      let b = ap (λ l. tally weight (sets_in l)) g.slots in
+      let h = tally_set old g.0 (vacated (slot_at old g.0)) g.1.within in
+      let a = ap (weight_of weight) g.2 in
+      let b = ap (λ l. tally weight (sets_in l)) g.1.slots in
       omega arith
 
   -- what was returned, and what is left, weigh what there was
-  pub given_weigh : (test : Slot T → Bool) (xs : List T) (s t : MutBor (SetTable T)) → Yields (GivesFrom test) s xs t → tally weight (sets_in (slots_of s.now)) ≡ tally weight xs + tally weight (sets_in (slots_of t.now))
-  given_weigh test [] s t y = ap (λ (u : MutBor (SetTable T)). tally weight (sets_in (slots_of u.now))) y ∙ sym (zero-add (tally weight (sets_in (slots_of t.now))))
-  given_weigh test (x ∷ xs) s t y =
+  pub given_weigh : (xs : List T) (s t : Giving T) → Yields GivesNext s xs t → tally weight (sets_in (slots_of s.table.now)) ≡ tally weight xs + tally weight (sets_in (slots_of t.table.now))
+  given_weigh [] s t y = ap (λ (u : Giving T). tally weight (sets_in (slots_of u.table.now))) y ∙ sym (zero-add (tally weight (sets_in (slots_of t.table.now))))
+  given_weigh (x ∷ xs) s t y =
       let u = y.0 in
-      let one = gives_weigh test x (slots_of s.now) (slots_of u.now) y.1.gives.slots in
-      let rest = given_weigh test xs u t y.2 in
+      let one = gives_weigh (is_of s.group) x (slots_of s.table.now) (slots_of u.table.now) y.1.gives.slots in
+      let rest = given_weigh xs u t y.2 in
       omega arith
 
 pub tally_length : {T : Type 0} (l : List T) → tally (λ x. 1) l ≡ length l
@@ -67,7 +67,7 @@ module _ {T : Type 0} where
   same_sets (x ∷ l) [] long same = absurd (omega arith)
   same_sets (x ∷ l) (y ∷ m) long same = ap (λ o. joined o (sets_in m)) (same 0) ∙ ap (joined x.set) (same_sets l m (omega arith) (λ p. same (suc p)))
 
-  pub one_set_fewer : (test : Slot T → Bool) (x : T) (old new : List (Slot T)) → Gives test x old new → length (sets_in new) < length (sets_in old)
+  pub one_set_fewer : (test : Slot T → Bool) (x : T) (old new : List (Slot T)) → GivesAny test (Some x) old new → length (sets_in new) < length (sets_in old)
   one_set_fewer test x old new g =
       let h = gives_weigh (λ x. 1) test x old new g in
       let a = tally_length (sets_in old) in
@@ -78,35 +78,6 @@ module _ {T : Type 0} where
   pub progress : {S : Type 0} (table : S → MutBor (SetTable T)) (test : Slot T → Bool) (s t : S) (r : Option T) → GivesAny test r (slots_of (table s).now) (slots_of (table t).now) → MakesProgress (can_next-default S T) (λ u. at_most (sets_left (table u))) s r t
   progress table test s t None gives = record { on = λ finite. tt; keeps = tt; rests = λ finite. tt }
   progress table test s t (Some x) gives = record { on = λ finite. (tt, tt, one_set_fewer test x (slots_of (table s).now) (slots_of (table t).now) gives); keeps = tt; rests = λ finite. tt }
-
-  module _ (test : Slot T → Bool) (out : (s : Slot T) → test (vacated s) ≡ false) where
-    -- the sets were taken out, one after another
-    given_turns : (xs : List T) (s t : MutBor (SetTable T)) (old : List (Slot T)) → Yields (GivesFrom test) s xs t → Turning test (Becomes vacated) old (slots_of s.now) → Turning test (Becomes vacated) old (slots_of t.now)
-    given_turns [] s t old y turning = subst (λ (u : MutBor (SetTable T)). Turning test (Becomes vacated) old (slots_of u.now)) y turning
-    given_turns (x ∷ xs) s t old y turning =
-        let u = y.0 in
-        let now = slots_of s.now in
-        let g = y.1.gives.slots in
-        given_turns xs u t old y.2 (turn_step test (Becomes vacated) old now (slots_of u.now) g.place (vacated (slot_at now g.place)) turning g.within g.was g.slots (λ o n w. w) (λ o n w. ap test w ∙ out o) refl)
-
-    -- settings and memory stayed, and it is the same borrow of the table
-    given_stays : (xs : List T) (s t : MutBor (SetTable T)) → Yields (GivesFrom test) s xs t → (t.ghost_name ≡ s.ghost_name) × Stays s.now t.now
-    given_stays [] s t y = (ap (λ (u : MutBor (SetTable T)). u.ghost_name) (sym y), subst (λ (u : MutBor (SetTable T)). Stays s.now u.now) y (stays_same s.now))
-    given_stays (x ∷ xs) s t y =
-        let rest = given_stays xs y.0 t y.2 in
-        (rest.0 ∙ y.1.same, stays_more s.now y.0.now t.now y.1.gives.stays rest.1)
-
-    -- all these sets were taken out
-    pub given_all : (xs : List T) (s u : MutBor (SetTable T)) → YieldsThen (GivesFrom test) s xs None u → Turns test (Becomes vacated) (slots_of s.now) (slots_of u.now) × (u.ghost_name ≡ s.ghost_name) × Stays s.now u.now
-    given_all xs s u d =
-        let v = d.0 in
-        let last = d.2 in
-        let old = slots_of s.now in
-        let now = slots_of v.now in
-        let none = last.gives.slots in
-        let turning = given_turns xs s v old d.1 (turn_start test (Becomes vacated) old) in
-        let stays = given_stays xs s v d.1 in
-        (subst (Turns test (Becomes vacated) old) (sym none.slots) (turn_end test (Becomes vacated) old now turning none.none), last.same ∙ stays.0, stays_more s.now v.now u.now stays.1 last.gives.stays)
 
   -- a set of a group is there
   pub group_full : (group : Group) (s : Slot T) → is_of group s ≡ true → is_some s.set ≡ true
@@ -120,14 +91,31 @@ module _ {T : Type 0} where
   group_out (Due frame) s = refl
   group_out (KeptOf layout) s = ap (λ b. b && (nat_lt s.generation 4294967295 && true)) (ne_eqb (layout + 2) 0 (λ e. omega arith))
 
-  -- the steps of the iterator are steps of its table
-  pub group_steps : (group : Group) (xs : List T) (s t : Giving T) → s.group ≡ group → Yields GivesNext s xs t → Yields (GivesFrom (is_of group)) s.table xs t.table × (t.group ≡ group)
-  group_steps group [] s t is y = (ap (λ (u : Giving T). u.table) y, ap (λ (u : Giving T). u.group) (sym y) ∙ is)
-  group_steps group (x ∷ xs) s t is y =
-      let rest = group_steps group xs y.0 t (y.1.group ∙ is) y.2 in
-      ((y.0.table, subst (λ g. GivesFrom (is_of g) s.table (Some x) y.0.table) is y.1.first, rest.0), rest.1)
+  module _ (group : Group) where
+    -- the sets were taken out, one after another
+    given_turns : (xs : List T) (s t : Giving T) (old : List (Slot T)) → s.group ≡ group → Yields GivesNext s xs t → Turning (is_of group) (Becomes vacated) old (slots_of s.table.now) → Turning (is_of group) (Becomes vacated) old (slots_of t.table.now)
+    given_turns [] s t old is y turning = subst (λ (u : Giving T). Turning (is_of group) (Becomes vacated) old (slots_of u.table.now)) y turning
+    given_turns (x ∷ xs) s t old is y turning =
+        let u = y.0 in
+        let now = slots_of s.table.now in
+        let g = subst (λ g. GivesAny (is_of g) (Some x) now (slots_of u.table.now)) is y.1.gives.slots in
+        given_turns xs u t old (y.1.group ∙ is) y.2 (turn_step (is_of group) (Becomes vacated) old now (slots_of u.table.now) g.0 (vacated (slot_at now g.0)) turning g.1.within g.1.was g.1.slots (λ o n w. w) (λ o n w. ap (is_of group) w ∙ group_out group o) refl)
 
-  pub group_all : (group : Group) (xs : List T) (s u : Giving T) → s.group ≡ group → YieldsThen GivesNext s xs None u → YieldsThen (GivesFrom (is_of group)) s.table xs None u.table
-  group_all group xs s u is d =
-      let steps = group_steps group xs s d.0 is d.1 in
-      (d.0.table, steps.0, subst (λ g. GivesFrom (is_of g) d.0.table None u.table) steps.1 d.2.first)
+  -- settings and memory stayed, and it is the same borrow of the table
+  given_stays : (xs : List T) (s t : Giving T) → Yields GivesNext s xs t → (t.group ≡ s.group) × (t.table.ghost_name ≡ s.table.ghost_name) × Stays s.table.now t.table.now
+  given_stays [] s t y = (ap (λ (u : Giving T). u.group) (sym y), ap (λ (u : Giving T). u.table.ghost_name) (sym y), subst (λ (u : Giving T). Stays s.table.now u.table.now) y (stays_same s.table.now))
+  given_stays (x ∷ xs) s t y =
+      let rest = given_stays xs y.0 t y.2 in
+      (rest.0 ∙ y.1.group, rest.1 ∙ y.1.same, stays_more s.table.now y.0.table.now t.table.now y.1.gives.stays rest.2)
+
+  -- all sets of the group were taken out
+  pub given_all : (xs : List T) (s u : Giving T) → YieldsThen GivesNext s xs None u → Turns (is_of s.group) (Becomes vacated) (slots_of s.table.now) (slots_of u.table.now) × (u.table.ghost_name ≡ s.table.ghost_name) × Stays s.table.now u.table.now
+  given_all xs s u d =
+      let v = d.0 in
+      let last = d.2 in
+      let old = slots_of s.table.now in
+      let now = slots_of v.table.now in
+      let stays = given_stays xs s v d.1 in
+      let none = subst (λ g. GivesAny (is_of g) None now (slots_of u.table.now)) stays.0 last.gives.slots in
+      let turning = given_turns s.group xs s v old refl d.1 (turn_start (is_of s.group) (Becomes vacated) old) in
+      (subst (Turns (is_of s.group) (Becomes vacated) old) (sym none.slots) (turn_end (is_of s.group) (Becomes vacated) old now turning none.none), last.same ∙ stays.1, stays_more s.table.now v.table.now u.table.now stays.2 last.gives.stays)

@@ -5,7 +5,7 @@ use Rattle.std.proofs.Common.{◌≡◌, ℕ, ◌+◌, ◌<◌, ◌≤◌, Bool,
 use Rattle.std.proofs.lemmas.List.{length-set, set-set}
 use Rattle.std.proofs.lemmas.Bool.{false≢true}
 use Rattle.descriptor_table.specs.Slots.{goes, is_in, slot_at}
-use Rattle.descriptor_table.specs.Tables.{GivesAny, HasRoom, Picks, Puts, Renews, Stays, came_under, count, is_usable, renewed, slots_of, usable_of, used_for, vacated}
+use Rattle.descriptor_table.specs.Tables.{GivesAny, HasRoom, Picks, Puts, Renews, Stays, came_under, count, is_usable, renewed, slots_of, used_for, vacated}
 use Rattle.descriptor_table.specs.declared.handle.SetHandle.{SetHandle}
 use Rattle.descriptor_table.specs.declared.set_table.SetTable.{SetTable}
 use Rattle.descriptor_table.specs.declared.slot.Use.{Use}
@@ -39,11 +39,11 @@ module _ {T : Type 0} where
   puts_again generations layout p x old mid new within was left is = grind (arith, common_steps, length-set, other_slots, set-set, slot_set, vacant_is)
 
   -- there is room for as many sets if as many slots are usable, and nothing else changed
-  pub room_stays : (n : ℕ) (a b : SetTable T) → Stays a b → length (slots_of b) ≡ length (slots_of a) → usable_of b ≡ usable_of a → HasRoom n a → HasRoom n b
+  pub room_stays : (n : ℕ) (a b : SetTable T) → Stays a b → length (slots_of b) ≡ length (slots_of a) → count is_usable (slots_of b) ≡ count is_usable (slots_of a) → HasRoom n a → HasRoom n b
   room_stays n a b stays long usable room = grind (arith, common_steps)
 
   -- a vacant slot got a set, and so there is room for one fewer
-  pub room_less : (n p : ℕ) (s : Slot T) (a b c : SetTable T) → Picks is_usable p (slots_of a) (slots_of b) → slots_of c ≡ set (slots_of b) p s → is_usable s ≡ false → Stays a b → Stays b c → HasRoom (n + 1) a → HasRoom n c
+  pub room_less : (n p : ℕ) (s : Slot T) (a b c : SetTable T) → Picks is_usable (used_for Taken) p (slots_of a) (slots_of b) → slots_of c ≡ set (slots_of b) p s → is_usable s ≡ false → Stays a b → Stays b c → HasRoom (n + 1) a → HasRoom n c
   room_less n p s a b c picks is used before after room = grind (arith, common_steps, bit, count_set, length-set, same_count, slot_set)
 
   -- and so does one that gets a handle, if a call has its slot
@@ -59,7 +59,7 @@ module _ {T : Type 0} where
   leaves_vacant p old mid new within taken is = grind (arith, common_steps, set-set, slot_set)
 
   -- a set that passes the test left its list, then its slot
-  pub gives : (test : Slot T → Bool) (p : ℕ) (r : Option T) (old mid new : List (Slot T)) → Picks test p old mid → is_some (slot_at old p).set ≡ true → r ≡ (slot_at mid p).set → (is_some r ≡ true → new ≡ set mid p (vacated (slot_at mid p))) → GivesAny test r old new
+  pub gives : (test : Slot T → Bool) (p : ℕ) (r : Option T) (old mid new : List (Slot T)) → Picks test (used_for Taken) p old mid → is_some (slot_at old p).set ≡ true → r ≡ (slot_at mid p).set → (is_some r ≡ true → new ≡ set mid p (vacated (slot_at mid p))) → GivesAny test r old new
   gives test p None old mid new picks full taken is =
       let slot = ap (λ l. slot_at l p) picks.slots ∙ slot_set old p (used_for Taken (slot_at old p)) picks.within in
       let none : None ≡ (slot_at old p).set = taken ∙ ap (λ (s : Slot T). s.set) slot in
@@ -67,13 +67,7 @@ module _ {T : Type 0} where
   gives test p (Some x) old mid new picks full taken is =
       let o = slot_at old p in
       let slot : slot_at mid p ≡ used_for Taken o = ap (λ l. slot_at l p) picks.slots ∙ slot_set old p (used_for Taken o) picks.within in
-      record {
-        place = p;
-        within = picks.within;
-        was = picks.was;
-        full = sym (taken ∙ ap (λ (s : Slot T). s.set) slot);
-        slots = is refl ∙ ap (λ (s : Slot T). set mid p (vacated s)) slot ∙ ap (λ l. set l p (vacated o)) picks.slots ∙ set-set old p (used_for Taken o) (vacated o);
-      }
+      (p, record { was = picks.was; within = picks.within; slots = is refl ∙ ap (λ (s : Slot T). set mid p (vacated s)) slot ∙ ap (λ l. set l p (vacated o)) picks.slots ∙ set-set old p (used_for Taken o) (vacated o) }, sym (taken ∙ ap (λ (s : Slot T). s.set) slot))
 
   -- a slot of the sets that go has one
   pub goes_full : (s : Slot T) → goes s ≡ true → is_some s.set ≡ true

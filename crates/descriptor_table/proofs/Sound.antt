@@ -4,7 +4,7 @@ use Rattle.std.proofs.lemmas.Grind.{common_steps}
 use Rattle.std.proofs.Common.{◌≡◌, ◌≢◌, ℕ, ◌+◌, ◌-◌, ◌<◌, ◌≤◌, true, false, List, [], ◌∷◌, ◌++◌, is_some, length, get_or, set, sym, ap, subst, ◌∙◌, arith}
 use Rattle.std.proofs.lemmas.Bool.{true≢false}
 use Rattle.std.proofs.lemmas.List.{get_or-set_other, get_or-set_same, length-map, length-set, length_push}
-use Rattle.descriptor_table.specs.Slots.{AreLinked, AreSized, AreSound, HasLists, IsListed, IsNowhere, IsQueue, Slot, chain_at, generation_at, is_in, nexts_in, slot_at, slot_of, slots_in, waits}
+use Rattle.descriptor_table.specs.Slots.{AreLinked, AreSound, HasLists, IsListed, IsNowhere, IsQueue, Slot, chain_at, generation_at, is_in, nexts_in, slot_at, slot_of, slots_in, waits}
 use Rattle.descriptor_table.specs.Tables.{is_kept, removed_at}
 use Rattle.descriptor_table.specs.declared.slot.Chain.{Chain}
 use Rattle.descriptor_table.specs.declared.slot.Use.TheVariants.{Held, Taken}
@@ -27,19 +27,19 @@ module _ {T : Type 0} (l l' : SlotList T) (chains : List Chain) (generations wai
 
   module _ (p : ℕ) (s : Slot T) (slots : slots_in l' ≡ set (slots_in l) p s) where
     -- there are as many slots as before
-    sized : AreSized (length (slots_in l')) room
-    sized = subst (λ n. AreSized n room) (sym (ap length slots ∙ length-set (slots_in l) p s)) h.sized
+    long : length (slots_in l') ≡ length (slots_in l)
+    long = ap length slots ∙ length-set (slots_in l) p s
 
     known : p < length (slots_in l) → IsListed (length chains) (generation_at generations) s → HasLists (slots_in l') (length chains) (generation_at generations)
     known within here = subst (λ l. HasLists l (length chains) (generation_at generations)) (sym slots) (lists_set (slots_in l) p s (length chains) (generation_at generations) h.known within here)
 
     -- one list changed, and perhaps the queue
     changed : (k : ℕ) (d : Chain) (waiting' : List ℕ) (newest' : ℕ) → k < length chains → p < length (slots_in l) → IsListed (length chains) (generation_at generations) s → (2 ≤ k → d.count ≤ keep) → AreLinked (slots_in l') (nexts_in l') (set chains k d) → IsQueue (set (slots_in l) p s) waiting' newest' → AreSound l' (set chains k d) generations waiting' room keep newest'
-    changed k d waiting' newest' there within here few linked queue = grind (arith, common_steps, few_set, known, known_chains, sized)
+    changed k d waiting' newest' there within here few linked queue = grind (arith, common_steps, few_set, known, known_chains, long)
 
     -- the queue changed
     pub queued : (waiting' : List ℕ) (newest' : ℕ) → p < length (slots_in l) → IsListed (length chains) (generation_at generations) s → nexts_in l' ≡ nexts_in l → ((k : ℕ) → is_in k (slot_at (slots_in l) p) ≡ false) → ((k : ℕ) → is_in k s ≡ false) → IsQueue (set (slots_in l) p s) waiting' newest' → AreSound l' chains generations waiting' room keep newest'
-    queued waiting' newest' within here nexts was now queue = grind (arith, common_steps, in_place, known, out_linked, sized)
+    queued waiting' newest' within here nexts was now queue = grind (arith, common_steps, in_place, known, long, out_linked)
 
     -- a slot that is in no list, and not in the queue, came to neither
     pub out_sound : p < length (slots_in l) → nexts_in l' ≡ nexts_in l → (waits (slot_at (slots_in l) p) ≡ false) × ((k : ℕ) → is_in k (slot_at (slots_in l) p) ≡ false) → (waits s ≡ false) × ((k : ℕ) → is_in k s ≡ false) → s.layout ≡ (slot_at (slots_in l) p).layout → s.layout_generation ≡ (slot_at (slots_in l) p).layout_generation → s.kept_below ≡ (slot_at (slots_in l) p).kept_below → (s.used ≡ Held → is_some s.set ≡ true) → AreSound l' chains generations waiting room keep newest
@@ -78,7 +78,8 @@ module _ {T : Type 0} (l l' : SlotList T) (chains : List Chain) (generations wai
   push_sound s taken slots nexts here few space =
       let long = ap length slots ∙ length_push (slots_in l) s in
       record {
-        sized = record { few = omega arith; room = omega arith };
+        size = omega arith;
+        fits = omega arith;
         linked = in_place (λ l n. AreLinked l n chains) _ _ _ _ slots nexts (linked_grown (slots_in l) (nexts_in l) chains s taken h.linked);
         queue = subst (λ l. IsQueue l waiting newest) (sym slots) (queue_grown (slots_in l) waiting newest s taken h.queue);
         known = subst (λ l. HasLists l (length chains) (generation_at generations)) (sym slots) (known_grown (slots_in l) s (length chains) (generation_at generations) here h.known (length_push (slots_in l) s));
@@ -88,7 +89,8 @@ module _ {T : Type 0} (l l' : SlotList T) (chains : List Chain) (generations wai
   -- a slot that a call has changed
   pub fill_sound : (p x : ℕ) (s : Slot T) → p < length (slots_in l) → (slot_at (slots_in l) p).used ≡ Taken → s.used ≡ Taken → slots_in l' ≡ set (slots_in l) p s → nexts_in l' ≡ set (nexts_in l) p x → IsListed (length chains) (generation_at generations) s → AreSound l' chains generations waiting room keep newest
   fill_sound p x s within was taken slots nexts here = record {
-    sized = sized p s slots;
+    size = (let same = long p s slots in let size = h.size in omega arith);
+    fits = (let same = long p s slots in let fits = h.fits in omega arith);
     linked = in_place (λ l n. AreLinked l n chains) _ _ _ _ slots nexts (filled_linked (slots_in l) (nexts_in l) chains h.linked p s within (subst IsNowhere (sym was) tt) x (taken_no_list s taken));
     queue = subst (λ l. IsQueue l waiting newest) (sym slots) (out_queue (slots_in l) waiting newest h.queue p s within (taken_out (slot_at (slots_in l) p) was) (taken_out s taken));
     known = known p s slots within here;
@@ -107,4 +109,4 @@ removed_is generations layout within n = grind (arith, common_steps, removed_her
 
 -- a layout was removed, of which no set is kept
 pub remove_sound : {T : Type 0} (l : SlotList T) (chains : List Chain) (generations waiting : List ℕ) (room keep newest : ℕ) → AreSound l chains generations waiting room keep newest → (layout : ℕ) → layout + 2 < length generations → ((p : ℕ) → is_in (layout + 2) (slot_at (slots_in l) p) ≡ false) → AreSound l chains (set generations (layout + 2) (generation_at generations layout + 1)) waiting room keep newest
-remove_sound {T} l chains generations waiting room keep newest h layout within none = grind (arith, common_steps, known, removed_here, removed_others, same_or, sized, true≢false)
+remove_sound {T} l chains generations waiting room keep newest h layout within none = grind (arith, common_steps, known, removed_here, removed_others, same_or, true≢false)

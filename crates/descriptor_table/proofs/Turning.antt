@@ -6,7 +6,7 @@ use Rattle.std.proofs.Common.{◌≡◌, ◌≢◌, ℕ, zero, suc, ◌+◌, ◌
 use Rattle.std.proofs.lemmas.List.{length-set, set-set}
 use Rattle.std.proofs.lemmas.Bool.{false≢true, ltb-false, true≢false}
 use Rattle.descriptor_table.specs.Slots.{IsNowhere, Slot, in_list, is_due, is_in, slot_at, waits_for}
-use Rattle.descriptor_table.specs.Tables.{AtIf, Settings, CanBeHeld, IsBack, KeepsSettings, MayBecome, Picks, Stays, Turns, count, generations_of, holds, is_held_use, is_kept, may_stay, next_use, stays, used_for, Becomes}
+use Rattle.descriptor_table.specs.Tables.{Settings, CanBeHeld, IsBack, MayBecome, Picks, Stays, Turns, count, generations_of, holds, is_held_use, is_kept, may_stay, next_use, stays, used_for, Becomes, settings_of}
 use Rattle.descriptor_table.specs.declared.set_table.SetTable.{SetTable}
 use Rattle.descriptor_table.specs.declared.slot.Use.{Use}
 use Rattle.descriptor_table.specs.declared.slot.Use.TheVariants.{Held, Kept, Going, Taken}
@@ -150,7 +150,7 @@ module _ {T : Type 0} where
   }
 
   -- with settings as they were, a freed set comes to the same use
-  pub same_next : (a b : SetTable T) → KeepsSettings a b → (slots : List (Slot T)) (p : ℕ) → next_use (generations_of b) b.keep slots p ≡ next_use (generations_of a) a.keep slots p
+  pub same_next : (a b : SetTable T) → settings_of b ≡ settings_of a → (slots : List (Slot T)) (p : ℕ) → next_use (generations_of b) b.keep slots p ≡ next_use (generations_of a) a.keep slots p
   same_next a b same slots p = ap (λ (s : Settings). next_use s.generations s.keep slots p) same
 
   -- a slot that passed the test doesn't any more
@@ -171,7 +171,7 @@ module _ {T : Type 0} where
       omega arith
 
   -- a step of a loop whose sets go: a slot that passed the test was picked, and goes
-  module _ (test : Slot T → Bool) (now mid new : List (Slot T)) (p : ℕ) (picks : Picks test p now mid) (goes : new ≡ with_use p Going mid) (out : (s : Slot T) → test (used_for Going s) ≡ false) where
+  module _ (test : Slot T → Bool) (now mid new : List (Slot T)) (p : ℕ) (picks : Picks test (used_for Taken) p now mid) (goes : new ≡ with_use p Going mid) (out : (s : Slot T) → test (used_for Going s) ≡ false) where
     went : new ≡ set now p (used_for Going (slot_at now p))
     went = goes ∙ ap (with_use p Going) picks.slots ∙ use_again now p Taken Going picks.within
 
@@ -192,7 +192,7 @@ module _ {T : Type 0} where
 
   -- a step of a loop at a place: a slot that passes the test turns, another stays
   module _ (test : Slot T → Bool) (becomes : List (Slot T) → Slot T → Slot T → Type 0) (old now new : List (Slot T)) (p : ℕ) (u : Use) (turning : Turning test becomes old now) (within : p < length now) where
-    turn_one : AtIf test p (used_for u) now new → (test (slot_at now p) ≡ true → Turning test becomes old new) → test (used_for u (slot_at now p)) ≡ false → TurnsOne test becomes old now new p
+    turn_one : new ≡ (if test (slot_at now p) then set now p (used_for u (slot_at now p)) else now) → (test (slot_at now p) ≡ true → Turning test becomes old new) → test (used_for u (slot_at now p)) ≡ false → TurnsOne test becomes old now new p
     turn_one is step out = by_test (test (slot_at now p)) refl
       where
         by_test : (b : Bool) → test (slot_at now p) ≡ b → TurnsOne test becomes old now new p
@@ -216,7 +216,7 @@ module _ {T : Type 0} where
             }
 
   -- a slot that passes the test comes to be in use for something, and doesn't pass it then
-  pub use_one : (test : Slot T → Bool) (u : Use) (old now new : List (Slot T)) (p : ℕ) → Turning test (λ l o n. n ≡ used_for u o) old now → p < length now → AtIf test p (used_for u) now new → ((s : Slot T) → test (used_for u s) ≡ false) → TurnsOne test (λ l o n. n ≡ used_for u o) old now new p
+  pub use_one : (test : Slot T → Bool) (u : Use) (old now new : List (Slot T)) (p : ℕ) → Turning test (λ l o n. n ≡ used_for u o) old now → p < length now → new ≡ (if test (slot_at now p) then set now p (used_for u (slot_at now p)) else now) → ((s : Slot T) → test (used_for u s) ≡ false) → TurnsOne test (λ l o n. n ≡ used_for u o) old now new p
   use_one test u old now new p turning within is out = turn_one test (λ l o n. n ≡ used_for u o) old now new p u turning within is step (out (slot_at now p))
     where
       step : test (slot_at now p) ≡ true → Turning test (λ l o n. n ≡ used_for u o) old new

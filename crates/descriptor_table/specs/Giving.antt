@@ -16,15 +16,11 @@ module _ {T : Type 0} where
   is_of (Due frame) = is_due frame
   is_of (KeptOf layout) = is_kept_of layout
 
-  -- one of the sets that pass the test was taken out of its slot, if there was one
-  pub record GivesFrom (test : Slot T → Bool) (s : MutBor (SetTable T)) (r : Option T) (t : MutBor (SetTable T)) : Type 0 where
-    pub same : t.ghost_name ≡ s.ghost_name
-    pub gives : Changes (GivesAny test r) s.now t.now
-
-  -- one of the group
+  -- one of the group was taken out of its slot, if there was one
   pub record GivesNext (s : Giving T) (r : Option T) (t : Giving T) : Type 0 where
     pub group : t.group ≡ s.group
-    pub first : GivesFrom (is_of s.group) s.table r t.table
+    pub same : t.table.ghost_name ≡ s.table.ghost_name
+    pub gives : Changes (GivesAny (is_of s.group) r) s.table.now t.table.now
 
   -- how many sets there are
   abbrev pub sets_left : MutBor (SetTable T) → ℕ

@@ -79,16 +79,6 @@ chains_in lists = map (λ h. h.chain) lists
 abbrev pub generations_in : List ListHead → List ℕ
 generations_in lists = map (λ h. h.generation) lists
 
--- the sizes of a table's vectors fit: this is the number of slots, and that of places for which the queue has memory
-pub record AreSized (slots places : ℕ) : Type 0 where
-  pub few : slots < 4294967296
-  -- one for each slot, so that a set can wait without an allocation
-  pub room : slots ≤ places
-
--- at most `max` sets of a layout are kept
-abbrev pub AreFew : ℕ → List Chain → Type 0
-AreFew max chains = (k : ℕ) → 2 ≤ k → (chain_at chains k).count ≤ max
-
 -- the slots of a table
 abbrev pub Slots : Type 0 → Type 0
 Slots T = List (Slot T)
@@ -180,8 +170,11 @@ module _ {T : Type 0} where
 
   -- slots, lists and queue of a table agree
   pub record AreSound (l : SlotList T) (chains : List Chain) (generations waiting : List ℕ) (room keep newest : ℕ) : Type 0 where
-    pub sized : AreSized (length (slots_in l)) room
+    pub size : length (slots_in l) < 4294967296
+    -- one place for each slot, so that a set can wait without an allocation
+    pub fits : length (slots_in l) ≤ room
     pub linked : AreLinked (slots_in l) (nexts_in l) chains
     pub queue : IsQueue (slots_in l) waiting newest
     pub known : HasLists (slots_in l) (length chains) (generation_at generations)
-    pub few : AreFew keep chains
+    -- at most `keep` sets of a layout are kept
+    pub few : (k : ℕ) → 2 ≤ k → (chain_at chains k).count ≤ keep

@@ -49,10 +49,6 @@ module _ {T : Type 0} where
   abbrev pub At : ℕ → (Slot T → Slot T) → Slots T → Slots T → Type 0
   At p becomes old new = new ≡ slice_set old p (becomes (slot_at old p))
 
-  -- the slot at the place became this if it passed the test
-  abbrev pub AtIf : (Slot T → Bool) → ℕ → (Slot T → Slot T) → Slots T → Slots T → Type 0
-  AtIf test p becomes old new = new ≡ (if test (slot_at old p) then slice_set old p (becomes (slot_at old p)) else old)
-
   -- how many slots pass the test
   abbrev pub count : (Slot T → Bool) → Slots T → ℕ
   count test [] = 0
@@ -70,17 +66,9 @@ module _ {T : Type 0} where
   abbrev pub generations_of : SetTable T → ℕ → ℕ
   generations_of t = generation_at (generations_in t.lists.items)
 
-  -- how many slots are in the list
-  abbrev pub count_of : ℕ → SetTable T → ℕ
-  count_of k t = (chain_at (chains_in t.lists.items) k).count
-
   -- the settings of a table
   abbrev pub settings_of : SetTable T → Settings
   settings_of t = record { number = t.number; lists = lists_of t; generations = generations_of t; keep = t.keep }
-
-  -- the settings are as they were
-  abbrev pub KeepsSettings : SetTable T → SetTable T → Type 0
-  KeepsSettings old new = settings_of new ≡ settings_of old
 
   -- the settings became these, and the slots are as they were
   pub record OnlySettings (these : Settings) (old new : SetTable T) : Type 0 where
@@ -90,11 +78,11 @@ module _ {T : Type 0} where
   -- slots and settings are as they were
   pub record OnlyMemory (old new : SetTable T) : Type 0 where
     pub slots : slots_of new ≡ slots_of old
-    pub settings : KeepsSettings old new
+    pub settings : settings_of new ≡ settings_of old
 
   -- the settings and memory are as they were
   pub record Stays (old new : SetTable T) : Type 0 where
-    pub settings : KeepsSettings old new
+    pub settings : settings_of new ≡ settings_of old
     pub space : space_in new.slots ≡ space_in old.slots
     pub waiting : deque_capacity new.waiting ≡ deque_capacity old.waiting
 
@@ -113,13 +101,9 @@ module _ {T : Type 0} where
     pub slots : length (slots_of t) + n ≤ space_in t.slots
     pub waiting : length (slots_of t) + n ≤ deque_capacity t.waiting
 
-  -- how many slots can get a set
-  abbrev pub usable_of : SetTable T → ℕ
-  usable_of t = count is_usable (slots_of t)
-
   -- n more sets can be put without an allocation, into slots that are there first
   abbrev pub HasRoom : ℕ → SetTable T → Type 0
-  HasRoom n t = HasPlaces (n - usable_of t) t
+  HasRoom n t = HasPlaces (n - count is_usable (slots_of t)) t
 
   -- a call has taken the slot
   pub record IsTaken (p : ℕ) (slots : Slots T) : Type 0 where
@@ -131,11 +115,11 @@ module _ {T : Type 0} where
     pub taken : IsTaken p slots
     pub full : is_some (slot_at slots p).set ≡ true
 
-  -- the slot passed the test, and left its list
-  pub record Picks (test : Slot T → Bool) (p : ℕ) (old new : Slots T) : Type 0 where
+  -- the slot passed the test, and became this
+  pub record Picks (test : Slot T → Bool) (becomes : Slot T → Slot T) (p : ℕ) (old new : Slots T) : Type 0 where
     pub was : test (slot_at old p) ≡ true
     pub within : p < length old
-    pub slots : At p (used_for Taken) old new
+    pub slots : At p becomes old new
 
   -- no slot passes the test, and nothing changes
   pub record PicksNone (test : Slot T → Bool) (old new : Slots T) : Type 0 where
@@ -144,7 +128,7 @@ module _ {T : Type 0} where
 
   -- a slot that passes the test left its list, or there is none
   abbrev pub PicksAny : (Slot T → Bool) → Option ℕ → Slots T → Slots T → Type 0
-  PicksAny test result old new = MatchOption result (PicksNone test old new) (λ p. Picks test p old new)
+  PicksAny test result old new = MatchOption result (PicksNone test old new) (λ p. Picks test (used_for Taken) p old new)
 
   -- the layout of a set: its number, and how many had the number before
   abbrev pub came_under : Slot T → ℕ × ℕ
@@ -214,7 +198,7 @@ module _ {T : Type 0} where
   pub record PutsInto (layout : ℕ) (set : T) (place : ℕ) (old new : SetTable T) : Type 0 where
     pub puts : Puts (generations_of old) layout set place (slots_of old) (slots_of new)
     pub reserve : (n : ℕ) → HasRoom (n + 1) old → HasRoom n new
-    pub settings : KeepsSettings old new
+    pub settings : settings_of new ≡ settings_of old
 
   -- there are more slots only if each then has a set, or had its last generation
   abbrev pub Grows : Slots T → Slots T → Type 0
@@ -233,17 +217,9 @@ module _ {T : Type 0} where
   abbrev pub vacated : Slot T → Slot T
   vacated s = record s { used = Vacant; set = None }
 
-  -- a set that passes the test was taken out of its slot
-  pub record Gives (test : Slot T → Bool) (x : T) (old new : Slots T) : Type 0 where
-    pub place : ℕ
-    pub within : place < length old
-    pub was : test (slot_at old place) ≡ true
-    pub full : (slot_at old place).set ≡ Some x
-    pub slots : At place vacated old new
-
   -- a set that passes the test was taken out of its slot, or there is none
   abbrev pub GivesAny : (Slot T → Bool) → Option T → Slots T → Slots T → Type 0
-  GivesAny test result old new = MatchOption result (PicksNone test old new) (λ x. Gives test x old new)
+  GivesAny test result old new = MatchOption result (PicksNone test old new) (λ x. (p : ℕ) × Picks test vacated p old new × ((slot_at old p).set ≡ Some x))
 
   -- a set in a slot is held, a call has it, or it is kept or goes
   abbrev pub CanBeHeld : Slot T → Type 0

@@ -56,7 +56,7 @@ pub struct SetTable<T> {
 impl<T> SetTable<T> {
     ghost use Rattle.descriptor_table.specs.Sets.{find, is_held};
     ghost use Rattle.descriptor_table.specs.Tables.{HasPlaces, HasRoom, OnlyMemory, settings_of};
-    ghost use Rattle.descriptor_table.specs.Tables.{slots_of, usable_of};
+    ghost use Rattle.descriptor_table.specs.Tables.{count, is_usable, slots_of};
 
     /// A table without sets and layouts. It allocates no memory.
     pub fn new(alloc: Global, number: u64) -> Self
@@ -121,7 +121,7 @@ impl<T> SetTable<T> {
     pub fn reserve(&mut self, additional: u32) -> Result<(), AllocError>
         ensures room { OnOk result (HasRoom additional self.new) }
         ensures fits { HasRoom additional self.old → IsOk result }
-        ensures full { OnErr result (usable_of self.old < additional) }
+        ensures full { OnErr result (count is_usable (slots_of self.old) < additional) }
         ensures only { OnlyMemory self.old self.new }
     {
         let vacant = self.chain(VACANT).count;

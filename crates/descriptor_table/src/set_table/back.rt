@@ -1,6 +1,6 @@
 //! Sets that are freed: each is kept, or goes. A set that goes joins the list of those that return to
 //! their pools.
-ghost use Rattle.std.specs.Prelude.{◌≡◌, ◌≢◌, ◌↔◌, ◌+◌, ◌<◌, ◌≤◌, ℕ, true, false, IsFalse, IsTrue, is_some, length};
+ghost use Rattle.std.specs.Prelude.{◌≡◌, ◌≢◌, ◌↔◌, ◌+◌, ◌<◌, ◌≤◌, ℕ, true, false, IsFalse, IsTrue, is_some, length, slice_set, if◌then◌else◌};
 
 use super::{GOING, KEPT, SetTable};
 use crate::handle::SetName;
@@ -9,7 +9,7 @@ use crate::slot::{ListHead, Use};
 impl<T> SetTable<T> {
     ghost use Rattle.descriptor_table.specs.Sets.{AreHeldOnce};
     ghost use Rattle.descriptor_table.specs.Slots.{IsNowhere, is_due, is_in, is_kept_of, slot_at, waits};
-    ghost use Rattle.descriptor_table.specs.Tables.{At, AtIf, Becomes, Changes, HasTaken};
+    ghost use Rattle.descriptor_table.specs.Tables.{At, Becomes, Changes, HasTaken};
     ghost use Rattle.descriptor_table.specs.Tables.{IsBack, KeepsUpTo, MayBecome};
     ghost use Rattle.descriptor_table.specs.Tables.{Stays, TurnEach, Turns, count};
     ghost use Rattle.descriptor_table.specs.Tables.{generations_of, holds, is_kept};
@@ -116,7 +116,8 @@ impl<T> SetTable<T> {
     #[inline]
     fn let_go_at(&mut self, place: usize)
         requires { place < length (slots_of self.old) }
-        ensures { Changes (AtIf holds place (used_for Use.Going)) self.old self.new }
+        ensures { Changes (λ old new. new ≡ (if holds (slot_at old place) then slice_set old place
+            (used_for Use.Going (slot_at old place)) else old)) self.old self.new }
     {
         let slot = self.slots.at(place);
         match slot.used() {

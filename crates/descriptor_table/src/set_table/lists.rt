@@ -10,7 +10,7 @@ use crate::slot::{Chain, Use};
 impl<T> SetTable<T> {
     ghost use Rattle.descriptor_table.specs.Giving.{is_of};
     ghost use Rattle.descriptor_table.specs.Slots.{IsNowhere, chain_at, chains_in, frame_of, is_in, is_kept_of, is_live, slot_at};
-    ghost use Rattle.descriptor_table.specs.Tables.{At, Changes, PicksAny, Renews, Stays, count, count_of};
+    ghost use Rattle.descriptor_table.specs.Tables.{At, Changes, PicksAny, Renews, Stays, count};
     ghost use Rattle.descriptor_table.specs.Tables.{generations_of, is_kept, lists_of};
     ghost use Rattle.descriptor_table.specs.Tables.{slots_of, used_for};
 
@@ -63,7 +63,8 @@ impl<T> SetTable<T> {
         requires current { is_kept (used_for used (slot_at (slots_of self.old) place)) ≡ true
             → (slot_at (slots_of self.old) place).layout_generation ≡ generations_of self.old
             (slot_at (slots_of self.old) place).layout }
-        requires few { 2 ≤ list → count_of list self.old < self.old.keep }
+        requires few { 2 ≤ list → (chain_at (chains_in self.old.lists.items)
+            list).count < self.old.keep }
         ensures { Changes (At place (used_for used)) self.old self.new }
     {
         let head = &mut self.lists[list];

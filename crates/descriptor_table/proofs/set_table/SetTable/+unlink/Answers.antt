@@ -18,7 +18,7 @@ one_use : {T : Type 0} (k : ℕ) (a b : Slot T) → k ≢ 0 → is_in k a ≡ tr
 one_use k a b some e f = search rules
 
 -- `old` are the slots before, `mid` once the first was picked, `out` once the slot at the place left the list, `new` at the end
-module _ {T : Type 0} (k first place : ℕ) (used : Use) (old mid : List (Slot T)) (some : k ≢ 0) (picks : Picks (is_in k) first old mid) (ne : first ≢ place) (listed : is_in k (slot_at old place) ≡ true) (is : (slot_at old place).used ≡ used) where
+module _ {T : Type 0} (k first place : ℕ) (used : Use) (old mid : List (Slot T)) (some : k ≢ 0) (picks : Picks (is_in k) (used_for Taken) first old mid) (ne : first ≢ place) (listed : is_in k (slot_at old place) ≡ true) (is : (slot_at old place).used ≡ used) where
   as_was : slot_at mid place ≡ slot_at old place
   as_was = ap (λ l. slot_at l place) picks.slots ∙ other_slots old first (used_for Taken (slot_at old first)) place (λ e. ne (sym e))
 

@@ -27,7 +27,7 @@ generations g c = generations_stay c.args.self.now.lists.items c.args.list c.ind
 pub overflow_add-head : goal.overflow_add-head
 overflow_add-head g c =
     let s = c.args.self.now in
-    let few = s.sound.sized.few in
+    let few = s.sound.size in
     let more = link_more (slots_in s.slots) (nexts_in s.slots) (chains_in s.lists.items) s.sound.linked c.args.list c.index_mut-head.result.now.chain (sym (is_list g (goal.at.overflow_add-head g c).After-index_mut-head)) c.args.place (used_for c.args.used (slot_at (slots_in s.slots) c.args.place)) c.requires.within c.requires.idle c.requires.goes in
     omega arith
 

@@ -2,13 +2,13 @@ use Rattle.std.proofs.Common.{◌≡◌, ℕ, ◌∙◌, ap, subst, arith}
 use Rattle.std.specs.Prelude.{Err, Ok, OnErr, OnOk, Result}
 use Rattle.std.proofs.lemmas.List.{length-map}
 use Rattle.descriptor_table.specs.Slots.{nexts_in, slot_of, slots_in, chains_in}
-use Rattle.descriptor_table.specs.Tables.{HasPlaces, count, is_usable, usable_of}
+use Rattle.descriptor_table.specs.Tables.{HasPlaces, count, is_usable, slots_of}
 use Rattle.descriptor_table.specs.declared.slot.Chain.{Chain}
 use Rattle.descriptor_table.proofs.Counts.{chain_count}
 use Rattle.descriptor_table.proofs.set_table.SetTable.reserve.Goals as goal
 use Rattle.descriptor_table.proofs.set_table.SetTable.reserve.Goals.{After-chain-vacant}
 
-vacant : (g : _) (c : After-chain-vacant g) → c.chain-vacant.result.count ≡ usable_of c.args.self.now
+vacant : (g : _) (c : After-chain-vacant g) → c.chain-vacant.result.count ≡ count is_usable (slots_of c.args.self.now)
 vacant g c = let s = c.args.self.now in ap (λ (d : Chain). d.count) c.chain-vacant.ensures ∙ chain_count (slots_in s.slots) (nexts_in s.slots) (chains_in s.lists.items) s.sound.linked 0
 
 pub returns-then-additional-vacant-clause-room : goal.returns-then-additional-vacant-clause-room
@@ -16,8 +16,8 @@ returns-then-additional-vacant-clause-room g c =
     let s = c.args.self.now in
     let same = vacant g (goal.at.returns-then-additional-vacant-clause-room g c).After-chain-vacant in
     let le = c.if-additional-vacant.true in
-    let few = s.sound.sized.few in
-    let room = s.sound.sized.room in
+    let few = s.sound.size in
+    let room = s.sound.fits in
     let space = s.slots.entries.ok in
     let long = length-map s.slots.entries.items slot_of in
     record { few = omega arith; slots = omega arith; waiting = omega arith }
