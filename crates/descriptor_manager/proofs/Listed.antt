@@ -1,19 +1,18 @@
 -- Held sets that are freed by their handles: for `Store::wait_each` and `free_each`.
-use Rattle.std.proofs.Common.{arith, ◌≡◌, ℕ, ◌+◌, ◌<◌, ◌&&◌, Bool, true, false, List, get_or, length, is_some, inl, inr, refl, ap, subst, ◌∙◌}
-use Rattle.descriptor_table.specs.Sets.{AreHeldOnce, is_last, sets_in}
+use Rattle.std.proofs.Common.{arith, ◌≡◌, ℕ, ◌+◌, ◌<◌, Bool, true, false, List, get_or, length, is_some, inl, inr, refl, ap, subst, ◌∙◌}
+use Rattle.descriptor_table.specs.Sets.{AreHeldOnce, sets_in}
 use Rattle.descriptor_table.specs.Slots.{goes, slot_at}
-use Rattle.descriptor_table.specs.Tables.{Becomes, ChangeUse, IsBack, TurnEach, Turns, is_held_use, place_at, used_for, vacated}
+use Rattle.descriptor_table.specs.Tables.{Becomes, IsBack, TurnEach, Turns, place_at, used_for, vacated}
 use Rattle.descriptor_table.specs.declared.handle.SetHandle.{SetHandle}
 use Rattle.descriptor_table.specs.Slots.{Slot}
-use Rattle.descriptor_table.specs.declared.slot.Use.TheVariants.{Waits, Going}
-use Rattle.descriptor_table.proofs.Chains.{and_true}
-use Rattle.descriptor_table.proofs.Holding.{named_or}
+use Rattle.descriptor_table.specs.declared.slot.Use.TheVariants.{Waits, Going, Taken}
+use Rattle.descriptor_table.proofs.Holding.{held_is, named_or}
 use Rattle.descriptor_table.proofs.Leaving.{same_sets}
 use Rattle.descriptor_manager.proofs.Back.{given_kept, kept_stays}
 use Rattle.descriptor_manager.proofs.Following.{ArePlaced, none_goes}
 
 -- sets that were taken, and then wait
-module _ {T : Type 0} (handles : List SetHandle) (frame : ℕ) (old now new : List (Slot T)) (took : ChangeUse handles (length handles) old now) (waits : TurnEach handles (Becomes (used_for (Waits frame))) now new) where
+module _ {T : Type 0} (handles : List SetHandle) (frame : ℕ) (old now new : List (Slot T)) (took : TurnEach handles (Becomes (used_for Taken)) old now) (waits : TurnEach handles (Becomes (used_for (Waits frame))) now new) where
   pub waited : TurnEach handles (Becomes (used_for (Waits frame))) old new
   waited = record {
     long = waits.long ∙ took.long;
@@ -54,7 +53,4 @@ module _ {T : Type 0} (handles : List SetHandle) (number : ℕ) (generations : �
   }
     where
       full : (i : ℕ) → i < length handles → is_some (slot_at old (place_at handles i)).set ≡ true
-      full i lt =
-          let z : SetHandle = record { manager = 0; place = 0; generation = 0 } in
-          let s = slot_at old (place_at handles i) in
-          (and_true (is_held_use s.used) (is_some s.set) (and_true (is_last number old (get_or handles i z)) (is_held_use s.used && is_some s.set) (once.held i z lt)).1).1
+      full i lt = (let z : SetHandle = record { manager = 0; place = 0; generation = 0 } in (held_is number old (get_or handles i z) (once.held i z lt)).full)

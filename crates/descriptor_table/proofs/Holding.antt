@@ -2,12 +2,12 @@
 -- `SetTable::take_each` and `settle_held` (`TurnedSome`). Those that turned are held again then, the last one first: for `put_back`.
 -- `n` is how many turned.
 use Rattle.std.proofs.lemmas.Grind.{common_steps}
-use Rattle.std.proofs.Common.{◌≡◌, ◌≢◌, ℕ, zero, suc, ◌+◌, ◌<◌, ◌≤◌, ◌⊎◌, ◌==◌, ◌&&◌, Bool, true, false, List, [], ◌∷◌, length, get_or, set, is_some, inl, inr, refl, sym, ap, subst, ◌∙◌, arith, rules}
-use Rattle.std.proofs.lemmas.List.{length-set}
+use Rattle.std.proofs.Common.{◌≡◌, ◌≢◌, ℕ, zero, suc, ◌+◌, ◌<◌, ◌≤◌, ◌⊎◌, ◌==◌, ◌&&◌, Bool, true, false, List, [], ◌∷◌, length, get_or, set, take, is_some, inl, inr, refl, sym, ap, subst, ◌∙◌, arith, rules}
+use Rattle.std.proofs.lemmas.List.{get_or-take, length-set, length-take-le}
 use Rattle.std.proofs.lemmas.Bool.{true≢false}
 use Rattle.descriptor_table.specs.Sets.{AreHeldOnce, is_held}
 use Rattle.descriptor_table.specs.Slots.{slot_at}
-use Rattle.descriptor_table.specs.Tables.{Becomes, CanBeHeld, ChangeUse, holds, is_held_use, place_at, used_for}
+use Rattle.descriptor_table.specs.Tables.{Becomes, CanBeHeld, HasTaken, TurnEach, holds, is_held_use, place_at, used_for}
 use Rattle.descriptor_table.specs.declared.handle.SetHandle.{SetHandle}
 use Rattle.descriptor_table.specs.declared.slot.Use.{Use}
 use Rattle.descriptor_table.specs.declared.slot.Use.TheVariants.{Held, Taken}
@@ -46,6 +46,10 @@ same_default (x ∷ l) (suc i) d e lt = same_default l i d e (omega arith)
 pub handle_is : (a b : SetHandle) → a.manager ≡ b.manager → a.place ≡ b.place → a.generation ≡ b.generation → a ≡ b
 handle_is a b r p g = grind (arith, common_steps)
 
+-- the place of one of the first n handles
+first_place : (handles : List SetHandle) (n i : ℕ) → i < n → place_at (take n handles) i ≡ place_at handles i
+first_place handles n i lt = ap (λ (h : SetHandle). h.place) (get_or-take n handles i (record { manager = 0; place = 0; generation = 0 }) lt)
+
 module _ {T : Type 0} where
   holds_used : (s : Slot T) → holds s ≡ true → s.used ≡ Held
   holds_used s e = held_use s.used (and_true (is_held_use s.used) (is_some s.set) e).0
@@ -56,6 +60,7 @@ module _ {T : Type 0} where
     pub generation : h.generation ≡ (slot_at slots h.place).generation
     pub used : (slot_at slots h.place).used ≡ Held
     pub holds : holds (slot_at slots h.place) ≡ true
+    pub full : is_some (slot_at slots h.place).set ≡ true
     pub within : h.place < length slots
 
   -- a handle that passes the test `is_held` has all that
@@ -74,14 +79,15 @@ module _ {T : Type 0} where
 
   -- the first n handles had held sets, no two of which have one place, and their slots became what the relation says; all others are as they were
   pub record TurnedSome (number : ℕ) (handles : List SetHandle) (becomes : List (Slot T) → Slot T → Slot T → Type 0) (n : ℕ) (old now : List (Slot T)) : Type 0 where
+    pub few : n ≤ length handles
     pub long : length now ≡ length old
-    pub held : (i : ℕ) (d : SetHandle) → i < n → i < length handles → is_held number old (get_or handles i d) ≡ true
+    pub held : (i : ℕ) (d : SetHandle) → i < n → is_held number old (get_or handles i d) ≡ true
     pub apart : (i j : ℕ) → i < j → j < n → place_at handles i ≢ place_at handles j
     pub named : (i : ℕ) → i < n → becomes now (slot_at old (place_at handles i)) (slot_at now (place_at handles i))
     pub rest : (p : ℕ) → ((i : ℕ) → i < n → place_at handles i ≢ p) → slot_at now p ≡ slot_at old p
 
   pub turned_none : (number : ℕ) (handles : List SetHandle) (becomes : List (Slot T) → Slot T → Slot T → Type 0) (slots : List (Slot T)) → TurnedSome number handles becomes 0 slots slots
-  turned_none number handles becomes slots = record { long = refl; held = λ i d lt. absurd (omega arith); apart = λ i j less lt. absurd (omega arith); named = λ i lt. absurd (omega arith); rest = λ p none. refl }
+  turned_none number handles becomes slots = record { few = omega arith; long = refl; held = λ i d lt. absurd (omega arith); apart = λ i j less lt. absurd (omega arith); named = λ i lt. absurd (omega arith); rest = λ p none. refl }
 
   module _ (number : ℕ) (handles : List SetHandle) (becomes : List (Slot T) → Slot T → Slot T → Type 0) (n : ℕ) (old now : List (Slot T)) (some : TurnedSome number handles becomes n old now) (not_held : (l : List (Slot T)) (o x : Slot T) → becomes l o x → x.used ≢ Held) (h : SetHandle) (lt : n < length handles) (is : (d : SetHandle) → h ≡ get_or handles n d) (has : is_held number now h ≡ true) where
     at : place_at handles n ≡ h.place
@@ -103,10 +109,11 @@ module _ {T : Type 0} where
         let far : (q : ℕ) → q ≢ h.place → slot_at new q ≡ slot_at now q = λ q ne. ap (λ l. slot_at l q) made ∙ other_slots now h.place s q ne in
         let here : slot_at new h.place ≡ s = ap (λ l. slot_at l h.place) made ∙ slot_set now h.place s held.within in
         record {
+          few = omega arith;
           long = ap length made ∙ length-set now h.place s ∙ some.long;
-          held = λ i d less inside. elim (same_or i n) [
+          held = λ i d less. elim (same_or i n) [
             | inl e ↦ subst (λ i. is_held number old (get_or handles i d) ≡ true) (sym e) (ap (is_held number old) (sym (is d)) ∙ was)
-            | inr ne ↦ some.held i d (omega arith) inside
+            | inr ne ↦ some.held i d (omega arith)
           ];
           apart = λ i j less within. elim (same_or j n) [
             | inl e ↦ subst (λ j. place_at handles i ≢ place_at handles j) (sym e) (λ f. other_place i (omega arith) (f ∙ at))
@@ -119,23 +126,39 @@ module _ {T : Type 0} where
           rest = λ p none. far p (λ e. none n (omega arith) (at ∙ sym e)) ∙ some.rest p (λ i less. none i (omega arith));
         }
 
+  -- handles with held sets, none of which is in the list twice, have different places
+  pub apart_once : (number : ℕ) (slots : List (Slot T)) (handles : List SetHandle) → AreHeldOnce number slots handles → (i j : ℕ) → i < j → j < length handles → place_at handles i ≢ place_at handles j
+  apart_once number slots handles once i j less lt e =
+      let z : SetHandle = record { manager = 0; place = 0; generation = 0 } in
+      let a = held_is number slots (get_or handles i z) (once.held i z (omega arith)) in
+      let b = held_is number slots (get_or handles j z) (once.held j z lt) in
+      once.once i j z less lt (handle_is (get_or handles i z) (get_or handles j z) (a.manager ∙ sym b.manager) e (a.generation ∙ ap (λ p. (slot_at slots p).generation) e ∙ sym b.generation))
+
+  -- a call has the sets of held handles that it took
+  pub has_taken : (number : ℕ) (handles : List SetHandle) (old new : List (Slot T)) → AreHeldOnce number old handles → TurnEach handles (Becomes (used_for Taken)) old new → (i : ℕ) → i < length handles → HasTaken (place_at handles i) new
+  has_taken number handles old new once took i lt =
+      let z : SetHandle = record { manager = 0; place = 0; generation = 0 } in
+      let held = held_is number old (get_or handles i z) (once.held i z lt) in
+      let within = held.within in
+      let long = took.long in
+      let is = took.named i lt in
+      record { taken = record { within = omega arith; taken = ap (λ (s : Slot T). s.used) is }; full = ap (λ (s : Slot T). is_some s.set) is ∙ held.full }
+
   -- once all have turned, each handle had a held set, and none is in the list twice
-  pub turned_all : (number : ℕ) (handles : List SetHandle) (becomes : List (Slot T) → Slot T → Slot T → Type 0) (old now : List (Slot T)) → TurnedSome number handles becomes (length handles) old now → AreHeldOnce number old handles
-  turned_all number handles becomes old now some = record {
-    held = λ i d lt. some.held i d lt lt;
-    once = λ i j d lt less e. (let z : SetHandle = record { manager = 0; place = 0; generation = 0 } in some.apart i j lt less (ap (λ (x : SetHandle). x.place) (same_default handles i z d (let a = less in omega arith) ∙ e ∙ same_default handles j d z less)));
-  }
+  module _ (number : ℕ) (handles : List SetHandle) (becomes : List (Slot T) → Slot T → Slot T → Type 0) (n : ℕ) (old now : List (Slot T)) (all : length handles ≤ n) (some : TurnedSome number handles becomes n old now) where
+    pub turned_all : AreHeldOnce number old handles
+    turned_all = record {
+      held = λ i d lt. some.held i d (omega arith);
+      once = λ i j d lt less e. (let z : SetHandle = record { manager = 0; place = 0; generation = 0 } in some.apart i j lt (omega arith) (ap (λ (x : SetHandle). x.place) (same_default handles i z d (omega arith) ∙ e ∙ same_default handles j d z less)));
+    }
+
+    pub turned_each : TurnEach handles becomes old now
+    turned_each = record { long = some.long; named = λ i lt. some.named i (omega arith); rest = λ p none. some.rest p (λ i lt. (let few = some.few in none i (omega arith))) }
 
   -- a handle without a held set now had none before, or is in the list twice
   pub turned_no : (number : ℕ) (handles : List SetHandle) (becomes : List (Slot T) → Slot T → Slot T → Type 0) (n : ℕ) (old now : List (Slot T)) → TurnedSome number handles becomes n old now → (h : SetHandle) → n < length handles → ((d : SetHandle) → h ≡ get_or handles n d) → is_held number now h ≡ false → AreHeldOnce number old handles → ⊥
   turned_no number handles becomes n old now some h lt is not once = elim (named_or n (place_at handles) h.place) [
-    | inl found ↦ (
-        let z : SetHandle = record { manager = 0; place = 0; generation = 0 } in
-        let i = found.0 in
-        let here = held_is number old h (ap (is_held number old) (is z) ∙ once.held n z lt) in
-        let there = held_is number old (get_or handles i z) (once.held i z (let a = found.1 in omega arith)) in
-        once.once i n z found.1 lt (handle_is (get_or handles i z) (get_or handles n z) (there.manager ∙ sym here.manager ∙ ap (λ (x : SetHandle). x.manager) (is z)) (found.2 ∙ ap (λ (x : SetHandle). x.place) (is z)) (there.generation ∙ ap (λ p. (slot_at old p).generation) found.2 ∙ sym here.generation ∙ ap (λ (x : SetHandle). x.generation) (is z)))
-        )
+    | inl found ↦ apart_once number old handles once found.0 n found.1 lt (found.2 ∙ ap (λ (x : SetHandle). x.place) (is (record { manager = 0; place = 0; generation = 0 })))
     | inr none ↦ (
         let z : SetHandle = record { manager = 0; place = 0; generation = 0 } in
         let same = some.rest h.place none in
@@ -147,24 +170,44 @@ module _ {T : Type 0} where
   pub taken_not_held : (l : List (Slot T)) (o x : Slot T) → Becomes (used_for Taken) l o x → x.used ≢ Held
   taken_not_held l o x is held = true≢false (ap is_held_use (sym held ∙ ap (λ (s : Slot T). s.used) is))
 
-  -- only the use of the sets changed, if that is what the relation allows
-  pub changed : (number : ℕ) (handles : List SetHandle) (becomes : List (Slot T) → Slot T → Slot T → Type 0) (n : ℕ) (old now : List (Slot T)) → n ≤ length handles → ((o x : Slot T) → holds o ≡ true → becomes now o x → (x ≡ used_for x.used o) × CanBeHeld x) → TurnedSome number handles becomes n old now → ChangeUse handles n old now
-  changed number handles becomes n old now le only some = grind (arith, common_steps, held_is)
+  -- the sets of the first handles turned, so that only their use changed: they can be held again, and then the slots are as they were
+  module _ (number : ℕ) (handles : List SetHandle) (becomes : List (Slot T) → Slot T → Slot T → Type 0) (n : ℕ) (old now : List (Slot T)) (only : (o x : Slot T) → holds o ≡ true → becomes now o x → (x ≡ used_for x.used o) × CanBeHeld x) (some : TurnedSome number handles becomes n old now) where
+    turned_to : (i : ℕ) → i < n → (holds (slot_at old (place_at handles i)) ≡ true) × ((slot_at now (place_at handles i) ≡ used_for (slot_at now (place_at handles i)).used (slot_at old (place_at handles i))) × CanBeHeld (slot_at now (place_at handles i)))
+    turned_to i lt = (let z : SetHandle = record { manager = 0; place = 0; generation = 0 } in let held = held_is number old (get_or handles i z) (some.held i z lt) in (held.holds, only _ _ held.holds (some.named i lt)))
 
-  -- the set of the last of the handles is held again
-  module _ (handles : List SetHandle) (n : ℕ) (before now : List (Slot T)) (change : ChangeUse handles (n + 1) before now) where
-    pub last_within : place_at handles n < length now
-    last_within = (let a = change.within n (omega arith) in let b = change.long in omega arith)
+    pub can_turn : (i : ℕ) → i < n → CanBeHeld (slot_at now (place_at handles i))
+    can_turn i lt = (turned_to i lt).1.1
 
-    pub last_full : is_some (slot_at now (place_at handles n)).set ≡ true
-    last_full = ap (λ (s : Slot T). is_some s.set) (change.named n (omega arith)) ∙ (and_true (is_held_use (slot_at before (place_at handles n)).used) (is_some (slot_at before (place_at handles n)).set) (change.held n (omega arith))).1
+    pub turned_back : (back : List (Slot T)) → TurnEach (take n handles) (Becomes (used_for Held)) now back → back ≡ old
+    turned_back back again = (let long = length-take-le n handles some.few in all_same back old (again.long ∙ some.long) (λ p. elim (named_or n (place_at handles) p) [
+      | inl found ↦ (let i = found.0 in let to = turned_to i found.1 in subst (λ p. slot_at back p ≡ slot_at old p) found.2 (subst (λ p. slot_at back p ≡ used_for Held (slot_at now p)) (first_place handles n i found.1) (again.named i (let lt = found.1 in omega arith)) ∙ ap (used_for Held) to.1.0 ∙ used_same _ Held (holds_used (slot_at old (place_at handles i)) to.0)))
+      | inr none ↦ again.rest p (λ i lt e. none i (omega arith) (sym (first_place handles n i (omega arith)) ∙ e)) ∙ some.rest p none
+    ]))
 
-    pub change_less : (new : List (Slot T)) → new ≡ with_use (place_at handles n) Held now → ChangeUse handles n before new
-    change_less new made = search (rules, holds_used, last_within, length-set, other_slots, same_or, slot_set, used_same)
+  -- of the first n sets those from the i-th on are held again
+  pub record AreAgain (handles : List SetHandle) (i n : ℕ) (old now : List (Slot T)) : Type 0 where
+    pub long : length now ≡ length old
+    pub each : (p : ℕ) → (slot_at now p ≡ slot_at old p) ⊎ (slot_at now p ≡ used_for Held (slot_at old p))
+    pub named : (j : ℕ) → i ≤ j → j < n → slot_at now (place_at handles j) ≡ used_for Held (slot_at old (place_at handles j))
+    pub rest : (p : ℕ) → ((j : ℕ) → j < n → place_at handles j ≢ p) → slot_at now p ≡ slot_at old p
 
-  -- once all are held again, the slots are as they were before
-  pub change_none : (handles : List SetHandle) (before now : List (Slot T)) → ChangeUse handles 0 before now → now ≡ before
-  change_none handles before now change = all_same now before change.long (λ p. change.rest p (λ i lt. absurd (omega arith)))
+  -- a set can be held still
+  pub again_can : (handles : List SetHandle) (i n : ℕ) (old now : List (Slot T)) → AreAgain handles i n old now → (p : ℕ) → CanBeHeld (slot_at old p) → (p < length now) × CanBeHeld (slot_at now p)
+  again_can handles i n old now again p can = (
+    (let within = test_within (λ s. is_some s.set) old p refl can.0 in let long = again.long in omega arith),
+    elim (again.each p) [ inl same ↦ subst CanBeHeld (sym same) can | inr held ↦ subst CanBeHeld (sym held) (can.0, inl tt) ],
+  )
+
+  -- one set more is held again, and at last all are
+  pub again_more : (handles : List SetHandle) (i m n p : ℕ) (old now new : List (Slot T)) → m ≡ i + 1 → i < n → place_at handles i ≡ p → p < length now → AreAgain handles m n old now → new ≡ with_use p Held now → AreAgain handles i n old new
+  again_more handles i m n p old now new next lt at within again made = search (rules, length-set, other_slots, same_or, slot_set)
+
+  pub again_all : (handles : List SetHandle) (i n : ℕ) (old now : List (Slot T)) → i ≡ 0 → n ≤ length handles → AreAgain handles i n old now → TurnEach (take n handles) (Becomes (used_for Held)) old now
+  again_all handles i n old now none le again = (let long = length-take-le n handles le in record {
+    long = again.long;
+    named = λ j lt. subst (λ p. slot_at now p ≡ used_for Held (slot_at old p)) (sym (first_place handles n j (omega arith))) (again.named j (omega arith) (omega arith));
+    rest = λ p none. again.rest p (λ j lt e. none j (omega arith) (first_place handles n j lt ∙ e));
+  })
 
 -- a handle of the list, whatever is said of those past the end
 pub handle_at : (handles : List SetHandle) (i : ℕ) → i < length handles → (d : SetHandle) → get_or handles i (record { manager = 0; place = 0; generation = 0 }) ≡ get_or handles i d

@@ -122,9 +122,9 @@ module _ {T : Type 0} where
       let full = (and_true (is_held_use o.used) (is_some o.set) held).1 in
       let young = (and_true (nat_lt o.generation 4294967295) (nat_lt o.generation o.kept_below) (and_true (nat_lt o.generation 4294967295 && nat_lt o.generation o.kept_below) (o.layout_generation == generations o.layout) kept.1).0).0 in (
         kept.0 ∙ ap (λ u. used_for u o) (sym (ap (λ (s : Slot T). s.used) kept.0)),
-        inr (o.layout + 2, λ e. omega arith, ap (is_in (o.layout + 2)) kept.0 ∙ ap (λ b. b && (nat_lt o.generation 4294967295 && is_some o.set)) (eq-eqb (o.layout + 2) (o.layout + 2) refl) ∙ ap (λ b. b && is_some o.set) young ∙ full),
+        (ap (λ (s : Slot T). is_some s.set) kept.0 ∙ full, inr (o.layout + 2, λ e. omega arith, ap (is_in (o.layout + 2)) kept.0 ∙ ap (λ b. b && (nat_lt o.generation 4294967295 && is_some o.set)) (eq-eqb (o.layout + 2) (o.layout + 2) refl) ∙ ap (λ b. b && is_some o.set) young ∙ full)),
       )
-  back_only generations max l o x held (inr goes) = (goes.0 ∙ ap (λ u. used_for u o) (sym (ap (λ (s : Slot T). s.used) goes.0)), inr (1, λ e. omega arith, ap (is_in 1) goes.0 ∙ (and_true (is_held_use o.used) (is_some o.set) held).1))
+  back_only generations max l o x held (inr goes) = (let full = (and_true (is_held_use o.used) (is_some o.set) held).1 in (goes.0 ∙ ap (λ u. used_for u o) (sym (ap (λ (s : Slot T). s.used) goes.0)), (ap (λ (s : Slot T). is_some s.set) goes.0 ∙ full, inr (1, λ e. omega arith, ap (is_in 1) goes.0 ∙ full))))
 
   -- a set that waits, or that a call has, is in no list
   pub due_not_listed : (frame : ℕ) (s : Slot T) → is_due frame s ≡ true → (k : ℕ) → is_in k s ≡ false

@@ -221,19 +221,9 @@ module _ {T : Type 0} where
   abbrev pub GivesAny : (Slot T → Bool) → Option T → Slots T → Slots T → Type 0
   GivesAny test result old new = MatchOption result (PicksNone test old new) (λ x. (p : ℕ) × Picks test vacated p old new × ((slot_at old p).set ≡ Some x))
 
-  -- a set in a slot is held, a call has it, or it is kept or goes
+  -- a slot has a set that is held, that a call has, or that is kept or goes
   abbrev pub CanBeHeld : Slot T → Type 0
-  CanBeHeld s = IsNowhere s.used ⊎ ((k : ℕ) × (k ≢ 0) × (is_in k s ≡ true))
-
-  -- the first n handles had held sets, no two at one place, of which only the use changed. All else is as it was
-  pub record ChangeUse (handles : List SetHandle) (n : ℕ) (old new : Slots T) : Type 0 where
-    pub long : length new ≡ length old
-    pub apart : (i j : ℕ) → i < j → j < n → place_at handles i ≢ place_at handles j
-    pub held : (i : ℕ) → i < n → holds (slot_at old (place_at handles i)) ≡ true
-    pub within : (i : ℕ) → i < n → place_at handles i < length old
-    pub named : (i : ℕ) → i < n → slot_at new (place_at handles i) ≡ used_for (slot_at new (place_at handles i)).used (slot_at old (place_at handles i))
-    pub free : (i : ℕ) → i < n → CanBeHeld (slot_at new (place_at handles i))
-    pub rest : (p : ℕ) → ((i : ℕ) → i < n → place_at handles i ≢ p) → slot_at new p ≡ slot_at old p
+  CanBeHeld s = (is_some s.set ≡ true) × (IsNowhere s.used ⊎ ((k : ℕ) × (k ≢ 0) × (is_in k s ≡ true)))
 
   -- the slots of the handles became what the relation says, given the new slots. All others are as they were
   pub record TurnEach (handles : List SetHandle) (becomes : Slots T → Slot T → Slot T → Type 0) (old new : Slots T) : Type 0 where

@@ -1,17 +1,15 @@
 //! Sets that are taken by their names, all or none.
-ghost use Rattle.std.specs.Prelude.{◌≡◌, ◌<◌, ◌≤◌, ◌↔◌, ◌≢◌, ℕ, List, IsTrue, IsFalse, is_some, length, true};
+ghost use Rattle.std.specs.Prelude.{◌≡◌, ◌<◌, ◌≤◌, ◌↔◌, ◌≢◌, ℕ, IsTrue, IsFalse, is_some, length, take, true};
 
 use super::{GOING, KEPT, SetTable};
 use crate::handle::SetName;
 use crate::slot::Use;
 
 impl<T> SetTable<T> {
-    ghost use Rattle.descriptor_table.specs.Slots.{Slot};
     ghost use Rattle.descriptor_table.specs.Sets.{AreHeldOnce};
     ghost use Rattle.descriptor_table.specs.Slots.{IsNowhere, is_in, slot_at};
-    ghost use Rattle.descriptor_table.specs.Tables.{At, CanBeHeld, ChangeUse, Changes, HasTaken, Stays};
-    ghost use Rattle.descriptor_table.specs.Tables.{place_at};
-    ghost use Rattle.descriptor_table.specs.Tables.{slots_of, used_for};
+    ghost use Rattle.descriptor_table.specs.Tables.{At, Becomes, CanBeHeld, Changes, Stays, TurnEach};
+    ghost use Rattle.descriptor_table.specs.Tables.{place_at, slots_of, used_for};
 
     /// Changes the use of a slot's set, which is in no list before and after.
     #[inline]
@@ -30,10 +28,8 @@ impl<T> SetTable<T> {
     pub fn take_each<N: SetName<T>>(&mut self, names: &[N]) -> bool
         ensures once { IsTrue result ↔ AreHeldOnce self.old.number (slots_of self.old)
             (N.handles_of names.now) }
-        ensures took { IsTrue result → ChangeUse (N.handles_of names.now)
-            (length (N.handles_of names.now)) (slots_of self.old) (slots_of self.new) }
-        ensures taken { IsTrue result → (i : ℕ) → i < length (N.handles_of names.now)
-            → HasTaken (place_at (N.handles_of names.now) i) (slots_of self.new) }
+        ensures took { IsTrue result → TurnEach (N.handles_of names.now)
+            (Becomes (used_for Use.Taken)) (slots_of self.old) (slots_of self.new) }
         ensures none { IsFalse result → slots_of self.new ≡ slots_of self.old }
         ensures stays { Stays self.old self.new }
     {
@@ -52,10 +48,10 @@ impl<T> SetTable<T> {
     #[cold]
     pub(super) fn put_back<N: SetName<T>>(&mut self, names: &[N], count: usize)
         requires few { count ≤ length names.now }
-        requires changed { (before : List (Slot T)) × ChangeUse (N.handles_of names.now) count before
-            (slots_of self.old) }
-        ensures { Changes (λ changed back. (before : List (Slot T)) → ChangeUse
-            (N.handles_of names.now) count before changed → back ≡ before) self.old self.new }
+        requires free { (i : ℕ) → i < count
+            → CanBeHeld (slot_at (slots_of self.old) (place_at (N.handles_of names.now) i)) }
+        ensures { Changes (TurnEach (take count (N.handles_of names.now))
+            (Becomes (used_for Use.Held))) self.old self.new }
     {
         for index in 0..count {
             self.hold_again(names[count - 1 - index].handle().place as usize);
@@ -66,7 +62,6 @@ impl<T> SetTable<T> {
     fn hold_again(&mut self, place: usize)
         requires within { place < length (slots_of self.old) }
         requires free { CanBeHeld (slot_at (slots_of self.old) place) }
-        requires full { is_some (slot_at (slots_of self.old) place).set ≡ true }
         ensures { Changes (At place (used_for Use.Held)) self.old self.new }
     {
         let slot = self.slots.at(place);

@@ -3,6 +3,7 @@ use Rattle.descriptor_table.specs.Sets.{sets_in}
 use Rattle.descriptor_table.specs.Slots.{slot_at}
 use Rattle.descriptor_table.specs.Tables.{Becomes, TurnEach, place_at, slots_of, used_for}
 use Rattle.descriptor_table.specs.declared.slot.Use.TheVariants.{Waits}
+use Rattle.descriptor_table.proofs.Holding.{apart_once, has_taken}
 use Rattle.descriptor_manager.proofs.Given.{accounted_as, exact_as}
 use Rattle.descriptor_manager.proofs.Following.{follow_each, follows_waits}
 use Rattle.descriptor_manager.proofs.Listed.{waited, waited_sets}
@@ -10,6 +11,12 @@ use Rattle.descriptor_manager.proofs.Settling.{settled}
 use Rattle.descriptor_manager.proofs.store.Store.wait_each.Given.{Over}
 use Rattle.descriptor_manager.proofs.store.Store.wait_each.Goals.{After-wait_each}
 use Rattle.descriptor_manager.proofs.store.Store.wait_each.Goals as goal
+
+pub wait_each-requires-clause-apart : goal.wait_each-requires-clause-apart
+wait_each-requires-clause-apart g c = apart_once c.args.self.now.table.number (slots_of c.args.self.now.table) (g.N.SetName.handles_of c.args.names.now) (c.if-not-take_each.ensures.once.0 refl)
+
+pub wait_each-requires-clause-taken : goal.wait_each-requires-clause-taken
+wait_each-requires-clause-taken g c = has_taken c.args.self.now.table.number (g.N.SetName.handles_of c.args.names.now) (slots_of c.args.self.now.table) (slots_of c.take_each.new.self) (c.if-not-take_each.ensures.once.0 refl) (c.if-not-take_each.ensures.took refl)
 
 -- the sets are as they were
 same_sets : (g : Over) (c : After-wait_each g) → sets_in (slots_of c.wait_each.new.self) ≡ sets_in (slots_of c.args.self.now.table)

@@ -1,12 +1,12 @@
 use Rattle.std.proofs.lemmas.Grind.{common_steps}
-use Rattle.std.proofs.Common.{◌≡◌, ◌<◌, ℕ, false, get_or, length, is_some, refl, sym, ap, subst, ◌∙◌, arith}
+use Rattle.std.proofs.Common.{◌≡◌, ◌<◌, ◌≤◌, ℕ, false, get_or, length, is_some, refl, sym, ap, subst, ◌∙◌, arith}
 use Rattle.std.proofs.lemmas.Bool.{false≢true}
 use Rattle.descriptor_table.specs.Sets.{is_held}
 use Rattle.descriptor_table.specs.Slots.{in_list, is_in, slot_at}
-use Rattle.descriptor_table.specs.Tables.{Settings, ChangeUse, IsBack, generations_of, next_use, place_at, slots_of, used_for}
+use Rattle.descriptor_table.specs.Tables.{Settings, IsBack, generations_of, next_use, place_at, slots_of, used_for}
 use Rattle.descriptor_table.specs.declared.handle.SetHandle.{SetHandle}
 use Rattle.descriptor_table.specs.declared.slot.Use.TheVariants.{Going, Held}
-use Rattle.descriptor_table.proofs.Holding.{TurnedSome, changed, held_is, turn_more, turned_all, turned_no, turned_none}
+use Rattle.descriptor_table.proofs.Holding.{can_turn, held_is, turn_more, turned_all, turned_back, turned_each, turned_no, turned_none}
 use Rattle.descriptor_table.proofs.Listed.{with_use}
 use Rattle.descriptor_table.proofs.Names.{handle_read, handles_long, place_read}
 use Rattle.descriptor_table.proofs.Turning.{back_only, same_next, same_use, settled_grows, settled_here, settled_not_held, settled_set, stays_more, stays_same}
@@ -58,15 +58,12 @@ loop-index-preserved g c =
       stays = stays_more s c.loop-index.self c.settle.new.self inv.stays c.settle.ensures.stays;
     }
 
--- the sets of the names so far changed in their use alone
-change : (g : _) (c : At-loop-index g) → c.loop-index.index < length c.args.names.now → ChangeUse (g.N.SetName.handles_of c.args.names.now) c.loop-index.index (slots_of c.args.self.now) (slots_of c.loop-index.self)
-change g c lt =
-    let s = c.args.self.now in
-    let long = handles_long g.N.SetName g.met.N.SetName.each c.args.names.now in
-    changed s.number (g.N.SetName.handles_of c.args.names.now) (IsBack (used_for Going) (generations_of s) s.keep) c.loop-index.index (slots_of s) (slots_of c.loop-index.self) (omega arith) (back_only (generations_of s) s.keep (slots_of c.loop-index.self)) c.loop-index.invariant.some
+-- at the end all have turned
+all : (g : _) (c : At-loop-index g) → length c.args.names.now ≤ c.loop-index.index → length (g.N.SetName.handles_of c.args.names.now) ≤ c.loop-index.index
+all g c end = (let long = handles_long g.N.SetName g.met.N.SetName.each c.args.names.now in omega arith)
 
-pub put_back-requires-clause-changed : goal.put_back-requires-clause-changed
-put_back-requires-clause-changed g c = (slots_of c.args.self.now, change g (goal.at.put_back-requires-clause-changed g c).At-loop-index c.loop-index-test.true)
+pub put_back-requires-clause-free : goal.put_back-requires-clause-free
+put_back-requires-clause-free g c = can_turn _ _ _ _ _ _ (back_only (generations_of c.args.self.now) c.args.self.now.keep (slots_of c.loop-index.self)) c.loop-index.invariant.some
 
 pub returns-then-not-holds-clause-once : goal.returns-then-not-holds-clause-once
 returns-then-not-holds-clause-once g c =
@@ -76,24 +73,10 @@ returns-then-not-holds-clause-once g c =
     (λ t. absurd (false≢true t), λ once. absurd (turned_no s.number (g.N.SetName.handles_of c.args.names.now) (IsBack (used_for Going) (generations_of s) s.keep) c.loop-index.index (slots_of s) (slots_of c.loop-index.self) inv.some c.handle-handle.result (within g d.After-handle-handle) (named g d.After-handle-handle) (sym (holds g d.After-holds) ∙ c.if-not-holds.true) once))
 
 pub returns-then-not-holds-clause-none : goal.returns-then-not-holds-clause-none
-returns-then-not-holds-clause-none g c = λ f. c.put_back.ensures.slots (slots_of c.args.self.now) (change g (goal.at.returns-then-not-holds-clause-none g c).At-loop-index c.loop-index-test.true)
+returns-then-not-holds-clause-none g c = λ f. turned_back _ _ _ _ _ _ (back_only (generations_of c.args.self.now) c.args.self.now.keep (slots_of c.loop-index.self)) c.loop-index.invariant.some (slots_of c.put_back.new.self) c.put_back.ensures.slots
 
 pub returns-clause-once : goal.returns-clause-once
-returns-clause-once g c =
-    let inv = c.loop-index.invariant in
-    let end = c.loop-index-test.false in
-    let le = c.loop-index.auto.index-end in
-    let long = handles_long g.N.SetName g.met.N.SetName.each c.args.names.now in
-    let same : c.loop-index.index ≡ length (g.N.SetName.handles_of c.args.names.now) = omega arith in
-    let s = c.args.self.now in
-    (λ t. turned_all s.number (g.N.SetName.handles_of c.args.names.now) (IsBack (used_for Going) (generations_of s) s.keep) (slots_of s) (slots_of c.loop-index.self) (subst (λ n. TurnedSome s.number (g.N.SetName.handles_of c.args.names.now) (IsBack (used_for Going) (generations_of s) s.keep) n (slots_of s) (slots_of c.loop-index.self)) same inv.some), λ o. refl)
+returns-clause-once g c = (λ t. turned_all _ _ _ _ _ _ (all g (goal.at.returns-clause-once g c).At-loop-index c.loop-index-test.false) c.loop-index.invariant.some, λ o. refl)
 
 pub returns-clause-back : goal.returns-clause-back
-returns-clause-back g c = λ t.
-    let inv = c.loop-index.invariant in
-    let end = c.loop-index-test.false in
-    let le = c.loop-index.auto.index-end in
-    let long = handles_long g.N.SetName g.met.N.SetName.each c.args.names.now in
-    let same : c.loop-index.index ≡ length (g.N.SetName.handles_of c.args.names.now) = omega arith in
-    let some = inv.some in
-    record { long = some.long; named = λ i lt. some.named i (omega arith); rest = λ q none. some.rest q (λ i less. none i (omega arith)) }
+returns-clause-back g c = λ t. turned_each _ _ _ _ _ _ (all g (goal.at.returns-clause-back g c).At-loop-index c.loop-index-test.false) c.loop-index.invariant.some
