@@ -11,13 +11,13 @@ use Rattle.std.proofs.lemmas.List.{get_or_past}
 use Rattle.std.proofs.lemmas.Option.{none-some}
 use Rattle.descriptor_table.specs.Sets.{Sets, find, sets_of}
 use Rattle.descriptor_table.specs.Slots.{slot_at}
-use Rattle.descriptor_table.specs.Tables.{Settings, came_under, current, lists_with}
+use Rattle.descriptor_table.specs.Tables.{Settings, came_under, current, lists_with, lists_of}
 use Rattle.descriptor_table.specs.declared.handle.SetHandle.{SetHandle}
 use Rattle.descriptor_table.specs.Slots.{Slot}
 use Rattle.descriptor_table.proofs.Counting.{below_or}
 use Rattle.descriptor_manager.specs.LayoutRegistries.{layout_at, layout_slots, registry_of}
 use Rattle.descriptor_manager.specs.Own.{AreCounted, AreOwn, HasSetsOf, IsOwn}
-use Rattle.descriptor_manager.specs.Stores.{ComesOf, IsRefusedAtLast, SettlesTo, generations_in, is_placed, lists_for, lists_in, slots_in}
+use Rattle.descriptor_manager.specs.Stores.{ComesOf, IsRefusedAtLast, SettlesTo, generations_in, is_placed, lists_for, slots_in}
 use Rattle.descriptor_manager.specs.declared.layout_registry.LayoutHandle.{LayoutHandle}
 use Rattle.descriptor_manager.specs.declared.layout_registry.LayoutRegistry.{LayoutRegistry}
 use Rattle.descriptor_manager.specs.declared.store.Store.{Store}
@@ -67,7 +67,7 @@ module _ {L P S D : Type 0} {d : Ghosts D L P S} where
   module _ (layouts more : List (Slot (SetLayout L))) (number : ℕ) (old new : Store L P S D d) where
     pub sets_as :
         slots_in new ≡ slots_in old → generations_in new ≡ generations_in old → new.coming.items ≡ old.coming.items
-        → new.table.number ≡ old.table.number → lists_in new ≡ lists_for (length more) → ((n : ℕ) (known : SetLayout L) → (slot_at layouts n).set ≡ Some known → (slot_at more n).set ≡ Some known)
+        → new.table.number ≡ old.table.number → lists_of new.table ≡ lists_for (length more) → ((n : ℕ) (known : SetLayout L) → (slot_at layouts n).set ≡ Some known → (slot_at more n).set ≡ Some known)
         → (AreCounted (generations_in new) layouts → AreCounted (generations_in new) more) → HasSetsOf layouts number old → HasSetsOf more number new
     sets_as slots generations coming numbers lists stay counted was = record {
       rest = record { none_coming = coming ∙ was.rest.none_coming; placed = λ p. ap (λ l. is_placed (slot_at l p)) slots ∙ was.rest.placed p };

@@ -6,9 +6,9 @@ use Rattle.gpu_descriptor.specs.Caller.SetLayouts.{IsMeant}
 use Rattle.gpu_descriptor.specs.declared.layout.SetLayout.{SetLayout}
 use Rattle.gpu_descriptor.specs.declared.set.DescriptorSet.{DescriptorSet}
 use Rattle.descriptor_table.specs.Slots.{slot_at}
-use Rattle.descriptor_table.specs.Tables.{came_under, current}
+use Rattle.descriptor_table.specs.Tables.{came_under, current, lists_of}
 use Rattle.descriptor_table.specs.Slots.{Slot}
-use Rattle.descriptor_manager.specs.Stores.{IsAtRest, generations_in, lists_for, lists_in, slots_in}
+use Rattle.descriptor_manager.specs.Stores.{IsAtRest, generations_in, lists_for, slots_in}
 use Rattle.descriptor_manager.specs.declared.store.Store.{Store}
 
 module _ {L P S : Type 0} (means : Meaning L P S) where
@@ -41,5 +41,5 @@ pub record HasSetsOf {L P S D : Type 0} {d : Ghosts D L P S} (layouts : List (Sl
   -- each layout's slot counts the handles that were given for it
   pub counted : AreCounted (generations_in s) layouts
   -- the table has a list for each layout
-  pub lists : lists_in s ≡ lists_for (length layouts)
+  pub lists : lists_of s.table ≡ lists_for (length layouts)
   pub number : s.table.number ≡ manager

@@ -88,10 +88,6 @@ module _ {L P S D : Type 0} {d : Ghosts D L P S} where
   abbrev pub side_of : StoreOver d → Side (Allocations P)
   side_of s = side s.allocator (d.ledger s.device)
 
-  -- how many lists the table has
-  abbrev pub lists_in : StoreOver d → ℕ
-  lists_in s = lists_of s.table
-
   -- how many layouts of each number were removed
   abbrev pub generations_in : StoreOver d → ℕ → ℕ
   generations_in s = generations_of s.table
@@ -102,7 +98,7 @@ module _ {L P S D : Type 0} {d : Ghosts D L P S} where
 
   -- the layout of this number was added to the table
   abbrev pub HasLayout : ℕ → StoreOver d → Type 0
-  HasLayout layout s = layout + 2 < lists_in s
+  HasLayout layout s = layout + 2 < lists_of s.table
 
   -- the live pools of the device that aren't the allocator's
   abbrev pub pools_besides : StoreOver d → ℕ → Option Pool
@@ -127,11 +123,6 @@ module _ {L P S D : Type 0} {d : Ghosts D L P S} where
   -- all of these are as they were
   abbrev pub KeepsStore : StoreOver d → StoreOver d → Type 0
   KeepsStore old new = StoreStays (generations_in old) old.table.keep old new
-
-  -- the same, and the same sets are on their way into the table
-  pub record KeepsComing (old new : StoreOver d) : Type 0 where
-    pub store : KeepsStore old new
-    pub coming : new.coming.items ≡ old.coming.items
 
   -- the slots, the allocator and the ledger are as they were, and the same sets are on their way into the table
   pub record KeepsContents (old new : StoreOver d) : Type 0 where
@@ -250,11 +241,6 @@ module _ {L P S D : Type 0} {d : Ghosts D L P S} where
     pub refused : IfErr result (λ error. IsRefusedAtLast known (many - kept_of layout old) many error old new)
     pub settles : Settles (ComesOf d.meaning known layout) old new
     pub grows : Grows (slots_in old) (slots_in new)
-
-  -- the table has room to hold the sets that are on their way, under the layout of this number
-  pub record CanHold (number : ℕ) (s : StoreOver d) : Type 0 where
-    pub layout : HasLayout number s
-    pub table : HasRoom (length s.coming.items) s.table
 
   -- sets are held without a call of the device: each was in its slot before, or passes the test
   pub record Holds (comes : ℕ → DescriptorSet S → Type 0) (old new : StoreOver d) : Type 0 where

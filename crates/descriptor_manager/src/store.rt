@@ -8,7 +8,7 @@ ghost use Rattle.gpu_descriptor.specs.Caller.States.{Agrees, outstanding_of, sta
 ghost use Rattle.gpu_descriptor.proofs.callers.OneAgreement.{Agrees-prop};
 ghost use Rattle.descriptor_table.specs.Sets.{find, sets_in};
 ghost use Rattle.descriptor_table.specs.Slots.{generation_at, waits};
-ghost use Rattle.descriptor_table.specs.Tables.{HasListRoom, HasRoom, count, holds, is_kept, lists_with, settings_of, slots_of};
+ghost use Rattle.descriptor_table.specs.Tables.{HasListRoom, HasRoom, count, holds, is_kept, lists_of, lists_with, settings_of, slots_of};
 ghost use Rattle.descriptor_manager.specs.Exact.{AreExactly};
 
 mod back;
@@ -52,7 +52,6 @@ pub(crate) struct Store<L, P, S, D: DescriptorDevice<L, P, S>> {
 impl<L: Drop, P: Drop, S: Drop, D: DescriptorDevice<L, P, S>> Store<L, P, S, D> {
     ghost use Rattle.descriptor_manager.specs.Stores.{HasLayout, IsAtRest, KeepsContents, KeepsStore, kept_of};
     ghost use Rattle.descriptor_manager.specs.Stores.{ExceedsLimitAlone, LacksRoom};
-    ghost use Rattle.descriptor_manager.specs.Stores.{lists_in};
     ghost use Rattle.descriptor_manager.specs.Stores.{pools_besides, side_of, slots_in};
 
     /// A store without sets and layouts, for the set manager of this number. `limit` is the allocator's
@@ -95,7 +94,7 @@ impl<L: Drop, P: Drop, S: Drop, D: DescriptorDevice<L, P, S>> Store<L, P, S, D> 
     pub(crate) fn add_layout(&mut self)
         requires { HasListRoom self.old.table }
         ensures settings { settings_of self.new.table ≡ record (settings_of self.old.table)
-            { lists = lists_with (lists_in self.old) } }
+            { lists = lists_with (lists_of self.old.table) } }
         ensures contents { KeepsContents self.old self.new }
     {
         self.table.add_layout();

@@ -6,7 +6,7 @@ use Rattle.std.proofs.Common.{◌≡◌, ℕ, zero, suc, ◌+◌, ◌<◌, ◌&&
 use Rattle.std.specs.Borrow.{MutBor}
 use Rattle.std.specs.Iterator.{MakesProgress, Yields, YieldsThen, at_most}
 use Rattle.std.specs.declared.iter.Iterator.{can_next-default}
-use Rattle.descriptor_table.specs.Giving.{GivesNext, is_of, sets_left}
+use Rattle.descriptor_table.specs.Giving.{GivesNext, is_of}
 use Rattle.descriptor_table.specs.Sets.{joined, sets_in}
 use Rattle.descriptor_table.specs.Slots.{slot_at}
 use Rattle.descriptor_table.specs.Tables.{GivesAny, Stays, Turns, Becomes, slots_of, vacated}
@@ -75,7 +75,7 @@ module _ {T : Type 0} where
       omega arith
 
   -- a call gave a set, or there was none
-  pub progress : {S : Type 0} (table : S → MutBor (SetTable T)) (test : Slot T → Bool) (s t : S) (r : Option T) → GivesAny test r (slots_of (table s).now) (slots_of (table t).now) → MakesProgress (can_next-default S T) (λ u. at_most (sets_left (table u))) s r t
+  pub progress : {S : Type 0} (table : S → MutBor (SetTable T)) (test : Slot T → Bool) (s t : S) (r : Option T) → GivesAny test r (slots_of (table s).now) (slots_of (table t).now) → MakesProgress (can_next-default S T) (λ u. at_most (length (sets_in (slots_of (table u).now)))) s r t
   progress table test s t None gives = record { on = λ finite. tt; keeps = tt; rests = λ finite. tt }
   progress table test s t (Some x) gives = record { on = λ finite. (tt, tt, one_set_fewer test x (slots_of (table s).now) (slots_of (table t).now) gives); keeps = tt; rests = λ finite. tt }
 

@@ -1,13 +1,10 @@
 -- Sets that return to their pools.
-use Rattle.std.specs.Prelude.{◌≡◌, ℕ, length, Bool, Option}
-use Rattle.std.specs.Borrow.{MutBor}
-use Rattle.descriptor_table.specs.Sets.{sets_in}
+use Rattle.std.specs.Prelude.{◌≡◌, Bool, Option}
 use Rattle.descriptor_table.specs.Slots.{Slot, goes, is_due, is_kept_of}
-use Rattle.descriptor_table.specs.Tables.{Changes, GivesAny, slots_of}
+use Rattle.descriptor_table.specs.Tables.{Changes, GivesAny}
 use Rattle.descriptor_table.specs.declared.giving.Giving.{Giving}
 use Rattle.descriptor_table.specs.declared.giving.Group.{Group}
 use Rattle.descriptor_table.specs.declared.giving.Group.TheVariants.{Going, Due, KeptOf}
-use Rattle.descriptor_table.specs.declared.set_table.SetTable.{SetTable}
 
 module _ {T : Type 0} where
   -- whether a slot has a set of the group
@@ -21,7 +18,3 @@ module _ {T : Type 0} where
     pub group : t.group ≡ s.group
     pub same : t.table.ghost_name ≡ s.table.ghost_name
     pub gives : Changes (GivesAny (is_of s.group) r) s.table.now t.table.now
-
-  -- how many sets there are
-  abbrev pub sets_left : MutBor (SetTable T) → ℕ
-  sets_left t = length (sets_in (slots_of t.now))

@@ -92,13 +92,9 @@ module _ {T : Type 0} where
   abbrev pub slot_at : Slots T → ℕ → Slot T
   slot_at slots place = slice_index_or slots place no_slot
 
-  -- a set that a call has taken, in a slot of this generation
-  abbrev pub taken_slot : ℕ → ℕ → ℕ → T → Slot T
-  taken_slot generation layout layout_generation set = record { generation = generation; layout = layout; layout_generation = layout_generation; used = Taken; kept_below = 4294967295; set = Some set }
-
   -- the slot with this set, which a call has taken
   abbrev pub filled : ℕ → ℕ → T → Slot T → Slot T
-  filled layout layout_generation set s = taken_slot s.generation layout layout_generation set
+  filled layout layout_generation set s = record s { layout = layout; layout_generation = layout_generation; used = Taken; kept_below = 4294967295; set = Some set }
 
   -- the slot that an entry stands for. Contracts see slots, so how an entry packs one is proved in the file of SlotList alone
   abbrev pub slot_of : Entry T → Slot T

@@ -1,7 +1,7 @@
 -- How calls change the slots of a table.
 use Rattle.std.specs.Prelude.{◌≡◌, ◌≢◌, ℕ, zero, suc, ◌+◌, ◌-◌, ◌<◌, ◌≤◌, ◌⊎◌, ◌==◌, ◌&&◌, nat_lt, Bool, true, false, List, [], ◌∷◌, length, slice_index_or, slice_set, vec_capacity, is_some, if◌then◌else◌, Option, Some, None, MatchOption}
 use Rattle.std.specs.VecDeque.{deque_capacity}
-use Rattle.descriptor_table.specs.Slots.{IsNowhere, Slot, Slots, chains_in, generations_in, slots_in, space_in, taken_slot, chain_at, generation_at, is_in, is_kept_of, slot_at}
+use Rattle.descriptor_table.specs.Slots.{IsNowhere, Slot, Slots, chains_in, generations_in, slots_in, space_in, filled, generation_at, is_in, is_kept_of, slot_at}
 use Rattle.descriptor_table.specs.declared.handle.SetHandle.{SetHandle}
 use Rattle.descriptor_table.specs.declared.set_table.SetTable.{SetTable}
 use Rattle.descriptor_table.specs.declared.slot.Use.{Use}
@@ -189,7 +189,7 @@ module _ {T : Type 0} where
     pub empty : (slot_at old p).set ≡ None
     pub within : p < length new
     pub next : (slot_at old p).generation < 4294967295
-    pub here : slot_at new p ≡ taken_slot (slot_at old p).generation layout (generations layout) set
+    pub here : slot_at new p ≡ filled layout (generations layout) set (slot_at old p)
     pub others : (q : ℕ) → q ≢ p → slot_at new q ≡ slot_at old q
     -- the table grows only if each slot has a set, or had its last generation
     pub grows : (length new ≡ length old) ⊎ ((length new ≡ length old + 1) × AreAllUsed old)

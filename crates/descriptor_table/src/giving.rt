@@ -1,7 +1,9 @@
 //! Sets that return to their pools.
-ghost use Rattle.std.specs.Prelude.{◌≡◌};
+ghost use Rattle.std.specs.Prelude.{◌≡◌, length};
 ghost use Rattle.std.specs.Iterator.{at_most};
-ghost use Rattle.descriptor_table.specs.Giving.{GivesNext, sets_left};
+ghost use Rattle.descriptor_table.specs.Giving.{GivesNext};
+ghost use Rattle.descriptor_table.specs.Sets.{sets_in};
+ghost use Rattle.descriptor_table.specs.Tables.{slots_of};
 
 use crate::set_table::SetTable;
 
@@ -30,7 +32,7 @@ impl<T> Iterator for Giving<'_, T> {
 
     ghost next_gives = { GivesNext };
 
-    ghost remaining = { λ s. at_most (sets_left s.table) };
+    ghost remaining = { λ s. at_most (length (sets_in (slots_of s.table.now))) };
 
     #[inline]
     fn next(&mut self) -> Option<T> {

@@ -32,13 +32,14 @@ pub struct Entry<T> {
 }
 
 impl<T> Entry<T> {
-    ghost use Rattle.descriptor_table.specs.Slots.{slot_of, taken_slot};
+    ghost use Rattle.descriptor_table.specs.Slots.{filled, no_slot, slot_of};
     ghost use Rattle.descriptor_table.specs.Tables.{used_for};
 
     /// A slot with a set that a call has taken.
     #[inline]
     pub(crate) fn new(generation: u32, layout: u32, layout_generation: u32, set: T) -> Self
-        ensures slot { slot_of result ≡ taken_slot generation layout layout_generation set }
+        ensures slot { slot_of result ≡ filled layout layout_generation set
+            (record no_slot { generation = generation }) }
         ensures next { result.next ≡ 0 }
     {
         Entry {
@@ -91,7 +92,7 @@ pub struct SlotList<T> {
 
 impl<T> SlotList<T> {
     ghost use Rattle.descriptor_table.specs.Slots.{Writes, filled, frame_of, nexts_in, slot_at, slot_of, slots_in, space_in};
-    ghost use Rattle.descriptor_table.specs.Slots.{taken_slot, waits};
+    ghost use Rattle.descriptor_table.specs.Slots.{no_slot, waits};
     ghost use Rattle.descriptor_table.specs.Tables.{aged, renewed, used_for};
 
     /// A list without slots. It allocates no memory.
@@ -248,7 +249,8 @@ impl<T> SlotList<T> {
     #[inline]
     pub(crate) fn push(&mut self, layout: u32, layout_generation: u32, set: T)
         requires { length (slots_in self.old) < space_in self.old }
-        ensures slots { slots_in self.new ≡ slots_in self.old ++ taken_slot 0 layout layout_generation set ∷ [] }
+        ensures slots { slots_in self.new ≡ slots_in self.old
+            ++ filled layout layout_generation set no_slot ∷ [] }
         ensures nexts { nexts_in self.new ≡ nexts_in self.old ++ 0 ∷ [] }
         ensures space { space_in self.new ≡ space_in self.old }
     {

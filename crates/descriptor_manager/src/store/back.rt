@@ -15,7 +15,7 @@ impl<L: Drop, P: Drop, S: Drop, D: DescriptorDevice<L, P, S>> Store<L, P, S, D> 
     ghost use Rattle.descriptor_table.specs.Tables.{Becomes, KeepsUpTo, MayBecome, TurnEach, Turns, is_kept, removed_at};
     ghost use Rattle.descriptor_table.specs.Tables.{used_for, vacated};
     ghost use Rattle.descriptor_table.specs.declared.slot.Use.{Use};
-    ghost use Rattle.descriptor_manager.specs.Stores.{AreCleaned, Cleans, FreesSets, IsFreed, KeepsComing};
+    ghost use Rattle.descriptor_manager.specs.Stores.{AreCleaned, Cleans, FreesSets, IsFreed, KeepsStore};
     ghost use Rattle.descriptor_manager.specs.Stores.{HasLayout, IsAtRest, NoneComes};
     ghost use Rattle.descriptor_manager.specs.Stores.{Removes, Settles, SettlesTo};
     ghost use Rattle.descriptor_manager.specs.Stores.{generations_in, kept_of};
@@ -26,7 +26,8 @@ impl<L: Drop, P: Drop, S: Drop, D: DescriptorDevice<L, P, S>> Store<L, P, S, D> 
     fn give(&mut self, group: Group)
         ensures frees { FreesSets (Turns (is_of group) (Becomes vacated)) self.old self.new }
         ensures keeps { Keeps D.meaning (side_of self.old) (side_of self.new) }
-        ensures stays { KeepsComing self.old self.new }
+        ensures stays { KeepsStore self.old self.new }
+        ensures coming { self.new.coming.items ≡ self.old.coming.items }
     {
         if self.table.is_known_empty(group) {
             // A proof knows the allocator's invariant only from what its readers promise.
@@ -41,7 +42,8 @@ impl<L: Drop, P: Drop, S: Drop, D: DescriptorDevice<L, P, S>> Store<L, P, S, D> 
     fn give_each(&mut self, group: Group)
         ensures frees { FreesSets (Turns (is_of group) (Becomes vacated)) self.old self.new }
         ensures keeps { Keeps D.meaning (side_of self.old) (side_of self.new) }
-        ensures stays { KeepsComing self.old self.new }
+        ensures stays { KeepsStore self.old self.new }
+        ensures coming { self.new.coming.items ≡ self.old.coming.items }
     {
         let mut giving = Giving {
             table: &mut self.table,

@@ -9,7 +9,7 @@ use gpu_descriptor::{DescriptorDevice, DescriptorSet};
 impl<L: Drop, P: Drop, S: Drop, D: DescriptorDevice<L, P, S>> Store<L, P, S, D> {
     ghost use Rattle.descriptor_table.specs.Slots.{frame_of, is_kept_of, is_live, slot_at};
     ghost use Rattle.descriptor_table.specs.Tables.{HasRoom, place_at};
-    ghost use Rattle.descriptor_manager.specs.Stores.{CanHold, ComesOf, HoldEach, Holds, KeepsStore};
+    ghost use Rattle.descriptor_manager.specs.Stores.{ComesOf, HasLayout, HoldEach, Holds, KeepsStore};
     ghost use Rattle.descriptor_manager.specs.Stores.{NoneComes, current_in, kept_of};
     ghost use Rattle.descriptor_manager.specs.Stores.{slots_in};
 
@@ -60,7 +60,8 @@ impl<L: Drop, P: Drop, S: Drop, D: DescriptorDevice<L, P, S>> Store<L, P, S, D> 
     #[inline(always)]
     pub(super) fn hold_last(&mut self, layout: u32, used: Use) -> SetHandle
         requires some { 0 < length self.old.coming.items }
-        requires can { CanHold layout self.old }
+        requires layout { HasLayout layout self.old }
+        requires room { HasRoom (length self.old.coming.items) self.old.table }
         requires live { is_live (frame_of used) true used ≡ true }
         ensures holds { HoldEach self.old.table.number (current_in layout self.old) used (result ∷ [])
             (slots_in self.old) (slots_in self.new) }
@@ -88,7 +89,8 @@ impl<L: Drop, P: Drop, S: Drop, D: DescriptorDevice<L, P, S>> Store<L, P, S, D> 
         used: Use,
         names: &mut [N],
     )
-        requires can { CanHold layout self.old }
+        requires layout { HasLayout layout self.old }
+        requires room { HasRoom (length self.old.coming.items) self.old.table }
         requires as_many { length names.old ≡ length self.old.coming.items }
         requires live { is_live (frame_of used) true used ≡ true }
         ensures holds { HoldEach self.old.table.number (current_in layout self.old) used

@@ -28,4 +28,4 @@ returns-clause-settles g c =
     let old = slots_of c.args.self.now.table in
     let new = slots_of c.give.new.self.table in
     let all = cleaned old (slots_of c.age.new.self) (slots_of c.trim.new.self) new c.requires.rest.placed c.age.ensures.slots c.trim.ensures.turns.slots c.trim.ensures.few c.give.ensures.frees.turns in
-    settled _ _ (follow_cleaned old new all) (c.give.ensures.stays.coming ∙ c.requires.rest.none_coming) c.requires.rest (search rules)
+    settled _ _ (follow_cleaned old new all) (c.give.ensures.coming ∙ c.requires.rest.none_coming) c.requires.rest (search rules)

@@ -34,4 +34,4 @@ returns-clause-frees g c = record { turns = left g (goal.at.returns-clause-frees
 pub returns-clause-settles : goal.returns-clause-settles
 returns-clause-settles g c =
     let left = left g (goal.at.returns-clause-settles g c).After-give in
-    settled c.args.self.now c.give.new.self (left_follows (slots_of c.args.self.now.table) (slots_of c.give.new.self.table) left) (c.give.ensures.stays.coming ∙ c.requires.rest.none_coming) c.requires.rest (search rules)
+    settled c.args.self.now c.give.new.self (left_follows (slots_of c.args.self.now.table) (slots_of c.give.new.self.table) left) (c.give.ensures.coming ∙ c.requires.rest.none_coming) c.requires.rest (search rules)

@@ -46,4 +46,4 @@ returns-clause-settles g c =
     follows_back (generations_of s.table) s.table.keep new (slot_at old p) (slot_at new p)
     (turns.named i lt))
     turns.rest)
-    (c.give.ensures.stays.coming ∙ c.requires.rest.none_coming) c.requires.rest (search rules)
+    (c.give.ensures.coming ∙ c.requires.rest.none_coming) c.requires.rest (search rules)

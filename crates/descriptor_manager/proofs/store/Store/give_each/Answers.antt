@@ -45,5 +45,6 @@ returns g c =
     record {
       frees = record { turns = subst (λ t. Turns (is_of c.args.group) (Becomes vacated) (slots_of c.args.self.now.table) (slots_of t)) (sym c.end.ensures) all.0; back = record { sets = f.sets; returns = f.returns } };
       keeps = keeps;
-      stays = record { store = record { settings = settings; limit = keeps.limit; bound = keeps.bound; besides = keeps.others }; coming = refl };
+      stays = record { settings = settings; limit = keeps.limit; bound = keeps.bound; besides = keeps.others };
+      coming = refl;
     }

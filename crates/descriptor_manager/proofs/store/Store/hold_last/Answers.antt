@@ -59,7 +59,7 @@ returns-clause-table g c =
     let r = renews g h in
     let put = slots_of c.put-place.new.self in
     let puts = c.put-place.ensures.puts in
-    let room = subst (λ n. HasRoom n c.args.self.now.table) (fewer g h) c.requires.can.table in
+    let room = subst (λ n. HasRoom n c.args.self.now.table) (fewer g h) c.requires.room in
     room_stays (length c.pop.new.self.items) c.put-place.new.self c.hold.new.self c.hold.ensures.stays
     (ap length r.slots ∙ length-set put c.put-place.result (renewed c.args.used (slot_at put c.put-place.result)))
     (usable_renewed c.args.self.now.table.number c.put-place.result c.args.used c.hold.result put (slots_of c.hold.new.self) r

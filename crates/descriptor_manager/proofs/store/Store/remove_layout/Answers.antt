@@ -20,21 +20,21 @@ turns : (g : Over) (c : After-remove_layout g) → Turns (is_kept_of c.args.layo
 turns g c = subst (λ v. Turns (is_kept_of c.args.layout) (Becomes vacated) (slots_in c.args.self.now) (table.slots_in v)) (sym c.remove_layout.ensures.only.slots) c.give.ensures.frees.turns
 
 pub remove_layout-requires-clause-next : goal.remove_layout-requires-clause-next
-remove_layout-requires-clause-next g c = subst (λ (generations : ℕ → ℕ). generations c.args.layout < 4294967295) (sym (ap (λ (s : Settings). s.generations) c.give.ensures.stays.store.settings)) c.requires.next
+remove_layout-requires-clause-next g c = subst (λ (generations : ℕ → ℕ). generations c.args.layout < 4294967295) (sym (ap (λ (s : Settings). s.generations) c.give.ensures.stays.settings)) c.requires.next
 
 pub returns-clause-removes : goal.returns-clause-removes
 returns-clause-removes g c =
     let gives = c.give.ensures.frees in
     record {
       turns = turns g (goal.at.returns-clause-removes g c).After-remove_layout;
-      generations = (ap (λ (s : Settings). s.generations) c.remove_layout.ensures.only.settings) ∙ ap (removed_at c.args.layout) (ap (λ (s : Settings). s.generations) c.give.ensures.stays.store.settings);
+      generations = (ap (λ (s : Settings). s.generations) c.remove_layout.ensures.only.settings) ∙ ap (removed_at c.args.layout) (ap (λ (s : Settings). s.generations) c.give.ensures.stays.settings);
       past = c.remove_layout.ensures.past;
       mid = side_of c.give.new.self;
       back = gives.back;
       trims = c.trim_layout.ensures.trims;
       gave = λ t. (
           let coming = λ (l : List (DescriptorSet g.row.S.Denot)). count_of t (items_of g.D.DescriptorDevice.meaning.set_name l) in
-          let none = ap coming c.give.ensures.stays.coming in
+          let none = ap coming c.give.ensures.coming in
           let was = c.args.self.now.exact t in
           let is = c.give.new.self.exact t in
           let back = gives.back.returns.back.returned t in
@@ -45,4 +45,4 @@ returns-clause-removes g c =
 
 pub returns-clause-settles : goal.returns-clause-settles
 returns-clause-settles g c =
-    settled _ _ (follow_turns (is_kept_of c.args.layout) (Becomes vacated) (slots_in c.args.self.now) (slots_of c.remove_layout.new.self) (turns g (goal.at.returns-clause-settles g c).After-remove_layout) (λ o n e. follows_vacated o n e)) (c.give.ensures.stays.coming ∙ c.requires.rest.none_coming) c.requires.rest (search rules)
+    settled _ _ (follow_turns (is_kept_of c.args.layout) (Becomes vacated) (slots_in c.args.self.now) (slots_of c.remove_layout.new.self) (turns g (goal.at.returns-clause-settles g c).After-remove_layout) (λ o n e. follows_vacated o n e)) (c.give.ensures.coming ∙ c.requires.rest.none_coming) c.requires.rest (search rules)

@@ -55,4 +55,4 @@ pub returns-clause-settles : goal.returns-clause-settles
 returns-clause-settles g c =
     let old = slots_of c.args.self.now.table in
     let new = slots_of c.give.new.self.table in
-    settled c.args.self.now c.give.new.self (follow_turns is_kept (MayBecome vacated) old new (all g c) (follows_left new)) (c.give.ensures.stays.coming ∙ c.requires.rest.none_coming) c.requires.rest (search rules)
+    settled c.args.self.now c.give.new.self (follow_turns is_kept (MayBecome vacated) old new (all g c) (follows_left new)) (c.give.ensures.coming ∙ c.requires.rest.none_coming) c.requires.rest (search rules)

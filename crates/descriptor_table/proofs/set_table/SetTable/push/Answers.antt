@@ -1,7 +1,7 @@
 use Rattle.std.proofs.lemmas.Grind.{common_steps}
 use Rattle.std.proofs.Common.{◌∙◌, ◌++◌, ◌∷◌, [], length, refl, ap, arith, rules}
 use Rattle.std.proofs.lemmas.List.{length_push}
-use Rattle.descriptor_table.specs.Slots.{Slot, slots_in, taken_slot, chains_in, generations_in}
+use Rattle.descriptor_table.specs.Slots.{Slot, slots_in, filled, no_slot, chains_in, generations_in}
 use Rattle.descriptor_table.specs.Tables.{count, generations_of, is_usable}
 use Rattle.descriptor_table.proofs.Counts.{none_count}
 use Rattle.descriptor_table.proofs.Growing.{count_grown, puts_last}
@@ -13,7 +13,7 @@ use Rattle.descriptor_table.proofs.set_table.SetTable.push.Goals as goal
 
 -- the slot that comes
 abbrev put_slot : (g : _) (c : After-generation-layout_generation g) → Slot g.row.T.Denot
-put_slot g c = taken_slot 0 c.args.layout c.generation-layout_generation.result c.args.set
+put_slot g c = filled c.args.layout c.generation-layout_generation.result c.args.set no_slot
 
 pub push-requires : goal.push-requires
 push-requires g c = grind (arith, common_steps, none_count)
@@ -36,7 +36,7 @@ returns g c =
     let usable = ap (count is_usable) c.push.ensures.slots ∙ count_grown is_usable (slots_in s.slots) new in
     let space = c.push.ensures.space in
     record {
-      puts = puts_last (generations_of s) c.args.layout c.args.set (slots_in s.slots) (slots_in c.push.new.self) c.len-place.result c.len-place.ensures (c.push.ensures.slots ∙ ap (λ n. slots_in s.slots ++ taken_slot 0 c.args.layout n c.args.set ∷ []) c.generation-layout_generation.ensures) c.requires.full;
+      puts = puts_last (generations_of s) c.args.layout c.args.set (slots_in s.slots) (slots_in c.push.new.self) c.len-place.result c.len-place.ensures (c.push.ensures.slots ∙ ap (λ n. slots_in s.slots ++ filled c.args.layout n c.args.set no_slot ∷ []) c.generation-layout_generation.ensures) c.requires.full;
       reserve = λ n room. record { few = (let h = room.few in omega arith); slots = (let h = room.slots in omega arith); waiting = (let h = room.waiting in omega arith) };
       settings = search rules;
     }
