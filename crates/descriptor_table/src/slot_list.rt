@@ -4,7 +4,6 @@ ghost use Rattle.std.specs.Prelude.{IfSome, IsOk, OnOk, None, true};
 
 use crate::slot::{State, Use};
 use std::alloc::{AllocError, Global};
-use std::mem;
 use std::vec::Vec;
 
 /// A place for a set.
@@ -35,15 +34,14 @@ impl<T> Entry<T> {
     ghost use Rattle.descriptor_table.specs.Slots.{filled, no_slot, slot_of};
     ghost use Rattle.descriptor_table.specs.Tables.{used_for};
 
-    /// A slot with a set that a call has taken.
+    /// A new slot with a set that a call has taken.
     #[inline]
-    pub(crate) fn new(generation: u32, layout: u32, layout_generation: u32, set: T) -> Self
-        ensures slot { slot_of result ≡ filled layout layout_generation set
-            (record no_slot { generation = generation }) }
+    pub(crate) fn new(layout: u32, layout_generation: u32, set: T) -> Self
+        ensures slot { slot_of result ≡ filled layout layout_generation set no_slot }
         ensures next { result.next ≡ 0 }
     {
         Entry {
-            generation,
+            generation: 0,
             layout,
             layout_generation,
             next: 0,
@@ -227,19 +225,13 @@ impl<T> SlotList<T> {
         ensures writes { Writes place (filled layout layout_generation set) self.old self.new }
         ensures nexts { nexts_in self.new ≡ slice_set (nexts_in self.old) place 0 }
     {
-        let generation = self.entries[place].generation;
-        let entry = Entry::new(generation, layout, layout_generation, set);
-        let Entry {
-            generation: _,
-            layout: _,
-            layout_generation: _,
-            next: _,
-            frame: _,
-            state: _,
-            kept_below: _,
-            set: before,
-        } = mem::replace(&mut self.entries[place], entry);
-        match before {
+        let entry = &mut self.entries[place];
+        entry.layout = layout;
+        entry.layout_generation = layout_generation;
+        entry.next = 0;
+        entry.state = State::Taken;
+        entry.kept_below = u32::MAX;
+        match entry.set.replace(set) {
             None => {}
             Some(_) => unreachable!(),
         }
@@ -255,6 +247,6 @@ impl<T> SlotList<T> {
         ensures space { space_in self.new ≡ space_in self.old }
     {
         self.entries
-            .push_reserved(Entry::new(0, layout, layout_generation, set));
+            .push_reserved(Entry::new(layout, layout_generation, set));
     }
 }

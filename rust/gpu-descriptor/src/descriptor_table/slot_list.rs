@@ -3,7 +3,6 @@
 
 use crate::descriptor_table::slot::{State, Use};
 use crate::kit::alloc::{AllocError, Global};
-use crate::kit::mem;
 use crate::kit::vec::Vec;
 
 /// A place for a set.
@@ -30,12 +29,12 @@ pub struct Entry<T> {
 }
 
 impl<T> Entry<T> {
-    /// A slot with a set that a call has taken.
+    /// A new slot with a set that a call has taken.
     #[inline]
-    pub(crate) fn new(generation: u32, layout: u32, layout_generation: u32, set: T) -> Self
+    pub(crate) fn new(layout: u32, layout_generation: u32, set: T) -> Self
     {
         Entry {
-            generation,
+            generation: 0,
             layout,
             layout_generation,
             next: 0,
@@ -174,19 +173,13 @@ impl<T> SlotList<T> {
     #[inline]
     pub(crate) fn fill(&mut self, place: usize, layout: u32, layout_generation: u32, set: T)
     {
-        let generation = self.entries[place].generation;
-        let entry = Entry::new(generation, layout, layout_generation, set);
-        let Entry {
-            generation: _,
-            layout: _,
-            layout_generation: _,
-            next: _,
-            frame: _,
-            state: _,
-            kept_below: _,
-            set: before,
-        } = mem::replace(&mut self.entries[place], entry);
-        match before {
+        let entry = &mut self.entries[place];
+        entry.layout = layout;
+        entry.layout_generation = layout_generation;
+        entry.next = 0;
+        entry.state = State::Taken;
+        entry.kept_below = u32::MAX;
+        match entry.set.replace(set) {
             None => {}
             Some(_) => unreachable!(),
         }
@@ -197,6 +190,6 @@ impl<T> SlotList<T> {
     pub(crate) fn push(&mut self, layout: u32, layout_generation: u32, set: T)
     {
         self.entries
-            .push_reserved(Entry::new(0, layout, layout_generation, set));
+            .push_reserved(Entry::new(layout, layout_generation, set));
     }
 }
