@@ -1,9 +1,11 @@
 //! Layouts under handles.
 ghost use Rattle.std.specs.Prelude.{◌≡◌, ◌+◌, ◌<◌, ◌⊎◌, ℕ, [], ◌∷◌, length, slice_set, IfErr, IfOk, IfSome};
-ghost use Rattle.std.specs.Prelude.{IsSome, None, OnErr, OnOk, Some};
+ghost use Rattle.std.specs.Prelude.{IsSome, None, OnErr, OnOk, Some, is_some, true};
 ghost use Rattle.std.specs.Option.{option_copied};
 ghost use Rattle.gpu_descriptor.specs.Caller.SetLayouts.{IsMeant};
+ghost use Rattle.descriptor_table.specs.Slots.{slot_at};
 ghost use Rattle.descriptor_table.specs.Tables.{lists_of, slots_of};
+ghost use Rattle.descriptor_table.specs.declared.slot.Use.{Use};
 ghost use Rattle.descriptor_manager.specs.Own.{AreCounted, AreMeant};
 
 use descriptor_table::{SetHandle, SetTable, Use, place_of};
@@ -39,12 +41,13 @@ pub struct LayoutRegistry<L, P, S, D: DescriptorDevice<L, P, S>> {
     table: SetTable<SetLayout<L>>,
     device: PhantomData<(P, S, D)>,
     ghost meant: { AreMeant D.meaning (slots_of table) },
+    ghost held: { (p : ℕ) → is_some (slot_at (slots_of table) p).set ≡ true
+        → (slot_at (slots_of table) p).used ≡ Use.Held },
     ghost listed: { 0 < lists_of table → 2 < lists_of table },
 }
 
 impl<L, P, S, D: DescriptorDevice<L, P, S>> LayoutRegistry<L, P, S, D> {
     ghost use Rattle.descriptor_table.specs.Sets.{LoseNames, NameEach};
-    ghost use Rattle.descriptor_table.specs.Slots.{slot_at};
     ghost use Rattle.descriptor_table.specs.Tables.{Grows, HasRoom, vacated};
     ghost use Rattle.descriptor_manager.specs.LayoutRegistries.{KeepsLayouts, layout_at, layout_slots, layouts_by};
     ghost use Rattle.descriptor_manager.specs.LayoutRegistries.{registry_of};
@@ -143,6 +146,6 @@ impl<L, P, S, D: DescriptorDevice<L, P, S>> LayoutRegistry<L, P, S, D> {
         ensures layout { option_copied result ≡ layout_at self.now handle }
         ensures meant { IfSome result (λ layout. IsMeant D.meaning layout.now) }
     {
-        self.table.get(handle.slot, 0, false)
+        self.table.get_last(handle.slot)
     }
 }

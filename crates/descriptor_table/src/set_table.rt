@@ -1,8 +1,8 @@
 //! The table of a set manager's sets. Each set has a slot, and stays there while it is reused.
-ghost use Rattle.std.specs.Prelude.{◌≡◌, ◌+◌, ◌<◌, [], length, IsOk, OnErr, OnOk};
+ghost use Rattle.std.specs.Prelude.{◌≡◌, ◌+◌, ◌<◌, [], length, true, if◌then◌else◌, IfSome, IsOk, None, OnErr, OnOk};
 ghost use Rattle.std.specs.Option.{option_copied};
 ghost use Rattle.std.specs.VecDeque.{deque_capacity};
-ghost use Rattle.descriptor_table.specs.Slots.{AreSound, chains_in, generation_at, generations_in};
+ghost use Rattle.descriptor_table.specs.Slots.{AreSound, chains_in, generation_at, generations_in, no_slot, slot_at, slot_of};
 
 mod back;
 mod counts;
@@ -14,7 +14,7 @@ mod waiting;
 
 use crate::handle::SetHandle;
 use crate::slot::{ListHead, Use};
-use crate::slot_list::SlotList;
+use crate::slot_list::{Entry, SlotList};
 use std::alloc::{AllocError, Global};
 use std::collections::VecDeque;
 use std::vec::Vec;
@@ -54,7 +54,7 @@ pub struct SetTable<T> {
 }
 
 impl<T> SetTable<T> {
-    ghost use Rattle.descriptor_table.specs.Sets.{find, is_held};
+    ghost use Rattle.descriptor_table.specs.Sets.{find, is_held, is_last};
     ghost use Rattle.descriptor_table.specs.Tables.{HasPlaces, HasRoom, OnlyMemory, settings_of};
     ghost use Rattle.descriptor_table.specs.Tables.{count, is_usable, slots_of};
 
@@ -78,20 +78,41 @@ impl<T> SetTable<T> {
         }
     }
 
+    /// The slot whose last handle this is.
+    #[inline]
+    fn last_slot(&self, handle: SetHandle) -> Option<&Entry<T>>
+        ensures last { IfSome result (λ slot. (is_last self.now.number (slots_of self.now) handle
+            ≡ true) × (slot_of slot.now ≡ slot_at (slots_of self.now) handle.place)) }
+        ensures none { result ≡ None → is_last self.now.number (slots_of self.now) handle ≡ true
+            → slot_at (slots_of self.now) handle.place ≡ no_slot }
+    {
+        if handle.manager != self.number {
+            return None;
+        }
+        let slot = self.slots.get(handle.place)?;
+        (slot.generation == handle.generation).then_some(slot)
+    }
+
     /// The set of a handle, while `frame` is the open frame if `is_open`.
     #[inline]
     pub fn get(&self, handle: SetHandle, frame: u64, is_open: bool) -> Option<&T>
         ensures { option_copied result ≡ find self.now.number frame is_open (slots_of self.now)
             handle }
     {
-        if handle.manager != self.number {
-            return None;
-        }
-        let slot = self.slots.get(handle.place)?;
-        if slot.generation != handle.generation || !slot.used().is_live(frame, is_open) {
+        let slot = self.last_slot(handle)?;
+        if !slot.used().is_live(frame, is_open) {
             return None;
         }
         slot.set.as_ref()
+    }
+
+    /// The set in the slot whose last handle this is, whatever it is in use for.
+    #[inline]
+    pub fn get_last(&self, handle: SetHandle) -> Option<&T>
+        ensures { option_copied result ≡ (if is_last self.now.number (slots_of self.now) handle
+            then (slot_at (slots_of self.now) handle.place).set else None) }
+    {
+        self.last_slot(handle)?.set.as_ref()
     }
 
     /// Whether a handle has a held set.
@@ -99,15 +120,9 @@ impl<T> SetTable<T> {
     fn holds(&self, handle: SetHandle) -> bool
         ensures { result ≡ is_held self.now.number (slots_of self.now) handle }
     {
-        if handle.manager != self.number {
-            return false;
-        }
-        let Some(slot) = self.slots.get(handle.place) else {
+        let Some(slot) = self.last_slot(handle) else {
             return false;
         };
-        if slot.generation != handle.generation {
-            return false;
-        }
         match slot.used() {
             Use::Held => true,
             Use::InFrame(_) | Use::Waits(_) | Use::Kept | Use::Going | Use::Taken | Use::Vacant =>

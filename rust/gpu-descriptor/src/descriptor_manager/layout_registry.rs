@@ -94,6 +94,6 @@ impl<L, P, S, D: DescriptorDevice<L, P, S>> LayoutRegistry<L, P, S, D> {
     #[inline]
     pub fn get(&self, handle: LayoutHandle) -> Option<&SetLayout<L>>
     {
-        self.table.get(handle.slot, 0, false)
+        self.table.get_last(handle.slot)
     }
 }

@@ -11,7 +11,7 @@ mod waiting;
 
 use crate::descriptor_table::handle::SetHandle;
 use crate::descriptor_table::slot::{ListHead, Use};
-use crate::descriptor_table::slot_list::SlotList;
+use crate::descriptor_table::slot_list::{Entry, SlotList};
 use crate::kit::alloc::{AllocError, Global};
 use crate::kit::collections::VecDeque;
 use crate::kit::vec::Vec;
@@ -61,33 +61,42 @@ impl<T> SetTable<T> {
         }
     }
 
-    /// The set of a handle, while `frame` is the open frame if `is_open`.
+    /// The slot whose last handle this is.
     #[inline]
-    pub fn get(&self, handle: SetHandle, frame: u64, is_open: bool) -> Option<&T>
+    fn last_slot(&self, handle: SetHandle) -> Option<&Entry<T>>
     {
         if handle.manager != self.number {
             return None;
         }
         let slot = self.slots.get(handle.place)?;
-        if slot.generation != handle.generation || !slot.used().is_live(frame, is_open) {
+        (slot.generation == handle.generation).then_some(slot)
+    }
+
+    /// The set of a handle, while `frame` is the open frame if `is_open`.
+    #[inline]
+    pub fn get(&self, handle: SetHandle, frame: u64, is_open: bool) -> Option<&T>
+    {
+        let slot = self.last_slot(handle)?;
+        if !slot.used().is_live(frame, is_open) {
             return None;
         }
         slot.set.as_ref()
+    }
+
+    /// The set in the slot whose last handle this is, whatever it is in use for.
+    #[inline]
+    pub fn get_last(&self, handle: SetHandle) -> Option<&T>
+    {
+        self.last_slot(handle)?.set.as_ref()
     }
 
     /// Whether a handle has a held set.
     #[inline]
     fn holds(&self, handle: SetHandle) -> bool
     {
-        if handle.manager != self.number {
-            return false;
-        }
-        let Some(slot) = self.slots.get(handle.place) else {
+        let Some(slot) = self.last_slot(handle) else {
             return false;
         };
-        if slot.generation != handle.generation {
-            return false;
-        }
         match slot.used() {
             Use::Held => true,
             Use::InFrame(_) | Use::Waits(_) | Use::Kept | Use::Going | Use::Taken | Use::Vacant =>

@@ -2,7 +2,7 @@ use Rattle.std.proofs.Common.{◌∷◌, [], false, inl, inr, sym, subst, ◌∙
 use Rattle.gpu_descriptor.specs.Caller.SetLayouts.{IsMeant}
 use Rattle.descriptor_table.specs.Sets.{NameEach, sets_of}
 use Rattle.descriptor_table.specs.Tables.{Settings, Grows, generations_of, slots_of}
-use Rattle.descriptor_manager.proofs.Adding.{added_grows, added_names, added_only}
+use Rattle.descriptor_manager.proofs.Adding.{added_grows, added_held, added_names, added_only}
 use Rattle.descriptor_manager.proofs.layout_registry.LayoutRegistry.add.Goals as goal
 
 pub invariant_of-self-clause-meant : goal.invariant_of-self-clause-meant
@@ -12,6 +12,11 @@ invariant_of-self-clause-meant g c = λ p known is.
       | inl was ↦ c.reserve.new.self.meant p known was
       | inr same ↦ subst (IsMeant g.D.DescriptorDevice.meaning) (sym same) c.requires.meant
     ]
+
+pub invariant_of-self-clause-held : goal.invariant_of-self-clause-held
+invariant_of-self-clause-held g c =
+    let mid = c.put-place.new.self in
+    added_held mid.number c.put-place.result c.args.layout c.hold.result (slots_of c.reserve.new.self.table) (slots_of mid) (slots_of c.hold.new.self) (generations_of c.reserve.new.self.table) c.put-place.ensures.puts c.hold.ensures.slots c.reserve.new.self.held
 
 pub returns-clause-names : goal.returns-clause-names
 returns-clause-names g c =

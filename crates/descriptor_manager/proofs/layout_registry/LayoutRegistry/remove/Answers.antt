@@ -1,7 +1,7 @@
 use Rattle.std.proofs.Common.{[], ◌∷◌, false, sym, subst, ap}
 use Rattle.descriptor_table.specs.Sets.{LoseNames, sets_of}
 use Rattle.descriptor_table.specs.Tables.{Settings, slots_of}
-use Rattle.descriptor_manager.proofs.Adding.{left_names, left_only}
+use Rattle.descriptor_manager.proofs.Adding.{left_held, left_names, left_only}
 use Rattle.descriptor_manager.proofs.layout_registry.LayoutRegistry.remove.Goals as goal
 
 pub invariant_of-self-clause-meant : goal.invariant_of-self-clause-meant
@@ -9,6 +9,12 @@ invariant_of-self-clause-meant g c = λ p known is.
     let old = c.args.self.now.table in
     let e = c.remove.ensures in
     c.args.self.now.meant p known (left_only old.number c.args.handle.slot (slots_of old) (slots_of c.remove.new.self) c.remove.result e.held e.slots e.none p known is)
+
+pub invariant_of-self-clause-held : goal.invariant_of-self-clause-held
+invariant_of-self-clause-held g c =
+    let old = c.args.self.now.table in
+    let e = c.remove.ensures in
+    left_held old.number c.args.handle.slot (slots_of old) (slots_of c.remove.new.self) c.remove.result e.held e.slots e.none c.args.self.now.held
 
 pub returns-clause-names : goal.returns-clause-names
 returns-clause-names g c = λ some.
