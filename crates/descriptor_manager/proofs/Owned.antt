@@ -109,10 +109,6 @@ module _ {X : Type 0} (layouts : List (Slot X)) (n : ℕ) (x : X) (here : (slot_
   pub layout_within : n < length layouts
   layout_within = grind (arith, common_steps, below_or, get_or_past, none-some)
 
-  -- a layout that is there has its list
-  pub layout_listed : n + 2 < lists_for (length layouts)
-  layout_listed = grind (arith, common_steps, layout_within)
-
 -- the layout of a handle is at its place
 pub layout_here : {L P S D : Type 0} {d : Ghosts D L P S} (r : LayoutRegistry L P S D d) (h : LayoutHandle) (known : SetLayout L) (place : ℕ) → place ≡ h.slot.place → layout_at r h ≡ Some known → (slot_at (layout_slots r) place).set ≡ Some known
 layout_here r h known place at e = ap (λ n. (slot_at (layout_slots r) n).set) at ∙ found_set (registry_of r) 0 false (layout_slots r) h.slot known e

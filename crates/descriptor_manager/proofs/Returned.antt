@@ -28,20 +28,10 @@ module _ {S : Type 0} (name : S → ℕ) where
       → Yields (GivesFrom test) s xs u → (t : Item)
       → count_of t (items_of name (sets_in (slots_of s.now)))
       ≡ count_of t (items_of name xs) + count_of t (items_of name (sets_in (slots_of u.now)))
-  given_count test xs s u y t =
-      let h = given_weigh (weight name t) test xs s u y in
-      let a = counts name t (sets_in (slots_of s.now)) in
-      let b = counts name t xs in
-      let c = counts name t (sets_in (slots_of u.now)) in
-      omega arith
+  given_count test xs s u y t = omega (arith, given_weigh (weight name t) test xs s u y, counts name t (sets_in (slots_of s.now)), counts name t xs, counts name t (sets_in (slots_of u.now)))
 
   given_many : (test : Slot (DescriptorSet S) → Bool) (xs : List (DescriptorSet S)) (s u : MutBor (SetTable (DescriptorSet S))) → Yields (GivesFrom test) s xs u → length (sets_in (slots_of s.now)) ≡ length xs + length (sets_in (slots_of u.now))
-  given_many test xs s u y =
-      let h = given_weigh (λ x. 1) test xs s u y in
-      let a = tally_length (sets_in (slots_of s.now)) in
-      let b = tally_length xs in
-      let c = tally_length (sets_in (slots_of u.now)) in
-      omega arith
+  given_many test xs s u y = omega (arith, given_weigh (λ x. 1) test xs s u y, tally_length (sets_in (slots_of s.now)), tally_length xs, tally_length (sets_in (slots_of u.now)))
 
 -- an iterator gave sets to its end
 module _ {S : Type 0} (name : S → ℕ) (test : Slot (DescriptorSet S) → Bool) (xs : List (DescriptorSet S)) (s u : MutBor (SetTable (DescriptorSet S))) (d : YieldsThen (GivesFrom test) s xs None u) where
