@@ -1,6 +1,7 @@
 -- What is outstanding and in use, when sets are retired and go back: for `FrameManager::allocate`, `retire` and `finish`.
 -- `all` is a list of the sets `xs` and then `ys`, `u` an item; `s` and `t` are the state before and after.
-use Rattle.std.proofs.Common.{◌≡◌, ℕ, ◌+◌, ◌-◌, ◌≤◌, List, ◌++◌, IfOk, OnErr, Result, Ok, Err, refl, ap, ◌∙◌, arith}
+use Rattle.std.proofs.lemmas.Grind.{common_steps}
+use Rattle.std.proofs.Common.{◌≡◌, ℕ, ◌+◌, ◌-◌, ◌≤◌, List, ◌++◌, IfOk, OnErr, Result, refl, ap, ◌∙◌, arith}
 use Rattle.gpu_descriptor.specs.declared.errors.AllocationError.{AllocationError}
 use Rattle.std.proofs.lemmas.Result.{IfOk-weaker}
 use Rattle.gpu_descriptor.specs.Caller.Call.{layout_key, map_ok}
@@ -43,8 +44,7 @@ module _ {S : Type 0} (name : S → ℕ) (xs ys all : List (DescriptorSet S)) (i
       × ((u : Item)
       → outstanding s u - count_of u (items_of name all) + count_of u (items_of name ys)
       ≡ outstanding s u - count_of u (items_of name xs))
-  joins s out used =
-      (λ u. (let a = count_whole u in let b = out u in let c = used u in omega arith), λ u. (let a = count_whole u in let b = out u in let c = used u in omega arith))
+  joins s out used = grind (arith, common_steps, count_whole)
 
 -- ---- a manager that retires sets
 
@@ -55,30 +55,21 @@ pub retires :
     → allocator_of new ≡ allocator_of old → retired_sets (retired_of new) ≡ retired_sets (retired_of old) ++ xs
     → AreRetiredOut pool_name set_name old l → AreInUse pool_name set_name (items_of set_name xs) old l
     → Retires pool_name set_name (items_of set_name xs) old new l
-retires pool_name set_name old new l xs same is out used =
-    let more = joins set_name (retired_sets (retired_of old)) xs (retired_sets (retired_of new)) is (state_in pool_name old l) out.out used.used in
-    let as_before : (t : Item) → outstanding (state_in pool_name new l) t ≡ outstanding (state_in pool_name old l) t = λ t. ap (λ a. outstanding (state_of pool_name a l) t) same in
-    record {
-      retired = record { out = λ t. (let e = as_before t in let m = more.0 t in omega arith) };
-      used = λ t. (let e = as_before t in let m = more.1 t in omega arith);
-    }
+retires pool_name set_name old new l xs same is out used = grind (arith, common_steps, joins)
 
 -- ---- calls of the allocator
 
 -- what holds of a value holds of what is made of it
 pub on_made : {X Y : Type 0} (f : X → Y) (P : Y → Type 0) (r : Result X AllocationError) → IfOk r (λ x. P (f x)) → IfOk (map_ok f r) P
-on_made f P (Ok x) holds = holds
-on_made f P (Err e) holds = tt
+on_made f P x2 holds = grind (arith, common_steps)
 
 -- what a request leaves outstanding
 still_out : {S E : Type 0} (name : S → ℕ) (r : Result (List (DescriptorSet S)) E) (m : List Item) (s t : State) → IfOk r (λ sets. AreOutBesides (items_of name sets) s t) → OnErr r (KeepsOutstanding s t) → AreOutstanding m s → AreOutstanding m t
-still_out name (Ok sets) m s t more same out u = (let a = more u in let b = out u in omega arith)
-still_out name (Err e) m s t more same out u = (let a = same u in let b = out u in omega arith)
+still_out name x1 m s t more same out u = grind (arith, common_steps)
 
 -- what a refused request leaves in use
 still_in_use : {X E : Type 0} (r : Result X E) (m : List Item) (s t : State) → OnErr r (KeepsOutstanding s t) → OnErr r ((u : Item) → outstanding t u - count_of u m ≡ outstanding s u - count_of u m)
-still_in_use (Ok x) m s t same = tt
-still_in_use (Err e) m s t same = λ u. ap (λ n. n - count_of u m) (same u)
+still_in_use x0 m s t same = grind (arith, common_steps)
 
 -- the manager has another allocator after a call
 module _ {L P S : Type 0} (means : Meaning L P S) (m : FrameManager P S) (a : Allocations P) (ordered : AreInOrder (retired_of m) m.greatest) (before after : Ledger) where

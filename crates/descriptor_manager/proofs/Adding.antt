@@ -1,6 +1,6 @@
 -- A layout that comes into a slot and has a handle, and one that leaves: for `LayoutRegistry::add` and `remove`.
 use Rattle.std.proofs.lemmas.Grind.{common_steps}
-use Rattle.std.proofs.Common.{◌≡◌, ◌≢◌, ℕ, ◌+◌, ◌<◌, ◌⊎◌, Bool, true, false, is_some, List, [], ◌∷◌, set, if◌then◌else◌, Option, None, Some, IsSome, inl, inr, refl, sym, ap, ◌∙◌, arith}
+use Rattle.std.proofs.Common.{◌≡◌, ◌≢◌, ℕ, ◌<◌, ◌⊎◌, true, false, is_some, List, [], ◌∷◌, set, Option, None, Some, IsSome, inl, inr, refl, sym, ap, ◌∙◌, arith, rules}
 use Rattle.descriptor_table.specs.Sets.{AreHeldOnce, LoseNames, NameEach, is_held, sets_of}
 use Rattle.descriptor_table.specs.Slots.{is_live, slot_at}
 use Rattle.descriptor_table.specs.Tables.{Grows, Puts, Renews, current, place_at, renewed, vacated}
@@ -16,9 +16,6 @@ use Rattle.descriptor_manager.proofs.Growing.{grow_new}
 use Rattle.descriptor_manager.proofs.Handing.{new_one}
 use Rattle.descriptor_manager.proofs.Joining.{are_named}
 use Rattle.descriptor_manager.proofs.Owned.{same_some}
-
-one_more : (b c : Bool) (r g h : ℕ) → b ≡ false → c ≡ true → h ≡ g + 1 → g ≡ r + (if b then 1 else 0) → h ≡ r + (if c then 1 else 0)
-one_more x0 c r g h none some more was = grind (arith, common_steps)
 
 module _ {T : Type 0} (number p : ℕ) (x : T) (handle : SetHandle) (old mid new : List (Slot T)) (generations : ℕ → ℕ) (puts : Puts generations 0 x p old mid) (renews : Renews number p Held handle mid new) where
   slot_here : slot_at new p ≡ renewed Held (slot_at mid p)
@@ -70,11 +67,4 @@ module _ {T : Type 0} (number : ℕ) (h : SetHandle) (old new : List (Slot T)) w
 
   -- each layout that is left was there before
   pub left_only : (r : Option T) → (IsSome r → is_held number old h ≡ true) → (IsSome r → new ≡ set old h.place (vacated (slot_at old h.place))) → (r ≡ None → new ≡ old) → (n : ℕ) (y : T) → (slot_at new n).set ≡ Some y → (slot_at old n).set ≡ Some y
-  left_only None held made none n y is = ap (λ l. (slot_at l n).set) (sym (none refl)) ∙ is
-  left_only (Some x) held made none n y is = elim (same_or n h.place) [
-    | inl e ↦ absurd (
-        let gone = ap (λ l. slot_at l h.place) (made refl) ∙ slot_set old h.place (vacated (slot_at old h.place)) (held_is number old h (held refl)).within in
-        let no : None ≡ Some y = sym (ap (λ (s : Slot T). s.set) gone) ∙ ap (λ q. (slot_at new q).set) (sym e) ∙ is in
-        cc)
-    | inr ne ↦ ap (λ (s : Slot T). s.set) (sym (ap (λ l. slot_at l n) (made refl) ∙ other_slots old h.place (vacated (slot_at old h.place)) n ne)) ∙ is
-  ]
+  left_only x0 held made none n y is = search (rules, held_is, other_slots, same_or, slot_set)

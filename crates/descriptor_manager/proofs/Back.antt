@@ -1,5 +1,5 @@
 -- Sets that are freed: they are kept, or leave their slots.
-use Rattle.std.proofs.Common.{◌≡◌, ℕ, ◌+◌, ◌≤◌, ◌&&◌, nat_lt, ne_eqb, Bool, true, false, List, is_some, inl, inr, refl, sym, ap, ◌∙◌, arith}
+use Rattle.std.proofs.Common.{◌≡◌, ℕ, ◌+◌, ◌≤◌, ◌&&◌, nat_lt, ne_eqb, Bool, true, false, List, is_some, inl, inr, ap, arith, rules}
 use Rattle.descriptor_table.specs.Sets.{sets_in}
 use Rattle.descriptor_table.specs.Slots.{goes, is_in, slot_at}
 use Rattle.descriptor_table.specs.Tables.{IsBack, Becomes, MayBecome, Turns, count, is_kept, used_for, vacated}
@@ -13,11 +13,7 @@ use Rattle.descriptor_table.proofs.Turning.{count_same}
 module _ {T : Type 0} where
   -- the same sets are there, if each slot that turns has its set still
   pub turned_sets : (test : Slot T → Bool) (becomes : List (Slot T) → Slot T → Slot T → Type 0) (old new : List (Slot T)) → Turns test becomes old new → ((o n : Slot T) → becomes new o n → n.set ≡ o.set) → sets_in new ≡ sets_in old
-  turned_sets test becomes old new t same = same_sets old new t.long (λ p. by_test p (test (slot_at old p)) refl)
-    where
-      by_test : (p : ℕ) (b : Bool) → test (slot_at old p) ≡ b → (slot_at new p).set ≡ (slot_at old p).set
-      by_test p false e = ap (λ (s : Slot T). s.set) (t.rest p e)
-      by_test p true e = same (slot_at old p) (slot_at new p) (t.here p e)
+  turned_sets test becomes old new t same = search (rules, same_sets)
 
   -- sets that settle, wait or go are in their slots still
   pub settled_sets : (test : Slot T → Bool) (generations : ℕ → ℕ) (max : ℕ) (old new : List (Slot T)) → Turns test (IsBack (used_for Going) generations max) old new → sets_in new ≡ sets_in old
@@ -31,14 +27,7 @@ module _ {T : Type 0} where
 
   -- as many are kept when sets that go are returned
   pub given_kept : (mid new : List (Slot T)) → Turns goes (Becomes vacated) mid new → (k : ℕ) → 2 ≤ k → count (is_in k) new ≡ count (is_in k) mid
-  given_kept mid new gives k two = count_same (is_in k) mid new gives.long (λ p. by_test p (goes (slot_at mid p)) refl)
-    where
-      vacant_out : (s : Slot T) → is_in k (vacated s) ≡ false
-      vacant_out s = ap (λ b. b && (nat_lt s.generation 4294967295 && true)) (ne_eqb k 0 (λ e. omega arith))
-
-      by_test : (p : ℕ) (b : Bool) → goes (slot_at mid p) ≡ b → is_in k (slot_at new p) ≡ is_in k (slot_at mid p)
-      by_test p false e = ap (is_in k) (gives.rest p e)
-      by_test p true e = ap (is_in k) (gives.here p e) ∙ vacant_out (slot_at mid p) ∙ sym (lists_apart k 1 (slot_at mid p) e (λ f. omega arith))
+  given_kept mid new gives k two = search (rules, count_same, lists_apart, ne_eqb)
 
   -- a kept set doesn't go
   pub kept_stays : (s : Slot T) → goes (used_for Kept s) ≡ false
@@ -47,25 +36,8 @@ module _ {T : Type 0} where
   module _ (test : Slot T → Bool) (generations : ℕ → ℕ) (max : ℕ) (old mid new : List (Slot T)) (full : (s : Slot T) → test s ≡ true → is_some s.set ≡ true) where
     -- sets settled, and those that went were returned
     pub came_back : ((p : ℕ) → goes (slot_at old p) ≡ false) → Turns test (IsBack (used_for Going) generations max) old mid → Turns goes (Becomes vacated) mid new → Turns test (IsBack vacated generations max) old new
-    came_back none settles gives = record {
-      long = gives.long ∙ settles.long;
-      rest = λ p out. (let same = settles.rest p out in gives.rest p (ap goes same ∙ none p) ∙ same);
-      here = λ p is. elim (settles.here p is) [
-        | inl kept ↦ inl (gives.rest p (ap goes kept.0 ∙ kept_stays (slot_at old p)) ∙ kept.0, kept.1)
-        | inr going ↦ inr (
-          gives.here p (ap goes going.0 ∙ full (slot_at old p) is) ∙ ap vacated going.0,
-          λ may. (let a = going.1 may in let b = given_kept mid new gives ((slot_at old p).layout + 2) (omega arith) in omega arith),
-        )
-      ];
-    }
+    came_back none settles gives = search (rules, given_kept, kept_stays)
 
   -- kept sets that went were returned
   pub left : (old mid new : List (Slot T)) → ((p : ℕ) → goes (slot_at old p) ≡ false) → Turns is_kept (MayBecome (used_for Going)) old mid → Turns goes (Becomes vacated) mid new → Turns is_kept (MayBecome vacated) old new
-  left old mid new none trims gives = record {
-    long = gives.long ∙ trims.long;
-    rest = λ p out. (let same = trims.rest p out in gives.rest p (ap goes same ∙ none p) ∙ same);
-    here = λ p is. elim (trims.here p is) [
-      | inl same ↦ inl (gives.rest p (ap goes same ∙ none p) ∙ same)
-      | inr going ↦ inr (gives.here p (ap goes going ∙ kept_full (slot_at old p) is) ∙ ap vacated going)
-    ];
-  }
+  left old mid new none trims gives = search (rules, kept_full)

@@ -1,5 +1,5 @@
 -- Kept sets that all go: for `Store::cleanup`, `set_max_kept` and `free_all`.
-use Rattle.std.proofs.Common.{◌≡◌, ℕ, ◌+◌, ◌≤◌, Bool, true, false, if◌then◌else◌, List, inl, inr, refl, sym, ap, ◌∙◌, arith}
+use Rattle.std.proofs.Common.{◌≡◌, ℕ, ◌+◌, ◌≤◌, Bool, true, false, if◌then◌else◌, List, inl, inr, refl, sym, ap, ◌∙◌, arith, rules}
 use Rattle.std.proofs.lemmas.Bool.{true≢false}
 use Rattle.descriptor_table.specs.Sets.{sets_in}
 use Rattle.descriptor_table.specs.Slots.{goes, is_in, slot_at}
@@ -34,11 +34,7 @@ module _ {T : Type 0} where
     where
       -- a slot whose set isn't kept is aged; a kept one is aged, goes, and is returned
       by_test : (p : ℕ) → (c : Bool) → is_kept (slot_at old p) ≡ c → slot_at new p ≡ (if is_kept (slot_at old p) then vacated (aged (slot_at old p)) else aged (slot_at old p))
-      by_test p false e =
-          let here = aged_all.here p refl in
-          let same : slot_at b p ≡ slot_at a p = trims.rest p (ap is_kept here ∙ e) in
-          let stays : slot_at new p ≡ slot_at b p = gives.rest p (ap goes (same ∙ here) ∙ none_goes old placed p) in
-          stays ∙ same ∙ here ∙ sym (ap (λ c. if c then vacated (aged (slot_at old p)) else aged (slot_at old p)) e)
+      by_test p false e = search (rules, none_goes)
       by_test p true e =
           let here = aged_all.here p refl in
           let kept : is_kept (slot_at a p) ≡ true = ap is_kept here ∙ e in
@@ -55,10 +51,4 @@ module _ {T : Type 0} where
   follow_cleaned old new c p = by_test (is_kept (slot_at old p)) refl (c.here p refl)
     where
       by_test : (b : Bool) → is_kept (slot_at old p) ≡ b → slot_at new p ≡ (if is_kept (slot_at old p) then vacated (aged (slot_at old p)) else aged (slot_at old p)) → Follows (slot_at old p) (slot_at new p)
-      by_test true e is =
-          let o = slot_at old p in
-          let gone : slot_at new p ≡ vacated (aged o) = is ∙ ap (λ c. if c then vacated (aged o) else aged o) e in
-          follows_then o (aged o) (slot_at new p) (follows_aged o (aged o) refl) (follows_vacated (aged o) (slot_at new p) gone)
-      by_test false e is =
-          let o = slot_at old p in
-          follows_aged o (slot_at new p) (is ∙ ap (λ c. if c then vacated (aged o) else aged o) e)
+      by_test x0 e is = search (rules, follows_aged, follows_then, follows_vacated)

@@ -1,17 +1,16 @@
 -- There are more slots only if each has a set, or had its last generation (`Grows`): for the calls of `Store` that give handles.
 use Rattle.std.proofs.lemmas.Grind.{common_steps}
-use Rattle.std.proofs.Common.{◌≡◌, ℕ, true, false, List, length, inl, inr, sym, ap, subst, ◌∙◌, arith}
+use Rattle.std.proofs.Common.{◌≡◌, ℕ, true, false, List, length, inl, inr, ap, ◌∙◌, arith, rules}
 use Rattle.std.proofs.lemmas.List.{length-set}
 use Rattle.gpu_descriptor_types.specs.declared.device.DescriptorDevice.{Ghosts}
 use Rattle.gpu_descriptor.specs.declared.errors.AllocationError.{AllocationError}
 use Rattle.descriptor_table.specs.Slots.{Slot, frame_of, is_live, slot_at}
-use Rattle.descriptor_table.specs.Tables.{Grows, Puts, Renews, is_usable, place_at, renewed}
+use Rattle.descriptor_table.specs.Tables.{Grows, Puts, Renews, is_usable, renewed}
 use Rattle.descriptor_table.specs.declared.handle.SetHandle.{SetHandle}
 use Rattle.descriptor_table.specs.declared.slot.Use.{Use}
 use Rattle.descriptor_table.proofs.Chains.{live_no_list}
-use Rattle.descriptor_table.proofs.Counting.{same_or}
 use Rattle.descriptor_table.proofs.Holding.{named_or}
-use Rattle.descriptor_table.proofs.Listed.{other_slots, slot_set}
+use Rattle.descriptor_table.proofs.Listed.{slot_set}
 use Rattle.descriptor_manager.specs.Stores.{HoldEach, IsCleared, IsRefusedAtLast, slots_in}
 use Rattle.descriptor_manager.specs.declared.store.Store.{Store}
 use Rattle.descriptor_manager.proofs.Handing.{came_used, unmet_slots}
@@ -24,29 +23,12 @@ module _ {T : Type 0} where
   pub grow_new : (number : ℕ) (generations : ℕ → ℕ) (layout p : ℕ) (x : T) (u : Use) (handle : SetHandle) (old mid new : List (Slot T)) → ((s : Slot T) → is_usable (renewed u s) ≡ false) → Puts generations layout x p old mid → Renews number p u handle mid new → Grows old new
   grow_new number generations layout p x u handle old mid new used puts r = elim puts.grows [
     | inl same ↦ inl (renewed_long number p u handle mid new r ∙ same)
-    | inr more ↦ inr (λ q. elim (same_or q p) [
-      | inl e ↦ subst (λ q. is_usable (slot_at new q) ≡ false) (sym e) (ap (λ l. is_usable (slot_at l p)) r.slots ∙ ap is_usable (slot_set mid p (renewed u (slot_at mid p)) puts.within) ∙ used (slot_at mid p))
-      | inr ne ↦
-          let same : slot_at new q ≡ slot_at old q = ap (λ l. slot_at l q) r.slots ∙ other_slots mid p (renewed u (slot_at mid p)) q ne ∙ puts.others q ne in
-          ap is_usable same ∙ more.1 q
-    ])
+    | inr more ↦ grind (arith, common_steps, slot_set mid p (renewed u (slot_at mid p)) puts.within)
   ]
 
   -- one step after others
   pub grow_more : (number : ℕ) (layout : ℕ × ℕ) (u : Use) (handles : List SetHandle) (old mid new : List (Slot T)) → is_live (frame_of u) true u ≡ true → Grows old mid → Grows mid new → HoldEach number layout u handles mid new → Grows old new
-  grow_more number layout u handles old mid new live first last holding = elim last [
-    | inr all ↦ inr all
-    | inl long ↦ elim first [
-      | inl same ↦ inl (long ∙ same)
-      | inr all ↦ inr (λ p. elim (named_or (length handles) (place_at handles) p) [
-        | inl found ↦ subst (λ p. is_usable (slot_at new p) ≡ false) found.2 (
-            let q = place_at handles found.0 in
-            let used = came_used layout u (slot_at mid q) (slot_at new q) (holding.comes found.0 found.1) in
-            live_no_list (slot_at new q) (ap (λ u. is_live (frame_of u) true u) used ∙ live) 0)
-        | inr apart ↦ ap is_usable (holding.rest p apart) ∙ all p
-      ])
-    ]
-  ]
+  grow_more number layout u handles old mid new live first last holding = search (rules, came_used, live_no_list, named_or)
 
   -- a step that left as many slots, before others
   pub grow_from : (old mid new : List (Slot T)) → length mid ≡ length old → Grows mid new → Grows old new

@@ -1,12 +1,12 @@
 -- A set that comes to a use: for `hold_next`, `hold_last`, `LayoutRegistry::add` and `Joining`. `cleared_of`, `unmet_slots` and `refused_arrives`
 -- say what a refusal leaves. `o` is its slot before and `n` after, `p` its place, `u` the use, and `handle` the next one of the slot.
 use Rattle.std.proofs.lemmas.Grind.{common_steps}
-use Rattle.std.proofs.Common.{◌≡◌, ◌≢◌, ℕ, zero, suc, ◌+◌, ◌<◌, ◌⊎◌, true, List, [], ◌∷◌, length, get_or, Option, Some, is_some, inl, inr, sym, ap, subst, ◌∙◌, arith}
+use Rattle.std.proofs.Common.{◌≡◌, ◌≢◌, ℕ, ◌+◌, ◌<◌, ◌⊎◌, true, List, [], ◌∷◌, length, Option, Some, is_some, sym, ap, subst, ◌∙◌, arith, rules}
 use Rattle.gpu_descriptor_types.specs.declared.device.DescriptorDevice.{Ghosts}
 use Rattle.gpu_descriptor.specs.declared.set.DescriptorSet.{DescriptorSet}
 use Rattle.gpu_descriptor.specs.declared.errors.AllocationError.{AllocationError}
 use Rattle.descriptor_table.specs.Slots.{Slot, frame_of, is_kept_of, is_live, slot_at}
-use Rattle.descriptor_table.specs.Tables.{Puts, Renews, came_under, count, current, is_usable, place_at, renewed}
+use Rattle.descriptor_table.specs.Tables.{Puts, Renews, came_under, count, current, is_usable, renewed}
 use Rattle.descriptor_table.specs.declared.handle.SetHandle.{SetHandle}
 use Rattle.descriptor_table.specs.declared.slot.Use.{Use}
 use Rattle.descriptor_table.proofs.Chains.{lists_apart, live_no_list}
@@ -25,91 +25,42 @@ some_of x0 e = grind (arith, common_steps)
 
 module _ {T : Type 0} (under : ℕ × ℕ) (u : Use) (o n : Slot T) (came : ComesInto under u o n) where
   pub came_free : is_free o ≡ true
-  came_free = elim came [
-    | inl kept ↦ free_kept o (kept_as under.0 o kept.0).2
-    | inr new ↦ free_none o new.0
-  ]
+  came_free = search (rules, free_kept, free_none, kept_as)
 
   pub came_next : n.generation ≡ o.generation + 1
-  came_next = elim came [
-    | inl kept ↦ ap (λ (s : Slot T). s.generation) kept.2
-    | inr new ↦ ap (λ (s : Slot T). s.generation) new.2
-  ]
+  came_next = search rules
 
   pub came_layout : came_under n ≡ under
-  came_layout = elim came [
-    | inl kept ↦ ap came_under kept.2 ∙ kept.1
-    | inr new ↦ ap came_under new.2
-  ]
+  came_layout = search rules
 
   pub came_used : n.used ≡ u
-  came_used = elim came [
-    | inl kept ↦ ap (λ (s : Slot T). s.used) kept.2
-    | inr new ↦ ap (λ (s : Slot T). s.used) new.2
-  ]
+  came_used = search rules
 
   pub came_full : is_some n.set ≡ true
-  came_full = elim came [
-    | inl kept ↦ ap (λ (s : Slot T). is_some s.set) kept.2 ∙ (kept_is (under.0 + 2) o (omega arith) kept.0).1
-    | inr new ↦ ap (λ (s : Slot T). is_some s.set) new.2
-  ]
+  came_full = search (rules, kept_is)
 
 module _ {T : Type 0} (number p : ℕ) (u : Use) (handle : SetHandle) where
   one : (under : ℕ × ℕ) (old new : List (Slot T)) → handle ≡ next_of number p (slot_at old p) → ComesInto under u (slot_at old p) (slot_at new p) → ((q : ℕ) → q ≢ p → slot_at new q ≡ slot_at old q) → HoldEach number under u (handle ∷ []) old new
-  one under old new is came others = record {
-    apart = λ i j lt less. absurd (omega arith);
-    is = is_next;
-    comes = λ i lt. subst (λ q. ComesInto under u (slot_at old q) (slot_at new q)) (sym (at i lt)) came;
-    rest = λ q none. others q (λ e. none 0 (omega arith) (at 0 (omega arith) ∙ sym e));
-  }
-    where
-      at : (i : ℕ) → i < length (handle ∷ []) → place_at (handle ∷ []) i ≡ p
-      at zero lt = ap (λ (h : SetHandle). h.place) is
-      at (suc i) lt = absurd (omega arith)
-
-      is_next : (i : ℕ) (e : SetHandle) → i < length (handle ∷ []) → get_or (handle ∷ []) i e ≡ next_of number (place_at (handle ∷ []) i) (slot_at old (place_at (handle ∷ []) i))
-      is_next zero e lt = is ∙ ap (λ q. next_of number q (slot_at old q)) (sym (at 0 lt))
-      is_next (suc i) e lt = absurd (omega arith)
+  one under old new is came others = search (rules, next_of)
 
   -- a kept set of the layout came to the use
   pub kept_one : (under : ℕ × ℕ) (old new : List (Slot T)) → is_kept_of under.0 (slot_at old p) ≡ true → came_under (slot_at old p) ≡ under → p < length old → Renews number p u handle old new → HoldEach number under u (handle ∷ []) old new
-  kept_one under old new was layout within renews =
-      let now = renewed u (slot_at old p) in
-      one under old new renews.is (inl (was, layout, ap (λ l. slot_at l p) renews.slots ∙ slot_set old p now within)) (λ q ne. ap (λ l. slot_at l q) renews.slots ∙ other_slots old p now q ne)
+  kept_one under old new was layout within renews = search (rules, one, other_slots, slot_set)
 
   -- a set of the layout that was put into a slot did
   pub new_one : (generations : ℕ → ℕ) (layout : ℕ) (x : T) (old put new : List (Slot T)) → Puts generations layout x p old put → Renews number p u handle put new → HoldEach number (current generations layout) u (handle ∷ []) old new
-  new_one generations layout x old put new puts renews =
-      let now = renewed u (slot_at put p) in
-      one (current generations layout) old new (renews.is ∙ ap (λ (s : Slot T). next_of number p s) puts.here)
-      (inr (puts.empty, x, ap (λ l. slot_at l p) renews.slots ∙ slot_set put p now puts.within ∙ ap (renewed u) puts.here))
-      (λ q ne. ap (λ l. slot_at l q) renews.slots ∙ other_slots put p now q ne ∙ puts.others q ne)
+  new_one generations layout x old put new puts renews = search (rules, next_of, one, other_slots, slot_set)
 
   -- it is the only set that comes
   pub new_comes :
       (comes : ℕ → T → Type 0) (generations : ℕ → ℕ) (layout : ℕ) (x : T) (old put new : List (Slot T)) → Puts generations layout x p old put → Renews number p u handle put new → comes layout x
       → (q : ℕ) (y : T) → (slot_at new q).set ≡ Some y → (((slot_at old q).set ≡ Some y) × (came_under (slot_at new q) ≡ came_under (slot_at old q))) ⊎ comes (slot_at new q).layout y
-  new_comes comes generations layout x old put new puts renews came q y e = elim (same_or q p) [
-    | inl at ↦
-        let now = renewed u (slot_at put p) in
-        let is = ap (slot_at new) at ∙ ap (λ l. slot_at l p) renews.slots ∙ slot_set put p now puts.within ∙ ap (renewed u) puts.here in
-        inr (subst (λ l. comes l y) (sym (ap (λ (s : Slot T). s.layout) is)) (subst (comes layout) (same (sym (ap (λ (s : Slot T). s.set) is) ∙ e)) came))
-    | inr ne ↦ (let stays = ap (λ l. slot_at l q) renews.slots ∙ other_slots put p (renewed u (slot_at put p)) q ne ∙ puts.others q ne in inl (ap (λ (s : Slot T). s.set) (sym stays) ∙ e, ap came_under stays))
-  ]
-    where
-      same : {x y : T} → Some x ≡ Some y → x ≡ y
-      same e = cc
+  new_comes comes generations layout x old put new puts renews came q y e = grind (arith, common_steps, same_or q p, slot_set put p (renewed u (slot_at put p)) puts.within)
 
   module _ (layout : ℕ) (old new : List (Slot T)) (was : is_kept_of layout (slot_at old p) ≡ true) (within : p < length old) (live : is_live (frame_of u) true u ≡ true) (renews : Renews number p u handle old new) where
     -- one kept set fewer
     pub kept_fewer : count (is_kept_of layout) new + 1 ≡ count (is_kept_of layout) old
-    kept_fewer =
-        let now = renewed u (slot_at old p) in
-        let a = count_set (is_kept_of layout) old p now within in
-        let b = ap bit was in
-        let c = ap bit (live_no_list now live (layout + 2)) in
-        let d = ap (count (is_kept_of layout)) renews.slots in
-        omega arith
+    kept_fewer = search (rules, bit, count_set, live_no_list)
 
     -- as many slots to which another set can come
     pub usable_stays : count is_usable new ≡ count is_usable old
@@ -122,20 +73,8 @@ module _ {L P S D : Type 0} {d : Ghosts D L P S} where
 
   -- the slots are as they were if sets were not had
   pub unmet_slots : (layout : L) (many : ℕ) (error : AllocationError) (old new : Store L P S D d) → IsUnmet layout many error old new → slots_in new ≡ slots_in old
-  unmet_slots layout many error old new unmet = elim unmet [
-    | inl refused ↦ refused.slots
-    | inr lacks ↦ lacks.contents.slots
-  ]
+  unmet_slots layout many error old new unmet = search rules
 
   -- a set was refused
   pub refused_arrives : (comes : ℕ → DescriptorSet S → Type 0) (layout : L) (first last : ℕ) (error : AllocationError) (old new : Store L P S D d) → IsRefusedAtLast layout first last error old new → (q : ℕ) → Arrives comes (slot_at (slots_in old) q) (slot_at (slots_in new) q)
-  refused_arrives comes layout first last error old new refused q = elim refused.why [
-    | inl at_once ↦ same_arrives comes (slot_at (slots_in old) q) (slot_at (slots_in new) q) (ap (λ l. slot_at l q) (unmet_slots layout first error old new at_once))
-    | inr later ↦
-        (let mid = later.0 in
-        arrives_then comes (slot_at (slots_in old) q) (slot_at (slots_in mid) q) (slot_at (slots_in new) q)
-        (clears_arrives comes (slot_at (slots_in old) q) (slot_at (slots_in mid) q)
-        (clears (slots_in old) (slots_in mid) (cleared_of layout first last old mid later.1) q))
-        (same_arrives comes (slot_at (slots_in mid) q) (slot_at (slots_in new) q)
-        (ap (λ l. slot_at l q) (unmet_slots layout last error mid new later.2))))
-  ]
+  refused_arrives comes layout first last error old new refused q = search (rules, arrives_then, cleared_of, clears, clears_arrives, same_arrives, unmet_slots)

@@ -2,7 +2,7 @@
 -- The slots are `old` before the handles `a` are given, `mid` between, and `new` after the handles `b`; `x` and `y` say so of `a` and `b`.
 -- Handles are written into a list `now`, of which the first are given: those before the place `n`.
 use Rattle.std.proofs.lemmas.Grind.{common_steps}
-use Rattle.std.proofs.Common.{◌≡◌, ◌≢◌, ℕ, ◌+◌, ◌-◌, ◌<◌, ◌⊎◌, ◌||◌, Bool, true, false, List, [], ◌∷◌, ◌++◌, length, get_or, Some, is_some, IsSome, inl, inr, refl, sym, ap, subst, ◌∙◌, add-one, arith, set, take}
+use Rattle.std.proofs.Common.{◌≡◌, ◌≢◌, ℕ, ◌+◌, ◌-◌, ◌<◌, ◌⊎◌, ◌||◌, Bool, true, List, [], ◌∷◌, ◌++◌, length, get_or, Some, is_some, IsSome, inl, inr, refl, sym, ap, subst, ◌∙◌, add-one, arith, set, take, rules}
 use Rattle.std.proofs.lemmas.Bool.{cases_lt, false≢true}
 use Rattle.std.proofs.Math.Seq.{take-suc-set}
 use Rattle.std.proofs.lemmas.List.{get_or-append-add, get_or-set_other, get_or-set_same, get_or_append_left, length-append}
@@ -19,19 +19,11 @@ use Rattle.descriptor_manager.specs.declared.store.Store.{Store}
 use Rattle.descriptor_manager.proofs.Arriving.{Arrives, arrives_then, clears_arrives, same_arrives, used_placed}
 use Rattle.descriptor_manager.proofs.Cleared.{Clears}
 use Rattle.descriptor_manager.proofs.Handing.{came_free, came_full, came_next, came_used, some_of}
-use Rattle.descriptor_manager.proofs.Naming.{free_is, free_kept, is_free, given_apart, given_clear, given_never, given_next, kept_as, next_of, seen_apart, seen_clear, seen_free, seen_next}
+use Rattle.descriptor_manager.proofs.Naming.{free_is, free_kept, is_free, given_apart, given_clear, kept_as, next_of, seen_apart, seen_clear, seen_free, seen_next}
 
 -- a place of two lists is one of the first, or of the second
 spot : (a b : List SetHandle) (i : ℕ) → i < length (a ++ b) → ((i < length a) × (place_at (a ++ b) i ≡ place_at a i)) ⊎ ((k : ℕ) × (k < length b) × (i ≡ length a + k) × (place_at (a ++ b) i ≡ place_at b k))
-spot a b i lt =
-    let none : SetHandle = record { manager = 0; place = 0; generation = 0 } in
-    elim (cases_lt i (length a)) [
-      | inl less ↦ inl (less, ap (λ (h : SetHandle). h.place) (get_or_append_left a b none i less))
-      | inr le ↦
-          let long = length-append a b in
-          let is : i ≡ length a + (i - length a) = omega arith in
-          inr (i - length a, omega arith, is, ap (place_at (a ++ b)) is ∙ ap (λ (h : SetHandle). h.place) (get_or-append-add a b (i - length a) none))
-    ]
+spot a b i lt = grind (arith, common_steps, cases_lt i (length a), length-append a b, get_or-append-add a b (i - length a) (record { manager = 0; place = 0; generation = 0 }))
 
 -- a handle that is written leaves the others where they were
 place_other : (now : List SetHandle) (n : ℕ) (handle : SetHandle) (i : ℕ) → i ≢ n → place_at (set now n handle) i ≡ place_at now i
@@ -43,18 +35,10 @@ place_here now n handle lt = ap (λ (h : SetHandle). h.place) (get_or-set_same n
 module _ {T : Type 0} where
   -- a slot in a use with a handle isn't free
   used_not_free : (u : Use) (s : Slot T) → is_live (frame_of u) true u ≡ true → s.used ≡ u → is_some s.set ≡ true → is_free s ≡ true → ⊥
-  used_not_free u s live is full free = elim (free_is s free) [
-    | inl none ↦ (false≢true (sym (ap is_some none) ∙ full))
-    | inr kept ↦ (false≢true (ap (λ u. is_live (frame_of u) true u) (sym kept ∙ is) ∙ live))
-  ]
+  used_not_free u s live is full free = search (rules, false≢true, free_is)
 
   pub hold_none : (number : ℕ) (layout : ℕ × ℕ) (u : Use) (old : List (Slot T)) → HoldEach number layout u [] old old
-  hold_none number layout u old = record {
-    apart = λ i j lt less. absurd (omega arith);
-    is = λ i e lt. absurd (omega arith);
-    comes = λ i lt. absurd (omega arith);
-    rest = λ p none. refl;
-  }
+  hold_none number layout u old = search rules
 
   -- a set with a handle is there
   pub held_full : (number : ℕ) (layout : ℕ × ℕ) (u : Use) (handle : SetHandle) (old new : List (Slot T)) → HoldEach number layout u (handle ∷ []) old new → is_some (slot_at new handle.place).set ≡ true
@@ -63,12 +47,7 @@ module _ {T : Type 0} where
   module _ (number : ℕ) (layout : ℕ × ℕ) (u : Use) (live : is_live (frame_of u) true u ≡ true) (a b : List SetHandle) (old mid new : List (Slot T)) (x : HoldEach number layout u a old mid) (y : HoldEach number layout u b mid new) where
     -- no handle of `b` has a place of `a`: the set there is in use by then, and so it is not free
     apart_places : (i k : ℕ) → i < length a → k < length b → place_at a i ≢ place_at b k
-    apart_places i k lt less e =
-        let o = slot_at old (place_at a i) in
-        let m = slot_at mid (place_at a i) in
-        let came = x.comes i lt in
-        let free = came_free layout u (slot_at mid (place_at b k)) (slot_at new (place_at b k)) (y.comes k less) in
-        used_not_free u m live (came_used layout u o m came) (came_full layout u o m came) (subst (λ q. is_free (slot_at mid q) ≡ true) (sym e) free)
+    apart_places i k lt less e = search (rules, came_free, came_full, came_used, is_free, used_not_free)
 
     -- the later places are as they were before
     later : (k : ℕ) → k < length b → slot_at mid (place_at b k) ≡ slot_at old (place_at b k)
@@ -80,29 +59,14 @@ module _ {T : Type 0} where
 
     -- no two of all these handles have one place
     join_apart : (i j : ℕ) → i < j → j < length (a ++ b) → place_at (a ++ b) i ≢ place_at (a ++ b) j
-    join_apart i j lt less e = elim (spot a b i (omega arith)) [
-      | inl u ↦ elim (spot a b j less) [
-        | inl v ↦ x.apart i j lt v.0 (sym u.1 ∙ e ∙ v.1)
-        | inr v ↦ apart_places i v.0 u.0 v.1 (sym u.1 ∙ e ∙ v.3)
-      ]
-      | inr u ↦ elim (spot a b j less) [
-        | inl v ↦ (let is = u.2 in let few = v.0 in absurd (omega arith))
-        | inr v ↦ (let is = u.2 in let then = v.2 in y.apart u.0 v.0 (omega arith) v.1 (sym u.3 ∙ e ∙ v.3))
-      ]
-    ]
+    join_apart i j lt less e = search (rules, apart_places, spot)
 
     -- sets with the handles `a`, and then sets with `b`, have the handles of both lists
     pub joined : HoldEach number layout u (a ++ b) old new
     joined = record {
       apart = join_apart;
-      is = λ i e lt. elim (spot a b i lt) [
-        | inl u ↦ get_or_append_left a b e i u.0 ∙ x.is i e u.0 ∙ ap (λ q. next_of number q (slot_at old q)) (sym u.1)
-        | inr u ↦ ap (λ j. get_or (a ++ b) j e) u.2 ∙ get_or-append-add a b u.0 e ∙ y.is u.0 e u.1 ∙ ap (next_of number (place_at b u.0)) (later u.0 u.1) ∙ ap (λ q. next_of number q (slot_at old q)) (sym u.3)
-      ];
-      comes = λ i lt. elim (spot a b i lt) [
-        | inl v ↦ subst (λ q. ComesInto layout u (slot_at old q) (slot_at new q)) (sym v.1) (subst (ComesInto layout u (slot_at old (place_at a i))) (sym (first i v.0)) (x.comes i v.0))
-        | inr v ↦ subst (λ q. ComesInto layout u (slot_at old q) (slot_at new q)) (sym v.3) (subst (λ o. ComesInto layout u o (slot_at new (place_at b v.0))) (later v.0 v.1) (y.comes v.0 v.1))
-      ];
+      is = λ i e lt. search (rules, get_or-append-add, get_or_append_left, later, next_of, spot);
+      comes = λ i lt. search (rules, first, later, spot);
       rest = λ p none.
           y.rest p (λ k less e. none (length a + k) (let long = length-append a b in omega arith) (ap (λ (h : SetHandle). h.place) (get_or-append-add a b k (record { manager = 0; place = 0; generation = 0 })) ∙ e))
           ∙ x.rest p (λ i lt e. none i (let long = length-append a b in omega arith) (ap (λ (h : SetHandle). h.place) (get_or_append_left a b (record { manager = 0; place = 0; generation = 0 }) i lt) ∙ e));
@@ -120,14 +84,7 @@ module _ {T : Type 0} where
   ]
     where
       before : is_kept_of layout (slot_at old handle.place) ≡ true
-      before = elim (named_or (length (take n now)) (place_at (take n now)) handle.place) [
-        | inl found ↦ absurd (
-            let q = place_at (take n now) found.0 in
-            let came = x.comes found.0 found.1 in
-            let kept = subst (λ p. is_kept_of layout (slot_at mid p) ≡ true) (sym found.2) last in
-            used_not_free u (slot_at mid q) live (came_used under u (slot_at old q) (slot_at mid q) came) (came_full under u (slot_at old q) (slot_at mid q) came) (free_kept (slot_at mid q) (kept_as layout (slot_at mid q) kept).2))
-        | inr none ↦ ap (is_kept_of layout) (sym (x.rest handle.place none)) ∙ last
-      ]
+      before = search (rules, came_full, came_used, free_kept, kept_as, named_or, used_not_free)
 
   -- kept sets may have left their slots before the first set came
   module _ (number : ℕ) (layout : ℕ × ℕ) (u : Use) (handles : List SetHandle) (old mid new : List (Slot T)) (clear : (q : ℕ) → Clears (slot_at old q) (slot_at mid q)) (x : HoldEach number layout u handles mid new) where
@@ -167,52 +124,27 @@ module _ {T : Type 0} where
 
     -- each of the handles names a set
     names_set : (frame : ℕ) (opened : Bool) → is_live frame opened u ≡ true → (i : ℕ) (d : SetHandle) → i < length handles → IsSome (find number frame opened new (get_or handles i d))
-    names_set frame opened live i d lt =
-        let q = place_at handles i in
-        let m = slot_at mid q in
-        let n = slot_at new q in
-        let came = x.comes i lt in
-        subst (λ h. IsSome (find number frame opened new h)) (sym (x.is i d lt)) (subst IsSome (sym (seen_next number frame opened q m n (came_next layout u m n came) (ap (is_live frame opened) (came_used layout u m n came) ∙ live))) (came_full layout u m n came))
+    names_set frame opened live i d lt = search (rules, came_full, came_next, came_used, seen_next)
 
     -- none of them was ever given before, and all others name what they named
     pub are_named : (frame : ℕ) (opened : Bool) → is_live frame opened u ≡ true → NameEach handles (sets_of number frame opened old) (sets_of number frame opened new)
-    are_named frame opened live = record {
-      never = λ i d lt. subst (λ h. is_given number old h ≡ false) (sym (x.is i d lt)) (let q = place_at handles i in sym (given_clear number (slot_at old q) (slot_at mid q) (next_of number q (slot_at mid q)) (clear q)) ∙ given_never number q (slot_at mid q));
-      once = λ i j d lt less e. x.apart i j lt less (ap (λ (h : SetHandle). h.place) (sym (x.is i d (omega arith)) ∙ e ∙ x.is j d less));
-      given = λ i d lt. subst (λ h. is_given number new h ≡ true) (sym (x.is i d lt)) (let q = place_at handles i in given_next number q (slot_at mid q) (slot_at new q) (came_next layout u (slot_at mid q) (slot_at new q) (x.comes i lt)));
-      named = names_set frame opened live;
-      others = others_keep frame opened;
-    }
+    are_named frame opened live = grind (arith, common_steps, names_set frame opened live, others_keep frame opened)
 
 module _ {S : Type 0} where
   -- sets that came in two steps
   pub sets_then : (comes : ℕ → DescriptorSet S → Type 0) (old mid new : List (Slot (DescriptorSet S))) → SetsCome comes old mid → SetsCome comes mid new → SetsCome comes old new
-  sets_then comes old mid new a b p x e = elim (b p x e) [
-    | inl stays ↦ elim (a p x stays.0) [
-      | inl was ↦ inl (was.0, stays.1 ∙ was.1)
-      | inr came ↦ inr (subst (λ l. comes l.0 x) (sym stays.1) came)
-    ]
-    | inr came ↦ inr came
-  ]
+  sets_then comes old mid new a b p x e = search rules
 
   -- sets that are where they were, before others came
   pub kept_then : (comes : ℕ → DescriptorSet S → Type 0) (old mid new : List (Slot (DescriptorSet S))) → SetsCome NoneComes old mid → SetsCome comes mid new → SetsCome comes old new
-  kept_then comes old mid new a b = sets_then comes old mid new (λ p x e. elim (a p x e) [
-    | inl was ↦ inl was
-    | inr none ↦ absurd none
-  ]) b
+  kept_then comes old mid new a b = search (rules, sets_then)
 
 module _ {L P S D : Type 0} {d : Ghosts D L P S} where
   pub store_same : (s : Store L P S D d) → KeepsStore s s
   store_same s = record { settings = refl; limit = refl; bound = refl; besides = refl }
 
   pub stays_then : (old mid new : Store L P S D d) → KeepsStore old mid → KeepsStore mid new → KeepsStore old new
-  stays_then old mid new a b = record {
-    settings = b.settings ∙ a.settings;
-    limit = b.limit ∙ a.limit;
-    bound = b.bound ∙ a.bound;
-    besides = b.besides ∙ a.besides;
-  }
+  stays_then old mid new a b = search rules
 
   module _ (layout : ℕ) (u : Use) where
     -- the number and the layouts are as they were
@@ -230,11 +162,7 @@ module _ {L P S D : Type 0} {d : Ghosts D L P S} where
           → HoldEach old.table.number (current_in layout old) u (take n now) (slots_in old) (slots_in mid)
           → HoldEach mid.table.number (current_in layout mid) u (handle ∷ []) (slots_in mid) (slots_in new)
           → HoldEach old.table.number (current_in layout old) u (take (n + 1) (set now n handle)) (slots_in old) (slots_in new)
-      held_next n now handle old mid new stays within a b =
-          let under = current_in layout old in
-          let each = held_stays (handle ∷ []) (slots_in mid) (slots_in new) old mid stays b in
-          subst (λ l. HoldEach old.table.number under u l (slots_in old) (slots_in new)) (sym (take-suc-set now n handle within) ∙ ap (λ m. take m (set now n handle)) (sym (add-one n)))
-          (joined old.table.number under u live (take n now) (handle ∷ []) (slots_in old) (slots_in mid) (slots_in new) a each)
+      held_next n now handle old mid new stays within a b = search (rules, add-one, held_stays, joined, take-suc-set)
 
       -- kept sets have the first handles, and others the last ones
       pub held_both :
@@ -242,6 +170,4 @@ module _ {L P S D : Type 0} {d : Ghosts D L P S} where
           → HoldEach old.table.number (current_in layout old) u first (slots_in old) (slots_in mid)
           → HoldEach mid.table.number (current_in layout mid) u last (slots_in mid) (slots_in new)
           → HoldEach old.table.number (current_in layout old) u (first ++ last) (slots_in old) (slots_in new)
-      held_both first last old mid new stays a b =
-          joined old.table.number (current_in layout old) u live first last (slots_in old) (slots_in mid) (slots_in new) a
-          (held_stays last (slots_in mid) (slots_in new) old mid stays b)
+      held_both first last old mid new stays a b = search (rules, held_stays, joined)

@@ -1,8 +1,8 @@
 -- What handles name when sets come to slots, or leave them: for `Joining` and `Removing`.
 -- `o` is a slot before, `n` the same slot after, and `h` a handle of its place; a handle is *apart* if it isn't the next one of the slot.
 use Rattle.std.proofs.lemmas.Grind.{common_steps}
-use Rattle.std.proofs.Common.{◌≡◌, ◌≢◌, ℕ, ◌+◌, ◌<◌, ◌≤◌, ◌⊎◌, ◌==◌, ◌&&◌, ◌||◌, nat_le, nat_lt, not, Bool, true, false, if◌then◌else◌, Option, None, is_some, inl, inr, refl, sym, ap, ◌∙◌, arith, eq-eqb, ne_eqb}
-use Rattle.std.proofs.lemmas.Bool.{and_left, and_right, cases_eq, cases_lt, le-leb, lt-leb, lt-ltb}
+use Rattle.std.proofs.Common.{◌≡◌, ◌≢◌, ℕ, ◌+◌, ◌⊎◌, ◌==◌, ◌&&◌, ◌||◌, nat_le, nat_lt, not, Bool, true, if◌then◌else◌, Option, None, is_some, sym, ap, ◌∙◌, arith, eq-eqb, ne_eqb, rules}
+use Rattle.std.proofs.lemmas.Bool.{and_left, and_right, cases_eq, cases_lt, le-leb, lt-leb}
 use Rattle.descriptor_table.specs.Slots.{in_list, is_kept_of, is_live}
 use Rattle.descriptor_table.specs.Tables.{is_kept}
 use Rattle.descriptor_table.specs.declared.handle.SetHandle.{SetHandle}
@@ -25,19 +25,13 @@ module _ {T : Type 0} where
 
   -- a slot is free if it has no set or a kept one, and only then
   pub free_none : (s : Slot T) → s.set ≡ None → is_free s ≡ true
-  free_none s e = ap (λ o. in_list (s.layout + 2) s.used s.layout s.generation (is_some o) || not (is_some o)) e ∙ or_yes (in_list (s.layout + 2) s.used s.layout s.generation false)
-    where
-      or_yes : (b : Bool) → (b || true) ≡ true
-      or_yes x0 = grind (arith, common_steps)
+  free_none s e = search rules
 
   pub free_kept : (s : Slot T) → is_kept s ≡ true → is_free s ≡ true
   free_kept s e = ap (λ b. b || not (is_some s.set)) e
 
   pub free_is : (s : Slot T) → is_free s ≡ true → (s.set ≡ None) ⊎ (s.used ≡ Kept)
-  free_is s e = by_set s.set refl e
-    where
-      by_set : (o : Option T) → s.set ≡ o → (in_list (s.layout + 2) s.used s.layout s.generation (is_some o) || not (is_some o)) ≡ true → (s.set ≡ None) ⊎ (s.used ≡ Kept)
-      by_set x0 is f = grind (arith, common_steps)
+  free_is s e = search rules
 
   module _ (number : ℕ) where
     -- whether a handle is the last one of the slot
@@ -61,63 +55,27 @@ module _ {T : Type 0} where
 
     -- no handle names a set in a free slot
     pub seen_free : (frame : ℕ) (opened : Bool) (s : Slot T) (h : SetHandle) → is_free s ≡ true → seen frame opened s h ≡ None
-    seen_free frame opened s h free = elim (free_is s free) [
-      | inl none ↦ ap (λ o. if last s h && is_live frame opened s.used then o else None) none ∙ if_none (last s h && is_live frame opened s.used)
-      | inr kept ↦ ap (λ u. if last s h && is_live frame opened u then s.set else None) kept ∙ ap (λ b. if b then s.set else None) (and_right (last s h) false refl)
-    ]
+    seen_free frame opened s h free = search (rules, and_right, free_is, if_none)
 
     -- a cleanup changes neither what a handle names, nor whether it was given
     pub seen_clear : (frame : ℕ) (opened : Bool) (o n : Slot T) (h : SetHandle) → Clears o n → seen frame opened n h ≡ seen frame opened o h
-    seen_clear frame opened o n h c = elim c.is [
-      | inl same ↦ ap
-          (λ g. if ((h.manager == number) && (h.generation == g)) && is_live frame opened n.used then n.set else None)
-          c.generation
-          ∙ ap (λ u. if last o h && is_live frame opened u then n.set else None) same.0
-          ∙ ap (λ x. if last o h && is_live frame opened o.used then x else None) same.1
-      | inr gone ↦ seen_free frame opened n h (free_none n gone.2) ∙ sym (seen_free frame opened o h (free_kept o gone.0))
-    ]
+    seen_clear frame opened o n h c = search (rules, free_kept, free_none, seen_free)
 
     pub given_clear : (o n : Slot T) (h : SetHandle) → Clears o n → was_given n h ≡ was_given o h
     given_clear o n h c = ap (λ g. (h.manager == number) && (nat_lt 0 h.generation && nat_le h.generation g)) c.generation
 
     -- another handle of the place is of another set manager, or has another generation
     apart_as : (s : Slot T) (h : SetHandle) → h ≢ next_of h.place s → (h.manager ≢ number) ⊎ (h.generation ≢ s.generation + 1)
-    apart_as s h apart = elim (cases_eq h.manager number) [
-      | inl same ↦ inr (λ e. apart (λ i. record { manager = same i; place = h.place; generation = e i }))
-      | inr ne ↦ inl ne
-    ]
+    apart_as s h apart = search (rules, cases_eq)
 
     -- it is invalid in the next generation
     pub seen_apart : (frame : ℕ) (opened : Bool) (o n : Slot T) (h : SetHandle) → n.generation ≡ o.generation + 1 → h ≢ next_of h.place o → seen frame opened n h ≡ None
-    seen_apart frame opened o n h more apart = ap (λ b. if b && is_live frame opened n.used then n.set else None) (elim (apart_as o h apart) [
-      | inl ne ↦ and_left (h.manager == number) (h.generation == n.generation) (ne_eqb h.manager number ne)
-      | inr ne ↦ and_right (h.manager == number) (h.generation == n.generation) (ne_eqb h.generation n.generation (λ e. ne (e ∙ more)))
-    ])
+    seen_apart frame opened o n h more apart = search (rules, and_left, and_right, apart_as, ne_eqb)
 
     -- and it was given if it was before
     pub given_apart : (o n : Slot T) (h : SetHandle) → n.generation ≡ o.generation + 1 → h ≢ next_of h.place o → was_given n h ≡ was_given o h
-    given_apart o n h more apart = elim (apart_as o h apart) [
-      | inl ne ↦ (let no = ne_eqb h.manager number ne in and_left (h.manager == number) (nat_lt 0 h.generation && nat_le h.generation n.generation) no ∙ sym (and_left (h.manager == number) (nat_lt 0 h.generation && nat_le h.generation o.generation) no))
-      | inr ne ↦ ap (λ b. (h.manager == number) && (nat_lt 0 h.generation && b)) (elim (below_more h.generation) [
-        | inl le ↦ le-leb h.generation n.generation (omega arith) ∙ sym (le-leb h.generation o.generation le)
-        | inr gt ↦ lt-leb h.generation n.generation (omega arith) ∙ sym (lt-leb h.generation o.generation gt)
-      ])
-    ]
-      where
-        below_more : (g : ℕ) → (g ≤ o.generation) ⊎ (o.generation < g)
-        below_more g = elim (cases_lt o.generation g) [ inl lt ↦ inr lt | inr le ↦ inl le ]
+    given_apart o n h more apart = search (rules, and_left, apart_as, cases_lt, le-leb, lt-leb, ne_eqb)
 
-    -- in the next generation the next handle names the set; it was never given before, and is given then
+    -- in the next generation the next handle names the set
     pub seen_next : (frame : ℕ) (opened : Bool) (p : ℕ) (o n : Slot T) → n.generation ≡ o.generation + 1 → is_live frame opened n.used ≡ true → seen frame opened n (next_of p o) ≡ n.set
-    seen_next frame opened p o n more live =
-        ap (λ b. if (b && ((o.generation + 1) == n.generation)) && is_live frame opened n.used then n.set else None)
-        (eq-eqb number number refl)
-        ∙ ap (λ b. if b && is_live frame opened n.used then n.set else None)
-        (eq-eqb (o.generation + 1) n.generation (sym more))
-        ∙ ap (λ b. if b then n.set else None) live
-
-    pub given_next : (p : ℕ) (o n : Slot T) → n.generation ≡ o.generation + 1 → was_given n (next_of p o) ≡ true
-    given_next p o n more = ap (λ b. b && (nat_lt 0 (o.generation + 1) && nat_le (o.generation + 1) n.generation)) (eq-eqb number number refl) ∙ ap (λ b. b && nat_le (o.generation + 1) n.generation) (lt-ltb 0 (o.generation + 1) (omega arith)) ∙ le-leb (o.generation + 1) n.generation (omega arith)
-
-    pub given_never : (p : ℕ) (o : Slot T) → was_given o (next_of p o) ≡ false
-    given_never p o = and_right (number == number) (nat_lt 0 (o.generation + 1) && nat_le (o.generation + 1) o.generation) (and_right (nat_lt 0 (o.generation + 1)) (nat_le (o.generation + 1) o.generation) (lt-leb (o.generation + 1) o.generation (omega arith)))
+    seen_next frame opened p o n more live = search (rules, eq-eqb)

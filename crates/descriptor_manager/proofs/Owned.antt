@@ -1,7 +1,7 @@
 -- The sets of a set manager stay of their layouts, and what refusals leave: each call of `SetManager` leaves `HasSetsOf`, its invariant.
 -- `slots` are those of sets, `layouts` those of layouts, `known` is a layout, and `n` or `number` the number of one.
 use Rattle.std.proofs.lemmas.Grind.{common_steps}
-use Rattle.std.proofs.Common.{◌≡◌, ℕ, suc, ◌+◌, ◌<◌, Bool, false, List, length, Option, Some, None, is_some, inl, inr, sym, ap, subst, ◌∙◌, arith, IfSome}
+use Rattle.std.proofs.Common.{◌≡◌, ℕ, suc, ◌<◌, Bool, false, List, length, Option, Some, None, is_some, inl, inr, sym, ap, subst, ◌∙◌, arith, IfSome}
 use Rattle.gpu_descriptor_types.specs.Meaning.{Meaning, IsOfLayout}
 use Rattle.gpu_descriptor_types.specs.declared.device.DescriptorDevice.{Ghosts}
 use Rattle.gpu_descriptor.specs.declared.errors.AllocationError.{AllocationError}
@@ -108,10 +108,6 @@ module _ {X : Type 0} (layouts : List (Slot X)) (n : ℕ) (x : X) (here : (slot_
   -- a layout is in a slot
   pub layout_within : n < length layouts
   layout_within = grind (arith, common_steps, below_or, get_or_past, none-some)
-
-  -- a layout that is there has its list
-  pub layout_listed : n + 2 < lists_for (length layouts)
-  layout_listed = grind (arith, common_steps, layout_within)
 
 -- the layout of a handle is at its place
 pub layout_here : {L P S D : Type 0} {d : Ghosts D L P S} (r : LayoutRegistry L P S D d) (h : LayoutHandle) (known : SetLayout L) (place : ℕ) → place ≡ h.slot.place → layout_at r h ≡ Some known → (slot_at (layout_slots r) place).set ≡ Some known

@@ -1,9 +1,9 @@
 -- What is left after a cleanup, and if no slot has a set: for `SetManager::cleanup` and `shutdown`.
 use Rattle.std.proofs.lemmas.Grind.{common_steps}
-use Rattle.std.proofs.Common.{◌≡◌, ℕ, suc, ◌<◌, ◌&&◌, Bool, true, false, List, [], ◌∷◌, length, if◌then◌else◌, Option, None, is_some, refl, ap, ◌∙◌, arith}
+use Rattle.std.proofs.Common.{◌≡◌, ℕ, suc, ◌<◌, ◌&&◌, Bool, true, false, List, [], ◌∷◌, length, None, is_some, refl, ap, ◌∙◌, arith, rules}
 use Rattle.descriptor_table.specs.Sets.{joined, sets_in}
 use Rattle.descriptor_table.specs.Slots.{slot_at, waits, waits_for}
-use Rattle.descriptor_table.specs.Tables.{aged, count, holds, is_held_use, is_kept, vacated}
+use Rattle.descriptor_table.specs.Tables.{count, holds, is_held_use}
 use Rattle.descriptor_table.specs.Slots.{Slot}
 use Rattle.descriptor_table.proofs.Counts.{count_none, none_count}
 use Rattle.descriptor_manager.specs.Stores.{AreCleaned, is_placed}
@@ -19,10 +19,7 @@ module _ {T : Type 0} where
 
   -- with none held, and none that waits, no set is left
   pub cleaned_empty : (old new : List (Slot T)) → ((p : ℕ) → is_placed (slot_at old p) ≡ true) → AreCleaned old new → count holds old ≡ 0 → count waits old ≡ 0 → length (sets_in new) ≡ 0
-  cleaned_empty old new placed cleaned held waiting = ap length (no_sets new (λ p within. ap (λ (s : Slot T). s.set) (cleaned.here p refl) ∙ by_kept (slot_at old p) (is_kept (slot_at old p)) (slot_at old p).set refl refl (placed p) (count_none holds old refl held p) (count_none waits old refl waiting p)))
-    where
-      by_kept : (o : Slot T) (b : Bool) (x : Option T) → is_kept o ≡ b → o.set ≡ x → is_placed o ≡ true → holds o ≡ false → waits o ≡ false → (if b then vacated (aged o) else aged o).set ≡ None
-      by_kept o x1 x e is at h w = grind (arith, common_steps)
+  cleaned_empty old new placed cleaned held waiting = search (rules, count_none, no_sets)
 
   -- without a set none is held, and none waits
   pub none_held : (slots : List (Slot T)) → ((p : ℕ) → (slot_at slots p).set ≡ None) → count holds slots ≡ 0

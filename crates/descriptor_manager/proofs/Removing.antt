@@ -1,21 +1,20 @@
 -- What slots become when a layout is removed: for `Store::remove_layout` and `SetManager::remove_layout`.
 -- `layout` is its number; `layouts` are the slots of layouts before, `fewer` those after.
 use Rattle.std.proofs.lemmas.Grind.{common_steps}
-use Rattle.std.proofs.Common.{◌≡◌, ◌≢◌, ℕ, ◌+◌, ◌<◌, Bool, true, false, if◌then◌else◌, List, is_some, inl, inr, refl, sym, ap, subst, ◌∙◌, arith, eq-eqb, ne_eqb}
+use Rattle.std.proofs.Common.{◌≡◌, ◌≢◌, ℕ, ◌+◌, ◌<◌, Bool, true, false, if◌then◌else◌, List, is_some, inl, inr, refl, sym, ap, ◌∙◌, arith, eq-eqb, ne_eqb, rules}
 use Rattle.std.proofs.lemmas.Bool.{cases_eq}
 use Rattle.std.proofs.lemmas.Option.{none-some}
 use Rattle.gpu_descriptor_types.specs.Meaning.{Meaning}
 use Rattle.gpu_descriptor.specs.declared.layout.SetLayout.{SetLayout}
 use Rattle.gpu_descriptor.specs.declared.set.DescriptorSet.{DescriptorSet}
 use Rattle.descriptor_table.specs.Sets.{sets_of}
-use Rattle.descriptor_table.specs.Slots.{is_kept_of, is_live, slot_at}
+use Rattle.descriptor_table.specs.Slots.{is_kept_of, slot_at}
 use Rattle.descriptor_table.specs.Tables.{Becomes, Turns, came_under, count, removed_at, vacated}
 use Rattle.descriptor_table.specs.Slots.{Slot}
-use Rattle.descriptor_table.specs.declared.giving.Group.TheVariants.{KeptOf}
 use Rattle.descriptor_table.proofs.Counts.{none_count}
 use Rattle.descriptor_table.proofs.Leaving.{group_out}
 use Rattle.descriptor_table.proofs.Naming.{names_kept}
-use Rattle.descriptor_manager.specs.Own.{AreCounted, AreOwn, IsCounted, IsOwn}
+use Rattle.descriptor_manager.specs.Own.{AreCounted, AreOwn, IsOwn}
 use Rattle.descriptor_manager.proofs.Naming.{kept_as}
 use Rattle.descriptor_manager.proofs.Showing.{quiet_shown, turned}
 
@@ -23,15 +22,10 @@ module _ {T : Type 0} (layout : ℕ) where
   module _ (old new : List (Slot T)) (turns : Turns (is_kept_of layout) (Becomes vacated) old new) where
     -- all handles name what they named, as a kept set has none; and no set of the layout is kept then
     pub removed_names : (number frame : ℕ) (opened : Bool) → sets_of number frame opened new ≡ sets_of number frame opened old
-    removed_names number frame opened = names_kept number frame opened old new (turned frame opened (is_kept_of layout) (Becomes vacated) old new turns (λ o n e left.
-        quiet_shown frame opened o n (ap (λ (s : Slot T). s.generation) left) (ap (is_live frame opened) (kept_as layout o e).0) (ap (λ (s : Slot T). is_live frame opened s.used) left)))
+    removed_names number frame opened = search (rules, kept_as, names_kept, quiet_shown, turned)
 
     pub removed_out : (p : ℕ) → is_kept_of layout (slot_at new p) ≡ false
-    removed_out p = by_test (is_kept_of layout (slot_at old p)) refl
-      where
-        by_test : (b : Bool) → is_kept_of layout (slot_at old p) ≡ b → is_kept_of layout (slot_at new p) ≡ false
-        by_test true e = ap (is_kept_of layout) (turns.here p e) ∙ group_out (KeptOf layout) (slot_at old p)
-        by_test false e = ap (is_kept_of layout) (turns.rest p e) ∙ e
+    removed_out p = search (rules, group_out)
 
     pub removed_none : count (is_kept_of layout) new ≡ 0
     removed_none = none_count (is_kept_of layout) new removed_out
@@ -48,10 +42,7 @@ module _ {L P S : Type 0} (means : Meaning L P S) (layout : ℕ) (generations : 
       → (slot_at new p).layout_generation < removed_at layout generations layout)
       → AreOwn means generations layouts old → AreOwn means (removed_at layout generations) fewer new
   own_removed old new turns past own p n x full at = elim (cases_eq n layout) [
-    | inl e ↦ absurd (
-        let less = past p (ap (λ (u : ℕ × ℕ). u.0) at ∙ e) in
-        let same = ap (λ (u : ℕ × ℕ). u.1) at ∙ ap (removed_at layout generations) e in
-        omega arith)
+    | inl e ↦ search rules
     | inr ne ↦
         let is = by_test (is_kept_of layout (slot_at old p)) refl ne in
         let same = ap (λ (s : Slot (SetLayout L)). s.set) (others n ne) in
@@ -73,15 +64,4 @@ pub counted_removed :
     {T : Type 0} (layout : ℕ) (generations : ℕ → ℕ) (layouts fewer : List (Slot T)) → AreCounted generations layouts
     → is_some (slot_at layouts layout).set ≡ true → slot_at fewer layout ≡ vacated (slot_at layouts layout)
     → ((n : ℕ) → n ≢ layout → slot_at fewer n ≡ slot_at layouts n) → AreCounted (removed_at layout generations) fewer
-counted_removed {T = T} layout generations layouts fewer counted there gone others n = elim (cases_eq n layout) [
-  | inl e ↦ subst (λ n. IsCounted (removed_at layout generations n) (slot_at fewer n)) (sym e) (
-      let same : (slot_at fewer layout).generation ≡ (slot_at layouts layout).generation = ap (λ (s : Slot T). s.generation) gone in
-      let more : removed_at layout generations layout ≡ generations layout + 1 = ap (λ b. if b then generations layout + 1 else generations layout) (eq-eqb layout layout refl) in
-      let few = (counted layout).1 in (
-        one_less (is_some (slot_at layouts layout).set) (is_some (slot_at fewer layout).set) (generations layout)
-            (removed_at layout generations layout) (slot_at layouts layout).generation (slot_at fewer layout).generation
-            there (ap (λ (s : Slot T). is_some s.set) gone) more same (counted layout).0,
-        omega arith,
-      ))
-  | inr ne ↦ subst (λ m. IsCounted m (slot_at fewer n)) (sym (removed_other layout generations n ne)) (subst (IsCounted (generations n)) (sym (others n ne)) (counted n))
-]
+counted_removed {T = T} layout generations layouts fewer counted there gone others n = search (rules, cases_eq, eq-eqb, one_less, removed_other)

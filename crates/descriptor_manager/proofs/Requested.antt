@@ -1,9 +1,8 @@
 -- What a request for sets of a layout leaves of a set manager: for `SetManager::allocate_as` and `allocate_into`.
-use Rattle.std.proofs.Common.{◌≡◌, ◌∙◌, ℕ, ◌+◌, ◌<◌, true, List, length, slice_index_or, Result, Ok, Err, Some, inl, inr, sym, ap, subst, arith}
+use Rattle.std.proofs.Common.{◌≡◌, ◌∙◌, ℕ, ◌<◌, true, List, length, slice_index_or, Result, Ok, Err, Some, inl, inr, sym, ap, subst, arith}
 use Rattle.std.proofs.lemmas.Bool.{false≢true}
 use Rattle.gpu_descriptor_types.specs.Meaning.{IsOfLayout}
 use Rattle.gpu_descriptor_types.specs.declared.device.DescriptorDevice.{Ghosts}
-use Rattle.gpu_descriptor.specs.Caller.SetLayouts.{IsMeant}
 use Rattle.gpu_descriptor.specs.declared.errors.AllocationError.{AllocationError}
 use Rattle.gpu_descriptor.specs.declared.layout.SetLayout.{SetLayout}
 use Rattle.gpu_descriptor.specs.declared.set.DescriptorSet.{DescriptorSet}
@@ -16,7 +15,7 @@ use Rattle.descriptor_table.proofs.Counting.{below_or}
 use Rattle.descriptor_table.proofs.Holding.{same_default}
 use Rattle.descriptor_manager.specs.LayoutRegistries.{layout_at, layout_slots}
 use Rattle.descriptor_manager.specs.Own.{HasSetsOf}
-use Rattle.descriptor_manager.specs.Stores.{CanTake, ComesOf, IsRefusedAtLast, Requests, current_in, generations_in, kept_of, slots_in}
+use Rattle.descriptor_manager.specs.Stores.{ComesOf, IsRefusedAtLast, Requests, current_in, generations_in, kept_of, slots_in}
 use Rattle.descriptor_manager.specs.declared.layout_registry.LayoutHandle.{LayoutHandle}
 use Rattle.descriptor_manager.specs.declared.manager.SetManager.{SetManager}
 use Rattle.descriptor_manager.specs.declared.store.Store.{Store}
@@ -24,15 +23,11 @@ use Rattle.descriptor_manager.proofs.Bringing.{brought}
 use Rattle.descriptor_manager.proofs.Cleared.{Clears, same_clears}
 use Rattle.descriptor_manager.proofs.Handing.{came_layout}
 use Rattle.descriptor_manager.proofs.Joining.{are_named}
-use Rattle.descriptor_manager.proofs.Owned.{found_set, layout_here, layout_listed, own_comes, own_known, sets_settle}
+use Rattle.descriptor_manager.proofs.Owned.{found_set, layout_here, own_comes, own_known, sets_settle}
 
 module _ {L P S D : Type 0} {d : Ghosts D L P S} (r : SetManager L P S D d) (layout : LayoutHandle) (known : SetLayout L) (place : ℕ) (at : place ≡ layout.slot.place) (found : layout_at r.layouts layout ≡ Some known) where
   here : (slot_at (layout_slots r.layouts) place).set ≡ Some known
   here = layout_here r.layouts layout known place at found
-
-  -- its sets may be requested
-  pub can_take : IsMeant d.meaning known → CanTake known place r.store
-  can_take meant = record { meant = meant; layout = subst (λ n. place + 2 < n) (sym r.sets.lists) (layout_listed (layout_slots r.layouts) place known here); rest = r.sets.rest }
 
   module _ {R : Type 0} (many : ℕ) (u : Use) (handles : List SetHandle) (new : Store L P S D d) where
     -- all sets are of their layouts then

@@ -1,5 +1,5 @@
 -- Requests that kept sets met, or kept and new ones, or none: for `Store::allocate`, `allocate_new`, `allocate_each` and `allocate_with_new`.
-use Rattle.std.proofs.Common.{◌≡◌, ◌∙◌, ℕ, ◌+◌, ◌-◌, ◌<◌, ◌≤◌, true, List, [], length, Ok, Err, inl, refl, ap, arith}
+use Rattle.std.proofs.Common.{◌≡◌, ◌∙◌, ℕ, ◌+◌, ◌-◌, ◌<◌, ◌≤◌, true, List, [], length, Ok, Err, inl, refl, ap, arith, rules}
 use Rattle.gpu_descriptor_types.specs.declared.device.DescriptorDevice.{Ghosts}
 use Rattle.gpu_descriptor_types.specs.Side.{Side}
 use Rattle.gpu_descriptor.specs.Caller.Sets.{items_of}
@@ -25,12 +25,7 @@ use Rattle.descriptor_manager.proofs.Joining.{held_stays, holds_arrives, kept_th
 pub gained :
     {L P S D : Type 0} {d : Ghosts D L P S} (ready new : Store L P S D d) → side_of new ≡ side_of ready → new.coming.items ≡ [] → (t : Item)
     → count_of t (items_of d.meaning.set_name (sets_in (slots_in new))) ≡ count_of t (items_of d.meaning.set_name (sets_in (slots_in ready))) + count_of t (items_of d.meaning.set_name ready.coming.items)
-gained {L} {P} {S} {D} {d} ready new side none t =
-    let same = ap (λ (s : Side (Allocations P)). outstanding (state_of d.meaning.pool_name s.value s.ledger) t) side in
-    let empty = ap (λ l. count_of t (items_of d.meaning.set_name l)) none in
-    let was = ready.exact t in
-    let is = new.exact t in
-    omega arith
+gained {L} {P} {S} {D} {d} ready new side none t = omega (arith, ap (λ (s : Side (Allocations P)). outstanding (state_of d.meaning.pool_name s.value s.ledger) t) side, ap (λ l. count_of t (items_of d.meaning.set_name l)) none, ready.exact t, new.exact t)
 
 -- as many were kept
 module _ {L P S D : Type 0} {d : Ghosts D L P S} {R : Type 0} (known : L) (layout many : ℕ) (u : Use) (handles : List SetHandle) (old new : Store L P S D d) where
@@ -95,12 +90,4 @@ module _ {L P S D : Type 0} {d : Ghosts D L P S} {R : Type 0} (known : L) (layou
   pub from_refused :
       (handles : List SetHandle) (error : AllocationError) → KeepsStore old asked → IsRefusedAtLast known (many - kept_of layout old) many error old asked → asked.coming.items ≡ []
       → Requests {R = R} known layout many u handles (Err error) old asked
-  from_refused handles error stays refused none =
-      let comes = ComesOf d.meaning known layout in
-      record {
-        takes = tt;
-        kept = λ enough. absurd (omega arith);
-        refused = refused;
-        settles = arrived comes old asked (refused_arrives comes known (many - kept_of layout old) many error old asked refused) none rest stays;
-        grows = grow_refused known (many - kept_of layout old) many error old asked refused;
-      }
+  from_refused handles error stays refused none = search (rules, arrived, grow_refused, refused_arrives)

@@ -30,8 +30,4 @@ module _ {T : Type 0} where
   -- the sets are those that are held, those that wait, and those that are kept
   pub placed_count : (slots : List (Slot T)) → ((p : ℕ) → is_placed (slot_at slots p) ≡ true) → length (sets_in slots) ≡ count holds slots + (count waits slots + count is_kept slots)
   placed_count [] placed = refl
-  placed_count (s ∷ slots) placed =
-      let a = joined_length s.set (sets_in slots) in
-      let b = placed_bits s (placed 0) in
-      let h = placed_count slots (λ p. placed (suc p)) in
-      omega arith
+  placed_count (s ∷ slots) placed = omega (arith, joined_length s.set (sets_in slots), placed_bits s (placed 0), placed_count slots (λ p. placed (suc p)))

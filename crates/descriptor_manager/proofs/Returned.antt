@@ -26,20 +26,10 @@ module _ {S : Type 0} (name : S → ℕ) where
       (xs : List (DescriptorSet S)) (s u : Giving (DescriptorSet S)) → Yields GivesNext s xs u → (t : Item)
       → count_of t (items_of name (sets_in (slots_of s.table.now)))
       ≡ count_of t (items_of name xs) + count_of t (items_of name (sets_in (slots_of u.table.now)))
-  given_count xs s u y t =
-      let h = given_weigh (weight name t) xs s u y in
-      let a = counts name t (sets_in (slots_of s.table.now)) in
-      let b = counts name t xs in
-      let c = counts name t (sets_in (slots_of u.table.now)) in
-      omega arith
+  given_count xs s u y t = omega (arith, given_weigh (weight name t) xs s u y, counts name t (sets_in (slots_of s.table.now)), counts name t xs, counts name t (sets_in (slots_of u.table.now)))
 
 given_many : {S : Type 0} (xs : List (DescriptorSet S)) (s u : Giving (DescriptorSet S)) → Yields GivesNext s xs u → length (sets_in (slots_of s.table.now)) ≡ length xs + length (sets_in (slots_of u.table.now))
-given_many xs s u y =
-    let h = given_weigh (λ x. 1) xs s u y in
-    let a = tally_length (sets_in (slots_of s.table.now)) in
-    let b = tally_length xs in
-    let c = tally_length (sets_in (slots_of u.table.now)) in
-    omega arith
+given_many xs s u y = omega (arith, given_weigh (λ x. 1) xs s u y, tally_length (sets_in (slots_of s.table.now)), tally_length xs, tally_length (sets_in (slots_of u.table.now)))
 
 -- an iterator gave sets to its end
 module _ {S : Type 0} (xs : List (DescriptorSet S)) (s u : Giving (DescriptorSet S)) (d : YieldsThen GivesNext s xs None u) where

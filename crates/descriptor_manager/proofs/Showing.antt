@@ -1,6 +1,6 @@
 -- What handles name once sets were freed, waited, or were returned to their pools: for `SetManager::frame_done`, `free`, `cleanup` and others.
 use Rattle.std.proofs.lemmas.Grind.{common_steps}
-use Rattle.std.proofs.Common.{◌≡◌, ℕ, ◌+◌, ◌<◌, ◌&&◌, nat_le, Bool, true, false, List, length, if◌then◌else◌, is_some, None, inl, inr, refl, sym, ap, ◌∙◌, arith}
+use Rattle.std.proofs.Common.{◌≡◌, ℕ, ◌+◌, ◌<◌, ◌&&◌, nat_le, Bool, true, false, List, length, if◌then◌else◌, is_some, inl, inr, refl, ap, arith, rules}
 use Rattle.descriptor_table.specs.Sets.{AreHeldOnce, LoseNames, sets_of}
 use Rattle.descriptor_table.specs.Slots.{in_list, is_due, is_live, slot_at, waits_for}
 use Rattle.descriptor_table.specs.Tables.{Turns, aged, is_kept, place_at, vacated, MayBecome, IsBack, used_for, Becomes}
@@ -26,31 +26,19 @@ module _ {T : Type 0} (frame : ℕ) (opened : Bool) where
 
   -- a slot that had no live handle, and has none
   pub quiet_shown : (o n : Slot T) → n.generation ≡ o.generation → is_live frame opened o.used ≡ false → is_live frame opened n.used ≡ false → ShowsSame frame opened o n
-  quiet_shown o n g was is = record {
-    generation = g;
-    set = ap (λ b. if b then n.set else None) is ∙ sym (ap (λ b. if b then o.set else None) was);
-  }
+  quiet_shown o n g was is = search rules
 
   -- a freed set has no live handle, whether it is kept or left
   back_quiet : (generations : ℕ → ℕ) (max : ℕ) (new : List (Slot T)) (o n : Slot T) → IsBack vacated generations max new o n → (is_live frame opened n.used ≡ false) × (n.generation ≡ o.generation)
-  back_quiet generations max new o n back = elim back [
-    | inl kept ↦ (ap (λ (s : Slot T). is_live frame opened s.used) kept.0, ap (λ (s : Slot T). s.generation) kept.0)
-    | inr left ↦ (ap (λ (s : Slot T). is_live frame opened s.used) left.0, ap (λ (s : Slot T). s.generation) left.0)
-  ]
+  back_quiet generations max new o n back = search rules
 
   -- each slot shows what it showed, since those that turn do
   pub turned : (test : Slot T → Bool) (becomes : List (Slot T) → Slot T → Slot T → Type 0) (old new : List (Slot T)) → Turns test becomes old new → ((o n : Slot T) → test o ≡ true → becomes new o n → ShowsSame frame opened o n) → (p : ℕ) → ShowsSame frame opened (slot_at old p) (slot_at new p)
-  turned test becomes old new turns shows p = by_test (test (slot_at old p)) refl
-    where
-      by_test : (b : Bool) → test (slot_at old p) ≡ b → ShowsSame frame opened (slot_at old p) (slot_at new p)
-      by_test true e = shows (slot_at old p) (slot_at new p) e (turns.here p e)
-      by_test false e = same_shown (slot_at old p) (slot_at new p) (turns.rest p e)
+  turned test becomes old new turns shows p = search (rules, same_shown)
 
   -- sets that were freed leave the names of all others
   pub back_names : (generations : ℕ → ℕ) (number due max : ℕ) (old new : List (Slot T)) → (opened ≡ true → due < frame) → Turns (is_due due) (IsBack vacated generations max) old new → sets_of number frame opened new ≡ sets_of number frame opened old
-  back_names generations number due max old new later turns = names_kept number frame opened old new (turned (is_due due) (IsBack vacated generations max) old new turns (λ o n e back.
-      let q = back_quiet generations max new o n back in
-      quiet_shown o n q.1 (due_use o.used due frame (is_some o.set) opened later e) q.0))
+  back_names generations number due max old new later turns = search (rules, back_quiet, due_use, names_kept, quiet_shown, turned)
 
   -- kept sets that left leave all names, and so does a cleanup, below
   pub trim_names : (number : ℕ) (old new : List (Slot T)) → Turns is_kept (MayBecome vacated) old new → sets_of number frame opened new ≡ sets_of number frame opened old
@@ -63,12 +51,7 @@ module _ {T : Type 0} (frame : ℕ) (opened : Bool) where
   cleaned_names number old new cleaned = names_kept number frame opened old new (λ p. by_kept (slot_at old p) (slot_at new p) (is_kept (slot_at old p)) refl (cleaned.here p refl))
     where
       by_kept : (o n : Slot T) (b : Bool) → is_kept o ≡ b → n ≡ (if is_kept o then vacated (aged o) else aged o) → ShowsSame frame opened o n
-      by_kept o n true e is =
-          let left : n ≡ vacated (aged o) = is ∙ ap (λ b. if b then vacated (aged o) else aged o) e in
-          quiet_shown o n (ap (λ (s : Slot T). s.generation) left) (kept_use o.used 0 o.layout o.generation frame (is_some o.set) opened e) (ap (λ (s : Slot T). is_live frame opened s.used) left)
-      by_kept o n false e is =
-          let old : n ≡ aged o = is ∙ ap (λ b. if b then vacated (aged o) else aged o) e in
-          record { generation = ap (λ (s : Slot T). s.generation) old; set = ap (shown frame opened) old }
+      by_kept o n x2 e is = search (rules, kept_use, quiet_shown, shown)
 
   -- freed sets, and those that wait, have no handle
   pub freed_names :

@@ -1,5 +1,6 @@
 -- What a call leaves of the ledger, from what it leaves of the pools and the counters: for `ScriptedDevice::alloc_descriptor_sets`.
-use Rattle.std.proofs.Common.{◌≡◌, ℕ, ◌+◌, ◌++◌, map, refl, ap, ◌∙◌}
+use Rattle.std.proofs.lemmas.Grind.{common_steps}
+use Rattle.std.proofs.Common.{◌≡◌, ℕ, ◌+◌, ◌++◌, map, ap, ◌∙◌, arith}
 use Rattle.std.proofs.lemmas.List.FromFn.{length-map-range_with_len}
 use Rattle.gpu_descriptor_types.specs.Counts.{kinds}
 use Rattle.gpu_descriptor_types.specs.Ledger.{Ledger, Sink, Puts, PutsNone, live_sets, on_pool, alloc_refused, pool_refusals}
@@ -9,7 +10,7 @@ use Rattle.descriptor_script.specs.Inner.Table.{pools_in}
 use Rattle.descriptor_script.specs.Inner.Counters.{counters_of}
 use Rattle.descriptor_script.specs.Scripted.Device.{ledger_of}
 use Rattle.descriptor_script.specs.Inner.Pools.{next_names}
-use Rattle.descriptor_script.specs.Scripted.Raw.{raw_set, raw_sets, script_meaning, set_id}
+use Rattle.descriptor_script.specs.Scripted.Raw.{raw_sets, script_meaning, set_id}
 use Rattle.descriptor_script.specs.declared.device.ScriptedDevice.{ScriptedDevice}
 use Rattle.descriptor_script.specs.declared.raw.RawSet.{RawSet}
 use Rattle.descriptor_script.specs.declared.raw.ScriptLayout.{ScriptLayout}
@@ -23,15 +24,7 @@ module _ {K X : Type 0} (sink : Sink K RawSet X) (before after : K) where
   pub puts : (old new : ScriptedDevice) (layout : ScriptLayout) (name many : ℕ) → sink.kept after ≡ sink.kept before ++ map (sink.kept_as before) (raw_sets name (next_names old.pools).sets many) → sink.kept_as after ≡ sink.kept_as before → sink.room after + many ≡ sink.room before
       → pools_in new.pools.live ≡ on_pool name (λ pool. record pool { live = λ x. pool.live x + times (live_sets (kinds layout.counts) (map set_id (raw_sets name (next_names old.pools).sets many))) x }) (pools_in old.pools.live)
       → counters_of new.counters ≡ record (counters_of old.counters) { asked = (counters_of old.counters).asked + 1 } → Puts sink script_meaning layout name many before after (ledger_of old) (ledger_of new)
-  puts old new layout name many kept alike room pools asked = record {
-    sets = raw_sets name (next_names old.pools).sets many;
-    many = length-map-range_with_len (raw_set name) (next_names old.pools).sets many;
-    own = λ k d lt. refl;
-    kept = kept;
-    alike = alike;
-    room = room;
-    ledger = same_ledger _ _ pools asked;
-  }
+  puts old new layout name many kept alike room pools asked = grind (arith, common_steps, length-map-range_with_len, same_ledger)
 
   -- nothing was done but a word read
   pub record IsUntouched (old new : ScriptedDevice) : Type 0 where

@@ -1,6 +1,7 @@
 -- Sets that are taken out of their slots, one by one: for `Session::free` and `mark_each`, and the iterator `Taking`, by which they go
 -- to the allocator. `n` and `m` are tickets, `ns` lists of them, `xs` sets; `f` is what a set adds to a `tally`: 1, or how often it is some item.
-use Rattle.std.proofs.Common.{◌≡◌, ◌≢◌, ℕ, zero, suc, ◌+◌, ◌<◌, List, [], ◌∷◌, length, map, get_or, set, Option, None, Some, inl, inr, refl, sym, ap, ◌∙◌, arith}
+use Rattle.std.proofs.lemmas.Grind.{common_steps}
+use Rattle.std.proofs.Common.{◌≡◌, ◌≢◌, ℕ, zero, suc, ◌+◌, ◌<◌, List, [], ◌∷◌, length, map, get_or, set, Option, None, Some, refl, sym, ap, ◌∙◌, arith}
 use Rattle.std.proofs.lemmas.Bool.{cases_eq, eqb-false, ne_eqb, false≢true}
 use Rattle.std.proofs.lemmas.List.{get_or-set_other, get_or_default}
 use Rattle.std.proofs.lemmas.List.Elements.{All-from_get_or, All-get_or}
@@ -36,8 +37,7 @@ module _ {X : Type 0} where
   none_at (o ∷ slots) (suc n) = none_at slots n
 
   pub some_at : (o : Option X) → IsSome o → (x : X) × (o ≡ Some x)
-  some_at None bad = absurd (false≢true bad)
-  some_at (Some x) h = (x, refl)
+  some_at x0 x1 = grind (arith, common_steps, false≢true)
 
   -- a set lies within the slots
   pub some_within : (slots : List (Option X)) (n : ℕ) → IsSome (get_or slots n None) → n < length slots
@@ -64,10 +64,7 @@ module _ {X : Type 0} where
 
   -- what is held when another is taken was held before
   still : (slots : List (Option X)) (n m : ℕ) (x : X) → get_or (set slots n None) m None ≡ Some x → get_or slots m None ≡ Some x
-  still slots n m x h = elim (cases_eq m n) [
-    | inl same ↦ absurd (none-some x (sym (none_at slots n) ∙ ap (λ k. get_or (set slots n None) k None) (sym same) ∙ h))
-    | inr other ↦ sym (get_or-set_other slots n m None None other) ∙ h
-  ]
+  still slots n m x h = grind (arith, common_steps, cases_eq, get_or-set_other, none-some, none_at)
 
   -- so it is for the set of each ticket of a list
   still_each : (slots : List (Option X)) (n : ℕ) (xs : List X) (ns : List ℕ) → map Some xs ≡ map (set_at (set slots n None)) ns → map Some xs ≡ map (set_at slots) ns
@@ -132,11 +129,7 @@ module _ {S : Type 0} where
   -- what was taken and what is held make up what was held
   pub taken_from : (f : DescriptorSet S → ℕ) (xs : List (DescriptorSet S)) (s t : Taking S) → Yields TakesNext s xs t → tally f xs + tally f (held_sets t.slots.sets.items) ≡ tally f (held_sets s.slots.sets.items)
   taken_from f [] s t y = let same = ap (λ (u : Taking S). tally f (held_sets u.slots.sets.items)) y in omega arith
-  taken_from f (x ∷ xs) s t y =
-      let next = taken_from f xs y.0 t y.2 in
-      let less = held_less f s.slots.sets.items y.1.0 x y.1.2 in
-      let left = ap (λ l. tally f (held_sets l)) y.1.3 in
-      omega arith
+  taken_from f (x ∷ xs) s t y = grind (arith, common_steps, held_less, taken_from f xs y.0 t y.2)
 
   pub fewer_held : (xs : List (DescriptorSet S)) (s t : Taking S) → Yields TakesNext s xs t → length (held_sets t.slots.sets.items) + length xs ≡ length (held_sets s.slots.sets.items)
   fewer_held xs s t y =
@@ -149,17 +142,12 @@ module _ {S : Type 0} where
   -- the set of each ticket came
   pub each_taken : (xs : List (DescriptorSet S)) (s t : Taking S) → Yields TakesNext s xs t → iter_rest t.tickets ≡ [] → map Some xs ≡ map (set_at s.slots.sets.items) (iter_rest s.tickets)
   each_taken [] s t y none = sym (ap (map (set_at s.slots.sets.items)) (ap (λ (u : Taking S). iter_rest u.tickets) y ∙ none))
-  each_taken (x ∷ xs) s t y none =
-      let n = y.1.0 in
-      let rest = each_taken xs y.0 t y.2 none ∙ ap (λ l. map (set_at l) (iter_rest y.0.tickets)) y.1.3 in
-      let same = still_each s.slots.sets.items n xs (iter_rest y.0.tickets) rest in
-      ap (λ o. o ∷ map Some xs) (sym y.1.2) ∙ ap (λ l. set_at s.slots.sets.items n ∷ l) same ∙ sym (ap (map (set_at s.slots.sets.items)) y.1.1)
+  each_taken (x ∷ xs) s t y none = grind (arith, common_steps, still_each, each_taken xs y.0 t y.2 none)
 
   -- the slots of the tickets are empty
   pub all_emptied : (xs : List (DescriptorSet S)) (s t : Taking S) → Yields TakesNext s xs t → iter_rest t.tickets ≡ [] → t.slots.sets.items ≡ emptied s.slots.sets.items (iter_rest s.tickets)
   all_emptied [] s t y none = ap (λ (u : Taking S). u.slots.sets.items) (sym y) ∙ sym (ap (emptied s.slots.sets.items) (ap (λ (u : Taking S). iter_rest u.tickets) y ∙ none))
-  all_emptied (x ∷ xs) s t y none =
-      all_emptied xs y.0 t y.2 none ∙ ap (λ l. emptied l (iter_rest y.0.tickets)) y.1.3 ∙ sym (ap (emptied s.slots.sets.items) y.1.1)
+  all_emptied (x ∷ xs) s t y none = grind (arith, common_steps, all_emptied xs y.0 t y.2 none)
 
   -- how often an item is among sets, as a tally
   tally-items : (name : S → ℕ) (i : Item) (xs : List (DescriptorSet S)) → tally (λ x. count_of i (item_of name x ∷ [])) xs ≡ count_of i (items_of name xs)

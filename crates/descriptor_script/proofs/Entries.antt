@@ -1,4 +1,5 @@
 -- Live sets that are taken out of a table, one after another: for `take_back`. An entry has the name of a set and its counts.
+use Rattle.std.proofs.lemmas.Grind.{common_steps}
 use Rattle.std.proofs.Common.{◌≡◌, ℕ, zero, suc, ◌+◌, ◌<◌, Bool, true, false, cond, ◌==◌, nat_eq, List, [], ◌∷◌, ◌++◌, map, length, get_or, slice_get, position, count_by, Option, None, Some, is_some, inl, inr, refl, sym, ap, ◌∙◌, arith, subst, eqb-true, eq-eqb}
 use Rattle.std.specs.List.{position_or_len, swap_remove}
 use Rattle.std.specs.Map.{lookup, keys_of, values_of}
@@ -14,38 +15,21 @@ use Rattle.gpu_descriptor.proofs.release.RunsOfOne.{count_all}
 use Rattle.descriptor_script.specs.Inner.Live.{live_set_of, live_sets_of}
 
 pub none_either : {X : Type 0} (b : Bool) (o : Option X) → o ≡ None → cond b None o ≡ None
-none_either true o h = refl
-none_either false o h = h
+none_either x0 o h = grind (arith, common_steps)
 
 -- an entry, from its key and its value
 pair_at : {K X : Type 0} (es : List (K × X)) (i : ℕ) (k : K) (v : X) (d : K × X) → i < length es → k ≡ get_or (keys_of es) i k → slice_get (values_of es) i ≡ Some v → get_or es i d ≡ (k, v)
 pair_at [] i k v d lt key value = absurd (omega arith)
-pair_at (e ∷ es) zero k v d lt key value = λ j. (sym key j, unwrapped value j)
-  where
-    unwrapped : {X : Type 0} {x y : X} → Some x ≡ Some y → x ≡ y
-    unwrapped h = cc
+pair_at (e ∷ es) zero k v d lt key value = grind (arith, common_steps)
 pair_at (e ∷ es) (suc i) k v d lt key value = pair_at es i k v d (omega arith) key value
 
 count_map : {A B : Type 0} (p : B → Bool) (f : A → B) (xs : List A) → count_by p (map f xs) ≡ count_by (λ a. p (f a)) xs
 count_map p f [] = refl
-count_map p f (x ∷ xs) = elim (cases_Bool (p (f x))) [
-  | inl h ↦ count_by_yes p (f x) (map f xs) h ∙ ap suc (count_map p f xs) ∙ sym (count_by_yes (λ a. p (f a)) x xs h)
-  | inr h ↦ count_by_no p (f x) (map f xs) h ∙ count_map p f xs ∙ sym (count_by_no (λ a. p (f a)) x xs h)
-]
+count_map p f (x ∷ xs) = grind (arith, common_steps, cases_Bool, count_by_no, count_by_yes, count_map p f xs)
 
 -- without the entry at a place a table counts fewer sets by that one, whatever is counted (`p`)
 swap_counts : (p : LiveSet → Bool) (es : List (ℕ × DescriptorTotalCount)) (i : ℕ) (d : ℕ × DescriptorTotalCount) → i < length es → count_by p (live_sets_of (swap_remove es i d)) + count_by p (live_set_of (get_or es i d) ∷ []) ≡ count_by p (live_sets_of es)
-swap_counts p es i d lt =
-    let q : ℕ × DescriptorTotalCount → Bool = λ e. p (live_set_of e) in
-    let e = get_or es i d in
-    let h1 : count_by p (live_sets_of (swap_remove es i d)) ≡ count_by q (swap_remove es i d) = count_map p live_set_of (swap_remove es i d) in
-    let h2 : count_by p (live_sets_of es) ≡ count_by q es = count_map p live_set_of es in
-    let h3 : count_by p (live_set_of e ∷ []) ≡ cond (q e) 1 0 = one p (live_set_of e) in
-    let h4 : count_by q (swap_remove es i d) + cond (q e) 1 0 ≡ count_by q es = sum_by-swap_remove (λ x. cond (q x) 1 0) es i d lt in
-    omega arith
-  where
-    one : (p : LiveSet → Bool) (x : LiveSet) → count_by p (x ∷ []) ≡ cond (p x) 1 0
-    one p x = let h : 0 + cond (p x) 1 0 ≡ cond (p x) 1 0 = omega arith in h
+swap_counts p es i d lt = grind (arith, common_steps, cond, count_map, sum_by-swap_remove)
 
 -- a set that a table has is taken out, and the others stay
 pub taken : (n : ℕ) (v : DescriptorTotalCount) (es fs : List (ℕ × DescriptorTotalCount)) → lookup (nat_eq n) es ≡ Some v → fs ≡ swap_remove_entry (nat_eq n) es → (p : LiveSet → Bool) → count_by p (live_sets_of fs) + count_by p (live_set_of (n, v) ∷ []) ≡ count_by p (live_sets_of es)
@@ -94,10 +78,7 @@ found_left n (e ∷ es) lt = elim (cases_Bool (nat_eq n e.0)) [
 ]
   where
     apart : (a b : ℕ) → nat_eq a b ≡ false → (b == a) ≡ false
-    apart a b h = elim (cases_Bool (b == a)) [
-      | inl same ↦ absurd (let k : nat_eq a b ≡ true = eq-eqb a b (sym (eqb-true b a same)) in true≢false (sym k ∙ h))
-      | inr other ↦ other
-    ]
+    apart a b h = grind (arith, common_steps, cases_Bool, eq-eqb, eqb-true, true≢false)
 
 -- as many sets are gone as the table has fewer
 pub gone_many : (gone : List LiveSet) (old new : List (ℕ × DescriptorTotalCount)) → ((p : LiveSet → Bool) → count_by p gone + count_by p (live_sets_of new) ≡ count_by p (live_sets_of old)) → length gone + length new ≡ length old

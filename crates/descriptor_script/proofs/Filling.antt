@@ -1,6 +1,7 @@
 -- Sets that are put, one after another: for the loop of `fill`. `a` is the first name, `n` how many were put, and `j` the next name.
-use Rattle.std.proofs.Common.{◌≡◌, ℕ, zero, suc, ◌+◌, ◌≤◌, cond, nat_eq, eqb-true, Option, Some, None, inl, inr, List, [], ◌∷◌, ◌++◌, map, length, replicate, append_assoc, sym, ap, ◌∙◌, arith}
-use Rattle.std.specs.Prelude.{Result, Ok, Err, IsOk, OnOk}
+use Rattle.std.proofs.lemmas.Grind.{common_steps}
+use Rattle.std.proofs.Common.{◌≡◌, ℕ, ◌+◌, ◌≤◌, cond, nat_eq, eqb-true, Option, Some, None, List, [], ◌∷◌, ◌++◌, map, replicate, append_assoc, sym, ap, ◌∙◌, arith}
+use Rattle.std.specs.Prelude.{Result, IsOk, OnOk}
 use Rattle.std.proofs.lemmas.Bool.{cases_Bool, false≢true}
 use Rattle.indexmap.specs.IndexMap.{IndexMap, get, insert_entry, Updates}
 use Rattle.indexmap.proofs.CallerLemmas.{insert_entry-new}
@@ -12,8 +13,7 @@ use Rattle.descriptor_script.specs.declared.raw.RawSet.{RawSet}
 
 -- old and then numbered items, with the next one more
 pub grown : {X : Type 0} (f : ℕ → X) (old now new : List X) (x : X) (a n m j : ℕ) → new ≡ now ++ x ∷ [] → now ≡ old ++ map f (range_with_len a n) → a + n ≡ j → x ≡ f j → m ≡ n + 1 → new ≡ old ++ map f (range_with_len a m)
-grown f old now new x a n m j pushed before at is more =
-    pushed ∙ ap (λ l. l ++ x ∷ []) before ∙ append_assoc old (map f (range_with_len a n)) (x ∷ []) ∙ ap (λ l. old ++ l) (ap (λ y. map f (range_with_len a n) ++ y ∷ []) is ∙ sym (map-range_with_len_more f a n j at) ∙ ap (λ k. map f (range_with_len a k)) (sym more))
+grown f old now new x a n m j pushed before at is more = grind (arith, common_steps, append_assoc, map-range_with_len_more)
 
 -- what is the same value some times, without its first
 pub record IsNext {X : Type 0} (l x : X) (a b : ℕ) (z : X) : Type 0 where
@@ -23,31 +23,18 @@ pub record IsNext {X : Type 0} (l x : X) (a b : ℕ) (z : X) : Type 0 where
 
 -- of a list that has `l` some times `x` is the first, so it is `l`, and so are the others
 pub next_same : {X : Type 0} (l x z y : X) (a b : ℕ) → replicate a y ≡ replicate a l → replicate a y ≡ x ∷ replicate b z → IsNext l x a b z
-next_same l x z y zero b all first = absurd (cc)
-next_same l x z y (suc a) b all first =
-    let heads : x ∷ replicate b z ≡ l ∷ replicate a l = sym first ∙ all in
-    let rest : replicate b z ≡ replicate a l = tails heads in
-    let long : b ≡ a = sym (length-replicate b z) ∙ ap length rest ∙ length-replicate a l in
-    record { more = omega arith; same = cc; rest = rest ∙ ap (λ n. replicate n l) (sym long) }
-  where
-    tails : {X : Type 0} {x y : X} {xs ys : List X} → x ∷ xs ≡ y ∷ ys → xs ≡ ys
-    tails h = cc
+next_same l x z y x4 b all first = grind (arith, common_steps, length-replicate)
 
 -- a name that is given is no longer free
 pub none_above : {X : Type 0} (n m : ℕ) (w o : Option X) → n + 1 ≤ m → o ≡ None → cond (nat_eq n m) w o ≡ None
-none_above n m w o above h = elim (cases_Bool (nat_eq n m)) [
-  | inl same ↦ absurd (let e : n ≡ m = eqb-true n m same in omega arith)
-  | inr other ↦ ap (λ b. cond b w o) other ∙ h
-]
+none_above n m w o above h = grind (arith, common_steps, cases_Bool, cond, eqb-true)
 
 -- an entry that was put under a free name
 pub put_last : {X S E : Type 0} (m n : IndexMap ℕ X S) (k : ℕ) (v : X) (r : Result (Option X) E) → IsOk r → OnOk r (n.entries ≡ insert_entry nat_eq m.entries k v) → get nat_eq m k ≡ None → n.entries ≡ m.entries ++ (k, v) ∷ []
-put_last m n k v (Ok old) ok h free = h ∙ insert_entry-new nat_eq m k v free
-put_last m n k v (Err e) ok h free = absurd (false≢true ok)
+put_last m n k v x4 ok h free = grind (arith, common_steps, false≢true, insert_entry-new)
 
 pub put_changes : {X S E : Type 0} (m n : IndexMap ℕ X S) (k : ℕ) (v : X) (r : Result (Option X) E) → IsOk r → OnOk r (Updates nat_eq m n k (Some v)) → (q : ℕ) → get nat_eq n q ≡ cond (nat_eq k q) (Some v) (get nat_eq m q)
-put_changes m n k v (Ok old) ok h = h.0
-put_changes m n k v (Err e) ok h = absurd (false≢true ok)
+put_changes m n k v x4 ok h = grind (arith, common_steps, false≢true)
 
 -- what a sink keeps of the sets so far, with the next one more
 pub kept_grown : {X : Type 0} (kept_as : RawSet → X) (old now new : List X) (x : X) (pool a n m j : ℕ) → new ≡ now ++ x ∷ [] → now ≡ old ++ map kept_as (raw_sets pool a n) → a + n ≡ j → x ≡ kept_as (raw_set pool j) → m ≡ n + 1 → new ≡ old ++ map kept_as (raw_sets pool a m)

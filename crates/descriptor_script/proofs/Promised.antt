@@ -1,6 +1,7 @@
 -- The parts of the headline hold at each step of a run: for `headline`. They follow from what the reply says of the step (`StepsTo`),
 -- and from what every command keeps (`KeepsSession`), as `IsStep` has both.
-use Rattle.std.proofs.Common.{ℕ, List, [], ◌∷◌, refl, sym, ap, subst, ◌∙◌, arith, inl, inr, true}
+use Rattle.std.proofs.lemmas.Grind.{common_steps}
+use Rattle.std.proofs.Common.{ℕ, List, [], ◌∷◌, refl, sym, ap, ◌∙◌, arith, inl, inr, true}
 use Rattle.std.specs.Prelude.{◌<◌, slice_get, Option, Some}
 use Rattle.std.specs.Option.{option_map_or}
 use Rattle.std.proofs.lemmas.Bool.{cases_Bool, cases_lt}
@@ -107,19 +108,7 @@ module _ {L P S : Type 0} (means : Meaning L P S) where
   -- a run keeps all parts at each of its steps
   pub all_kept : (commands : List Command) (replies : List Reply) (old new : Side (SessionValue L P S)) → IsReady means old → Runs (IsStep means) commands replies old new → Runs (λ command reply s t. KeepsAll means command reply s t × IsStep means command reply s t) commands replies old new
   all_kept [] [] old new ready run = run
-  all_kept (c ∷ cs) (r ∷ rs) old new ready run =
-      let keeps = run.1.1 in
-      let all : KeepsAll means c r old run.0 = record {
-        exactly = keeps.ready.held;
-        nothing_else = nothing_else run.0 keeps.ready;
-        handed_out = replied old run.0 ready c r run.1.0;
-        sets_within = subst (λ n. n ≤ run.0.value.allocator.limit) (sym (held_load run.0 keeps.ready)) keeps.allocator.load;
-        pools_within = keeps.allocator.pool_load;
-        limit = keeps.allocator.limit;
-        layouts = keeps.layouts;
-        others = keeps.allocator.others;
-      } in
-      (run.0, (all, run.1), all_kept cs rs run.0 new keeps.ready run.2)
+  all_kept (c ∷ cs) (r ∷ rs) old new ready run = grind (arith, common_steps, held_load, nothing_else, replied, all_kept cs rs run.0 new run.1.1.ready run.2)
   all_kept _ _ old new ready run = absurd run
 
   -- the promise alone

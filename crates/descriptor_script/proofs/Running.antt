@@ -1,5 +1,6 @@
 -- A run grows by one command: for the loop of `Session::run`.
-use Rattle.std.proofs.Common.{List, [], ◌∷◌, ◌++◌, refl, subst, ◌∙◌}
+use Rattle.std.proofs.lemmas.Grind.{common_steps}
+use Rattle.std.proofs.Common.{List, [], ◌∷◌, ◌++◌, refl, subst, arith}
 use Rattle.gpu_descriptor_types.specs.Meaning.{Meaning}
 use Rattle.gpu_descriptor_types.specs.Side.{Side}
 use Rattle.gpu_descriptor.proofs.callers.Unchanged.{keeps_through}
@@ -20,10 +21,4 @@ module _ {L P S : Type 0} (means : Meaning L P S) where
 
   -- what two stretches keep, one after the other
   pub session_through : {s t u : Side (SessionValue L P S)} → KeepsSession means s t → KeepsSession means t u → KeepsSession means s u
-  session_through p q = record {
-    ready = q.ready;
-    allocator = keeps_through p.allocator q.allocator;
-    layouts = q.layouts ∙ p.layouts;
-    count = q.count;
-    no_gaps = λ h. q.no_gaps (p.no_gaps h);
-  }
+  session_through p q = grind (arith, common_steps, keeps_through)

@@ -1,6 +1,7 @@
 -- A pool that is written in the table of the live pools: for `Pools::grant`, `release` and `count_refusal`.
 -- `m` is the table before, `n` after; `next` is the name that came next before, `later` that which comes next after.
-use Rattle.std.proofs.Common.{◌≡◌, ℕ, ◌+◌, ◌≤◌, Bool, true, false, cond, nat_eq, eqb-true, Option, Some, None, is_some, inl, inr, List, [], ◌∷◌, ◌++◌, map, refl, sym, ap, ◌∙◌, arith, subst}
+use Rattle.std.proofs.lemmas.Grind.{common_steps}
+use Rattle.std.proofs.Common.{◌≡◌, ℕ, ◌+◌, ◌≤◌, true, false, cond, nat_eq, eqb-true, Option, Some, None, is_some, List, [], ◌∷◌, ◌++◌, map, refl, sym, ap, ◌∙◌, arith, subst}
 use Rattle.std.proofs.Math.Path.{fun_ext}
 use Rattle.std.specs.List.{range_with_len}
 use Rattle.std.specs.Option.{option_map}
@@ -10,7 +11,7 @@ use Rattle.std.proofs.lemmas.Option.{none-some}
 use Rattle.indexmap.specs.IndexMap.{IndexMap, get, WritesThrough}
 use Rattle.gpu_descriptor_types.specs.Counts.{kinds}
 use Rattle.gpu_descriptor_types.specs.Ledger.{Pool, on_pool, live_sets}
-use Rattle.gpu_descriptor_types.specs.Multiset.{times, set_eq}
+use Rattle.gpu_descriptor_types.specs.Multiset.{times}
 use Rattle.gpu_descriptor_types.specs.declared.counts.DescriptorTotalCount.{DescriptorTotalCount}
 use Rattle.gpu_descriptor_types.proofs.Counting.{count_by-append}
 use Rattle.descriptor_script.specs.Inner.Live.{live_set_of, live_sets_of}
@@ -28,8 +29,7 @@ pub written : {S : Type 0} (m n : IndexMap ℕ LivePool S) (name : ℕ) (old new
 written m n name old new was through = record { was = sym was; now = (through.3 (ap is_some (sym was))).0 }
 
 none_from : {X : Type 0} (o : Option X) → is_some o ≡ false → o ≡ None
-none_from None h = refl
-none_from (Some x) h = absurd (cc)
+none_from x0 h = grind (arith, common_steps)
 
 module _ {S : Type 0} {m n : IndexMap ℕ LivePool S} {name : ℕ} {old new : LivePool} (h : IsWritten m n name old new) where
   -- the old pool is found under each name that is its own
@@ -38,16 +38,10 @@ module _ {S : Type 0} {m n : IndexMap ℕ LivePool S} {name : ℕ} {old new : Li
 
   -- names that are still to come are those of no pool, and further below of no set, after as before
   pub pools_below : (next : ℕ) → PoolsAreBelow m next → PoolsAreBelow n next
-  pools_below next below q above = elim (cases_Bool (nat_eq name q)) [
-    | inl same ↦ absurd (true≢false (sym (ap is_some (was_at q same)) ∙ below q above))
-    | inr other ↦ ap is_some (h.now q ∙ ap (λ b. cond b (Some new) (get nat_eq m q)) other) ∙ below q above
-  ]
+  pools_below next below q above = grind (arith, common_steps, cases_Bool, cond, true≢false, was_at)
 
   pub sets_below : (next later : ℕ) → next ≤ later → SetsAreBelow m next → ((j : ℕ) → later ≤ j → get nat_eq new.sets j ≡ None) → SetsAreBelow n later
-  sets_below next later le below fresh q j above = elim (cases_Bool (nat_eq name q)) [
-    | inl same ↦ ap (has_set j) (h.now q ∙ ap (λ b. cond b (Some new) (get nat_eq m q)) same) ∙ ap is_some (fresh j above)
-    | inr other ↦ ap (has_set j) (h.now q ∙ ap (λ b. cond b (Some new) (get nat_eq m q)) other) ∙ below q j (omega arith)
-  ]
+  sets_below next later le below fresh q j above = grind (arith, common_steps, cases_Bool, cond)
 
   pub free_names : (next : ℕ) → SetsAreBelow m next → (j : ℕ) → next ≤ j → get nat_eq old.sets j ≡ None
   free_names next below j above = none_from (get nat_eq old.sets j) (sym (ap (has_set j) h.was) ∙ below name j above)
@@ -61,11 +55,7 @@ module _ {S : Type 0} {m n : IndexMap ℕ LivePool S} {name : ℕ} {old new : Li
 
   -- the ledger's pool is changed so, and the others stay
   pub on_written : (f : Pool → Pool) → seen new ≡ f (seen old) → pools_in n ≡ on_pool name f (pools_in m)
-  on_written f is = fun_ext (λ q. ap (option_map seen) (h.now q) ∙ chosen (nat_eq name q) (get nat_eq m q) ∙ ap (λ o. cond (nat_eq name q) o (pools_in m q)) (ap (λ p. Some p) is ∙ sym (ap (option_map f) seen_was)))
-    where
-      chosen : (b : Bool) (o : Option LivePool) → option_map seen (cond b (Some new) o) ≡ cond b (Some (seen new)) (option_map seen o)
-      chosen true o = refl
-      chosen false o = refl
+  on_written f is = grind (arith, common_steps, cond, fun_ext, seen_was)
 
 -- the sets that were put under names are those of their entries
 entries_sets : (c : DescriptorTotalCount) (pool : ℕ) (names : List ℕ) → live_sets_of (map (λ n. (n, c)) names) ≡ live_sets (kinds c) (map set_id (map (raw_set pool) names))
@@ -75,9 +65,7 @@ entries_sets c pool (n ∷ names) = ap (λ l. live_set_of (n, c) ∷ l) (entries
 -- the sets that were put are live besides those that were
 pub more_live : (old new : List (ℕ × DescriptorTotalCount)) (c : DescriptorTotalCount) (pool first many : ℕ) → new ≡ old ++ map (λ n. (n, c)) (range_with_len first many)
     → times (live_sets_of new) ≡ (λ x. times (live_sets_of old) x + times (live_sets (kinds c) (map set_id (raw_sets pool first many))) x)
-more_live old new c pool first many is = fun_ext (λ x.
-    let names : List ℕ = range_with_len first many in
-    ap (λ l. times (live_sets_of l) x) is ∙ ap (λ l. times l x) (map-append live_set_of old (map (λ n. (n, c)) names)) ∙ count_by-append (λ y. set_eq y x) (live_sets_of old) (live_sets_of (map (λ n. (n, c)) names)) ∙ ap (λ l. times (live_sets_of old) x + times l x) (entries_sets c pool names))
+more_live old new c pool first many is = grind (arith, common_steps, count_by-append, entries_sets, fun_ext, map-append)
 
 -- the ledger shows the pool that the table has
 pub same_pool : {S : Type 0} (m : IndexMap ℕ LivePool S) (name : ℕ) (old : LivePool) (pool : Pool) → Some old ≡ get nat_eq m name → pools_in m name ≡ Some pool → pool ≡ seen old

@@ -1,3 +1,4 @@
+use Rattle.std.proofs.lemmas.Grind.{common_steps}
 use Rattle.std.proofs.Common.{rules, ◌≡◌, ℕ, ◌<◌, ◌==◌, nat_eq, List, [], ◌∷◌, ◌++◌, length, map, count_by, sym, ap, ◌∙◌, arith}
 use Rattle.std.proofs.iter.Next.{Yields-more}
 use Rattle.std.proofs.lemmas.List.{length-map, map_push}
@@ -26,11 +27,7 @@ loop-set-preserved g c =
       gone = i.gone ++ live_set_of (n, had.0) ∷ [];
       steps = more;
       named = map_push (λ (s : LiveSet). s.name) i.gone (live_set_of (n, had.0)) ∙ ap (λ l. l ++ n ∷ []) i.named ∙ sym (map_push set_id c.loop-set.yielded c.in-Some.set);
-      parts = λ p.
-          let h1 = i.parts p in
-          let h2 = count_by-append p i.gone (live_set_of (n, had.0) ∷ []) in
-          let h3 = out p in
-          omega arith;
+      parts = grind (arith, common_steps, count_by-append);
       fresh = λ m h. c.swap_remove.ensures.updates.0 m ∙ none_either (nat_eq n m) (get nat_eq c.loop-set.live m) (i.fresh m h);
     }
 

@@ -1,4 +1,4 @@
-use Rattle.std.proofs.Common.{◌≡◌, ◌≢◌, ◌<◌, ℕ, zero, suc, [], ◌∷◌, length, slice_index_or, inl, inr, refl, sym, ap, ◌∙◌, subst, arith}
+use Rattle.std.proofs.Common.{◌≡◌, ◌≢◌, ◌<◌, ℕ, suc, [], ◌∷◌, length, slice_index_or, inl, inr, refl, sym, ap, ◌∙◌, subst, arith, rules}
 use Rattle.descriptor_table.specs.Tables.{Settings, Grows, lists_with}
 use Rattle.descriptor_table.specs.declared.handle.SetHandle.{SetHandle}
 use Rattle.descriptor_manager.specs.LayoutRegistries.{layout_slots}
@@ -21,13 +21,7 @@ pub invariant_of-self-clause-sets : goal.invariant_of-self-clause-sets
 invariant_of-self-clause-sets g c = reserved g (goal.at.invariant_of-self-clause-sets g c).After-reserve_layout
 
 pub invariant_of-self-in-Err-1 : goal.invariant_of-self-in-Err-1
-invariant_of-self-in-Err-1 g c =
-    let old = c.args.self.now in
-    record {
-      sets = subst (λ l. HasSetsOf l old.manager c.reserve_layout.new.self) (sym c.in-Err.ensures.none) (reserved g (goal.at.invariant_of-self-in-Err-1 g c).After-reserve_layout);
-      begun = old.begun;
-      numbers_layouts = c.in-Err.ensures.registry ∙ old.numbers_layouts;
-    }
+invariant_of-self-in-Err-1 g c = search (rules, reserved)
 
 pub invariant_of-self-then-places-clause-sets : goal.invariant_of-self-then-places-clause-sets
 invariant_of-self-then-places-clause-sets g c =
@@ -73,8 +67,7 @@ returns-after-places-clause-never g c = c.in-Ok.ensures.names.never 0 c.in-Ok.ha
 
 -- another handle isn't the one of the list
 apart_from : (slot other : SetHandle) → other ≢ slot → (i : ℕ) (d : SetHandle) → i < length (slot ∷ []) → slice_index_or (slot ∷ []) i d ≢ other
-apart_from slot other ne zero d lt = λ e. ne (sym e)
-apart_from slot other ne (suc i) d lt = absurd (omega arith)
+apart_from slot other ne x3 d lt = search rules
 
 pub returns-after-places-clause-others : goal.returns-after-places-clause-others
 returns-after-places-clause-others g c = λ other ne.

@@ -1,5 +1,5 @@
 use Rattle.std.proofs.lemmas.Grind.{common_steps}
-use Rattle.std.proofs.Common.{length, refl, inl, sym, arith, rules}
+use Rattle.std.proofs.Common.{length, refl, inl, sym, arith}
 use Rattle.descriptor_table.specs.declared.slot.Use.TheVariants.{Held}
 use Rattle.descriptor_table.proofs.Counts.{count_few}
 use Rattle.descriptor_manager.proofs.Owned.{if_some, refused_names}
@@ -22,9 +22,7 @@ returns-in-Ok-clause-creates g c =
     })
 
 pub returns-in-Err-clause-sets : goal.returns-in-Err-clause-sets
-returns-in-Err-clause-sets g c =
-    let r = c.args.self.now in
-    record { stay = refused_names c.in-Some.known.now.layout _ (length c.args.sets.now) c.in-Err.error r.store c.allocate_each.new.self c.in-Err.ensures.requests.refused r.manager r.frame r.is_open; grows = c.allocate_each.ensures.requests.grows; rest = search rules }
+returns-in-Err-clause-sets g c = grind (arith, common_steps, refused_names c.in-Some.known.now.layout _ (length c.args.sets.now) c.in-Err.error c.args.self.now.store c.allocate_each.new.self c.in-Err.ensures.requests.refused c.args.self.now.manager c.args.self.now.frame c.args.self.now.is_open)
 
 pub returns-then-sets-clause-fits : goal.returns-then-sets-clause-fits
 returns-then-sets-clause-fits g c = grind (arith, common_steps, count_few)

@@ -1,5 +1,5 @@
 use Rattle.std.proofs.lemmas.Grind.{common_steps}
-use Rattle.std.proofs.Common.{arith}
+use Rattle.std.proofs.Common.{arith, rules}
 use Rattle.descriptor_manager.specs.LayoutRegistries.{layout_slots}
 use Rattle.descriptor_manager.specs.Stores.{NoneComes, slots_in}
 use Rattle.descriptor_manager.proofs.Owned.{sets_settle}
@@ -20,6 +20,4 @@ pub returns-clause-none_kept : goal.returns-clause-none_kept
 returns-clause-none_kept g c = none_left (slots_in c.args.self.now.store) (slots_in c.cleanup.new.self) c.cleanup.ensures.cleaned
 
 pub returns-clause-names : goal.returns-clause-names
-returns-clause-names g c =
-    let old = c.args.self.now in
-    cleaned_names old.frame old.is_open old.manager (slots_in old.store) (slots_in c.cleanup.new.self) c.cleanup.ensures.cleaned
+returns-clause-names g c = search (rules, cleaned_names)

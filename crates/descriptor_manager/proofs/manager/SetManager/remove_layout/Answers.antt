@@ -1,5 +1,5 @@
 use Rattle.std.proofs.lemmas.Grind.{common_steps}
-use Rattle.std.proofs.Common.{[], ◌≡◌, ◌≢◌, ℕ, ◌<◌, Some, is_some, length, refl, sym, ap, subst, ◌∙◌, arith}
+use Rattle.std.proofs.Common.{[], ◌≡◌, ◌≢◌, ℕ, ◌<◌, Some, is_some, length, refl, sym, ap, subst, ◌∙◌, arith, rules}
 use Rattle.std.proofs.lemmas.List.{length-set}
 use Rattle.std.proofs.lemmas.List.Elements.{All-cons, All-nil}
 use Rattle.descriptor_table.specs.Slots.{slot_at}
@@ -56,9 +56,7 @@ pub returns-in-Some-clause-none_kept : goal.returns-in-Some-clause-none_kept
 returns-in-Some-clause-none_kept g c = grind (arith, common_steps, removed_none)
 
 pub returns-in-Some-clause-names : goal.returns-in-Some-clause-names
-returns-in-Some-clause-names g c =
-    let old = c.args.self.now in
-    removed_names c.place.result (slots_in old.store) (slots_in c.remove_layout.new.self) c.remove_layout.ensures.removes.turns old.manager old.frame old.is_open
+returns-in-Some-clause-names g c = search (rules, removed_names)
 
 -- the handle lost its layout, and no other handle did
 pub returns-in-Some-clause-others : goal.returns-in-Some-clause-others

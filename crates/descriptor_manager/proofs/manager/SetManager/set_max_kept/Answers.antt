@@ -1,5 +1,6 @@
+use Rattle.std.proofs.Common.{rules}
 use Rattle.descriptor_manager.specs.LayoutRegistries.{layout_slots}
-use Rattle.descriptor_manager.specs.Stores.{NoneComes, slots_in}
+use Rattle.descriptor_manager.specs.Stores.{NoneComes}
 use Rattle.descriptor_manager.proofs.Owned.{sets_settle}
 use Rattle.descriptor_manager.proofs.Showing.{trim_names}
 use Rattle.descriptor_manager.proofs.manager.SetManager.set_max_kept.Goals as goal
@@ -10,6 +11,4 @@ invariant_of-self-clause-sets g c =
     (λ n x none. absurd none) c.args.self.now.sets
 
 pub returns-clause-names : goal.returns-clause-names
-returns-clause-names g c =
-    let old = c.args.self.now in
-    trim_names old.frame old.is_open old.manager (slots_in old.store) (slots_in c.set_max_kept.new.self) c.set_max_kept.ensures.trims.turns
+returns-clause-names g c = search (rules, trim_names)

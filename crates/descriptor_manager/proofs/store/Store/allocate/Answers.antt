@@ -1,4 +1,4 @@
-use Rattle.std.proofs.Common.{◌≡◌, ◌<◌, ℕ, zero, suc, [], ◌∷◌, length, true, arith}
+use Rattle.std.proofs.Common.{◌≡◌, ◌<◌, ℕ, [], ◌∷◌, length, true, arith, rules}
 use Rattle.descriptor_table.specs.Slots.{is_kept_of, slot_at}
 use Rattle.descriptor_table.specs.Tables.{place_at}
 use Rattle.descriptor_manager.specs.Stores.{slots_in}
@@ -8,8 +8,7 @@ use Rattle.descriptor_manager.proofs.store.Store.allocate.Goals as goal
 use Rattle.descriptor_manager.proofs.store.Store.allocate.Goals.{After-hold_next}
 
 was_kept : (g : Over) (c : After-hold_next g) (i : ℕ) → i < length (c.hold_next.result ∷ []) → is_kept_of c.args.layout (slot_at (slots_in c.args.self.now) (place_at (c.hold_next.result ∷ []) i)) ≡ true
-was_kept g c zero lt = c.hold_next.ensures.was_kept
-was_kept g c (suc i) lt = absurd (omega arith)
+was_kept g c x2 lt = search rules
 
 pub returns : goal.returns
 returns g c =

@@ -1,4 +1,4 @@
-use Rattle.std.proofs.Common.{◌≡◌}
+use Rattle.std.proofs.Common.{◌≡◌, rules}
 use Rattle.descriptor_table.specs.Sets.{sets_in}
 use Rattle.descriptor_table.specs.Slots.{is_due}
 use Rattle.descriptor_table.specs.Tables.{generations_of, slots_of, vacated, IsBack, Turns}
@@ -12,8 +12,7 @@ use Rattle.descriptor_manager.proofs.store.Store.finish.Goals as goal
 
 -- the sets are as they were
 same_sets : (g : _) (c : After-settle_due g) → sets_in (slots_of c.settle_due.new.self) ≡ sets_in (slots_of c.args.self.now.table)
-same_sets g c =
-    settled_sets (is_due c.args.frame) (generations_of c.args.self.now.table) c.args.self.now.table.keep (slots_of c.args.self.now.table) (slots_of c.settle_due.new.self) c.settle_due.ensures.slots
+same_sets g c = search (rules, settled_sets)
 
 pub invariant_of-self-clause-exact : goal.invariant_of-self-clause-exact
 invariant_of-self-clause-exact g c = exact_as c.args.self.now (same_sets g (goal.at.invariant_of-self-clause-exact g c).After-settle_due)
@@ -23,9 +22,7 @@ invariant_of-self-clause-accounted g c = accounted_as c.args.self.now (same_sets
 
 -- those that were due were freed
 turns : (g : Over) (c : After-give-2 g) → Turns (is_due c.args.frame) (IsBack vacated (generations_of c.args.self.now.table) c.args.self.now.table.keep) (slots_of c.args.self.now.table) (slots_of c.give-2.new.self.table)
-turns g c =
-    let old = slots_of c.args.self.now.table in
-    came_back (is_due c.args.frame) (generations_of c.args.self.now.table) c.args.self.now.table.keep old (slots_of c.settle_due.new.self) (slots_of c.give-2.new.self.table) (due_full c.args.frame) (none_goes old c.requires.rest.placed) c.settle_due.ensures.slots c.give-2.ensures.frees.turns
+turns g c = search (rules, came_back, due_full, none_goes)
 
 pub returns-clause-back : goal.returns-clause-back
 returns-clause-back g c = record { turns = turns g c; back = c.give-2.ensures.frees.back }

@@ -9,10 +9,7 @@ use Rattle.descriptor_manager.proofs.Returned.{all_count, all_many, given_count}
 use Rattle.descriptor_manager.proofs.store.Store.give_each.Goals as goal
 
 pub free_from-requires-clause-outstanding : goal.free_from-requires-clause-outstanding
-free_from-requires-clause-outstanding g c xs t y i =
-    let all = given_count g.D.DescriptorDevice.meaning.set_name xs _ t y i in
-    let was = c.args.self.now.exact i in
-    omega arith
+free_from-requires-clause-outstanding g c xs t y i = omega (arith, given_count g.D.DescriptorDevice.meaning.set_name xs _ t y i, c.args.self.now.exact i)
 
 pub shape_of-self : goal.shape_of-self
 shape_of-self g c = let f = c.free_from.ensures.frees in sym (given_all f.sets _ _ f.drained).1

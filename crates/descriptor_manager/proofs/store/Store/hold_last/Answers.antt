@@ -37,21 +37,13 @@ invariant_of-self-clause-exact g c = λ t.
     omega arith
 
 pub invariant_of-self-clause-accounted : goal.invariant_of-self-clause-accounted
-invariant_of-self-clause-accounted g c =
-    let same = ap length (same_sets g c) in
-    let more = put_many (generations_in c.args.self.now) c.args.layout c.put-place.result c.in-Some.set (slots_in c.args.self.now) (slots_of c.put-place.new.self) c.put-place.ensures.puts in
-    let coming = fewer g c in
-    let was = c.args.self.now.accounted in
-    omega arith
+invariant_of-self-clause-accounted g c = omega (arith, ap length (same_sets g c), put_many (generations_in c.args.self.now) c.args.layout c.put-place.result c.in-Some.set (slots_in c.args.self.now) (slots_of c.put-place.new.self) c.put-place.ensures.puts, fewer g c, c.args.self.now.accounted)
 
 pub returns-clause-holds : goal.returns-clause-holds
 returns-clause-holds g c = (let old = c.args.self.now in new_one old.table.number c.put-place.result c.args.used c.hold.result (generations_in old) c.args.layout c.in-Some.set (slots_in old) (slots_of c.put-place.new.self) (slots_of c.hold.new.self) c.put-place.ensures.puts (renews g (goal.at.returns-clause-holds g c).After-hold))
 
 pub returns-clause-own : goal.returns-clause-own
-returns-clause-own g c = λ known own k d lt.
-    let more = fewer g (goal.at.returns-clause-own g c).After-hold in
-    let same = ap (λ l. slice_index_or l k d) c.in-Some.ensures.items ∙ get_or_append_left c.pop.new.self.items (c.in-Some.set ∷ []) d k lt in
-    subst (λ x. IsOfLayout g.D.DescriptorDevice.meaning known x.raw) same (own k d (omega arith))
+returns-clause-own g c = search (rules, fewer, get_or_append_left)
 
 pub returns-clause-table : goal.returns-clause-table
 returns-clause-table g c =

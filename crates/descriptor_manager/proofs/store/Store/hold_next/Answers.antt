@@ -1,12 +1,12 @@
 use Rattle.std.proofs.lemmas.Grind.{common_steps}
-use Rattle.std.proofs.Common.{◌≡◌, ◌<◌, inl, length, refl, sym, ap, ◌∙◌, rules, arith}
+use Rattle.std.proofs.Common.{◌≡◌, ◌<◌, length, refl, ap, ◌∙◌, rules, arith}
 use Rattle.std.proofs.lemmas.List.{length-set}
 use Rattle.descriptor_table.specs.Sets.{sets_in}
 use Rattle.descriptor_table.specs.Slots.{is_kept_of, slot_at}
 use Rattle.descriptor_table.specs.Tables.{came_under, renewed, slots_of}
 use Rattle.descriptor_table.specs.declared.handle.SetHandle.{SetHandle}
 use Rattle.descriptor_table.proofs.Listed.{test_within}
-use Rattle.descriptor_table.proofs.Renewing.{renews_stay, room_stays}
+use Rattle.descriptor_table.proofs.Renewing.{room_stays}
 use Rattle.descriptor_manager.specs.Stores.{current_in, slots_in}
 use Rattle.descriptor_manager.proofs.Given.{accounted_as, exact_as, renewed_sets}
 use Rattle.descriptor_manager.proofs.Handing.{kept_fewer, kept_one, usable_stays}
@@ -38,34 +38,13 @@ pub invariant_of-self-clause-accounted : goal.invariant_of-self-clause-accounted
 invariant_of-self-clause-accounted g c = accounted_as c.args.self.now (same_sets g (goal.at.invariant_of-self-clause-accounted g c).After-hold_kept)
 
 pub returns-clause-holds : goal.returns-clause-holds
-returns-clause-holds g c =
-    let s = c.args.self.now in
-    let i = (goal.at.returns-clause-holds g c).After-hold_kept in
-    let h = handle g i in
-    kept_one s.table.number h.place c.args.used h (current_in c.args.layout s) (slots_in s) (slots_of c.hold_kept.new.self) c.hold_kept.ensures.kept (under g i) (within g i) c.hold_kept.ensures.renews
+returns-clause-holds g c = search (rules, kept_one, under, within)
 
 pub returns-clause-fewer : goal.returns-clause-fewer
-returns-clause-fewer g c =
-    let s = c.args.self.now in
-    let i = (goal.at.returns-clause-fewer g c).After-hold_kept in
-    let h = handle g i in
-    kept_fewer s.table.number h.place c.args.used h c.args.layout (slots_in s) (slots_of c.hold_kept.new.self) c.hold_kept.ensures.kept (within g i) c.requires.live c.hold_kept.ensures.renews
+returns-clause-fewer g c = search (rules, kept_fewer, within)
 
 pub returns-clause-table : goal.returns-clause-table
-returns-clause-table g c = λ n room.
-    let s = c.args.self.now in
-    let i = (goal.at.returns-clause-table g c).After-hold_kept in
-    let h = handle g i in
-    room_stays n s.table c.hold_kept.new.self c.hold_kept.ensures.stays (long g i) (usable_stays s.table.number h.place c.args.used h c.args.layout (slots_in s) (slots_of c.hold_kept.new.self) c.hold_kept.ensures.kept (within g i) c.requires.live c.hold_kept.ensures.renews) room
+returns-clause-table g c = search (rules, long, room_stays, usable_stays, within)
 
 pub returns-clause-keeps : goal.returns-clause-keeps
-returns-clause-keeps g c =
-    let i = (goal.at.returns-clause-keeps g c).After-hold_kept in
-    let s = c.args.self.now in
-    let h = handle g i in
-    record {
-      side = refl;
-      sets = λ p x e. (let stay = renews_stay s.table.number h.place c.args.used h (slots_in s) (slots_of c.hold_kept.new.self) (within g i) c.hold_kept.ensures.renews p in inl (sym stay.0 ∙ e, stay.1));
-      grows = inl (long g i);
-      stays = search rules;
-    }
+returns-clause-keeps g c = grind (arith, common_steps, within g (goal.at.returns-clause-keeps g c).After-hold_kept, long g (goal.at.returns-clause-keeps g c).After-hold_kept)

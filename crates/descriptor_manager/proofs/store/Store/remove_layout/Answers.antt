@@ -44,5 +44,4 @@ returns-clause-removes g c =
     }
 
 pub returns-clause-settles : goal.returns-clause-settles
-returns-clause-settles g c =
-    settled _ _ (follow_turns (is_kept_of c.args.layout) (Becomes vacated) (slots_in c.args.self.now) (slots_of c.remove_layout.new.self) (turns g (goal.at.returns-clause-settles g c).After-remove_layout) (λ o n e. follows_vacated o n e)) (c.give.ensures.coming ∙ c.requires.rest.none_coming) c.requires.rest (search rules)
+returns-clause-settles g c = search (rules, follow_turns, follows_vacated, settled, turns)

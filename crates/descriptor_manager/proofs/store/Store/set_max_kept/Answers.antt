@@ -1,5 +1,5 @@
 use Rattle.std.proofs.lemmas.Grind.{common_steps}
-use Rattle.std.proofs.Common.{◌≡◌, ◌+◌, ◌-◌, ◌∙◌, ap, subst, arith, rules}
+use Rattle.std.proofs.Common.{◌≡◌, ◌+◌, ◌-◌, ap, subst, arith, rules}
 use Rattle.descriptor_table.specs.Sets.{sets_in}
 use Rattle.descriptor_table.specs.Slots.{goes, is_in, chains_in, nexts_in, slots_in}
 use Rattle.descriptor_table.specs.Tables.{Turns, Becomes, count, is_kept, slots_of, vacated, MayBecome}
@@ -24,8 +24,7 @@ set_max_kept-requires g c = λ k two.
 
 -- the sets are as they were
 same_sets : (g : _) (c : After-set_max_kept g) → sets_in (slots_of c.set_max_kept.new.self) ≡ sets_in (slots_of c.args.self.now.table)
-same_sets g c =
-    ap (λ v. sets_in (slots_in v)) c.set_max_kept.ensures.slots ∙ gone_sets is_kept (slots_of c.args.self.now.table) (slots_of c.trim.new.self) c.trim.ensures.turns.slots
+same_sets g c = grind (arith, common_steps, gone_sets is_kept (slots_of c.args.self.now.table) (slots_of c.trim.new.self) c.trim.ensures.turns.slots)
 
 pub invariant_of-self-clause-exact : goal.invariant_of-self-clause-exact
 invariant_of-self-clause-exact g c = exact_as c.args.self.now (same_sets g (goal.at.invariant_of-self-clause-exact g c).After-set_max_kept)
@@ -38,9 +37,7 @@ gives : (g : Over) (c : After-give g) → Turns goes (Becomes vacated) (slots_of
 gives g c = subst (λ v. Turns goes (Becomes vacated) (slots_in v) (slots_of c.give.new.self.table)) c.set_max_kept.ensures.slots c.give.ensures.frees.turns
 
 all : (g : Over) (c : After-give g) → Turns is_kept (MayBecome vacated) (slots_of c.args.self.now.table) (slots_of c.give.new.self.table)
-all g c =
-    let old = slots_of c.args.self.now.table in
-    left old (slots_of c.trim.new.self) (slots_of c.give.new.self.table) (none_goes old c.requires.rest.placed) c.trim.ensures.turns.slots (gives g c)
+all g c = search (rules, gives, left, none_goes)
 
 pub returns-clause-few : goal.returns-clause-few
 returns-clause-few g c = λ layout.
@@ -52,7 +49,4 @@ pub returns-clause-as_many : goal.returns-clause-as_many
 returns-clause-as_many g c = grind (arith, common_steps, given_kept, gives)
 
 pub returns-clause-settles : goal.returns-clause-settles
-returns-clause-settles g c =
-    let old = slots_of c.args.self.now.table in
-    let new = slots_of c.give.new.self.table in
-    settled c.args.self.now c.give.new.self (follow_turns is_kept (MayBecome vacated) old new (all g c) (follows_left new)) (c.give.ensures.coming ∙ c.requires.rest.none_coming) c.requires.rest (search rules)
+returns-clause-settles g c = search (rules, all, follow_turns, follows_left, settled)

@@ -1,3 +1,4 @@
+use Rattle.std.proofs.lemmas.Grind.{common_steps}
 use Rattle.std.proofs.Common.{◌≡◌, ℕ, ◌+◌, nat_eq, List, ◌++◌, map, ap, ◌∙◌, arith}
 use Rattle.std.specs.List.{range_with_len}
 use Rattle.std.specs.Map.{lookup}
@@ -29,15 +30,7 @@ fill-requires-clause-fresh g c n above =
     ap (lookup (nat_eq n)) c.reserve.ensures.entries ∙ free_names h c.args.self.now.next_set c.args.self.now.sets_named n above
 
 pub invariant_of-self-2 : goal.invariant_of-self-2
-invariant_of-self-2 g c =
-    let old : LivePool = c.in-Some.live.now in
-    let new : LivePool = record old { sets = c.fill.new.live } in
-    let h = written c.args.self.now.live (c.get_mut.follows.lender new) c.args.pool old new c.in-Some.ensures.value (c.get_mut.follows.holds new) in
-    let many : c.from-2.result ≡ left c.args.layouts = c.from-2.ensures ∙ c.len-count.ensures in
-    record {
-      pools_named = pools_below h c.args.self.now.next_pool c.args.self.now.pools_named;
-      sets_named = sets_below h c.args.self.now.next_set (c.args.self.now.next_set + c.from-2.result) (omega arith) c.args.self.now.sets_named (λ j above. c.fill.ensures.fresh j (omega arith));
-    }
+invariant_of-self-2 g c = grind (arith, common_steps, pools_below, sets_below, written)
 
 pub returns-clause-pools : goal.returns-clause-pools
 returns-clause-pools g c =

@@ -1,18 +1,16 @@
-use Rattle.std.proofs.Common.{◌≡◌, ◌++◌, map, Some, length, slice_get, refl, rules, sym, ap, ◌∙◌, arith}
+use Rattle.std.proofs.lemmas.Grind.{common_steps}
+use Rattle.std.proofs.Common.{◌≡◌, ◌++◌, map, Some, length, slice_get, rules, sym, ap, ◌∙◌, arith}
 use Rattle.std.proofs.lemmas.Option.{slice_get_read}
 use Rattle.gpu_descriptor.specs.Caller.States.{state_of}
 use Rattle.gpu_descriptor.proofs.NoGaps.{none_requested}
 use Rattle.descriptor_script.specs.Inner.Slots.{HasSpareSlots}
-use Rattle.descriptor_script.specs.Sessions.Tickets.{held_sets}
 use Rattle.descriptor_script.proofs.Held.{all_held_more, held_sum, is_ok_then}
 use Rattle.descriptor_script.proofs.Promised.{cause_from_held}
 use Rattle.descriptor_script.proofs.session.Session.allocate.Goals.{In-Some}
 use Rattle.descriptor_script.proofs.session.Session.allocate.Goals as goal
 
 at : (g : _) (c : In-Some g) → slice_get c.args.self.now.layouts.items c.args.layout ≡ Some c.in-Some.layout.now
-at g c =
-    let found = c.in-Some.ensures.lookup in
-    ap (λ l. slice_get l c.args.layout) (sym c.deref.ensures.value) ∙ slice_get_read c.deref.result.now (length c.deref.result.now) c.args.layout c.in-Some.layout.now refl found.3.0 found.1
+at g c = grind (arith, common_steps, slice_get_read)
 
 pub append-requires : goal.append-requires
 append-requires g c =
@@ -78,11 +76,4 @@ returns-in-Err-clause-keeps g c = record {
 }
 
 pub invariant_of-self-in-Ok : goal.invariant_of-self-in-Ok
-invariant_of-self-in-Ok g c =
-    let slots = c.args.self.now.slots in
-    let more = c.append.new.self.counted ∙ ap (λ l. length (held_sets l)) (c.append.ensures ∙ ap (λ l. l ++ map Some c.in-Ok.sets.items) c.reserve.ensures.sets) ∙ held_sum slots.sets.items c.in-Ok.sets.items in
-    let many = c.in-Ok.ensures.hands_out.many in
-    let total = c.in-Ok.ensures.hands_out.totals.0 in
-    let was = slots.counted in
-    let counted = c.args.self.now.counted in
-    record { counted = omega arith; within = c.in-Ok.ensures.keeps.load; in_room = c.in-Ok.ensures.keeps.pool_load }
+invariant_of-self-in-Ok g c = grind (arith, common_steps, held_sum)

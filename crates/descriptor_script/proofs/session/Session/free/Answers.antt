@@ -1,11 +1,12 @@
-use Rattle.std.proofs.Common.{◌≡◌, length, map, ap, subst, sym, ◌∙◌, arith, rules}
+use Rattle.std.proofs.lemmas.Grind.{common_steps}
+use Rattle.std.proofs.Common.{◌≡◌, map, ap, subst, sym, ◌∙◌, arith, rules}
 use Rattle.gpu_descriptor.proofs.NoGaps.{none_freed}
 use Rattle.gpu_descriptor.specs.Caller.Sets.{items_of}
 use Rattle.gpu_descriptor.specs.Model.Agreement.{HasNoGaps, State}
 use Rattle.gpu_descriptor.specs.Caller.States.{state_of}
 use Rattle.descriptor_script.specs.Sessions.Session.{AreAllHeld}
 use Rattle.std.specs.Slice.Iter.{iter_rest}
-use Rattle.descriptor_script.specs.Sessions.Tickets.{AreHeldOnce, emptied, held_sets, set_at}
+use Rattle.descriptor_script.specs.Sessions.Tickets.{AreHeldOnce, emptied, set_at}
 use Rattle.descriptor_script.specs.declared.taking.Taking.{Taking}
 use Rattle.descriptor_script.proofs.Emptied.{all_emptied, all_held_less, all_out, each_taken, fewer_held, held_as}
 use Rattle.descriptor_script.proofs.session.Session.free.Goals.{After-iter}
@@ -62,18 +63,4 @@ returns-clause-keeps g c =
     }
 
 pub invariant_of-self-2 : goal.invariant_of-self-2
-invariant_of-self-2 g c =
-    let d = (goal.at.invariant_of-self-2 g c).After-iter in
-    let s : Taking g.row.S.Denot = record { slots = c.replace-slots.result; tickets = c.iter.result } in
-    let frees = c.free_from.ensures.frees in
-    let drained = frees.drained in
-    let now = c.free_from.new.sets.slots.counted ∙ ap (λ l. length (held_sets l)) drained.2.2 in
-    let fewer = fewer_held frees.sets s drained.0 drained.1 in
-    let before = ap (λ l. length (held_sets l)) (slots_are g d) in
-    let was = c.args.self.now.slots.counted in
-    let out = frees.returns.back.outstanding in
-    let marked = frees.returns.back.marked in
-    let limit = c.free_from.ensures.keeps.limit in
-    let counted = c.args.self.now.counted in
-    let within = c.args.self.now.within in
-    record { counted = omega arith; within = omega arith; in_room = c.free_from.ensures.keeps.pool_load }
+invariant_of-self-2 g c = grind (arith, common_steps, fewer_held, slots_are)

@@ -1,3 +1,4 @@
+use Rattle.std.proofs.lemmas.Grind.{common_steps}
 use Rattle.std.proofs.Common.{◌+◌, ◌∷◌, [], length, length-append, sym, ap, ◌∙◌, arith}
 use Rattle.descriptor_script.specs.Inner.Marks.{AreClear}
 use Rattle.descriptor_script.specs.Sessions.Tickets.{held_sets}
@@ -6,14 +7,7 @@ use Rattle.descriptor_script.proofs.Cleared.{clear_more}
 use Rattle.descriptor_script.proofs.slots.Slots.push.Goals as goal
 
 pub overflow_add-self : goal.overflow_add-self
-overflow_add-self g c =
-    let s = c.args.self.now in
-    let few = held_few s.sets.items in
-    let counted = s.counted in
-    let ok = s.sets.ok in
-    let small = s.sets.small in
-    let sets = c.requires.sets in
-    omega arith
+overflow_add-self g c = grind (arith, common_steps, held_few)
 
 pub invariant_of-self : goal.invariant_of-self
 invariant_of-self g c =
