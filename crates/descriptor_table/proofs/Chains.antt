@@ -139,12 +139,7 @@ module _ {T : Type 0} (slots : List (Slot T)) (next : List ℕ) (chains : List C
 
       -- which has no more places then than there are slots
       pub link_more : c.count + 1 ≤ length slots
-      link_more =
-          let few = lists_few (is_in k) (set slots p s) (p ∷ places k) refl pushed in
-          let size = length-set slots p s in
-          let long = walk_length (chain_at chains k).count next (chain_at chains k).first in
-          let same = ap (λ (c : Chain). c.count) is in
-          omega arith
+      link_more = omega (arith, lists_few (is_in k) (set slots p s) (p ∷ places k) refl pushed, length-set slots p s, walk_length (chain_at chains k).count next (chain_at chains k).first, ap (λ (c : Chain). c.count) is)
 
 -- there are as many lists if one changed
 pub known_chains : {T : Type 0} (slots : List (Slot T)) (chains : List Chain) (k : ℕ) (d : Chain) (generations : ℕ → ℕ) → HasLists slots (length chains) generations → HasLists slots (length (set chains k d)) generations

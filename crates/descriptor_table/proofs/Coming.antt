@@ -18,29 +18,10 @@ module _ {T : Type 0} (weight : T → ℕ) where
   -- one slot got a set
   got : (l m : List (Slot T)) (p : ℕ) (x : T) → (slot_at l p).set ≡ None → (slot_at m p).set ≡ Some x → ((q : ℕ) → q ≢ p → (slot_at m q).set ≡ (slot_at l q).set) → tally weight (sets_in m) ≡ tally weight (sets_in l) + weight x
   got l [] p x none here others = absurd (none-some x here)
-  got [] (y ∷ m) zero x none here others =
-      let a = tally_joined weight y.set (sets_in m) in
-      let b = ap (weight_of weight) here in
-      let h = alike [] m (λ q. others (suc q) (λ e. omega arith)) in
-      omega arith
-  got [] (y ∷ m) (suc p) x none here others =
-      let a = tally_joined weight y.set (sets_in m) in
-      let b = ap (weight_of weight) (others 0 (λ e. omega arith)) in
-      let h = got [] m p x refl here (λ q ne. others (suc q) (λ e. ne (omega arith))) in
-      omega arith
-  got (z ∷ l) (y ∷ m) zero x none here others =
-      let a = tally_joined weight y.set (sets_in m) in
-      let c = tally_joined weight z.set (sets_in l) in
-      let b = ap (weight_of weight) here in
-      let d = ap (weight_of weight) none in
-      let h = alike l m (λ q. others (suc q) (λ e. omega arith)) in
-      omega arith
-  got (z ∷ l) (y ∷ m) (suc p) x none here others =
-      let a = tally_joined weight y.set (sets_in m) in
-      let c = tally_joined weight z.set (sets_in l) in
-      let b = ap (weight_of weight) (others 0 (λ e. omega arith)) in
-      let h = got l m p x none here (λ q ne. others (suc q) (λ e. ne (omega arith))) in
-      omega arith
+  got [] (y ∷ m) zero x none here others = omega (arith, tally_joined weight y.set (sets_in m), ap (weight_of weight) here, alike [] m (λ q. others (suc q) (λ e. omega arith)))
+  got [] (y ∷ m) (suc p) x none here others = omega (arith, tally_joined weight y.set (sets_in m), ap (weight_of weight) (others 0 (λ e. omega arith)), got [] m p x refl here (λ q ne. others (suc q) (λ e. ne (omega arith))))
+  got (z ∷ l) (y ∷ m) zero x none here others = omega (arith, tally_joined weight y.set (sets_in m), tally_joined weight z.set (sets_in l), ap (weight_of weight) here, ap (weight_of weight) none, alike l m (λ q. others (suc q) (λ e. omega arith)))
+  got (z ∷ l) (y ∷ m) (suc p) x none here others = omega (arith, tally_joined weight y.set (sets_in m), tally_joined weight z.set (sets_in l), ap (weight_of weight) (others 0 (λ e. omega arith)), got l m p x none here (λ q ne. others (suc q) (λ e. ne (omega arith))))
 
   pub put_weigh : (generations : ℕ → ℕ) (layout p : ℕ) (x : T) (old new : List (Slot T)) → Puts generations layout x p old new → tally weight (sets_in new) ≡ tally weight (sets_in old) + weight x
   put_weigh generations layout p x old new puts = got old new p x puts.empty (ap (λ (s : Slot T). s.set) puts.here) (λ q ne. ap (λ (s : Slot T). s.set) (puts.others q ne))

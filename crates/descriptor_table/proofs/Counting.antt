@@ -1,6 +1,6 @@
 -- Lists of places, and how often each place is in them: a list in which each place below `n` is at most once, and no other,
 -- is no longer than `n`. For the lists of slots, as they are in `Listed`, `Counts` and `Frames`.
-use Rattle.std.proofs.Common.{◌≡◌, ◌≢◌, ℕ, zero, suc, ◌+◌, ◌<◌, ◌≤◌, ◌==◌, Bool, if◌then◌else◌, List, [], ◌∷◌, length, get_or, set, ◌⊎◌, inl, inr, refl, sym, ap, subst, ◌∙◌, arith, eq-eqb, ne_eqb}
+use Rattle.std.proofs.Common.{◌≡◌, ◌≢◌, ℕ, zero, suc, ◌+◌, ◌<◌, ◌≤◌, ◌==◌, Bool, if◌then◌else◌, List, [], ◌∷◌, length, get_or, set, ◌⊎◌, inl, inr, refl, sym, ap, subst, ◌∙◌, arith, eq-eqb, ne_eqb, rules}
 use Rattle.std.proofs.lemmas.List.{get_or-set_other}
 use Rattle.descriptor_table.specs.Places.{times, walk}
 
@@ -8,18 +8,12 @@ pub same_or : (p q : ℕ) → (p ≡ q) ⊎ (p ≢ q)
 same_or zero zero = inl refl
 same_or zero (suc q) = inr (λ e. omega arith)
 same_or (suc p) zero = inr (λ e. omega arith)
-same_or (suc p) (suc q) = elim (same_or p q) [
-  | inl e ↦ inl (ap suc e)
-  | inr ne ↦ inr (λ e. ne (omega arith))
-]
+same_or (suc p) (suc q) = search (rules, same_or p q)
 
 pub below_or : (i n : ℕ) → (i < n) ⊎ (n ≤ i)
 below_or i zero = inr (omega arith)
 below_or zero (suc n) = inl (omega arith)
-below_or (suc i) (suc n) = elim (below_or i n) [
-  | inl lt ↦ inl (omega arith)
-  | inr le ↦ inr (omega arith)
-]
+below_or (suc i) (suc n) = search (rules, below_or i n)
 
 pub times_here : (p : ℕ) (l : List ℕ) → times p (p ∷ l) ≡ times p l + 1
 times_here p l = rw (eq-eqb p p refl) refl
@@ -52,27 +46,18 @@ without_there x y l ne = rw (ne_eqb x y ne) refl
 without_length : (x : ℕ) (l : List ℕ) → length (without x l) + times x l ≡ length l
 unfolding without
 without_length x [] = refl
-without_length x (y ∷ l) = elim (same_or x y) [
-  | inl e ↦ subst (λ y. length (without x (y ∷ l)) + times x (y ∷ l) ≡ length (y ∷ l)) e (let a = without_here x l in let b = ap length a in let d = times_here x l in let h = without_length x l in omega arith)
-  | inr ne ↦ let b = ap length (without_there x y l ne) in let d = times_there x y l ne in let h = without_length x l in omega arith
-]
+without_length x (y ∷ l) = search (rules, same_or, times_here, times_there, without, without_here, without_there, without_length x l)
 
 -- the other places are in it as often as before, and this one no more
 without_times : (x p : ℕ) (l : List ℕ) → p ≢ x → times p (without x l) ≡ times p l
 unfolding without
 without_times x p [] apart = refl
-without_times x p (y ∷ l) apart = elim (same_or x y) [
-  | inl e ↦ subst (λ y. times p (without x (y ∷ l)) ≡ times p (y ∷ l)) e (ap (times p) (without_here x l) ∙ without_times x p l apart ∙ sym (times_there p x l apart))
-  | inr ne ↦ ap (times p) (without_there x y l ne) ∙ ap (more (p == y)) (without_times x p l apart)
-]
+without_times x p (y ∷ l) apart = search (rules, same_or, times_there, without, without_here, without_there, without_times x p l apart)
 
 without_self : (x : ℕ) (l : List ℕ) → times x (without x l) ≡ 0
 unfolding without
 without_self x [] = refl
-without_self x (y ∷ l) = elim (same_or x y) [
-  | inl e ↦ subst (λ y. times x (without x (y ∷ l)) ≡ 0) e (ap (times x) (without_here x l) ∙ without_self x l)
-  | inr ne ↦ ap (times x) (without_there x y l ne) ∙ times_there x y (without x l) ne ∙ without_self x l
-]
+without_self x (y ∷ l) = search (rules, same_or, times_there, without, without_here, without_there, without_self x l)
 
 -- places below a number, each at most once, are no more than that
 pub few_places : (n : ℕ) (l : List ℕ) → ((p : ℕ) → times p l ≤ 1) → ((p : ℕ) → n ≤ p → times p l ≡ 0) → length l ≤ n

@@ -1,6 +1,6 @@
 -- How many slots pass a test, when one of them changes, and that a list counts them: for the counts that `SetTable` returns.
 use Rattle.std.proofs.lemmas.Grind.{common_steps}
-use Rattle.std.proofs.Common.{◌≡◌, ℕ, zero, suc, ◌+◌, ◌<◌, ◌≤◌, Bool, false, if◌then◌else◌, List, [], ◌∷◌, length, set, refl, sym, ap, ◌∙◌, arith}
+use Rattle.std.proofs.Common.{◌≡◌, ℕ, zero, suc, ◌+◌, ◌<◌, ◌≤◌, Bool, false, if◌then◌else◌, List, [], ◌∷◌, length, set, refl, sym, ap, ◌∙◌, arith, rules}
 use Rattle.descriptor_table.specs.Places.{times, walk}
 use Rattle.descriptor_table.specs.Slots.{AreLinked, Lists, chain_at, is_in, no_slot, slot_at}
 use Rattle.descriptor_table.specs.Tables.{count}
@@ -64,10 +64,7 @@ module _ {T : Type 0} where
   -- if no slot counts, none passes the test, nor does the slot past the end, in which no set ever was
   pub count_none : (test : Slot T → Bool) (slots : List (Slot T)) → test no_slot ≡ false → count test slots ≡ 0 → (p : ℕ) → test (slot_at slots p) ≡ false
   count_none test [] none zero_count p = none
-  count_none test (s ∷ slots) none zero_count zero = by_test (test s) zero_count
-    where
-      by_test : (b : Bool) → bit b + count test slots ≡ 0 → b ≡ false
-      by_test x0 e = grind (arith, common_steps)
+  count_none test (s ∷ slots) none zero_count zero = search rules
   count_none test (s ∷ slots) none zero_count (suc p) = count_none test slots none (let b = few (test s) in omega arith) p
     where
       few : (b : Bool) → 0 ≤ bit b

@@ -1,6 +1,6 @@
 -- The lists of slots, when a slot comes at the end, whose set a call has: for `SetTable::push`.
 use Rattle.std.proofs.lemmas.Grind.{common_steps}
-use Rattle.std.proofs.Common.{◌≡◌, ◌≢◌, ℕ, zero, suc, ◌+◌, Bool, false, if◌then◌else◌, List, [], ◌∷◌, ◌++◌, length, get_or, Some, refl, sym, ap, ◌∙◌, arith}
+use Rattle.std.proofs.Common.{◌≡◌, ℕ, zero, suc, ◌+◌, Bool, false, if◌then◌else◌, List, [], ◌∷◌, ◌++◌, length, get_or, Some, refl, sym, ap, ◌∙◌, arith}
 use Rattle.descriptor_table.specs.Places.{times, walk}
 use Rattle.descriptor_table.specs.Slots.{AreLinked, HasLists, IsListed, IsQueue, Slot, chain_at, frame_of, is_in, no_slot, slot_at, waits}
 use Rattle.descriptor_table.specs.Tables.{Puts, count, is_usable}
@@ -28,20 +28,6 @@ module _ {T : Type 0} where
   grown f (x ∷ slots) s zero same = refl
   grown f (x ∷ slots) s (suc q) same = grown f slots s q same
 
-  pub last_slot : (slots : List (Slot T)) (s : Slot T) → slot_at (slots ++ s ∷ []) (length slots) ≡ s
-  last_slot [] s = refl
-  last_slot (x ∷ slots) s = last_slot slots s
-
-  pub slots_before : (slots : List (Slot T)) (s : Slot T) (q : ℕ) → q ≢ length slots → slot_at (slots ++ s ∷ []) q ≡ slot_at slots q
-  slots_before [] s zero apart = absurd (apart refl)
-  slots_before [] s (suc q) apart = refl
-  slots_before (x ∷ slots) s zero apart = refl
-  slots_before (x ∷ slots) s (suc q) apart = slots_before slots s q (λ e. apart (ap suc e))
-
-  past : (slots : List (Slot T)) → slot_at slots (length slots) ≡ no_slot
-  past [] = refl
-  past (x ∷ slots) = past slots
-
   -- the lists and the queue stay, as the slot that comes at the end is in none, and the slot past the end is in none
   pub linked_grown : (slots : List (Slot T)) (next : List ℕ) (chains : List Chain) (s : Slot T) → s.used ≡ Taken → AreLinked slots next chains → AreLinked (slots ++ s ∷ []) (next ++ 0 ∷ []) chains
   linked_grown slots next chains s taken h k q = ap (times q) (walk_grown (chain_at chains k).count next (chain_at chains k).first) ∙ h k q ∙ ap (λ b. if b then 1 else 0) (sym (grown (is_in k) slots s q (taken_no_list s taken k)))
@@ -59,10 +45,6 @@ module _ {T : Type 0} where
   -- the layout of each slot has its list, also that of the new slot
   pub known_grown : (slots : List (Slot T)) (s : Slot T) (lists : ℕ) (generations : ℕ → ℕ) → IsListed lists generations s → HasLists slots lists generations → length (slots ++ s ∷ []) ≡ length slots + 1 → HasLists (slots ++ s ∷ []) lists generations
   known_grown slots s lists generations here known long q within = grind (arith, common_steps, same_or)
-
-  long_grown : (slots : List (Slot T)) (s : Slot T) → length (slots ++ s ∷ []) ≡ length slots + 1
-  long_grown [] s = refl
-  long_grown (x ∷ slots) s = let h = long_grown slots s in omega arith
 
   -- what a slot at the end counts
   pub count_grown : (test : Slot T → Bool) (slots : List (Slot T)) (s : Slot T) → count test (slots ++ s ∷ []) ≡ count test slots + (if test s then 1 else 0)

@@ -27,13 +27,7 @@ pub named_or : (n : ℕ) (place : ℕ → ℕ) (p : ℕ) → ((i : ℕ) × (i < 
 named_or zero place p = inr (λ i lt. absurd (omega arith))
 named_or (suc n) place p = elim (same_or (place n) p) [
   | inl e ↦ inl (n, omega arith, e)
-  | inr ne ↦ elim (named_or n place p) [
-    | inl found ↦ inl (found.0, (let lt = found.1 in omega arith), found.2)
-    | inr none ↦ inr (λ i lt. elim (same_or i n) [
-      | inl e ↦ subst (λ i. place i ≢ p) (sym e) ne
-      | inr apart ↦ none i (omega arith)
-    ])
-  ]
+  | inr ne ↦ search (rules, same_or, named_or n place p)
 ]
 
 -- a handle that is in the list is the same, whatever is said of those past the end
@@ -115,10 +109,7 @@ module _ {T : Type 0} where
             | inl e ↦ subst (λ i. is_held number old (get_or handles i d) ≡ true) (sym e) (ap (is_held number old) (sym (is d)) ∙ was)
             | inr ne ↦ some.held i d (omega arith)
           ];
-          apart = λ i j less within. elim (same_or j n) [
-            | inl e ↦ subst (λ j. place_at handles i ≢ place_at handles j) (sym e) (λ f. other_place i (omega arith) (f ∙ at))
-            | inr ne ↦ some.apart i j less (omega arith)
-          ];
+          apart = λ i j less within. search (rules, at, other_place, same_or);
           named = λ i less. elim (same_or i n) [
             | inl e ↦ subst (λ i. becomes new (slot_at old (place_at handles i)) (slot_at new (place_at handles i))) (sym e) (subst (λ p. becomes new (slot_at old p) (slot_at new p)) (sym at) (subst (λ o. becomes new o (slot_at new h.place)) slot_was (subst (becomes new (slot_at now h.place)) (sym here) turned)))
             | inr ne ↦ subst (becomes new (slot_at old (place_at handles i))) (sym (far (place_at handles i) (other_place i (omega arith)))) (grows (slot_at old (place_at handles i)) (slot_at now (place_at handles i)) (some.named i (omega arith)))
@@ -128,29 +119,16 @@ module _ {T : Type 0} where
 
   -- handles with held sets, none of which is in the list twice, have different places
   pub apart_once : (number : ℕ) (slots : List (Slot T)) (handles : List SetHandle) → AreHeldOnce number slots handles → (i j : ℕ) → i < j → j < length handles → place_at handles i ≢ place_at handles j
-  apart_once number slots handles once i j less lt e =
-      let z : SetHandle = record { manager = 0; place = 0; generation = 0 } in
-      let a = held_is number slots (get_or handles i z) (once.held i z (omega arith)) in
-      let b = held_is number slots (get_or handles j z) (once.held j z lt) in
-      once.once i j z less lt (handle_is (get_or handles i z) (get_or handles j z) (a.manager ∙ sym b.manager) e (a.generation ∙ ap (λ p. (slot_at slots p).generation) e ∙ sym b.generation))
+  apart_once number slots handles once i j less lt e = search (rules, handle_is, held_is)
 
   -- a call has the sets of held handles that it took
   pub has_taken : (number : ℕ) (handles : List SetHandle) (old new : List (Slot T)) → AreHeldOnce number old handles → TurnEach handles (Becomes (used_for Taken)) old new → (i : ℕ) → i < length handles → HasTaken (place_at handles i) new
-  has_taken number handles old new once took i lt =
-      let z : SetHandle = record { manager = 0; place = 0; generation = 0 } in
-      let held = held_is number old (get_or handles i z) (once.held i z lt) in
-      let within = held.within in
-      let long = took.long in
-      let is = took.named i lt in
-      record { taken = record { within = omega arith; taken = ap (λ (s : Slot T). s.used) is }; full = ap (λ (s : Slot T). is_some s.set) is ∙ held.full }
+  has_taken number handles old new once took i lt = search (rules, held_is)
 
   -- once all have turned, each handle had a held set, and none is in the list twice
   module _ (number : ℕ) (handles : List SetHandle) (becomes : List (Slot T) → Slot T → Slot T → Type 0) (n : ℕ) (old now : List (Slot T)) (all : length handles ≤ n) (some : TurnedSome number handles becomes n old now) where
     pub turned_all : AreHeldOnce number old handles
-    turned_all = record {
-      held = λ i d lt. some.held i d (omega arith);
-      once = λ i j d lt less e. (let z : SetHandle = record { manager = 0; place = 0; generation = 0 } in some.apart i j lt (omega arith) (ap (λ (x : SetHandle). x.place) (same_default handles i z d (omega arith) ∙ e ∙ same_default handles j d z less)));
-    }
+    turned_all = search (rules, same_default)
 
     pub turned_each : TurnEach handles becomes old now
     turned_each = record { long = some.long; named = λ i lt. some.named i (omega arith); rest = λ p none. some.rest p (λ i lt. (let few = some.few in none i (omega arith))) }
@@ -208,7 +186,3 @@ module _ {T : Type 0} where
     named = λ j lt. subst (λ p. slot_at now p ≡ used_for Held (slot_at old p)) (sym (first_place handles n j (omega arith))) (again.named j (omega arith) (omega arith));
     rest = λ p none. again.rest p (λ j lt e. none j (omega arith) (first_place handles n j lt ∙ e));
   })
-
--- a handle of the list, whatever is said of those past the end
-pub handle_at : (handles : List SetHandle) (i : ℕ) → i < length handles → (d : SetHandle) → get_or handles i (record { manager = 0; place = 0; generation = 0 }) ≡ get_or handles i d
-handle_at handles i lt d = same_default handles i (record { manager = 0; place = 0; generation = 0 }) d lt

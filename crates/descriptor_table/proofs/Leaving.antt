@@ -2,7 +2,7 @@
 -- Sets are counted by a weight that each has: with weight 1 it is their number, and for `Given` and `Returned` of the set manager how often
 -- an item is among them. `xs` are the sets that were given, `s` and `t` the iterator, or its table, before and after.
 use Rattle.std.proofs.lemmas.Grind.{common_steps}
-use Rattle.std.proofs.Common.{◌≡◌, ℕ, zero, suc, ◌+◌, ◌<◌, ◌&&◌, nat_lt, ne_eqb, Bool, true, false, is_some, List, [], ◌∷◌, length, set, zero-add, Option, Some, None, refl, sym, ap, subst, ◌∙◌, arith}
+use Rattle.std.proofs.Common.{◌≡◌, ℕ, zero, suc, ◌+◌, ◌<◌, ne_eqb, Bool, true, false, is_some, List, [], ◌∷◌, length, set, zero-add, Option, Some, None, refl, sym, ap, subst, ◌∙◌, arith, rules}
 use Rattle.std.specs.Borrow.{MutBor}
 use Rattle.std.specs.Iterator.{MakesProgress, Yields, YieldsThen, at_most}
 use Rattle.std.specs.declared.iter.Iterator.{can_next-default}
@@ -12,7 +12,6 @@ use Rattle.descriptor_table.specs.Slots.{slot_at}
 use Rattle.descriptor_table.specs.Tables.{GivesAny, Stays, Turns, Becomes, slots_of, vacated}
 use Rattle.descriptor_table.specs.declared.giving.Giving.{Giving}
 use Rattle.descriptor_table.specs.declared.giving.Group.{Group}
-use Rattle.descriptor_table.specs.declared.giving.Group.TheVariants.{Going, Due, KeptOf}
 use Rattle.descriptor_table.specs.declared.set_table.SetTable.{SetTable}
 use Rattle.descriptor_table.specs.Slots.{Slot}
 use Rattle.descriptor_table.proofs.Renewing.{goes_full, kept_is}
@@ -40,20 +39,12 @@ module _ {T : Type 0} (weight : T → ℕ) where
 
   -- without a set that was taken out the others weigh less by its weight
   pub gives_weigh : (test : Slot T → Bool) (x : T) (old new : List (Slot T)) → GivesAny test (Some x) old new → tally weight (sets_in old) ≡ weight x + tally weight (sets_in new)
-  gives_weigh test x old new g =
-      let h = tally_set old g.0 (vacated (slot_at old g.0)) g.1.within in
-      let a = ap (weight_of weight) g.2 in
-      let b = ap (λ l. tally weight (sets_in l)) g.1.slots in
-      omega arith
+  gives_weigh test x old new g = search (rules, tally_set)
 
   -- what was returned, and what is left, weigh what there was
   pub given_weigh : (xs : List T) (s t : Giving T) → Yields GivesNext s xs t → tally weight (sets_in (slots_of s.table.now)) ≡ tally weight xs + tally weight (sets_in (slots_of t.table.now))
   given_weigh [] s t y = ap (λ (u : Giving T). tally weight (sets_in (slots_of u.table.now))) y ∙ sym (zero-add (tally weight (sets_in (slots_of t.table.now))))
-  given_weigh (x ∷ xs) s t y =
-      let u = y.0 in
-      let one = gives_weigh (is_of s.group) x (slots_of s.table.now) (slots_of u.table.now) y.1.gives.slots in
-      let rest = given_weigh xs u t y.2 in
-      omega arith
+  given_weigh (x ∷ xs) s t y = omega (arith, y.0, gives_weigh (is_of s.group) x (slots_of s.table.now) (slots_of y.0.table.now) y.1.gives.slots, given_weigh xs y.0 t y.2)
 
 pub tally_length : {T : Type 0} (l : List T) → tally (λ x. 1) l ≡ length l
 tally_length [] = refl
@@ -68,11 +59,7 @@ module _ {T : Type 0} where
   same_sets (x ∷ l) (y ∷ m) long same = ap (λ o. joined o (sets_in m)) (same 0) ∙ ap (joined x.set) (same_sets l m (omega arith) (λ p. same (suc p)))
 
   pub one_set_fewer : (test : Slot T → Bool) (x : T) (old new : List (Slot T)) → GivesAny test (Some x) old new → length (sets_in new) < length (sets_in old)
-  one_set_fewer test x old new g =
-      let h = gives_weigh (λ x. 1) test x old new g in
-      let a = tally_length (sets_in old) in
-      let b = tally_length (sets_in new) in
-      omega arith
+  one_set_fewer test x old new g = omega (arith, gives_weigh (λ x. 1) test x old new g, tally_length (sets_in old), tally_length (sets_in new))
 
   -- a call gave a set, or there was none
   pub progress : {S : Type 0} (table : S → MutBor (SetTable T)) (test : Slot T → Bool) (s t : S) (r : Option T) → GivesAny test r (slots_of (table s).now) (slots_of (table t).now) → MakesProgress (can_next-default S T) (λ u. at_most (length (sets_in (slots_of (table u).now)))) s r t
@@ -81,15 +68,11 @@ module _ {T : Type 0} where
 
   -- a set of a group is there
   pub group_full : (group : Group) (s : Slot T) → is_of group s ≡ true → is_some s.set ≡ true
-  group_full Going s e = goes_full s e
-  group_full (Due frame) s e = due_full frame s e
-  group_full (KeptOf layout) s e = (kept_is (layout + 2) s (omega arith) e).1
+  group_full x0 s e = search (rules, due_full, goes_full, kept_is)
 
   -- and a vacant slot has none
   pub group_out : (group : Group) (s : Slot T) → is_of group (vacated s) ≡ false
-  group_out Going s = refl
-  group_out (Due frame) s = refl
-  group_out (KeptOf layout) s = ap (λ b. b && (nat_lt s.generation 4294967295 && true)) (ne_eqb (layout + 2) 0 (λ e. omega arith))
+  group_out x0 s = search (rules, ne_eqb)
 
   module _ (group : Group) where
     -- the sets were taken out, one after another
@@ -104,9 +87,7 @@ module _ {T : Type 0} where
   -- settings and memory stayed, and it is the same borrow of the table
   given_stays : (xs : List T) (s t : Giving T) → Yields GivesNext s xs t → (t.group ≡ s.group) × (t.table.ghost_name ≡ s.table.ghost_name) × Stays s.table.now t.table.now
   given_stays [] s t y = (ap (λ (u : Giving T). u.group) (sym y), ap (λ (u : Giving T). u.table.ghost_name) (sym y), subst (λ (u : Giving T). Stays s.table.now u.table.now) y (stays_same s.table.now))
-  given_stays (x ∷ xs) s t y =
-      let rest = given_stays xs y.0 t y.2 in
-      (rest.0 ∙ y.1.group, rest.1 ∙ y.1.same, stays_more s.table.now y.0.table.now t.table.now y.1.gives.stays rest.2)
+  given_stays (x ∷ xs) s t y = search (rules, stays_more, given_stays xs y.0 t y.2)
 
   -- all sets of the group were taken out
   pub given_all : (xs : List T) (s u : Giving T) → YieldsThen GivesNext s xs None u → Turns (is_of s.group) (Becomes vacated) (slots_of s.table.now) (slots_of u.table.now) × (u.table.ghost_name ≡ s.table.ghost_name) × Stays s.table.now u.table.now

@@ -1,8 +1,8 @@
 -- What handles name once slots changed: for `LayoutRegistry`, and for the calls of a set manager by which sets are freed, wait or go.
 -- A handle is the *last* of its slot if no later one was given for the place; `shown` is what that one names.
 use Rattle.std.proofs.lemmas.Grind.{common_steps}
-use Rattle.std.proofs.Common.{arith, ◌≡◌, ◌≢◌, ℕ, ◌<◌, ◌==◌, ◌&&◌, nat_le, nat_lt, Bool, true, false, List, length, slice_index_or, if◌then◌else◌, Option, None, inl, inr, refl, sym, ap, ◌∙◌, eqb-true, rules}
-use Rattle.descriptor_table.specs.Sets.{AreHeldOnce, LoseNames, find, is_last, sets_of}
+use Rattle.std.proofs.Common.{arith, ◌≡◌, ◌≢◌, ℕ, ◌<◌, ◌==◌, ◌&&◌, nat_le, nat_lt, Bool, false, List, length, slice_index_or, if◌then◌else◌, Option, None, sym, ap, ◌∙◌, eqb-true, rules}
+use Rattle.descriptor_table.specs.Sets.{AreHeldOnce, LoseNames, is_last, sets_of}
 use Rattle.descriptor_table.specs.Slots.{is_live, slot_at}
 use Rattle.descriptor_table.specs.Tables.{place_at}
 use Rattle.descriptor_table.specs.declared.handle.SetHandle.{SetHandle}
@@ -61,13 +61,7 @@ module _ {T : Type 0} where
 
     -- a handle that isn't in the list is not the last one of a place of the list, since that of the list is
     not_last : (other : SetHandle) → ((i : ℕ) (e : SetHandle) → i < length handles → slice_index_or handles i e ≢ other) → (i : ℕ) → i < length handles → place_at handles i ≡ other.place → (b : Bool) → is_last number old other ≡ b → b ≡ false
-    not_last other apart i lt e false l = refl
-    not_last other apart i lt e true l =
-        let h = held_is number old (handle_at i) (once.held i zero_handle lt) in
-        let mine = and_true (other.manager == number) (other.generation == (slot_at old other.place).generation) l in
-        let r = eqb-true other.manager number mine.0 in
-        let g = eqb-true other.generation (slot_at old other.place).generation mine.1 in
-        absurd (apart i zero_handle lt (handle_is (handle_at i) other (h.manager ∙ sym r) e (h.generation ∙ ap (λ p. (slot_at old p).generation) e ∙ sym g)))
+    not_last other apart i lt e x5 l = search (rules, and_true, eqb-true, handle_is, held_is)
 
     abbrev finds : ℕ → Slot T → SetHandle → Option T
     finds n s h = if ((h.manager == number) && (h.generation == n)) && is_live frame opened s.used then s.set else None
@@ -75,17 +69,7 @@ module _ {T : Type 0} where
     -- the handles name nothing, and each other one what it named
     pub names_lost : LoseNames handles (sets_of number frame opened old) (sets_of number frame opened new)
     names_lost = record {
-      gone = λ i e lt.
-          let s = slot_at new (place_at handles i) in
-          ap (find number frame opened new) (same_default handles i e zero_handle lt) ∙ if_neither (is_last number new (handle_at i)) (is_live frame opened s.used) s.set (quiet i lt);
-      others = λ other apart. elim (named_or (length handles) (place_at handles) other.place) [
-        | inl found ↦
-            let no = not_last other apart found.0 found.1 found.2 (is_last number old other) refl in
-            let n = slot_at new other.place in
-            let o = slot_at old other.place in
-            if_not (is_last number new other) (is_live frame opened n.used) n.set (ap (λ g. (other.manager == number) && (other.generation == g)) (generations other.place) ∙ no)
-            ∙ sym (if_not (is_last number old other) (is_live frame opened o.used) o.set no)
-        | inr none ↦ ap (λ (s : Slot T). finds s.generation s other) (rest other.place none)
-      ];
+      gone = search (rules, if_neither, same_default);
+      others = λ other apart. search (rules, generations, if_not, named_or, not_last);
       given = λ h. ap (λ g. (h.manager == number) && (nat_lt 0 h.generation && nat_le h.generation g)) (generations h.place);
     }

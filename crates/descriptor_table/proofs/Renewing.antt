@@ -1,18 +1,17 @@
 -- A set that comes into a slot, gets a handle, or leaves: for `SetTable::put`, `hold_kept`, `take_out` and `take_of`, and for `Store`.
 -- `old` are the slots before, `mid` those once the slot was picked from its list or its set taken out, `new` those after.
 use Rattle.std.proofs.lemmas.Grind.{common_steps}
-use Rattle.std.proofs.Common.{◌≡◌, ℕ, ◌+◌, ◌<◌, ◌≤◌, Bool, true, false, List, length, set, Option, Some, None, is_some, refl, sym, ap, ◌∙◌, arith, rules}
+use Rattle.std.proofs.Common.{◌≡◌, ℕ, ◌+◌, ◌<◌, ◌≤◌, Bool, true, false, List, length, set, Option, Some, None, is_some, sym, ap, ◌∙◌, arith, rules}
 use Rattle.std.proofs.lemmas.List.{length-set, set-set}
 use Rattle.std.proofs.lemmas.Bool.{false≢true}
 use Rattle.descriptor_table.specs.Slots.{goes, is_in, slot_at}
-use Rattle.descriptor_table.specs.Tables.{GivesAny, HasRoom, Picks, Puts, Renews, Stays, came_under, count, is_usable, renewed, slots_of, used_for, vacated}
+use Rattle.descriptor_table.specs.Tables.{GivesAny, HasRoom, Picks, Puts, Renews, Stays, count, is_usable, renewed, slots_of, used_for, vacated}
 use Rattle.descriptor_table.specs.declared.handle.SetHandle.{SetHandle}
 use Rattle.descriptor_table.specs.declared.set_table.SetTable.{SetTable}
 use Rattle.descriptor_table.specs.declared.slot.Use.{Use}
 use Rattle.descriptor_table.specs.declared.slot.Use.TheVariants.{Taken, Vacant}
 use Rattle.descriptor_table.specs.Slots.{Slot}
 use Rattle.descriptor_table.proofs.Chains.{and_true, taken_no_list}
-use Rattle.descriptor_table.proofs.Counting.{same_or}
 use Rattle.descriptor_table.proofs.Counts.{bit, count_set, same_count}
 use Rattle.descriptor_table.proofs.Listed.{other_slots, slot_set, with_use}
 
@@ -50,24 +49,13 @@ module _ {T : Type 0} where
   pub usable_renewed : (number p : ℕ) (u : Use) (handle : SetHandle) (old new : List (Slot T)) → Renews number p u handle old new → p < length old → (slot_at old p).used ≡ Taken → is_usable (renewed u (slot_at old p)) ≡ false → count is_usable new ≡ count is_usable old
   usable_renewed number p u handle old new r within taken used = ap (count is_usable) r.slots ∙ same_count is_usable old p (renewed u (slot_at old p)) within (used ∙ sym (taken_no_list (slot_at old p) taken 0))
 
-  -- each slot has the set that it had, under the same layout
-  pub renews_stay : (number p : ℕ) (u : Use) (handle : SetHandle) (old new : List (Slot T)) → p < length old → Renews number p u handle old new → (q : ℕ) → ((slot_at new q).set ≡ (slot_at old q).set) × (came_under (slot_at new q) ≡ came_under (slot_at old q))
-  renews_stay number p u handle old new within r q = grind (arith, common_steps, other_slots, same_or, slot_set)
-
   -- a slot whose set was taken is vacant
   pub leaves_vacant : (p : ℕ) (old mid new : List (Slot T)) → p < length old → mid ≡ set old p (record (slot_at old p) { set = None }) → new ≡ with_use p Vacant mid → new ≡ set old p (vacated (slot_at old p))
   leaves_vacant p old mid new within taken is = grind (arith, common_steps, set-set, slot_set)
 
   -- a set that passes the test left its list, then its slot
   pub gives : (test : Slot T → Bool) (p : ℕ) (r : Option T) (old mid new : List (Slot T)) → Picks test (used_for Taken) p old mid → is_some (slot_at old p).set ≡ true → r ≡ (slot_at mid p).set → (is_some r ≡ true → new ≡ set mid p (vacated (slot_at mid p))) → GivesAny test r old new
-  gives test p None old mid new picks full taken is =
-      let slot = ap (λ l. slot_at l p) picks.slots ∙ slot_set old p (used_for Taken (slot_at old p)) picks.within in
-      let none : None ≡ (slot_at old p).set = taken ∙ ap (λ (s : Slot T). s.set) slot in
-      absurd (false≢true (ap is_some none ∙ full))
-  gives test p (Some x) old mid new picks full taken is =
-      let o = slot_at old p in
-      let slot : slot_at mid p ≡ used_for Taken o = ap (λ l. slot_at l p) picks.slots ∙ slot_set old p (used_for Taken o) picks.within in
-      (p, record { was = picks.was; within = picks.within; slots = is refl ∙ ap (λ (s : Slot T). set mid p (vacated s)) slot ∙ ap (λ l. set l p (vacated o)) picks.slots ∙ set-set old p (used_for Taken o) (vacated o) }, sym (taken ∙ ap (λ (s : Slot T). s.set) slot))
+  gives test p x2 old mid new picks full taken is = search (rules, false≢true, set-set, slot_set)
 
   -- a slot of the sets that go has one
   pub goes_full : (s : Slot T) → goes s ≡ true → is_some s.set ≡ true

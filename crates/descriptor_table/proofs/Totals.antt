@@ -1,6 +1,6 @@
 -- How many slots there are in several lists together: the loop of `SetTable::kept_total`, at its start, with one list more, and with all.
 use Rattle.std.proofs.lemmas.Grind.{common_steps}
-use Rattle.std.proofs.Common.{◌≡◌, ℕ, ◌+◌, ◌≤◌, ◌==◌, ◌&&◌, nat_lt, Bool, true, false, List, length, refl, ap, arith}
+use Rattle.std.proofs.Common.{◌≡◌, ℕ, ◌+◌, ◌≤◌, ◌==◌, ◌&&◌, nat_lt, Bool, true, false, List, length, ap, arith, rules}
 use Rattle.std.proofs.lemmas.Bool.{and_right, cases_order, le-ltb, lt-ltb}
 use Rattle.std.proofs.lemmas.List.{get_or_past}
 use Rattle.descriptor_table.specs.Slots.{AreLinked, Slot, chain_at, is_in, slot_at}
@@ -39,17 +39,8 @@ module _ {T : Type 0} where
 
   -- one list more
   pub kept_step : (slots : List (Slot T)) (next : List ℕ) (chains : List Chain) → AreLinked slots next chains → (k : ℕ) → 2 ≤ k → count (kept_below (k + 1)) slots ≡ count (kept_below k) slots + (chain_at chains k).count
-  kept_step slots next chains linked k two =
-      let a = count_split (kept_below (k + 1)) (kept_below k) (is_in k) slots (kept_split k two) in
-      let b = chain_count slots next chains linked k in
-      omega arith
+  kept_step slots next chains linked k two = omega (arith, count_split (kept_below (k + 1)) (kept_below k) (is_in k) slots (kept_split k two), chain_count slots next chains linked k)
 
   -- all lists
   pub kept_end : (slots : List (Slot T)) (next : List ℕ) (chains : List Chain) (k : ℕ) → AreLinked slots next chains → length chains ≤ k → count (kept_below k) slots ≡ count is_kept slots
-  kept_end slots next chains k linked all = count_as (kept_below k) is_kept slots (λ p lt. here (slot_at slots p) p refl)
-    where
-      none : (j : ℕ) → k ≤ j → (p : ℕ) → is_in j (slot_at slots p) ≡ false
-      none j le = none_in slots next chains linked j (ap (λ (d : Chain). d.count) (get_or_past chains j (record { first = 0; count = 0 }) (omega arith)))
-
-      here : (s : Slot T) (p : ℕ) → s ≡ slot_at slots p → kept_below k s ≡ is_kept s
-      here s p is = grind (arith, common_steps, below_or, lt-ltb, none)
+  kept_end slots next chains k linked all = search (rules, below_or, count_as, get_or_past, lt-ltb, none_in)

@@ -2,14 +2,14 @@
 -- `old` are the slots before a loop, `now` those before a step of it, `new` those after; `Turning` is the loop's invariant, and `Turns`
 -- what it leaves at its end. A set that is freed *settles*: it is kept, or goes. `o` is a slot before that, `n` the same slot after.
 use Rattle.std.proofs.lemmas.Grind.{common_steps}
-use Rattle.std.proofs.Common.{◌≡◌, ◌≢◌, ℕ, zero, suc, ◌+◌, ◌<◌, ◌≤◌, ◌⊎◌, ◌==◌, ◌&&◌, nat_lt, Bool, true, false, if◌then◌else◌, List, [], ◌∷◌, length, set, eq-eqb, ne_eqb, is_some, inl, inr, refl, sym, ap, subst, ◌∙◌, arith, nat_le}
+use Rattle.std.proofs.Common.{◌≡◌, ◌≢◌, ℕ, zero, suc, ◌+◌, ◌<◌, ◌≤◌, ◌⊎◌, ◌==◌, ◌&&◌, nat_lt, Bool, true, false, if◌then◌else◌, List, [], ◌∷◌, length, set, eq-eqb, ne_eqb, is_some, inl, inr, refl, sym, ap, ◌∙◌, arith, nat_le, rules}
 use Rattle.std.proofs.lemmas.List.{length-set, set-set}
 use Rattle.std.proofs.lemmas.Bool.{false≢true, ltb-false, true≢false}
-use Rattle.descriptor_table.specs.Slots.{IsNowhere, Slot, in_list, is_due, is_in, slot_at, waits_for}
-use Rattle.descriptor_table.specs.Tables.{Settings, CanBeHeld, IsBack, MayBecome, Picks, Stays, Turns, count, generations_of, holds, is_held_use, is_kept, may_stay, next_use, stays, used_for, Becomes, settings_of}
+use Rattle.descriptor_table.specs.Slots.{IsNowhere, Slot, is_due, is_in, slot_at, waits_for}
+use Rattle.descriptor_table.specs.Tables.{Settings, CanBeHeld, IsBack, MayBecome, Picks, Stays, Turns, count, generations_of, holds, is_held_use, is_kept, next_use, used_for, Becomes, settings_of}
 use Rattle.descriptor_table.specs.declared.set_table.SetTable.{SetTable}
 use Rattle.descriptor_table.specs.declared.slot.Use.{Use}
-use Rattle.descriptor_table.specs.declared.slot.Use.TheVariants.{Held, Kept, Going, Taken}
+use Rattle.descriptor_table.specs.declared.slot.Use.TheVariants.{Held, Going, Taken}
 use Rattle.descriptor_table.proofs.Chains.{and_true, lists_apart, nowhere_out}
 use Rattle.descriptor_table.proofs.Counting.{same_or}
 use Rattle.descriptor_table.proofs.Counts.{bit, count_set, same_count}
@@ -35,36 +35,11 @@ module _ {T : Type 0} where
         → test (slot_at now p) ≡ true → new ≡ set now p s → ((o n : Slot T) → becomes now o n → becomes new o n)
         → ((o n : Slot T) → becomes now o n → test n ≡ false) → becomes new (slot_at now p) s
         → Turning test becomes old new
-    turn_step old now new p s turning within was is grows done turned =
-        let here : slot_at new p ≡ s = ap (λ l. slot_at l p) is ∙ slot_set now p s within in
-        let stayed : slot_at now p ≡ slot_at old p = elim (turning.each p) [
-          | inl same ↦ same
-          | inr both ↦ absurd (let bad = sym was ∙ done (slot_at old p) (slot_at now p) both.1 in true≢false bad)
-        ] in
-        record {
-          long = ap length is ∙ length-set now p s ∙ turning.long;
-          each = λ q. elim (same_or q p) [
-            | inl e ↦ inr (subst (λ q. test (slot_at old q) ≡ true) (sym e) (ap test (sym stayed) ∙ was), subst (λ q. becomes new (slot_at old q) (slot_at new q)) (sym e) (subst (λ o. becomes new o (slot_at new p)) stayed (subst (becomes new (slot_at now p)) (sym here) turned)))
-            | inr ne ↦ (let other : slot_at new q ≡ slot_at now q = ap (λ l. slot_at l q) is ∙ other_slots now p s q ne in elim (turning.each q) [
-              | inl same ↦ inl (other ∙ same)
-              | inr both ↦ inr (both.0, subst (becomes new (slot_at old q)) (sym other) (grows (slot_at old q) (slot_at now q) both.1))
-            ])
-          ];
-        }
+    turn_step old now new p s turning within was is grows done turned = search (rules, length-set, other_slots, same_or, slot_set, true≢false)
 
     -- no slot is left that passes the test
     pub turn_end : (old now : List (Slot T)) → Turning test becomes old now → ((p : ℕ) → test (slot_at now p) ≡ false) → Turns test becomes old now
-    turn_end old now turning none = record {
-      long = turning.long;
-      rest = λ p out. elim (turning.each p) [
-        | inl same ↦ same
-        | inr both ↦ absurd (true≢false (sym both.0 ∙ out))
-      ];
-      here = λ p is. elim (turning.each p) [
-        | inl same ↦ absurd (true≢false (sym is ∙ ap test (sym same) ∙ none p))
-        | inr both ↦ both.1
-      ];
-    }
+    turn_end old now turning none = search (rules, true≢false)
 
   -- the number of kept sets does not fall when a set settles that is in no list
   kept_grows : (k p : ℕ) (now : List (Slot T)) (s : Slot T) → p < length now → is_in k (slot_at now p) ≡ false → count (is_in k) now ≤ count (is_in k) (set now p s)
@@ -78,43 +53,18 @@ module _ {T : Type 0} where
 
     -- of sets that settled before it `IsBack` still holds, as no fewer sets of any layout are kept than then
     pub settled_grows : (o n : Slot T) → IsBack (used_for Going) generations max now o n → IsBack (used_for Going) generations max new o n
-    settled_grows o n (inl kept) = inl kept
-    settled_grows o n (inr goes) = inr (goes.0, λ may. (let a = goes.1 may in let b = kept_grows (o.layout + 2) p now (used_for (next_use generations max mid p) (slot_at now p)) within (out (o.layout + 2)) in let c = ap (count (is_in (o.layout + 2))) settled_set in omega arith))
+    settled_grows o n x2 = search (rules, kept_grows, settled_set)
 
     -- it is kept if it may be, and else goes
     pub settled_here : IsBack (used_for Going) generations max new (slot_at now p) (used_for (next_use generations max mid p) (slot_at now p))
-    settled_here = by_test (may_stay generations max mid (slot_at mid p)) refl
-      where
-        o : Slot T
-        o = slot_at now p
-
-        slot : slot_at mid p ≡ used_for u (slot_at now p)
-        slot = ap (λ l. slot_at l p) left ∙ slot_set now p (used_for u (slot_at now p)) within
-
-        both : may_stay generations max mid (slot_at mid p) ≡ (stays generations (slot_at now p) && nat_lt (count (is_in ((slot_at now p).layout + 2)) mid) max)
-        both = ap (may_stay generations max mid) slot
-
-        by_test : (b : Bool) → may_stay generations max mid (slot_at mid p) ≡ b → IsBack (used_for Going) generations max new (slot_at now p) (used_for (if b then Kept else Going) (slot_at now p))
-        by_test true e = inl (refl, (and_true (stays generations (slot_at now p)) (nat_lt (count (is_in ((slot_at now p).layout + 2)) mid) max) (sym both ∙ e)).0)
-        by_test false e = inr (
-          refl,
-          λ may.
-              let k = (slot_at now p).layout + 2 in
-              let full = ltb-false (count (is_in k) mid) max (sym (ap (λ b. b && nat_lt (count (is_in k) mid) max) may) ∙ sym both ∙ e) in
-              let a = kept_grows k p now (used_for (next_use generations max mid p) (slot_at now p)) within (out k) in
-              let b = ap (count (is_in k)) settled_set in
-              let c = same_count (is_in k) now p (used_for u (slot_at now p)) within ((nowhere_out (used_for u (slot_at now p)) idle).1 k ∙ sym (out k)) in
-              let d = ap (count (is_in k)) left in
-              omega arith,
-        )
+    settled_here = search (rules, and_true, kept_grows, ltb-false, nowhere_out, same_count, settled_set, slot_set)
 
   -- a set that settled waits no longer, and isn't held
   pub settled_not_due : (generations : ℕ → ℕ) (frame max : ℕ) (l : List (Slot T)) (o n : Slot T) → IsBack (used_for Going) generations max l o n → is_due frame n ≡ false
   settled_not_due generations frame max l o n x6 = grind (arith, common_steps)
 
   pub settled_not_held : (generations : ℕ → ℕ) (max : ℕ) (l : List (Slot T)) (o n : Slot T) → IsBack (used_for Going) generations max l o n → n.used ≢ Held
-  settled_not_held generations max l o n (inl kept) held = false≢true (ap is_held_use (ap (λ (s : Slot T). s.used) (sym kept.0) ∙ held))
-  settled_not_held generations max l o n (inr goes) held = false≢true (ap is_held_use (ap (λ (s : Slot T). s.used) (sym goes.0) ∙ held))
+  settled_not_held generations max l o n x5 held = search (rules, false≢true)
 
   -- only its use changed, and it can be held again
   pub back_only : (generations : ℕ → ℕ) (max : ℕ) (l : List (Slot T)) (o x : Slot T) → holds o ≡ true → IsBack (used_for Going) generations max l o x → (x ≡ used_for x.used o) × CanBeHeld x
@@ -128,10 +78,7 @@ module _ {T : Type 0} where
 
   -- a set that waits, or that a call has, is in no list
   pub due_not_listed : (frame : ℕ) (s : Slot T) → is_due frame s ≡ true → (k : ℕ) → is_in k s ≡ false
-  due_not_listed frame s e k = by_use s.used e
-    where
-      by_use : (u : Use) → (waits_for (λ w. nat_le w frame) u && is_some s.set) ≡ true → in_list k u s.layout s.generation (is_some s.set) ≡ false
-      by_use u e = grind (arith, common_steps)
+  due_not_listed frame s e k = search rules
 
   pub due_full : (frame : ℕ) (s : Slot T) → is_due frame s ≡ true → is_some s.set ≡ true
   due_full frame s e = (and_true (waits_for (λ w. nat_le w frame) s.used) (is_some s.set) e).1
@@ -143,11 +90,7 @@ module _ {T : Type 0} where
   same_use (s ∷ slots) (suc p) u e lt = ap (λ l. s ∷ l) (same_use slots p u e (omega arith))
 
   pub stays_more : (a b c : SetTable T) → Stays a b → Stays b c → Stays a c
-  stays_more a b c one two = record {
-    settings = two.settings ∙ one.settings;
-    space = two.space ∙ one.space;
-    waiting = two.waiting ∙ one.waiting;
-  }
+  stays_more a b c one two = search rules
 
   -- with settings as they were, a freed set comes to the same use
   pub same_next : (a b : SetTable T) → settings_of b ≡ settings_of a → (slots : List (Slot T)) (p : ℕ) → next_use (generations_of b) b.keep slots p ≡ next_use (generations_of a) a.keep slots p
@@ -155,20 +98,10 @@ module _ {T : Type 0} where
 
   -- a slot that passed the test doesn't any more
   pub one_less : (test : Slot T → Bool) (now new : List (Slot T)) (p : ℕ) (s : Slot T) → p < length now → test (slot_at now p) ≡ true → test s ≡ false → new ≡ set now p s → count test new + 1 ≡ count test now
-  one_less test now new p s within was gone is =
-      let h = count_set test now p s within in
-      let a = ap bit was in
-      let b = ap bit gone in
-      let c = ap (count test) is in
-      omega arith
+  one_less test now new p s within was gone is = search (rules, bit, count_set)
 
   pub one_fewer : (test : Slot T → Bool) (now new : List (Slot T)) (p : ℕ) (s : Slot T) → p < length now → test (slot_at now p) ≡ true → test s ≡ false → new ≡ set now p s → count test new < count test now
-  one_fewer test now new p s within was gone is =
-      let h = count_set test now p s within in
-      let a = ap bit was in
-      let b = ap bit gone in
-      let c = ap (count test) is in
-      omega arith
+  one_fewer test now new p s within was gone is = search (rules, bit, count_set)
 
   -- a step of a loop whose sets go: a slot that passed the test was picked, and goes
   module _ (test : Slot T → Bool) (now mid new : List (Slot T)) (p : ℕ) (picks : Picks test (used_for Taken) p now mid) (goes : new ≡ with_use p Going mid) (out : (s : Slot T) → test (used_for Going s) ≡ false) where
@@ -193,36 +126,11 @@ module _ {T : Type 0} where
   -- a step of a loop at a place: a slot that passes the test turns, another stays
   module _ (test : Slot T → Bool) (becomes : List (Slot T) → Slot T → Slot T → Type 0) (old now new : List (Slot T)) (p : ℕ) (u : Use) (turning : Turning test becomes old now) (within : p < length now) where
     turn_one : new ≡ (if test (slot_at now p) then set now p (used_for u (slot_at now p)) else now) → (test (slot_at now p) ≡ true → Turning test becomes old new) → test (used_for u (slot_at now p)) ≡ false → TurnsOne test becomes old now new p
-    turn_one is step out = by_test (test (slot_at now p)) refl
-      where
-        by_test : (b : Bool) → test (slot_at now p) ≡ b → TurnsOne test becomes old now new p
-        by_test true e =
-            let all : new ≡ with_use p u now = is ∙ ap (λ b. if b then with_use p u now else now) e in
-            let here : test (slot_at new p) ≡ false = ap (λ l. test (slot_at l p)) all ∙ ap test (slot_set now p (used_for u (slot_at now p)) within) ∙ out in
-            record {
-              turning = step e;
-              here = here;
-              others = λ q none. elim (same_or q p) [
-                | inl same ↦ subst (λ q. test (slot_at new q) ≡ false) (sym same) here
-                | inr ne ↦ ap (λ l. test (slot_at l q)) all ∙ ap test (other_slots now p (used_for u (slot_at now p)) q ne) ∙ none
-              ];
-            }
-        by_test false e =
-            let all : new ≡ now = is ∙ ap (λ b. if b then with_use p u now else now) e in
-            record {
-              turning = subst (Turning test becomes old) (sym all) turning;
-              here = ap (λ l. test (slot_at l p)) all ∙ e;
-              others = λ q none. ap (λ l. test (slot_at l q)) all ∙ none;
-            }
+    turn_one is step out = search (rules, other_slots, same_or, slot_set, with_use)
 
   -- a slot that passes the test comes to be in use for something, and doesn't pass it then
   pub use_one : (test : Slot T → Bool) (u : Use) (old now new : List (Slot T)) (p : ℕ) → Turning test (λ l o n. n ≡ used_for u o) old now → p < length now → new ≡ (if test (slot_at now p) then set now p (used_for u (slot_at now p)) else now) → ((s : Slot T) → test (used_for u s) ≡ false) → TurnsOne test (λ l o n. n ≡ used_for u o) old now new p
-  use_one test u old now new p turning within is out = turn_one test (λ l o n. n ≡ used_for u o) old now new p u turning within is step (out (slot_at now p))
-    where
-      step : test (slot_at now p) ≡ true → Turning test (λ l o n. n ≡ used_for u o) old new
-      step e =
-          let all : new ≡ with_use p u now = is ∙ ap (λ b. if b then with_use p u now else now) e in
-          turn_step test (λ l o n. n ≡ used_for u o) old now new p (used_for u (slot_at now p)) turning within e all (λ o n w. w) (λ o n w. ap test w ∙ out o) refl
+  use_one test u old now new p turning within is out = search (rules, turn_one, turn_step, with_use)
 
   -- a set that goes is in no list of kept sets
   pub going_out : (k : ℕ) (s : Slot T) → 2 ≤ k → is_in k (used_for Going s) ≡ false
@@ -240,10 +148,7 @@ module _ {T : Type 0} where
 
   -- a set in a list of kept sets is kept
   kept_of : (k : ℕ) (s : Slot T) → 2 ≤ k → is_in k s ≡ true → is_kept s ≡ true
-  kept_of k s two e = by_use s.used e
-    where
-      by_use : (u : Use) → in_list k u s.layout s.generation (is_some s.set) ≡ true → in_list (s.layout + 2) u s.layout s.generation (is_some s.set) ≡ true
-      by_use u e = grind (arith, common_steps)
+  kept_of k s two e = search rules
 
   module _ (k : ℕ) (two : 2 ≤ k) (now new : List (Slot T)) (turns : Turns (is_in k) (MayBecome (used_for Going)) now new) where
     -- after kept sets of one list more may have gone
@@ -274,11 +179,4 @@ module _ {T : Type 0} where
 
     -- the other lists have as many kept sets as before
     pub trim_others : (j : ℕ) → 2 ≤ j → j ≢ k → count (is_in j) new ≡ count (is_in j) now
-    trim_others j two' ne = count_same (is_in j) now new turns.long (λ p. by_test p (is_in k (slot_at now p)) refl)
-      where
-        by_test : (p : ℕ) (b : Bool) → is_in k (slot_at now p) ≡ b → is_in j (slot_at new p) ≡ is_in j (slot_at now p)
-        by_test p false e = ap (is_in j) (turns.rest p e)
-        by_test p true e = elim (turns.here p e) [
-          | inl same ↦ ap (is_in j) same
-          | inr goes ↦ ap (is_in j) goes ∙ going_out j (slot_at now p) two' ∙ sym (lists_apart j k (slot_at now p) e ne)
-        ]
+    trim_others j two' ne = search (rules, count_same, going_out, lists_apart)

@@ -1,11 +1,10 @@
 -- The queue of the sets that wait, when a place comes to it or leaves it: for `put_place`, `enqueue`, and
 -- `SetTable::pick_waiting` and `pick_due`.
 use Rattle.std.proofs.lemmas.Grind.{common_steps}
-use Rattle.std.proofs.Common.{◌≡◌, ◌≢◌, ℕ, zero, suc, ◌+◌, ◌-◌, ◌<◌, ◌≤◌, ◌==◌, Bool, true, false, if◌then◌else◌, List, [], ◌∷◌, ◌++◌, insert, length, take, drop, get_or, set, inl, inr, refl, sym, ap, subst, ◌∙◌, arith, rules}
-use Rattle.std.proofs.lemmas.List.{append_assoc, length-drop, length-set}
+use Rattle.std.proofs.Common.{◌≡◌, ◌≢◌, ℕ, zero, suc, ◌+◌, ◌<◌, ◌≤◌, ◌==◌, Bool, true, false, if◌then◌else◌, List, [], ◌∷◌, insert, length, get_or, set, inl, inr, refl, sym, ap, subst, ◌∙◌, arith, rules}
+use Rattle.std.proofs.lemmas.List.{length-set}
 use Rattle.std.proofs.lemmas.Bool.{true≢false}
 use Rattle.std.proofs.lemmas.List.Sorted.{IsNonDecreasingBy-drop, IsNonDecreasingBy-insert}
-use Rattle.std.proofs.Math.Seq.{drop-append_seam, take-append_seam}
 use Rattle.std.specs.List.Sorted.{IsNonDecreasingBy, IsPartitionPoint}
 use Rattle.descriptor_table.specs.Places.{times}
 use Rattle.descriptor_table.specs.Slots.{IsQueue, Slot, frame_of, is_due, slot_at, waits}
@@ -16,10 +15,7 @@ use Rattle.descriptor_table.proofs.Listed.{first_passes, lists_few, lists_other,
 times_insert : (q p : ℕ) (l : List ℕ) (i : ℕ) → times q (insert l i p) ≡ times q (p ∷ l)
 times_insert q p l zero = refl
 times_insert q p [] (suc i) = refl
-times_insert q p (x ∷ l) (suc i) = ap (λ n. if q == x then n + 1 else n) (times_insert q p l i) ∙ swapped (q == x) (q == p) (times q l)
-  where
-    swapped : (a b : Bool) (n : ℕ) → (if a then (if b then n + 1 else n) + 1 else (if b then n + 1 else n)) ≡ (if b then (if a then n + 1 else n) + 1 else (if a then n + 1 else n))
-    swapped a b n = grind (arith, common_steps)
+times_insert q p (x ∷ l) (suc i) = search (rules, times_insert q p l i)
 
 -- a place that isn't in a list is nowhere in it
 apart_at : (p : ℕ) (l : List ℕ) (i d : ℕ) → times p l ≡ 0 → i < length l → get_or l i d ≢ p
@@ -37,10 +33,6 @@ along P (q ∷ l) d each p is = elim (same_or p q) [
   | inl e ↦ subst P (sym e) (each 0 (omega arith))
   | inr ne ↦ along P l d (λ i lt. each (suc i) (omega arith)) p (λ none. is (times_there p q l ne ∙ none))
 ]
-
--- the places `later` go before the others, one comes last, and they go back behind it: so it comes at its place
-pub turned : (l : List ℕ) (i n : ℕ) (p : ℕ) → n ≡ length l - i → drop n ((drop i l ++ take i l) ++ p ∷ []) ++ take n ((drop i l ++ take i l) ++ p ∷ []) ≡ insert l i p
-turned l i n p is = grind (arith, common_steps, append_assoc, drop-append_seam, length-drop, take-append_seam)
 
 module _ {T : Type 0} where
   -- the frame that the set at a place waits for
@@ -70,11 +62,7 @@ module _ {T : Type 0} where
 
     -- each place of the queue is that of a set that waits
     pub waits_at : (i d : ℕ) → i < length l → waits (slot_at slots (get_or l i d)) ≡ true
-    waits_at i d lt = by_test (waits (slot_at slots (get_or l i d))) refl
-      where
-        by_test : (b : Bool) → waits (slot_at slots (get_or l i d)) ≡ b → b ≡ true
-        by_test true e = refl
-        by_test false e = absurd (apart_at (get_or l i d) l i d (not_listed waits slots l (get_or l i d) queue.has e) lt refl)
+    waits_at i d lt = search (rules, apart_at, not_listed)
 
     -- a slot changed that isn't in the queue
     pub out_queue : (p : ℕ) (s : Slot T) → p < length slots → waits (slot_at slots p) ≡ false → waits s ≡ false → IsQueue (set slots p s) l newest

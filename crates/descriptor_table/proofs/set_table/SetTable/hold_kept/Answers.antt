@@ -1,9 +1,8 @@
-use Rattle.std.proofs.Common.{◌≡◌, ◌≢◌, ℕ, ◌+◌, ◌-◌, ◌<◌, inl, inr, length, set, subst, true, refl, sym, ap, ◌∙◌, arith}
+use Rattle.std.proofs.Common.{◌≡◌, ◌≢◌, ℕ, ◌+◌, ◌-◌, ◌<◌, inl, inr, length, set, subst, true, refl, sym, ap, ◌∙◌, arith, rules}
 use Rattle.std.proofs.lemmas.Bool.{true≢false}
 use Rattle.std.proofs.lemmas.List.{get_or_past, length-map, length-set}
 use Rattle.descriptor_table.specs.Slots.{AreSound, IsQueue, chain_at, chains_in, generation_at, generations_in, is_in, nexts_in, slot_at, slots_in}
 use Rattle.descriptor_table.specs.Tables.{count, renewed, slots_of}
-use Rattle.descriptor_table.specs.declared.handle.SetHandle.{SetHandle}
 use Rattle.descriptor_table.specs.declared.set_table.SetTable.{SetTable}
 use Rattle.descriptor_table.specs.declared.slot.Chain.{Chain}
 use Rattle.descriptor_table.specs.declared.slot.ListHead.{ListHead}
@@ -70,19 +69,13 @@ pub enqueue-requires-clause-within : goal.enqueue-requires-clause-within
 enqueue-requires-clause-within g c = (let d = goal.at.enqueue-requires-clause-within g c in still_there g d.After-renew-generation (first g d.After-index_mut-head).0)
 
 pub enqueue-requires-clause-came : goal.enqueue-requires-clause-came
-enqueue-requires-clause-came g c =
-    let s = c.args.self.now in
-    let o = slot_at (slots_in s.slots) c.index_mut-head.result.now.chain.first in
-    let p = first g (goal.at.enqueue-requires-clause-came g c).After-index_mut-head in
-    (slots_in s.slots, renewed c.args.used o, c.renew-generation.ensures.writes.slots, refl, (kept_is (c.args.layout + 2) o (omega arith) p.1).1, listed_out (c.args.layout + 2) o p.1, s.sound.queue)
+enqueue-requires-clause-came g c = search (rules, first, kept_is, listed_out)
 
 pub renew-generation-requires-clause-within : goal.renew-generation-requires-clause-within
 renew-generation-requires-clause-within g c = (first g (goal.at.renew-generation-requires-clause-within g c).After-index_mut-head).0
 
 pub renew-generation-requires-clause-next : goal.renew-generation-requires-clause-next
-renew-generation-requires-clause-next g c =
-    let p = first g (goal.at.renew-generation-requires-clause-next g c).After-index_mut-head in
-    (kept_is (c.args.layout + 2) (slot_at (slots_in c.args.self.now.slots) c.index_mut-head.result.now.chain.first) (omega arith) p.1).0
+renew-generation-requires-clause-next g c = search (rules, first, kept_is)
 
 pub overflow_sub-head : goal.overflow_sub-head
 overflow_sub-head g c = (let some = some g (goal.at.overflow_sub-head g c).After-index_mut-head in omega arith)
@@ -101,9 +94,7 @@ invariant_of-self g c =
     record { sound = subst (λ room. AreSound c.renew-generation.new.self (chains_in (set s.lists.items (c.args.layout + 2) (new_head g a))) (generations_in (set s.lists.items (c.args.layout + 2) (new_head g a))) c.enqueue.new.waiting.items room s.keep c.enqueue.new.newest) (sym c.enqueue.ensures.capacity) (in_place (λ chains generations. AreSound c.renew-generation.new.self chains generations c.enqueue.new.waiting.items s.waiting.cap s.keep c.enqueue.new.newest) _ _ _ _ (chains g a) (generations g a) sound) }
 
 pub returns-clause-kept : goal.returns-clause-kept
-returns-clause-kept g c =
-    let p = first g (goal.at.returns-clause-kept g c).After-index_mut-head in
-    ap (λ (h : SetHandle). is_in (c.args.layout + 2) (slot_at (slots_in c.args.self.now.slots) h.place)) c.of-name.ensures ∙ p.1
+returns-clause-kept g c = search (rules, first)
 
 pub returns-clause-stays : goal.returns-clause-stays
 returns-clause-stays g c =

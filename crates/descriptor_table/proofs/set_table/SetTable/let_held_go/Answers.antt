@@ -1,6 +1,5 @@
 use Rattle.descriptor_table.specs.declared.slot.Use.TheVariants.{Going}
-use Rattle.std.proofs.Common.{◌≡◌, false, inl, inr, refl, sym, subst, arith}
-use Rattle.descriptor_table.specs.Slots.{slot_at}
+use Rattle.std.proofs.Common.{refl, arith, rules}
 use Rattle.descriptor_table.specs.Tables.{holds, slots_of}
 use Rattle.descriptor_table.proofs.Counting.{same_or}
 use Rattle.descriptor_table.proofs.Turning.{stays_more, use_one}
@@ -17,9 +16,6 @@ loop-place-preserved g c =
     let one = use_one holds Going (slots_of c.args.self.now) now new c.loop-place.place inv.turning (omega arith) c.let_go_at.ensures.slots (λ s. refl) in
     record {
       turning = one.turning;
-      done = λ p less. elim (same_or p c.loop-place.place) [
-        | inl e ↦ subst (λ p. holds (slot_at new p) ≡ false) (sym e) one.here
-        | inr ne ↦ one.others p (inv.done p (omega arith))
-      ];
+      done = λ p less. search (rules, same_or);
       stays = stays_more c.args.self.now c.loop-place.self c.let_go_at.new.self inv.stays c.let_go_at.ensures.stays;
     }

@@ -1,5 +1,5 @@
-use Rattle.std.proofs.Common.{◌≡◌, ◌+◌, refl, sym, ap, set, arith}
-use Rattle.descriptor_table.specs.Slots.{AreSound, chain_at, chains_in, generation_at, generations_in, nexts_in, slot_at, slots_in}
+use Rattle.std.proofs.Common.{◌≡◌, ◌+◌, refl, sym, ap, set, arith, rules}
+use Rattle.descriptor_table.specs.Slots.{AreSound, chain_at, chains_in, generations_in, nexts_in, slot_at, slots_in}
 use Rattle.descriptor_table.specs.Tables.{used_for}
 use Rattle.descriptor_table.specs.declared.slot.Chain.{Chain}
 use Rattle.descriptor_table.specs.declared.slot.ListHead.{ListHead}
@@ -42,14 +42,4 @@ invariant_of-self g c =
     record { sound = in_place (λ chains generations. AreSound c.link.new.self chains generations s.waiting.items s.waiting.cap s.keep s.newest) _ _ _ _ (chains g d) (generations g d) sound }
 
 pub returns : goal.returns
-returns g c =
-    let s = c.args.self.now in
-    let d = (goal.at.returns g c).After-index_mut-head in
-    record {
-      slots = c.link.ensures.writes.slots;
-      stays = record {
-        settings = λ i. record { number = s.number; lists = lists_stay s.lists.items c.args.list (new_head g d) i; generations = generation_at (generations g d i); keep = s.keep };
-        space = c.link.ensures.writes.space;
-        waiting = refl;
-      };
-    }
+returns g c = search (rules, generations, lists_stay)

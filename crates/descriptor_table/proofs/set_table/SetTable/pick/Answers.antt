@@ -1,6 +1,6 @@
-use Rattle.std.proofs.Common.{◌≡◌, ◌-◌, ◌<◌, length, true, refl, sym, set, arith}
+use Rattle.std.proofs.Common.{◌≡◌, ◌-◌, ◌<◌, length, true, refl, sym, set, arith, rules}
 use Rattle.std.proofs.lemmas.List.{length-map}
-use Rattle.descriptor_table.specs.Slots.{AreSound, chain_at, chains_in, generation_at, generations_in, is_in, nexts_in, slot_at, slots_in}
+use Rattle.descriptor_table.specs.Slots.{AreSound, chain_at, chains_in, generations_in, is_in, nexts_in, slot_at, slots_in}
 use Rattle.descriptor_table.specs.Tables.{used_for}
 use Rattle.descriptor_table.specs.declared.slot.ListHead.{ListHead}
 use Rattle.descriptor_table.specs.declared.slot.Use.TheVariants.{Taken}
@@ -58,9 +58,5 @@ returns g c =
     let p = first g (goal.at.returns g c).Else-head-eq0 in
     record {
       slots = record { was = p.1; within = p.0; slots = c.set_use.ensures.writes.slots };
-      stays = record {
-        settings = λ i. record { number = s.number; lists = lists_stay s.lists.items c.args.list (new_head g a) i; generations = generation_at (generations g a i); keep = s.keep };
-        space = c.set_use.ensures.writes.space;
-        waiting = refl;
-      };
+      stays = search (rules, generations, lists_stay);
     }

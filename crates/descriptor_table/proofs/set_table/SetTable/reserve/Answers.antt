@@ -1,8 +1,8 @@
-use Rattle.std.proofs.Common.{◌≡◌, ℕ, ◌∙◌, ap, subst, arith}
-use Rattle.std.specs.Prelude.{Err, Ok, OnErr, OnOk, Result}
+use Rattle.std.proofs.Common.{◌≡◌, ◌∙◌, ap, rules}
+use Rattle.std.specs.Prelude.{OnErr, Result}
 use Rattle.std.proofs.lemmas.List.{length-map}
-use Rattle.descriptor_table.specs.Slots.{nexts_in, slot_of, slots_in, chains_in}
-use Rattle.descriptor_table.specs.Tables.{HasPlaces, count, is_usable, slots_of}
+use Rattle.descriptor_table.specs.Slots.{nexts_in, slots_in, chains_in}
+use Rattle.descriptor_table.specs.Tables.{count, is_usable, slots_of}
 use Rattle.descriptor_table.specs.declared.slot.Chain.{Chain}
 use Rattle.descriptor_table.proofs.Counts.{chain_count}
 use Rattle.descriptor_table.proofs.set_table.SetTable.reserve.Goals as goal
@@ -12,33 +12,16 @@ vacant : (g : _) (c : After-chain-vacant g) → c.chain-vacant.result.count ≡ 
 vacant g c = let s = c.args.self.now in ap (λ (d : Chain). d.count) c.chain-vacant.ensures ∙ chain_count (slots_in s.slots) (nexts_in s.slots) (chains_in s.lists.items) s.sound.linked 0
 
 pub returns-then-additional-vacant-clause-room : goal.returns-then-additional-vacant-clause-room
-returns-then-additional-vacant-clause-room g c =
-    let s = c.args.self.now in
-    let same = vacant g (goal.at.returns-then-additional-vacant-clause-room g c).After-chain-vacant in
-    let le = c.if-additional-vacant.true in
-    let few = s.sound.size in
-    let room = s.sound.fits in
-    let space = s.slots.entries.ok in
-    let long = length-map s.slots.entries.items slot_of in
-    record { few = omega arith; slots = omega arith; waiting = omega arith }
+returns-then-additional-vacant-clause-room g c = search (rules, length-map, vacant)
 
 pub returns-clause-room : goal.returns-clause-room
-returns-clause-room g c =
-    let same = vacant g (goal.at.returns-clause-room g c).After-chain-vacant in
-    let usable = ap (count is_usable) c.reserve_slots.ensures.only.slots in
-    subst (λ (n : ℕ). OnOk c.reserve_slots.result (HasPlaces n c.reserve_slots.new.self)) (omega arith) c.reserve_slots.ensures.room
+returns-clause-room g c = search (rules, vacant)
 
 on_err : {X E P : Type 0} (r : Result X E) → P → OnErr r P
-on_err (Ok x) p = tt
-on_err (Err e) p = p
+on_err x0 p = search rules
 
 pub returns-clause-full : goal.returns-clause-full
-returns-clause-full g c =
-    let same = vacant g (goal.at.returns-clause-full g c).After-chain-vacant in
-    let gt = c.if-additional-vacant.false in
-    on_err c.reserve_slots.result (omega arith)
+returns-clause-full g c = search (rules, on_err, vacant)
 
 pub returns-clause-fits : goal.returns-clause-fits
-returns-clause-fits g c = λ room.
-    let same = vacant g (goal.at.returns-clause-fits g c).After-chain-vacant in
-    c.reserve_slots.ensures.fits (subst (λ (n : ℕ). HasPlaces n c.args.self.now) (omega arith) room)
+returns-clause-fits g c = search (rules, vacant)

@@ -12,18 +12,10 @@ counted : {T : Type 0} (s : SetTable T) (k : ℕ) (d : Chain) → d ≡ chain_at
 counted s k d read = ap (λ (d : Chain). d.count) read ∙ chain_count (slots_in s.slots) (nexts_in s.slots) (chains_in s.lists.items) s.sound.linked k
 
 pub unreachable-requires : goal.unreachable-requires
-unreachable-requires g c =
-    let s = c.loop-self.self in
-    let all = counted s c.args.list c.chain.result c.chain.ensures in
-    let none = none_count (is_in c.args.list) (slots_of s) c.in-None.ensures.slots.none in
-    let more = c.loop-self-test.true in
-    omega arith
+unreachable-requires g c = omega (arith, c.loop-self.self, counted c.loop-self.self c.args.list c.chain.result c.chain.ensures, none_count (is_in c.args.list) (slots_of c.loop-self.self) c.in-None.ensures.slots.none, c.loop-self-test.true)
 
 pub returns-clause-few : goal.returns-clause-few
-returns-clause-few g c =
-    let all = counted c.loop-self.self c.args.list c.chain.result c.chain.ensures in
-    let few = c.loop-self-test.false in
-    omega arith
+returns-clause-few g c = omega (arith, counted c.loop-self.self c.args.list c.chain.result c.chain.ensures, c.loop-self-test.false)
 
 pub loop-self-smaller : goal.loop-self-smaller
 loop-self-smaller g c = go_fewer (is_in c.args.list) (slots_of c.loop-self.self) (slots_of c.pick.new.self) (slots_of c.link.new.self) c.in-Some.place c.in-Some.ensures.slots c.link.ensures.slots (λ s. going_out c.args.list s c.requires.list)

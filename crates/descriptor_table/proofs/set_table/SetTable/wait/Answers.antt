@@ -1,4 +1,4 @@
-use Rattle.std.proofs.Common.{refl, subst, sym}
+use Rattle.std.proofs.Common.{refl, subst, sym, rules}
 use Rattle.descriptor_table.specs.Slots.{AreSound, IsQueue, chains_in, generations_in, slot_at, slots_in}
 use Rattle.descriptor_table.specs.Tables.{used_for}
 use Rattle.descriptor_table.specs.declared.slot.Use.TheVariants.{Waits}
@@ -7,10 +7,7 @@ use Rattle.descriptor_table.proofs.Sound.{listed, queued}
 use Rattle.descriptor_table.proofs.set_table.SetTable.wait.Goals as goal
 
 pub enqueue-requires-clause-came : goal.enqueue-requires-clause-came
-enqueue-requires-clause-came g c =
-    let s = c.args.self.now in
-    let was = slot_at (slots_in s.slots) c.args.place in
-    (slots_in s.slots, used_for (Waits c.args.frame) was, c.set_use.ensures.writes.slots, refl, c.requires.full, taken_out was c.requires.taken.taken, s.sound.queue)
+enqueue-requires-clause-came g c = search (rules, taken_out)
 
 pub invariant_of-self : goal.invariant_of-self
 invariant_of-self g c =
