@@ -1,6 +1,6 @@
 -- How many slots pass a test, when one of them changes, and that a list counts them: for the counts that `SetTable` returns.
 use Rattle.std.proofs.lemmas.Grind.{common_steps}
-use Rattle.std.proofs.Common.{◌≡◌, ℕ, zero, suc, ◌+◌, ◌<◌, ◌≤◌, Bool, false, if◌then◌else◌, List, [], ◌∷◌, length, set, refl, sym, ap, ◌∙◌, arith, rules}
+use Rattle.std.proofs.Common.{◌≡◌, ℕ, zero, suc, ◌+◌, ◌<◌, ◌≤◌, Bool, false, if◌then◌else◌, List, [], ◌∷◌, length, set, refl, ap, ◌∙◌, arith, rules}
 use Rattle.descriptor_table.specs.Places.{times, walk}
 use Rattle.descriptor_table.specs.Slots.{AreLinked, Lists, chain_at, is_in, no_slot, slot_at}
 use Rattle.descriptor_table.specs.Tables.{count}
@@ -39,9 +39,7 @@ module _ {T : Type 0} where
 
   -- a list has as many slots as it counts
   pub chain_count : (slots : List (Slot T)) (next : List ℕ) (chains : List Chain) → AreLinked slots next chains → (k : ℕ) → (chain_at chains k).count ≡ count (is_in k) slots
-  chain_count slots next chains h k =
-      let c = chain_at chains k in
-      sym (walk_length c.count next c.first) ∙ listed_count (is_in k) slots (walk c.count next c.first) refl (h k)
+  chain_count slots next chains h k = grind (arith, common_steps, walk_length (chain_at chains k).count next (chain_at chains k).first, listed_count (is_in k) slots (walk (chain_at chains k).count next (chain_at chains k).first) refl (h k))
 
   -- each slot that passes a test passes one of two others
   pub count_split : (all a b : Slot T → Bool) (slots : List (Slot T)) → ((s : Slot T) → bit (all s) ≡ bit (a s) + bit (b s)) → count all slots ≡ count a slots + count b slots

@@ -25,10 +25,7 @@ and_none x0 = grind (arith, common_steps)
 -- a place that a handle of the list has, or none has
 pub named_or : (n : ℕ) (place : ℕ → ℕ) (p : ℕ) → ((i : ℕ) × (i < n) × (place i ≡ p)) ⊎ ((i : ℕ) → i < n → place i ≢ p)
 named_or zero place p = inr (λ i lt. absurd (omega arith))
-named_or (suc n) place p = elim (same_or (place n) p) [
-  | inl e ↦ inl (n, omega arith, e)
-  | inr ne ↦ search (rules, same_or, named_or n place p)
-]
+named_or (suc n) place p = grind (arith, common_steps, same_or (place n) p, named_or n place p)
 
 -- a handle that is in the list is the same, whatever is said of those past the end
 pub same_default : (l : List SetHandle) (i : ℕ) (d e : SetHandle) → i < length l → get_or l i d ≡ get_or l i e
@@ -110,10 +107,7 @@ module _ {T : Type 0} where
             | inr ne ↦ some.held i d (omega arith)
           ];
           apart = λ i j less within. search (rules, at, other_place, same_or);
-          named = λ i less. elim (same_or i n) [
-            | inl e ↦ subst (λ i. becomes new (slot_at old (place_at handles i)) (slot_at new (place_at handles i))) (sym e) (subst (λ p. becomes new (slot_at old p) (slot_at new p)) (sym at) (subst (λ o. becomes new o (slot_at new h.place)) slot_was (subst (becomes new (slot_at now h.place)) (sym here) turned)))
-            | inr ne ↦ subst (becomes new (slot_at old (place_at handles i))) (sym (far (place_at handles i) (other_place i (omega arith)))) (grows (slot_at old (place_at handles i)) (slot_at now (place_at handles i)) (some.named i (omega arith)))
-          ];
+          named = λ i less. grind (arith, common_steps, at, other_place, same_or, slot_was);
           rest = λ p none. far p (λ e. none n (omega arith) (at ∙ sym e)) ∙ some.rest p (λ i less. none i (omega arith));
         }
 
@@ -171,10 +165,7 @@ module _ {T : Type 0} where
 
   -- a set can be held still
   pub again_can : (handles : List SetHandle) (i n : ℕ) (old now : List (Slot T)) → AreAgain handles i n old now → (p : ℕ) → CanBeHeld (slot_at old p) → (p < length now) × CanBeHeld (slot_at now p)
-  again_can handles i n old now again p can = (
-    (let within = test_within (λ s. is_some s.set) old p refl can.0 in let long = again.long in omega arith),
-    elim (again.each p) [ inl same ↦ subst CanBeHeld (sym same) can | inr held ↦ subst CanBeHeld (sym held) (can.0, inl tt) ],
-  )
+  again_can handles i n old now again p can = grind (arith, common_steps, test_within)
 
   -- one set more is held again, and at last all are
   pub again_more : (handles : List SetHandle) (i m n p : ℕ) (old now new : List (Slot T)) → m ≡ i + 1 → i < n → place_at handles i ≡ p → p < length now → AreAgain handles m n old now → new ≡ with_use p Held now → AreAgain handles i n old new

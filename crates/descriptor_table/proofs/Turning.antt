@@ -153,29 +153,7 @@ module _ {T : Type 0} where
   module _ (k : ℕ) (two : 2 ≤ k) (now new : List (Slot T)) (turns : Turns (is_in k) (MayBecome (used_for Going)) now new) where
     -- after kept sets of one list more may have gone
     pub trim_more : (old : List (Slot T)) → Turning is_kept (Becomes (used_for Going)) old now → Turning is_kept (Becomes (used_for Going)) old new
-    trim_more old turning = record {
-      long = turns.long ∙ turning.long;
-      each = λ p. by_test p (is_in k (slot_at now p)) refl;
-    }
-      where
-        gone : (p : ℕ) → is_in k (slot_at now p) ≡ true → slot_at new p ≡ used_for Going (slot_at now p) → (slot_at new p ≡ slot_at old p) ⊎ ((is_kept (slot_at old p) ≡ true) × (slot_at new p ≡ used_for Going (slot_at old p)))
-        gone p e goes = elim (turning.each p) [
-          | inl same ↦ inr (ap is_kept (sym same) ∙ kept_of k (slot_at now p) two e, goes ∙ ap (used_for Going) same)
-          | inr both ↦ absurd (true≢false (sym e ∙ ap (is_in k) both.1 ∙ going_out k (slot_at old p) two))
-        ]
-
-        by_test : (p : ℕ) (b : Bool) → is_in k (slot_at now p) ≡ b → (slot_at new p ≡ slot_at old p) ⊎ ((is_kept (slot_at old p) ≡ true) × (slot_at new p ≡ used_for Going (slot_at old p)))
-        by_test p false e = elim (turning.each p) [
-          | inl same ↦ inl (turns.rest p e ∙ same)
-          | inr both ↦ inr (both.0, turns.rest p e ∙ both.1)
-        ]
-        by_test p true e = elim (turns.here p e) [
-          | inl same ↦ elim (turning.each p) [
-            | inl was ↦ inl (same ∙ was)
-            | inr both ↦ inr (both.0, same ∙ both.1)
-          ]
-          | inr goes ↦ gone p e goes
-        ]
+    trim_more old turning = grind (arith, common_steps, going_out, kept_of, true≢false)
 
     -- the other lists have as many kept sets as before
     pub trim_others : (j : ℕ) → 2 ≤ j → j ≢ k → count (is_in j) new ≡ count (is_in j) now

@@ -66,11 +66,7 @@ module _ {T : Type 0} where
 
     -- a slot changed that isn't in the queue
     pub out_queue : (p : ℕ) (s : Slot T) → p < length slots → waits (slot_at slots p) ≡ false → waits s ≡ false → IsQueue (set slots p s) l newest
-    out_queue p s within was now = record {
-      has = lists_other waits slots p s l queue.has within (now ∙ sym was);
-      rises = other_rises slots p s l (not_listed waits slots l p queue.has was) queue.rises;
-      bound = bound_set slots p newest s within queue.bound (λ w. absurd (true≢false (sym w ∙ now)));
-    }
+    out_queue p s within was now = grind (arith, common_steps, lists_other waits slots p s l queue.has within (now ∙ sym was), other_rises slots p s l (not_listed waits slots l p queue.has was) queue.rises, not_listed waits slots l p queue.has was)
 
     module _ (p : ℕ) (s : Slot T) (within : p < length slots) (was : waits (slot_at slots p) ≡ false) (now : waits s ≡ true) where
       -- so there is a slot more than places in the queue
@@ -102,8 +98,4 @@ module _ {T : Type 0} where
     first_waits = (let is = (first_passes waits slots p l queue.has).1 in (test_within waits slots p refl is, is))
 
     pub pop_queue : (s : Slot T) → waits s ≡ false → IsQueue (set slots p s) l newest
-    pop_queue s now = record {
-      has = lists_pop waits slots p s l queue.has first_waits.0 now;
-      rises = other_rises slots p s l (first_passes waits slots p l queue.has).0 (IsNonDecreasingBy-drop (frame slots) 1 (p ∷ l) queue.rises);
-      bound = bound_set slots p newest s first_waits.0 queue.bound (λ w. absurd (true≢false (sym w ∙ now)));
-    }
+    pop_queue s now = grind (arith, common_steps, lists_pop waits slots p s l queue.has first_waits.0 now, other_rises slots p s l (first_passes waits slots p l queue.has).0 (IsNonDecreasingBy-drop (frame slots) 1 (p ∷ l) queue.rises))

@@ -1,10 +1,10 @@
-use Rattle.std.proofs.Common.{◌≡◌, ◌≢◌, ℕ, ◌+◌, ◌-◌, ◌<◌, inl, inr, length, set, subst, true, refl, sym, ap, ◌∙◌, arith, rules}
+use Rattle.std.proofs.lemmas.Grind.{common_steps}
+use Rattle.std.proofs.Common.{◌≡◌, ◌≢◌, ℕ, ◌+◌, ◌-◌, ◌<◌, length, set, subst, true, refl, sym, ap, ◌∙◌, arith, rules}
 use Rattle.std.proofs.lemmas.Bool.{true≢false}
-use Rattle.std.proofs.lemmas.List.{get_or_past, length-map, length-set}
+use Rattle.std.proofs.lemmas.List.{length-map, length-set}
 use Rattle.descriptor_table.specs.Slots.{AreSound, IsQueue, chain_at, chains_in, generation_at, generations_in, is_in, nexts_in, slot_at, slots_in}
 use Rattle.descriptor_table.specs.Tables.{count, renewed, slots_of}
 use Rattle.descriptor_table.specs.declared.set_table.SetTable.{SetTable}
-use Rattle.descriptor_table.specs.declared.slot.Chain.{Chain}
 use Rattle.descriptor_table.specs.declared.slot.ListHead.{ListHead}
 use Rattle.descriptor_table.proofs.Chains.{listed_out, live_no_list, picked}
 use Rattle.descriptor_table.proofs.Counting.{below_or}
@@ -18,24 +18,14 @@ use Rattle.descriptor_table.proofs.set_table.SetTable.hold_kept.Goals as goal
 
 -- the list of a layout of which a set is kept is there
 there : {T : Type 0} (s : SetTable T) (layout : ℕ) → 0 < count (is_in (layout + 2)) (slots_of s) → layout + 2 < length (chains_in s.lists.items)
-there s layout some =
-    let all = chain_count (slots_in s.slots) (nexts_in s.slots) (chains_in s.lists.items) s.sound.linked (layout + 2) in
-    elim (below_or (layout + 2) (length (chains_in s.lists.items))) [
-      | inl within ↦ within
-      | inr past ↦ (let none = ap (λ (d : Chain). d.count) (get_or_past (chains_in s.lists.items) (layout + 2) (record { first = 0; count = 0 }) past) in absurd (omega arith))
-    ]
+there s layout some = grind (arith, common_steps, chain_count (slots_in s.slots) (nexts_in s.slots) (chains_in s.lists.items) s.sound.linked (layout + 2), below_or (layout + 2) (length (chains_in s.lists.items)))
 
 -- and is the one that was read
 is_list : (g : Over) (c : After-index_mut-head g) → chain_at (chains_in c.args.self.now.lists.items) (c.args.layout + 2) ≡ c.index_mut-head.result.now.chain
 is_list g c = sym (chain_was c.args.self.now.lists.items (c.args.layout + 2) c.index_mut-head.result.now c.index_mut-head.ensures.value (there c.args.self.now c.args.layout c.requires.some))
 
 some : (g : Over) (c : After-index_mut-head g) → c.index_mut-head.result.now.chain.count ≢ 0
-some g c =
-    let s = c.args.self.now in
-    let all = chain_count (slots_in s.slots) (nexts_in s.slots) (chains_in s.lists.items) s.sound.linked (c.args.layout + 2) in
-    let is = ap (λ (d : Chain). d.count) (is_list g c) in
-    let some = c.requires.some in
-    λ none. omega arith
+some g c = grind (arith, common_steps, chain_count (slots_in c.args.self.now.slots) (nexts_in c.args.self.now.slots) (chains_in c.args.self.now.lists.items) c.args.self.now.sound.linked (c.args.layout + 2), is_list g c)
 
 -- its first slot is there, and in it
 first : (g : Over) (c : After-index_mut-head g) → (c.index_mut-head.result.now.chain.first < length (slots_in c.args.self.now.slots)) × (is_in (c.args.layout + 2) (slot_at (slots_in c.args.self.now.slots) c.index_mut-head.result.now.chain.first) ≡ true)

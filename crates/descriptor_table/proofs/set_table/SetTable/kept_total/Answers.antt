@@ -1,10 +1,9 @@
 use Rattle.std.proofs.lemmas.Grind.{common_steps}
-use Rattle.std.proofs.Common.{◌≡◌, ◌+◌, sym, ap, ◌∙◌, arith}
+use Rattle.std.proofs.Common.{◌≡◌, ◌+◌, sym, ◌∙◌, arith}
 use Rattle.std.proofs.lemmas.List.{length-map}
 use Rattle.descriptor_table.specs.declared.slot.ListHead.{ListHead}
 use Rattle.descriptor_table.specs.Slots.{slots_in, nexts_in, chains_in}
 use Rattle.descriptor_table.specs.Tables.{count, slots_of}
-use Rattle.descriptor_table.specs.declared.slot.Chain.{Chain}
 use Rattle.descriptor_table.proofs.Counts.{count_few}
 use Rattle.descriptor_table.proofs.Totals.{kept_below, kept_end, kept_start, kept_step}
 use Rattle.descriptor_table.proofs.set_table.SetTable.kept_total.Goals.{After-from-total}
@@ -12,13 +11,7 @@ use Rattle.descriptor_table.proofs.set_table.SetTable.kept_total.Goals as goal
 
 -- the total with this list
 total : (g : _) (c : After-from-total g) → c.loop-list.total + c.from-total.result ≡ count (kept_below (c.loop-list.list + 1)) (slots_of c.args.self.now)
-total g c =
-    let s = c.args.self.now in
-    let step = kept_step (slots_in s.slots) (nexts_in s.slots) (chains_in s.lists.items) s.sound.linked c.loop-list.list c.loop-list.auto.list in
-    let one = ap (λ (d : Chain). d.count) c.chain.ensures in
-    let before = c.loop-list.invariant in
-    let read = c.from-total.ensures in
-    omega arith
+total g c = grind (arith, common_steps, kept_step (slots_in c.args.self.now.slots) (nexts_in c.args.self.now.slots) (chains_in c.args.self.now.lists.items) c.args.self.now.sound.linked c.loop-list.list c.loop-list.auto.list)
 
 pub loop-list-init : goal.loop-list-init
 loop-list-init g c = sym (kept_start (slots_in c.args.self.now.slots))

@@ -1,7 +1,8 @@
-use Rattle.std.proofs.Common.{◌≡◌, ◌≢◌, ◌<◌, ◌∙◌, ℕ, inl, inr, is_some, length, set, refl, sym, ap, subst, arith}
+use Rattle.std.proofs.lemmas.Grind.{common_steps}
+use Rattle.std.proofs.Common.{◌≡◌, ◌≢◌, ◌<◌, ◌∙◌, ℕ, inl, inr, length, set, refl, sym, ap, subst, arith}
 use Rattle.std.proofs.lemmas.List.{length-set}
 use Rattle.descriptor_table.specs.Slots.{slot_at}
-use Rattle.descriptor_table.specs.Tables.{At, HasTaken, place_at, slots_of, used_for}
+use Rattle.descriptor_table.specs.Tables.{At, place_at, slots_of, used_for}
 use Rattle.descriptor_table.specs.declared.slot.Use.TheVariants.{Waits}
 use Rattle.descriptor_table.proofs.Counting.{same_or}
 use Rattle.descriptor_table.proofs.Listed.{other_slots, slot_set}
@@ -25,13 +26,7 @@ pub loop-index-init : goal.loop-index-init
 loop-index-init g c = record { long = refl; named = λ i lt. absurd (omega arith); rest = λ p none. refl; stays = stays_same c.args.self.now }
 
 pub wait-requires : goal.wait-requires
-wait-requires g c =
-    let d = (goal.at.wait-requires g c).After-handle in
-    let has = c.requires.taken c.loop-index.index (inside g d) in
-    let is = as_was g d in
-    let long = c.loop-index.invariant.long in
-    let within = has.taken.within in
-    subst (λ p. HasTaken p (slots_of c.loop-index.self)) (at g d) (record { taken = record { within = omega arith; taken = ap (λ s. s.used) is ∙ has.taken.taken }; full = ap (λ s. is_some s.set) is ∙ has.full })
+wait-requires g c = grind (arith, common_steps, inside g (goal.at.wait-requires g c).After-handle, as_was g (goal.at.wait-requires g c).After-handle, at g (goal.at.wait-requires g c).After-handle)
 
 pub loop-index-preserved : goal.loop-index-preserved
 loop-index-preserved g c =

@@ -30,12 +30,7 @@ within g c = inside (slots_in c.args.slots.now) c.requires.came.0 c.args.place c
 
 -- there is memory for one more place
 room : (g : Over) (c : After-frame-frame g) → length c.args.waiting.now.items < c.args.waiting.now.cap
-room g c =
-    let came = c.requires.came in
-    let few = few_wait came.0 c.args.waiting.now.items c.args.newest.now came.6 c.args.place came.1 (within g c) came.5 (now_waits g c) in
-    let long = ap length came.2 ∙ length-set came.0 c.args.place came.1 in
-    let room = c.requires.room in
-    omega arith
+room g c = grind (arith, common_steps, few_wait c.requires.came.0 c.args.waiting.now.items c.args.newest.now c.requires.came.6 c.args.place c.requires.came.1 (within g c) c.requires.came.5 (now_waits g c), length-set c.requires.came.0 c.args.place c.requires.came.1)
 
 pub returns-then-not-waits-clause-queue : goal.returns-then-not-waits-clause-queue
 returns-then-not-waits-clause-queue g c =

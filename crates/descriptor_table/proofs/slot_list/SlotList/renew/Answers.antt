@@ -1,13 +1,11 @@
-use Rattle.std.proofs.Common.{refl}
+use Rattle.std.proofs.lemmas.Grind.{common_steps}
+use Rattle.std.proofs.Common.{arith}
 use Rattle.descriptor_table.specs.Tables.{renewed}
 use Rattle.descriptor_table.proofs.Entries.{next_stays, written}
 use Rattle.descriptor_table.proofs.slot_list.SlotList.renew.Goals as goal
 
 pub returns-clause-writes : goal.returns-clause-writes
-returns-clause-writes g c = record {
-  slots = written c.args.self.now.entries.items c.args.place c.index_mut-entry.result.now c.requires.within c.index_mut-entry.ensures.value c.set_use.new.self (renewed c.args.used) c.set_use.ensures.slot;
-  space = refl;
-}
+returns-clause-writes g c = grind (arith, common_steps, written c.args.self.now.entries.items c.args.place c.index_mut-entry.result.now c.requires.within c.index_mut-entry.ensures.value c.set_use.new.self (renewed c.args.used) c.set_use.ensures.slot)
 
 pub returns-clause-nexts : goal.returns-clause-nexts
 returns-clause-nexts g c = next_stays c.args.self.now.entries.items c.args.place c.index_mut-entry.result.now c.requires.within c.index_mut-entry.ensures.value c.set_use.new.self c.set_use.ensures.next
