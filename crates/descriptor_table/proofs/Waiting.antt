@@ -1,5 +1,4 @@
--- The queue of the sets that wait, when a place comes to it or leaves it: for `put_place`, `enqueue`, and
--- `SetTable::pick_waiting` and `pick_due`.
+-- The queue of the sets that wait, when a place comes to it or leaves it: for `enqueue`, and `SetTable::pick_waiting` and `pick_due`.
 use Rattle.std.proofs.lemmas.Grind.{common_steps}
 use Rattle.std.proofs.Common.{◌≡◌, ◌≢◌, ℕ, zero, suc, ◌+◌, ◌<◌, ◌≤◌, ◌==◌, Bool, true, false, if◌then◌else◌, List, [], ◌∷◌, insert, length, get_or, set, inl, inr, refl, sym, ap, subst, ◌∙◌, arith, rules}
 use Rattle.std.proofs.lemmas.List.{length-set}
