@@ -4,9 +4,8 @@ use Rattle.std.proofs.Common.{◌≡◌, ℕ, ◌+◌, ◌⊎◌, ◌&&◌, ◌|
 use Rattle.std.proofs.lemmas.Option.{none-some}
 use Rattle.gpu_descriptor_types.specs.declared.device.DescriptorDevice.{Ghosts}
 use Rattle.gpu_descriptor.specs.declared.set.DescriptorSet.{DescriptorSet}
-use Rattle.descriptor_table.specs.Slots.{in_list, slot_at, waits_for}
+use Rattle.descriptor_table.specs.Slots.{Slot, in_list, slot_at, waits_for}
 use Rattle.descriptor_table.specs.Tables.{came_under, is_held_use}
-use Rattle.descriptor_table.specs.Slots.{Slot}
 use Rattle.descriptor_table.specs.declared.slot.Use.{Use}
 use Rattle.descriptor_manager.specs.Stores.{IsAtRest, KeepsStore, Settles, is_placed, slots_in}
 use Rattle.descriptor_manager.specs.declared.store.Store.{Store}

@@ -1,10 +1,9 @@
 -- Sets that are freed: they are kept, or leave their slots.
 use Rattle.std.proofs.Common.{◌≡◌, ℕ, ◌+◌, ◌≤◌, ◌&&◌, nat_lt, ne_eqb, Bool, true, false, List, is_some, inl, inr, ap, arith, rules}
 use Rattle.descriptor_table.specs.Sets.{sets_in}
-use Rattle.descriptor_table.specs.Slots.{goes, is_in, slot_at}
+use Rattle.descriptor_table.specs.Slots.{Slot, goes, is_in, slot_at}
 use Rattle.descriptor_table.specs.Tables.{IsBack, Becomes, MayBecome, Turns, count, is_kept, used_for, vacated}
 use Rattle.descriptor_table.specs.declared.slot.Use.TheVariants.{Kept, Going}
-use Rattle.descriptor_table.specs.Slots.{Slot}
 use Rattle.descriptor_table.proofs.Chains.{lists_apart}
 use Rattle.descriptor_table.proofs.Leaving.{same_sets}
 use Rattle.descriptor_table.proofs.Renewing.{kept_full}

@@ -2,10 +2,9 @@
 use Rattle.std.proofs.Common.{◌≡◌, ℕ, ◌+◌, ◌≤◌, Bool, true, false, if◌then◌else◌, List, inl, inr, refl, sym, ap, ◌∙◌, arith, rules}
 use Rattle.std.proofs.lemmas.Bool.{true≢false}
 use Rattle.descriptor_table.specs.Sets.{sets_in}
-use Rattle.descriptor_table.specs.Slots.{goes, is_in, slot_at}
+use Rattle.descriptor_table.specs.Slots.{Slot, goes, is_in, slot_at}
 use Rattle.descriptor_table.specs.Tables.{AreAged, MayBecome, Turns, Becomes, aged, count, is_kept, used_for, vacated}
 use Rattle.descriptor_table.specs.declared.slot.Use.TheVariants.{Going}
-use Rattle.descriptor_table.specs.Slots.{Slot}
 use Rattle.descriptor_table.proofs.Counts.{count_none}
 use Rattle.descriptor_table.proofs.Renewing.{kept_full}
 use Rattle.descriptor_manager.specs.Stores.{AreCleaned}

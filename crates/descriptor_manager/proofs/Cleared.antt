@@ -1,8 +1,7 @@
 -- What a slot is like after all kept sets went.
 use Rattle.std.proofs.Common.{◌≡◌, ℕ, ◌⊎◌, ne_eqb, Bool, true, if◌then◌else◌, List, None, refl, rules}
-use Rattle.descriptor_table.specs.Slots.{slot_at}
+use Rattle.descriptor_table.specs.Slots.{Slot, slot_at}
 use Rattle.descriptor_table.specs.Tables.{aged, came_under, count, is_kept, vacated}
-use Rattle.descriptor_table.specs.Slots.{Slot}
 use Rattle.descriptor_table.specs.declared.slot.Use.TheVariants.{Vacant}
 use Rattle.descriptor_table.proofs.Counts.{none_count}
 use Rattle.descriptor_manager.specs.Stores.{AreCleaned}

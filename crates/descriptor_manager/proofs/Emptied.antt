@@ -4,9 +4,8 @@
 use Rattle.std.proofs.lemmas.Grind.{common_steps}
 use Rattle.std.proofs.Common.{◌≡◌, ℕ, ◌+◌, ◌≤◌, ◌⊎◌, ◌&&◌, ◌||◌, not, Bool, true, false, List, Option, None, is_some, inl, inr, refl, sym, ap, ◌∙◌, arith}
 use Rattle.std.proofs.lemmas.Bool.{true≢false}
-use Rattle.descriptor_table.specs.Slots.{goes, in_list, is_in, slot_at, waits, waits_for}
+use Rattle.descriptor_table.specs.Slots.{Slot, goes, in_list, is_in, slot_at, waits, waits_for}
 use Rattle.descriptor_table.specs.Tables.{Becomes, MayBecome, Turns, count, holds, is_held_use, is_kept, used_for, vacated}
-use Rattle.descriptor_table.specs.Slots.{Slot}
 use Rattle.descriptor_table.specs.declared.slot.Use.{Use}
 use Rattle.descriptor_table.specs.declared.slot.Use.TheVariants.{Going}
 use Rattle.descriptor_table.proofs.Counts.{count_none}

@@ -2,10 +2,9 @@
 -- For the calls of `Store` by which sets are freed, wait, or go.
 use Rattle.std.proofs.lemmas.Grind.{common_steps}
 use Rattle.std.proofs.Common.{◌≡◌, ◌≢◌, ℕ, ◌+◌, ◌<◌, ◌&&◌, ◌||◌, not, Bool, true, false, List, length, is_some, inl, inr, subst, arith}
-use Rattle.descriptor_table.specs.Slots.{goes, in_list, slot_at, waits_for}
+use Rattle.descriptor_table.specs.Slots.{Slot, goes, in_list, slot_at, waits_for}
 use Rattle.descriptor_table.specs.Tables.{Turns, aged, is_held_use, place_at, used_for, vacated, MayBecome, IsBack}
 use Rattle.descriptor_table.specs.declared.handle.SetHandle.{SetHandle}
-use Rattle.descriptor_table.specs.Slots.{Slot}
 use Rattle.descriptor_table.specs.declared.slot.Use.{Use}
 use Rattle.descriptor_table.specs.declared.slot.Use.TheVariants.{Waits}
 use Rattle.descriptor_table.proofs.Holding.{named_or}

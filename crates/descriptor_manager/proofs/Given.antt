@@ -7,10 +7,9 @@ use Rattle.gpu_descriptor.specs.Model.Agreement.{Item, count_of, outstanding}
 use Rattle.gpu_descriptor.specs.declared.set.DescriptorSet.{DescriptorSet}
 use Rattle.gpu_descriptor.proofs.callers.HeldSets.{count_parts}
 use Rattle.descriptor_table.specs.Sets.{joined, sets_in}
-use Rattle.descriptor_table.specs.Slots.{slot_at}
+use Rattle.descriptor_table.specs.Slots.{Slot, slot_at}
 use Rattle.descriptor_table.specs.Tables.{Puts, Renews, renewed}
 use Rattle.descriptor_table.specs.declared.handle.SetHandle.{SetHandle}
-use Rattle.descriptor_table.specs.Slots.{Slot}
 use Rattle.descriptor_table.specs.declared.slot.Use.{Use}
 use Rattle.descriptor_manager.specs.Stores.{slots_in}
 use Rattle.descriptor_manager.specs.declared.store.Store.{Store}

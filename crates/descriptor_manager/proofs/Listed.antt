@@ -1,10 +1,9 @@
 -- Held sets that are freed by their handles: for `Store::wait_each` and `free_each`.
 use Rattle.std.proofs.Common.{arith, ◌≡◌, ℕ, ◌+◌, ◌<◌, Bool, true, false, List, get_or, length, is_some, inl, inr, refl, ap, subst, ◌∙◌}
 use Rattle.descriptor_table.specs.Sets.{AreHeldOnce, sets_in}
-use Rattle.descriptor_table.specs.Slots.{goes, slot_at}
+use Rattle.descriptor_table.specs.Slots.{Slot, goes, slot_at}
 use Rattle.descriptor_table.specs.Tables.{Becomes, IsBack, TurnEach, Turns, place_at, used_for, vacated}
 use Rattle.descriptor_table.specs.declared.handle.SetHandle.{SetHandle}
-use Rattle.descriptor_table.specs.Slots.{Slot}
 use Rattle.descriptor_table.specs.declared.slot.Use.TheVariants.{Waits, Going, Taken}
 use Rattle.descriptor_table.proofs.Holding.{held_is, named_or}
 use Rattle.descriptor_table.proofs.Leaving.{same_sets}

@@ -10,10 +10,9 @@ use Rattle.gpu_descriptor.specs.declared.set.DescriptorSet.{DescriptorSet}
 use Rattle.std.proofs.lemmas.List.{get_or_past}
 use Rattle.std.proofs.lemmas.Option.{none-some}
 use Rattle.descriptor_table.specs.Sets.{Sets, find, sets_of}
-use Rattle.descriptor_table.specs.Slots.{slot_at}
+use Rattle.descriptor_table.specs.Slots.{Slot, slot_at}
 use Rattle.descriptor_table.specs.Tables.{Settings, came_under, current, lists_with, lists_of}
 use Rattle.descriptor_table.specs.declared.handle.SetHandle.{SetHandle}
-use Rattle.descriptor_table.specs.Slots.{Slot}
 use Rattle.descriptor_table.proofs.Counting.{below_or}
 use Rattle.descriptor_manager.specs.LayoutRegistries.{layout_at, layout_slots, registry_of}
 use Rattle.descriptor_manager.specs.Own.{AreCounted, AreOwn, HasSetsOf, IsOwn}

@@ -8,9 +8,8 @@ use Rattle.gpu_descriptor_types.specs.Meaning.{Meaning}
 use Rattle.gpu_descriptor.specs.declared.layout.SetLayout.{SetLayout}
 use Rattle.gpu_descriptor.specs.declared.set.DescriptorSet.{DescriptorSet}
 use Rattle.descriptor_table.specs.Sets.{sets_of}
-use Rattle.descriptor_table.specs.Slots.{is_kept_of, slot_at}
+use Rattle.descriptor_table.specs.Slots.{Slot, is_kept_of, slot_at}
 use Rattle.descriptor_table.specs.Tables.{Becomes, Turns, came_under, count, removed_at, vacated}
-use Rattle.descriptor_table.specs.Slots.{Slot}
 use Rattle.descriptor_table.proofs.Counts.{none_count}
 use Rattle.descriptor_table.proofs.Leaving.{group_out}
 use Rattle.descriptor_table.proofs.Naming.{names_kept}

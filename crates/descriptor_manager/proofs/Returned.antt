@@ -13,10 +13,9 @@ use Rattle.gpu_descriptor.specs.declared.set.DescriptorSet.{DescriptorSet}
 use Rattle.gpu_descriptor.proofs.release.Freed.{gives_none}
 use Rattle.descriptor_table.specs.Giving.{GivesNext}
 use Rattle.descriptor_table.specs.Sets.{sets_in}
-use Rattle.descriptor_table.specs.Slots.{slot_at}
+use Rattle.descriptor_table.specs.Slots.{Slot, slot_at}
 use Rattle.descriptor_table.specs.Tables.{Turns, Becomes, slots_of, vacated}
 use Rattle.descriptor_table.specs.declared.giving.Giving.{Giving}
-use Rattle.descriptor_table.specs.Slots.{Slot}
 use Rattle.descriptor_table.proofs.Leaving.{given_weigh, tally_length}
 use Rattle.descriptor_manager.proofs.Given.{counts, weight}
 

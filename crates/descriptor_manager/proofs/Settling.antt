@@ -3,9 +3,8 @@ use Rattle.std.proofs.lemmas.Grind.{common_steps}
 use Rattle.std.proofs.Common.{◌≡◌, ℕ, ◌⊎◌, true, [], None, arith}
 use Rattle.std.proofs.lemmas.Option.{none-some}
 use Rattle.gpu_descriptor_types.specs.declared.device.DescriptorDevice.{Ghosts}
-use Rattle.descriptor_table.specs.Slots.{slot_at}
+use Rattle.descriptor_table.specs.Slots.{Slot, slot_at}
 use Rattle.descriptor_table.specs.Tables.{came_under}
-use Rattle.descriptor_table.specs.Slots.{Slot}
 use Rattle.descriptor_manager.specs.Stores.{IsAtRest, NoneComes, SettlesTo, StoreStays, is_placed, slots_in}
 use Rattle.descriptor_manager.specs.declared.store.Store.{Store}
 

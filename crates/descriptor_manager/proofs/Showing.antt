@@ -2,15 +2,13 @@
 use Rattle.std.proofs.lemmas.Grind.{common_steps}
 use Rattle.std.proofs.Common.{◌≡◌, ℕ, ◌+◌, ◌<◌, ◌&&◌, nat_le, Bool, true, false, List, length, if◌then◌else◌, is_some, inl, inr, refl, ap, arith, rules}
 use Rattle.descriptor_table.specs.Sets.{AreHeldOnce, LoseNames, sets_of}
-use Rattle.descriptor_table.specs.Slots.{in_list, is_due, is_live, slot_at, waits_for}
-use Rattle.descriptor_table.specs.Tables.{Turns, aged, is_kept, place_at, vacated, MayBecome, IsBack, used_for, Becomes}
+use Rattle.descriptor_table.specs.Slots.{Slot, in_list, is_due, is_live, slot_at, waits_for}
+use Rattle.descriptor_table.specs.Tables.{Turns, aged, is_kept, place_at, vacated, MayBecome, IsBack, used_for, Becomes, TurnEach}
 use Rattle.descriptor_table.specs.declared.handle.SetHandle.{SetHandle}
-use Rattle.descriptor_table.specs.Slots.{Slot}
 use Rattle.descriptor_table.specs.declared.slot.Use.{Use}
 use Rattle.descriptor_table.specs.declared.slot.Use.TheVariants.{Waits}
 use Rattle.descriptor_table.proofs.Naming.{ShowsSame, names_kept, names_lost, shown}
 use Rattle.descriptor_manager.specs.Stores.{AreCleaned}
-use Rattle.descriptor_table.specs.Tables.{TurnEach}
 
 -- a kept set has no live handle
 kept_use : (u : Use) (k layout generation frame : ℕ) (full opened : Bool) → in_list (layout + 2) u layout generation full ≡ true → is_live frame opened u ≡ false

@@ -10,19 +10,18 @@ use Rattle.descriptor_manager.specs.Own.{AreCounted, AreOwn}
 use Rattle.descriptor_manager.specs.Stores.{generations_in, lists_for, side_of, slots_in}
 use Rattle.descriptor_manager.proofs.Owned.{layout_here, layout_within}
 use Rattle.descriptor_manager.proofs.Removing.{counted_removed, own_removed, removed_names, removed_none}
-use Rattle.descriptor_manager.proofs.manager.SetManager.remove_layout.Given.{Over}
-use Rattle.descriptor_manager.proofs.manager.SetManager.remove_layout.Goals as goal
 use Rattle.descriptor_manager.proofs.manager.SetManager.remove_layout.Goals.{After-place}
+use Rattle.descriptor_manager.proofs.manager.SetManager.remove_layout.Goals as goal
 
 -- the layout is there
-here : (g : Over) (c : After-place g) → (slot_at (layout_slots c.args.self.now.layouts) c.place.result).set ≡ Some c.in-Some.removed
+here : (g : _) (c : After-place g) → (slot_at (layout_slots c.args.self.now.layouts) c.place.result).set ≡ Some c.in-Some.removed
 here g c = layout_here c.args.self.now.layouts c.args.layout c.in-Some.removed c.place.result c.place.ensures (sym c.in-Some.ensures.layout)
 
 -- and leaves its slot
-gone : (g : Over) (c : After-place g) → slot_at (layout_slots c.remove.new.self) c.place.result ≡ vacated (slot_at (layout_slots c.args.self.now.layouts) c.place.result)
+gone : (g : _) (c : After-place g) → slot_at (layout_slots c.remove.new.self) c.place.result ≡ vacated (slot_at (layout_slots c.args.self.now.layouts) c.place.result)
 gone g c = grind (arith, common_steps, here, layout_within, slot_set)
 
-others : (g : Over) (c : After-place g) (n : ℕ) → n ≢ c.place.result → slot_at (layout_slots c.remove.new.self) n ≡ slot_at (layout_slots c.args.self.now.layouts) n
+others : (g : _) (c : After-place g) (n : ℕ) → n ≢ c.place.result → slot_at (layout_slots c.remove.new.self) n ≡ slot_at (layout_slots c.args.self.now.layouts) n
 others g c n ne = grind (arith, common_steps, other_slots)
 
 pub invariant_of-self-clause-sets : goal.invariant_of-self-clause-sets

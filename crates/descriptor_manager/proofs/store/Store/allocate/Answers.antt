@@ -3,11 +3,10 @@ use Rattle.descriptor_table.specs.Slots.{is_kept_of, slot_at}
 use Rattle.descriptor_table.specs.Tables.{place_at}
 use Rattle.descriptor_manager.specs.Stores.{slots_in}
 use Rattle.descriptor_manager.proofs.Requests.{from_kept}
-use Rattle.descriptor_manager.proofs.store.Store.allocate.Given.{Over}
-use Rattle.descriptor_manager.proofs.store.Store.allocate.Goals as goal
 use Rattle.descriptor_manager.proofs.store.Store.allocate.Goals.{After-hold_next}
+use Rattle.descriptor_manager.proofs.store.Store.allocate.Goals as goal
 
-was_kept : (g : Over) (c : After-hold_next g) (i : ℕ) → i < length (c.hold_next.result ∷ []) → is_kept_of c.args.layout (slot_at (slots_in c.args.self.now) (place_at (c.hold_next.result ∷ []) i)) ≡ true
+was_kept : (g : _) (c : After-hold_next g) (i : ℕ) → i < length (c.hold_next.result ∷ []) → is_kept_of c.args.layout (slot_at (slots_in c.args.self.now) (place_at (c.hold_next.result ∷ []) i)) ≡ true
 was_kept g c x2 lt = search rules
 
 pub returns : goal.returns

@@ -6,23 +6,22 @@ use Rattle.descriptor_table.specs.Tables.{place_at}
 use Rattle.descriptor_manager.specs.Stores.{kept_of, slots_in}
 use Rattle.descriptor_manager.proofs.Bringing.{Brings, brought}
 use Rattle.descriptor_manager.proofs.Requests.{from_asked, from_refused}
-use Rattle.descriptor_manager.proofs.store.Store.allocate_new.Given.{Over}
-use Rattle.descriptor_manager.proofs.store.Store.allocate_new.Goals as goal
 use Rattle.descriptor_manager.proofs.store.Store.allocate_new.Goals.{In_ok-bring}
+use Rattle.descriptor_manager.proofs.store.Store.allocate_new.Goals as goal
 
 no_more : {A : Type 0} (l : List A) → length l ≡ 0 → l ≡ []
 no_more [] long = refl
 no_more (x ∷ l) long = absurd (omega arith)
 
 -- one set is on its way
-one : (g : Over) (c : In_ok-bring g) → length c.bring.new.self.coming.items ≡ 1
+one : (g : _) (c : In_ok-bring g) → length c.bring.new.self.coming.items ≡ 1
 one g c = grind (arith, common_steps)
 
-brings : (g : Over) (c : In_ok-bring g) → Brings c.args.known.now.layout c.args.layout 1 c.args.self.now c.bring.new.self
+brings : (g : _) (c : In_ok-bring g) → Brings c.args.known.now.layout c.args.layout 1 c.args.self.now c.bring.new.self
 brings g c = brought c.args.known.now.layout c.args.layout 1 c.args.self.now c.bring.new.self c.requires.short c.in_ok-bring.ensures.asks
 
 -- so none is kept
-kept_first : (g : Over) (c : In_ok-bring g) (handle : _) (i : ℕ) → i < length (handle ∷ []) → i < kept_of c.args.layout c.bring.new.self → is_kept_of c.args.layout (slot_at (slots_in c.bring.new.self) (place_at (handle ∷ []) i)) ≡ true
+kept_first : (g : _) (c : In_ok-bring g) (handle : _) (i : ℕ) → i < length (handle ∷ []) → i < kept_of c.args.layout c.bring.new.self → is_kept_of c.args.layout (slot_at (slots_in c.bring.new.self) (place_at (handle ∷ []) i)) ≡ true
 kept_first g c handle zero lt some = absurd (let few = (brings g c).besides 0 (omega arith) some in let one = one g c in omega arith)
 kept_first g c handle (suc i) lt some = absurd (omega arith)
 

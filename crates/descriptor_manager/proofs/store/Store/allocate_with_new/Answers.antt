@@ -12,22 +12,21 @@ use Rattle.descriptor_manager.proofs.Bringing.{Brings, brought}
 use Rattle.descriptor_manager.proofs.Growing.{grow_more}
 use Rattle.descriptor_manager.proofs.Joining.{held_both, kept_then, stays_then}
 use Rattle.descriptor_manager.proofs.Requests.{from_asked, from_refused}
-use Rattle.descriptor_manager.proofs.store.Store.allocate_with_new.Given.{Over}
-use Rattle.descriptor_manager.proofs.store.Store.allocate_with_new.Goals as goal
 use Rattle.descriptor_manager.proofs.store.Store.allocate_with_new.Goals.{After-hold_coming}
+use Rattle.descriptor_manager.proofs.store.Store.allocate_with_new.Goals as goal
 
-brings : (g : Over) (c : After-hold_coming g) → Brings c.args.known.now.layout c.args.layout (length c.args.names.now) c.args.self.now c.bring.new.self
+brings : (g : _) (c : After-hold_coming g) → Brings c.args.known.now.layout c.args.layout (length c.args.names.now) c.args.self.now c.bring.new.self
 brings g c = brought c.args.known.now.layout c.args.layout (length c.args.names.now) c.args.self.now c.bring.new.self c.requires.short c.in_ok-bring.ensures.asks
 
 -- the handles of kept sets, and of those that came
-both : (g : Over) (c : After-hold_coming g) → g.N.SetName.handles_of (c.hold_kept.new.names ++ c.hold_coming.new.names) ≡ g.N.SetName.handles_of c.hold_kept.new.names ++ g.N.SetName.handles_of c.hold_coming.new.names
+both : (g : _) (c : After-hold_coming g) → g.N.SetName.handles_of (c.hold_kept.new.names ++ c.hold_coming.new.names) ≡ g.N.SetName.handles_of c.hold_kept.new.names ++ g.N.SetName.handles_of c.hold_coming.new.names
 both g c = handles_both g.N.SetName g.met.N.SetName.each c.hold_kept.new.names c.hold_coming.new.names
 
-all_held : (g : Over) (c : After-hold_coming g) → HoldEach c.bring.new.self.table.number (current_in c.args.layout c.bring.new.self) c.args.used (g.N.SetName.handles_of (c.hold_kept.new.names ++ c.hold_coming.new.names)) (slots_in c.bring.new.self) (slots_in c.hold_coming.new.self)
+all_held : (g : _) (c : After-hold_coming g) → HoldEach c.bring.new.self.table.number (current_in c.args.layout c.bring.new.self) c.args.used (g.N.SetName.handles_of (c.hold_kept.new.names ++ c.hold_coming.new.names)) (slots_in c.bring.new.self) (slots_in c.hold_coming.new.self)
 all_held g c = grind (arith, common_steps, both, brought, held_both)
 
 -- the kept ones have the first handles
-first : (g : Over) (c : After-hold_coming g) (i : ℕ) → i < length (g.N.SetName.handles_of (c.hold_kept.new.names ++ c.hold_coming.new.names)) → i < kept_of c.args.layout c.bring.new.self → is_kept_of c.args.layout (slot_at (slots_in c.bring.new.self) (place_at (g.N.SetName.handles_of (c.hold_kept.new.names ++ c.hold_coming.new.names)) i)) ≡ true
+first : (g : _) (c : After-hold_coming g) (i : ℕ) → i < length (g.N.SetName.handles_of (c.hold_kept.new.names ++ c.hold_coming.new.names)) → i < kept_of c.args.layout c.bring.new.self → is_kept_of c.args.layout (slot_at (slots_in c.bring.new.self) (place_at (g.N.SetName.handles_of (c.hold_kept.new.names ++ c.hold_coming.new.names)) i)) ≡ true
 first g c i lt some =
     let a = g.N.SetName.handles_of c.hold_kept.new.names in
     let b = g.N.SetName.handles_of c.hold_coming.new.names in

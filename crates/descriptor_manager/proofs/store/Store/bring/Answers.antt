@@ -6,11 +6,10 @@ use Rattle.gpu_descriptor.proofs.request.Passed.{passed}
 use Rattle.descriptor_manager.proofs.Cleared.{none_left}
 use Rattle.descriptor_manager.proofs.Reserved.{asks_from, cleared, refused_from}
 use Rattle.descriptor_manager.proofs.Results.{if_err, on_ok}
-use Rattle.descriptor_manager.proofs.store.Store.bring.Given.{Over}
-use Rattle.descriptor_manager.proofs.store.Store.bring.Goals as goal
 use Rattle.descriptor_manager.proofs.store.Store.bring.Goals.{After-cleanup}
+use Rattle.descriptor_manager.proofs.store.Store.bring.Goals as goal
 
-cleaned_up : (g : Over) (c : After-cleanup g) → IsCleared c.args.known.now.layout (c.args.many - kept_of c.args.layout c.args.self.now) c.args.many c.args.self.now c.cleanup.new.self
+cleaned_up : (g : _) (c : After-cleanup g) → IsCleared c.args.known.now.layout (c.args.many - kept_of c.args.layout c.args.self.now) c.args.many c.args.self.now c.cleanup.new.self
 cleaned_up g c =
     let layout = c.args.known.now.layout in
     let many = c.args.many in

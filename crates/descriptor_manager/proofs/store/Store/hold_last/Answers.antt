@@ -13,17 +13,16 @@ use Rattle.descriptor_manager.specs.Stores.{ComesOf, generations_in, slots_in}
 use Rattle.descriptor_manager.proofs.Given.{put_count, put_many, renewed_sets}
 use Rattle.descriptor_manager.proofs.Growing.{grow_new}
 use Rattle.descriptor_manager.proofs.Handing.{new_comes, new_one}
-use Rattle.descriptor_manager.proofs.store.Store.hold_last.Given.{Over}
-use Rattle.descriptor_manager.proofs.store.Store.hold_last.Goals as goal
 use Rattle.descriptor_manager.proofs.store.Store.hold_last.Goals.{After-hold}
+use Rattle.descriptor_manager.proofs.store.Store.hold_last.Goals as goal
 
-renews : (g : Over) (c : After-hold g) → Renews c.args.self.now.table.number c.put-place.result c.args.used c.hold.result (slots_of c.put-place.new.self) (slots_of c.hold.new.self)
+renews : (g : _) (c : After-hold g) → Renews c.args.self.now.table.number c.put-place.result c.args.used c.hold.result (slots_of c.put-place.new.self) (slots_of c.hold.new.self)
 renews g c = subst (λ n. Renews n c.put-place.result c.args.used c.hold.result (slots_of c.put-place.new.self) (slots_of c.hold.new.self)) (ap (λ (s : Settings). s.number) c.put-place.ensures.settings) c.hold.ensures.slots
 
-same_sets : (g : Over) (c : After-hold g) → sets_in (slots_of c.hold.new.self) ≡ sets_in (slots_of c.put-place.new.self)
+same_sets : (g : _) (c : After-hold g) → sets_in (slots_of c.hold.new.self) ≡ sets_in (slots_of c.put-place.new.self)
 same_sets g c = renewed_sets c.args.self.now.table.number c.put-place.result c.args.used c.hold.result (slots_of c.put-place.new.self) (slots_of c.hold.new.self) (renews g c)
 
-fewer : (g : Over) (c : After-hold g) → length c.args.self.now.coming.items ≡ length c.pop.new.self.items + 1
+fewer : (g : _) (c : After-hold g) → length c.args.self.now.coming.items ≡ length c.pop.new.self.items + 1
 fewer g c = ap length c.in-Some.ensures.items ∙ length-append c.pop.new.self.items (c.in-Some.set ∷ [])
 
 pub invariant_of-self-clause-exact : goal.invariant_of-self-clause-exact

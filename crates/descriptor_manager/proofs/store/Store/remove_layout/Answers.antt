@@ -9,14 +9,13 @@ use Rattle.descriptor_table.specs.Tables.{Settings, Turns, Becomes, removed_at, 
 use Rattle.descriptor_manager.specs.Stores.{side_of, slots_in}
 use Rattle.descriptor_manager.proofs.Following.{follow_turns, follows_vacated}
 use Rattle.descriptor_manager.proofs.Settling.{settled}
-use Rattle.descriptor_manager.proofs.store.Store.remove_layout.Given.{Over}
-use Rattle.descriptor_manager.proofs.store.Store.remove_layout.Goals as goal
 use Rattle.descriptor_manager.proofs.store.Store.remove_layout.Goals.{After-remove_layout}
+use Rattle.descriptor_manager.proofs.store.Store.remove_layout.Goals as goal
 
-same_sets : (g : Over) (c : After-remove_layout g) → sets_in (slots_of c.remove_layout.new.self) ≡ sets_in (slots_in c.give.new.self)
+same_sets : (g : _) (c : After-remove_layout g) → sets_in (slots_of c.remove_layout.new.self) ≡ sets_in (slots_in c.give.new.self)
 same_sets g c = ap (λ v. sets_in (table.slots_in v)) c.remove_layout.ensures.only.slots
 
-turns : (g : Over) (c : After-remove_layout g) → Turns (is_kept_of c.args.layout) (Becomes vacated) (slots_in c.args.self.now) (slots_of c.remove_layout.new.self)
+turns : (g : _) (c : After-remove_layout g) → Turns (is_kept_of c.args.layout) (Becomes vacated) (slots_in c.args.self.now) (slots_of c.remove_layout.new.self)
 turns g c = subst (λ v. Turns (is_kept_of c.args.layout) (Becomes vacated) (slots_in c.args.self.now) (table.slots_in v)) (sym c.remove_layout.ensures.only.slots) c.give.ensures.frees.turns
 
 pub remove_layout-requires-clause-next : goal.remove_layout-requires-clause-next

@@ -9,7 +9,6 @@ use Rattle.descriptor_manager.proofs.Back.{given_kept, left}
 use Rattle.descriptor_manager.proofs.Cleaned.{gone_sets}
 use Rattle.descriptor_manager.proofs.Following.{follow_turns, follows_left, none_goes}
 use Rattle.descriptor_manager.proofs.Settling.{settled}
-use Rattle.descriptor_manager.proofs.store.Store.set_max_kept.Given.{Over}
 use Rattle.descriptor_manager.proofs.store.Store.set_max_kept.Goals.{After-give, After-set_max_kept}
 use Rattle.descriptor_manager.proofs.store.Store.set_max_kept.Goals as goal
 
@@ -33,10 +32,10 @@ pub invariant_of-self-clause-accounted : goal.invariant_of-self-clause-accounted
 invariant_of-self-clause-accounted g c = accounted_as c.args.self.now (same_sets g (goal.at.invariant_of-self-clause-accounted g c).After-set_max_kept)
 
 -- those that were let go were returned
-gives : (g : Over) (c : After-give g) → Turns goes (Becomes vacated) (slots_of c.trim.new.self) (slots_of c.give.new.self.table)
+gives : (g : _) (c : After-give g) → Turns goes (Becomes vacated) (slots_of c.trim.new.self) (slots_of c.give.new.self.table)
 gives g c = subst (λ v. Turns goes (Becomes vacated) (slots_in v) (slots_of c.give.new.self.table)) c.set_max_kept.ensures.slots c.give.ensures.frees.turns
 
-all : (g : Over) (c : After-give g) → Turns is_kept (MayBecome vacated) (slots_of c.args.self.now.table) (slots_of c.give.new.self.table)
+all : (g : _) (c : After-give g) → Turns is_kept (MayBecome vacated) (slots_of c.args.self.now.table) (slots_of c.give.new.self.table)
 all g c = search (rules, gives, left, none_goes)
 
 pub returns-clause-few : goal.returns-clause-few
