@@ -10,7 +10,7 @@ use Rattle.descriptor_table.proofs.Counting.{same_or}
 use Rattle.descriptor_table.proofs.Holding.{held_is}
 use Rattle.descriptor_table.proofs.Naming.{names_lost}
 use Rattle.descriptor_table.proofs.Listed.{other_slots, slot_set}
-use Rattle.descriptor_manager.proofs.Cleared.{same_clears}
+use Rattle.descriptor_manager.proofs.Arriving.{same_clears}
 use Rattle.descriptor_manager.proofs.Growing.{grow_new}
 use Rattle.descriptor_manager.proofs.Handing.{new_one}
 use Rattle.descriptor_manager.proofs.Joining.{are_named}

@@ -1,15 +1,37 @@
--- What slots may become when sets come to them.
+-- What a slot is like after all kept sets went (`Clears`), and what slots may become when sets come to them (`Arrives`).
 use Rattle.std.proofs.lemmas.Grind.{common_steps}
-use Rattle.std.proofs.Common.{◌≡◌, ℕ, ◌+◌, ◌⊎◌, ◌&&◌, ◌||◌, not, Bool, true, [], Option, Some, is_some, inl, refl, sym, subst, arith}
+use Rattle.std.proofs.Common.{◌≡◌, ℕ, ◌⊎◌, ne_eqb, Bool, true, if◌then◌else◌, List, None, refl, rules, ◌+◌, ◌&&◌, ◌||◌, not, [], Option, Some, is_some, inl, sym, subst, arith}
 use Rattle.std.proofs.lemmas.Option.{none-some}
 use Rattle.gpu_descriptor_types.specs.declared.device.DescriptorDevice.{Ghosts}
 use Rattle.gpu_descriptor.specs.declared.set.DescriptorSet.{DescriptorSet}
-use Rattle.descriptor_table.specs.Slots.{Slot, in_list, slot_at, waits_for}
-use Rattle.descriptor_table.specs.Tables.{came_under, is_held_use}
+use Rattle.descriptor_table.specs.Slots.{Slot, slot_at, in_list, waits_for}
+use Rattle.descriptor_table.specs.Tables.{aged, came_under, count, is_kept, vacated, is_held_use}
+use Rattle.descriptor_table.specs.declared.slot.Use.TheVariants.{Vacant}
 use Rattle.descriptor_table.specs.declared.slot.Use.{Use}
-use Rattle.descriptor_manager.specs.Stores.{IsAtRest, KeepsStore, Settles, is_placed, slots_in}
+use Rattle.descriptor_table.proofs.Counts.{none_count}
+use Rattle.descriptor_manager.specs.Stores.{AreCleaned, IsAtRest, KeepsStore, Settles, is_placed, slots_in}
 use Rattle.descriptor_manager.specs.declared.store.Store.{Store}
-use Rattle.descriptor_manager.proofs.Cleared.{Clears}
+
+-- a set that was kept may be gone, and any other is there
+pub record Clears {T : Type 0} (o n : Slot T) : Type 0 where
+  pub generation : n.generation ≡ o.generation
+  pub layout : came_under n ≡ came_under o
+  pub is : ((n.used ≡ o.used) × (n.set ≡ o.set)) ⊎ ((is_kept o ≡ true) × (n.used ≡ Vacant) × (n.set ≡ None))
+
+module _ {T : Type 0} where
+  pub same_clears : (o n : Slot T) → n ≡ o → Clears o n
+  same_clears o n e = search rules
+
+  -- a slot after a cleanup, by whether its set was kept (`b`)
+  cleared_as : (o n : Slot T) (b : Bool) → is_kept o ≡ b → n ≡ (if b then vacated (aged o) else aged o) → Clears o n
+  cleared_as o n x2 kept e = search rules
+
+  pub clears : (old new : List (Slot T)) → AreCleaned old new → (p : ℕ) → Clears (slot_at old p) (slot_at new p)
+  clears old new c p = cleared_as (slot_at old p) (slot_at new p) (is_kept (slot_at old p)) refl (c.here p refl)
+
+  -- no set is kept then
+  pub none_left : (old new : List (Slot T)) → AreCleaned old new → count is_kept new ≡ 0
+  none_left old new c = search (rules, ne_eqb, none_count)
 
 -- a slot's set was there under the same layout, or passes the test. If the slot was placed, it is
 pub record Arrives {T : Type 0} (comes : ℕ → T → Type 0) (o n : Slot T) : Type 0 where

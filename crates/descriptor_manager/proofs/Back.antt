@@ -1,13 +1,21 @@
--- Sets that are freed: they are kept, or leave their slots.
-use Rattle.std.proofs.Common.{◌≡◌, ℕ, ◌+◌, ◌≤◌, ◌&&◌, nat_lt, ne_eqb, Bool, true, false, List, is_some, inl, inr, ap, arith, rules}
+-- Sets that go back: those that are freed are kept, or leave their slots; then kept sets that all go, for `Store::cleanup` and `set_max_kept`;
+-- then all sets that leave, for `Store::free_all`.
+use Rattle.std.proofs.lemmas.Grind.{common_steps}
+use Rattle.std.proofs.Common.{◌≡◌, ℕ, ◌+◌, ◌≤◌, ◌&&◌, nat_lt, ne_eqb, Bool, true, false, List, is_some, inl, inr, ap, arith, rules, if◌then◌else◌, refl, sym, ◌∙◌, ◌⊎◌, ◌||◌, not, Option, None}
+use Rattle.std.proofs.lemmas.Bool.{true≢false}
 use Rattle.descriptor_table.specs.Sets.{sets_in}
-use Rattle.descriptor_table.specs.Slots.{Slot, goes, is_in, slot_at}
-use Rattle.descriptor_table.specs.Tables.{IsBack, Becomes, MayBecome, Turns, count, is_kept, used_for, vacated}
+use Rattle.descriptor_table.specs.Slots.{Slot, goes, is_in, slot_at, in_list, waits, waits_for}
+use Rattle.descriptor_table.specs.Tables.{IsBack, Becomes, MayBecome, Turns, count, is_kept, used_for, vacated, AreAged, aged, holds, is_held_use}
 use Rattle.descriptor_table.specs.declared.slot.Use.TheVariants.{Kept, Going}
+use Rattle.descriptor_table.specs.declared.slot.Use.{Use}
 use Rattle.descriptor_table.proofs.Chains.{lists_apart}
 use Rattle.descriptor_table.proofs.Leaving.{same_sets}
 use Rattle.descriptor_table.proofs.Renewing.{kept_full}
-use Rattle.descriptor_table.proofs.Turning.{count_same}
+use Rattle.descriptor_table.proofs.Turning.{count_same, going_out}
+use Rattle.descriptor_table.proofs.Counts.{count_none}
+use Rattle.descriptor_manager.specs.Stores.{AreCleaned}
+use Rattle.descriptor_manager.proofs.Following.{ArePlaced, follows_aged, follows_then, follows_vacated, none_goes, follows_same}
+use Rattle.descriptor_manager.proofs.Settling.{Follows}
 
 module _ {T : Type 0} where
   -- the same sets are there, if each slot that turns has its set still
@@ -40,3 +48,115 @@ module _ {T : Type 0} where
   -- kept sets that went were returned
   pub left : (old mid new : List (Slot T)) → ((p : ℕ) → goes (slot_at old p) ≡ false) → Turns is_kept (MayBecome (used_for Going)) old mid → Turns goes (Becomes vacated) mid new → Turns is_kept (MayBecome vacated) old new
   left old mid new none trims gives = search (rules, kept_full)
+
+module _ {T : Type 0} where
+  pub aged_sets : (old new : List (Slot T)) → AreAged old new → sets_in new ≡ sets_in old
+  aged_sets old new a = turned_sets (λ s. true) (Becomes aged) old new a (λ o n e. ap (λ (s : Slot T). s.set) e)
+
+  -- sets that go are in their slots still
+  pub gone_sets : (test : Slot T → Bool) (old new : List (Slot T)) → Turns test (MayBecome (used_for Going)) old new → sets_in new ≡ sets_in old
+  gone_sets test old new t = turned_sets test (MayBecome (used_for Going)) old new t (λ o n may. elim may [
+    | inl same ↦ ap (λ (s : Slot T). s.set) same
+    | inr going ↦ ap (λ (s : Slot T). s.set) going
+  ])
+
+  -- a cleanup in three steps: no set is kept later, the kept ones go, and those that go were returned
+  pub cleaned : (old a b new : List (Slot T)) → ArePlaced old → AreAged old a → Turns is_kept (MayBecome (used_for Going)) a b → ((layout : ℕ) → count (is_in (layout + 2)) b ≤ 0) → Turns goes (Becomes vacated) b new → AreCleaned old new
+  cleaned old a b new placed aged_all trims few gives = record {
+    long = gives.long ∙ trims.long ∙ aged_all.long;
+    rest = λ p no. absurd (true≢false no);
+    here = λ p yes. by_test p (is_kept (slot_at old p)) refl;
+  }
+    where
+      -- a slot whose set isn't kept is aged; a kept one is aged, goes, and is returned
+      by_test : (p : ℕ) → (c : Bool) → is_kept (slot_at old p) ≡ c → slot_at new p ≡ (if is_kept (slot_at old p) then vacated (aged (slot_at old p)) else aged (slot_at old p))
+      by_test p false e = search (rules, none_goes)
+      by_test p true e =
+          let here = aged_all.here p refl in
+          let kept : is_kept (slot_at a p) ≡ true = ap is_kept here ∙ e in
+          let leaves : slot_at b p ≡ used_for Going (slot_at a p) = elim (trims.here p kept) [
+            | inl same ↦ absurd (let k = (slot_at a p).layout in let out = count_none (is_in (k + 2)) b refl (let f = few k in omega arith) p in true≢false (sym kept ∙ ap (is_in (k + 2)) (sym same) ∙ out))
+            | inr going ↦ going
+          ] in
+          let full = kept_full (slot_at a p) kept in
+          let gone : slot_at new p ≡ vacated (slot_at b p) = gives.here p (ap goes leaves ∙ full) in
+          gone ∙ ap vacated (leaves ∙ ap (used_for Going) here) ∙ sym (ap (λ c. if c then vacated (aged (slot_at old p)) else aged (slot_at old p)) e)
+
+  -- and so each slot follows what it was
+  pub follow_cleaned : (old new : List (Slot T)) → AreCleaned old new → (p : ℕ) → Follows (slot_at old p) (slot_at new p)
+  follow_cleaned old new c p = by_test (is_kept (slot_at old p)) refl (c.here p refl)
+    where
+      by_test : (b : Bool) → is_kept (slot_at old p) ≡ b → slot_at new p ≡ (if is_kept (slot_at old p) then vacated (aged (slot_at old p)) else aged (slot_at old p)) → Follows (slot_at old p) (slot_at new p)
+      by_test x0 e is = search (rules, follows_aged, follows_then, follows_vacated)
+
+-- The slots are `a` at first, `b` once those that wait go, `c` once the held ones go, `d` once the kept ones go, and `new` once all that
+-- go were returned. `one`, `two` and `three` are what the slot at a place is in `b`, `c` and `d`.
+
+-- one of the four ways to be placed
+placed_or : (a b c d : Bool) → (not a || (b || (c || d))) ≡ true → (a ≡ false) ⊎ ((b ≡ true) ⊎ ((c ≡ true) ⊎ (d ≡ true)))
+placed_or x0 b c d e = grind (arith, common_steps)
+
+held_unwaited : (u : Use) (full : Bool) → (is_held_use u && full) ≡ true → (waits_for (λ w. true) u && full) ≡ false
+held_unwaited u full e = grind (arith, common_steps)
+
+kept_apart : (u : Use) (layout generation : ℕ) (full : Bool) → in_list (layout + 2) u layout generation full ≡ true → ((waits_for (λ w. true) u && full) ≡ false) × ((is_held_use u && full) ≡ false)
+kept_apart u layout generation full e = grind (arith, common_steps)
+
+empty_none : {T : Type 0} (o : Option T) → is_some o ≡ false → o ≡ None
+empty_none x0 e = grind (arith, common_steps)
+
+empty_out : (a full : Bool) → full ≡ false → (a && full) ≡ false
+empty_out x0 full e = grind (arith, common_steps)
+
+empty_kept : {T : Type 0} (s : Slot T) → is_some s.set ≡ false → is_kept s ≡ false
+empty_kept s e = grind (arith, common_steps)
+
+module _ {T : Type 0} (a b c d new : List (Slot T)) (placed : ArePlaced a) (wait : Turns waits (Becomes (used_for Going)) a b)
+    (leave : Turns holds (Becomes (used_for Going)) b c) (trims : Turns is_kept (MayBecome (used_for Going)) c d)
+    (few : (layout : ℕ) → count (is_in (layout + 2)) d ≤ 0) (gives : Turns goes (Becomes vacated) d new) where
+  -- a set that goes was returned
+  given : (p : ℕ) (s : Slot T) → is_some s.set ≡ true → slot_at d p ≡ used_for Going s → slot_at new p ≡ vacated s
+  given p s full e = gives.here p (ap goes e ∙ full) ∙ ap vacated e
+
+  -- a set that goes before the kept ones do
+  going : (p : ℕ) (s : Slot T) → is_some s.set ≡ true → slot_at c p ≡ used_for Going s → slot_at new p ≡ vacated s
+  going p s full e = given p s full (trims.rest p (ap is_kept e ∙ going_out (s.layout + 2) s (omega arith)) ∙ e)
+
+  -- a slot without a set is as it was
+  empty_stays : (p : ℕ) → is_some (slot_at a p).set ≡ false → slot_at new p ≡ slot_at a p
+  empty_stays p e = grind (arith, common_steps, empty_kept, empty_out, none_goes)
+
+  -- a held set left its slot, and so below did one that waited, and a kept one
+  held_leaves : (p : ℕ) → holds (slot_at a p) ≡ true → is_some (slot_at a p).set ≡ true → slot_at new p ≡ vacated (slot_at a p)
+  held_leaves p e full = grind (arith, common_steps, going, held_unwaited)
+
+  waiting_leaves : (p : ℕ) → waits (slot_at a p) ≡ true → is_some (slot_at a p).set ≡ true → slot_at new p ≡ vacated (slot_at a p)
+  waiting_leaves p e full = let one = wait.here p e in going p (slot_at a p) full (leave.rest p (ap holds one) ∙ one)
+
+  kept_leaves : (p : ℕ) → is_kept (slot_at a p) ≡ true → slot_at new p ≡ vacated (slot_at a p)
+  kept_leaves p e =
+      let s = slot_at a p in
+      let out = kept_apart s.used s.layout s.generation (is_some s.set) e in
+      let one : slot_at b p ≡ s = wait.rest p out.0 in
+      let two : slot_at c p ≡ s = leave.rest p (ap holds one ∙ out.1) ∙ one in
+      let kept : is_kept (slot_at c p) ≡ true = ap is_kept two ∙ e in
+      let three : slot_at d p ≡ used_for Going s = elim (trims.here p kept) [
+        | inl same ↦ absurd (let k = s.layout in let none = count_none (is_in (k + 2)) d refl (let f = few k in omega arith) p in true≢false (sym e ∙ ap (is_in (k + 2)) (sym (same ∙ two)) ∙ none))
+        | inr leaves ↦ leaves ∙ ap (used_for Going) two
+      ] in
+      given p s (kept_full s e) three
+
+  -- so each set of a store at rest left its slot
+  pub all_leave : Turns (λ s. is_some s.set) (Becomes vacated) a new
+  all_leave = grind (arith, common_steps, empty_stays, held_leaves, kept_leaves, placed_or, true≢false, waiting_leaves)
+
+-- no slot has a set then, and each has its generation
+module _ {T : Type 0} (old new : List (Slot T)) (left : Turns (λ s. is_some s.set) (Becomes vacated) old new) (p : ℕ) where
+  stays_or : ((slot_at new p ≡ slot_at old p) × ((slot_at old p).set ≡ None)) ⊎ (slot_at new p ≡ vacated (slot_at old p))
+  stays_or = grind (arith, common_steps, empty_none)
+
+  pub left_none : (slot_at new p).set ≡ None
+  left_none = grind (arith, common_steps, stays_or)
+
+  pub left_follows : Follows (slot_at old p) (slot_at new p)
+  left_follows = grind (arith, common_steps, follows_same, follows_vacated, stays_or)

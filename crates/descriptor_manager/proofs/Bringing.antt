@@ -9,7 +9,7 @@ use Rattle.descriptor_table.specs.Tables.{count}
 use Rattle.descriptor_table.proofs.Counts.{count_none, none_count}
 use Rattle.descriptor_manager.specs.Stores.{AreCleaned, Asks, AsksAtLast, kept_of, slots_in}
 use Rattle.descriptor_manager.specs.declared.store.Store.{Store}
-use Rattle.descriptor_manager.proofs.Cleared.{Clears, clears, none_left, same_clears}
+use Rattle.descriptor_manager.proofs.Arriving.{Clears, clears, none_left, same_clears}
 use Rattle.descriptor_manager.proofs.Growing.{cleared_long}
 use Rattle.descriptor_manager.proofs.Handing.{cleared_of}
 use Rattle.descriptor_manager.proofs.Naming.{kept_as}

@@ -16,8 +16,7 @@ use Rattle.descriptor_table.proofs.Listed.{other_slots, slot_set}
 use Rattle.descriptor_table.proofs.Renewing.{kept_is}
 use Rattle.descriptor_manager.specs.Stores.{AreCleaned, ComesInto, HoldEach, IsCleared, IsRefusedAtLast, IsUnmet, slots_in}
 use Rattle.descriptor_manager.specs.declared.store.Store.{Store}
-use Rattle.descriptor_manager.proofs.Arriving.{Arrives, arrives_then, clears_arrives, same_arrives}
-use Rattle.descriptor_manager.proofs.Cleared.{clears}
+use Rattle.descriptor_manager.proofs.Arriving.{Arrives, arrives_then, clears, clears_arrives, same_arrives}
 use Rattle.descriptor_manager.proofs.Naming.{free_kept, free_none, is_free, kept_as, next_of}
 
 pub some_of : {T : Type 0} (o : Option T) → is_some o ≡ true → (x : T) × (o ≡ Some x)

@@ -16,8 +16,7 @@ use Rattle.descriptor_table.specs.declared.slot.Use.{Use}
 use Rattle.descriptor_table.proofs.Holding.{named_or}
 use Rattle.descriptor_manager.specs.Stores.{ComesInto, HoldEach, KeepsStore, NoneComes, SetsCome, current_in, slots_in}
 use Rattle.descriptor_manager.specs.declared.store.Store.{Store}
-use Rattle.descriptor_manager.proofs.Arriving.{Arrives, arrives_then, clears_arrives, same_arrives, used_placed}
-use Rattle.descriptor_manager.proofs.Cleared.{Clears}
+use Rattle.descriptor_manager.proofs.Arriving.{Arrives, Clears, arrives_then, clears_arrives, same_arrives, used_placed}
 use Rattle.descriptor_manager.proofs.Handing.{came_free, came_full, came_next, came_used, some_of}
 use Rattle.descriptor_manager.proofs.Naming.{free_is, free_kept, is_free, given_apart, given_clear, kept_as, next_of, seen_apart, seen_clear, seen_free, seen_next}
 

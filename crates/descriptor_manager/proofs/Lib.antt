@@ -2,9 +2,6 @@ mod Adding
 mod Arriving
 mod Back
 mod Bringing
-mod Cleaned
-mod Cleared
-mod Emptied
 mod Following
 mod Given
 mod Growing
@@ -21,6 +18,5 @@ mod Requests
 mod Reserved
 mod Resting
 mod Results
-mod Returned
 mod Settling
 mod Showing

@@ -8,7 +8,7 @@ use Rattle.descriptor_table.specs.Tables.{is_kept}
 use Rattle.descriptor_table.specs.declared.handle.SetHandle.{SetHandle}
 use Rattle.descriptor_table.specs.declared.slot.Use.{Use}
 use Rattle.descriptor_table.specs.declared.slot.Use.TheVariants.{Kept}
-use Rattle.descriptor_manager.proofs.Cleared.{Clears}
+use Rattle.descriptor_manager.proofs.Arriving.{Clears}
 
 -- whether the slot has no set, or a kept one
 abbrev pub is_free : {T : Type 0} → Slot T → Bool

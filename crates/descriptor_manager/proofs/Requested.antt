@@ -20,7 +20,7 @@ use Rattle.descriptor_manager.specs.declared.layout_registry.LayoutHandle.{Layou
 use Rattle.descriptor_manager.specs.declared.manager.SetManager.{SetManager}
 use Rattle.descriptor_manager.specs.declared.store.Store.{Store}
 use Rattle.descriptor_manager.proofs.Bringing.{brought}
-use Rattle.descriptor_manager.proofs.Cleared.{Clears, same_clears}
+use Rattle.descriptor_manager.proofs.Arriving.{Clears, same_clears}
 use Rattle.descriptor_manager.proofs.Handing.{came_layout}
 use Rattle.descriptor_manager.proofs.Joining.{are_named}
 use Rattle.descriptor_manager.proofs.Owned.{found_set, layout_here, own_comes, own_known, sets_settle}

@@ -14,8 +14,7 @@ use Rattle.descriptor_table.specs.declared.handle.SetHandle.{SetHandle}
 use Rattle.descriptor_table.specs.declared.slot.Use.{Use}
 use Rattle.descriptor_manager.specs.Stores.{AsksAtLast, ComesOf, HoldEach, Holds, IsAtRest, IsRefusedAtLast, KeepsStore, NoneComes, Requests, current_in, kept_of, side_of, slots_in}
 use Rattle.descriptor_manager.specs.declared.store.Store.{Store}
-use Rattle.descriptor_manager.proofs.Arriving.{arrived}
-use Rattle.descriptor_manager.proofs.Cleared.{Clears, same_clears}
+use Rattle.descriptor_manager.proofs.Arriving.{Clears, arrived, same_clears}
 use Rattle.descriptor_manager.proofs.Bringing.{brought}
 use Rattle.descriptor_manager.proofs.Growing.{grow_from, grow_refused}
 use Rattle.descriptor_manager.proofs.Handing.{refused_arrives}

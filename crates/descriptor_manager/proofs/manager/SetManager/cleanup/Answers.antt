@@ -4,7 +4,7 @@ use Rattle.descriptor_manager.specs.LayoutRegistries.{layout_slots}
 use Rattle.descriptor_manager.specs.Stores.{NoneComes, slots_in}
 use Rattle.descriptor_manager.proofs.Owned.{sets_settle}
 use Rattle.descriptor_manager.proofs.Showing.{cleaned_names}
-use Rattle.descriptor_manager.proofs.Cleared.{none_left}
+use Rattle.descriptor_manager.proofs.Arriving.{none_left}
 use Rattle.descriptor_manager.proofs.Remaining.{cleaned_empty}
 use Rattle.descriptor_manager.proofs.manager.SetManager.cleanup.Goals as goal
 

@@ -1,6 +1,6 @@
 use Rattle.std.proofs.Common.{ap, ◌∙◌}
 use Rattle.descriptor_manager.specs.Managers.{Rendering, slots_of}
-use Rattle.descriptor_manager.proofs.Emptied.{left_none}
+use Rattle.descriptor_manager.proofs.Back.{left_none}
 use Rattle.descriptor_manager.proofs.Remaining.{none_held, none_waits}
 use Rattle.descriptor_manager.proofs.manager.SetManager.shutdown.Goals as goal
 

@@ -3,7 +3,7 @@ use Rattle.std.proofs.lemmas.Bool.{false≢true}
 use Rattle.descriptor_table.specs.Tables.{count, is_kept}
 use Rattle.descriptor_manager.specs.Stores.{Asks, AsksAtLast, IsCleared, IsRefused, IsRefusedAtLast, kept_of, slots_in}
 use Rattle.gpu_descriptor.proofs.request.Passed.{passed}
-use Rattle.descriptor_manager.proofs.Cleared.{none_left}
+use Rattle.descriptor_manager.proofs.Arriving.{none_left}
 use Rattle.descriptor_manager.proofs.Reserved.{asks_from, cleared, refused_from}
 use Rattle.descriptor_manager.proofs.Results.{if_err, on_ok}
 use Rattle.descriptor_manager.proofs.store.Store.bring.Goals.{After-cleanup}

@@ -3,7 +3,7 @@ use Rattle.std.proofs.Common.{◌≡◌, rules, arith}
 use Rattle.descriptor_table.specs.Sets.{sets_in}
 use Rattle.descriptor_table.specs.Tables.{is_kept, slots_of}
 use Rattle.descriptor_manager.proofs.Given.{accounted_as, exact_as}
-use Rattle.descriptor_manager.proofs.Cleaned.{aged_sets, cleaned, follow_cleaned, gone_sets}
+use Rattle.descriptor_manager.proofs.Back.{aged_sets, cleaned, follow_cleaned, gone_sets}
 use Rattle.descriptor_manager.proofs.Settling.{settled}
 use Rattle.descriptor_manager.proofs.store.Store.cleanup.Goals.{After-trim}
 use Rattle.descriptor_manager.proofs.store.Store.cleanup.Goals as goal

@@ -3,9 +3,7 @@ use Rattle.descriptor_table.specs.Sets.{sets_in}
 use Rattle.descriptor_table.specs.Slots.{waits}
 use Rattle.descriptor_table.specs.Tables.{Becomes, Turns, holds, is_kept, slots_of, vacated}
 use Rattle.descriptor_manager.proofs.Given.{accounted_as, exact_as}
-use Rattle.descriptor_manager.proofs.Back.{leaving_sets}
-use Rattle.descriptor_manager.proofs.Cleaned.{gone_sets}
-use Rattle.descriptor_manager.proofs.Emptied.{all_leave, left_follows}
+use Rattle.descriptor_manager.proofs.Back.{all_leave, gone_sets, leaving_sets, left_follows}
 use Rattle.descriptor_manager.proofs.Settling.{settled}
 use Rattle.descriptor_manager.proofs.store.Store.free_all.Goals.{After-give, After-trim}
 use Rattle.descriptor_manager.proofs.store.Store.free_all.Goals as goal

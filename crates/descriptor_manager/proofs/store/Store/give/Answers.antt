@@ -2,7 +2,7 @@ use Rattle.std.proofs.lemmas.Grind.{common_steps}
 use Rattle.std.proofs.Common.{arith}
 use Rattle.descriptor_table.specs.Giving.{is_of}
 use Rattle.descriptor_table.specs.Tables.{slots_of}
-use Rattle.descriptor_manager.proofs.Returned.{none_turns, returns_none}
+use Rattle.descriptor_manager.proofs.Given.{none_turns, returns_none}
 use Rattle.descriptor_manager.specs.Stores.{side_of}
 use Rattle.descriptor_manager.proofs.store.Store.give.Goals as goal
 

@@ -5,7 +5,7 @@ use Rattle.descriptor_table.specs.Sets.{sets_in}
 use Rattle.descriptor_table.specs.Giving.{is_of}
 use Rattle.descriptor_table.specs.Tables.{Stays, Turns, Becomes, slots_of, vacated}
 use Rattle.descriptor_table.proofs.Leaving.{given_all}
-use Rattle.descriptor_manager.proofs.Returned.{all_count, all_many, given_count}
+use Rattle.descriptor_manager.proofs.Given.{all_count, all_many, given_count}
 use Rattle.descriptor_manager.proofs.store.Store.give_each.Goals as goal
 
 pub free_from-requires-clause-outstanding : goal.free_from-requires-clause-outstanding

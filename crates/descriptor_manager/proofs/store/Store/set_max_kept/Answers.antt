@@ -5,8 +5,7 @@ use Rattle.descriptor_table.specs.Slots.{goes, is_in, chains_in, nexts_in, slots
 use Rattle.descriptor_table.specs.Tables.{Turns, Becomes, count, is_kept, slots_of, vacated, MayBecome}
 use Rattle.descriptor_table.proofs.Counts.{chain_count}
 use Rattle.descriptor_manager.proofs.Given.{accounted_as, exact_as}
-use Rattle.descriptor_manager.proofs.Back.{given_kept, left}
-use Rattle.descriptor_manager.proofs.Cleaned.{gone_sets}
+use Rattle.descriptor_manager.proofs.Back.{given_kept, gone_sets, left}
 use Rattle.descriptor_manager.proofs.Following.{follow_turns, follows_left, none_goes}
 use Rattle.descriptor_manager.proofs.Settling.{settled}
 use Rattle.descriptor_manager.proofs.store.Store.set_max_kept.Goals.{After-give, After-set_max_kept}
