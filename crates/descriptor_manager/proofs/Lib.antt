@@ -7,16 +7,11 @@ mod Given
 mod Growing
 mod Handing
 mod Joining
-mod Keyed
 mod Listed
 mod Naming
 mod Owned
 mod Remaining
-mod Removing
 mod Requested
 mod Requests
-mod Reserved
-mod Resting
-mod Results
 mod Settling
 mod Showing

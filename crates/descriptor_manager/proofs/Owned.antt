@@ -2,13 +2,18 @@
 -- `slots` are those of sets, `layouts` those of layouts, `known` is a layout, and `n` or `number` the number of one.
 use Rattle.std.proofs.lemmas.Grind.{common_steps}
 use Rattle.std.proofs.Common.{◌≡◌, ℕ, suc, ◌<◌, Bool, false, List, length, Option, Some, None, is_some, inl, inr, sym, ap, subst, ◌∙◌, arith, IfSome}
+use Rattle.std.proofs.lemmas.List.{get_or_past}
+use Rattle.std.proofs.lemmas.Option.{none-some}
 use Rattle.gpu_descriptor_types.specs.Meaning.{Meaning, IsOfLayout}
 use Rattle.gpu_descriptor_types.specs.declared.device.DescriptorDevice.{Ghosts}
+use Rattle.gpu_descriptor_types.specs.Counts.{kinds}
 use Rattle.gpu_descriptor.specs.declared.errors.AllocationError.{AllocationError}
 use Rattle.gpu_descriptor.specs.declared.layout.SetLayout.{SetLayout}
 use Rattle.gpu_descriptor.specs.declared.set.DescriptorSet.{DescriptorSet}
-use Rattle.std.proofs.lemmas.List.{get_or_past}
-use Rattle.std.proofs.lemmas.Option.{none-some}
+use Rattle.gpu_descriptor.specs.Caller.Flags.{is_marked}
+use Rattle.gpu_descriptor.specs.Caller.SetLayouts.{IsMeant}
+use Rattle.gpu_descriptor.specs.Caller.Values.{Allocations}
+use Rattle.gpu_descriptor.specs.Model.Books.{books_of}
 use Rattle.descriptor_table.specs.Sets.{Sets, find, sets_of}
 use Rattle.descriptor_table.specs.Slots.{Slot, slot_at}
 use Rattle.descriptor_table.specs.Tables.{Settings, came_under, current, lists_with, lists_of}
@@ -20,6 +25,8 @@ use Rattle.descriptor_manager.specs.Stores.{ComesOf, IsRefusedAtLast, SettlesTo,
 use Rattle.descriptor_manager.specs.declared.layout_registry.LayoutHandle.{LayoutHandle}
 use Rattle.descriptor_manager.specs.declared.layout_registry.LayoutRegistry.{LayoutRegistry}
 use Rattle.descriptor_manager.specs.declared.store.Store.{Store}
+use Rattle.descriptor_manager.specs.Managers.{pools_for, side_of}
+use Rattle.descriptor_manager.specs.declared.manager.SetManager.{SetManager}
 use Rattle.descriptor_manager.proofs.Handing.{some_of, unmet_slots}
 use Rattle.descriptor_manager.proofs.Showing.{cleaned_names}
 
@@ -111,3 +118,8 @@ module _ {X : Type 0} (layouts : List (Slot X)) (n : ℕ) (x : X) (here : (slot_
 -- the layout of a handle is at its place
 pub layout_here : {L P S D : Type 0} {d : Ghosts D L P S} (r : LayoutRegistry L P S D d) (h : LayoutHandle) (known : SetLayout L) (place : ℕ) → place ≡ h.slot.place → layout_at r h ≡ Some known → (slot_at (layout_slots r) place).set ≡ Some known
 layout_here r h known place at e = ap (λ n. (slot_at (layout_slots r) n).set) at ∙ found_set (registry_of r) 0 false (layout_slots r) h.slot known e
+
+module _ {L P S D : Type 0} {d : Ghosts D L P S} (r : SetManager L P S D d) (known : SetLayout L) where
+  -- the books have a layout's pools under the key of its counts and its mark
+  pub known_pools : (a : Allocations P) (mark : Bool) → IsMeant d.meaning known → a ≡ (side_of r).value → mark ≡ is_marked known.flags → books_of a.table (record { counts = kinds known.counts; marked = mark }) ≡ pools_for known.layout r
+  known_pools a mark meant same is = grind (arith, common_steps)

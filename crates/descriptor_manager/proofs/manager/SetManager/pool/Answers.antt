@@ -1,8 +1,7 @@
 use Rattle.std.proofs.Common.{◌≡◌, subst}
 use Rattle.gpu_descriptor.specs.Caller.Views.{view_in}
 use Rattle.gpu_descriptor.specs.Model.Books.{BucketOf}
-use Rattle.descriptor_manager.proofs.Keyed.{known_pools}
-use Rattle.descriptor_manager.proofs.Owned.{if_some}
+use Rattle.descriptor_manager.proofs.Owned.{if_some, known_pools}
 use Rattle.descriptor_manager.proofs.manager.SetManager.pool.Goals as goal
 
 pub returns-clause-view : goal.returns-clause-view

@@ -1,7 +1,6 @@
 use Rattle.std.proofs.Common.{◌≡◌, length, subst}
 use Rattle.gpu_descriptor.specs.Model.Books.{BucketOf}
-use Rattle.descriptor_manager.proofs.Keyed.{known_pools}
-use Rattle.descriptor_manager.proofs.Owned.{if_some}
+use Rattle.descriptor_manager.proofs.Owned.{if_some, known_pools}
 use Rattle.descriptor_manager.proofs.manager.SetManager.pool_count.Goals as goal
 
 pub returns-in-Some-clause-count : goal.returns-in-Some-clause-count

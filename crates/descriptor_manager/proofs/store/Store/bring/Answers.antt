@@ -1,13 +1,54 @@
-use Rattle.std.proofs.Common.{◌-◌, ◌∙◌, inl, inr, ap, subst}
+use Rattle.std.proofs.lemmas.Grind.{common_steps}
+use Rattle.std.proofs.Common.{rules, ◌≡◌, ◌≢◌, ℕ, ◌<◌, ap, subst, arith, ◌-◌, ◌∙◌, inl, inr}
+use Rattle.std.specs.Prelude.{IfErr, OnOk, Result}
 use Rattle.std.proofs.lemmas.Bool.{false≢true}
-use Rattle.descriptor_table.specs.Tables.{count, is_kept}
-use Rattle.descriptor_manager.specs.Stores.{Asks, AsksAtLast, IsCleared, IsRefused, IsRefusedAtLast, kept_of, slots_in}
+use Rattle.gpu_descriptor_types.specs.declared.device.DescriptorDevice.{Ghosts}
+use Rattle.gpu_descriptor.specs.Caller.Call.{layout_key}
+use Rattle.gpu_descriptor.specs.Model.Load.{set_descriptors}
+use Rattle.gpu_descriptor.specs.declared.errors.AllocationError.{AllocationError}
 use Rattle.gpu_descriptor.proofs.request.Passed.{passed}
+use Rattle.descriptor_table.specs.Tables.{count, is_kept}
+use Rattle.descriptor_manager.specs.Stores.{AreCleaned, Asks, Cleans, ExceedsLimitAlone, IsCleared, IsRefused, KeepsContents, slots_in, AsksAtLast, IsRefusedAtLast, kept_of}
+use Rattle.descriptor_manager.specs.declared.store.Store.{Store}
 use Rattle.descriptor_manager.proofs.Arriving.{none_left}
-use Rattle.descriptor_manager.proofs.Reserved.{asks_from, cleared, refused_from}
-use Rattle.descriptor_manager.proofs.Results.{if_err, on_ok}
 use Rattle.descriptor_manager.proofs.store.Store.bring.Goals.{After-cleanup}
 use Rattle.descriptor_manager.proofs.store.Store.bring.Goals as goal
+
+-- What holds of a result's value, given the result: for the store's and the set manager's clauses `IfOk`, `IfErr`, `OnOk`.
+
+if_err : {X E : Type 0} (P Q : E → Type 0) (r : Result X E) → IfErr r P → ((e : E) → P e → Q e) → IfErr r Q
+if_err P Q x2 h f = search rules
+
+on_ok : {X E : Type 0} (P Q : Type 0) (r : Result X E) → OnOk r P → (P → Q) → OnOk r Q
+on_ok P Q x2 h f = search rules
+
+-- A request over memory that the table reserved before it, which changed nothing else, and what a refusal and a cleanup leave.
+
+module _ {L P S D : Type 0} {d : Ghosts D L P S} where
+  module _ (layout : L) (old mid new : Store L P S D d) (same : KeepsContents old mid) where
+    -- the allocator refused
+    refused_from : (many : ℕ) (error : AllocationError) → IsRefused layout many error mid new → IsRefused layout many error old new
+    refused_from many error refused = grind (arith, common_steps)
+
+    -- so many sets are on their way
+    asks_from : (many : ℕ) → Asks layout many mid new → Asks layout many old new
+    asks_from many asks = grind (arith, common_steps)
+
+  -- a refusal, and a cleanup
+  cleared :
+      (layout : L) (first last : ℕ) (error : AllocationError) (old refused new : Store L P S D d)
+      → IsRefused layout first error old refused → refused.allocator.limit ≡ old.allocator.limit
+      → ¬ (ExceedsLimitAlone layout last refused) → count is_kept (slots_in refused) ≢ 0
+      → AreCleaned (slots_in refused) (slots_in new) → Cleans refused new → IsCleared layout first last old new
+  cleared layout first last error old refused new is limit fits some cleaned cleans = record {
+    some = (let same = ap (count is_kept) is.slots in let ne = some in omega arith);
+    fits = subst (λ n. ¬ (n < set_descriptors (layout_key d.meaning layout) last)) limit fits;
+    refused = refused;
+    error = error;
+    first_refused = is;
+    cleaned = cleaned;
+    cleans = cleans;
+  }
 
 cleaned_up : (g : _) (c : After-cleanup g) → IsCleared c.args.known.now.layout (c.args.many - kept_of c.args.layout c.args.self.now) c.args.many c.args.self.now c.cleanup.new.self
 cleaned_up g c =
