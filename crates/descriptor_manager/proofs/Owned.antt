@@ -21,7 +21,7 @@ use Rattle.descriptor_table.specs.declared.handle.SetHandle.{SetHandle}
 use Rattle.descriptor_table.proofs.Counting.{below_or}
 use Rattle.descriptor_manager.specs.LayoutRegistries.{layout_at, layout_slots, registry_of}
 use Rattle.descriptor_manager.specs.Own.{AreCounted, AreOwn, HasSetsOf, IsOwn}
-use Rattle.descriptor_manager.specs.Stores.{ComesOf, IsRefusedAtLast, SettlesTo, generations_in, is_placed, lists_for, slots_in}
+use Rattle.descriptor_manager.specs.Stores.{ComesOf, IsRefusedAtLast, NoneComes, SettlesTo, generations_in, is_placed, lists_for, slots_in}
 use Rattle.descriptor_manager.specs.declared.layout_registry.LayoutHandle.{LayoutHandle}
 use Rattle.descriptor_manager.specs.declared.layout_registry.LayoutRegistry.{LayoutRegistry}
 use Rattle.descriptor_manager.specs.declared.store.Store.{Store}
@@ -68,6 +68,10 @@ module _ {L P S D : Type 0} {d : Ghosts D L P S} where
       lists = (ap (λ (s : Settings). s.lists) settles.stays.settings) ∙ was.lists;
       number = (ap (λ (s : Settings). s.number) settles.stays.settings) ∙ was.number;
     }
+
+  -- and so if none comes
+  pub sets_stay : {max number : ℕ} {layouts : List (Slot (SetLayout L))} {old new : Store L P S D d} → SettlesTo (generations_in old) max NoneComes old new → HasSetsOf layouts number old → HasSetsOf layouts number new
+  sets_stay {number = number} {layouts} {old} {new} settles was = sets_settle NoneComes layouts number old new settles (λ n x none. absurd none) was
 
   -- the sets are as they were, and their layouts are there
   module _ (layouts more : List (Slot (SetLayout L))) (number : ℕ) (old new : Store L P S D d) where

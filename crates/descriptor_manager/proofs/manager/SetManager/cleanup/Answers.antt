@@ -1,17 +1,14 @@
 use Rattle.std.proofs.lemmas.Grind.{common_steps}
 use Rattle.std.proofs.Common.{arith, rules}
-use Rattle.descriptor_manager.specs.LayoutRegistries.{layout_slots}
-use Rattle.descriptor_manager.specs.Stores.{NoneComes, slots_in}
-use Rattle.descriptor_manager.proofs.Owned.{sets_settle}
+use Rattle.descriptor_manager.specs.Stores.{slots_in}
+use Rattle.descriptor_manager.proofs.Owned.{sets_stay}
 use Rattle.descriptor_manager.proofs.Showing.{cleaned_names}
 use Rattle.descriptor_manager.proofs.Arriving.{none_left}
 use Rattle.descriptor_manager.proofs.Remaining.{cleaned_empty}
 use Rattle.descriptor_manager.proofs.manager.SetManager.cleanup.Goals as goal
 
 pub invariant_of-self-clause-sets : goal.invariant_of-self-clause-sets
-invariant_of-self-clause-sets g c =
-    sets_settle NoneComes (layout_slots c.args.self.now.layouts) c.args.self.now.manager c.args.self.now.store c.cleanup.new.self c.cleanup.ensures.settles
-    (λ n x none. absurd none) c.args.self.now.sets
+invariant_of-self-clause-sets g c = sets_stay c.cleanup.ensures.settles c.args.self.now.sets
 
 pub returns-clause-emptied : goal.returns-clause-emptied
 returns-clause-emptied g c = grind (arith, common_steps, cleaned_empty)

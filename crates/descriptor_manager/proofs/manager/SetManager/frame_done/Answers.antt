@@ -1,14 +1,11 @@
 use Rattle.std.proofs.Common.{◌-◌, min, if◌then◌else◌, ap, arith}
-use Rattle.descriptor_manager.specs.LayoutRegistries.{layout_slots}
-use Rattle.descriptor_manager.specs.Stores.{NoneComes, generations_in, slots_in}
-use Rattle.descriptor_manager.proofs.Owned.{sets_settle}
+use Rattle.descriptor_manager.specs.Stores.{generations_in, slots_in}
+use Rattle.descriptor_manager.proofs.Owned.{sets_stay}
 use Rattle.descriptor_manager.proofs.Showing.{back_names}
 use Rattle.descriptor_manager.proofs.manager.SetManager.frame_done.Goals as goal
 
 pub invariant_of-self-clause-sets : goal.invariant_of-self-clause-sets
-invariant_of-self-clause-sets g c =
-    sets_settle NoneComes (layout_slots c.args.self.now.layouts) c.args.self.now.manager c.args.self.now.store c.finish.new.self c.finish.ensures.settles
-    (λ n x none. absurd none) c.args.self.now.sets
+invariant_of-self-clause-sets g c = sets_stay c.finish.ensures.settles c.args.self.now.sets
 
 pub returns-clause-names : goal.returns-clause-names
 returns-clause-names g c =
