@@ -36,10 +36,7 @@ module _ {T : Type 0} (number p : ℕ) (x : T) (handle : SetHandle) (old mid new
 
   -- and is held, as those before
   pub added_held : ((n : ℕ) → is_some (slot_at old n).set ≡ true → (slot_at old n).used ≡ Held) → (n : ℕ) → is_some (slot_at new n).set ≡ true → (slot_at new n).used ≡ Held
-  added_held held n some = elim (same_or n p) [
-    | inl e ↦ ap (λ n. (slot_at new n).used) e ∙ ap (λ (s : Slot T). s.used) slot_here
-    | inr ne ↦ ap (λ (s : Slot T). s.used) (added_there n ne) ∙ held n (ap (λ (s : Slot T). is_some s.set) (sym (added_there n ne)) ∙ some)
-  ]
+  added_held held n some = grind (arith, common_steps, same_or, slot_here, added_there)
 
   pub added_grows : Grows old new
   added_grows = grow_new number generations 0 p x Held handle old mid new (λ s. refl) puts renews
@@ -61,8 +58,7 @@ module _ {T : Type 0} (number : ℕ) (h : SetHandle) (old new : List (Slot T)) w
 
   -- each layout that is left is held, as before
   pub left_held : (r : Option T) → (IsSome r → is_held number old h ≡ true) → (IsSome r → new ≡ set old h.place (vacated (slot_at old h.place))) → (r ≡ None → new ≡ old) → ((n : ℕ) → is_some (slot_at old n).set ≡ true → (slot_at old n).used ≡ Held) → (n : ℕ) → is_some (slot_at new n).set ≡ true → (slot_at new n).used ≡ Held
-  left_held None held made none was n some = ap (λ l. (slot_at l n).used) (none refl) ∙ was n (ap (λ l. is_some (slot_at l n).set) (sym (none refl)) ∙ some)
-  left_held (Some x) held made none was n some = grind (arith, common_steps, held_is, other_slots, same_or, slot_set)
+  left_held x0 held made none was n some = grind (arith, common_steps, held_is, other_slots, same_or, slot_set)
 
   -- each layout that is left was there before
   pub left_only : (r : Option T) → (IsSome r → is_held number old h ≡ true) → (IsSome r → new ≡ set old h.place (vacated (slot_at old h.place))) → (r ≡ None → new ≡ old) → (n : ℕ) (y : T) → (slot_at new n).set ≡ Some y → (slot_at old n).set ≡ Some y

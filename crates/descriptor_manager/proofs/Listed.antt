@@ -1,4 +1,5 @@
 -- Held sets that are freed by their handles: for `Store::wait_each` and `free_each`.
+use Rattle.std.proofs.lemmas.Grind.{common_steps}
 use Rattle.std.proofs.Common.{arith, ◌≡◌, ℕ, ◌+◌, ◌<◌, Bool, true, false, List, get_or, length, is_some, inl, inr, refl, ap, subst, ◌∙◌}
 use Rattle.descriptor_table.specs.Sets.{AreHeldOnce, sets_in}
 use Rattle.descriptor_table.specs.Slots.{Slot, goes, slot_at}
@@ -13,11 +14,7 @@ use Rattle.descriptor_manager.proofs.Following.{ArePlaced, none_goes}
 -- sets that were taken, and then wait
 module _ {T : Type 0} (handles : List SetHandle) (frame : ℕ) (old now new : List (Slot T)) (took : TurnEach handles (Becomes (used_for Taken)) old now) (waits : TurnEach handles (Becomes (used_for (Waits frame))) now new) where
   pub waited : TurnEach handles (Becomes (used_for (Waits frame))) old new
-  waited = record {
-    long = waits.long ∙ took.long;
-    named = λ i lt. waits.named i lt ∙ ap (used_for (Waits frame)) (took.named i lt);
-    rest = λ p apart. waits.rest p apart ∙ took.rest p apart;
-  }
+  waited = grind (arith, common_steps)
 
   pub waited_sets : sets_in new ≡ sets_in old
   waited_sets = same_sets old new waited.long (λ p. elim (named_or (length handles) (place_at handles) p) [

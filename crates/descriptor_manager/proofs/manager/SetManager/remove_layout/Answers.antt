@@ -125,21 +125,4 @@ returns-in-Some-clause-others g c = λ other ne.
     (c.in-Some.ensures.names refl).others other.slot (All-cons (λ h. h ≢ other.slot) c.args.layout.slot [] apart (All-nil (λ h. h ≢ other.slot)))
 
 pub returns-in-Some-clause-rest : goal.returns-in-Some-clause-rest
-returns-in-Some-clause-rest g c =
-    let old = c.args.self.now in
-    let now = c.remove_layout.ensures.settles.stays in
-    let names = c.in-Some.ensures.names refl in
-    λ i. record {
-      number = old.manager;
-      layouts = λ h. (layouts_by c.remove.new.self).set h.slot;
-      given = λ h. names.given h.slot i;
-      frame = old.frame;
-      is_open = old.is_open;
-      slots = slots_in c.remove_layout.new.self;
-      generations = generations_in c.remove_layout.new.self;
-      keep = (now.settings i).keep;
-      side = side_of c.remove_layout.new.self;
-      pools_besides = now.besides i;
-      limit = now.limit i;
-      bound = now.bound i;
-    }
+returns-in-Some-clause-rest g c = search rules

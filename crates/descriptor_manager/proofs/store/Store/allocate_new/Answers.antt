@@ -10,8 +10,7 @@ use Rattle.descriptor_manager.proofs.store.Store.allocate_new.Goals.{In_ok-bring
 use Rattle.descriptor_manager.proofs.store.Store.allocate_new.Goals as goal
 
 no_more : {A : Type 0} (l : List A) → length l ≡ 0 → l ≡ []
-no_more [] long = refl
-no_more (x ∷ l) long = absurd (omega arith)
+no_more x0 long = grind (arith, common_steps)
 
 -- one set is on its way
 one : (g : _) (c : In_ok-bring g) → length c.bring.new.self.coming.items ≡ 1

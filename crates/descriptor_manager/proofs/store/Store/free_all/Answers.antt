@@ -1,4 +1,5 @@
-use Rattle.std.proofs.Common.{◌≡◌, ◌∙◌, is_some, rules}
+use Rattle.std.proofs.lemmas.Grind.{common_steps}
+use Rattle.std.proofs.Common.{arith, ◌≡◌, ◌∙◌, is_some, rules}
 use Rattle.descriptor_table.specs.Sets.{sets_in}
 use Rattle.descriptor_table.specs.Slots.{waits}
 use Rattle.descriptor_table.specs.Tables.{Becomes, Turns, holds, is_kept, slots_of, vacated}
@@ -30,6 +31,4 @@ pub returns-clause-frees : goal.returns-clause-frees
 returns-clause-frees g c = record { turns = left g (goal.at.returns-clause-frees g c).After-give; back = c.give.ensures.frees.back }
 
 pub returns-clause-settles : goal.returns-clause-settles
-returns-clause-settles g c =
-    let left = left g (goal.at.returns-clause-settles g c).After-give in
-    settled c.args.self.now c.give.new.self (left_follows (slots_of c.args.self.now.table) (slots_of c.give.new.self.table) left) (c.give.ensures.coming ∙ c.requires.rest.none_coming) c.requires.rest (search rules)
+returns-clause-settles g c = grind (arith, common_steps, left, settled, left_follows)
