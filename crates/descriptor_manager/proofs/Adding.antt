@@ -16,7 +16,7 @@ use Rattle.descriptor_manager.proofs.Handing.{new_one}
 use Rattle.descriptor_manager.proofs.Joining.{are_named}
 use Rattle.descriptor_manager.proofs.Owned.{same_some}
 
-module _ {T : Type 0} (number p : ℕ) (x : T) (handle : SetHandle) (old mid new : List (Slot T)) (generations : ℕ → ℕ) (puts : Puts generations 0 x p old mid) (renews : Renews number p Held handle mid new) where
+module _ {T : Type 0} {number p : ℕ} {x : T} {handle : SetHandle} {old mid new : List (Slot T)} {generations : ℕ → ℕ} (puts : Puts generations 0 x p old mid) (renews : Renews number p Held handle mid new) where
   slot_here : slot_at new p ≡ renewed Held (slot_at mid p)
   slot_here = ap (λ l. slot_at l p) renews.slots ∙ slot_set mid p (renewed Held (slot_at mid p)) puts.within
 

@@ -1,4 +1,4 @@
-use Rattle.std.proofs.Common.{[], ◌∷◌, false, sym, subst, ap}
+use Rattle.std.proofs.Common.{ℕ, [], ◌∷◌, false, sym, subst, ap}
 use Rattle.descriptor_table.specs.Sets.{LoseNames, sets_of}
 use Rattle.descriptor_table.specs.Tables.{Settings, slots_of}
 use Rattle.descriptor_manager.proofs.Adding.{left_held, left_names, left_only}
@@ -6,21 +6,18 @@ use Rattle.descriptor_manager.proofs.layout_registry.LayoutRegistry.remove.Goals
 
 pub invariant_of-self-clause-meant : goal.invariant_of-self-clause-meant
 invariant_of-self-clause-meant g c = λ p known is.
-    let old = c.args.self.now.table in
     let e = c.remove.ensures in
-    c.args.self.now.meant p known (left_only old.number c.args.handle.slot (slots_of old) (slots_of c.remove.new.self) c.remove.result e.held e.slots e.none p known is)
+    c.args.self.now.meant p known (left_only _ _ _ _ c.remove.result e.held e.slots e.none p known is)
 
 pub invariant_of-self-clause-held : goal.invariant_of-self-clause-held
 invariant_of-self-clause-held g c =
-    let old = c.args.self.now.table in
     let e = c.remove.ensures in
-    left_held old.number c.args.handle.slot (slots_of old) (slots_of c.remove.new.self) c.remove.result e.held e.slots e.none c.args.self.now.held
+    left_held _ _ _ _ c.remove.result e.held e.slots e.none c.args.self.now.held
 
 pub returns-clause-names : goal.returns-clause-names
 returns-clause-names g c = λ some.
     let old = c.args.self.now.table in
-    let new = c.remove.new.self in
     let h = c.args.handle.slot in
-    let n = old.number in
-    let names = left_names n h (slots_of old) (slots_of new) (c.remove.ensures.held some) (c.remove.ensures.slots some) in
-    subst (λ m. LoseNames (h ∷ []) (sets_of n 0 false (slots_of old)) (sets_of m 0 false (slots_of new))) (sym (ap (λ (s : Settings). s.number) c.remove.ensures.stays.settings)) names
+    let lose = λ (n : ℕ). LoseNames (h ∷ []) (sets_of old.number 0 false (slots_of old)) (sets_of n 0 false (slots_of c.remove.new.self)) in
+    let names = left_names old.number h (slots_of old) (slots_of c.remove.new.self) (c.remove.ensures.held some) (c.remove.ensures.slots some) in
+    subst lose (sym (ap (λ (s : Settings). s.number) c.remove.ensures.stays.settings)) names
