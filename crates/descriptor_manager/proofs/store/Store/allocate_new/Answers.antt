@@ -26,14 +26,14 @@ kept_first g c handle (suc i) lt some = absurd (omega arith)
 
 pub returns-in_err-bring : goal.returns-in_err-bring
 returns-in_err-bring g c =
-    rw (passed c.from_residual.result c.in_err-bring.field-0.0 c.from_residual.ensures.1)
-    (from_refused c.args.known.now.layout c.args.layout 1 c.args.used c.args.self.now c.bring.new.self c.requires.can.rest c.requires.short [] c.in_err-bring.field-0.0 c.bring.ensures.stays c.in_err-bring.ensures.refused c.in_err-bring.ensures.none)
+    let e = c.in_err-bring.ensures in
+    rw (passed _ _ c.from_residual.ensures.1) (from_refused _ _ _ _ _ _ c.requires.can.rest c.requires.short _ _ c.bring.ensures.stays e.refused e.none)
 
 pub returns : goal.returns
 returns g c =
     let a = (goal.at.returns g c).In_ok-bring in
     let fewer = c.hold_last.ensures.fewer in
     let one = one g a in
-    from_asked c.args.known.now.layout c.args.layout 1 c.args.used c.args.self.now c.bring.new.self c.requires.can.rest c.requires.short
-    (c.hold_last.result ∷ []) c.hold_last.result c.hold_last.new.self c.requires.live c.bring.ensures.stays c.in_ok-bring.ensures.asks c.hold_last.ensures.holds (kept_first g a c.hold_last.result)
-    (c.hold_last.ensures.keeps c.args.known.now.layout (brings g a).own) (no_more c.hold_last.new.self.coming.items (omega arith))
+    let last = c.hold_last.ensures in
+    from_asked _ _ _ _ _ c.bring.new.self c.requires.can.rest c.requires.short _ _ _ c.requires.live c.bring.ensures.stays c.in_ok-bring.ensures.asks
+    last.holds (kept_first g a c.hold_last.result) (last.keeps _ (brings g a).own) (no_more _ (omega arith))

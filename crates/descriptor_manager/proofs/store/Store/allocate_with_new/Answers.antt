@@ -46,23 +46,20 @@ first g c i lt some =
 
 pub returns-in_err-bring-clause-requests : goal.returns-in_err-bring-clause-requests
 returns-in_err-bring-clause-requests g c =
-    rw (passed c.from_residual.result c.in_err-bring.field-0.0 c.from_residual.ensures.1)
-    (from_refused c.args.known.now.layout c.args.layout (length c.args.names.now) c.args.used c.args.self.now c.bring.new.self c.requires.can.rest c.requires.short (g.N.SetName.handles_of c.args.names.now) c.in_err-bring.field-0.0 c.bring.ensures.stays c.in_err-bring.ensures.refused c.in_err-bring.ensures.none)
+    let e = c.in_err-bring.ensures in
+    rw (passed _ _ c.from_residual.ensures.1) (from_refused _ _ _ _ _ _ c.requires.can.rest c.requires.short _ _ c.bring.ensures.stays e.refused e.none)
 
 pub returns-clause-requests : goal.returns-clause-requests
 returns-clause-requests g c =
     let a = (goal.at.returns-clause-requests g c).After-hold_coming in
-    let brought = slots_in c.bring.new.self in
-    let mid = slots_in c.hold_kept.new.self in
-    let new = slots_in c.hold_coming.new.self in
     let kept = c.hold_kept.ensures.keeps in
     let came = c.hold_coming.ensures.keeps c.args.known.now.layout (subst (AreOfLayout g.D.DescriptorDevice.meaning c.args.known.now.layout) (sym c.hold_kept.ensures.coming) (brings g a).own) in
-    from_asked c.args.known.now.layout c.args.layout (length c.args.names.now) c.args.used c.args.self.now c.bring.new.self c.requires.can.rest c.requires.short
-    (g.N.SetName.handles_of (c.hold_kept.new.names ++ c.hold_coming.new.names)) tt c.hold_coming.new.self c.requires.live c.bring.ensures.stays c.in_ok-bring.ensures.asks (all_held g a) (first g a)
+    from_asked _ _ _ _ _ c.bring.new.self c.requires.can.rest c.requires.short _ _ _ c.requires.live c.bring.ensures.stays c.in_ok-bring.ensures.asks
+    (all_held g a) (first g a)
     (record {
       side = came.side ∙ kept.side;
-      sets = kept_then (ComesOf g.D.DescriptorDevice.meaning c.args.known.now.layout c.args.layout) brought mid new kept.sets came.sets;
-      grows = grow_more c.hold_kept.new.self.table.number (current_in c.args.layout c.hold_kept.new.self) c.args.used (g.N.SetName.handles_of c.hold_coming.new.names) brought mid new c.requires.live kept.grows came.grows c.hold_coming.ensures.holds;
-      stays = stays_then c.bring.new.self c.hold_kept.new.self c.hold_coming.new.self kept.stays came.stays;
+      sets = kept_then (ComesOf g.D.DescriptorDevice.meaning c.args.known.now.layout c.args.layout) _ _ _ kept.sets came.sets;
+      grows = grow_more _ _ _ _ _ _ _ c.requires.live kept.grows came.grows c.hold_coming.ensures.holds;
+      stays = stays_then _ _ _ kept.stays came.stays;
     })
     c.hold_coming.ensures.none
