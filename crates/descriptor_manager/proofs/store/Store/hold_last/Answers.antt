@@ -48,29 +48,26 @@ pub returns-clause-table : goal.returns-clause-table
 returns-clause-table g c =
     let h = (goal.at.returns-clause-table g c).After-hold in
     let r = renews g h in
-    let put = slots_of c.put-place.new.self in
     let puts = c.put-place.ensures.puts in
     let room = subst (λ n. HasRoom n c.args.self.now.table) (fewer g h) c.requires.room in
-    room_stays (length c.pop.new.self.items) c.put-place.new.self c.hold.new.self c.hold.ensures.stays
-    (ap length r.slots ∙ length-set put c.put-place.result (renewed c.args.used (slot_at put c.put-place.result)))
-    (usable_renewed c.args.self.now.table.number c.put-place.result c.args.used c.hold.result put (slots_of c.hold.new.self) r
-    puts.within (ap (λ s. s.used) puts.here) (live_no_list (renewed c.args.used (slot_at put c.put-place.result)) c.requires.live 0))
-    (c.put-place.ensures.reserve (length c.pop.new.self.items) room)
+    room_stays _ _ _ c.hold.ensures.stays (ap length r.slots ∙ length-set _ _ _)
+    (usable_renewed _ _ _ _ _ _ r puts.within (ap (λ s. s.used) puts.here)
+    (live_no_list (renewed c.args.used (slot_at (slots_of c.put-place.new.self) c.put-place.result)) c.requires.live 0))
+    (c.put-place.ensures.reserve _ room)
 
 pub returns-clause-keeps : goal.returns-clause-keeps
 returns-clause-keeps g c = λ known own.
     let h = (goal.at.returns-clause-keeps g c).After-hold in
-    let old = c.args.self.now in
-    let put = slots_of c.put-place.new.self in
     let puts = c.put-place.ensures.puts in
+    let comes = ComesOf g.D.DescriptorDevice.meaning known c.args.layout in
     let x = c.in-Some.set in
-    let left = length c.pop.new.self.items in
     let more = fewer g h in
-    let last = ap (λ l. slice_index_or l left x) c.in-Some.ensures.items ∙ get_or_push c.pop.new.self.items x x left refl in
-    let is = subst (λ x. IsOfLayout g.D.DescriptorDevice.meaning known x.raw) last (own left x (omega arith)) in
+    let n = length c.pop.new.self.items in
+    let last = ap (λ l. slice_index_or l n x) c.in-Some.ensures.items ∙ get_or_push c.pop.new.self.items x x n refl in
+    let is = subst (λ x. IsOfLayout g.D.DescriptorDevice.meaning known x.raw) last (own n x (omega arith)) in
     record {
       side = refl;
-      sets = new_comes old.table.number c.put-place.result c.args.used c.hold.result (ComesOf g.D.DescriptorDevice.meaning known c.args.layout) (generations_in old) c.args.layout x (slots_in old) put (slots_of c.hold.new.self) puts (renews g h) (refl, is);
-      grows = grow_new old.table.number (generations_in old) c.args.layout c.put-place.result x c.args.used c.hold.result (slots_in old) put (slots_of c.hold.new.self) (λ s. live_no_list (renewed c.args.used s) c.requires.live 0) puts (renews g h);
+      sets = new_comes _ _ _ _ comes _ _ _ _ _ _ puts (renews g h) (refl, is);
+      grows = grow_new _ _ _ _ _ _ _ _ _ _ (λ s. live_no_list (renewed c.args.used s) c.requires.live 0) puts (renews g h);
       stays = search rules;
     }
