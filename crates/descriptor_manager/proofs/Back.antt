@@ -24,10 +24,7 @@ module _ {T : Type 0} where
 
   -- sets that settle, wait or go are in their slots still
   pub settled_sets : (test : Slot T → Bool) (generations : ℕ → ℕ) (max : ℕ) (old new : List (Slot T)) → Turns test (IsBack (used_for Going) generations max) old new → sets_in new ≡ sets_in old
-  settled_sets test generations max old new t = turned_sets test (IsBack (used_for Going) generations max) old new t (λ o n settled. elim settled [
-    | inl kept ↦ ap (λ (s : Slot T). s.set) kept.0
-    | inr going ↦ ap (λ (s : Slot T). s.set) going.0
-  ])
+  settled_sets test generations max old new t = turned_sets test (IsBack (used_for Going) generations max) old new t (search rules)
 
   pub leaving_sets : (test : Slot T → Bool) (old new : List (Slot T)) → Turns test (Becomes (used_for Going)) old new → sets_in new ≡ sets_in old
   leaving_sets test old new t = turned_sets test (Becomes (used_for Going)) old new t (λ o n going. ap (λ (s : Slot T). s.set) going)
@@ -55,10 +52,7 @@ module _ {T : Type 0} where
 
   -- sets that go are in their slots still
   pub gone_sets : (test : Slot T → Bool) (old new : List (Slot T)) → Turns test (MayBecome (used_for Going)) old new → sets_in new ≡ sets_in old
-  gone_sets test old new t = turned_sets test (MayBecome (used_for Going)) old new t (λ o n may. elim may [
-    | inl same ↦ ap (λ (s : Slot T). s.set) same
-    | inr going ↦ ap (λ (s : Slot T). s.set) going
-  ])
+  gone_sets test old new t = turned_sets test (MayBecome (used_for Going)) old new t (search rules)
 
   -- a cleanup in three steps: no set is kept later, the kept ones go, and those that go were returned
   pub cleaned : (old a b new : List (Slot T)) → ArePlaced old → AreAged old a → Turns is_kept (MayBecome (used_for Going)) a b → ((layout : ℕ) → count (is_in (layout + 2)) b ≤ 0) → Turns goes (Becomes vacated) b new → AreCleaned old new

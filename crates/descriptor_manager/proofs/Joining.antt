@@ -77,10 +77,7 @@ module _ {T : Type 0} where
       → HoldEach number under u (take n now) old mid → ((i : ℕ) → i < n → is_kept_of layout (slot_at old (place_at now i)) ≡ true)
       → is_kept_of layout (slot_at mid handle.place) ≡ true
       → (i : ℕ) → i < n + 1 → is_kept_of layout (slot_at old (place_at (set now n handle) i)) ≡ true
-  were_kept number under u layout n now handle old mid live within x each last i lt = elim (cases_lt i n) [
-    | inl less ↦ subst (λ p. is_kept_of layout (slot_at old p) ≡ true) (sym (place_other now n handle i (λ e. omega arith))) (each i less)
-    | inr le ↦ subst (λ j. is_kept_of layout (slot_at old (place_at (set now n handle) j)) ≡ true) (omega arith) (subst (λ p. is_kept_of layout (slot_at old p) ≡ true) (sym (place_here now n handle within)) before)
-  ]
+  were_kept number under u layout n now handle old mid live within x each last i lt = search rules
     where
       before : is_kept_of layout (slot_at old handle.place) ≡ true
       before = search (rules, came_full, came_used, free_kept, kept_as, named_or, used_not_free)

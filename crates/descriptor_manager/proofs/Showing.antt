@@ -1,6 +1,6 @@
 -- What handles name once sets were freed, waited, or were returned to their pools: for `SetManager::frame_done`, `free`, `cleanup` and others.
 use Rattle.std.proofs.lemmas.Grind.{common_steps}
-use Rattle.std.proofs.Common.{◌≡◌, ℕ, ◌+◌, ◌<◌, ◌&&◌, nat_le, Bool, true, false, List, length, if◌then◌else◌, is_some, inl, inr, refl, ap, arith, rules}
+use Rattle.std.proofs.Common.{◌≡◌, ℕ, ◌+◌, ◌<◌, ◌&&◌, nat_le, Bool, true, false, List, length, if◌then◌else◌, refl, ap, arith, rules}
 use Rattle.descriptor_table.specs.Sets.{AreHeldOnce, LoseNames, sets_of}
 use Rattle.descriptor_table.specs.Slots.{Slot, in_list, is_due, is_live, slot_at, waits_for}
 use Rattle.descriptor_table.specs.Tables.{Turns, aged, is_kept, place_at, vacated, MayBecome, IsBack, used_for, Becomes, TurnEach}
@@ -40,10 +40,7 @@ module _ {T : Type 0} (frame : ℕ) (opened : Bool) where
 
   -- kept sets that left leave all names, and so does a cleanup, below
   pub trim_names : (number : ℕ) (old new : List (Slot T)) → Turns is_kept (MayBecome vacated) old new → sets_of number frame opened new ≡ sets_of number frame opened old
-  trim_names number old new turns = names_kept number frame opened old new (turned is_kept (MayBecome vacated) old new turns (λ o n e leave. elim leave [
-    | inl same ↦ same_shown o n same
-    | inr left ↦ quiet_shown o n (ap (λ (s : Slot T). s.generation) left) (kept_use o.used 0 o.layout o.generation frame (is_some o.set) opened e) (ap (λ (s : Slot T). is_live frame opened s.used) left)
-  ]))
+  trim_names number old new turns = names_kept number frame opened old new (search rules)
 
   pub cleaned_names : (number : ℕ) (old new : List (Slot T)) → AreCleaned old new → sets_of number frame opened new ≡ sets_of number frame opened old
   cleaned_names number old new cleaned = names_kept number frame opened old new (λ p. by_kept (slot_at old p) (slot_at new p) (is_kept (slot_at old p)) refl (cleaned.here p refl))

@@ -3,7 +3,7 @@ use Rattle.gpu_descriptor.specs.Caller.SetLayouts.{IsMeant}
 use Rattle.gpu_descriptor.specs.declared.layout.SetLayout.{SetLayout}
 use Rattle.descriptor_table.specs.Slots.{Slot}
 use Rattle.descriptor_table.specs.Sets.{NameEach, sets_of}
-use Rattle.descriptor_table.specs.Tables.{Settings, Grows, generations_of, slots_of}
+use Rattle.descriptor_table.specs.Tables.{Settings, Grows, slots_of}
 use Rattle.descriptor_manager.proofs.Adding.{added_grows, added_held, added_names, added_only}
 use Rattle.descriptor_manager.proofs.layout_registry.LayoutRegistry.add.Goals as goal
 

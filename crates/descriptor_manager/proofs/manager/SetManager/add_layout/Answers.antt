@@ -3,7 +3,7 @@ use Rattle.descriptor_table.specs.Tables.{Settings, Grows, lists_with}
 use Rattle.descriptor_table.specs.declared.handle.SetHandle.{SetHandle}
 use Rattle.descriptor_manager.specs.LayoutRegistries.{layout_slots}
 use Rattle.descriptor_manager.specs.Own.{HasSetsOf}
-use Rattle.descriptor_manager.specs.Managers.{seen, layout_of, layouts_in}
+use Rattle.descriptor_manager.specs.Managers.{layouts_in}
 use Rattle.descriptor_manager.specs.Stores.{generations_in, lists_for}
 use Rattle.descriptor_manager.proofs.Owned.{lists_more, sets_as}
 use Rattle.descriptor_manager.proofs.manager.SetManager.add_layout.Goals.{After-reserve_layout, then-places, else-places}
@@ -71,9 +71,5 @@ apart_from slot other ne x3 d lt = search rules
 
 pub returns-after-places-clause-others : goal.returns-after-places-clause-others
 returns-after-places-clause-others g c = λ other ne.
-    let old = c.args.self.now in
     let stay = c.in-Ok.ensures.names.others other.slot (apart_from c.in-Ok.handle.slot other.slot (λ e. ne (λ i. record { slot = e i }))) in
-    elim c.if-places.branch [
-      | then-places w ↦ subst (λ r. (layout_of r other ≡ layout_of old other) × ((seen r).given other ≡ (seen old).given other)) (sym w.self-is) stay
-      | else-places w ↦ subst (λ r. (layout_of r other ≡ layout_of old other) × ((seen r).given other ≡ (seen old).given other)) (sym w.self-is) stay
-    ]
+    search rules

@@ -1,4 +1,4 @@
-use Rattle.std.proofs.Common.{◌-◌, min, if◌then◌else◌, ap, arith}
+use Rattle.std.proofs.Common.{rules}
 use Rattle.descriptor_manager.specs.Stores.{generations_in, slots_in}
 use Rattle.descriptor_manager.proofs.Owned.{sets_stay}
 use Rattle.descriptor_manager.proofs.Showing.{back_names}
@@ -10,9 +10,4 @@ invariant_of-self-clause-sets g c = sets_stay c.finish.ensures.settles c.args.se
 pub returns-clause-names : goal.returns-clause-names
 returns-clause-names g c =
     let old = c.args.self.now in
-    back_names old.frame old.is_open (generations_in old.store) old.manager c.done-done.result old.store.table.keep (slots_in old.store) (slots_in c.finish.new.self) (λ opened. (
-    let is = c.done-done.ensures in
-    let limit = ap (λ b. if b then min c.args.frame (old.frame - 1) else c.args.frame) opened in
-    let begun = old.begun opened in
-    omega arith
-    )) c.finish.ensures.back.turns
+    back_names old.frame old.is_open (generations_in old.store) old.manager c.done-done.result old.store.table.keep (slots_in old.store) (slots_in c.finish.new.self) (search rules) c.finish.ensures.back.turns

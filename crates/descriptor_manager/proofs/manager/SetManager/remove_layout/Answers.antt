@@ -15,8 +15,8 @@ use Rattle.descriptor_table.proofs.Leaving.{group_out}
 use Rattle.descriptor_table.proofs.Naming.{names_kept}
 use Rattle.descriptor_table.proofs.Listed.{other_slots, slot_set}
 use Rattle.descriptor_manager.specs.Own.{AreCounted, AreOwn, IsOwn}
-use Rattle.descriptor_manager.specs.LayoutRegistries.{layout_slots, layouts_by}
-use Rattle.descriptor_manager.specs.Stores.{generations_in, lists_for, side_of, slots_in}
+use Rattle.descriptor_manager.specs.LayoutRegistries.{layout_slots}
+use Rattle.descriptor_manager.specs.Stores.{generations_in, lists_for, slots_in}
 use Rattle.descriptor_manager.proofs.Naming.{kept_as}
 use Rattle.descriptor_manager.proofs.Showing.{quiet_shown, turned}
 use Rattle.descriptor_manager.proofs.Owned.{layout_here, layout_within}

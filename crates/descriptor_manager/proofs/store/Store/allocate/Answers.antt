@@ -11,6 +11,4 @@ was_kept g c x2 lt = search rules
 
 pub returns : goal.returns
 returns g c =
-    let some = c.if-kept_count-eq0.false in
-    let kept = c.kept_count.ensures.count in
     from_kept c.args.known.now.layout c.args.layout 1 c.args.used (c.hold_next.result ∷ []) c.args.self.now c.hold_next.new.self c.hold_next.result c.requires.live c.requires.can.rest (omega arith) c.hold_next.ensures.holds (was_kept g (goal.at.returns g c).After-hold_next) c.hold_next.ensures.as_many c.hold_next.ensures.keeps c.hold_next.ensures.coming

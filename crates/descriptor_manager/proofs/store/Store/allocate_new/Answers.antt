@@ -1,5 +1,5 @@
 use Rattle.std.proofs.lemmas.Grind.{common_steps}
-use Rattle.std.proofs.Common.{◌≡◌, ◌<◌, ℕ, zero, suc, [], ◌∷◌, length, List, true, refl, arith}
+use Rattle.std.proofs.Common.{◌≡◌, ◌<◌, ℕ, zero, suc, [], ◌∷◌, length, List, true, arith}
 use Rattle.gpu_descriptor.proofs.request.Passed.{passed}
 use Rattle.descriptor_table.specs.Slots.{is_kept_of, slot_at}
 use Rattle.descriptor_table.specs.Tables.{place_at}

@@ -33,7 +33,6 @@ first g c i lt some =
     let long = ap length (both g c) ∙ length-append a b in
     let names = handles_long g.N.SetName g.met.N.SetName.each c.hold_kept.new.names in
     let others = handles_long g.N.SetName g.met.N.SetName.each c.hold_coming.new.names in
-    let kept = c.hold_kept.ensures.long in
     let came = c.hold_coming.ensures.long in
     let parts = c.split_at_mut-kept.ensures.front_len in
     let rest = c.split_at_mut-kept.ensures.back_len in

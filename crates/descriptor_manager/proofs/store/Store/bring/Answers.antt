@@ -8,7 +8,7 @@ use Rattle.gpu_descriptor.specs.Model.Load.{set_descriptors}
 use Rattle.gpu_descriptor.specs.declared.errors.AllocationError.{AllocationError}
 use Rattle.gpu_descriptor.proofs.request.Passed.{passed}
 use Rattle.descriptor_table.specs.Tables.{count, is_kept}
-use Rattle.descriptor_manager.specs.Stores.{AreCleaned, Asks, Cleans, ExceedsLimitAlone, IsCleared, IsRefused, KeepsContents, slots_in, AsksAtLast, IsRefusedAtLast, kept_of}
+use Rattle.descriptor_manager.specs.Stores.{AreCleaned, Asks, Cleans, ExceedsLimitAlone, IsCleared, IsRefused, KeepsContents, slots_in, kept_of}
 use Rattle.descriptor_manager.specs.declared.store.Store.{Store}
 use Rattle.descriptor_manager.proofs.Arriving.{none_left}
 use Rattle.descriptor_manager.proofs.store.Store.bring.Goals.{After-cleanup}

@@ -1,5 +1,4 @@
-use Rattle.std.proofs.Common.{◌≡◌, ◌*◌, ◌<◌, ◌∙◌, if◌then◌else◌, sum, sym, ap, subst, arith}
-use Rattle.std.proofs.lemmas.Bool.{lt-ltb, ltb-true}
+use Rattle.std.proofs.Common.{rules, ◌≡◌, ◌*◌, ◌∙◌, if◌then◌else◌, sum, sym, ap}
 use Rattle.gpu_descriptor.specs.Caller.Call.{layout_key}
 use Rattle.gpu_descriptor.specs.Model.Load.{set_descriptors}
 use Rattle.descriptor_manager.proofs.store.Store.exceeds_limit.Goals as goal
@@ -11,13 +10,8 @@ returns-then-is_marked g c =
     let total = c.total.ensures.sum in
     let counts = ap sum c.requires.counted in
     let wide = c.from-then-is_marked.ensures in
-    let limit = c.update_after_bind_limit-limit.ensures.limit in
-    let bound = c.from-then-is_marked-2.ensures in
     let own = means.counts known.layout in
     let same : set_descriptors (layout_key means known.layout) c.args.many ≡ c.from.result * c.from-then-is_marked.result =
     ap (λ b. if b then c.args.many * sum own else 0) (sym c.requires.marked ∙ sym c.is_marked.ensures ∙ c.if-is_marked.true)
     ∙ ap (λ n. c.args.many * n) (sym counts ∙ sym total ∙ sym wide)
-    ∙ ap (λ n. n * c.from-then-is_marked.result) (sym c.from.ensures) in (
-      λ above. subst (λ n. c.args.self.now.allocator.limit < n) (sym same) (let lt = ltb-true _ _ above in omega arith),
-      λ above. lt-ltb _ _ (let lt = subst (λ n. c.args.self.now.allocator.limit < n) same above in omega arith),
-    )
+    ∙ ap (λ n. n * c.from-then-is_marked.result) (sym c.from.ensures) in (search rules)

@@ -1,5 +1,5 @@
 use Rattle.std.proofs.lemmas.Grind.{common_steps}
-use Rattle.std.proofs.Common.{arith, ◌≡◌, ◌∙◌, is_some, rules}
+use Rattle.std.proofs.Common.{arith, ◌≡◌, ◌∙◌, is_some}
 use Rattle.descriptor_table.specs.Sets.{sets_in}
 use Rattle.descriptor_table.specs.Slots.{waits}
 use Rattle.descriptor_table.specs.Tables.{Becomes, Turns, holds, is_kept, slots_of, vacated}

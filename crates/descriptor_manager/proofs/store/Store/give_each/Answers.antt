@@ -1,9 +1,8 @@
-use Rattle.std.proofs.Common.{length, sym, ap, subst, refl, arith}
+use Rattle.std.proofs.Common.{rules, length, sym, ap, arith}
 use Rattle.gpu_descriptor.specs.Caller.Sets.{items_of}
 use Rattle.gpu_descriptor.specs.Model.Agreement.{count_of}
 use Rattle.descriptor_table.specs.Sets.{sets_in}
-use Rattle.descriptor_table.specs.Giving.{is_of}
-use Rattle.descriptor_table.specs.Tables.{Stays, Turns, Becomes, slots_of, vacated}
+use Rattle.descriptor_table.specs.Tables.{slots_of}
 use Rattle.descriptor_table.proofs.Leaving.{given_all}
 use Rattle.descriptor_manager.proofs.Given.{all_count, all_many, given_count}
 use Rattle.descriptor_manager.proofs.store.Store.give_each.Goals as goal
@@ -28,20 +27,11 @@ pub invariant_of-self-clause-accounted : goal.invariant_of-self-clause-accounted
 invariant_of-self-clause-accounted g c =
     let f = c.free_from.ensures.frees in
     let all = all_many f.sets _ _ f.drained in
-    let back = f.returns.back.outstanding in
-    let was = c.args.self.now.accounted in
     let end = ap (λ t. length (sets_in (slots_of t))) c.end.ensures in
     omega arith
 
 pub returns : goal.returns
 returns g c =
     let f = c.free_from.ensures.frees in
-    let keeps = c.free_from.ensures.keeps in
     let all = given_all f.sets _ _ f.drained in
-    let settings = (subst (Stays c.args.self.now.table) (sym c.end.ensures) all.2).settings in
-    record {
-      frees = record { turns = subst (λ t. Turns (is_of c.args.group) (Becomes vacated) (slots_of c.args.self.now.table) (slots_of t)) (sym c.end.ensures) all.0; back = record { sets = f.sets; returns = f.returns } };
-      keeps = keeps;
-      stays = record { settings = settings; limit = keeps.limit; bound = keeps.bound; besides = keeps.others };
-      coming = refl;
-    }
+    search rules

@@ -1,5 +1,5 @@
 use Rattle.std.proofs.lemmas.Grind.{common_steps}
-use Rattle.std.proofs.Common.{◌+◌, ◌∙◌, [], ◌∷◌, sym, subst, take, arith}
+use Rattle.std.proofs.Common.{◌+◌, ◌∙◌, sym, subst, take, arith}
 use Rattle.std.proofs.lemmas.List.{length-set}
 use Rattle.descriptor_table.proofs.Names.{handles_long, handles_written}
 use Rattle.descriptor_manager.specs.Stores.{HoldEach, ComesOf, current_in, slots_in}

@@ -34,8 +34,6 @@ returns-clause-removes g c =
       gave = λ t. (
           let coming = λ (l : List (DescriptorSet g.row.S.Denot)). count_of t (items_of g.D.DescriptorDevice.meaning.set_name l) in
           let none = ap coming c.give.ensures.coming in
-          let was = c.args.self.now.exact t in
-          let is = c.give.new.self.exact t in
           let back = gives.back.returns.back.returned t in
           let same = ap coming (same_sets g (goal.at.returns-clause-removes g c).After-remove_layout) in
           omega arith

@@ -14,7 +14,6 @@ use Rattle.descriptor_manager.proofs.store.Store.set_max_kept.Goals as goal
 pub set_max_kept-requires : goal.set_max_kept-requires
 set_max_kept-requires g c = λ k two.
     let s = c.trim.new.self in
-    let few = c.trim.ensures.few (k - 2) in
     let back : k - 2 + 2 ≡ k = omega arith in
     let same = ap (λ j. count (is_in j) (slots_of s)) back in
     let all = chain_count (slots_of s) (nexts_in s.slots) (chains_in s.lists.items) s.sound.linked k in
@@ -40,7 +39,6 @@ all g c = search (rules, gives, left, none_goes)
 pub returns-clause-few : goal.returns-clause-few
 returns-clause-few g c = λ layout.
     let same = given_kept (slots_of c.trim.new.self) (slots_of c.give.new.self.table) (gives g c) (layout + 2) (omega arith) in
-    let few = c.trim.ensures.few layout in
     omega arith
 
 pub returns-clause-as_many : goal.returns-clause-as_many
