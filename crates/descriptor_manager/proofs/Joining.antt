@@ -5,7 +5,7 @@ use Rattle.std.proofs.lemmas.Grind.{common_steps}
 use Rattle.std.proofs.Common.{◌≡◌, ◌≢◌, ℕ, ◌+◌, ◌-◌, ◌<◌, ◌⊎◌, ◌||◌, Bool, true, List, [], ◌∷◌, ◌++◌, length, get_or, Some, is_some, IsSome, inl, inr, refl, sym, ap, subst, ◌∙◌, add-one, arith, set, take, rules}
 use Rattle.std.proofs.lemmas.Bool.{cases_lt, false≢true}
 use Rattle.std.proofs.Math.Seq.{take-suc-set}
-use Rattle.std.proofs.lemmas.List.{get_or-append-add, get_or-set_other, get_or-set_same, get_or_append_left, length-append}
+use Rattle.std.proofs.lemmas.List.{get_or-append-add, get_or_append_left, length-append}
 use Rattle.gpu_descriptor_types.specs.declared.device.DescriptorDevice.{Ghosts}
 use Rattle.gpu_descriptor.specs.declared.set.DescriptorSet.{DescriptorSet}
 use Rattle.descriptor_table.specs.Slots.{Slot, frame_of, is_kept_of, is_live, slot_at, waits_for}
@@ -18,18 +18,11 @@ use Rattle.descriptor_manager.specs.Stores.{ComesInto, HoldEach, KeepsStore, Non
 use Rattle.descriptor_manager.specs.declared.store.Store.{Store}
 use Rattle.descriptor_manager.proofs.Arriving.{Arrives, Clears, arrives_then, clears_arrives, same_arrives, used_placed}
 use Rattle.descriptor_manager.proofs.Handing.{came_free, came_full, came_next, came_used, some_of}
-use Rattle.descriptor_manager.proofs.Naming.{free_is, free_kept, is_free, given_apart, given_clear, kept_as, next_of, seen_apart, seen_clear, seen_free, seen_next}
+use Rattle.descriptor_manager.proofs.Naming.{free_is, is_free, given_apart, given_clear, next_of, seen_apart, seen_clear, seen_free, seen_next}
 
 -- a place of two lists is one of the first, or of the second
 spot : (a b : List SetHandle) (i : ℕ) → i < length (a ++ b) → ((i < length a) × (place_at (a ++ b) i ≡ place_at a i)) ⊎ ((k : ℕ) × (k < length b) × (i ≡ length a + k) × (place_at (a ++ b) i ≡ place_at b k))
 spot a b i lt = grind (arith, common_steps, cases_lt i (length a), length-append a b, get_or-append-add a b (i - length a) (record { manager = 0; place = 0; generation = 0 }))
-
--- a handle that is written leaves the others where they were
-place_other : (now : List SetHandle) (n : ℕ) (handle : SetHandle) (i : ℕ) → i ≢ n → place_at (set now n handle) i ≡ place_at now i
-place_other now n handle i ne = ap (λ (h : SetHandle). h.place) (get_or-set_other now n i handle (record { manager = 0; place = 0; generation = 0 }) ne)
-
-place_here : (now : List SetHandle) (n : ℕ) (handle : SetHandle) → n < length now → place_at (set now n handle) n ≡ handle.place
-place_here now n handle lt = ap (λ (h : SetHandle). h.place) (get_or-set_same now n handle (record { manager = 0; place = 0; generation = 0 }) lt)
 
 module _ {T : Type 0} where
   -- a slot in a use with a handle isn't free
@@ -78,9 +71,6 @@ module _ {T : Type 0} where
       → is_kept_of layout (slot_at mid handle.place) ≡ true
       → (i : ℕ) → i < n + 1 → is_kept_of layout (slot_at old (place_at (set now n handle) i)) ≡ true
   were_kept number under u layout n now handle old mid live within x each last i lt = search rules
-    where
-      before : is_kept_of layout (slot_at old handle.place) ≡ true
-      before = search (rules, came_full, came_used, free_kept, kept_as, named_or, used_not_free)
 
   -- kept sets may have left their slots before the first set came
   module _ (number : ℕ) (layout : ℕ × ℕ) (u : Use) (handles : List SetHandle) (old mid new : List (Slot T)) (clear : (q : ℕ) → Clears (slot_at old q) (slot_at mid q)) (x : HoldEach number layout u handles mid new) where
