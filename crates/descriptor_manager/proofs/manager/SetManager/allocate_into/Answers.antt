@@ -11,14 +11,10 @@ invariant_of-self-2-clause-sets g c = sets_then c.args.self.now c.args.layout c.
 
 pub returns-in-Ok-clause-creates : goal.returns-in-Ok-clause-creates
 returns-in-Ok-clause-creates g c =
-    let r = c.args.self.now in
-    let known = c.in-Some.known.now in
     let found = sym c.in-Some.ensures.layout in
-    let many = length c.args.sets.now in
-    let handles = g.N.SetName.handles_of c.allocate_each.new.names in
-    if_some _ known _ c.in-Some.ensures.layout (record {
-      names = names_then r c.args.layout known c.place.result c.place.ensures found many Held handles c.allocate_each.new.self tt c.in-Ok.ensures.requests refl;
-      own = own_then r c.args.layout known c.place.result c.place.ensures found many Held handles c.allocate_each.new.self tt c.in-Ok.ensures.requests;
+    if_some _ _ _ c.in-Some.ensures.layout (record {
+      names = names_then c.args.self.now c.args.layout _ _ c.place.ensures found _ _ _ _ _ c.in-Ok.ensures.requests refl;
+      own = own_then c.args.self.now c.args.layout _ _ c.place.ensures found _ _ _ _ _ c.in-Ok.ensures.requests;
     })
 
 pub returns-in-Err-clause-sets : goal.returns-in-Err-clause-sets
