@@ -14,8 +14,9 @@ reserved : (g : _) (c : After-reserve_layout g) → HasSetsOf (layout_slots c.ar
 reserved g c =
     let old = c.args.self.now in
     let now = c.reserve_layout.ensures in
-    sets_as (layout_slots old.layouts) (layout_slots old.layouts) old.manager
-    old.store c.reserve_layout.new.self now.contents.slots (ap (λ (s : Settings). s.generations) now.stays.settings) now.contents.coming (ap (λ (s : Settings). s.number) now.stays.settings) ((ap (λ (s : Settings). s.lists) now.stays.settings) ∙ old.sets.lists) (λ n known is. is) (λ counted. counted) old.sets
+    let s = now.stays.settings in
+    sets_as _ _ _ _ _ now.contents.slots (ap (λ (s : Settings). s.generations) s) now.contents.coming (ap (λ (s : Settings). s.number) s)
+    (ap (λ (s : Settings). s.lists) s ∙ old.sets.lists) (λ n known is. is) (λ counted. counted) old.sets
 
 pub invariant_of-self-clause-sets : goal.invariant_of-self-clause-sets
 invariant_of-self-clause-sets g c = reserved g (goal.at.invariant_of-self-clause-sets g c).After-reserve_layout

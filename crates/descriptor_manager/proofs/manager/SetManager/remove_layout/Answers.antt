@@ -88,28 +88,21 @@ others g c n ne = grind (arith, common_steps, other_slots)
 pub invariant_of-self-clause-sets : goal.invariant_of-self-clause-sets
 invariant_of-self-clause-sets g c =
     let old = c.args.self.now in
-    let fewer = layout_slots c.remove.new.self in
     let new = slots_in c.remove_layout.new.self in
-    let removes = c.remove_layout.ensures.removes in
+    let e = c.remove_layout.ensures in
     let d = (goal.at.invariant_of-self-clause-sets g c).After-place in
-    let past :
-    (p : ℕ) → (slot_at new p).layout ≡ c.place.result
-    → (slot_at new p).layout_generation < removed_at c.place.result (generations_in old.store) c.place.result =
-    λ p at.
-    subst (λ (generations : ℕ → ℕ). (slot_at new p).layout_generation < generations c.place.result)
-    removes.generations (removes.past p at) in
-    let layouts = layout_slots old.layouts in
-    let p = c.args.layout.slot.place in
-    let long = ap length (c.in-Some.ensures.slots refl) ∙ length-set layouts p (vacated (slot_at layouts p)) in
-    let settles = c.remove_layout.ensures.settles in
+    let is = removed_at c.place.result (generations_in old.store) in
+    let past : (p : ℕ) → (slot_at new p).layout ≡ c.place.result → (slot_at new p).layout_generation < is c.place.result = λ p at.
+        subst (λ (generations : ℕ → ℕ). (slot_at new p).layout_generation < generations c.place.result) e.removes.generations (e.removes.past p at) in
+    let own = own_removed _ _ _ _ _ (others g d) _ _ e.removes.turns past old.sets.own in
+    let counted = counted_removed _ _ _ _ old.sets.counted (ap is_some (here g d)) (gone g d) (others g d) in
+    let long = ap length (c.in-Some.ensures.slots refl) ∙ length-set _ _ _ in
     record {
-      rest = settles.rest;
-      own = subst (λ generations. AreOwn g.D.DescriptorDevice.meaning generations fewer new) (sym removes.generations) (
-          own_removed g.D.DescriptorDevice.meaning c.place.result (generations_in old.store) (layout_slots old.layouts) fewer (others g d) (slots_in old.store) new removes.turns past old.sets.own);
-      counted = subst (λ generations. AreCounted generations fewer) (sym removes.generations) (
-          counted_removed c.place.result (generations_in old.store) layouts fewer old.sets.counted (ap is_some (here g d)) (gone g d) (others g d));
-      lists = (ap (λ (s : Settings). s.lists) settles.stays.settings) ∙ old.sets.lists ∙ ap lists_for (sym long);
-      number = (ap (λ (s : Settings). s.number) settles.stays.settings) ∙ old.sets.number;
+      rest = e.settles.rest;
+      own = subst (λ generations. AreOwn g.D.DescriptorDevice.meaning generations (layout_slots c.remove.new.self) new) (sym e.removes.generations) own;
+      counted = subst (λ generations. AreCounted generations (layout_slots c.remove.new.self)) (sym e.removes.generations) counted;
+      lists = (ap (λ (s : Settings). s.lists) e.settles.stays.settings) ∙ old.sets.lists ∙ ap lists_for (sym long);
+      number = (ap (λ (s : Settings). s.number) e.settles.stays.settings) ∙ old.sets.number;
     }
 
 pub returns-in-Some-clause-none_kept : goal.returns-in-Some-clause-none_kept
