@@ -1,3 +1,4 @@
+use Rattle.std.proofs.lemmas.Grind.{common_steps}
 use Rattle.std.proofs.Common.{◌≡◌, ◌≢◌, ◌<◌, ℕ, suc, [], ◌∷◌, length, slice_index_or, inl, inr, refl, sym, ap, ◌∙◌, subst, arith, rules}
 use Rattle.descriptor_table.specs.Tables.{Settings, Grows, lists_with}
 use Rattle.descriptor_table.specs.declared.handle.SetHandle.{SetHandle}
@@ -26,36 +27,19 @@ invariant_of-self-in-Err-1 g c = search (rules, reserved)
 
 pub invariant_of-self-then-places-clause-sets : goal.invariant_of-self-then-places-clause-sets
 invariant_of-self-then-places-clause-sets g c =
-    let old = c.args.self.now in
-    let layouts = layout_slots old.layouts in
-    let more = c.if-places.true in
-    let was = c.places-places.ensures in
-    let is = c.places.ensures in
-    let long : suc (length layouts) ≡ length (layout_slots c.add.new.self) = elim c.in-Ok.ensures.one [
-      | inl same ↦ absurd (omega arith)
-      | inr one ↦ omega arith
-    ] in
+    let long : suc (length (layout_slots c.args.self.now.layouts)) ≡ length (layout_slots c.add.new.self) = grind (arith, common_steps) in
     let now = c.add_layout.ensures in
+    let s = now.settings in
     let sets = reserved g (goal.at.invariant_of-self-then-places-clause-sets g c).After-reserve_layout in
-    sets_as layouts (layout_slots c.add.new.self) old.manager
-    c.reserve_layout.new.self c.add_layout.new.self now.contents.slots (ap (λ (s : Settings). s.generations) now.settings) now.contents.coming (ap (λ (s : Settings). s.number) now.settings)
-    ((ap (λ (s : Settings). s.lists) now.settings) ∙ ap lists_with sets.lists ∙ lists_more (length layouts) ∙ ap lists_for long) c.in-Ok.ensures.stay (c.add.ensures.counted (generations_in c.add_layout.new.self)) sets
+    let lists = ap (λ (s : Settings). s.lists) s ∙ ap lists_with sets.lists ∙ lists_more _ ∙ ap lists_for long in
+    sets_as _ _ _ _ _ now.contents.slots (ap (λ (s : Settings). s.generations) s) now.contents.coming (ap (λ (s : Settings). s.number) s)
+    lists c.in-Ok.ensures.stay (c.add.ensures.counted _) sets
 
 pub invariant_of-self-else-places-clause-sets : goal.invariant_of-self-else-places-clause-sets
 invariant_of-self-else-places-clause-sets g c =
-    let old = c.args.self.now in
-    let layouts = layout_slots old.layouts in
-    let none = c.if-places.false in
-    let was = c.places-places.ensures in
-    let is = c.places.ensures in
-    let long : length layouts ≡ length (layout_slots c.add.new.self) = elim c.in-Ok.ensures.one [
-      | inl same ↦ sym same
-      | inr one ↦ absurd (omega arith)
-    ] in
-    let store = c.reserve_layout.new.self in
+    let long : length (layout_slots c.args.self.now.layouts) ≡ length (layout_slots c.add.new.self) = grind (arith, common_steps) in
     let sets = reserved g (goal.at.invariant_of-self-else-places-clause-sets g c).After-reserve_layout in
-    sets_as layouts (layout_slots c.add.new.self) old.manager
-    store store refl refl refl refl (sets.lists ∙ ap lists_for long) c.in-Ok.ensures.stay (c.add.ensures.counted (generations_in store)) sets
+    sets_as _ _ _ _ _ refl refl refl refl (sets.lists ∙ ap lists_for long) c.in-Ok.ensures.stay (c.add.ensures.counted _) sets
 
 pub returns-after-places-clause-grows : goal.returns-after-places-clause-grows
 returns-after-places-clause-grows g c = elim c.if-places.branch [

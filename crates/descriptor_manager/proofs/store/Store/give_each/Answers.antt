@@ -19,9 +19,8 @@ invariant_of-self-clause-exact g c = λ i.
     let f = c.free_from.ensures.frees in
     let all = all_count f.sets _ _ f.drained name i in
     let back = f.returns.back.returned i in
-    let was = c.args.self.now.exact i in
     let end = ap (λ t. count_of i (items_of name (sets_in (slots_of t)))) c.end.ensures in
-    omega arith
+    omega (arith, c.args.self.now.exact i)
 
 pub invariant_of-self-clause-accounted : goal.invariant_of-self-clause-accounted
 invariant_of-self-clause-accounted g c =

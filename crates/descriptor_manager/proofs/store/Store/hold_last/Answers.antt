@@ -29,11 +29,9 @@ pub invariant_of-self-clause-exact : goal.invariant_of-self-clause-exact
 invariant_of-self-clause-exact g c = λ t.
     let name = g.D.DescriptorDevice.meaning.set_name in
     let same = ap (λ l. count_of t (items_of name l)) (same_sets g c) in
-    let more = put_count name (generations_in c.args.self.now) c.args.layout c.put-place.result c.in-Some.set (slots_in c.args.self.now) (slots_of c.put-place.new.self) c.put-place.ensures.puts t in
+    let more = put_count name _ _ _ _ _ _ c.put-place.ensures.puts t in
     let coming = ap (λ l. count_of t (items_of name l)) c.in-Some.ensures.items in
-    let parts = count_parts name c.pop.new.self.items (c.in-Some.set ∷ []) t in
-    let was = c.args.self.now.exact t in
-    omega arith
+    omega (arith, count_parts name c.pop.new.self.items (c.in-Some.set ∷ []) t, c.args.self.now.exact t)
 
 pub invariant_of-self-clause-accounted : goal.invariant_of-self-clause-accounted
 invariant_of-self-clause-accounted g c = omega (arith, ap length (same_sets g c), put_many (generations_in c.args.self.now) c.args.layout c.put-place.result c.in-Some.set (slots_in c.args.self.now) (slots_of c.put-place.new.self) c.put-place.ensures.puts, fewer g c, c.args.self.now.accounted)
