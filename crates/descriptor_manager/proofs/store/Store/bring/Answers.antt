@@ -52,12 +52,10 @@ module _ {L P S D : Type 0} {d : Ghosts D L P S} where
 
 cleaned_up : (g : _) (c : After-cleanup g) → IsCleared c.args.known.now.layout (c.args.many - kept_of c.args.layout c.args.self.now) c.args.many c.args.self.now c.cleanup.new.self
 cleaned_up g c =
-    let reserved = c.in_ok-reserve.ensures in
-    let first = refused_from _ _ _ _ reserved.contents _ _ c.in-Err.ensures.refused in
     cleared _ _ _ _ _ _ _
     (subst (λ n. IsRefused c.args.known.now.layout (c.args.many - n) c.in-Err.error c.args.self.now c.ask_for.new.self)
-    c.kept_count.ensures.count first)
-    (c.in-Err.ensures.stays.limit ∙ reserved.stays.limit)
+    c.kept_count.ensures.count (refused_from _ _ _ _ c.in_ok-reserve.ensures.contents _ _ c.in-Err.ensures.refused))
+    (c.in-Err.ensures.stays.limit ∙ c.in_ok-reserve.ensures.stays.limit)
     (λ above. false≢true (c.if-exceeds_limit.ensures.1 above)) (λ e. c.if-kept_total-eq0.false (c.kept_total.ensures ∙ e)) c.cleanup.ensures.cleaned c.cleanup.ensures.cleans
 
 pub returns-in_err-reserve-in-Err-clause-refused : goal.returns-in_err-reserve-in-Err-clause-refused

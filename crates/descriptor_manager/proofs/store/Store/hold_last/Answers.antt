@@ -46,12 +46,10 @@ pub returns-clause-table : goal.returns-clause-table
 returns-clause-table g c =
     let h = (goal.at.returns-clause-table g c).After-hold in
     let r = renews g h in
-    let puts = c.put-place.ensures.puts in
-    let room = subst (λ n. HasRoom n c.args.self.now.table) (fewer g h) c.requires.room in
     room_stays _ _ _ c.hold.ensures.stays (ap length r.slots ∙ length-set _ _ _)
-    (usable_renewed _ _ _ _ _ _ r puts.within (ap (λ s. s.used) puts.here)
+    (usable_renewed _ _ _ _ _ _ r c.put-place.ensures.puts.within (ap (λ s. s.used) c.put-place.ensures.puts.here)
     (live_no_list (renewed c.args.used (slot_at (slots_of c.put-place.new.self) c.put-place.result)) c.requires.live 0))
-    (c.put-place.ensures.reserve _ room)
+    (c.put-place.ensures.reserve _ (subst (λ n. HasRoom n c.args.self.now.table) (fewer g h) c.requires.room))
 
 pub returns-clause-keeps : goal.returns-clause-keeps
 returns-clause-keeps g c = λ known own.

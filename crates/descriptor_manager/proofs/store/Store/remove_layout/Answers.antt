@@ -23,18 +23,17 @@ remove_layout-requires-clause-next g c = subst (λ (generations : ℕ → ℕ). 
 
 pub returns-clause-removes : goal.returns-clause-removes
 returns-clause-removes g c =
-    let gives = c.give.ensures.frees in
     record {
       turns = turns g (goal.at.returns-clause-removes g c).After-remove_layout;
       generations = (ap (λ (s : Settings). s.generations) c.remove_layout.ensures.only.settings) ∙ ap (removed_at c.args.layout) (ap (λ (s : Settings). s.generations) c.give.ensures.stays.settings);
       past = c.remove_layout.ensures.past;
       mid = side_of c.give.new.self;
-      back = gives.back;
+      back = c.give.ensures.frees.back;
       trims = c.trim_layout.ensures.trims;
       gave = λ t. (
           let coming = λ (l : List (DescriptorSet g.row.S.Denot)). count_of t (items_of g.D.DescriptorDevice.meaning.set_name l) in
           let none = ap coming c.give.ensures.coming in
-          let back = gives.back.returns.back.returned t in
+          let back = c.give.ensures.frees.back.returns.back.returned t in
           let same = ap coming (same_sets g (goal.at.returns-clause-removes g c).After-remove_layout) in
           omega arith
           );
