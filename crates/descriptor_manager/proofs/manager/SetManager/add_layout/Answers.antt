@@ -1,11 +1,11 @@
 use Rattle.std.proofs.lemmas.Grind.{common_steps}
-use Rattle.std.proofs.Common.{◌≡◌, ◌≢◌, ◌<◌, ℕ, suc, [], ◌∷◌, length, slice_index_or, inl, inr, refl, sym, ap, ◌∙◌, subst, arith, rules}
+use Rattle.std.proofs.Common.{◌≡◌, ◌≢◌, ◌<◌, ℕ, suc, [], ◌∷◌, length, slice_index_or, refl, sym, ap, ◌∙◌, subst, arith, rules}
 use Rattle.descriptor_table.specs.Tables.{Settings, Grows, lists_with}
 use Rattle.descriptor_table.specs.declared.handle.SetHandle.{SetHandle}
 use Rattle.descriptor_manager.specs.LayoutRegistries.{layout_slots}
 use Rattle.descriptor_manager.specs.Own.{HasSetsOf}
 use Rattle.descriptor_manager.specs.Managers.{layouts_in}
-use Rattle.descriptor_manager.specs.Stores.{generations_in, lists_for}
+use Rattle.descriptor_manager.specs.Stores.{lists_for}
 use Rattle.descriptor_manager.proofs.Owned.{lists_more, sets_as}
 use Rattle.descriptor_manager.proofs.manager.SetManager.add_layout.Goals.{After-reserve_layout, then-places, else-places}
 use Rattle.descriptor_manager.proofs.manager.SetManager.add_layout.Goals as goal

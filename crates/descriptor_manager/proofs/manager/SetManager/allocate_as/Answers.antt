@@ -1,4 +1,4 @@
-use Rattle.std.proofs.Common.{◌≡◌, [], ◌∷◌, subst, sym, rules}
+use Rattle.std.proofs.Common.{◌≡◌, subst, sym, rules}
 use Rattle.descriptor_manager.specs.Stores.{IsRefusedAtLast, handles_in}
 use Rattle.descriptor_manager.proofs.Owned.{if_some, refused_names}
 use Rattle.descriptor_manager.proofs.Requested.{names_then, one_refused, own_then, sets_then}

@@ -93,7 +93,7 @@ invariant_of-self-clause-sets g c =
     let d = (goal.at.invariant_of-self-clause-sets g c).After-place in
     let is = removed_at c.place.result (generations_in old.store) in
     let past : (p : ℕ) → (slot_at new p).layout ≡ c.place.result → (slot_at new p).layout_generation < is c.place.result = λ p at.
-        subst (λ (generations : ℕ → ℕ). (slot_at new p).layout_generation < generations c.place.result) e.removes.generations (e.removes.past p at) in
+    subst (λ (generations : ℕ → ℕ). (slot_at new p).layout_generation < generations c.place.result) e.removes.generations (e.removes.past p at) in
     let own = own_removed _ _ _ _ _ (others g d) _ _ e.removes.turns past old.sets.own in
     let counted = counted_removed _ _ _ _ old.sets.counted (ap is_some (here g d)) (gone g d) (others g d) in
     let long = ap length (c.in-Some.ensures.slots refl) ∙ length-set _ _ _ in
