@@ -36,7 +36,7 @@ module _ {T : Type 0} {number p : ℕ} {x : T} {handle : SetHandle} {old mid new
 
   -- and is held, as those before
   pub added_held : ((n : ℕ) → is_some (slot_at old n).set ≡ true → (slot_at old n).used ≡ Held) → (n : ℕ) → is_some (slot_at new n).set ≡ true → (slot_at new n).used ≡ Held
-  added_held held n some = grind (arith, common_steps, same_or, slot_here, added_there)
+  added_held held n some = search (rules, same_or, slot_here, added_there)
 
   pub added_grows : Grows old new
   added_grows = grow_new number generations 0 p x Held handle old mid new (λ s. refl) puts renews

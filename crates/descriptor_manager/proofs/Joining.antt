@@ -70,7 +70,10 @@ module _ {T : Type 0} where
       → HoldEach number under u (take n now) old mid → ((i : ℕ) → i < n → is_kept_of layout (slot_at old (place_at now i)) ≡ true)
       → is_kept_of layout (slot_at mid handle.place) ≡ true
       → (i : ℕ) → i < n + 1 → is_kept_of layout (slot_at old (place_at (set now n handle) i)) ≡ true
-  were_kept number under u layout n now handle old mid live within x each last i lt = search rules
+  were_kept number under u layout n now handle old mid live within x each last i lt = elim (cases_lt i n) [
+    | inl less ↦ search rules
+    | inr le ↦ search rules
+  ]
 
   -- kept sets may have left their slots before the first set came
   module _ (number : ℕ) (layout : ℕ × ℕ) (u : Use) (handles : List SetHandle) (old mid new : List (Slot T)) (clear : (q : ℕ) → Clears (slot_at old q) (slot_at mid q)) (x : HoldEach number layout u handles mid new) where

@@ -1,5 +1,4 @@
 use Rattle.std.proofs.Common.{rules}
-use Rattle.descriptor_manager.specs.Stores.{generations_in, slots_in}
 use Rattle.descriptor_manager.proofs.Owned.{sets_stay}
 use Rattle.descriptor_manager.proofs.Showing.{back_names}
 use Rattle.descriptor_manager.proofs.manager.SetManager.frame_done.Goals as goal
@@ -8,6 +7,4 @@ pub invariant_of-self-clause-sets : goal.invariant_of-self-clause-sets
 invariant_of-self-clause-sets g c = sets_stay c.finish.ensures.settles c.args.self.now.sets
 
 pub returns-clause-names : goal.returns-clause-names
-returns-clause-names g c =
-    let old = c.args.self.now in
-    back_names old.frame old.is_open (generations_in old.store) old.manager c.done-done.result old.store.table.keep (slots_in old.store) (slots_in c.finish.new.self) (search rules) c.finish.ensures.back.turns
+returns-clause-names g c = back_names _ _ _ _ _ _ _ _ (search rules) c.finish.ensures.back.turns

@@ -118,4 +118,4 @@ returns-in-Some-clause-others g c = λ other ne.
     (c.in-Some.ensures.names refl).others other.slot (All-cons (λ h. h ≢ other.slot) c.args.layout.slot [] apart (All-nil (λ h. h ≢ other.slot)))
 
 pub returns-in-Some-clause-rest : goal.returns-in-Some-clause-rest
-returns-in-Some-clause-rest g c = search rules
+returns-in-Some-clause-rest g c = let names = c.in-Some.ensures.names refl in search rules
