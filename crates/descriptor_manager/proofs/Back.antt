@@ -1,5 +1,5 @@
--- Sets that go back: those that are freed are kept, or leave their slots; then kept sets that all go, for `Store::cleanup` and `set_max_kept`;
--- then all sets that leave, for `Store::free_all`.
+-- Sets that go back: those that are freed are kept, or leave their slots; then kept sets that all go, for `Store::cleanup`,
+-- `set_max_kept` and `free_all`; then all sets that leave, for `Store::free_all` and `SetManager::shutdown`.
 use Rattle.std.proofs.lemmas.Grind.{common_steps}
 use Rattle.std.proofs.Common.{◌≡◌, ℕ, ◌+◌, ◌≤◌, ◌&&◌, nat_lt, ne_eqb, Bool, true, false, List, is_some, inl, inr, ap, arith, rules, if◌then◌else◌, refl, sym, ◌∙◌, ◌⊎◌, ◌||◌, not, Option, None}
 use Rattle.std.proofs.lemmas.Bool.{true≢false}

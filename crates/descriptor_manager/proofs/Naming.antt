@@ -1,4 +1,4 @@
--- What handles name when sets come to slots, or leave them: for `Joining` and `Removing`.
+-- What handles name when sets come to slots, or leave them: for `Joining` and `SetManager::remove_layout`.
 -- `o` is a slot before, `n` the same slot after, and `h` a handle of its place; a handle is *apart* if it isn't the next one of the slot.
 use Rattle.std.proofs.lemmas.Grind.{common_steps}
 use Rattle.std.proofs.Common.{◌≡◌, ◌≢◌, ℕ, ◌+◌, ◌⊎◌, ◌==◌, ◌&&◌, ◌||◌, nat_le, nat_lt, not, Bool, true, if◌then◌else◌, Option, None, is_some, sym, ap, ◌∙◌, arith, eq-eqb, ne_eqb, rules}

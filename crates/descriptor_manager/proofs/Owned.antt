@@ -1,5 +1,6 @@
 -- The sets of a set manager stay of their layouts, and what refusals leave: each call of `SetManager` leaves `HasSetsOf`, its invariant.
 -- `slots` are those of sets, `layouts` those of layouts, `known` is a layout, and `n` or `number` the number of one.
+-- The last lemma is of the pools of a layout, by the counts and flags that it is known with.
 use Rattle.std.proofs.lemmas.Grind.{common_steps}
 use Rattle.std.proofs.Common.{◌≡◌, ℕ, suc, ◌<◌, Bool, false, List, length, Option, Some, None, is_some, inl, inr, sym, ap, subst, ◌∙◌, arith, IfSome}
 use Rattle.std.proofs.lemmas.List.{get_or_past}

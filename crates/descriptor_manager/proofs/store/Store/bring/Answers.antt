@@ -14,7 +14,7 @@ use Rattle.descriptor_manager.proofs.Arriving.{none_left}
 use Rattle.descriptor_manager.proofs.store.Store.bring.Goals.{After-cleanup}
 use Rattle.descriptor_manager.proofs.store.Store.bring.Goals as goal
 
--- What holds of a result's value, given the result: for the store's and the set manager's clauses `IfOk`, `IfErr`, `OnOk`.
+-- What holds of a result's value, given the result: for the clauses `IfErr` and `OnOk`.
 
 if_err : {X E : Type 0} (P Q : E → Type 0) (r : Result X E) → IfErr r P → ((e : E) → P e → Q e) → IfErr r Q
 if_err P Q x2 h f = search rules
