@@ -11,7 +11,8 @@ use Rattle.descriptor_table.specs.declared.slot.Use.{Use}
 use Rattle.descriptor_table.specs.declared.slot.Use.TheVariants.{Held, Taken}
 use Rattle.descriptor_table.specs.declared.slot.Chain.{Chain}
 use Rattle.descriptor_table.proofs.Counting.{same_or, walk_other}
-use Rattle.descriptor_table.proofs.Listed.{first_passes, lists_few, lists_other, lists_pop, lists_push, not_listed, one_none, other_slots, slot_set, test_within, walk_length}
+use Rattle.descriptor_table.proofs.Counts.{lists_few}
+use Rattle.descriptor_table.proofs.Listed.{first_passes, lists_other, lists_pop, lists_push, not_listed, one_none, other_slots, slot_set, test_within, walk_length}
 
 pub and_true : (a b : Bool) → (a && b) ≡ true → (a ≡ true) × (b ≡ true)
 and_true x0 x1 e = grind (arith, common_steps)

@@ -1,13 +1,12 @@
 -- How many slots pass a test, when one of them changes, and that a list counts them: for the counts that `SetTable` returns.
 use Rattle.std.proofs.lemmas.Grind.{common_steps}
-use Rattle.std.proofs.Common.{◌≡◌, ℕ, zero, suc, ◌+◌, ◌<◌, ◌≤◌, Bool, false, if◌then◌else◌, List, [], ◌∷◌, length, set, refl, ap, ◌∙◌, arith, rules}
-use Rattle.descriptor_table.specs.Places.{times, walk}
+use Rattle.std.proofs.Common.{◌≡◌, ℕ, zero, suc, ◌+◌, ◌<◌, ◌≤◌, Bool, false, if◌then◌else◌, List, [], ◌∷◌, length, set, refl, ap, ◌∙◌, arith, rules, sym}
+use Rattle.descriptor_table.specs.Places.{walk}
 use Rattle.descriptor_table.specs.Slots.{AreLinked, Lists, chain_at, is_in, no_slot, slot_at}
 use Rattle.descriptor_table.specs.Tables.{count}
 use Rattle.descriptor_table.specs.Slots.{Slot}
 use Rattle.descriptor_table.specs.declared.slot.Chain.{Chain}
-use Rattle.descriptor_table.proofs.Counting.{places_total, total, total_as, total_first}
-use Rattle.descriptor_table.proofs.Listed.{past_end, walk_length}
+use Rattle.descriptor_table.proofs.Listed.{walk_length, first_passes, one_none, test_within, lists_pop}
 
 -- 1 if the test holds
 abbrev pub bit : Bool → ℕ
@@ -26,21 +25,6 @@ module _ {T : Type 0} where
   pub same_count : (test : Slot T → Bool) (slots : List (Slot T)) (p : ℕ) (s : Slot T) → p < length slots → test s ≡ test (slot_at slots p) → count test (set slots p s) ≡ count test slots
   same_count test slots p s within same = let h = count_set test slots p s within in let e = ap bit same in omega arith
 
-  -- as many slots as places in a list
-  pub listed_count : (test : Slot T → Bool) (slots : List (Slot T)) (l : List ℕ) → test no_slot ≡ false → Lists test slots l → length l ≡ count test slots
-  listed_count test slots l none h =
-      places_total (length slots) l (λ p past. h p ∙ ap (λ x. if test x then 1 else 0) (past_end slots p past) ∙ ap bit none)
-      ∙ total_as (λ p. times p l) (λ p. if test (slot_at slots p) then 1 else 0) (length slots) h
-      ∙ all_count slots
-    where
-      all_count : (slots : List (Slot T)) → total (λ p. if test (slot_at slots p) then 1 else 0) (length slots) ≡ count test slots
-      all_count [] = refl
-      all_count (s ∷ slots) = total_first (λ p. if test (slot_at (s ∷ slots) p) then 1 else 0) (length slots) ∙ ap (λ n. (if test s then 1 else 0) + n) (all_count slots)
-
-  -- a list has as many slots as it counts
-  pub chain_count : (slots : List (Slot T)) (next : List ℕ) (chains : List Chain) → AreLinked slots next chains → (k : ℕ) → (chain_at chains k).count ≡ count (is_in k) slots
-  chain_count slots next chains h k = grind (arith, common_steps, walk_length (chain_at chains k).count next (chain_at chains k).first, listed_count (is_in k) slots (walk (chain_at chains k).count next (chain_at chains k).first) refl (h k))
-
   -- each slot that passes a test passes one of two others
   pub count_split : (all a b : Slot T → Bool) (slots : List (Slot T)) → ((s : Slot T) → bit (all s) ≡ bit (a s) + bit (b s)) → count all slots ≡ count a slots + count b slots
   count_split all a b [] each = omega arith
@@ -58,6 +42,19 @@ module _ {T : Type 0} where
   pub none_count : (test : Slot T → Bool) (slots : List (Slot T)) → ((p : ℕ) → test (slot_at slots p) ≡ false) → count test slots ≡ 0
   none_count test [] none = refl
   none_count test (s ∷ slots) none = ap (λ b. (if b then 1 else 0) + count test slots) (none 0) ∙ (let h = none_count test slots (λ p. none (suc p)) in omega arith)
+
+  -- as many slots as places in a list, if the slot past the end, in which no set ever was, isn't in it
+  pub listed_count : (test : Slot T → Bool) (slots : List (Slot T)) (l : List ℕ) → test no_slot ≡ false → Lists test slots l → length l ≡ count test slots
+  listed_count test slots [] none h = sym (none_count test slots (λ p. one_none (test (slot_at slots p)) (sym (h p))))
+  listed_count test slots (p ∷ l) none h = grind (arith, common_steps, bit, count_set, first_passes, lists_pop, test_within, listed_count test (set slots p no_slot) l)
+
+  -- so a list has no more places than there are slots
+  pub lists_few : (test : Slot T → Bool) (slots : List (Slot T)) (l : List ℕ) → test no_slot ≡ false → Lists test slots l → length l ≤ length slots
+  lists_few test slots l none h = omega (arith, listed_count test slots l none h, count_few test slots)
+
+  -- a list has as many slots as it counts
+  pub chain_count : (slots : List (Slot T)) (next : List ℕ) (chains : List Chain) → AreLinked slots next chains → (k : ℕ) → (chain_at chains k).count ≡ count (is_in k) slots
+  chain_count slots next chains h k = grind (arith, common_steps, walk_length (chain_at chains k).count next (chain_at chains k).first, listed_count (is_in k) slots (walk (chain_at chains k).count next (chain_at chains k).first) refl (h k))
 
   -- if no slot counts, none passes the test, nor does the slot past the end, in which no set ever was
   pub count_none : (test : Slot T → Bool) (slots : List (Slot T)) → test no_slot ≡ false → count test slots ≡ 0 → (p : ℕ) → test (slot_at slots p) ≡ false

@@ -6,7 +6,7 @@ use Rattle.descriptor_table.specs.Places.{times, walk}
 use Rattle.descriptor_table.specs.Slots.{Lists, Slot, no_slot, slot_at}
 use Rattle.descriptor_table.specs.Tables.{used_for}
 use Rattle.descriptor_table.specs.declared.slot.Use.{Use}
-use Rattle.descriptor_table.proofs.Counting.{few_places, same_or, times_here, times_there}
+use Rattle.descriptor_table.proofs.Counting.{same_or, times_here, times_there}
 
 -- 1 if the test holds
 abbrev pub one : Bool → ℕ
@@ -17,9 +17,6 @@ one_less x0 n e = grind (arith, common_steps)
 
 pub one_none : (b : Bool) → one b ≡ 0 → b ≡ false
 one_none x0 e = grind (arith, common_steps)
-
-one_few : (b : Bool) → one b ≤ 1
-one_few x0 = grind (arith, common_steps)
 
 pub walk_length : (n : ℕ) (next : List ℕ) (first : ℕ) → length (walk n next first) ≡ n
 walk_length zero next first = refl
@@ -58,10 +55,6 @@ module _ {T : Type 0} where
 
   pub past_end : (slots : List (Slot T)) (p : ℕ) → length slots ≤ p → slot_at slots p ≡ no_slot
   past_end slots p le = get_or_past slots p no_slot le
-
-  -- a list has no more places than there are slots, if the slot past the end isn't in it
-  pub lists_few : (t : Slot T → Bool) (slots : List (Slot T)) (l : List ℕ) → t no_slot ≡ false → Lists t slots l → length l ≤ length slots
-  lists_few t slots l none h = grind (arith, common_steps, few_places, one, one_few, past_end)
 
   -- a slot that does not pass the test is not in the list
   pub not_listed : (t : Slot T → Bool) (slots : List (Slot T)) (l : List ℕ) (p : ℕ) → Lists t slots l → t (slot_at slots p) ≡ false → times p l ≡ 0

@@ -8,7 +8,8 @@ use Rattle.std.specs.List.Sorted.{IsNonDecreasingBy, IsPartitionPoint}
 use Rattle.descriptor_table.specs.Places.{times}
 use Rattle.descriptor_table.specs.Slots.{IsQueue, Slot, frame_of, is_due, slot_at, waits}
 use Rattle.descriptor_table.proofs.Counting.{same_or, times_here, times_there}
-use Rattle.descriptor_table.proofs.Listed.{first_passes, lists_few, lists_other, lists_pop, lists_push, not_listed, one_none, other_slots, slot_set, test_within}
+use Rattle.descriptor_table.proofs.Counts.{lists_few}
+use Rattle.descriptor_table.proofs.Listed.{first_passes, lists_other, lists_pop, lists_push, not_listed, one_none, other_slots, slot_set, test_within}
 
 -- how often each place is in a list is the same wherever a place comes to it
 times_insert : (q p : ℕ) (l : List ℕ) (i : ℕ) → times q (insert l i p) ≡ times q (p ∷ l)
