@@ -1,5 +1,5 @@
 -- Lists of places, and how often each place is in them: for the lists of slots, as they are in `Listed` and `Counts`.
-use Rattle.std.proofs.Common.{◌≡◌, ◌≢◌, ℕ, zero, suc, ◌+◌, ◌<◌, ◌≤◌, List, ◌∷◌, get_or, set, ◌⊎◌, inl, inr, refl, sym, ap, subst, ◌∙◌, arith, eq-eqb, ne_eqb, rules}
+use Rattle.std.proofs.Common.{◌≡◌, ◌≢◌, ℕ, zero, suc, ◌+◌, ◌<◌, ◌≤◌, List, ◌∷◌, get_or, set, ◌⊎◌, inl, inr, refl, arith, eq-eqb, ne_eqb, rules}
 use Rattle.std.proofs.lemmas.List.{get_or-set_other}
 use Rattle.descriptor_table.specs.Places.{times, walk}
 
@@ -23,10 +23,4 @@ times_there p q l ne = rw (ne_eqb p q ne) refl
 -- a list that a place is not in is the same, whatever its next is
 pub walk_other : (n : ℕ) (next : List ℕ) (first p x : ℕ) → times p (walk n next first) ≡ 0 → walk n (set next p x) first ≡ walk n next first
 walk_other zero next first p x none = refl
-walk_other (suc n) next first p x none = elim (same_or p first) [
-  | inl e ↦ absurd (let a = subst (λ y. times p (y ∷ walk n next (get_or next first 0)) ≡ times p (walk n next (get_or next first 0)) + 1) e (times_here p (walk n next (get_or next first 0))) in omega arith)
-  | inr ne ↦
-      let a = times_there p first (walk n next (get_or next first 0)) ne in
-      let same : get_or (set next p x) first 0 ≡ get_or next first 0 = get_or-set_other next p first x 0 (λ e. ne (sym e)) in
-      ap (λ y. first ∷ walk n (set next p x) y) same ∙ ap (λ l. first ∷ l) (walk_other n next (get_or next first 0) p x (sym a ∙ none))
-]
+walk_other (suc n) next first p x none = search (rules, same_or, times_here, times_there, get_or-set_other, walk_other n next (get_or next first 0) p x)

@@ -1,6 +1,6 @@
 -- The lists of slots, when a slot comes at the end, whose set a call has: for `SetTable::push`.
 use Rattle.std.proofs.lemmas.Grind.{common_steps}
-use Rattle.std.proofs.Common.{◌≡◌, ℕ, zero, suc, ◌+◌, Bool, false, if◌then◌else◌, List, [], ◌∷◌, ◌++◌, length, get_or, Some, refl, sym, ap, ◌∙◌, arith}
+use Rattle.std.proofs.Common.{◌≡◌, ℕ, zero, suc, ◌+◌, Bool, false, if◌then◌else◌, List, [], ◌∷◌, ◌++◌, length, get_or, Some, refl, sym, ap, ◌∙◌, arith, rules}
 use Rattle.descriptor_table.specs.Places.{times, walk}
 use Rattle.descriptor_table.specs.Slots.{AreLinked, HasLists, IsListed, IsQueue, Slot, chain_at, frame_of, is_in, no_slot, slot_at, waits}
 use Rattle.descriptor_table.specs.Tables.{Puts, count, is_usable}
@@ -33,14 +33,7 @@ module _ {T : Type 0} where
   linked_grown slots next chains s taken h k q = ap (times q) (walk_grown (chain_at chains k).count next (chain_at chains k).first) ∙ h k q ∙ ap (λ b. if b then 1 else 0) (sym (grown (is_in k) slots s q (taken_no_list s taken k)))
 
   pub queue_grown : (slots : List (Slot T)) (l : List ℕ) (newest : ℕ) (s : Slot T) → s.used ≡ Taken → IsQueue slots l newest → IsQueue (slots ++ s ∷ []) l newest
-  queue_grown slots l newest s taken h = record {
-    has = λ q. h.has q ∙ ap (λ b. if b then 1 else 0) (sym (grown waits slots s q (taken_out s taken)));
-    rises = λ i j d le lt. (let a = frame (get_or l i d) in let b = frame (get_or l j d) in let c = h.rises i j d le lt in omega arith);
-    bound = λ q w. (let a = frame q in let b = h.bound q (sym (grown waits slots s q (taken_out s taken)) ∙ w) in omega arith);
-  }
-    where
-      frame : (q : ℕ) → frame_of (slot_at (slots ++ s ∷ []) q).used ≡ frame_of (slot_at slots q).used
-      frame q = grown (λ (s : Slot T). frame_of s.used) slots s q (ap frame_of taken)
+  queue_grown slots l newest s taken h = search (rules, taken_out, grown waits, grown (λ (s : Slot T). frame_of s.used))
 
   -- the layout of each slot has its list, also that of the new slot
   pub known_grown : (slots : List (Slot T)) (s : Slot T) (lists : ℕ) (generations : ℕ → ℕ) → IsListed lists generations s → HasLists slots lists generations → length (slots ++ s ∷ []) ≡ length slots + 1 → HasLists (slots ++ s ∷ []) lists generations

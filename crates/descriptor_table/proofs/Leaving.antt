@@ -91,12 +91,4 @@ module _ {T : Type 0} where
 
   -- all sets of the group were taken out
   pub given_all : (xs : List T) (s u : Giving T) → YieldsThen GivesNext s xs None u → Turns (is_of s.group) (Becomes vacated) (slots_of s.table.now) (slots_of u.table.now) × (u.table.ghost_name ≡ s.table.ghost_name) × Stays s.table.now u.table.now
-  given_all xs s u d =
-      let v = d.0 in
-      let last = d.2 in
-      let old = slots_of s.table.now in
-      let now = slots_of v.table.now in
-      let stays = given_stays xs s v d.1 in
-      let none = subst (λ g. GivesAny (is_of g) None now (slots_of u.table.now)) stays.0 last.gives.slots in
-      let turning = given_turns s.group xs s v old refl d.1 (turn_start (is_of s.group) (Becomes vacated) old) in
-      (subst (Turns (is_of s.group) (Becomes vacated) old) (sym none.slots) (turn_end (is_of s.group) (Becomes vacated) old now turning none.none), last.same ∙ stays.1, stays_more s.table.now v.table.now u.table.now stays.2 last.gives.stays)
+  given_all xs s u d = search (rules, given_stays xs s d.0 d.1, given_turns s.group xs s d.0 (slots_of s.table.now) refl d.1 (turn_start (is_of s.group) (Becomes vacated) (slots_of s.table.now)), turn_end, stays_more)

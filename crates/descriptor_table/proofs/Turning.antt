@@ -41,10 +41,6 @@ module _ {T : Type 0} where
     pub turn_end : (old now : List (Slot T)) → Turning test becomes old now → ((p : ℕ) → test (slot_at now p) ≡ false) → Turns test becomes old now
     turn_end old now turning none = search (rules, true≢false)
 
-  -- the number of kept sets does not fall when a set settles that is in no list
-  kept_grows : (k p : ℕ) (now : List (Slot T)) (s : Slot T) → p < length now → is_in k (slot_at now p) ≡ false → count (is_in k) now ≤ count (is_in k) (set now p s)
-  kept_grows k p now s within out = (let h = count_set (is_in k) now p s within in let b = ap bit out in omega arith)
-
   -- a set of a slot that is in no list settled
   module _ (generations : ℕ → ℕ) (max : ℕ) (now mid new : List (Slot T)) (p : ℕ) (within : p < length now) (out : (k : ℕ) → is_in k (slot_at now p) ≡ false) (u : Use) (idle : IsNowhere u) (left : mid ≡ with_use p u now) (is : new ≡ with_use p (next_use generations max mid p) mid) where
     -- only the use of its slot changed
@@ -53,11 +49,11 @@ module _ {T : Type 0} where
 
     -- of sets that settled before it `IsBack` still holds, as no fewer sets of any layout are kept than then
     pub settled_grows : (o n : Slot T) → IsBack (used_for Going) generations max now o n → IsBack (used_for Going) generations max new o n
-    settled_grows o n x2 = search (rules, kept_grows, settled_set)
+    settled_grows o n x2 = search (rules, count_set, settled_set)
 
     -- it is kept if it may be, and else goes
     pub settled_here : IsBack (used_for Going) generations max new (slot_at now p) (used_for (next_use generations max mid p) (slot_at now p))
-    settled_here = search (rules, and_true, kept_grows, ltb-false, nowhere_out, same_count, settled_set, slot_set)
+    settled_here = search (rules, and_true, count_set, ltb-false, nowhere_out, same_count, settled_set, slot_set)
 
   -- a set that settled waits no longer, and isn't held
   pub settled_not_due : (generations : ℕ → ℕ) (frame max : ℕ) (l : List (Slot T)) (o n : Slot T) → IsBack (used_for Going) generations max l o n → is_due frame n ≡ false
@@ -105,17 +101,11 @@ module _ {T : Type 0} where
 
   -- a step of a loop whose sets go: a slot that passed the test was picked, and goes
   module _ (test : Slot T → Bool) (now mid new : List (Slot T)) (p : ℕ) (picks : Picks test (used_for Taken) p now mid) (goes : new ≡ with_use p Going mid) (out : (s : Slot T) → test (used_for Going s) ≡ false) where
-    went : new ≡ set now p (used_for Going (slot_at now p))
-    went = goes ∙ ap (with_use p Going) picks.slots ∙ use_again now p Taken Going picks.within
-
     pub go_step : (old : List (Slot T)) → Turning test (Becomes (used_for Going)) old now → Turning test (Becomes (used_for Going)) old new
-    go_step old turning = turn_step test (Becomes (used_for Going)) old now new p (used_for Going (slot_at now p)) turning picks.within picks.was went (λ o n b. b) (λ o n b. ap test b ∙ out o) refl
+    go_step old turning = search (rules, use_again, turn_step)
 
     pub go_less : count test new + 1 ≡ count test now
-    go_less = one_less test now new p (used_for Going (slot_at now p)) picks.within picks.was (out (slot_at now p)) went
-
-    pub go_fewer : count test new < count test now
-    go_fewer = one_fewer test now new p (used_for Going (slot_at now p)) picks.within picks.was (out (slot_at now p)) went
+    go_less = grind (arith, common_steps, bit, count_set, use_again)
 
   -- what becomes of the slots when a slot turns, if it passes the test
   pub record TurnsOne (test : Slot T → Bool) (becomes : List (Slot T) → Slot T → Slot T → Type 0) (old now new : List (Slot T)) (p : ℕ) : Type 0 where
@@ -123,14 +113,9 @@ module _ {T : Type 0} where
     pub here : test (slot_at new p) ≡ false
     pub others : (q : ℕ) → test (slot_at now q) ≡ false → test (slot_at new q) ≡ false
 
-  -- a step of a loop at a place: a slot that passes the test turns, another stays
-  module _ (test : Slot T → Bool) (becomes : List (Slot T) → Slot T → Slot T → Type 0) (old now new : List (Slot T)) (p : ℕ) (u : Use) (turning : Turning test becomes old now) (within : p < length now) where
-    turn_one : new ≡ (if test (slot_at now p) then set now p (used_for u (slot_at now p)) else now) → (test (slot_at now p) ≡ true → Turning test becomes old new) → test (used_for u (slot_at now p)) ≡ false → TurnsOne test becomes old now new p
-    turn_one is step out = search (rules, other_slots, same_or, slot_set, with_use)
-
-  -- a slot that passes the test comes to be in use for something, and doesn't pass it then
+  -- a step of a loop at a place: a slot that passes the test comes to be in use for something, and doesn't pass it then
   pub use_one : (test : Slot T → Bool) (u : Use) (old now new : List (Slot T)) (p : ℕ) → Turning test (λ l o n. n ≡ used_for u o) old now → p < length now → new ≡ (if test (slot_at now p) then set now p (used_for u (slot_at now p)) else now) → ((s : Slot T) → test (used_for u s) ≡ false) → TurnsOne test (λ l o n. n ≡ used_for u o) old now new p
-  use_one test u old now new p turning within is out = search (rules, turn_one, turn_step, with_use)
+  use_one test u old now new p turning within is out = search (rules, other_slots, same_or, slot_set, turn_step, with_use)
 
   -- a set that goes is in no list of kept sets
   pub going_out : (k : ℕ) (s : Slot T) → 2 ≤ k → is_in k (used_for Going s) ≡ false
@@ -146,15 +131,11 @@ module _ {T : Type 0} where
   count_same test (x ∷ l) [] long same = absurd (omega arith)
   count_same test (x ∷ l) (y ∷ m) long same = let a = ap bit (same 0) in let h = count_same test l m (omega arith) (λ p. same (suc p)) in omega arith
 
-  -- a set in a list of kept sets is kept
-  kept_of : (k : ℕ) (s : Slot T) → 2 ≤ k → is_in k s ≡ true → is_kept s ≡ true
-  kept_of k s two e = search rules
-
   module _ (k : ℕ) (two : 2 ≤ k) (now new : List (Slot T)) (turns : Turns (is_in k) (MayBecome (used_for Going)) now new) where
     -- after kept sets of one list more may have gone
     pub trim_more : (old : List (Slot T)) → Turning is_kept (Becomes (used_for Going)) old now → Turning is_kept (Becomes (used_for Going)) old new
-    trim_more old turning = grind (arith, common_steps, going_out, kept_of, true≢false)
+    trim_more old turning = grind (arith, common_steps, going_out)
 
     -- the other lists have as many kept sets as before
     pub trim_others : (j : ℕ) → 2 ≤ j → j ≢ k → count (is_in j) new ≡ count (is_in j) now
-    trim_others j two' ne = search (rules, count_same, going_out, lists_apart)
+    trim_others j two' ne = search (rules, count_same, lists_apart)

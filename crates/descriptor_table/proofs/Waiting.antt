@@ -1,6 +1,6 @@
 -- The queue of the sets that wait, when a place comes to it or leaves it: for `enqueue`, and `SetTable::pick_waiting` and `pick_due`.
 use Rattle.std.proofs.lemmas.Grind.{common_steps}
-use Rattle.std.proofs.Common.{◌≡◌, ◌≢◌, ℕ, zero, suc, ◌+◌, ◌<◌, ◌≤◌, ◌==◌, Bool, true, false, if◌then◌else◌, List, [], ◌∷◌, insert, length, get_or, set, inl, inr, refl, sym, ap, subst, ◌∙◌, arith, rules}
+use Rattle.std.proofs.Common.{◌≡◌, ◌≢◌, ℕ, zero, suc, ◌<◌, ◌≤◌, true, false, List, [], ◌∷◌, insert, length, get_or, set, inl, inr, refl, sym, ap, subst, ◌∙◌, arith, rules}
 use Rattle.std.proofs.lemmas.List.{length-set}
 use Rattle.std.proofs.lemmas.Bool.{true≢false}
 use Rattle.std.proofs.lemmas.List.Sorted.{IsNonDecreasingBy-drop, IsNonDecreasingBy-insert}
@@ -20,11 +20,8 @@ times_insert q p (x ∷ l) (suc i) = search (rules, times_insert q p l i)
 -- a place that isn't in a list is nowhere in it
 apart_at : (p : ℕ) (l : List ℕ) (i d : ℕ) → times p l ≡ 0 → i < length l → get_or l i d ≢ p
 apart_at p [] i d none lt = absurd (omega arith)
-apart_at p (q ∷ l) zero d none lt = λ e. (let here = subst (λ q. times p (q ∷ l) ≡ times p l + 1) (sym e) (times_here p l) in omega arith)
-apart_at p (q ∷ l) (suc i) d none lt = apart_at p l i d (rest (p == q) (times p l) none) (omega arith)
-  where
-    rest : (b : Bool) (n : ℕ) → (if b then n + 1 else n) ≡ 0 → n ≡ 0
-    rest b n e = grind (arith, common_steps)
+apart_at p (q ∷ l) zero d none lt = search (rules, times_here)
+apart_at p (q ∷ l) (suc i) d none lt = search (rules, apart_at p l i d)
 
 -- what holds all along a list holds of each place in it
 along : (P : ℕ → Type 0) (l : List ℕ) (d : ℕ) → ((i : ℕ) → i < length l → P (get_or l i d)) → (p : ℕ) → times p l ≢ 0 → P p
@@ -84,12 +81,8 @@ module _ {T : Type 0} where
       pub put_queue : (f i newest' : ℕ) → frame_of s.used ≡ f → i ≤ length l → IsPartitionPoint (λ q. frame (set slots p s) q ≤ f) (λ q. f < frame (set slots p s) q) l i → newest ≤ newest' → f ≤ newest' → IsQueue (set slots p s) (insert l i p) newest'
       put_queue f i newest' of le point more is = record {
         has = λ q. times_insert q p l i ∙ lists_push waits slots p s l queue.has within was now q;
-        rises =
-            let here = ap (λ (s : Slot T). frame_of s.used) (slot_set slots p s within) in
-            IsNonDecreasingBy-insert (frame (set slots p s)) l i p still_rises le
-            (λ k d lt. (let b = point.0 k d (omega arith) lt in omega arith))
-            (λ k d from lt. (let b = point.1 k d from lt in omega arith));
-        bound = bound_set slots p newest' s within (λ q w. (let b = queue.bound q w in omega arith)) (λ w. omega arith);
+        rises = IsNonDecreasingBy-insert (frame (set slots p s)) l i p still_rises le (search (rules, slot_set)) (search (rules, slot_set));
+        bound = bound_set slots p newest' s within (search rules) (search rules);
       }
 
   -- the first set leaves the queue

@@ -4,7 +4,7 @@ use Rattle.descriptor_table.specs.Tables.{count, slots_of}
 use Rattle.descriptor_table.specs.declared.set_table.SetTable.{SetTable}
 use Rattle.descriptor_table.specs.declared.slot.Chain.{Chain}
 use Rattle.descriptor_table.proofs.Counts.{chain_count, none_count}
-use Rattle.descriptor_table.proofs.Turning.{go_fewer, go_less, go_step, going_out, stays_more}
+use Rattle.descriptor_table.proofs.Turning.{go_less, go_step, going_out, stays_more}
 use Rattle.descriptor_table.proofs.set_table.SetTable.trim_list.Goals as goal
 
 -- the list's head counts it
@@ -18,7 +18,7 @@ pub returns-clause-few : goal.returns-clause-few
 returns-clause-few g c = omega (arith, counted c.loop-self.self c.args.list c.chain.result c.chain.ensures, c.loop-self-test.false)
 
 pub loop-self-smaller : goal.loop-self-smaller
-loop-self-smaller g c = go_fewer (is_in c.args.list) (slots_of c.loop-self.self) (slots_of c.pick.new.self) (slots_of c.link.new.self) c.in-Some.place c.in-Some.ensures.slots c.link.ensures.slots (λ s. going_out c.args.list s c.requires.list)
+loop-self-smaller g c = omega (arith, go_less (is_in c.args.list) (slots_of c.loop-self.self) (slots_of c.pick.new.self) (slots_of c.link.new.self) c.in-Some.place c.in-Some.ensures.slots c.link.ensures.slots (λ s. going_out c.args.list s c.requires.list))
 
 pub loop-self-preserved : goal.loop-self-preserved
 loop-self-preserved g c =
