@@ -59,54 +59,27 @@ module _ {T : Type 0} (l l' : SlotList T) (chains : List Chain) (generations wai
 
     -- a slot that a call had came first in a list
     pub link_sound : (k : ℕ) (c : Chain) → chain_at chains k ≡ c → k < length chains → p < length (slots_in l) → IsNowhere (slot_at (slots_in l) p).used → is_in k s ≡ true → nexts_in l' ≡ set (nexts_in l) p c.first → IsListed (length chains) (generation_at generations) s → (2 ≤ k → c.count < keep) → AreSound l' (set chains k (record { first = p; count = c.count + 1 })) generations waiting room keep newest
-    link_sound k c is there within idle goes nexts here few =
-        let d : Chain = record { first = p; count = c.count + 1 } in
-        changed k d waiting newest there within here
-        (λ two. let less = few two in omega arith)
-        (in_place (λ l n. AreLinked l n (set chains k d)) _ _ _ _ slots nexts (link_linked (slots_in l) (nexts_in l) chains h.linked k c is p s within idle goes (same_long l) there))
-        (out_queue (slots_in l) waiting newest h.queue p s within (nowhere_out (slot_at (slots_in l) p) idle).0 (listed_out k s goes))
+    link_sound k c is there within idle goes nexts here few = grind (arith, common_steps, few_set, known, known_chains, long, link_linked (slots_in l) (nexts_in l) chains h.linked k c is p s within idle goes (same_long l) there, out_queue (slots_in l) waiting newest h.queue p s within (nowhere_out (slot_at (slots_in l) p) idle).0 (listed_out k s goes))
 
     -- the first set that waits leaves the queue
     pub leave_sound : (rest : List ℕ) → waiting ≡ p ∷ rest → nexts_in l' ≡ nexts_in l → ((k : ℕ) → is_in k s ≡ false) → waits s ≡ false → IsListed (length chains) (generation_at generations) s → AreSound l' chains generations rest room keep newest
-    leave_sound rest all nexts out now here =
-        let queue = subst (λ l'. IsQueue (slots_in l) l' newest) all h.queue in
-        let first = first_waits (slots_in l) p rest newest queue in
-        queued rest newest first.0 here nexts (waits_no_list (slot_at (slots_in l) p) first.1) out (pop_queue (slots_in l) p rest newest queue s now)
+    leave_sound rest all nexts out now here = grind (arith, common_steps, queued rest newest, waits_no_list, pop_queue (slots_in l) p rest newest, first_waits (slots_in l) p rest newest, subst (λ l'. IsQueue (slots_in l) l' newest) all h.queue)
 
   -- a slot came at the end, whose set a call has
   pub push_sound : (s : Slot T) → s.used ≡ Taken → slots_in l' ≡ slots_in l ++ s ∷ [] → nexts_in l' ≡ nexts_in l ++ 0 ∷ [] → IsListed (length chains) (generation_at generations) s → length (slots_in l) + 1 < 4294967296 → length (slots_in l) + 1 ≤ room → AreSound l' chains generations waiting room keep newest
-  push_sound s taken slots nexts here few space =
-      let long = ap length slots ∙ length_push (slots_in l) s in
-      record {
-        size = omega arith;
-        fits = omega arith;
-        linked = in_place (λ l n. AreLinked l n chains) _ _ _ _ slots nexts (linked_grown (slots_in l) (nexts_in l) chains s taken h.linked);
-        queue = subst (λ l. IsQueue l waiting newest) (sym slots) (queue_grown (slots_in l) waiting newest s taken h.queue);
-        known = subst (λ l. HasLists l (length chains) (generation_at generations)) (sym slots) (known_grown (slots_in l) s (length chains) (generation_at generations) here h.known (length_push (slots_in l) s));
-        few = h.few;
-      }
+  push_sound s taken slots nexts here few space = grind (arith, common_steps, in_place, length_push, linked_grown (slots_in l) (nexts_in l) chains s taken h.linked, queue_grown (slots_in l) waiting newest s taken h.queue, known_grown (slots_in l) s (length chains) (generation_at generations) here h.known)
 
   -- a slot that a call has changed
   pub fill_sound : (p x : ℕ) (s : Slot T) → p < length (slots_in l) → (slot_at (slots_in l) p).used ≡ Taken → s.used ≡ Taken → slots_in l' ≡ set (slots_in l) p s → nexts_in l' ≡ set (nexts_in l) p x → IsListed (length chains) (generation_at generations) s → AreSound l' chains generations waiting room keep newest
-  fill_sound p x s within was taken slots nexts here = record {
-    size = (let same = long p s slots in let size = h.size in omega arith);
-    fits = (let same = long p s slots in let fits = h.fits in omega arith);
-    linked = in_place (λ l n. AreLinked l n chains) _ _ _ _ slots nexts (filled_linked (slots_in l) (nexts_in l) chains h.linked p s within (subst IsNowhere (sym was) tt) x (taken_no_list s taken));
-    queue = subst (λ l. IsQueue l waiting newest) (sym slots) (out_queue (slots_in l) waiting newest h.queue p s within (taken_out (slot_at (slots_in l) p) was) (taken_out s taken));
-    known = known p s slots within here;
-    few = h.few;
-  }
+  fill_sound p x s within was taken slots nexts here = grind (arith, common_steps, in_place, long p s slots, known p s slots within here, filled_linked (slots_in l) (nexts_in l) chains h.linked p s within (subst IsNowhere (sym was) tt) x (taken_no_list s taken), out_queue (slots_in l) waiting newest h.queue p s within (taken_out (slot_at (slots_in l) p) was) (taken_out s taken))
 
 -- one layout more of a number was removed
 pub removed_here : (generations : List ℕ) (layout x : ℕ) → layout + 2 < length generations → generation_at (set generations (layout + 2) x) layout ≡ x
 removed_here generations layout x within = get_or-set_same generations (layout + 2) x 0 within
 
-pub removed_others : (generations : List ℕ) (layout x n : ℕ) → n ≢ layout → generation_at (set generations (layout + 2) x) n ≡ generation_at generations n
-removed_others generations layout x n ne = get_or-set_other generations (layout + 2) (n + 2) x 0 (λ e. ne (omega arith))
-
 pub removed_is : (generations : List ℕ) (layout : ℕ) → layout + 2 < length generations → (n : ℕ) → generation_at (set generations (layout + 2) (generation_at generations layout + 1)) n ≡ removed_at layout (generation_at generations) n
-removed_is generations layout within n = grind (arith, common_steps, removed_here, removed_others, same_or)
+removed_is generations layout within n = grind (arith, common_steps, get_or-set_other, get_or-set_same, same_or)
 
 -- a layout was removed, of which no set is kept
 pub remove_sound : {T : Type 0} (l : SlotList T) (chains : List Chain) (generations waiting : List ℕ) (room keep newest : ℕ) → AreSound l chains generations waiting room keep newest → (layout : ℕ) → layout + 2 < length generations → ((p : ℕ) → is_in (layout + 2) (slot_at (slots_in l) p) ≡ false) → AreSound l chains (set generations (layout + 2) (generation_at generations layout + 1)) waiting room keep newest
-remove_sound {T} l chains generations waiting room keep newest h layout within none = grind (arith, common_steps, known, removed_here, removed_others, same_or, true≢false)
+remove_sound {T} l chains generations waiting room keep newest h layout within none = grind (arith, common_steps, removed_is)

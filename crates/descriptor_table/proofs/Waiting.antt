@@ -48,10 +48,6 @@ module _ {T : Type 0} where
     other_rises : IsNonDecreasingBy (frame slots) l → IsNonDecreasingBy (frame (set slots p s)) l
     other_rises rises i j d le lt = (let a = other_frame i d (omega arith) in let b = other_frame j d lt in let h = rises i j d le lt in omega arith)
 
-  -- a slot changed: no set waits for a later frame still
-  bound_set : (slots : List (Slot T)) (p newest : ℕ) (s : Slot T) → p < length slots → ((q : ℕ) → waits (slot_at slots q) ≡ true → frame slots q ≤ newest) → (waits s ≡ true → frame_of s.used ≤ newest) → (q : ℕ) → waits (slot_at (set slots p s) q) ≡ true → frame (set slots p s) q ≤ newest
-  bound_set slots p newest s within before here q w = grind (arith, common_steps, other_slots, same_or, slot_set)
-
   module _ (slots : List (Slot T)) (l : List ℕ) (newest : ℕ) (queue : IsQueue slots l newest) where
     -- no set is due if the first one waits for a later frame
     pub none_due : (f d : ℕ) → f < frame slots (get_or l 0 d) → (p : ℕ) → is_due f (slot_at slots p) ≡ false
@@ -82,7 +78,7 @@ module _ {T : Type 0} where
       put_queue f i newest' of le point more is = record {
         has = λ q. times_insert q p l i ∙ lists_push waits slots p s l queue.has within was now q;
         rises = IsNonDecreasingBy-insert (frame (set slots p s)) l i p still_rises le (search (rules, slot_set)) (search (rules, slot_set));
-        bound = bound_set slots p newest' s within (search rules) (search rules);
+        bound = grind (arith, common_steps, other_slots, same_or, slot_set);
       }
 
   -- the first set leaves the queue
