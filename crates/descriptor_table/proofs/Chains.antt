@@ -4,7 +4,7 @@ use Rattle.std.proofs.lemmas.Grind.{common_steps}
 use Rattle.std.proofs.Common.{◌≡◌, ◌≢◌, ℕ, suc, ◌+◌, ◌-◌, ◌<◌, ◌≤◌, ◌&&◌, Bool, true, false, List, ◌∷◌, length, get_or, set, is_some, refl, sym, ap, subst, ◌∙◌, arith, add-one, rules}
 use Rattle.std.proofs.lemmas.List.{get_or-set_other, get_or-set_same, length-set}
 use Rattle.std.proofs.lemmas.Bool.{false≢true, true≢false}
-use Rattle.descriptor_table.specs.Places.{times, walk}
+use Rattle.descriptor_table.specs.Places.{walk}
 use Rattle.descriptor_table.specs.Slots.{AreLinked, HasLists, IsListed, IsNowhere, Lists, Slot, chain_at, frame_of, in_list, is_in, is_live, slot_at, waits, waits_for}
 use Rattle.descriptor_table.specs.Tables.{is_held_use, is_kept, used_for}
 use Rattle.descriptor_table.specs.declared.slot.Use.{Use}
@@ -84,7 +84,7 @@ module _ {T : Type 0} (slots : List (Slot T)) (next : List ℕ) (chains : List C
 
   -- no slot is in a list that has none
   pub none_in : (k : ℕ) → (chain_at chains k).count ≡ 0 → (p : ℕ) → is_in k (slot_at slots p) ≡ false
-  none_in k e p = one_none (is_in k (slot_at slots p)) (sym (h k p) ∙ ap (λ n. times p (walk n next (chain_at chains k).first)) e)
+  none_in k e p = search (rules, one_none)
 
   -- a slot that is in no list comes to none
   pub out_linked : (p : ℕ) (s : Slot T) → p < length slots → ((k : ℕ) → is_in k (slot_at slots p) ≡ false) → ((k : ℕ) → is_in k s ≡ false) → AreLinked (set slots p s) next chains
@@ -93,10 +93,10 @@ module _ {T : Type 0} (slots : List (Slot T)) (next : List ℕ) (chains : List C
   module _ (p : ℕ) (s : Slot T) (within : p < length slots) (idle : IsNowhere (slot_at slots p).used) where
     -- a list that the slot isn't in stays, whatever its next is
     other_places : (k x : ℕ) → walk (chain_at chains k).count (set next p x) (chain_at chains k).first ≡ places k
-    other_places k x = walk_other (chain_at chains k).count next (chain_at chains k).first p x (not_listed (is_in k) slots (places k) p (h k) ((nowhere_out (slot_at slots p) idle).1 k))
+    other_places k x = search (rules, walk_other, not_listed, nowhere_out)
 
     pub filled_linked : (x : ℕ) → ((k : ℕ) → is_in k s ≡ false) → AreLinked (set slots p s) (set next p x) chains
-    filled_linked x now k = subst (Lists (is_in k) (set slots p s)) (sym (other_places k x)) (out_linked p s within (nowhere_out (slot_at slots p) idle).1 now k)
+    filled_linked x now k = search (rules, other_places, out_linked, nowhere_out)
 
   -- one list changed
   chain_changed : (slots' : List (Slot T)) (next' : List ℕ) (k : ℕ) (d : Chain) → k < length chains → Lists (is_in k) slots' (walk d.count next' d.first) → ((j : ℕ) → j ≢ k → Lists (is_in j) slots' (walk (chain_at chains j).count next' (chain_at chains j).first)) → AreLinked slots' next' (set chains k d)
@@ -105,22 +105,15 @@ module _ {T : Type 0} (slots : List (Slot T)) (next : List ℕ) (chains : List C
   module _ (k : ℕ) (c : Chain) (is : chain_at chains k ≡ c) where
     -- a list that isn't empty is its first place, and then what begins with the next of that
     parts : c.count ≢ 0 → Lists (is_in k) slots (c.first ∷ walk (c.count - 1) next (get_or next c.first 0))
-    parts some =
-        let more : c.count ≡ suc (c.count - 1) = omega arith in
-        subst (Lists (is_in k) slots) (ap (λ (c : Chain). walk c.count next c.first) is ∙ ap (λ n. walk n next c.first) more) (h k)
+    parts some = (let more : c.count ≡ suc (c.count - 1) = omega arith in search rules)
 
     -- the first slot of a list, as the code has it
     pub picked : c.count ≢ 0 → (c.first < length slots) × (is_in k (slot_at slots c.first) ≡ true)
-    picked some = (let first = (first_passes (is_in k) slots c.first (walk (c.count - 1) next (get_or next c.first 0)) (parts some)).1 in (test_within (is_in k) slots c.first refl first, first))
+    picked some = grind (arith, common_steps, first_passes (is_in k) slots c.first (walk (c.count - 1) next (get_or next c.first 0)) (parts some), test_within)
 
     -- it left the list
     pub pick_linked : (s : Slot T) (after : ℕ) → c.count ≢ 0 → k < length chains → after ≡ get_or next c.first 0 → ((j : ℕ) → is_in j s ≡ false) → AreLinked (set slots c.first s) next (set chains k (record { first = after; count = c.count - 1 }))
-    pick_linked s after some within told out =
-        let first = picked some in
-        chain_changed (set slots c.first s) next k (record { first = after; count = c.count - 1 }) within
-        (subst (λ q. Lists (is_in k) (set slots c.first s) (walk (c.count - 1) next q)) (sym told)
-        (lists_pop (is_in k) slots c.first s (walk (c.count - 1) next (get_or next c.first 0)) (parts some) first.0 (out k)))
-        (λ j ne. lists_other (is_in j) slots c.first s (places j) (h j) first.0 (out j ∙ sym (lists_apart j k (slot_at slots c.first) first.1 ne)))
+    pick_linked s after some within told out = grind (arith, common_steps, chain_changed, picked some, lists_pop (is_in k) slots c.first s (walk (c.count - 1) next (get_or next c.first 0)) (parts some), lists_other, lists_apart)
 
     module _ (p : ℕ) (s : Slot T) (within : p < length slots) (idle : IsNowhere (slot_at slots p).used) (goes : is_in k s ≡ true) where
       pushed : Lists (is_in k) (set slots p s) (p ∷ places k)
@@ -140,7 +133,7 @@ module _ {T : Type 0} (slots : List (Slot T)) (next : List ℕ) (chains : List C
 
       -- which has no more places then than there are slots
       pub link_more : c.count + 1 ≤ length slots
-      link_more = omega (arith, lists_few (is_in k) (set slots p s) (p ∷ places k) refl pushed, length-set slots p s, walk_length (chain_at chains k).count next (chain_at chains k).first, ap (λ (c : Chain). c.count) is)
+      link_more = grind (arith, common_steps, lists_few (is_in k) (set slots p s) (p ∷ places k) refl pushed, length-set, walk_length)
 
 -- there are as many lists if one changed
 pub known_chains : {T : Type 0} (slots : List (Slot T)) (chains : List Chain) (k : ℕ) (d : Chain) (generations : ℕ → ℕ) → HasLists slots (length chains) generations → HasLists slots (length (set chains k d)) generations

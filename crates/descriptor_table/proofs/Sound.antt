@@ -1,24 +1,22 @@
 -- What a table says of its lists stays when a slot comes to a list or leaves one, or comes to the table: for all methods that write slots.
 -- `l` are the slots before, `l'` after.
 use Rattle.std.proofs.lemmas.Grind.{common_steps}
-use Rattle.std.proofs.Common.{◌≡◌, ◌≢◌, ℕ, ◌+◌, ◌-◌, ◌<◌, ◌≤◌, true, false, List, [], ◌∷◌, ◌++◌, is_some, length, get_or, set, sym, ap, subst, ◌∙◌, arith}
+use Rattle.std.proofs.Common.{◌≡◌, ◌≢◌, ℕ, ◌+◌, ◌-◌, ◌<◌, ◌≤◌, true, false, List, [], ◌∷◌, ◌++◌, is_some, length, get_or, set, sym, ap, subst, ◌∙◌, arith, rules}
 use Rattle.std.proofs.lemmas.Bool.{true≢false}
 use Rattle.std.proofs.lemmas.List.{get_or-set_other, get_or-set_same, length-map, length-set, length_push}
-use Rattle.descriptor_table.specs.Slots.{AreLinked, AreSound, HasLists, IsListed, IsNowhere, IsQueue, Slot, chain_at, generation_at, is_in, nexts_in, slot_at, slot_of, slots_in, waits}
+use Rattle.descriptor_table.specs.Slots.{AreSound, HasLists, IsListed, IsNowhere, IsQueue, Slot, chain_at, generation_at, is_in, nexts_in, slot_at, slots_in, waits}
 use Rattle.descriptor_table.specs.Tables.{is_kept, removed_at}
 use Rattle.descriptor_table.specs.declared.slot.Chain.{Chain}
 use Rattle.descriptor_table.specs.declared.slot.Use.TheVariants.{Held, Taken}
-use Rattle.descriptor_table.specs.declared.slot_list.Entry.{Entry}
 use Rattle.descriptor_table.specs.declared.slot_list.SlotList.{SlotList}
 use Rattle.descriptor_table.proofs.Chains.{few_set, filled_linked, known_chains, link_linked, listed_out, lists_set, nowhere_out, out_linked, pick_linked, picked, taken_no_list, taken_out, waits_no_list}
 use Rattle.descriptor_table.proofs.Counting.{same_or}
-use Rattle.descriptor_table.proofs.Entries.{in_place}
 use Rattle.descriptor_table.proofs.Growing.{known_grown, linked_grown, queue_grown}
 use Rattle.descriptor_table.proofs.Waiting.{first_waits, out_queue, pop_queue}
 
 -- there are as many nexts as slots
 pub same_long : {T : Type 0} (l : SlotList T) → length (nexts_in l) ≡ length (slots_in l)
-same_long l = length-map l.entries.items (λ (e : Entry _). e.next) ∙ sym (length-map l.entries.items slot_of)
+same_long l = search (rules, length-map)
 
 module _ {T : Type 0} (l l' : SlotList T) (chains : List Chain) (generations waiting : List ℕ) (room keep newest : ℕ) (h : AreSound l chains generations waiting room keep newest) where
   -- a slot with another use keeps its layout, which has its number still if the set is kept
@@ -33,13 +31,9 @@ module _ {T : Type 0} (l l' : SlotList T) (chains : List Chain) (generations wai
     known : p < length (slots_in l) → IsListed (length chains) (generation_at generations) s → HasLists (slots_in l') (length chains) (generation_at generations)
     known within here = subst (λ l. HasLists l (length chains) (generation_at generations)) (sym slots) (lists_set (slots_in l) p s (length chains) (generation_at generations) h.known within here)
 
-    -- one list changed, and perhaps the queue
-    changed : (k : ℕ) (d : Chain) (waiting' : List ℕ) (newest' : ℕ) → k < length chains → p < length (slots_in l) → IsListed (length chains) (generation_at generations) s → (2 ≤ k → d.count ≤ keep) → AreLinked (slots_in l') (nexts_in l') (set chains k d) → IsQueue (set (slots_in l) p s) waiting' newest' → AreSound l' (set chains k d) generations waiting' room keep newest'
-    changed k d waiting' newest' there within here few linked queue = grind (arith, common_steps, few_set, known, known_chains, long)
-
     -- the queue changed
     pub queued : (waiting' : List ℕ) (newest' : ℕ) → p < length (slots_in l) → IsListed (length chains) (generation_at generations) s → nexts_in l' ≡ nexts_in l → ((k : ℕ) → is_in k (slot_at (slots_in l) p) ≡ false) → ((k : ℕ) → is_in k s ≡ false) → IsQueue (set (slots_in l) p s) waiting' newest' → AreSound l' chains generations waiting' room keep newest'
-    queued waiting' newest' within here nexts was now queue = grind (arith, common_steps, in_place, known, long, out_linked)
+    queued waiting' newest' within here nexts was now queue = grind (arith, common_steps, known, long, out_linked)
 
     -- a slot that is in no list, and not in the queue, came to neither
     pub out_sound : p < length (slots_in l) → nexts_in l' ≡ nexts_in l → (waits (slot_at (slots_in l) p) ≡ false) × ((k : ℕ) → is_in k (slot_at (slots_in l) p) ≡ false) → (waits s ≡ false) × ((k : ℕ) → is_in k s ≡ false) → s.layout ≡ (slot_at (slots_in l) p).layout → s.layout_generation ≡ (slot_at (slots_in l) p).layout_generation → s.kept_below ≡ (slot_at (slots_in l) p).kept_below → (s.used ≡ Held → is_some s.set ≡ true) → AreSound l' chains generations waiting room keep newest
@@ -47,15 +41,7 @@ module _ {T : Type 0} (l l' : SlotList T) (chains : List Chain) (generations wai
 
     -- the first slot of a list left it, perhaps for the queue
     pub pick_sound : (k : ℕ) (c : Chain) (after : ℕ) (waiting' : List ℕ) (newest' : ℕ) → chain_at chains k ≡ c → c.count ≢ 0 → k < length chains → after ≡ get_or (nexts_in l) p 0 → p ≡ c.first → nexts_in l' ≡ nexts_in l → ((j : ℕ) → is_in j s ≡ false) → IsListed (length chains) (generation_at generations) s → IsQueue (set (slots_in l) p s) waiting' newest' → AreSound l' (set chains k (record { first = after; count = c.count - 1 })) generations waiting' room keep newest'
-    pick_sound k c after waiting' newest' is some there told at nexts out here queue =
-        let first = picked (slots_in l) (nexts_in l) chains h.linked k c is some in
-        let d : Chain = record { first = after; count = c.count - 1 } in
-        let within = subst (λ p. p < length (slots_in l)) (sym at) first.0 in
-        let same = ap (λ (d : Chain). d.count) is in
-        changed k d waiting' newest' there within here
-        (λ two. let few = h.few k two in omega arith)
-        (in_place (λ l n. AreLinked l n (set chains k d)) _ _ _ _ (slots ∙ ap (λ p. set (slots_in l) p s) at) nexts (pick_linked (slots_in l) (nexts_in l) chains h.linked k c is s after some there (told ∙ ap (λ p. get_or (nexts_in l) p 0) at) out))
-        queue
+    pick_sound k c after waiting' newest' is some there told at nexts out here queue = grind (arith, common_steps, few_set, known, known_chains, long, pick_linked (slots_in l) (nexts_in l) chains h.linked k c is s after some there, picked (slots_in l) (nexts_in l) chains h.linked k c is some)
 
     -- a slot that a call had came first in a list
     pub link_sound : (k : ℕ) (c : Chain) → chain_at chains k ≡ c → k < length chains → p < length (slots_in l) → IsNowhere (slot_at (slots_in l) p).used → is_in k s ≡ true → nexts_in l' ≡ set (nexts_in l) p c.first → IsListed (length chains) (generation_at generations) s → (2 ≤ k → c.count < keep) → AreSound l' (set chains k (record { first = p; count = c.count + 1 })) generations waiting room keep newest
@@ -67,11 +53,11 @@ module _ {T : Type 0} (l l' : SlotList T) (chains : List Chain) (generations wai
 
   -- a slot came at the end, whose set a call has
   pub push_sound : (s : Slot T) → s.used ≡ Taken → slots_in l' ≡ slots_in l ++ s ∷ [] → nexts_in l' ≡ nexts_in l ++ 0 ∷ [] → IsListed (length chains) (generation_at generations) s → length (slots_in l) + 1 < 4294967296 → length (slots_in l) + 1 ≤ room → AreSound l' chains generations waiting room keep newest
-  push_sound s taken slots nexts here few space = grind (arith, common_steps, in_place, length_push, linked_grown (slots_in l) (nexts_in l) chains s taken h.linked, queue_grown (slots_in l) waiting newest s taken h.queue, known_grown (slots_in l) s (length chains) (generation_at generations) here h.known)
+  push_sound s taken slots nexts here few space = grind (arith, common_steps, length_push, linked_grown (slots_in l) (nexts_in l) chains s taken h.linked, queue_grown (slots_in l) waiting newest s taken h.queue, known_grown (slots_in l) s (length chains) (generation_at generations) here h.known)
 
   -- a slot that a call has changed
   pub fill_sound : (p x : ℕ) (s : Slot T) → p < length (slots_in l) → (slot_at (slots_in l) p).used ≡ Taken → s.used ≡ Taken → slots_in l' ≡ set (slots_in l) p s → nexts_in l' ≡ set (nexts_in l) p x → IsListed (length chains) (generation_at generations) s → AreSound l' chains generations waiting room keep newest
-  fill_sound p x s within was taken slots nexts here = grind (arith, common_steps, in_place, long p s slots, known p s slots within here, filled_linked (slots_in l) (nexts_in l) chains h.linked p s within (subst IsNowhere (sym was) tt) x (taken_no_list s taken), out_queue (slots_in l) waiting newest h.queue p s within (taken_out (slot_at (slots_in l) p) was) (taken_out s taken))
+  fill_sound p x s within was taken slots nexts here = grind (arith, common_steps, long p s slots, known p s slots within here, filled_linked (slots_in l) (nexts_in l) chains h.linked p s within (subst IsNowhere (sym was) tt) x (taken_no_list s taken), out_queue (slots_in l) waiting newest h.queue p s within (taken_out (slot_at (slots_in l) p) was) (taken_out s taken))
 
 -- one layout more of a number was removed
 pub removed_here : (generations : List ℕ) (layout x : ℕ) → layout + 2 < length generations → generation_at (set generations (layout + 2) x) layout ≡ x
