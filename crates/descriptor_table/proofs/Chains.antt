@@ -1,8 +1,8 @@
 -- The lists of slots, by the code's chains: for `SetTable::pick`, `link`, `settle` and others. No slot is in two lists (`lists_apart`),
 -- and one that waits is in none. `pick` takes a slot out of a list, `link` puts it into one.
 use Rattle.std.proofs.lemmas.Grind.{common_steps}
-use Rattle.std.proofs.Common.{◌≡◌, ◌≢◌, ℕ, suc, ◌+◌, ◌-◌, ◌<◌, ◌≤◌, ◌&&◌, Bool, true, false, List, ◌∷◌, length, get_or, set, is_some, refl, sym, ap, subst, ◌∙◌, arith, add-one, rules}
-use Rattle.std.proofs.lemmas.List.{get_or-set_other, get_or-set_same, length-set}
+use Rattle.std.proofs.Common.{◌≡◌, ◌≢◌, ℕ, suc, ◌+◌, ◌-◌, ◌<◌, ◌≤◌, ◌&&◌, Bool, true, false, List, ◌∷◌, length, get_or, set, is_some, refl, sym, ap, ◌∙◌, arith, rules}
+use Rattle.std.proofs.lemmas.List.{get_or-set_same, length-set}
 use Rattle.std.proofs.lemmas.Bool.{false≢true, true≢false}
 use Rattle.descriptor_table.specs.Places.{walk}
 use Rattle.descriptor_table.specs.Slots.{AreLinked, HasLists, IsListed, IsNowhere, Lists, Slot, chain_at, frame_of, in_list, is_in, is_live, slot_at, waits, waits_for}
@@ -10,9 +10,9 @@ use Rattle.descriptor_table.specs.Tables.{is_held_use, is_kept, used_for}
 use Rattle.descriptor_table.specs.declared.slot.Use.{Use}
 use Rattle.descriptor_table.specs.declared.slot.Use.TheVariants.{Held, Taken}
 use Rattle.descriptor_table.specs.declared.slot.Chain.{Chain}
-use Rattle.descriptor_table.proofs.Counting.{same_or, walk_other}
+use Rattle.descriptor_table.proofs.Counting.{walk_other}
 use Rattle.descriptor_table.proofs.Counts.{lists_few}
-use Rattle.descriptor_table.proofs.Listed.{first_passes, lists_other, lists_pop, lists_push, not_listed, one_none, other_slots, slot_set, test_within, walk_length}
+use Rattle.descriptor_table.proofs.Listed.{first_passes, lists_other, lists_pop, lists_push, not_listed, one_none, test_within, walk_length}
 
 pub and_true : (a b : Bool) → (a && b) ≡ true → (a ≡ true) × (b ≡ true)
 and_true x0 x1 e = grind (arith, common_steps)
@@ -62,20 +62,14 @@ module _ {T : Type 0} where
   pub taken_out : (s : Slot T) → s.used ≡ Taken → waits s ≡ false
   taken_out s e = ap (λ u. waits_for (λ w. true) u && is_some s.set) e
 
-pub chain_set : (chains : List Chain) (k : ℕ) (c : Chain) → k < length chains → chain_at (set chains k c) k ≡ c
-chain_set chains k c within = get_or-set_same chains k c (record { first = 0; count = 0 }) within
-
-pub other_chains : (chains : List Chain) (k : ℕ) (c : Chain) (j : ℕ) → j ≢ k → chain_at (set chains k c) j ≡ chain_at chains j
-other_chains chains k c j ne = get_or-set_other chains k j c (record { first = 0; count = 0 }) ne
-
 -- a list of kept sets got shorter, or another list longer
 pub few_set : (max : ℕ) (chains : List Chain) (k : ℕ) (c : Chain) → ((j : ℕ) → 2 ≤ j → (chain_at chains j).count ≤ max) → k < length chains → (2 ≤ k → c.count ≤ max) → (j : ℕ) → 2 ≤ j → (chain_at (set chains k c) j).count ≤ max
-few_set max chains k c few within le j two = grind (arith, common_steps, chain_set, other_chains, same_or)
+few_set max chains k c few within le j two = grind (arith, common_steps, length-set)
 
 module _ {T : Type 0} where
   -- one slot changed
   pub lists_set : (slots : List (Slot T)) (p : ℕ) (s : Slot T) (lists : ℕ) (generations : ℕ → ℕ) → HasLists slots lists generations → p < length slots → IsListed lists generations s → HasLists (set slots p s) lists generations
-  lists_set slots p s lists generations known within here q lt = grind (arith, common_steps, length-set, other_slots, same_or, slot_set)
+  lists_set slots p s lists generations known within here q lt = grind (arith, common_steps, length-set)
 
 module _ {T : Type 0} (slots : List (Slot T)) (next : List ℕ) (chains : List Chain) (h : AreLinked slots next chains) where
   -- the places of a list
@@ -100,7 +94,7 @@ module _ {T : Type 0} (slots : List (Slot T)) (next : List ℕ) (chains : List C
 
   -- one list changed
   chain_changed : (slots' : List (Slot T)) (next' : List ℕ) (k : ℕ) (d : Chain) → k < length chains → Lists (is_in k) slots' (walk d.count next' d.first) → ((j : ℕ) → j ≢ k → Lists (is_in j) slots' (walk (chain_at chains j).count next' (chain_at chains j).first)) → AreLinked slots' next' (set chains k d)
-  chain_changed slots' next' k d within here others j = grind (arith, common_steps, chain_set, other_chains, same_or)
+  chain_changed slots' next' k d within here others j = grind (arith, common_steps)
 
   module _ (k : ℕ) (c : Chain) (is : chain_at chains k ≡ c) where
     -- a list that isn't empty is its first place, and then what begins with the next of that
@@ -117,24 +111,12 @@ module _ {T : Type 0} (slots : List (Slot T)) (next : List ℕ) (chains : List C
 
     module _ (p : ℕ) (s : Slot T) (within : p < length slots) (idle : IsNowhere (slot_at slots p).used) (goes : is_in k s ≡ true) where
       pushed : Lists (is_in k) (set slots p s) (p ∷ places k)
-      pushed = lists_push (is_in k) slots p s (places k) (h k) within ((nowhere_out (slot_at slots p) idle).1 k) goes
+      pushed = search (rules, lists_push, nowhere_out)
 
       -- a slot that was in no list came first in this one
       pub link_linked : length next ≡ length slots → k < length chains → AreLinked (set slots p s) (set next p c.first) (set chains k (record { first = p; count = c.count + 1 }))
-      link_linked long there =
-          let told : get_or (set next p c.first) p 0 ≡ c.first = get_or-set_same next p c.first 0 (omega arith) in
-          let same : walk c.count (set next p c.first) c.first ≡ places k = ap (λ (c' : Chain). walk c'.count (set next p c.first) c'.first) (sym is) ∙ other_places p s within idle k c.first in
-          chain_changed (set slots p s) (set next p c.first) k (record { first = p; count = c.count + 1 }) there
-          (subst (Lists (is_in k) (set slots p s))
-          (sym (ap (λ n. walk n (set next p c.first) p) (add-one c.count)
-          ∙ ap (λ q. p ∷ walk c.count (set next p c.first) q) told
-          ∙ ap (λ l. p ∷ l) same)) pushed)
-          (λ j ne. subst (Lists (is_in j) (set slots p s)) (sym (other_places p s within idle j c.first)) (lists_other (is_in j) slots p s (places j) (h j) within (lists_apart j k s goes ne ∙ sym ((nowhere_out (slot_at slots p) idle).1 j))))
+      link_linked long there = chain_changed (set slots p s) (set next p c.first) k (record { first = p; count = c.count + 1 }) there (search (rules, get_or-set_same, other_places p s within idle, pushed)) (grind (arith, common_steps, other_places p s within idle, lists_other, lists_apart, nowhere_out))
 
       -- which has no more places then than there are slots
       pub link_more : c.count + 1 ≤ length slots
       link_more = grind (arith, common_steps, lists_few (is_in k) (set slots p s) (p ∷ places k) refl pushed, length-set, walk_length)
-
--- there are as many lists if one changed
-pub known_chains : {T : Type 0} (slots : List (Slot T)) (chains : List Chain) (k : ℕ) (d : Chain) (generations : ℕ → ℕ) → HasLists slots (length chains) generations → HasLists slots (length (set chains k d)) generations
-known_chains slots chains k d generations known = subst (λ n. HasLists slots n generations) (sym (length-set chains k d)) known

@@ -2,14 +2,13 @@
 -- `l` are the slots before, `l'` after.
 use Rattle.std.proofs.lemmas.Grind.{common_steps}
 use Rattle.std.proofs.Common.{◌≡◌, ◌≢◌, ℕ, ◌+◌, ◌-◌, ◌<◌, ◌≤◌, true, false, List, [], ◌∷◌, ◌++◌, is_some, length, get_or, set, sym, ap, subst, ◌∙◌, arith, rules}
-use Rattle.std.proofs.lemmas.Bool.{true≢false}
 use Rattle.std.proofs.lemmas.List.{get_or-set_other, get_or-set_same, length-map, length-set, length_push}
 use Rattle.descriptor_table.specs.Slots.{AreSound, HasLists, IsListed, IsNowhere, IsQueue, Slot, chain_at, generation_at, is_in, nexts_in, slot_at, slots_in, waits}
 use Rattle.descriptor_table.specs.Tables.{is_kept, removed_at}
 use Rattle.descriptor_table.specs.declared.slot.Chain.{Chain}
 use Rattle.descriptor_table.specs.declared.slot.Use.TheVariants.{Held, Taken}
 use Rattle.descriptor_table.specs.declared.slot_list.SlotList.{SlotList}
-use Rattle.descriptor_table.proofs.Chains.{few_set, filled_linked, known_chains, link_linked, listed_out, lists_set, nowhere_out, out_linked, pick_linked, picked, taken_no_list, taken_out, waits_no_list}
+use Rattle.descriptor_table.proofs.Chains.{few_set, filled_linked, link_linked, listed_out, lists_set, nowhere_out, out_linked, pick_linked, picked, taken_no_list, taken_out, waits_no_list}
 use Rattle.descriptor_table.proofs.Counting.{same_or}
 use Rattle.descriptor_table.proofs.Growing.{known_grown, linked_grown, queue_grown}
 use Rattle.descriptor_table.proofs.Waiting.{first_waits, out_queue, pop_queue}
@@ -21,7 +20,7 @@ same_long l = search (rules, length-map)
 module _ {T : Type 0} (l l' : SlotList T) (chains : List Chain) (generations waiting : List ℕ) (room keep newest : ℕ) (h : AreSound l chains generations waiting room keep newest) where
   -- a slot with another use keeps its layout, which has its number still if the set is kept
   pub listed : (p : ℕ) (s : Slot T) → p < length (slots_in l) → s.layout ≡ (slot_at (slots_in l) p).layout → s.layout_generation ≡ (slot_at (slots_in l) p).layout_generation → s.kept_below ≡ (slot_at (slots_in l) p).kept_below → (is_kept s ≡ true → s.layout_generation ≡ generation_at generations s.layout) → (s.used ≡ Held → is_some s.set ≡ true) → IsListed (length chains) (generation_at generations) s
-  listed p s within layout generation below kept full = grind (arith, common_steps)
+  listed p s within layout generation below kept full = search rules
 
   module _ (p : ℕ) (s : Slot T) (slots : slots_in l' ≡ set (slots_in l) p s) where
     -- there are as many slots as before
@@ -37,15 +36,15 @@ module _ {T : Type 0} (l l' : SlotList T) (chains : List Chain) (generations wai
 
     -- a slot that is in no list, and not in the queue, came to neither
     pub out_sound : p < length (slots_in l) → nexts_in l' ≡ nexts_in l → (waits (slot_at (slots_in l) p) ≡ false) × ((k : ℕ) → is_in k (slot_at (slots_in l) p) ≡ false) → (waits s ≡ false) × ((k : ℕ) → is_in k s ≡ false) → s.layout ≡ (slot_at (slots_in l) p).layout → s.layout_generation ≡ (slot_at (slots_in l) p).layout_generation → s.kept_below ≡ (slot_at (slots_in l) p).kept_below → (s.used ≡ Held → is_some s.set ≡ true) → AreSound l' chains generations waiting room keep newest
-    out_sound within nexts was now layout generation below full = queued waiting newest within (listed p s within layout generation below (λ kept. absurd (true≢false (sym kept ∙ now.1 (s.layout + 2)))) full) nexts was.1 now.1 (out_queue (slots_in l) waiting newest h.queue p s within was.0 now.0)
+    out_sound within nexts was now layout generation below full = grind (arith, common_steps, listed, queued waiting newest within, out_queue (slots_in l) waiting newest h.queue p s within)
 
     -- the first slot of a list left it, perhaps for the queue
     pub pick_sound : (k : ℕ) (c : Chain) (after : ℕ) (waiting' : List ℕ) (newest' : ℕ) → chain_at chains k ≡ c → c.count ≢ 0 → k < length chains → after ≡ get_or (nexts_in l) p 0 → p ≡ c.first → nexts_in l' ≡ nexts_in l → ((j : ℕ) → is_in j s ≡ false) → IsListed (length chains) (generation_at generations) s → IsQueue (set (slots_in l) p s) waiting' newest' → AreSound l' (set chains k (record { first = after; count = c.count - 1 })) generations waiting' room keep newest'
-    pick_sound k c after waiting' newest' is some there told at nexts out here queue = grind (arith, common_steps, few_set, known, known_chains, long, pick_linked (slots_in l) (nexts_in l) chains h.linked k c is s after some there, picked (slots_in l) (nexts_in l) chains h.linked k c is some)
+    pick_sound k c after waiting' newest' is some there told at nexts out here queue = grind (arith, common_steps, few_set, known, length-set, long, pick_linked (slots_in l) (nexts_in l) chains h.linked k c is s after some there, picked (slots_in l) (nexts_in l) chains h.linked k c is some)
 
     -- a slot that a call had came first in a list
     pub link_sound : (k : ℕ) (c : Chain) → chain_at chains k ≡ c → k < length chains → p < length (slots_in l) → IsNowhere (slot_at (slots_in l) p).used → is_in k s ≡ true → nexts_in l' ≡ set (nexts_in l) p c.first → IsListed (length chains) (generation_at generations) s → (2 ≤ k → c.count < keep) → AreSound l' (set chains k (record { first = p; count = c.count + 1 })) generations waiting room keep newest
-    link_sound k c is there within idle goes nexts here few = grind (arith, common_steps, few_set, known, known_chains, long, link_linked (slots_in l) (nexts_in l) chains h.linked k c is p s within idle goes (same_long l) there, out_queue (slots_in l) waiting newest h.queue p s within (nowhere_out (slot_at (slots_in l) p) idle).0 (listed_out k s goes))
+    link_sound k c is there within idle goes nexts here few = grind (arith, common_steps, few_set, known, length-set, long, link_linked (slots_in l) (nexts_in l) chains h.linked k c is p s within idle goes (same_long l) there, out_queue (slots_in l) waiting newest h.queue p s within (nowhere_out (slot_at (slots_in l) p) idle).0 (listed_out k s goes))
 
     -- the first set that waits leaves the queue
     pub leave_sound : (rest : List ℕ) → waiting ≡ p ∷ rest → nexts_in l' ≡ nexts_in l → ((k : ℕ) → is_in k s ≡ false) → waits s ≡ false → IsListed (length chains) (generation_at generations) s → AreSound l' chains generations rest room keep newest
@@ -68,4 +67,4 @@ removed_is generations layout within n = grind (arith, common_steps, get_or-set_
 
 -- a layout was removed, of which no set is kept
 pub remove_sound : {T : Type 0} (l : SlotList T) (chains : List Chain) (generations waiting : List ℕ) (room keep newest : ℕ) → AreSound l chains generations waiting room keep newest → (layout : ℕ) → layout + 2 < length generations → ((p : ℕ) → is_in (layout + 2) (slot_at (slots_in l) p) ≡ false) → AreSound l chains (set generations (layout + 2) (generation_at generations layout + 1)) waiting room keep newest
-remove_sound {T} l chains generations waiting room keep newest h layout within none = grind (arith, common_steps, removed_is)
+remove_sound {T} l chains generations waiting room keep newest h layout within none = grind (arith, common_steps, get_or-set_same, get_or-set_other)
