@@ -1,7 +1,6 @@
 use Rattle.std.proofs.lemmas.Grind.{common_steps}
-use Rattle.std.proofs.Common.{◌≡◌, ◌+◌, sym, ◌∙◌, arith}
+use Rattle.std.proofs.Common.{◌≡◌, ◌+◌, arith, rules}
 use Rattle.std.proofs.lemmas.List.{length-map}
-use Rattle.descriptor_table.specs.declared.slot.ListHead.{ListHead}
 use Rattle.descriptor_table.specs.Slots.{slots_in, nexts_in, chains_in}
 use Rattle.descriptor_table.specs.Tables.{count, slots_of}
 use Rattle.descriptor_table.proofs.Counts.{count_few}
@@ -14,7 +13,7 @@ total : (g : _) (c : After-from-total g) → c.loop-list.total + c.from-total.re
 total g c = grind (arith, common_steps, kept_step (slots_in c.args.self.now.slots) (nexts_in c.args.self.now.slots) (chains_in c.args.self.now.lists.items) c.args.self.now.sound.linked c.loop-list.list c.loop-list.auto.list)
 
 pub loop-list-init : goal.loop-list-init
-loop-list-init g c = sym (kept_start (slots_in c.args.self.now.slots))
+loop-list-init g c = search (rules, kept_start)
 
 pub overflow_add-total : goal.overflow_add-total
 overflow_add-total g c = grind (arith, common_steps, count_few, kept_below, total)
@@ -25,8 +24,4 @@ loop-list-preserved g c = total g c
 pub returns : goal.returns
 returns g c =
     let s = c.args.self.now in
-    let n = c.len-list-end.ensures in
-    let ok = s.lists.ok.0 in
-    let end = c.loop-list-test.false in
-    let long = length-map s.lists.items (λ (h : ListHead). h.chain) in
-    c.loop-list.invariant ∙ kept_end (slots_in s.slots) (nexts_in s.slots) (chains_in s.lists.items) c.loop-list.list s.sound.linked (omega arith)
+    search (rules, length-map, kept_end (slots_in s.slots) (nexts_in s.slots) (chains_in s.lists.items) c.loop-list.list s.sound.linked)

@@ -1,5 +1,4 @@
 use Rattle.std.proofs.Common.{◌≡◌, ◌∙◌, ap, rules}
-use Rattle.std.specs.Prelude.{OnErr, Result}
 use Rattle.std.proofs.lemmas.List.{length-map}
 use Rattle.descriptor_table.specs.Slots.{nexts_in, slots_in, chains_in}
 use Rattle.descriptor_table.specs.Tables.{count, is_usable, slots_of}
@@ -17,11 +16,8 @@ returns-then-additional-vacant-clause-room g c = search (rules, length-map, vaca
 pub returns-clause-room : goal.returns-clause-room
 returns-clause-room g c = search (rules, vacant)
 
-on_err : {X E P : Type 0} (r : Result X E) → P → OnErr r P
-on_err x0 p = search rules
-
 pub returns-clause-full : goal.returns-clause-full
-returns-clause-full g c = search (rules, on_err, vacant)
+returns-clause-full g c = search (rules, vacant)
 
 pub returns-clause-fits : goal.returns-clause-fits
 returns-clause-fits g c = search (rules, vacant)

@@ -1,3 +1,4 @@
+use Rattle.std.proofs.lemmas.Grind.{common_steps}
 use Rattle.std.proofs.Common.{◌≡◌, ℕ, ap, ◌∙◌, arith}
 use Rattle.descriptor_table.specs.Slots.{chain_at, chains_in, is_in, nexts_in, slots_in}
 use Rattle.descriptor_table.specs.Tables.{count, slots_of}
@@ -22,19 +23,7 @@ loop-self-smaller g c = omega (arith, go_less (is_in c.args.list) (slots_of c.lo
 
 pub loop-self-preserved : goal.loop-self-preserved
 loop-self-preserved g c =
-    let inv = c.loop-self.invariant in
-    let k = c.args.list in
-    let s = c.loop-self.self in
-    let now = slots_of s in
+    let now = slots_of c.loop-self.self in
     let mid = slots_of c.pick.new.self in
     let new = slots_of c.link.new.self in
-    let p = c.in-Some.place in
-    let picks = c.in-Some.ensures in
-    let all = counted s k c.chain.result c.chain.ensures in
-    let more = c.loop-self-test.true in
-    let one = go_less (is_in k) now mid new p picks.slots c.link.ensures.slots (λ s. going_out k s c.requires.list) in
-    record {
-      turning = go_step (is_in k) now mid new p picks.slots c.link.ensures.slots (λ s. going_out k s c.requires.list) (slots_of c.args.self.now) inv.turning;
-      enough = λ n le has. (let before = inv.enough n le has in omega arith);
-      stays = stays_more c.args.self.now c.pick.new.self c.link.new.self (stays_more c.args.self.now s c.pick.new.self inv.stays picks.stays) c.link.ensures.stays;
-    }
+    grind (arith, common_steps, counted c.loop-self.self c.args.list c.chain.result, go_less (is_in c.args.list) now mid new, go_step (is_in c.args.list) now mid new, going_out, stays_more)
