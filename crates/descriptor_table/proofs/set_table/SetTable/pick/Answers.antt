@@ -53,10 +53,5 @@ invariant_of-self-2 g c =
 
 pub returns : goal.returns
 returns g c =
-    let s = c.args.self.now in
-    let a = (goal.at.returns g c).After-set_use in
-    let p = first g (goal.at.returns g c).Else-head-eq0 in
-    record {
-      slots = record { was = p.1; within = p.0; slots = c.set_use.ensures.writes.slots };
-      stays = search (rules, generations, lists_stay);
-    }
+    let d = (goal.at.returns g c).Else-head-eq0 in
+    search (rules, generations_stay, lists_stay, first g d)

@@ -1,8 +1,8 @@
 use Rattle.std.proofs.lemmas.Grind.{common_steps}
-use Rattle.std.proofs.Common.{◌≡◌, ◌+◌, ◌<◌, ◌≤◌, inl, inr, length, set, refl, ap, subst, ◌∙◌, arith}
+use Rattle.std.proofs.Common.{◌≡◌, ◌+◌, ◌<◌, length, set, ap, arith, rules}
 use Rattle.std.proofs.Math.Seq.{map-set_same}
 use Rattle.std.proofs.lemmas.List.{get_or-map, length-map, map-set}
-use Rattle.descriptor_table.specs.Slots.{AreSound, chains_in, generation_at, generations_in, slot_at, slots_in}
+use Rattle.descriptor_table.specs.Slots.{chains_in, generation_at, generations_in}
 use Rattle.descriptor_table.specs.declared.slot.ListHead.{ListHead}
 use Rattle.descriptor_table.proofs.Counting.{below_or}
 use Rattle.descriptor_table.proofs.Entries.{in_place}
@@ -24,27 +24,14 @@ generations : (g : _) (c : After-index_mut g) → generations_in (set c.args.sel
 generations g c = grind (arith, common_steps, get_or-map, length-map, map-set, new_head, within)
 
 pub invariant_of-self : goal.invariant_of-self
-invariant_of-self g c =
-    let s = c.args.self.now in
-    let a = (goal.at.invariant_of-self g c).After-index_mut in
-    record { sound = in_place (λ chains generations. AreSound s.slots chains generations s.waiting.items s.waiting.cap s.keep s.newest) _ _ _ _ (chains g a) (generations g a) (remove_sound s.slots (chains_in s.lists.items) (generations_in s.lists.items) s.waiting.items s.waiting.cap s.keep s.newest s.sound c.args.layout (within g a) c.requires.none_kept) }
+invariant_of-self g c = search (rules, chains, generations, in_place, remove_sound, within)
 
 pub returns-clause-only : goal.returns-clause-only
 returns-clause-only g c =
     let a = (goal.at.returns-clause-only g c).After-index_mut in
-    record {
-      slots = refl;
-      settings =
-          let removed = ap generation_at (generations g a) ∙ (λ i n. removed_is (generations_in c.args.self.now.lists.items) c.args.layout (within g a) n i) in
-          λ i. record { number = c.args.self.now.number; lists = length (chains g a i); generations = removed i; keep = c.args.self.now.keep };
-    }
+    search (rules, chains g a, generations g a, removed_is, within g a)
 
 pub returns-clause-past : goal.returns-clause-past
-returns-clause-past g c = λ p at.
-    let s = c.args.self.now in
+returns-clause-past g c =
     let a = (goal.at.returns-clause-past g c).After-index_mut in
-    let now = ap (λ l. generation_at l c.args.layout) (generations g a) ∙ removed_here (generations_in s.lists.items) c.args.layout (generation_at (generations_in s.lists.items) c.args.layout + 1) (within g a) in
-    elim (below_or p (length (slots_in s.slots))) [
-      | inl lt ↦ (let before = subst (λ n. (slot_at (slots_in s.slots) p).layout_generation ≤ generation_at (generations_in s.lists.items) n) at (s.sound.known p lt).before in omega arith)
-      | inr past ↦ (let none = ap (λ s. s.layout_generation) (past_end (slots_in s.slots) p past) in omega arith)
-    ]
+    grind (arith, common_steps, below_or, generations g a, past_end, removed_here, within g a)

@@ -1,9 +1,7 @@
-use Rattle.std.proofs.Common.{◌≤◌, ◌+◌, length, inl, inr, sym, subst, ap, arith}
+use Rattle.std.proofs.Common.{◌≤◌, inl, inr, sym, subst, arith, rules}
 use Rattle.std.proofs.lemmas.List.{get_or_past, length-map}
 use Rattle.descriptor_table.specs.Slots.{is_in, slots_in, nexts_in, chains_in}
-use Rattle.descriptor_table.specs.Tables.{Settings, count, slots_of}
-use Rattle.descriptor_table.specs.declared.slot.Chain.{Chain}
-use Rattle.descriptor_table.specs.declared.slot.ListHead.{ListHead}
+use Rattle.descriptor_table.specs.Tables.{count, slots_of}
 use Rattle.descriptor_table.proofs.Counting.{below_or, same_or}
 use Rattle.descriptor_table.proofs.Counts.{chain_count}
 use Rattle.descriptor_table.proofs.Turning.{stays_more, trim_more, trim_others}
@@ -32,15 +30,6 @@ loop-list-preserved g c =
     }
 
 pub returns-clause-few : goal.returns-clause-few
-returns-clause-few g c = λ layout.
+returns-clause-few g c =
     let s = c.loop-list.self in
-    let inv = c.loop-list.invariant in
-    let end = c.loop-list-test.false in
-    let n = c.len-list-end.ensures in
-    let ok = c.args.self.now.lists.ok.0 in
-    let lists = (ap (λ (s : Settings). s.lists) inv.stays.settings) in
-    let long = length-map c.args.self.now.lists.items (λ (h : ListHead). h.chain) in
-    elim (below_or (layout + 2) (length (chains_in s.lists.items))) [
-      | inl lt ↦ inv.few (layout + 2) (omega arith) (omega arith)
-      | inr past ↦ (let none = ap (λ (d : Chain). d.count) (get_or_past (chains_in s.lists.items) (layout + 2) (record { first = 0; count = 0 }) past) in let all = chain_count (slots_in s.slots) (nexts_in s.slots) (chains_in s.lists.items) s.sound.linked (layout + 2) in omega arith)
-    ]
+    search (rules, below_or, get_or_past, length-map, chain_count (slots_in s.slots) (nexts_in s.slots) (chains_in s.lists.items) s.sound.linked)
