@@ -115,7 +115,10 @@ module _ {T : Type 0} (slots : List (Slot T)) (next : List ℕ) (chains : List C
 
       -- a slot that was in no list came first in this one
       pub link_linked : length next ≡ length slots → k < length chains → AreLinked (set slots p s) (set next p c.first) (set chains k (record { first = p; count = c.count + 1 }))
-      link_linked long there = chain_changed (set slots p s) (set next p c.first) k (record { first = p; count = c.count + 1 }) there (search (rules, get_or-set_same, other_places p s within idle, pushed)) (grind (arith, common_steps, other_places p s within idle, lists_other, lists_apart, nowhere_out))
+      link_linked long there =
+          chain_changed (set slots p s) (set next p c.first) k (record { first = p; count = c.count + 1 }) there
+          (search (rules, get_or-set_same, other_places p s within idle, pushed))
+          (grind (arith, common_steps, other_places p s within idle, lists_other, lists_apart, nowhere_out))
 
       -- which has no more places then than there are slots
       pub link_more : c.count + 1 ≤ length slots
