@@ -5,7 +5,6 @@ use Rattle.std.proofs.lemmas.List.{get_or-map, length-map, map-set}
 use Rattle.descriptor_table.specs.Slots.{chains_in, generation_at, generations_in}
 use Rattle.descriptor_table.specs.declared.slot.ListHead.{ListHead}
 use Rattle.descriptor_table.proofs.Counting.{below_or}
-use Rattle.descriptor_table.proofs.Entries.{in_place}
 use Rattle.descriptor_table.proofs.Listed.{past_end}
 use Rattle.descriptor_table.proofs.Sound.{remove_sound, removed_here, removed_is}
 use Rattle.descriptor_table.proofs.set_table.SetTable.remove_layout.Goals.{After-index_mut}
@@ -24,7 +23,7 @@ generations : (g : _) (c : After-index_mut g) → generations_in (set c.args.sel
 generations g c = grind (arith, common_steps, get_or-map, length-map, map-set, new_head, within)
 
 pub invariant_of-self : goal.invariant_of-self
-invariant_of-self g c = search (rules, chains, generations, in_place, remove_sound, within)
+invariant_of-self g c = search (rules, chains, generations, remove_sound, within)
 
 pub returns-clause-only : goal.returns-clause-only
 returns-clause-only g c =
