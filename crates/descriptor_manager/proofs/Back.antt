@@ -5,7 +5,7 @@ use Rattle.std.proofs.Common.{◌≡◌, ℕ, ◌+◌, ◌≤◌, ◌&&◌, nat_
 use Rattle.std.proofs.lemmas.Bool.{true≢false}
 use Rattle.descriptor_table.specs.Sets.{sets_in}
 use Rattle.descriptor_table.specs.Slots.{Slot, goes, is_in, slot_at, in_list, waits, waits_for}
-use Rattle.descriptor_table.specs.Tables.{IsBack, Becomes, MayBecome, Turns, count, is_kept, used_for, vacated, AreAged, aged, holds, is_held_use}
+use Rattle.descriptor_table.specs.Tables.{IsBack, Becomes, MayBecome, Turns, count, is_kept, used_for, vacated, aged, holds, is_held_use}
 use Rattle.descriptor_table.specs.declared.slot.Use.TheVariants.{Kept, Going}
 use Rattle.descriptor_table.specs.declared.slot.Use.{Use}
 use Rattle.descriptor_table.proofs.Chains.{lists_apart}
@@ -47,7 +47,7 @@ module _ {T : Type 0} where
   left old mid new none trims gives = search (rules, kept_full)
 
 module _ {T : Type 0} where
-  pub aged_sets : (old new : List (Slot T)) → AreAged old new → sets_in new ≡ sets_in old
+  pub aged_sets : (old new : List (Slot T)) → Turns (λ s. true) (Becomes aged) old new → sets_in new ≡ sets_in old
   aged_sets old new a = turned_sets (λ s. true) (Becomes aged) old new a (λ o n e. ap (λ (s : Slot T). s.set) e)
 
   -- sets that go are in their slots still
@@ -55,7 +55,7 @@ module _ {T : Type 0} where
   gone_sets test old new t = turned_sets test (MayBecome (used_for Going)) old new t (search rules)
 
   -- a cleanup in three steps: no set is kept later, the kept ones go, and those that go were returned
-  pub cleaned : (old a b new : List (Slot T)) → ArePlaced old → AreAged old a → Turns is_kept (MayBecome (used_for Going)) a b → ((layout : ℕ) → count (is_in (layout + 2)) b ≤ 0) → Turns goes (Becomes vacated) b new → AreCleaned old new
+  pub cleaned : (old a b new : List (Slot T)) → ArePlaced old → Turns (λ s. true) (Becomes aged) old a → Turns is_kept (MayBecome (used_for Going)) a b → ((layout : ℕ) → count (is_in (layout + 2)) b ≤ 0) → Turns goes (Becomes vacated) b new → AreCleaned old new
   cleaned old a b new placed aged_all trims few gives = record {
     long = gives.long ∙ trims.long ∙ aged_all.long;
     rest = λ p no. absurd (true≢false no);

@@ -46,7 +46,7 @@ module _ {T : Type 0} where
     later k less = x.rest (place_at b k) (λ i lt. apart_places i k lt less)
 
     -- the first places stay as they are
-    first : (i : ℕ) → i < length a → slot_at new (place_at a i) ≡ slot_at mid (place_at a i)
+    pub first : (i : ℕ) → i < length a → slot_at new (place_at a i) ≡ slot_at mid (place_at a i)
     first i lt = y.rest (place_at a i) (λ k less e. apart_places i k lt less (sym e))
 
     -- no two of all these handles have one place

@@ -25,13 +25,9 @@ module _ {L P S : Type 0} (means : Meaning L P S) where
   abbrev pub AreOwn : (ℕ → ℕ) → List (Slot (SetLayout L)) → List (Slot (DescriptorSet S)) → Type 0
   AreOwn generations layouts slots = (p n : ℕ) (x : DescriptorSet S) → (slot_at slots p).set ≡ Some x → came_under (slot_at slots p) ≡ current generations n → IsOwn layouts n x
 
--- the slot gave a handle for each layout that left it, and one for a layout that is there
-abbrev pub IsCounted : {T : Type 0} → ℕ → Slot T → Type 0
-IsCounted removed s = (s.generation ≡ removed + (if is_some s.set then 1 else 0)) × (s.generation < 4294967296)
-
--- each number's slot is counted
+-- each slot gave a handle for each layout that left it, and one for a layout that is there
 abbrev pub AreCounted : {T : Type 0} → (ℕ → ℕ) → List (Slot T) → Type 0
-AreCounted generations layouts = (n : ℕ) → IsCounted (generations n) (slot_at layouts n)
+AreCounted generations layouts = (n : ℕ) → ((slot_at layouts n).generation ≡ generations n + (if is_some (slot_at layouts n).set then 1 else 0)) × ((slot_at layouts n).generation < 4294967296)
 
 -- the sets of a store are at rest, and are of these layouts. Their handles have this number
 pub record HasSetsOf {L P S D : Type 0} {d : Ghosts D L P S} (layouts : List (Slot (SetLayout L))) (manager : ℕ) (s : Store L P S D d) : Type 0 where

@@ -15,10 +15,10 @@ below_or zero (suc n) = inl (omega arith)
 below_or (suc i) (suc n) = search (rules, below_or i n)
 
 pub times_here : (p : ℕ) (l : List ℕ) → times p (p ∷ l) ≡ times p l + 1
-times_here p l = rw (eq-eqb p p refl) refl
+times_here p l = rw (eq-eqb p p refl) (omega arith)
 
 pub times_there : (p q : ℕ) (l : List ℕ) → p ≢ q → times p (q ∷ l) ≡ times p l
-times_there p q l ne = rw (ne_eqb p q ne) refl
+times_there p q l ne = rw (ne_eqb p q ne) (omega arith)
 
 -- a list that a place is not in is the same, whatever its next is
 pub walk_other : (n : ℕ) (next : List ℕ) (first p x : ℕ) → times p (walk n next first) ≡ 0 → walk n (set next p x) first ≡ walk n next first

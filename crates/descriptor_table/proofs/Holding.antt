@@ -2,8 +2,8 @@
 -- `SetTable::take_each` and `settle_held` (`TurnedSome`). Those that turned are held again then, the last one first: for `put_back`.
 -- `n` is how many turned.
 use Rattle.std.proofs.lemmas.Grind.{common_steps}
-use Rattle.std.proofs.Common.{◌≡◌, ◌≢◌, ℕ, zero, suc, ◌+◌, ◌<◌, ◌≤◌, ◌⊎◌, ◌==◌, ◌&&◌, Bool, true, false, List, [], ◌∷◌, length, get_or, set, take, is_some, inl, inr, refl, sym, ap, subst, ◌∙◌, arith, rules}
-use Rattle.std.proofs.lemmas.List.{get_or-take, length-set, length-take-le}
+use Rattle.std.proofs.Common.{◌≡◌, ◌≢◌, ℕ, zero, suc, ◌+◌, ◌<◌, ◌≤◌, ◌⊎◌, ◌==◌, ◌&&◌, Bool, true, false, List, [], ◌∷◌, length, get_or, set, take, is_some, inl, inr, Option, refl, sym, ap, subst, ◌∙◌, arith, rules}
+use Rattle.std.proofs.lemmas.List.{get_or_default, get_or-take, length-set, length-take-le}
 use Rattle.std.proofs.lemmas.Bool.{true≢false}
 use Rattle.descriptor_table.specs.Sets.{AreHeldOnce, is_held}
 use Rattle.descriptor_table.specs.Slots.{slot_at}
@@ -29,9 +29,7 @@ named_or (suc n) place p = grind (arith, common_steps, same_or (place n) p, name
 
 -- a handle that is in the list is the same, whatever is said of those past the end
 pub same_default : (l : List SetHandle) (i : ℕ) (d e : SetHandle) → i < length l → get_or l i d ≡ get_or l i e
-same_default [] i d e lt = absurd (omega arith)
-same_default (x ∷ l) zero d e lt = refl
-same_default (x ∷ l) (suc i) d e lt = same_default l i d e (omega arith)
+same_default = get_or_default
 
 -- handles with the same three numbers are the same
 pub handle_is : (a b : SetHandle) → a.manager ≡ b.manager → a.place ≡ b.place → a.generation ≡ b.generation → a ≡ b
@@ -127,14 +125,15 @@ module _ {T : Type 0} where
     pub turned_each : TurnEach handles becomes old now
     turned_each = record { long = some.long; named = λ i lt. some.named i (omega arith); rest = λ p none. some.rest p (λ i lt. (let few = some.few in none i (omega arith))) }
 
-  -- a handle without a held set now had none before, or is in the list twice
-  pub turned_no : (number : ℕ) (handles : List SetHandle) (becomes : List (Slot T) → Slot T → Slot T → Type 0) (n : ℕ) (old now : List (Slot T)) → TurnedSome number handles becomes n old now → (h : SetHandle) → n < length handles → ((d : SetHandle) → h ≡ get_or handles n d) → is_held number now h ≡ false → AreHeldOnce number old handles → ⊥
-  turned_no number handles becomes n old now some h lt is not once = elim (named_or n (place_at handles) h.place) [
+  -- a name that doesn't fit now, or has no held set, did before, or its handle is in the list twice
+  pub turned_no : (number : ℕ) (handles : List SetHandle) (becomes : List (Slot T) → Slot T → Slot T → Type 0) (n : ℕ) (old now : List (Slot T)) (fit : Option T → Bool) → TurnedSome number handles becomes n old now → (h : SetHandle) → n < length handles → ((d : SetHandle) → h ≡ get_or handles n d) → (fit (slot_at now h.place).set && is_held number now h) ≡ false → AreHeldOnce number old handles → fit (slot_at old h.place).set ≡ true → ⊥
+  turned_no number handles becomes n old now fit some h lt is not once fits = elim (named_or n (place_at handles) h.place) [
     | inl found ↦ apart_once number old handles once found.0 n found.1 lt (found.2 ∙ ap (λ (x : SetHandle). x.place) (is (record { manager = 0; place = 0; generation = 0 })))
     | inr none ↦ (
         let z : SetHandle = record { manager = 0; place = 0; generation = 0 } in
         let same = some.rest h.place none in
-        true≢false (sym (once.held n z lt) ∙ ap (is_held number old) (sym (is z)) ∙ ap (λ (s : Slot T). ((h.manager == number) && (h.generation == s.generation)) && (is_held_use s.used && is_some s.set)) (sym same) ∙ not)
+        let was : is_held number old h ≡ true = ap (is_held number old) (is z) ∙ once.held n z lt in
+        true≢false (sym ((λ i. fits i && was i)) ∙ ap (λ (s : Slot T). fit s.set && (((h.manager == number) && (h.generation == s.generation)) && (is_held_use s.used && is_some s.set))) (sym same) ∙ not)
         )
   ]
 

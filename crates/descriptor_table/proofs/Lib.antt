@@ -7,6 +7,7 @@ pub mod Growing
 pub mod Holding
 pub mod Leaving
 pub mod Listed
+pub mod Named
 pub mod Names
 pub mod Naming
 pub mod Renewing

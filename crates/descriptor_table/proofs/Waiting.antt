@@ -21,7 +21,7 @@ times_insert q p (x ∷ l) (suc i) = search (rules, times_insert q p l i)
 apart_at : (p : ℕ) (l : List ℕ) (i d : ℕ) → times p l ≡ 0 → i < length l → get_or l i d ≢ p
 apart_at p [] i d none lt = absurd (omega arith)
 apart_at p (q ∷ l) zero d none lt = search (rules, times_here)
-apart_at p (q ∷ l) (suc i) d none lt = search (rules, apart_at p l i d)
+apart_at p (q ∷ l) (suc i) d none lt = apart_at p l i d (omega arith) (omega arith)
 
 -- what holds all along a list holds of each place in it
 along : (P : ℕ → Type 0) (l : List ℕ) (d : ℕ) → ((i : ℕ) → i < length l → P (get_or l i d)) → (p : ℕ) → times p l ≢ 0 → P p

@@ -4,7 +4,7 @@ use Rattle.std.specs.Prelude.{ℕ, zero, suc, ◌+◌, ◌==◌, List, [], ◌�
 -- how often a place is in a list
 abbrev pub times : ℕ → List ℕ → ℕ
 times p [] = 0
-times p (q ∷ l) = if p == q then times p l + 1 else times p l
+times p (q ∷ l) = (if p == q then 1 else 0) + times p l
 
 -- n places from the first on: each next one is what the list has at the place before
 abbrev pub walk : ℕ → List ℕ → ℕ → List ℕ

@@ -65,3 +65,7 @@ module _ {T : Type 0} where
   pub record AreHeldOnce (number : ℕ) (slots : Slots T) (handles : List SetHandle) : Type 0 where
     pub held : All (λ h. is_held number slots h ≡ true) handles
     pub once : AreOnce handles
+
+  -- each name can be that of the set in its slot
+  abbrev pub AllFit : {N : Type 0} → (N → SetHandle) → (N → Option T → Bool) → Slots T → List N → Type 0
+  AllFit handle_of fit slots names = All (λ n. fit n (slot_at slots (handle_of n).place).set ≡ true) names

@@ -156,7 +156,7 @@ module _ {T : Type 0} where
   pub record IsListed (lists : ℕ) (generations : ℕ → ℕ) (s : Slot T) : Type 0 where
     pub there : s.layout + 2 < lists
     pub before : s.layout_generation ≤ generations s.layout
-    pub kept : is_in (s.layout + 2) s ≡ true → s.layout_generation ≡ generations s.layout
+    pub kept : is_kept_of s.layout s ≡ true → s.layout_generation ≡ generations s.layout
     pub full : s.used ≡ Held → is_some s.set ≡ true
     pub kept_below : s.kept_below ≤ 4294967295
 

@@ -39,7 +39,7 @@ pub record Settings : Type 0 where
 module _ {T : Type 0} where
   -- whether a slot can get a set
   abbrev pub is_usable : Slot T → Bool
-  is_usable s = is_in 0 s
+  is_usable = is_in 0
 
   -- the slot in this use
   abbrev pub used_for : Use → Slot T → Slot T
@@ -230,7 +230,3 @@ module _ {T : Type 0} where
     pub long : length new ≡ length old
     pub named : (i : ℕ) → i < length handles → becomes new (slot_at old (place_at handles i)) (slot_at new (place_at handles i))
     pub rest : (p : ℕ) → ((i : ℕ) → i < length handles → place_at handles i ≢ p) → slot_at new p ≡ slot_at old p
-
-  -- no set is kept once it is freed
-  abbrev pub AreAged : Slots T → Slots T → Type 0
-  AreAged = Turns (λ s. true) (Becomes aged)

@@ -1,5 +1,6 @@
 //! The handles of sets.
-ghost use Rattle.std.specs.Prelude.{◌≡◌, List, map};
+ghost use Rattle.std.specs.Prelude.{◌≡◌, Bool, List, Option, is_some, map, true};
+ghost use Rattle.std.specs.Option.{option_copied};
 ghost use Rattle.std.proofs.Common.{sym};
 ghost use Rattle.std.proofs.lemmas.List.{map-id};
 
@@ -42,6 +43,9 @@ pub trait SetName<T> {
     /// The handles of names.
     ghost handles_of: { List Self → List SetHandle };
 
+    /// Whether a name can be that of a set.
+    ghost fit: { Self → Option T → Bool };
+
     /// The handle.
     fn handle(&self) -> SetHandle
         ensures { result ≡ handle_of self.now };
@@ -49,7 +53,14 @@ pub trait SetName<T> {
     /// The name of a set under a handle. `set` is never `None`: an `Option` leaves no test for it in a
     /// loop over sets.
     fn of(handle: SetHandle, set: Option<&T>) -> Self
-        ensures { handle_of result ≡ handle };
+        requires { is_some set ≡ true }
+        ensures handle { handle_of result ≡ handle }
+        ensures fits { fit result (option_copied set.entry) ≡ true };
+
+    /// Whether this can be the name of the set that its handle has. `set` is never `None`.
+    fn fits(&self, set: Option<&T>) -> bool
+        requires { is_some set ≡ true }
+        ensures { result ≡ fit self.now (option_copied set.entry) };
 
     /// The handles of names are those of each.
     ghost each: { (names : List Self) → handles_of names ≡ map handle_of names };
@@ -59,6 +70,8 @@ impl<T> SetName<T> for SetHandle {
     ghost handle_of = { λ handle. handle };
 
     ghost handles_of = { λ handles. handles };
+
+    ghost fit = { λ handle set. true };
 
     ghost each = { λ handles. sym (map-id handles) };
 
@@ -70,5 +83,10 @@ impl<T> SetName<T> for SetHandle {
     #[inline]
     fn of(handle: SetHandle, _set: Option<&T>) -> Self {
         handle
+    }
+
+    #[inline]
+    fn fits(&self, _set: Option<&T>) -> bool {
+        true
     }
 }

@@ -1,5 +1,5 @@
 //! The table of a set manager's sets. Each set has a slot, and stays there while it is reused.
-ghost use Rattle.std.specs.Prelude.{◌≡◌, ◌+◌, ◌<◌, [], length, true, if◌then◌else◌, IfSome, IsOk, None, OnErr, OnOk};
+ghost use Rattle.std.specs.Prelude.{◌≡◌, ◌+◌, ◌<◌, ◌&&◌, [], length, true, if◌then◌else◌, IfSome, IsOk, None, OnErr, OnOk};
 ghost use Rattle.std.specs.Option.{option_copied};
 ghost use Rattle.std.specs.VecDeque.{deque_capacity};
 ghost use Rattle.descriptor_table.specs.Slots.{AreSound, chains_in, generation_at, generations_in, no_slot, slot_at, slot_of};
@@ -12,7 +12,7 @@ mod lists;
 mod sets;
 mod waiting;
 
-use crate::handle::SetHandle;
+use crate::handle::{SetHandle, SetName};
 use crate::slot::{ListHead, Use};
 use crate::slot_list::{Entry, SlotList};
 use std::alloc::{AllocError, Global};
@@ -115,16 +115,17 @@ impl<T> SetTable<T> {
         self.last_slot(handle)?.set.as_ref()
     }
 
-    /// Whether a handle has a held set.
+    /// Whether a name is that of a held set.
     #[inline]
-    fn holds(&self, handle: SetHandle) -> bool
-        ensures { result ≡ is_held self.now.number (slots_of self.now) handle }
+    fn holds<N: SetName<T>>(&self, name: &N) -> bool
+        ensures { result ≡ (N.fit name.now (slot_at (slots_of self.now) (N.handle_of name.now).place).set
+            && is_held self.now.number (slots_of self.now) (N.handle_of name.now)) }
     {
-        let Some(slot) = self.last_slot(handle) else {
+        let Some(slot) = self.last_slot(name.handle()) else {
             return false;
         };
         match slot.used() {
-            Use::Held => true,
+            Use::Held => name.fits(slot.set.as_ref()),
             Use::InFrame(_) | Use::Waits(_) | Use::Kept | Use::Going | Use::Taken | Use::Vacant =>
                 false,
         }

@@ -68,7 +68,7 @@
  * The number of the binary interface. It changes if a program with an older header would do something else with
  * the library: by a struct, a number, or what a function takes.
  */
-#define GD_ABI 4u
+#define GD_ABI 5u
 
 /* A function of the headers for C. It is static in C++ too: a shared object exports none, optimised or not. */
 #define GD_INLINE static inline

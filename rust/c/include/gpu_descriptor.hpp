@@ -47,8 +47,8 @@ struct VkDescriptorSet_T;
 namespace gd {
 
 /* The ABI's number, so that two shared objects over headers of two ABIs don't share a function. */
-inline namespace abi_4 {
-static_assert(GD_ABI == 4u, "the namespace has the number of the ABI");
+inline namespace abi_5 {
+static_assert(GD_ABI == 5u, "the namespace has the number of the ABI");
 
 /* The VkDescriptorSet of a set. Its name isn't vk, which is the namespace of vulkan.hpp. */
 #if defined(VK_USE_64_BIT_PTR_DEFINES) ? (VK_USE_64_BIT_PTR_DEFINES == 1) : (UINTPTR_MAX == UINT64_MAX)
@@ -507,7 +507,7 @@ template <uint32_t Refill = GD_CACHE_REFILL> class cache {
     gd_set places_[2 * Refill];
 };
 
-} // namespace abi_4
+} // namespace abi_5
 } // namespace gd
 
 #endif

@@ -112,11 +112,6 @@ GD_INLINE gd_status gd_cache_allocate(gd_cache *cache, uint32_t count, gd_set *s
     return status;
 }
 
-/* The id of a set's allocator, which the library encoded in the set's three fields. */
-GD_INLINE uint64_t gd_cache_id_of(const gd_set *set) {
-    return set->owner ^ set->handle * UINT64_C(0x9e3779b97f4a7c15) ^ set->name * UINT64_C(0xc2b2ae3d27d4eb4f);
-}
-
 /* Whether a set may be put into the cache: it is of the allocator, and not in the cache yet. */
 GD_INLINE int gd_cache_may_have(const gd_cache *cache, const gd_set *sets, uint32_t at) {
 #ifdef GD_CACHE_CHECKED
@@ -127,7 +122,7 @@ GD_INLINE int gd_cache_may_have(const gd_cache *cache, const gd_set *sets, uint3
         if (sets[other].name == sets[at].name)
             return 0;
 #endif
-    return gd_cache_id_of(&sets[at]) == cache->allocator.id && sets[at].name != 0;
+    return sets[at].owner == cache->allocator.id && sets[at].name != 0;
 }
 
 /*

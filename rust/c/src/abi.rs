@@ -4,7 +4,7 @@ use crate::slot::GdAllocator;
 use core::ffi::{CStr, c_void};
 
 /// `GD_ABI`, which names the shared library, too.
-pub const ABI: u64 = 4;
+pub const ABI: u64 = 5;
 
 /// `GD_ABI_FINGERPRINT`.
 pub const FINGERPRINT: u64 = (size_of::<GdLayoutStatistics>() as u64) << 56
@@ -104,19 +104,21 @@ pub struct GdLayout {
     pub owner: u64,
 }
 
-/// `gd_set`.
+/// `gd_set`. The two halves of its name are the numbers of the set manager's handle.
 #[repr(C)]
 #[derive(Clone, Copy)]
 pub struct GdSet {
     pub handle: u64,
-    pub name: u64,
+    pub place: u32,
+    pub generation: u32,
     pub owner: u64,
 }
 
 impl GdSet {
     pub const NONE: Self = GdSet {
         handle: 0,
-        name: 0,
+        place: 0,
+        generation: 0,
         owner: 0,
     };
 }

@@ -5,7 +5,7 @@
 //! in C, and finds a layout by the host's handle.
 
 use crate::abi::{AllocateVariableSets, GdLayout, GdSet, GdStatus};
-use crate::descriptor_manager::{FreeError, LayoutHandle, RequestError, SetManager};
+use crate::descriptor_manager::{FreeError, RequestError, SetManager};
 use crate::device::{HostDevice, HostLayout, HostPool};
 use crate::gpu_descriptor::{
     AllocationError, DescriptorSetLayoutCreateFlags, DescriptorTotalCount, SetLayout,
@@ -133,11 +133,12 @@ impl Allocator {
         if self.known.reserve(by_name(id, manager)).is_err() {
             return Err(GdStatus::OUT_OF_HOST_MEMORY);
         }
-        let Ok(LayoutHandle { slot }) = self.manager.add_layout(layout) else {
+        let Ok(added) = self.manager.add_layout(layout) else {
             return Err(GdStatus::OUT_OF_HOST_MEMORY);
         };
-        self.known.put(handle, name_of(slot));
-        Ok(name_of(slot))
+        let name = name_of(added);
+        self.known.put(handle, name);
+        Ok(name)
     }
 
     /// Removes a layout. It allocates no memory.

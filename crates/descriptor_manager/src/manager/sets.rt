@@ -4,7 +4,7 @@ ghost use Rattle.std.specs.Prelude.{IfErr, IfOk, IfSome, IsErrOf, IsSome, None, 
 ghost use Rattle.std.specs.Prelude.{IsOk, is_some, option_map};
 ghost use Rattle.std.specs.Option.{option_copied};
 ghost use Rattle.gpu_descriptor.specs.Caller.Sets.{raw_of};
-ghost use Rattle.descriptor_table.specs.Sets.{AreHeldOnce, LoseNames};
+ghost use Rattle.descriptor_table.specs.Sets.{AllFit, AreHeldOnce, LoseNames};
 ghost use Rattle.descriptor_table.specs.Slots.{is_live};
 ghost use Rattle.descriptor_manager.specs.Stores.{FreesSets, IsFreed, IsRefusedAtLast, Takes};
 ghost use Rattle.descriptor_table.specs.Tables.{Becomes, TurnEach, Turns, used_for, vacated};
@@ -106,6 +106,7 @@ impl<L: Drop, P: Drop, S: Drop, D: DescriptorDevice<L, P, S>> SetManager<L, P, S
             × (seen self.new ≡ seen self.old)) ⊎ IfSome (layout_of self.old layout) (λ known.
             IsRefusedAtLast known.layout (length sets.old - kept_of layout self.old)
             (length sets.old) error (store_of self.old) (store_of self.new)) }
+        ensures fit { OnOk result (AllFit N.handle_of N.fit (slots_of self.new) sets.new) }
         ensures long { length sets.new ≡ length sets.old }
         ensures handles { OnErr result (sets.new ≡ sets.old) }
         ensures sets { OnlySetsCome result self.old self.new }
@@ -135,8 +136,10 @@ impl<L: Drop, P: Drop, S: Drop, D: DescriptorDevice<L, P, S>> SetManager<L, P, S
             (sets_by self.new)) }
         ensures once { OnOk result (AreHeldOnce (seen self.old).number (slots_of self.old)
             (N.handles_of sets.now)) }
+        ensures fit { OnOk result (AllFit N.handle_of N.fit (slots_of self.old) sets.now) }
         ensures no_set { IfErr result (λ e. (e ≡ FreeError.NoSet)
-            × ¬ (AreHeldOnce (seen self.old).number (slots_of self.old) (N.handles_of sets.now))) }
+            × ¬ (AreHeldOnce (seen self.old).number (slots_of self.old) (N.handles_of sets.now)
+            × AllFit N.handle_of N.fit (slots_of self.old) sets.now)) }
         ensures stay { OnErr result (seen self.new ≡ seen self.old) }
         ensures rest { OnlySetsChange self.old self.new }
     {
@@ -163,9 +166,11 @@ impl<L: Drop, P: Drop, S: Drop, D: DescriptorDevice<L, P, S>> SetManager<L, P, S
             (sets_by self.new)) }
         ensures once { OnOk result (AreHeldOnce (seen self.old).number (slots_of self.old)
             (N.handles_of sets.now)) }
+        ensures fit { OnOk result (AllFit N.handle_of N.fit (slots_of self.old) sets.now) }
         ensures ahead { (IsErrOf result FreeError.FrameAhead) ↔ (frame_of self.old < last_use) }
         ensures no_set { (IsErrOf result FreeError.NoSet) ↔ ((last_use ≤ frame_of self.old)
-            × ¬ (AreHeldOnce (seen self.old).number (slots_of self.old) (N.handles_of sets.now))) }
+            × ¬ (AreHeldOnce (seen self.old).number (slots_of self.old) (N.handles_of sets.now)
+            × AllFit N.handle_of N.fit (slots_of self.old) sets.now)) }
         ensures stay { OnErr result (seen self.new ≡ seen self.old) }
         ensures rest { seen self.new ≡ record (seen self.old) { slots = slots_of self.new } }
     {

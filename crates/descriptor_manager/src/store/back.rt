@@ -10,7 +10,7 @@ use gpu_descriptor::{DescriptorDevice, DescriptorSet, SetLayout};
 
 impl<L: Drop, P: Drop, S: Drop, D: DescriptorDevice<L, P, S>> Store<L, P, S, D> {
     ghost use Rattle.descriptor_table.specs.Giving.{is_of};
-    ghost use Rattle.descriptor_table.specs.Sets.{AreHeldOnce, sets_in};
+    ghost use Rattle.descriptor_table.specs.Sets.{AllFit, AreHeldOnce, sets_in};
     ghost use Rattle.descriptor_table.specs.Slots.{is_due, is_kept_of, slot_at};
     ghost use Rattle.descriptor_table.specs.Tables.{Becomes, KeepsUpTo, MayBecome, TurnEach, Turns, is_kept, removed_at};
     ghost use Rattle.descriptor_table.specs.Tables.{used_for, vacated};
@@ -100,8 +100,8 @@ impl<L: Drop, P: Drop, S: Drop, D: DescriptorDevice<L, P, S>> Store<L, P, S, D> 
     /// held set, or is in the list twice, it changes nothing and returns `false`.
     pub(crate) fn free_each<N: SetName<DescriptorSet<S>>>(&mut self, names: &[N]) -> bool
         requires rest { IsAtRest self.old }
-        ensures once { IsTrue result ↔ AreHeldOnce self.old.table.number (slots_in self.old)
-            (N.handles_of names.now) }
+        ensures once { IsTrue result ↔ (AreHeldOnce self.old.table.number (slots_in self.old)
+            (N.handles_of names.now) × AllFit N.handle_of N.fit (slots_in self.old) names.now) }
         ensures frees { IsTrue result → FreesSets (TurnEach (N.handles_of names.now)
             (IsFreed self.old)) self.old self.new }
         ensures none { IsFalse result → (slots_in self.new ≡ slots_in self.old)
@@ -123,8 +123,8 @@ impl<L: Drop, P: Drop, S: Drop, D: DescriptorDevice<L, P, S>> Store<L, P, S, D> 
         frame: u64,
     ) -> bool
         requires rest { IsAtRest self.old }
-        ensures once { IsTrue result ↔ AreHeldOnce self.old.table.number (slots_in self.old)
-            (N.handles_of names.now) }
+        ensures once { IsTrue result ↔ (AreHeldOnce self.old.table.number (slots_in self.old)
+            (N.handles_of names.now) × AllFit N.handle_of N.fit (slots_in self.old) names.now) }
         ensures waits { IsTrue result → TurnEach (N.handles_of names.now)
             (Becomes (used_for (Use.Waits frame))) (slots_in self.old) (slots_in self.new) }
         ensures none { IsFalse result → slots_in self.new ≡ slots_in self.old }

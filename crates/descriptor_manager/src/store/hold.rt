@@ -7,6 +7,7 @@ use descriptor_table::{SetHandle, SetName, Use};
 use gpu_descriptor::{DescriptorDevice, DescriptorSet};
 
 impl<L: Drop, P: Drop, S: Drop, D: DescriptorDevice<L, P, S>> Store<L, P, S, D> {
+    ghost use Rattle.descriptor_table.specs.Sets.{AllFit};
     ghost use Rattle.descriptor_table.specs.Slots.{frame_of, is_kept_of, is_live, slot_at};
     ghost use Rattle.descriptor_table.specs.Tables.{HasRoom, place_at};
     ghost use Rattle.descriptor_manager.specs.Stores.{ComesOf, HasLayout, HoldEach, Holds, KeepsStore};
@@ -22,6 +23,7 @@ impl<L: Drop, P: Drop, S: Drop, D: DescriptorDevice<L, P, S>> Store<L, P, S, D> 
             (N.handle_of result ∷ []) (slots_in self.old) (slots_in self.new) }
         ensures was_kept { is_kept_of layout (slot_at (slots_in self.old)
             (N.handle_of result).place) ≡ true }
+        ensures fits { N.fit result (slot_at (slots_in self.new) (N.handle_of result).place).set ≡ true }
         ensures fewer { kept_of layout self.new + 1 ≡ kept_of layout self.old }
         ensures as_many { length (slots_in self.new) ≡ length (slots_in self.old) }
         ensures table { (n : ℕ) → HasRoom n self.old.table → HasRoom n self.new.table }
@@ -45,6 +47,7 @@ impl<L: Drop, P: Drop, S: Drop, D: DescriptorDevice<L, P, S>> Store<L, P, S, D> 
             (N.handles_of names.new) (slots_in self.old) (slots_in self.new) }
         ensures were_kept { (i : ℕ) → i < length names.old → is_kept_of layout (slot_at
             (slots_in self.old) (place_at (N.handles_of names.new) i)) ≡ true }
+        ensures fit { AllFit N.handle_of N.fit (slots_in self.new) names.new }
         ensures long { length names.new ≡ length names.old }
         ensures as_many { length (slots_in self.new) ≡ length (slots_in self.old) }
         ensures table { (n : ℕ) → HasRoom n self.old.table → HasRoom n self.new.table }
@@ -96,6 +99,7 @@ impl<L: Drop, P: Drop, S: Drop, D: DescriptorDevice<L, P, S>> Store<L, P, S, D> 
         ensures holds { HoldEach self.old.table.number (current_in layout self.old) used
             (N.handles_of names.new) (slots_in self.old) (slots_in self.new) }
         ensures none { self.new.coming.items ≡ [] }
+        ensures fit { AllFit N.handle_of N.fit (slots_in self.new) names.new }
         ensures long { length names.new ≡ length names.old }
         ensures keeps { (known : L) → AreOfLayout D.meaning known self.old.coming.items
             → Holds (ComesOf D.meaning known layout) self.old self.new }

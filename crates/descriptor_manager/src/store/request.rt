@@ -7,11 +7,12 @@ use descriptor_table::{SetHandle, SetName, Use};
 use gpu_descriptor::{AllocationError, DescriptorDevice, DescriptorSet, SetLayout};
 
 impl<L: Drop, P: Drop, S: Drop, D: DescriptorDevice<L, P, S>> Store<L, P, S, D> {
+    ghost use Rattle.descriptor_table.specs.Sets.{AllFit};
     ghost use Rattle.descriptor_table.specs.Slots.{frame_of, is_live};
     ghost use Rattle.descriptor_table.specs.Tables.{HasRoom};
     ghost use Rattle.descriptor_manager.specs.Stores.{Asks, AsksAtLast, CanTake, IsRefused};
     ghost use Rattle.descriptor_manager.specs.Stores.{IsRefusedAtLast, KeepsStore, Requests};
-    ghost use Rattle.descriptor_manager.specs.Stores.{handles_in, kept_of};
+    ghost use Rattle.descriptor_manager.specs.Stores.{handles_in, kept_of, slots_in};
 
     /// Asks the allocator for `many` sets of a layout. The table has room for them.
     fn ask_for(&mut self, known: &SetLayout<L>, many: u32) -> Result<(), AllocationError>
@@ -110,6 +111,7 @@ impl<L: Drop, P: Drop, S: Drop, D: DescriptorDevice<L, P, S>> Store<L, P, S, D> 
         requires few { length names.old ≤ 4294967295 }
         ensures requests { Requests known.now.layout layout (length names.old) Use.Held
             (N.handles_of names.new) result self.old self.new }
+        ensures fit { OnOk result (AllFit N.handle_of N.fit (slots_in self.new) names.new) }
         ensures long { length names.new ≡ length names.old }
         ensures names { OnErr result (names.new ≡ names.old) }
     {
@@ -136,6 +138,7 @@ impl<L: Drop, P: Drop, S: Drop, D: DescriptorDevice<L, P, S>> Store<L, P, S, D> 
         requires short { kept_of layout self.old < length names.old }
         ensures requests { Requests known.now.layout layout (length names.old) used
             (N.handles_of names.new) result self.old self.new }
+        ensures fit { OnOk result (AllFit N.handle_of N.fit (slots_in self.new) names.new) }
         ensures long { length names.new ≡ length names.old }
         ensures names { OnErr result (names.new ≡ names.old) }
     {

@@ -7,7 +7,7 @@ use crate::handle::SetName;
 use crate::slot::{ListHead, Use};
 
 impl<T> SetTable<T> {
-    ghost use Rattle.descriptor_table.specs.Sets.{AreHeldOnce};
+    ghost use Rattle.descriptor_table.specs.Sets.{AllFit, AreHeldOnce};
     ghost use Rattle.descriptor_table.specs.Slots.{IsNowhere, is_due, is_in, is_kept_of, slot_at, waits};
     ghost use Rattle.descriptor_table.specs.Tables.{At, Becomes, Changes, HasTaken};
     ghost use Rattle.descriptor_table.specs.Tables.{IsBack, KeepsUpTo, MayBecome};
@@ -71,20 +71,20 @@ impl<T> SetTable<T> {
     /// Frees the held sets of `names`, all or none: each is kept, or goes. If a name has no held set, or
     /// is in the list twice, it frees none and returns `false`.
     pub fn settle_held<N: SetName<T>>(&mut self, names: &[N]) -> bool
-        ensures once { IsTrue result ↔ AreHeldOnce self.old.number (slots_of self.old)
-            (N.handles_of names.now) }
+        ensures once { IsTrue result ↔ (AreHeldOnce self.old.number (slots_of self.old)
+            (N.handles_of names.now) × AllFit N.handle_of N.fit (slots_of self.old) names.now) }
         ensures back { IsTrue result → TurnEach (N.handles_of names.now) (IsBack (used_for Use.Going)
             (generations_of self.old) self.old.keep) (slots_of self.old) (slots_of self.new) }
         ensures none { IsFalse result → slots_of self.new ≡ slots_of self.old }
         ensures stays { Stays self.old self.new }
     {
         for index in 0..names.len() {
-            let handle = names[index].handle();
-            if !self.holds(handle) {
+            let name = &names[index];
+            if !self.holds(name) {
                 self.put_back(names, index);
                 return false;
             }
-            self.settle(handle.place as usize);
+            self.settle(name.handle().place as usize);
         }
         true
     }

@@ -6,7 +6,7 @@ use crate::handle::SetName;
 use crate::slot::Use;
 
 impl<T> SetTable<T> {
-    ghost use Rattle.descriptor_table.specs.Sets.{AreHeldOnce};
+    ghost use Rattle.descriptor_table.specs.Sets.{AllFit, AreHeldOnce};
     ghost use Rattle.descriptor_table.specs.Slots.{IsNowhere, is_in, slot_at};
     ghost use Rattle.descriptor_table.specs.Tables.{At, Becomes, CanBeHeld, Changes, Stays, TurnEach};
     ghost use Rattle.descriptor_table.specs.Tables.{place_at, slots_of, used_for};
@@ -26,20 +26,20 @@ impl<T> SetTable<T> {
     /// Takes the held sets of `names`, all or none. If a name has no held set, or is in the list twice,
     /// it takes none and returns `false`.
     pub fn take_each<N: SetName<T>>(&mut self, names: &[N]) -> bool
-        ensures once { IsTrue result ↔ AreHeldOnce self.old.number (slots_of self.old)
-            (N.handles_of names.now) }
+        ensures once { IsTrue result ↔ (AreHeldOnce self.old.number (slots_of self.old)
+            (N.handles_of names.now) × AllFit N.handle_of N.fit (slots_of self.old) names.now) }
         ensures took { IsTrue result → TurnEach (N.handles_of names.now)
             (Becomes (used_for Use.Taken)) (slots_of self.old) (slots_of self.new) }
         ensures none { IsFalse result → slots_of self.new ≡ slots_of self.old }
         ensures stays { Stays self.old self.new }
     {
         for index in 0..names.len() {
-            let handle = names[index].handle();
-            if !self.holds(handle) {
+            let name = &names[index];
+            if !self.holds(name) {
                 self.put_back(names, index);
                 return false;
             }
-            self.assign(handle.place as usize, Use::Taken);
+            self.assign(name.handle().place as usize, Use::Taken);
         }
         true
     }

@@ -1,5 +1,5 @@
 //! Layouts that are added and removed, and sets that age.
-ghost use Rattle.std.specs.Prelude.{◌≡◌, ◌↔◌, ◌+◌, ◌<◌, ℕ, false, IsOk, IsTrue, OnOk, length};
+ghost use Rattle.std.specs.Prelude.{◌≡◌, ◌↔◌, ◌+◌, ◌<◌, ℕ, false, true, IsOk, IsTrue, OnOk, length};
 ghost use Rattle.std.specs.Prelude.{vec_capacity};
 
 use super::{KEPT, SetTable};
@@ -8,7 +8,7 @@ use std::alloc::AllocError;
 
 impl<T> SetTable<T> {
     ghost use Rattle.descriptor_table.specs.Slots.{is_kept_of, slot_at};
-    ghost use Rattle.descriptor_table.specs.Tables.{AreAged, At, Changes, HasListRoom, OnlySettings};
+    ghost use Rattle.descriptor_table.specs.Tables.{At, Becomes, Changes, HasListRoom, OnlySettings, Turns};
     ghost use Rattle.descriptor_table.specs.Tables.{aged, generations_of, lists_of};
     ghost use Rattle.descriptor_table.specs.Tables.{lists_with, removed_at, settings_of, slots_of};
 
@@ -68,7 +68,7 @@ impl<T> SetTable<T> {
 
     /// All sets that there are aren't kept once they are freed.
     pub fn age(&mut self)
-        ensures { Changes AreAged self.old self.new }
+        ensures { Changes (Turns (λ slot. true) (Becomes aged)) self.old self.new }
     {
         for place in 0..self.slots.len() {
             self.age_at(place);

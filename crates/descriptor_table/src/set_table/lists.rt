@@ -82,6 +82,7 @@ impl<T> SetTable<T> {
             ≡ true }
         ensures renews { Renews self.old.number (N.handle_of result).place used
             (N.handle_of result) (slots_of self.old) (slots_of self.new) }
+        ensures fits { N.fit result (slot_at (slots_of self.new) (N.handle_of result).place).set ≡ true }
         ensures stays { Stays self.old self.new }
     {
         let head = &mut self.lists[layout as usize + KEPT];

@@ -60,7 +60,8 @@ impl<T> SetTable<T> {
     #[inline]
     pub fn name_of<N: SetName<T>>(&self, handle: SetHandle) -> N
         requires { is_some (slot_at (slots_of self.now) handle.place).set ≡ true }
-        ensures { N.handle_of result ≡ handle }
+        ensures handle { N.handle_of result ≡ handle }
+        ensures fits { N.fit result (slot_at (slots_of self.now) handle.place).set ≡ true }
     {
         N::of(handle, self.slots.at(handle.place as usize).set.as_ref())
     }
@@ -133,7 +134,7 @@ impl<T> SetTable<T> {
         ensures none { result ≡ None → slots_of self.new ≡ slots_of self.old }
         ensures stays { Stays self.old self.new }
     {
-        if !self.holds(handle) {
+        if !self.holds(&handle) {
             return None;
         }
         self.assign(handle.place as usize, Use::Taken);

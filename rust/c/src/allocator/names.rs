@@ -7,54 +7,56 @@ use crate::descriptor_table::SetName;
 use crate::gpu_descriptor::DescriptorSet;
 use core::mem::MaybeUninit;
 
-/// The name of a set or a layout in C: 64 bits, which no other set or layout of the allocator gets. It is
-/// never 0.
+/// The name of a layout in C: 64 bits, which no other layout of the allocator gets. It is never 0.
 #[inline]
-pub fn name_of(handle: SetHandle) -> u64 {
-    u64::from(handle.generation) << 32 | u64::from(handle.place)
-}
-
-/// The handle of a set or a layout with this name.
-#[inline]
-fn handle_of(id: u64, name: u64) -> SetHandle {
-    SetHandle {
-        manager: id,
-        place: name as u32,
-        generation: (name >> 32) as u32,
-    }
+pub fn name_of(handle: LayoutHandle) -> u64 {
+    u64::from(handle.slot.generation) << 32 | u64::from(handle.slot.place)
 }
 
 /// The set manager's handle of a layout with this name.
 #[inline]
 pub fn layout_of(owner: u64, name: u64) -> LayoutHandle {
-    let slot = handle_of(owner, name);
+    let slot = SetHandle {
+        manager: owner,
+        place: name as u32,
+        generation: (name >> 32) as u32,
+    };
     LayoutHandle { slot }
 }
 
-/// What a set's owner has in addition to the id of its allocator. The factors are odd, so under one name each
-/// handle has its own seal, and under one handle each name. Without its factor a field and the owner could
-/// change alike, unseen. The header's caches compute it too.
+/// The driver's handle of a set that is there.
 #[inline]
-fn seal(handle: u64, name: u64) -> u64 {
-    handle.wrapping_mul(0x9e37_79b9_7f4a_7c15) ^ name.wrapping_mul(0xc2b2_ae3d_27d4_eb4f)
+#[allow(unsafe_code)]
+fn raw_of(set: Option<&DescriptorSet<u64>>) -> u64 {
+    // SAFETY: the table asks only about sets that are there, which is proved of each call (`SetName`).
+    *unsafe { set.unwrap_unchecked() }.raw()
 }
 
-/// A set with one changed field has the handle of another set manager, which is invalid. One with several
-/// changed fields does too, except with a probability of 2^-64.
+/// A changed `gd_set` is refused: it is another allocator's, or not the last handle of its place, or has not the
+/// driver's handle of the set there.
 impl SetName<DescriptorSet<u64>> for GdSet {
     #[inline]
     fn handle(&self) -> SetHandle {
-        handle_of(self.owner ^ seal(self.handle, self.name), self.name)
+        SetHandle {
+            manager: self.owner,
+            place: self.place,
+            generation: self.generation,
+        }
     }
 
     #[inline]
     fn of(handle: SetHandle, set: Option<&DescriptorSet<u64>>) -> Self {
-        let (raw, name) = (set.map_or(0, |it| *it.raw()), name_of(handle));
         GdSet {
-            handle: raw,
-            name,
-            owner: handle.manager ^ seal(raw, name),
+            handle: raw_of(set),
+            place: handle.place,
+            generation: handle.generation,
+            owner: handle.manager,
         }
+    }
+
+    #[inline]
+    fn fits(&self, set: Option<&DescriptorSet<u64>>) -> bool {
+        self.handle == raw_of(set)
     }
 }
 
@@ -67,5 +69,9 @@ impl SetName<DescriptorSet<u64>> for MaybeUninit<GdSet> {
     #[inline]
     fn of(handle: SetHandle, set: Option<&DescriptorSet<u64>>) -> Self {
         MaybeUninit::new(GdSet::of(handle, set))
+    }
+
+    fn fits(&self, _: Option<&DescriptorSet<u64>>) -> bool {
+        unreachable!("a set is created before its memory is read")
     }
 }

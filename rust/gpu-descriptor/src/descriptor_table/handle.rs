@@ -37,6 +37,9 @@ pub trait SetName<T> {
     /// The name of a set under a handle. `set` is never `None`: an `Option` leaves no test for it in a
     /// loop over sets.
     fn of(handle: SetHandle, set: Option<&T>) -> Self;
+
+    /// Whether this can be the name of the set that its handle has. `set` is never `None`.
+    fn fits(&self, set: Option<&T>) -> bool;
 }
 
 impl<T> SetName<T> for SetHandle {
@@ -48,5 +51,10 @@ impl<T> SetName<T> for SetHandle {
     #[inline]
     fn of(handle: SetHandle, _set: Option<&T>) -> Self {
         handle
+    }
+
+    #[inline]
+    fn fits(&self, _set: Option<&T>) -> bool {
+        true
     }
 }

@@ -9,7 +9,7 @@ mod lists;
 mod sets;
 mod waiting;
 
-use crate::descriptor_table::handle::SetHandle;
+use crate::descriptor_table::handle::{SetHandle, SetName};
 use crate::descriptor_table::slot::{ListHead, Use};
 use crate::descriptor_table::slot_list::{Entry, SlotList};
 use crate::kit::alloc::{AllocError, Global};
@@ -90,15 +90,15 @@ impl<T> SetTable<T> {
         self.last_slot(handle)?.set.as_ref()
     }
 
-    /// Whether a handle has a held set.
+    /// Whether a name is that of a held set.
     #[inline]
-    fn holds(&self, handle: SetHandle) -> bool
+    fn holds<N: SetName<T>>(&self, name: &N) -> bool
     {
-        let Some(slot) = self.last_slot(handle) else {
+        let Some(slot) = self.last_slot(name.handle()) else {
             return false;
         };
         match slot.used() {
-            Use::Held => true,
+            Use::Held => name.fits(slot.set.as_ref()),
             Use::InFrame(_) | Use::Waits(_) | Use::Kept | Use::Going | Use::Taken | Use::Vacant =>
                 false,
         }

@@ -50,12 +50,12 @@ impl<T> SetTable<T> {
     pub fn settle_held<N: SetName<T>>(&mut self, names: &[N]) -> bool
     {
         for index in 0..names.len() {
-            let handle = names[index].handle();
-            if !self.holds(handle) {
+            let name = &names[index];
+            if !self.holds(name) {
                 self.put_back(names, index);
                 return false;
             }
-            self.settle(handle.place as usize);
+            self.settle(name.handle().place as usize);
         }
         true
     }

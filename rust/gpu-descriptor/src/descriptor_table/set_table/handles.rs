@@ -18,12 +18,12 @@ impl<T> SetTable<T> {
     pub fn take_each<N: SetName<T>>(&mut self, names: &[N]) -> bool
     {
         for index in 0..names.len() {
-            let handle = names[index].handle();
-            if !self.holds(handle) {
+            let name = &names[index];
+            if !self.holds(name) {
                 self.put_back(names, index);
                 return false;
             }
-            self.assign(handle.place as usize, Use::Taken);
+            self.assign(name.handle().place as usize, Use::Taken);
         }
         true
     }

@@ -93,7 +93,7 @@ impl<T> SetTable<T> {
     /// Takes the held set of a handle out of its slot.
     pub fn remove(&mut self, handle: SetHandle) -> Option<T>
     {
-        if !self.holds(handle) {
+        if !self.holds(&handle) {
             return None;
         }
         self.assign(handle.place as usize, Use::Taken);

@@ -14,6 +14,6 @@ invariant_of-self-clause-sets g c =
 pub returns-clause-names : goal.returns-clause-names
 returns-clause-names g c =
     let old = c.args.self.now in
-    let once = subst (λ n. AreHeldOnce n (slots_in old.store) (g.N.SetName.handles_of c.args.sets.now)) old.sets.number (c.if-not-free_each.ensures.once.0 refl) in
+    let once = subst (λ n. AreHeldOnce n (slots_in old.store) (g.N.SetName.handles_of c.args.sets.now)) old.sets.number (c.if-not-free_each.ensures.once.0 refl).0 in
     let frees = c.if-not-free_each.ensures.frees refl in
     freed_names old.frame old.is_open (generations_in old.store) old.manager old.store.table.keep (g.N.SetName.handles_of c.args.sets.now) (slots_in old.store) (slots_in c.free_each.new.self) once frees.turns

@@ -14,7 +14,7 @@ invariant_of-self-clause-sets g c =
 
 -- each handle has a held set
 held : (g : _) (c : Else-not-wait_each g) → AreHeldOnce c.args.self.now.manager (slots_in c.args.self.now.store) (g.N.SetName.handles_of c.args.sets.now)
-held g c = (let old = c.args.self.now in subst (λ n. AreHeldOnce n (slots_in old.store) (g.N.SetName.handles_of c.args.sets.now)) old.sets.number (c.if-not-wait_each.ensures.once.0 refl))
+held g c = (let old = c.args.self.now in subst (λ n. AreHeldOnce n (slots_in old.store) (g.N.SetName.handles_of c.args.sets.now)) old.sets.number (c.if-not-wait_each.ensures.once.0 refl).0)
 
 pub returns-clause-names : goal.returns-clause-names
 returns-clause-names g c = (let old = c.args.self.now in waited_names old.frame old.is_open old.manager c.args.last_use (g.N.SetName.handles_of c.args.sets.now) (slots_in old.store) (slots_in c.wait_each.new.self) (held g (goal.at.returns-clause-names g c).Else-not-wait_each) (c.if-not-wait_each.ensures.waits refl))

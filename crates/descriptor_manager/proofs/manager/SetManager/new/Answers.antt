@@ -3,7 +3,7 @@ use Rattle.descriptor_table.specs.Tables.{Settings}
 use Rattle.std.proofs.Common.{◌≡◌, ℕ, [], length, sym, ap, subst, ◌∙◌, arith}
 use Rattle.std.proofs.lemmas.Option.{none-some}
 use Rattle.descriptor_table.specs.Slots.{slot_at}
-use Rattle.descriptor_manager.specs.Own.{IsCounted}
+use Rattle.descriptor_manager.specs.Own.{AreCounted}
 use Rattle.descriptor_manager.specs.Stores.{generations_in, lists_for}
 use Rattle.descriptor_manager.specs.LayoutRegistries.{layout_slots}
 use Rattle.descriptor_manager.proofs.Owned.{found_none}
@@ -16,7 +16,7 @@ invariant_of-result-clause-sets g c =
     record {
       rest = store.rest;
       own = λ p n x full at. absurd (none-some x (sym (ap (λ l. (slot_at l p).set) store.slots) ∙ full));
-      counted = λ n. subst (λ l. IsCounted (generations_in c.new.result n) (slot_at l n)) (sym none) (let e = ap (λ (generations : ℕ → ℕ). generations n) (ap (λ (s : Settings). s.generations) store.settings) in (omega arith, omega arith));
+      counted = subst (AreCounted (generations_in c.new.result)) (sym none) (λ n. let e = ap (λ (generations : ℕ → ℕ). generations n) (ap (λ (s : Settings). s.generations) store.settings) in (omega arith, omega arith));
       lists = (ap (λ (s : Settings). s.lists) store.settings) ∙ ap (λ l. lists_for (length l)) (sym none);
       number = (ap (λ (s : Settings). s.number) store.settings);
     }

@@ -63,7 +63,7 @@ module _ {L P S : Type 0} (means : Meaning L P S) (layout : ℕ) (generations : 
           let same = turns.rest p e in
           own p n x (ap (λ (s : Slot (DescriptorSet S)). s.set) (sym same) ∙ full) (ap came_under (sym same) ∙ at ∙ ap (λ g. (n, g)) (removed_other layout generations n ne))
 
--- a slot that a layout left has as many generations as layouts left it, as `IsCounted` says
+-- a slot that a layout left has as many generations as layouts left it, as `AreCounted` says
 one_less : (b c : Bool) (r s g h : ℕ) → b ≡ true → c ≡ false → s ≡ r + 1 → h ≡ g → g ≡ r + (if b then 1 else 0) → h ≡ s + (if c then 1 else 0)
 one_less x0 c r s g h some none more same was = grind (arith, common_steps)
 

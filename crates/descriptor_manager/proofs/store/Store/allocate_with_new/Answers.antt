@@ -9,8 +9,9 @@ use Rattle.descriptor_table.specs.declared.handle.SetHandle.{SetHandle}
 use Rattle.descriptor_table.proofs.Names.{handles_both, handles_long}
 use Rattle.descriptor_manager.specs.Stores.{ComesOf, HoldEach, current_in, kept_of, slots_in}
 use Rattle.descriptor_manager.proofs.Bringing.{Brings, brought}
+use Rattle.descriptor_manager.proofs.Fitting.{fit_both}
 use Rattle.descriptor_manager.proofs.Growing.{grow_more}
-use Rattle.descriptor_manager.proofs.Joining.{held_both, kept_then, stays_then}
+use Rattle.descriptor_manager.proofs.Joining.{held_both, held_stays, kept_then, stays_then}
 use Rattle.descriptor_manager.proofs.Requests.{from_asked, from_refused}
 use Rattle.descriptor_manager.proofs.store.Store.allocate_with_new.Goals.{After-hold_coming}
 use Rattle.descriptor_manager.proofs.store.Store.allocate_with_new.Goals as goal
@@ -62,3 +63,6 @@ returns-clause-requests g c =
       stays = stays_then _ _ _ kept.stays came.stays;
     })
     c.hold_coming.ensures.none
+
+pub returns-clause-fit : goal.returns-clause-fit
+returns-clause-fit g c = fit_both g.N.SetName g.met.N.SetName.each c.bring.new.self.table.number (current_in c.args.layout c.bring.new.self) c.args.used c.requires.live c.hold_kept.new.names c.hold_coming.new.names (slots_in c.bring.new.self) (slots_in c.hold_kept.new.self) (slots_in c.hold_coming.new.self) c.hold_kept.ensures.holds (held_stays c.args.layout c.args.used (g.N.SetName.handles_of c.hold_coming.new.names) (slots_in c.hold_kept.new.self) (slots_in c.hold_coming.new.self) c.bring.new.self c.hold_kept.new.self c.hold_kept.ensures.keeps.stays c.hold_coming.ensures.holds) c.hold_kept.ensures.fit c.hold_coming.ensures.fit

@@ -27,7 +27,7 @@ back : (g : Over) (c : After-give g) → TurnEach (g.N.SetName.handles_of c.args
 back g c =
     let s = c.args.self.now in
     let held = c.if-not-settle_held.ensures in
-    back_each (g.N.SetName.handles_of c.args.names.now) s.table.number (generations_of s.table) s.table.keep (slots_of s.table) (slots_of c.settle_held.new.self) (slots_of c.give.new.self.table) (held.once.0 refl) (held.back refl) c.requires.rest.placed c.give.ensures.frees.turns
+    back_each (g.N.SetName.handles_of c.args.names.now) s.table.number (generations_of s.table) s.table.keep (slots_of s.table) (slots_of c.settle_held.new.self) (slots_of c.give.new.self.table) (held.once.0 refl).0 (held.back refl) c.requires.rest.placed c.give.ensures.frees.turns
 
 pub returns-clause-frees : goal.returns-clause-frees
 returns-clause-frees g c = λ t. record { turns = back g (goal.at.returns-clause-frees g c).After-give; back = c.give.ensures.frees.back }

@@ -1,12 +1,14 @@
 use Rattle.std.proofs.lemmas.Grind.{common_steps}
 use Rattle.std.proofs.Common.{◌≡◌, ℕ, ◌+◌, ◌<◌, ◌∙◌, [], ◌∷◌, true, refl, sym, subst, take, arith}
-use Rattle.std.proofs.lemmas.List.{length-set}
+use Rattle.std.proofs.lemmas.List.{length-set, take_all}
+use Rattle.descriptor_table.specs.Sets.{AllFit}
 use Rattle.descriptor_table.specs.Slots.{is_kept_of, slot_at}
 use Rattle.descriptor_table.specs.Tables.{place_at}
 use Rattle.descriptor_table.proofs.Names.{handles_long, handles_written}
 use Rattle.descriptor_manager.specs.Stores.{HoldEach, NoneComes, current_in, slots_in}
+use Rattle.descriptor_manager.proofs.Fitting.{fit_more}
 use Rattle.descriptor_manager.proofs.Growing.{grow_more}
-use Rattle.descriptor_manager.proofs.Joining.{held_next, held_start, kept_then, stays_then, store_same, were_kept}
+use Rattle.descriptor_manager.proofs.Joining.{held_next, held_start, held_stays, kept_then, stays_then, store_same, were_kept}
 use Rattle.descriptor_manager.proofs.store.Store.hold_kept.Goals as goal
 
 pub loop-index-init : goal.loop-index-init
@@ -28,6 +30,7 @@ loop-index-preserved g c =
       long = length-set c.loop-index.names i c.hold_next.result ∙ was.long;
       holds = subst (λ l. HoldEach s.table.number (current_in c.args.layout s) c.args.used (take (i + 1) l) (slots_in s) (slots_in c.hold_next.new.self)) (sym written)
           (held_next c.args.layout c.args.used c.requires.live i handles handle s c.loop-index.self c.hold_next.new.self was.keeps.stays (omega arith) was.holds now.holds);
+      fit = fit_more g.N.SetName g.met.N.SetName.each s.table.number (current_in c.args.layout s) c.args.used c.requires.live c.loop-index.names i c.hold_next.result (slots_in s) (slots_in c.loop-index.self) (slots_in c.hold_next.new.self) (omega arith) was.holds (held_stays c.args.layout c.args.used (handle ∷ []) (slots_in c.loop-index.self) (slots_in c.hold_next.new.self) s c.loop-index.self was.keeps.stays now.holds) was.fit now.fits;
       were_kept = subst (λ l. (j : ℕ) → j < i + 1 → is_kept_of c.args.layout (slot_at (slots_in s) (place_at l j)) ≡ true) (sym written)
           (were_kept s.table.number (current_in c.args.layout s) c.args.used c.args.layout i handles handle (slots_in s) (slots_in c.loop-index.self) c.requires.live (omega arith) was.holds was.were_kept now.was_kept);
       fewer = (let a = was.fewer in let b = now.fewer in omega arith);
@@ -41,3 +44,6 @@ loop-index-preserved g c =
         stays = stays_then s c.loop-index.self c.hold_next.new.self was.keeps.stays now.keeps.stays;
       };
     }
+
+pub returns-clause-fit : goal.returns-clause-fit
+returns-clause-fit g c = subst (AllFit g.N.SetName.handle_of g.N.SetName.fit (slots_in c.loop-index.self)) (take_all c.loop-index.index c.loop-index.names (let end = c.loop-index-test.false in let long = c.loop-index.invariant.long in omega arith)) c.loop-index.invariant.fit

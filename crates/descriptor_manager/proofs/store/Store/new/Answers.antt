@@ -1,7 +1,12 @@
 use Rattle.std.proofs.lemmas.Grind.{common_steps}
-use Rattle.std.proofs.Common.{◌∙◌, ap, arith, rules}
+use Rattle.std.proofs.Common.{◌≡◌, [], ◌∙◌, map, ap, arith}
 use Rattle.gpu_descriptor.specs.Caller.Others.{others_of}
+use Rattle.gpu_descriptor.specs.Caller.Sets.{items_of}
+use Rattle.gpu_descriptor.specs.Caller.States.{named_row, state_of}
+use Rattle.gpu_descriptor.specs.Model.Agreement.{count_of}
+use Rattle.gpu_descriptor.specs.Model.Books.{books_of}
 use Rattle.gpu_descriptor.proofs.release.Places.{none_out}
+use Rattle.descriptor_table.specs.Sets.{sets_in}
 use Rattle.descriptor_table.specs.Slots.{slot_at}
 use Rattle.descriptor_manager.specs.Stores.{is_placed}
 use Rattle.descriptor_manager.proofs.store.Store.new.Goals as goal
@@ -13,7 +18,14 @@ invariant_of-result-clause-agree g c =
     c.set_max_pool_descriptors.ensures.agree name ledger (c.new-allocator.ensures.agree name ledger)
 
 pub invariant_of-result-clause-exact : goal.invariant_of-result-clause-exact
-invariant_of-result-clause-exact g c = search (rules, none_out)
+invariant_of-result-clause-exact g c = λ t.
+    let d = g.D.DescriptorDevice in
+    let a = c.set_max_pool_descriptors.new.self in
+    let empty : a.table ≡ [] = ap (λ a. a.table) c.set_max_pool_descriptors.ensures.value ∙ ap (λ a. a.table) c.new-allocator.ensures.value in
+    let none = none_out (state_of d.meaning.pool_name a (d.ledger c.args.device)) t (ap (λ rows. books_of (map (named_row d.meaning.pool_name) rows) t.key) empty) in
+    let slots = ap (λ l. count_of t (items_of d.meaning.set_name (sets_in l))) c.new.ensures.slots in
+    let coming = ap (λ l. count_of t (items_of d.meaning.set_name l)) c.new-2.ensures.items in
+    omega arith
 
 pub invariant_of-result-clause-accounted : goal.invariant_of-result-clause-accounted
 invariant_of-result-clause-accounted g c = grind (arith, common_steps)

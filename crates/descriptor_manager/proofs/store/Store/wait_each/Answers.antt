@@ -13,10 +13,10 @@ use Rattle.descriptor_manager.proofs.store.Store.wait_each.Goals.{After-wait_eac
 use Rattle.descriptor_manager.proofs.store.Store.wait_each.Goals as goal
 
 pub wait_each-requires-clause-apart : goal.wait_each-requires-clause-apart
-wait_each-requires-clause-apart g c = apart_once c.args.self.now.table.number (slots_of c.args.self.now.table) (g.N.SetName.handles_of c.args.names.now) (c.if-not-take_each.ensures.once.0 refl)
+wait_each-requires-clause-apart g c = apart_once c.args.self.now.table.number (slots_of c.args.self.now.table) (g.N.SetName.handles_of c.args.names.now) (c.if-not-take_each.ensures.once.0 refl).0
 
 pub wait_each-requires-clause-taken : goal.wait_each-requires-clause-taken
-wait_each-requires-clause-taken g c = has_taken c.args.self.now.table.number (g.N.SetName.handles_of c.args.names.now) (slots_of c.args.self.now.table) (slots_of c.take_each.new.self) (c.if-not-take_each.ensures.once.0 refl) (c.if-not-take_each.ensures.took refl)
+wait_each-requires-clause-taken g c = has_taken c.args.self.now.table.number (g.N.SetName.handles_of c.args.names.now) (slots_of c.args.self.now.table) (slots_of c.take_each.new.self) (c.if-not-take_each.ensures.once.0 refl).0 (c.if-not-take_each.ensures.took refl)
 
 -- the sets are as they were
 same_sets : (g : Over) (c : After-wait_each g) → sets_in (slots_of c.wait_each.new.self) ≡ sets_in (slots_of c.args.self.now.table)

@@ -10,6 +10,7 @@ use Rattle.descriptor_table.proofs.Chains.{listed_out, live_no_list, picked}
 use Rattle.descriptor_table.proofs.Counting.{below_or}
 use Rattle.descriptor_table.proofs.Counts.{chain_count}
 use Rattle.descriptor_table.proofs.Entries.{chain_was, chain_written, generations_stay, in_place, lists_stay}
+use Rattle.descriptor_table.proofs.Listed.{slot_set}
 use Rattle.descriptor_table.proofs.Renewing.{kept_is}
 use Rattle.descriptor_table.proofs.Sound.{listed, pick_sound}
 use Rattle.descriptor_table.proofs.set_table.SetTable.hold_kept.Given.{Over}
@@ -82,6 +83,13 @@ invariant_of-self g c =
     let full = (kept_is (c.args.layout + 2) (slot_at (slots_in s.slots) at) (omega arith) p.1).1 in
     let sound = pick_sound s.slots c.renew-generation.new.self (chains_in s.lists.items) (generations_in s.lists.items) s.waiting.items s.waiting.cap s.keep s.newest s.sound at new c.renew-generation.ensures.writes.slots (c.args.layout + 2) c.index_mut-head.result.now.chain c.at.result.now.next c.enqueue.new.waiting.items c.enqueue.new.newest (is_list g d) (some g d) (there s c.args.layout c.requires.some) c.at.ensures.next refl c.renew-generation.ensures.nexts out (listed s.slots s.slots (chains_in s.lists.items) (generations_in s.lists.items) s.waiting.items s.waiting.cap s.keep s.newest s.sound at new p.0 refl refl refl (λ kept. absurd (true≢false (sym kept ∙ out (new.layout + 2)))) (λ held. full)) (subst (λ l. IsQueue l c.enqueue.new.waiting.items c.enqueue.new.newest) c.renew-generation.ensures.writes.slots c.enqueue.ensures.queue) in
     record { sound = subst (λ room. AreSound c.renew-generation.new.self (chains_in (set s.lists.items (c.args.layout + 2) (new_head g a))) (generations_in (set s.lists.items (c.args.layout + 2) (new_head g a))) c.enqueue.new.waiting.items room s.keep c.enqueue.new.newest) (sym c.enqueue.ensures.capacity) (in_place (λ chains generations. AreSound c.renew-generation.new.self chains generations c.enqueue.new.waiting.items s.waiting.cap s.keep c.enqueue.new.newest) _ _ _ _ (chains g a) (generations g a) sound) }
+
+-- it has a set
+pub of-name-requires : goal.of-name-requires
+of-name-requires g c = search (rules, first, kept_is, slot_set)
+
+pub returns-clause-fits : goal.returns-clause-fits
+returns-clause-fits g c = search (rules, slot_set)
 
 pub returns-clause-kept : goal.returns-clause-kept
 returns-clause-kept g c = search (rules, first)
