@@ -119,7 +119,7 @@ impl<L, P, S, D: DescriptorDevice<L, P, S>> LayoutRegistry<L, P, S, D> {
             return Err(AllocFailed { value: layout });
         }
         // In their own table all layouts have one number.
-        let place = self.table.put(0, layout);
+        let place = self.table.put(0, 0, layout);
         Ok(LayoutHandle {
             slot: self.table.hold(place, Use::Held),
         })

@@ -10,7 +10,7 @@ use Rattle.descriptor_table.specs.Tables.{is_held_use, is_kept, used_for}
 use Rattle.descriptor_table.specs.declared.slot.Use.{Use}
 use Rattle.descriptor_table.specs.declared.slot.Use.TheVariants.{Held, Taken}
 use Rattle.descriptor_table.specs.declared.slot.Chain.{Chain}
-use Rattle.descriptor_table.proofs.Counting.{walk_other}
+use Rattle.descriptor_table.proofs.Counting.{walk_after, walk_other}
 use Rattle.descriptor_table.proofs.Counts.{lists_few}
 use Rattle.descriptor_table.proofs.Listed.{first_passes, lists_other, lists_pop, lists_push, not_listed, one_none, test_within, walk_length}
 
@@ -123,3 +123,10 @@ module _ {T : Type 0} (slots : List (Slot T)) (next : List ℕ) (chains : List C
       -- which has no more places then than there are slots
       pub link_more : c.count + 1 ≤ length slots
       link_more = grind (arith, common_steps, lists_few (is_in k) (set slots p s) (p ∷ places k) refl pushed, length-set, walk_length)
+
+      -- a slot that was in no list came after one of this list
+      pub after_linked : (near : ℕ) → is_in k (slot_at slots near) ≡ true → length next ≡ length slots → k < length chains → AreLinked (set slots p s) (set (set next p (get_or next near 0)) near p) (set chains k (record { first = c.first; count = c.count + 1 }))
+      after_linked near has long there =
+          chain_changed (set slots p s) (set (set next p (get_or next near 0)) near p) k (record { first = c.first; count = c.count + 1 }) there
+          (λ q. grind (arith, h k near, pushed q, test_within (is_in k) slots near refl has, walk_after c.count next c.first near p q, not_listed (is_in k) slots (places k) p (h k), (nowhere_out (slot_at slots p) idle).1 k))
+          (grind (arith, common_steps, other_places p s within idle, lists_other, lists_apart, nowhere_out, walk_other, not_listed))

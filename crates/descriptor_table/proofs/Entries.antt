@@ -40,3 +40,6 @@ module _ {T : Type 0} (entries : List (Entry T)) (p : ℕ) (e : Entry T) (within
 
   pub next_stays : (y : Entry T) → y.next ≡ e.next → map (λ (e : Entry T). e.next) (set entries p y) ≡ map (λ (e : Entry T). e.next) entries
   next_stays y same = map-set_same (λ (e : Entry T). e.next) entries p y e (same ∙ ap (λ (e : Entry T). e.next) is)
+
+  pub slot_stays : (y : Entry T) → slot_of y ≡ slot_of e → map slot_of (set entries p y) ≡ map slot_of entries
+  slot_stays y same = map-set_same slot_of entries p y e (same ∙ ap slot_of is)

@@ -7,10 +7,10 @@ use Rattle.std.proofs.lemmas.List.{get_or_default, get_or-take, length-set, leng
 use Rattle.std.proofs.lemmas.Bool.{true≢false}
 use Rattle.descriptor_table.specs.Sets.{AreHeldOnce, is_held}
 use Rattle.descriptor_table.specs.Slots.{slot_at}
-use Rattle.descriptor_table.specs.Tables.{Becomes, CanBeHeld, HasTaken, TurnEach, holds, is_held_use, place_at, used_for}
+use Rattle.descriptor_table.specs.Tables.{Becomes, CanBeHeld, HasTaken, IsBack, TurnEach, holds, is_held_use, place_at, used_for}
 use Rattle.descriptor_table.specs.declared.handle.SetHandle.{SetHandle}
 use Rattle.descriptor_table.specs.declared.slot.Use.{Use}
-use Rattle.descriptor_table.specs.declared.slot.Use.TheVariants.{Held, Taken}
+use Rattle.descriptor_table.specs.declared.slot.Use.TheVariants.{Going, Held, Taken}
 use Rattle.descriptor_table.specs.Slots.{Slot}
 use Rattle.descriptor_table.proofs.Chains.{and_true}
 use Rattle.descriptor_table.proofs.Counting.{same_or}
@@ -66,17 +66,40 @@ module _ {T : Type 0} where
   all_same (x ∷ l) [] long same = absurd (omega arith)
   all_same (x ∷ l) (y ∷ m) long same = ap (λ z. z ∷ l) (same 0) ∙ ap (λ k. y ∷ k) (all_same l m (omega arith) (λ p. same (suc p)))
 
-  -- the first n handles had held sets, no two of which have one place, and their slots became what the relation says; all others are as they were
-  pub record TurnedSome (number : ℕ) (handles : List SetHandle) (becomes : List (Slot T) → Slot T → Slot T → Type 0) (n : ℕ) (old now : List (Slot T)) : Type 0 where
-    pub few : n ≤ length handles
+  -- the slots of the first n handles became what the relation says; all others are as they were
+  pub record TurnedFirst (handles : List SetHandle) (becomes : List (Slot T) → Slot T → Slot T → Type 0) (n : ℕ) (old now : List (Slot T)) : Type 0 where
     pub long : length now ≡ length old
-    pub held : (i : ℕ) (d : SetHandle) → i < n → is_held number old (get_or handles i d) ≡ true
-    pub apart : (i j : ℕ) → i < j → j < n → place_at handles i ≢ place_at handles j
     pub named : (i : ℕ) → i < n → becomes now (slot_at old (place_at handles i)) (slot_at now (place_at handles i))
     pub rest : (p : ℕ) → ((i : ℕ) → i < n → place_at handles i ≢ p) → slot_at now p ≡ slot_at old p
 
+  module _ (handles : List SetHandle) (becomes : List (Slot T) → Slot T → Slot T → Type 0) where
+    pub first_none : (slots : List (Slot T)) → TurnedFirst handles becomes 0 slots slots
+    first_none slots = record { long = refl; named = λ i lt. absurd (omega arith); rest = λ p none. refl }
+
+    -- one slot more turned
+    pub first_more : (n p : ℕ) (s : Slot T) (old now new : List (Slot T)) → TurnedFirst handles becomes n old now → ((i : ℕ) → i < n → place_at handles i ≢ p) → place_at handles n ≡ p → p < length now → new ≡ set now p s → ((o x : Slot T) → becomes now o x → becomes new o x) → becomes new (slot_at now p) s → TurnedFirst handles becomes (n + 1) old new
+    first_more n p s old now new first apart at within made grows turned =
+        let was : slot_at now p ≡ slot_at old p = first.rest p apart in
+        let far : (q : ℕ) → q ≢ p → slot_at new q ≡ slot_at now q = λ q ne. ap (λ l. slot_at l q) made ∙ other_slots now p s q ne in
+        let here : slot_at new p ≡ s = ap (λ l. slot_at l p) made ∙ slot_set now p s within in
+        record {
+          long = ap length made ∙ length-set now p s ∙ first.long;
+          named = λ i less. grind (arith, common_steps, same_or);
+          rest = λ q none. far q (λ e. none n (omega arith) (at ∙ sym e)) ∙ first.rest q (λ i less. none i (omega arith));
+        }
+
+    pub first_all : (n : ℕ) (old now : List (Slot T)) → n ≡ length handles → TurnedFirst handles becomes n old now → TurnEach handles becomes old now
+    first_all n old now all first = record { long = first.long; named = λ i lt. first.named i (omega arith); rest = λ p none. first.rest p (λ i lt. none i (omega arith)) }
+
+  -- the first n handles had held sets, no two of which have one place, and their slots turned
+  pub record TurnedSome (number : ℕ) (handles : List SetHandle) (becomes : List (Slot T) → Slot T → Slot T → Type 0) (n : ℕ) (old now : List (Slot T)) : Type 0 where
+    pub few : n ≤ length handles
+    pub held : (i : ℕ) (d : SetHandle) → i < n → is_held number old (get_or handles i d) ≡ true
+    pub apart : (i j : ℕ) → i < j → j < n → place_at handles i ≢ place_at handles j
+    pub first : TurnedFirst handles becomes n old now
+
   pub turned_none : (number : ℕ) (handles : List SetHandle) (becomes : List (Slot T) → Slot T → Slot T → Type 0) (slots : List (Slot T)) → TurnedSome number handles becomes 0 slots slots
-  turned_none number handles becomes slots = record { few = omega arith; long = refl; held = λ i d lt. absurd (omega arith); apart = λ i j less lt. absurd (omega arith); named = λ i lt. absurd (omega arith); rest = λ p none. refl }
+  turned_none number handles becomes slots = record { few = omega arith; held = λ i d lt. absurd (omega arith); apart = λ i j less lt. absurd (omega arith); first = first_none handles becomes slots }
 
   module _ (number : ℕ) (handles : List SetHandle) (becomes : List (Slot T) → Slot T → Slot T → Type 0) (n : ℕ) (old now : List (Slot T)) (some : TurnedSome number handles becomes n old now) (not_held : (l : List (Slot T)) (o x : Slot T) → becomes l o x → x.used ≢ Held) (h : SetHandle) (lt : n < length handles) (is : (d : SetHandle) → h ≡ get_or handles n d) (has : is_held number now h ≡ true) where
     at : place_at handles n ≡ h.place
@@ -84,29 +107,25 @@ module _ {T : Type 0} where
 
     -- the place of a handle that has a held set is none of those before
     other_place : (i : ℕ) → i < n → place_at handles i ≢ h.place
-    other_place i less e = not_held now (slot_at old (place_at handles i)) (slot_at now (place_at handles i)) (some.named i less) (ap (λ p. (slot_at now p).used) e ∙ (held_is number now h has).used)
+    other_place i less e = not_held now (slot_at old (place_at handles i)) (slot_at now (place_at handles i)) (some.first.named i less) (ap (λ p. (slot_at now p).used) e ∙ (held_is number now h has).used)
 
     -- so its slot is as it was
     pub slot_was : slot_at now h.place ≡ slot_at old h.place
-    slot_was = some.rest h.place other_place
+    slot_was = some.first.rest h.place other_place
 
     -- one set more turned
     pub turn_more : (s : Slot T) (new : List (Slot T)) → new ≡ set now h.place s → ((o x : Slot T) → becomes now o x → becomes new o x) → becomes new (slot_at now h.place) s → TurnedSome number handles becomes (n + 1) old new
     turn_more s new made grows turned =
         let held = held_is number now h has in
         let was : is_held number old h ≡ true = ap (λ (s : Slot T). ((h.manager == number) && (h.generation == s.generation)) && (is_held_use s.used && is_some s.set)) (sym slot_was) ∙ has in
-        let far : (q : ℕ) → q ≢ h.place → slot_at new q ≡ slot_at now q = λ q ne. ap (λ l. slot_at l q) made ∙ other_slots now h.place s q ne in
-        let here : slot_at new h.place ≡ s = ap (λ l. slot_at l h.place) made ∙ slot_set now h.place s held.within in
         record {
           few = omega arith;
-          long = ap length made ∙ length-set now h.place s ∙ some.long;
           held = λ i d less. elim (same_or i n) [
             | inl e ↦ subst (λ i. is_held number old (get_or handles i d) ≡ true) (sym e) (ap (is_held number old) (sym (is d)) ∙ was)
             | inr ne ↦ some.held i d (omega arith)
           ];
           apart = λ i j less within. search (rules, at, other_place, same_or);
-          named = λ i less. grind (arith, common_steps, at, other_place, same_or, slot_was);
-          rest = λ p none. far p (λ e. none n (omega arith) (at ∙ sym e)) ∙ some.rest p (λ i less. none i (omega arith));
+          first = first_more handles becomes n h.place s old now new some.first other_place at held.within made grows turned;
         }
 
   -- handles with held sets, none of which is in the list twice, have different places
@@ -123,7 +142,7 @@ module _ {T : Type 0} where
     turned_all = search (rules, same_default)
 
     pub turned_each : TurnEach handles becomes old now
-    turned_each = record { long = some.long; named = λ i lt. some.named i (omega arith); rest = λ p none. some.rest p (λ i lt. (let few = some.few in none i (omega arith))) }
+    turned_each = (let few = some.few in first_all handles becomes n old now (omega arith) some.first)
 
   -- a name that doesn't fit now, or has no held set, did before, or its handle is in the list twice
   pub turned_no : (number : ℕ) (handles : List SetHandle) (becomes : List (Slot T) → Slot T → Slot T → Type 0) (n : ℕ) (old now : List (Slot T)) (fit : Option T → Bool) → TurnedSome number handles becomes n old now → (h : SetHandle) → n < length handles → ((d : SetHandle) → h ≡ get_or handles n d) → (fit (slot_at now h.place).set && is_held number now h) ≡ false → AreHeldOnce number old handles → fit (slot_at old h.place).set ≡ true → ⊥
@@ -131,7 +150,7 @@ module _ {T : Type 0} where
     | inl found ↦ apart_once number old handles once found.0 n found.1 lt (found.2 ∙ ap (λ (x : SetHandle). x.place) (is (record { manager = 0; place = 0; generation = 0 })))
     | inr none ↦ (
         let z : SetHandle = record { manager = 0; place = 0; generation = 0 } in
-        let same = some.rest h.place none in
+        let same = some.first.rest h.place none in
         let was : is_held number old h ≡ true = ap (is_held number old) (is z) ∙ once.held n z lt in
         true≢false (sym ((λ i. fits i && was i)) ∙ ap (λ (s : Slot T). fit s.set && (((h.manager == number) && (h.generation == s.generation)) && (is_held_use s.used && is_some s.set))) (sym same) ∙ not)
         )
@@ -141,18 +160,26 @@ module _ {T : Type 0} where
   pub taken_not_held : (l : List (Slot T)) (o x : Slot T) → Becomes (used_for Taken) l o x → x.used ≢ Held
   taken_not_held l o x is held = true≢false (ap is_held_use (sym held ∙ ap (λ (s : Slot T). s.used) is))
 
+  -- sets that a call took, and then settled
+  pub taken_settled : (handles : List SetHandle) (generations : ℕ → ℕ) (max : ℕ) (old mid new : List (Slot T)) → TurnEach handles (Becomes (used_for Taken)) old mid → TurnEach handles (IsBack (used_for Going) generations max) mid new → TurnEach handles (IsBack (used_for Going) generations max) old new
+  taken_settled handles generations max old mid new took back = record {
+    long = back.long ∙ took.long;
+    named = λ i lt. subst (λ o. IsBack (used_for Going) generations max new o (slot_at new (place_at handles i))) (took.named i lt) (back.named i lt);
+    rest = λ p none. back.rest p none ∙ took.rest p none;
+  }
+
   -- the sets of the first handles turned, so that only their use changed: they can be held again, and then the slots are as they were
   module _ (number : ℕ) (handles : List SetHandle) (becomes : List (Slot T) → Slot T → Slot T → Type 0) (n : ℕ) (old now : List (Slot T)) (only : (o x : Slot T) → holds o ≡ true → becomes now o x → (x ≡ used_for x.used o) × CanBeHeld x) (some : TurnedSome number handles becomes n old now) where
     turned_to : (i : ℕ) → i < n → (holds (slot_at old (place_at handles i)) ≡ true) × ((slot_at now (place_at handles i) ≡ used_for (slot_at now (place_at handles i)).used (slot_at old (place_at handles i))) × CanBeHeld (slot_at now (place_at handles i)))
-    turned_to i lt = (let z : SetHandle = record { manager = 0; place = 0; generation = 0 } in let held = held_is number old (get_or handles i z) (some.held i z lt) in (held.holds, only _ _ held.holds (some.named i lt)))
+    turned_to i lt = (let z : SetHandle = record { manager = 0; place = 0; generation = 0 } in let held = held_is number old (get_or handles i z) (some.held i z lt) in (held.holds, only _ _ held.holds (some.first.named i lt)))
 
     pub can_turn : (i : ℕ) → i < n → CanBeHeld (slot_at now (place_at handles i))
     can_turn i lt = (turned_to i lt).1.1
 
     pub turned_back : (back : List (Slot T)) → TurnEach (take n handles) (Becomes (used_for Held)) now back → back ≡ old
-    turned_back back again = (let long = length-take-le n handles some.few in all_same back old (again.long ∙ some.long) (λ p. elim (named_or n (place_at handles) p) [
+    turned_back back again = (let long = length-take-le n handles some.few in all_same back old (again.long ∙ some.first.long) (λ p. elim (named_or n (place_at handles) p) [
       | inl found ↦ (let i = found.0 in let to = turned_to i found.1 in subst (λ p. slot_at back p ≡ slot_at old p) found.2 (subst (λ p. slot_at back p ≡ used_for Held (slot_at now p)) (first_place handles n i found.1) (again.named i (let lt = found.1 in omega arith)) ∙ ap (used_for Held) to.1.0 ∙ used_same _ Held (holds_used (slot_at old (place_at handles i)) to.0)))
-      | inr none ↦ again.rest p (λ i lt e. none i (omega arith) (sym (first_place handles n i (omega arith)) ∙ e)) ∙ some.rest p none
+      | inr none ↦ again.rest p (λ i lt e. none i (omega arith) (sym (first_place handles n i (omega arith)) ∙ e)) ∙ some.first.rest p none
     ]))
 
   -- of the first n sets those from the i-th on are held again

@@ -1,16 +1,18 @@
 -- Names whose held sets turn, one after another, unless one of them doesn't fit its set, or its handle has no held set, or is there
--- twice: for `SetTable::take_each` and `settle_held`.
+-- twice: for `SetTable::take_each` and `keep_first`. Then names of sets that a call has taken: for `settle_each` and `wait_each`.
+use Rattle.std.proofs.lemmas.Grind.{common_steps}
 use Rattle.std.proofs.Common.{◌≡◌, ◌≢◌, ℕ, ◌+◌, ◌<◌, ◌≤◌, ◌&&◌, true, false, Bool, List, length, map, get_or, set, inl, inr, refl, sym, ap, subst, ◌∙◌, arith}
 use Rattle.std.proofs.lemmas.List.{get_or_default}
 use Rattle.descriptor_table.specs.Sets.{AllFit, AreHeldOnce, is_held}
 use Rattle.descriptor_table.specs.Slots.{Slot, slot_at}
+use Rattle.descriptor_table.specs.Tables.{HasTaken, TurnEach, place_at}
 use Rattle.descriptor_table.specs.declared.handle.SetHandle.{SetHandle}
 use Rattle.descriptor_table.specs.declared.handle.SetName.{Ghosts}
 use Rattle.descriptor_table.specs.declared.slot.Use.TheVariants.{Held}
 use Rattle.descriptor_table.proofs.Chains.{and_true}
 use Rattle.descriptor_table.proofs.Counting.{same_or}
-use Rattle.descriptor_table.proofs.Holding.{TurnedSome, slot_was, turn_more, turned_all, turned_no, turned_none}
-use Rattle.descriptor_table.proofs.Names.{handle_read, handles_long}
+use Rattle.descriptor_table.proofs.Holding.{TurnedFirst, TurnedSome, first_all, first_more, slot_was, turn_more, turned_all, turned_no, turned_none}
+use Rattle.descriptor_table.proofs.Names.{handle_read, handles_long, place_read}
 
 module _ {N T : Type 0} (n : Ghosts N T) (each : (names : List N) → n.handles_of names ≡ map n.handle_of names) where
   -- whether a name fits, and its handle has a held set
@@ -58,3 +60,22 @@ module _ {N T : Type 0} (n : Ghosts N T) (each : (names : List N) → n.handles_
 
     pub names_all : length names ≤ k → AreHeldOnce number old (n.handles_of names) × AllFit n.handle_of n.fit old names
     names_all end = (turned_all _ _ _ _ _ _ (names_end end) turned.some, λ i d lt. turned.fit i d (omega arith))
+
+  -- names of sets that a call has taken: the slots of the first k turned
+  module _ (names : List N) (becomes : List (Slot T) → Slot T → Slot T → Type 0) (k : ℕ) (old now : List (Slot T)) (first : TurnedFirst (n.handles_of names) becomes k old now) where
+    module _ (x : N) (h : SetHandle) (lt : k < length names) (is : x ≡ get_or names k x) (hs : h ≡ n.handle_of x) (apart : (i j : ℕ) → i < j → j < length (n.handles_of names) → place_at (n.handles_of names) i ≢ place_at (n.handles_of names) j) where
+      at : place_at (n.handles_of names) k ≡ h.place
+      at = place_read n each names k x h lt is hs
+
+      others : (i : ℕ) → i < k → place_at (n.handles_of names) i ≢ h.place
+      others i less e = (let long = handles_long n each names in apart i k less (omega arith) (e ∙ sym at))
+
+      -- the call has the next one still
+      pub next_taken : ((i : ℕ) → i < length (n.handles_of names) → HasTaken (place_at (n.handles_of names) i) old) → HasTaken h.place now
+      next_taken taken = grind (arith, common_steps, at, handles_long n each names, taken k, first.rest h.place others)
+
+      pub next_turned : (s : Slot T) (new : List (Slot T)) → h.place < length now → new ≡ set now h.place s → ((o t : Slot T) → becomes now o t → becomes new o t) → becomes new (slot_at now h.place) s → TurnedFirst (n.handles_of names) becomes (k + 1) old new
+      next_turned s new within = first_more (n.handles_of names) becomes k h.place s old now new first others at within
+
+    pub each_turned : length names ≤ k → k ≤ length names → TurnEach (n.handles_of names) becomes old now
+    each_turned end le = (let long = handles_long n each names in first_all (n.handles_of names) becomes k old now (omega arith) first)

@@ -3,12 +3,12 @@
 use Rattle.std.proofs.lemmas.Grind.{common_steps}
 use Rattle.std.proofs.Common.{◌≡◌, ◌≢◌, ℕ, ◌+◌, ◌-◌, ◌<◌, ◌≤◌, true, false, List, [], ◌∷◌, ◌++◌, is_some, length, get_or, set, sym, ap, subst, ◌∙◌, arith, rules}
 use Rattle.std.proofs.lemmas.List.{get_or-set_other, get_or-set_same, length-map, length-set, length_push}
-use Rattle.descriptor_table.specs.Slots.{AreSound, HasLists, IsListed, IsNowhere, IsQueue, Slot, chain_at, generation_at, is_in, nexts_in, slot_at, slots_in, waits}
+use Rattle.descriptor_table.specs.Slots.{AreLinked, AreSound, HasLists, IsListed, IsNowhere, IsQueue, Slot, chain_at, generation_at, is_in, nexts_in, slot_at, slots_in, waits}
 use Rattle.descriptor_table.specs.Tables.{is_kept, removed_at}
 use Rattle.descriptor_table.specs.declared.slot.Chain.{Chain}
 use Rattle.descriptor_table.specs.declared.slot.Use.TheVariants.{Held, Taken}
 use Rattle.descriptor_table.specs.declared.slot_list.SlotList.{SlotList}
-use Rattle.descriptor_table.proofs.Chains.{few_set, filled_linked, link_linked, listed_out, lists_set, nowhere_out, out_linked, pick_linked, picked, taken_no_list, taken_out, waits_no_list}
+use Rattle.descriptor_table.proofs.Chains.{few_set, filled_linked, listed_out, lists_set, nowhere_out, out_linked, pick_linked, picked, taken_no_list, taken_out, waits_no_list}
 use Rattle.descriptor_table.proofs.Counting.{same_or}
 use Rattle.descriptor_table.proofs.Growing.{known_grown, linked_grown, queue_grown}
 use Rattle.descriptor_table.proofs.Waiting.{first_waits, out_queue, pop_queue}
@@ -42,9 +42,9 @@ module _ {T : Type 0} (l l' : SlotList T) (chains : List Chain) (generations wai
     pub pick_sound : (k : ℕ) (c : Chain) (after : ℕ) (waiting' : List ℕ) (newest' : ℕ) → chain_at chains k ≡ c → c.count ≢ 0 → k < length chains → after ≡ get_or (nexts_in l) p 0 → p ≡ c.first → nexts_in l' ≡ nexts_in l → ((j : ℕ) → is_in j s ≡ false) → IsListed (length chains) (generation_at generations) s → IsQueue (set (slots_in l) p s) waiting' newest' → AreSound l' (set chains k (record { first = after; count = c.count - 1 })) generations waiting' room keep newest'
     pick_sound k c after waiting' newest' is some there told at nexts out here queue = grind (arith, common_steps, few_set, known, length-set, long, pick_linked (slots_in l) (nexts_in l) chains h.linked k c is s after some there, picked (slots_in l) (nexts_in l) chains h.linked k c is some)
 
-    -- a slot that a call had came first in a list
-    pub link_sound : (k : ℕ) (c : Chain) → chain_at chains k ≡ c → k < length chains → p < length (slots_in l) → IsNowhere (slot_at (slots_in l) p).used → is_in k s ≡ true → nexts_in l' ≡ set (nexts_in l) p c.first → IsListed (length chains) (generation_at generations) s → (2 ≤ k → c.count < keep) → AreSound l' (set chains k (record { first = p; count = c.count + 1 })) generations waiting room keep newest
-    link_sound k c is there within idle goes nexts here few = grind (arith, common_steps, few_set, known, length-set, long, link_linked (slots_in l) (nexts_in l) chains h.linked k c is p s within idle goes (same_long l) there, out_queue (slots_in l) waiting newest h.queue p s within (nowhere_out (slot_at (slots_in l) p) idle).0 (listed_out k s goes))
+    -- a slot that a call had came to a list, first or after another one
+    pub link_sound : (k first : ℕ) (c : Chain) (next : List ℕ) → chain_at chains k ≡ c → nexts_in l' ≡ next → AreLinked (set (slots_in l) p s) next (set chains k (record { first = first; count = c.count + 1 })) → k < length chains → p < length (slots_in l) → IsNowhere (slot_at (slots_in l) p).used → is_in k s ≡ true → IsListed (length chains) (generation_at generations) s → (2 ≤ k → c.count < keep) → AreSound l' (set chains k (record { first = first; count = c.count + 1 })) generations waiting room keep newest
+    link_sound k first c next is nexts linked there within idle goes here few = grind (arith, common_steps, few_set, known, length-set, long, out_queue (slots_in l) waiting newest h.queue p s within (nowhere_out (slot_at (slots_in l) p) idle).0 (listed_out k s goes))
 
     -- the first set that waits leaves the queue
     pub leave_sound : (rest : List ℕ) → waiting ≡ p ∷ rest → nexts_in l' ≡ nexts_in l → ((k : ℕ) → is_in k s ≡ false) → waits s ≡ false → IsListed (length chains) (generation_at generations) s → AreSound l' chains generations rest room keep newest

@@ -28,6 +28,9 @@ pub(crate) const VACANT: usize = 0;
 /// The list of the sets that return to their pools.
 pub(crate) const GOING: usize = 1;
 
+/// How many groups of sets that go there are.
+pub(crate) const GROUPS: usize = 8;
+
 /// The list of the kept sets of the first layout.
 pub(crate) const KEPT: usize = 2;
 
@@ -49,6 +52,9 @@ pub struct SetTable<T> {
 
     /// No set waits for a later frame than this.
     pub(crate) newest: u64,
+
+    /// For each group the place of the last set that went, after which the next one comes if it still goes.
+    pub(crate) near: [u32; GROUPS],
     ghost sound: { AreSound slots (chains_in lists.items) (generations_in lists.items) waiting.items
         (deque_capacity waiting) keep newest },
 }
@@ -75,6 +81,7 @@ impl<T> SetTable<T> {
             waiting: VecDeque::new(alloc),
             keep: u32::MAX,
             newest: 0,
+            near: [u32::MAX; GROUPS],
         }
     }
 

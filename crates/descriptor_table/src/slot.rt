@@ -1,5 +1,5 @@
 //! Slots, and the lists that they are in.
-ghost use Rattle.std.specs.Prelude.{◌≡◌, ℕ, true};
+ghost use Rattle.std.specs.Prelude.{◌≡◌, ℕ, IsTrue, true};
 ghost use Rattle.descriptor_table.specs.Slots.{frame_of, is_live, use_of, waits_for};
 
 /// What a set is in use for.
@@ -76,6 +76,18 @@ impl Use {
         match self {
             Use::InFrame(_) | Use::Waits(_) => true,
             Use::Held | Use::Kept | Use::Going | Use::Taken | Use::Vacant => false,
+        }
+    }
+
+    /// Whether a set in this use returns to its pool.
+    #[inline]
+    pub(crate) fn goes(self) -> bool
+        ensures { IsTrue result → self ≡ Use.Going }
+    {
+        match self {
+            Use::Going => true,
+            Use::Held | Use::InFrame(_) | Use::Waits(_) | Use::Kept | Use::Taken | Use::Vacant =>
+                false,
         }
     }
 

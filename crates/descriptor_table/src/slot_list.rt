@@ -24,6 +24,9 @@ pub struct Entry<T> {
     pub(crate) frame: u64,
     pub(crate) state: State,
 
+    /// The group of the set: when it goes, it comes after another one of the group.
+    pub(crate) group: u8,
+
     /// The set is kept once it is freed only if its generation is below this: `u32::MAX`, since a kept set
     /// needs a next one, or 0 if it was there at the last cleanup.
     pub(crate) kept_below: u32,
@@ -36,7 +39,7 @@ impl<T> Entry<T> {
 
     /// A new slot with a set that a call has taken.
     #[inline]
-    pub(crate) fn new(layout: u32, layout_generation: u32, set: T) -> Self
+    pub(crate) fn new(layout: u32, layout_generation: u32, group: u8, set: T) -> Self
         ensures slot { slot_of result ≡ filled layout layout_generation set no_slot }
         ensures next { result.next ≡ 0 }
     {
@@ -47,6 +50,7 @@ impl<T> Entry<T> {
             next: 0,
             frame: 0,
             state: State::Taken,
+            group,
             kept_below: u32::MAX,
             set: Some(set),
         }
@@ -181,6 +185,20 @@ impl<T> SlotList<T> {
         entry.set_use(used);
     }
 
+    /// Changes the use of a slot's set, and makes the slot the one that follows the slot `near` in its list.
+    #[inline]
+    pub(crate) fn link_after(&mut self, near: usize, place: u32, used: Use)
+        requires near { near < length (slots_in self.old) }
+        requires within { place < length (slots_in self.old) }
+        ensures writes { Writes place (used_for used) self.old self.new }
+        ensures nexts { nexts_in self.new ≡ slice_set (slice_set (nexts_in self.old) place
+            (slice_index_or (nexts_in self.old) near 0)) near place }
+    {
+        let next = self.entries[near].next;
+        self.link(place as usize, next, used);
+        self.entries[near].next = place;
+    }
+
     /// Changes the use of a slot's set, raises the slot's generation, and returns it.
     #[inline]
     pub(crate) fn renew(&mut self, place: usize, used: Use) -> u32
@@ -219,7 +237,14 @@ impl<T> SlotList<T> {
 
     /// Puts a set into a slot that has none.
     #[inline]
-    pub(crate) fn fill(&mut self, place: usize, layout: u32, layout_generation: u32, set: T)
+    pub(crate) fn fill(
+        &mut self,
+        place: usize,
+        layout: u32,
+        layout_generation: u32,
+        group: u8,
+        set: T,
+    )
         requires within { place < length (slots_in self.old) }
         requires empty { (slot_at (slots_in self.old) place).set ≡ None }
         ensures writes { Writes place (filled layout layout_generation set) self.old self.new }
@@ -230,6 +255,7 @@ impl<T> SlotList<T> {
         entry.layout_generation = layout_generation;
         entry.next = 0;
         entry.state = State::Taken;
+        entry.group = group;
         entry.kept_below = u32::MAX;
         match entry.set.replace(set) {
             None => {}
@@ -239,7 +265,7 @@ impl<T> SlotList<T> {
 
     /// Puts a set into a new slot, in reserved memory.
     #[inline]
-    pub(crate) fn push(&mut self, layout: u32, layout_generation: u32, set: T)
+    pub(crate) fn push(&mut self, layout: u32, layout_generation: u32, group: u8, set: T)
         requires { length (slots_in self.old) < space_in self.old }
         ensures slots { slots_in self.new ≡ slots_in self.old
             ++ filled layout layout_generation set no_slot ∷ [] }
@@ -247,6 +273,6 @@ impl<T> SlotList<T> {
         ensures space { space_in self.new ≡ space_in self.old }
     {
         self.entries
-            .push_reserved(Entry::new(layout, layout_generation, set));
+            .push_reserved(Entry::new(layout, layout_generation, group, set));
     }
 }

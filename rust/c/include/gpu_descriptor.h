@@ -380,8 +380,9 @@ gd_status gd_allocate(gd_allocator allocator, gd_layout layout, uint32_t count, 
 
 /*
  * Frees sets, all or none, of any layouts and in any order. The device must no longer use them. Each is kept,
- * or the driver frees it, with one call of free_sets per run of consecutive sets from one pool. Pools that
- * become empty may be destroyed. It allocates no memory.
+ * or the driver frees it, with one call of free_sets per run of sets from one pool. They may reach the driver in
+ * another order, in which sets that share pools mostly come next to each other. Pools that become empty may be
+ * destroyed. It allocates no memory.
  *
  * GD_BAD_SET, GD_NULL_POINTER, GD_BAD_ALLOCATOR, GD_BUSY, GD_INTERNAL_ERROR.
  */

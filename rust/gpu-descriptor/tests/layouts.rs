@@ -188,3 +188,28 @@ fn a_removed_layout_beside_one_of_its_key() {
     assert!(gpu.is_empty());
     shutdown(&gpu, it);
 }
+
+/// Sets of two keys, allocated in turn, whose layouts were removed: one call frees those of a pool.
+#[test]
+fn sets_that_go_in_turn_are_freed_by_pool() {
+    for waits in [false, true] {
+        let gpu = Gpu::new();
+        let mut it = SetManager::new(&gpu, 10_000);
+        let layouts = [add(&mut it, 0), add(&mut it, 2)];
+        let in_turn = (0..8).map(|at| it.allocate(layouts[at % 2]).unwrap());
+        let sets: Vec<_> = in_turn.collect();
+        for layout in layouts {
+            remove(&mut it, layout).unwrap();
+        }
+        assert_eq!((gpu.pools(), gpu.releases.get()), (2, 0));
+        if waits {
+            it.free_after(&sets, 0).unwrap();
+            // SAFETY: no frame is in flight.
+            unsafe { it.frame_done(0) };
+        } else {
+            free(&mut it, &sets);
+        }
+        assert_eq!((gpu.live_sets(), gpu.releases.get()), (0, 2));
+        shutdown(&gpu, it);
+    }
+}

@@ -124,11 +124,12 @@ impl<L: Drop, P: Drop, S: Drop, D: DescriptorDevice<L, P, S>> SetManager<L, P, S
     }
 
     /// Frees sets at once, all or none: each is kept, or returns to its pool, with one device call per
-    /// run of consecutive sets from one pool. Their handles are invalid from now on. It allocates no
-    /// memory. The device must be done with the work that uses the sets.
+    /// run of sets from one pool. Their order is the set manager's: sets that share pools mostly come next
+    /// to each other. Their handles are invalid from now on. It allocates no memory. The device must be
+    /// done with the work that uses the sets.
     ///
-    /// It fails with `NoSet` if a handle isn't that of a held set, or is in the list twice. Then nothing
-    /// changes.
+    /// It fails with `NoSet` if a name isn't that of a held set (a handle that isn't its, or a name that
+    /// doesn't fit it), or is in the list twice. Then nothing changes.
     pub fn free<N: SetName<DescriptorSet<S>>>(&mut self, sets: &[N]) -> Result<(), FreeError>
         ensures frees { OnOk result (FreesSets (TurnEach (N.handles_of sets.now)
             (IsFreed (store_of self.old))) (store_of self.old) (store_of self.new)) }
@@ -153,8 +154,8 @@ impl<L: Drop, P: Drop, S: Drop, D: DescriptorDevice<L, P, S>> SetManager<L, P, S
     /// freed by the next `frame_done` with that frame or a later one. Their handles are invalid from now
     /// on. It allocates no memory.
     ///
-    /// It fails with `FrameAhead` if `last_use` is later than `frame()`, and else with `NoSet` if a
-    /// handle isn't that of a held set, or is in the list twice. Then nothing changes.
+    /// It fails with `FrameAhead` if `last_use` is later than `frame()`, and else with `NoSet` as `free`
+    /// does. Then nothing changes.
     pub fn free_after<N: SetName<DescriptorSet<S>>>(
         &mut self,
         sets: &[N],

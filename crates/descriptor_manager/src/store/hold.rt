@@ -78,7 +78,8 @@ impl<L: Drop, P: Drop, S: Drop, D: DescriptorDevice<L, P, S>> Store<L, P, S, D> 
     {
         match self.coming.pop() {
             Some(set) => {
-                let place = self.table.put(layout, set);
+                let group = (set.key_id() % 256) as u8;
+                let place = self.table.put(layout, group, set);
                 self.table.hold(place, used)
             }
             None => unreachable!(),

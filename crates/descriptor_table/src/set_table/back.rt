@@ -1,15 +1,15 @@
 //! Sets that are freed: each is kept, or goes. A set that goes joins the list of those that return to
 //! their pools.
-ghost use Rattle.std.specs.Prelude.{◌≡◌, ◌≢◌, ◌↔◌, ◌+◌, ◌<◌, ◌≤◌, ℕ, true, false, IsFalse, IsTrue, is_some, length, slice_set, if◌then◌else◌};
+ghost use Rattle.std.specs.Prelude.{◌≡◌, ◌≢◌, ◌↔◌, ◌+◌, ◌<◌, ◌≤◌, ◌&&◌, ℕ, true, false, IsFalse, IsTrue, is_some, length, slice_set, take, List, if◌then◌else◌};
 
-use super::{GOING, KEPT, SetTable};
+use super::{KEPT, SetTable};
 use crate::handle::SetName;
 use crate::slot::{ListHead, Use};
 
 impl<T> SetTable<T> {
-    ghost use Rattle.descriptor_table.specs.Sets.{AllFit, AreHeldOnce};
-    ghost use Rattle.descriptor_table.specs.Slots.{IsNowhere, is_due, is_in, is_kept_of, slot_at, waits};
-    ghost use Rattle.descriptor_table.specs.Tables.{At, Becomes, Changes, HasTaken};
+    ghost use Rattle.descriptor_table.specs.Sets.{AllFit, AreHeldOnce, is_held};
+    ghost use Rattle.descriptor_table.specs.Slots.{IsNowhere, Slot, is_due, is_in, is_kept_of, slot_at, waits};
+    ghost use Rattle.descriptor_table.specs.Tables.{At, Becomes, CanBeHeld, Changes, HasTaken};
     ghost use Rattle.descriptor_table.specs.Tables.{IsBack, KeepsUpTo, MayBecome};
     ghost use Rattle.descriptor_table.specs.Tables.{Stays, TurnEach, Turns, count};
     ghost use Rattle.descriptor_table.specs.Tables.{generations_of, holds, is_kept};
@@ -41,21 +41,35 @@ impl<T> SetTable<T> {
             && list.chain.count < self.keep
     }
 
-    /// Keeps a set that is in no list, or lets it go.
+    /// Keeps a set that is in no list, if it may be kept.
     #[inline(always)]
-    fn settle(&mut self, place: usize)
+    fn keep_at(&mut self, place: usize) -> bool
         requires within { place < length (slots_of self.old) }
         requires idle { IsNowhere (slot_at (slots_of self.old) place).used }
         requires full { is_some (slot_at (slots_of self.old) place).set ≡ true }
+        ensures may { result ≡ may_stay (generations_of self.old) self.old.keep (slots_of self.old)
+            (slot_at (slots_of self.old) place) }
+        ensures keeps { Changes (λ old new. new ≡ (if result then slice_set old place
+            (used_for Use.Kept (slot_at old place)) else old)) self.old self.new }
+    {
+        if !self.may_stay(place) {
+            return false;
+        }
+        let list = self.slots.at(place).layout as usize + KEPT;
+        self.link(list, place, Use::Kept);
+        true
+    }
+
+    /// Keeps a set that a call has taken, or lets it go.
+    #[inline(always)]
+    fn settle(&mut self, place: usize)
+        requires { HasTaken place (slots_of self.old) }
         ensures { Changes (At place (used_for (next_use (generations_of self.old)
             self.old.keep (slots_of self.old) place))) self.old self.new }
     {
-        if self.may_stay(place) {
-            let list = self.slots.at(place).layout as usize + KEPT;
-            self.link(list, place, Use::Kept);
-            return;
+        if !self.keep_at(place) {
+            self.let_go(place);
         }
-        self.link(GOING, place, Use::Going);
     }
 
     /// Frees the sets that wait for `frame` or an earlier one: each is kept, or goes.
@@ -65,6 +79,59 @@ impl<T> SetTable<T> {
     {
         while let Some(place) = self.pick_due(frame) {
             self.settle(place);
+        }
+    }
+
+    /// Keeps the held set of a name, if there is one and it may be kept.
+    #[inline(always)]
+    fn keep_named<N: SetName<T>>(&mut self, name: &N) -> bool
+        ensures held { IsTrue result → (N.fit name.now (slot_at (slots_of self.old)
+            (N.handle_of name.now).place).set && is_held self.old.number (slots_of self.old)
+            (N.handle_of name.now)) ≡ true }
+        ensures keeps { IsTrue result → At (N.handle_of name.now).place (used_for (next_use
+            (generations_of self.old) self.old.keep (slots_of self.old)
+            (N.handle_of name.now).place)) (slots_of self.old) (slots_of self.new) }
+        ensures none { IsFalse result → slots_of self.new ≡ slots_of self.old }
+        ensures stays { Stays self.old self.new }
+    {
+        self.holds(name) && self.keep_at(name.handle().place as usize)
+    }
+
+    /// Keeps the held sets of the first names, up to a name without one, or a set that may not be kept.
+    /// Returns how many it kept.
+    #[inline(always)]
+    fn keep_first<N: SetName<T>>(&mut self, names: &[N]) -> usize
+        ensures few { result ≤ length names.now }
+        ensures once { result ≡ length names.now → AreHeldOnce self.old.number (slots_of self.old)
+            (N.handles_of names.now) × AllFit N.handle_of N.fit (slots_of self.old) names.now }
+        ensures back { result ≡ length names.now → TurnEach (N.handles_of names.now) (IsBack
+            (used_for Use.Going) (generations_of self.old) self.old.keep) (slots_of self.old)
+            (slots_of self.new) }
+        ensures can { (i : ℕ) → i < result
+            → CanBeHeld (slot_at (slots_of self.new) (place_at (N.handles_of names.now) i)) }
+        ensures undone { (back : List (Slot T)) → TurnEach (take result (N.handles_of names.now))
+            (Becomes (used_for Use.Held)) (slots_of self.new) back → back ≡ slots_of self.old }
+        ensures stays { Stays self.old self.new }
+    {
+        let mut kept = 0;
+        while kept < names.len() && self.keep_named(&names[kept]) {
+            kept += 1;
+        }
+        kept
+    }
+
+    /// Keeps the sets of `names`, or lets them go. A call has taken them.
+    #[inline(never)]
+    fn settle_each<N: SetName<T>>(&mut self, names: &[N])
+        requires apart { (i j : ℕ) → i < j → j < length (N.handles_of names.now)
+            → place_at (N.handles_of names.now) i ≢ place_at (N.handles_of names.now) j }
+        requires taken { (i : ℕ) → i < length (N.handles_of names.now)
+            → HasTaken (place_at (N.handles_of names.now) i) (slots_of self.old) }
+        ensures { Changes (TurnEach (N.handles_of names.now) (IsBack (used_for Use.Going)
+            (generations_of self.old) self.old.keep)) self.old self.new }
+    {
+        for index in 0..names.len() {
+            self.settle(names[index].handle().place as usize);
         }
     }
 
@@ -78,14 +145,16 @@ impl<T> SetTable<T> {
         ensures none { IsFalse result → slots_of self.new ≡ slots_of self.old }
         ensures stays { Stays self.old self.new }
     {
-        for index in 0..names.len() {
-            let name = &names[index];
-            if !self.holds(name) {
-                self.put_back(names, index);
-                return false;
-            }
-            self.settle(name.handle().place as usize);
+        let kept = self.keep_first(names);
+        if kept == names.len() {
+            return true;
         }
+        // Some may not be kept. None goes before all are found to be held, so that sets that go can be grouped.
+        self.put_back(names, kept);
+        if !self.take_each(names) {
+            return false;
+        }
+        self.settle_each(names);
         true
     }
 
@@ -108,7 +177,7 @@ impl<T> SetTable<T> {
         ensures { Changes (Turns waits (Becomes (used_for Use.Going))) self.old self.new }
     {
         while let Some(place) = self.pick_waiting() {
-            self.link(GOING, place, Use::Going);
+            self.let_go(place);
         }
     }
 
@@ -125,7 +194,7 @@ impl<T> SetTable<T> {
             Use::InFrame(_) | Use::Waits(_) | Use::Kept | Use::Going | Use::Taken | Use::Vacant =>
                 return,
         }
-        self.link(GOING, place, Use::Going);
+        self.let_go(place);
     }
 
     /// Lets all held sets go.
@@ -147,7 +216,7 @@ impl<T> SetTable<T> {
     {
         while self.chain(list).count > max {
             match self.pick(list) {
-                Some(place) => self.link(GOING, place, Use::Going),
+                Some(place) => self.let_go(place),
                 None => unreachable!(),
             }
         }

@@ -1,15 +1,15 @@
 //! The lists of slots without a set, of sets that go back to their pools, and of kept sets.
-ghost use Rattle.std.specs.Prelude.{◌≡◌, ◌+◌, ◌<◌, ◌≤◌, IfSome, IsTrue, length, true, false, ℕ};
+ghost use Rattle.std.specs.Prelude.{◌≡◌, ◌+◌, ◌<◌, ◌≤◌, IfSome, IsTrue, is_some, length, true, false, ℕ};
 
 use super::waiting::enqueue;
-use super::{GOING, KEPT, SetTable};
+use super::{GOING, GROUPS, KEPT, SetTable};
 use crate::giving::Group;
 use crate::handle::{SetHandle, SetName};
 use crate::slot::{Chain, Use};
 
 impl<T> SetTable<T> {
     ghost use Rattle.descriptor_table.specs.Giving.{is_of};
-    ghost use Rattle.descriptor_table.specs.Slots.{IsNowhere, chain_at, chains_in, frame_of, is_in, is_kept_of, is_live, slot_at};
+    ghost use Rattle.descriptor_table.specs.Slots.{IsNowhere, chain_at, chains_in, frame_of, goes, is_in, is_kept_of, is_live, slot_at};
     ghost use Rattle.descriptor_table.specs.Tables.{At, Changes, PicksAny, Renews, Stays, count};
     ghost use Rattle.descriptor_table.specs.Tables.{generations_of, is_kept, lists_of};
     ghost use Rattle.descriptor_table.specs.Tables.{slots_of, used_for};
@@ -71,6 +71,50 @@ impl<T> SetTable<T> {
         self.slots.link(place, head.chain.first, used);
         head.chain.first = place as u32;
         head.chain.count += 1;
+    }
+
+    /// Whether a set goes at a place.
+    #[inline]
+    fn goes(&self, place: u32) -> bool
+        ensures { IsTrue result → goes (slot_at (slots_of self.now) place) ≡ true }
+    {
+        match self.slots.get(place) {
+            Some(slot) => slot.set.is_some() && slot.used().goes(),
+            None => false,
+        }
+    }
+
+    /// Lets a set go that is in no list, after one that goes.
+    #[inline]
+    fn link_after(&mut self, near: usize, place: usize)
+        requires near { goes (slot_at (slots_of self.old) near) ≡ true }
+        requires list { 1 < lists_of self.old }
+        requires within { place < length (slots_of self.old) }
+        requires idle { IsNowhere (slot_at (slots_of self.old) place).used }
+        requires full { is_some (slot_at (slots_of self.old) place).set ≡ true }
+        ensures { Changes (At place (used_for Use.Going)) self.old self.new }
+    {
+        self.slots.link_after(near, place as u32, Use::Going);
+        self.lists[GOING].chain.count += 1;
+    }
+
+    /// Lets a set go that is in no list, after the last one of its group if that goes.
+    #[inline(always)]
+    pub(super) fn let_go(&mut self, place: usize)
+        requires list { 1 < lists_of self.old }
+        requires within { place < length (slots_of self.old) }
+        requires idle { IsNowhere (slot_at (slots_of self.old) place).used }
+        requires full { is_some (slot_at (slots_of self.old) place).set ≡ true }
+        ensures { Changes (At place (used_for Use.Going)) self.old self.new }
+    {
+        let group = usize::from(self.slots.at(place).group) % GROUPS;
+        let near = self.near[group];
+        self.near[group] = place as u32;
+        if self.goes(near) {
+            self.link_after(near as usize, place);
+            return;
+        }
+        self.link(GOING, place, Use::Going);
     }
 
     /// Takes a kept set of a layout, puts it to a use under its next handle, and returns its name.

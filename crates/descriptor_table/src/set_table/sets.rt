@@ -15,23 +15,24 @@ impl<T> SetTable<T> {
     ghost use Rattle.descriptor_table.specs.Tables.{generations_of, lists_of};
     ghost use Rattle.descriptor_table.specs.Tables.{slots_of, used_for, vacated};
 
-    /// Puts a set into a slot, in reserved memory, and returns its place.
+    /// Puts a set into a slot, in reserved memory, and returns its place. Sets of one group go next to each
+    /// other.
     #[inline]
-    pub fn put(&mut self, layout: u32, set: T) -> usize
+    pub fn put(&mut self, layout: u32, group: u8, set: T) -> usize
         requires room { HasRoom 1 self.old }
         requires layout { layout + 2 < lists_of self.old }
         ensures { PutsInto layout set result self.old self.new }
     {
         if let Some(place) = self.pick(VACANT) {
-            self.fill(place, layout, set);
+            self.fill(place, layout, group, set);
             return place;
         }
-        self.push(layout, set)
+        self.push(layout, group, set)
     }
 
     /// Puts a set into a slot that has none.
     #[inline]
-    fn fill(&mut self, place: usize, layout: u32, set: T)
+    fn fill(&mut self, place: usize, layout: u32, group: u8, set: T)
         requires taken { IsTaken place (slots_of self.old) }
         requires empty { (slot_at (slots_of self.old) place).set ≡ None }
         requires layout { layout + 2 < lists_of self.old }
@@ -39,12 +40,13 @@ impl<T> SetTable<T> {
             self.new }
     {
         let layout_generation = self.generation(layout);
-        self.slots.fill(place, layout, layout_generation, set);
+        self.slots
+            .fill(place, layout, layout_generation, group, set);
     }
 
     /// Puts a set into a new slot, and returns its place.
     #[inline]
-    fn push(&mut self, layout: u32, set: T) -> usize
+    fn push(&mut self, layout: u32, group: u8, set: T) -> usize
         requires room { HasRoom 1 self.old }
         requires layout { layout + 2 < lists_of self.old }
         requires full { AreAllUsed (slots_of self.old) }
@@ -52,7 +54,7 @@ impl<T> SetTable<T> {
     {
         let place = self.slots.len();
         let layout_generation = self.generation(layout);
-        self.slots.push(layout, layout_generation, set);
+        self.slots.push(layout, layout_generation, group, set);
         place
     }
 

@@ -25,6 +25,9 @@ pub(crate) const VACANT: usize = 0;
 /// The list of the sets that return to their pools.
 pub(crate) const GOING: usize = 1;
 
+/// How many groups of sets that go there are.
+pub(crate) const GROUPS: usize = 8;
+
 /// The list of the kept sets of the first layout.
 pub(crate) const KEPT: usize = 2;
 
@@ -45,6 +48,9 @@ pub struct SetTable<T> {
 
     /// No set waits for a later frame than this.
     pub(crate) newest: u64,
+
+    /// For each group the place of the last set that went, after which the next one comes if it still goes.
+    pub(crate) near: [u32; GROUPS],
 }
 
 impl<T> SetTable<T> {
@@ -58,6 +64,7 @@ impl<T> SetTable<T> {
             waiting: VecDeque::new(alloc),
             keep: u32::MAX,
             newest: 0,
+            near: [u32::MAX; GROUPS],
         }
     }
 

@@ -74,6 +74,17 @@ impl Use {
         }
     }
 
+    /// Whether a set in this use returns to its pool.
+    #[inline]
+    pub(crate) fn goes(self) -> bool
+    {
+        match self {
+            Use::Going => true,
+            Use::Held | Use::InFrame(_) | Use::Waits(_) | Use::Kept | Use::Taken | Use::Vacant =>
+                false,
+        }
+    }
+
     /// Whether the handle of a set in this use is valid, while `frame` is the open frame if `is_open`.
     #[inline]
     pub fn is_live(self, frame: u64, is_open: bool) -> bool

@@ -22,6 +22,9 @@ pub struct Entry<T> {
     pub(crate) frame: u64,
     pub(crate) state: State,
 
+    /// The group of the set: when it goes, it comes after another one of the group.
+    pub(crate) group: u8,
+
     /// The set is kept once it is freed only if its generation is below this: `u32::MAX`, since a kept set
     /// needs a next one, or 0 if it was there at the last cleanup.
     pub(crate) kept_below: u32,
@@ -31,7 +34,7 @@ pub struct Entry<T> {
 impl<T> Entry<T> {
     /// A new slot with a set that a call has taken.
     #[inline]
-    pub(crate) fn new(layout: u32, layout_generation: u32, set: T) -> Self
+    pub(crate) fn new(layout: u32, layout_generation: u32, group: u8, set: T) -> Self
     {
         Entry {
             generation: 0,
@@ -40,6 +43,7 @@ impl<T> Entry<T> {
             next: 0,
             frame: 0,
             state: State::Taken,
+            group,
             kept_below: u32::MAX,
             set: Some(set),
         }
@@ -145,6 +149,15 @@ impl<T> SlotList<T> {
         entry.set_use(used);
     }
 
+    /// Changes the use of a slot's set, and makes the slot the one that follows the slot `near` in its list.
+    #[inline]
+    pub(crate) fn link_after(&mut self, near: usize, place: u32, used: Use)
+    {
+        let next = self.entries[near].next;
+        self.link(place as usize, next, used);
+        self.entries[near].next = place;
+    }
+
     /// Changes the use of a slot's set, raises the slot's generation, and returns it.
     #[inline]
     pub(crate) fn renew(&mut self, place: usize, used: Use) -> u32
@@ -171,13 +184,21 @@ impl<T> SlotList<T> {
 
     /// Puts a set into a slot that has none.
     #[inline]
-    pub(crate) fn fill(&mut self, place: usize, layout: u32, layout_generation: u32, set: T)
+    pub(crate) fn fill(
+        &mut self,
+        place: usize,
+        layout: u32,
+        layout_generation: u32,
+        group: u8,
+        set: T,
+    )
     {
         let entry = &mut self.entries[place];
         entry.layout = layout;
         entry.layout_generation = layout_generation;
         entry.next = 0;
         entry.state = State::Taken;
+        entry.group = group;
         entry.kept_below = u32::MAX;
         match entry.set.replace(set) {
             None => {}
@@ -187,9 +208,9 @@ impl<T> SlotList<T> {
 
     /// Puts a set into a new slot, in reserved memory.
     #[inline]
-    pub(crate) fn push(&mut self, layout: u32, layout_generation: u32, set: T)
+    pub(crate) fn push(&mut self, layout: u32, layout_generation: u32, group: u8, set: T)
     {
         self.entries
-            .push_reserved(Entry::new(layout, layout_generation, set));
+            .push_reserved(Entry::new(layout, layout_generation, group, set));
     }
 }

@@ -45,6 +45,14 @@ impl<S> DescriptorSet<S> {
         ids.start <= self.id && self.id < ids.end
     }
 
+    /// The id of its key. Sets with one key share pools, so they are freed by fewer device calls if they
+    /// are freed next to each other.
+    #[must_use]
+    pub fn key_id(&self) -> u64
+    {
+        self.id
+    }
+
     /// Whether it is from the pool with this number, under the key with this id.
     pub(crate) fn is_at(&self, id: u64, number: u64) -> bool
     {

@@ -2,7 +2,7 @@
 //! Sets that are freed: each is kept, or goes. A set that goes joins the list of those that return to
 //! their pools.
 
-use super::{GOING, KEPT, SetTable};
+use super::{KEPT, SetTable};
 use crate::descriptor_table::handle::SetName;
 use crate::descriptor_table::slot::{ListHead, Use};
 
@@ -25,16 +25,25 @@ impl<T> SetTable<T> {
             && list.chain.count < self.keep
     }
 
-    /// Keeps a set that is in no list, or lets it go.
+    /// Keeps a set that is in no list, if it may be kept.
+    #[inline(always)]
+    fn keep_at(&mut self, place: usize) -> bool
+    {
+        if !self.may_stay(place) {
+            return false;
+        }
+        let list = self.slots.at(place).layout as usize + KEPT;
+        self.link(list, place, Use::Kept);
+        true
+    }
+
+    /// Keeps a set that a call has taken, or lets it go.
     #[inline(always)]
     fn settle(&mut self, place: usize)
     {
-        if self.may_stay(place) {
-            let list = self.slots.at(place).layout as usize + KEPT;
-            self.link(list, place, Use::Kept);
-            return;
+        if !self.keep_at(place) {
+            self.let_go(place);
         }
-        self.link(GOING, place, Use::Going);
     }
 
     /// Frees the sets that wait for `frame` or an earlier one: each is kept, or goes.
@@ -45,18 +54,48 @@ impl<T> SetTable<T> {
         }
     }
 
+    /// Keeps the held set of a name, if there is one and it may be kept.
+    #[inline(always)]
+    fn keep_named<N: SetName<T>>(&mut self, name: &N) -> bool
+    {
+        self.holds(name) && self.keep_at(name.handle().place as usize)
+    }
+
+    /// Keeps the held sets of the first names, up to a name without one, or a set that may not be kept.
+    /// Returns how many it kept.
+    #[inline(always)]
+    fn keep_first<N: SetName<T>>(&mut self, names: &[N]) -> usize
+    {
+        let mut kept = 0;
+        while kept < names.len() && self.keep_named(&names[kept]) {
+            kept += 1;
+        }
+        kept
+    }
+
+    /// Keeps the sets of `names`, or lets them go. A call has taken them.
+    #[inline(never)]
+    fn settle_each<N: SetName<T>>(&mut self, names: &[N])
+    {
+        for index in 0..names.len() {
+            self.settle(names[index].handle().place as usize);
+        }
+    }
+
     /// Frees the held sets of `names`, all or none: each is kept, or goes. If a name has no held set, or
     /// is in the list twice, it frees none and returns `false`.
     pub fn settle_held<N: SetName<T>>(&mut self, names: &[N]) -> bool
     {
-        for index in 0..names.len() {
-            let name = &names[index];
-            if !self.holds(name) {
-                self.put_back(names, index);
-                return false;
-            }
-            self.settle(name.handle().place as usize);
+        let kept = self.keep_first(names);
+        if kept == names.len() {
+            return true;
         }
+        // Some may not be kept. None goes before all are found to be held, so that sets that go can be grouped.
+        self.put_back(names, kept);
+        if !self.take_each(names) {
+            return false;
+        }
+        self.settle_each(names);
         true
     }
 
@@ -72,7 +111,7 @@ impl<T> SetTable<T> {
     pub fn let_waiting_go(&mut self)
     {
         while let Some(place) = self.pick_waiting() {
-            self.link(GOING, place, Use::Going);
+            self.let_go(place);
         }
     }
 
@@ -86,7 +125,7 @@ impl<T> SetTable<T> {
             Use::InFrame(_) | Use::Waits(_) | Use::Kept | Use::Going | Use::Taken | Use::Vacant =>
                 return,
         }
-        self.link(GOING, place, Use::Going);
+        self.let_go(place);
     }
 
     /// Lets all held sets go.
@@ -102,7 +141,7 @@ impl<T> SetTable<T> {
     {
         while self.chain(list).count > max {
             match self.pick(list) {
-                Some(place) => self.link(GOING, place, Use::Going),
+                Some(place) => self.let_go(place),
                 None => unreachable!(),
             }
         }

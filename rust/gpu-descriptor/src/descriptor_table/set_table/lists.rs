@@ -2,7 +2,7 @@
 //! The lists of slots without a set, of sets that go back to their pools, and of kept sets.
 
 use super::waiting::enqueue;
-use super::{GOING, KEPT, SetTable};
+use super::{GOING, GROUPS, KEPT, SetTable};
 use crate::descriptor_table::giving::Group;
 use crate::descriptor_table::handle::{SetHandle, SetName};
 use crate::descriptor_table::slot::{Chain, Use};
@@ -52,6 +52,38 @@ impl<T> SetTable<T> {
         self.slots.link(place, head.chain.first, used);
         head.chain.first = place as u32;
         head.chain.count += 1;
+    }
+
+    /// Whether a set goes at a place.
+    #[inline]
+    fn goes(&self, place: u32) -> bool
+    {
+        match self.slots.get(place) {
+            Some(slot) => slot.set.is_some() && slot.used().goes(),
+            None => false,
+        }
+    }
+
+    /// Lets a set go that is in no list, after one that goes.
+    #[inline]
+    fn link_after(&mut self, near: usize, place: usize)
+    {
+        self.slots.link_after(near, place as u32, Use::Going);
+        self.lists[GOING].chain.count += 1;
+    }
+
+    /// Lets a set go that is in no list, after the last one of its group if that goes.
+    #[inline(always)]
+    pub(super) fn let_go(&mut self, place: usize)
+    {
+        let group = usize::from(self.slots.at(place).group) % GROUPS;
+        let near = self.near[group];
+        self.near[group] = place as u32;
+        if self.goes(near) {
+            self.link_after(near as usize, place);
+            return;
+        }
+        self.link(GOING, place, Use::Going);
     }
 
     /// Takes a kept set of a layout, puts it to a use under its next handle, and returns its name.

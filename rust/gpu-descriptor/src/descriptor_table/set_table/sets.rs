@@ -7,32 +7,34 @@ use crate::descriptor_table::handle::{SetHandle, SetName};
 use crate::descriptor_table::slot::Use;
 
 impl<T> SetTable<T> {
-    /// Puts a set into a slot, in reserved memory, and returns its place.
+    /// Puts a set into a slot, in reserved memory, and returns its place. Sets of one group go next to each
+    /// other.
     #[inline]
-    pub fn put(&mut self, layout: u32, set: T) -> usize
+    pub fn put(&mut self, layout: u32, group: u8, set: T) -> usize
     {
         if let Some(place) = self.pick(VACANT) {
-            self.fill(place, layout, set);
+            self.fill(place, layout, group, set);
             return place;
         }
-        self.push(layout, set)
+        self.push(layout, group, set)
     }
 
     /// Puts a set into a slot that has none.
     #[inline]
-    fn fill(&mut self, place: usize, layout: u32, set: T)
+    fn fill(&mut self, place: usize, layout: u32, group: u8, set: T)
     {
         let layout_generation = self.generation(layout);
-        self.slots.fill(place, layout, layout_generation, set);
+        self.slots
+            .fill(place, layout, layout_generation, group, set);
     }
 
     /// Puts a set into a new slot, and returns its place.
     #[inline]
-    fn push(&mut self, layout: u32, set: T) -> usize
+    fn push(&mut self, layout: u32, group: u8, set: T) -> usize
     {
         let place = self.slots.len();
         let layout_generation = self.generation(layout);
-        self.slots.push(layout, layout_generation, set);
+        self.slots.push(layout, layout_generation, group, set);
         place
     }
 

@@ -19,11 +19,11 @@ pub returns-clause-few : goal.returns-clause-few
 returns-clause-few g c = omega (arith, counted c.loop-self.self c.args.list c.chain.result c.chain.ensures, c.loop-self-test.false)
 
 pub loop-self-smaller : goal.loop-self-smaller
-loop-self-smaller g c = omega (arith, go_less (is_in c.args.list) (slots_of c.loop-self.self) (slots_of c.pick.new.self) (slots_of c.link.new.self) c.in-Some.place c.in-Some.ensures.slots c.link.ensures.slots (λ s. going_out c.args.list s c.requires.list))
+loop-self-smaller g c = omega (arith, go_less (is_in c.args.list) (slots_of c.loop-self.self) (slots_of c.pick.new.self) (slots_of c.let_go.new.self) c.in-Some.place c.in-Some.ensures.slots c.let_go.ensures.slots (λ s. going_out c.args.list s c.requires.list))
 
 pub loop-self-preserved : goal.loop-self-preserved
 loop-self-preserved g c =
     let now = slots_of c.loop-self.self in
     let mid = slots_of c.pick.new.self in
-    let new = slots_of c.link.new.self in
+    let new = slots_of c.let_go.new.self in
     grind (arith, common_steps, counted c.loop-self.self c.args.list c.chain.result, go_less (is_in c.args.list) now mid new, go_step (is_in c.args.list) now mid new, going_out, stays_more)

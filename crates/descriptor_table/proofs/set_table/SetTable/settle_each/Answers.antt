@@ -1,0 +1,45 @@
+use Rattle.std.proofs.Common.{◌≡◌, ◌∙◌, ℕ, false, is_some, sym, ap}
+use Rattle.descriptor_table.specs.Slots.{in_list, is_in, slot_at}
+use Rattle.descriptor_table.specs.Tables.{HasTaken, generations_of, next_use, slots_of, used_for}
+use Rattle.descriptor_table.specs.declared.slot.Use.TheVariants.{Taken}
+use Rattle.descriptor_table.proofs.Holding.{first_none}
+use Rattle.descriptor_table.proofs.Listed.{with_use}
+use Rattle.descriptor_table.proofs.Named.{each_turned, next_taken, next_turned}
+use Rattle.descriptor_table.proofs.Turning.{same_next, same_use, settled_grows, settled_here, settled_set, stays_more, stays_same}
+use Rattle.descriptor_table.proofs.set_table.SetTable.settle_each.Goals.{After-handle}
+use Rattle.descriptor_table.proofs.set_table.SetTable.settle_each.Goals as goal
+
+-- the call still has its set
+has : (g : _) (c : After-handle g) → HasTaken c.handle.result.place (slots_of c.loop-index.self)
+has g c = next_taken g.N.SetName g.met.N.SetName.each c.args.names.now _ _ _ _ c.loop-index.invariant.first c.index-names-index.result c.handle.result c.loop-index-test.true c.index-names-index.is c.handle.ensures c.requires.apart c.requires.taken
+
+pub settle-requires : goal.settle-requires
+settle-requires g c = has g (goal.at.settle-requires g c).After-handle
+
+pub loop-index-init : goal.loop-index-init
+loop-index-init g c = record { first = first_none _ _ _; stays = stays_same _ }
+
+pub loop-index-preserved : goal.loop-index-preserved
+loop-index-preserved g c =
+    let d = (goal.at.loop-index-preserved g c).After-handle in
+    let inv = c.loop-index.invariant in
+    let s = c.args.self.now in
+    let now = slots_of c.loop-index.self in
+    let new = slots_of c.settle.new.self in
+    let p = c.handle.result.place in
+    let taken = has g d in
+    let out : (k : ℕ) → is_in k (slot_at now p) ≡ false = (λ k. ap (λ u. in_list k u (slot_at now p).layout (slot_at now p).generation (is_some (slot_at now p).set)) taken.taken.taken) in
+    let same : now ≡ with_use p Taken now = sym (same_use now p Taken taken.taken.taken taken.taken.within) in
+    let made = c.settle.ensures.slots ∙ ap (λ u. with_use p u now) (same_next s c.loop-index.self inv.stays.settings now p) in
+    let u = next_use (generations_of s) s.keep now p in
+    record {
+      first =
+          next_turned g.N.SetName g.met.N.SetName.each _ _ _ _ _ inv.first c.index-names-index.result c.handle.result c.loop-index-test.true c.index-names-index.is c.handle.ensures c.requires.apart (used_for u (slot_at now p)) new taken.taken.within
+          (settled_set (generations_of s) s.keep now now new p taken.taken.within out Taken tt same made)
+          (settled_grows (generations_of s) s.keep now now new p taken.taken.within out Taken tt same made)
+          (settled_here (generations_of s) s.keep now now new p taken.taken.within out Taken tt same made);
+      stays = stays_more s c.loop-index.self c.settle.new.self inv.stays c.settle.ensures.stays;
+    }
+
+pub returns : goal.returns
+returns g c = record { slots = each_turned g.N.SetName g.met.N.SetName.each _ _ _ _ _ c.loop-index.invariant.first c.loop-index-test.false c.loop-index.auto.index-end; stays = c.loop-index.invariant.stays }
