@@ -22,11 +22,12 @@ use Rattle.descriptor_table.specs.declared.handle.SetHandle.{SetHandle}
 use Rattle.descriptor_table.proofs.Counting.{below_or}
 use Rattle.descriptor_manager.specs.LayoutRegistries.{layout_at, layout_slots, registry_of}
 use Rattle.descriptor_manager.specs.Own.{AreCounted, AreOwn, HasSetsOf, IsOwn}
-use Rattle.descriptor_manager.specs.Stores.{ComesOf, IsRefusedAtLast, NoneComes, SettlesTo, generations_in, is_placed, lists_for, slots_in}
+use Rattle.descriptor_manager.specs.Stores.{ComesOf, IsRefusedAtLast, KeepsStore, NoneComes, SettlesTo, generations_in, is_placed, lists_for, slots_in}
 use Rattle.descriptor_manager.specs.declared.layout_registry.LayoutHandle.{LayoutHandle}
 use Rattle.descriptor_manager.specs.declared.layout_registry.LayoutRegistry.{LayoutRegistry}
+use Rattle.descriptor_manager.specs.Stores as stores
 use Rattle.descriptor_manager.specs.declared.store.Store.{Store}
-use Rattle.descriptor_manager.specs.Managers.{pools_for, side_of}
+use Rattle.descriptor_manager.specs.Managers.{pools_for, seen, side_of}
 use Rattle.descriptor_manager.specs.declared.manager.SetManager.{SetManager}
 use Rattle.descriptor_manager.proofs.Handing.{some_of, unmet_slots}
 use Rattle.descriptor_manager.proofs.Showing.{cleaned_names}
@@ -128,3 +129,7 @@ module _ {L P S D : Type 0} {d : Ghosts D L P S} (r : SetManager L P S D d) (kno
   -- the books have a layout's pools under the key of its counts and its mark
   pub known_pools : (a : Allocations P) (mark : Bool) → IsMeant d.meaning known → a ≡ (side_of r).value → mark ≡ is_marked known.flags → books_of a.table (record { counts = kinds known.counts; marked = mark }) ≡ pools_for known.layout r
   known_pools a mark meant same is = grind (arith, common_steps)
+
+-- a call of the store that leaves its settings as they are changes nothing that is seen but slots and pools
+pub only_store : {L P S D : Type 0} {d : Ghosts D L P S} (r : SetManager L P S D d) (s : Store L P S D d) → KeepsStore r.store s → record (seen r) { slots = slots_in s; generations = generations_in s; keep = s.table.keep; side = stores.side_of s; pools_besides = stores.pools_besides s; limit = s.allocator.limit; bound = s.allocator.bound } ≡ record (seen r) { slots = slots_in s; side = stores.side_of s }
+only_store r s stays = λ i. record (seen r) { slots = slots_in s; generations = (stays.settings i).generations; keep = (stays.settings i).keep; side = stores.side_of s; pools_besides = stays.besides i; limit = stays.limit i; bound = stays.bound i }

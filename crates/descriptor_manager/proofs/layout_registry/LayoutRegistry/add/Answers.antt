@@ -1,10 +1,11 @@
-use Rattle.std.proofs.Common.{List, ℕ, ◌∷◌, [], false, inl, inr, sym, subst, ◌∙◌, ap}
+use Rattle.std.proofs.Common.{◌≡◌, List, ℕ, Some, ◌∷◌, [], false, inl, inr, sym, subst, ◌∙◌, ap}
 use Rattle.gpu_descriptor.specs.Caller.SetLayouts.{IsMeant}
 use Rattle.gpu_descriptor.specs.declared.layout.SetLayout.{SetLayout}
-use Rattle.descriptor_table.specs.Slots.{Slot}
+use Rattle.descriptor_table.specs.Slots.{Slot, slot_at}
 use Rattle.descriptor_table.specs.Sets.{NameEach, sets_of}
 use Rattle.descriptor_table.specs.Tables.{Settings, Grows, slots_of}
-use Rattle.descriptor_manager.proofs.Adding.{added_grows, added_held, added_names, added_only}
+use Rattle.descriptor_manager.specs.Own.{AreCounted}
+use Rattle.descriptor_manager.proofs.Adding.{added_counted, added_grows, added_held, added_names, added_only, added_stay}
 use Rattle.descriptor_manager.proofs.layout_registry.LayoutRegistry.add.Goals as goal
 
 pub invariant_of-self-clause-meant : goal.invariant_of-self-clause-meant
@@ -27,3 +28,9 @@ returns-clause-names g c =
 
 pub returns-clause-grows : goal.returns-clause-grows
 returns-clause-grows g c = subst (λ l. Grows l (slots_of c.hold.new.self)) c.reserve.ensures.keeps.slots (added_grows c.put-place.ensures.puts c.hold.ensures.slots)
+
+pub returns-clause-counted : goal.returns-clause-counted
+returns-clause-counted g c = λ generations counted. added_counted c.put-place.ensures.puts c.hold.ensures.slots generations (subst (AreCounted generations) (sym c.reserve.ensures.keeps.slots) counted)
+
+pub returns-clause-stay : goal.returns-clause-stay
+returns-clause-stay g c = λ n known is. added_stay c.put-place.ensures.puts c.hold.ensures.slots n known (subst (λ (l : List (Slot (SetLayout g.row.L.Denot))). (slot_at l n).set ≡ Some known) (sym c.reserve.ensures.keeps.slots) is)

@@ -1,8 +1,9 @@
-use Rattle.std.proofs.Common.{refl, subst}
+use Rattle.std.proofs.Common.{refl, subst, ◌∙◌}
 use Rattle.descriptor_table.specs.Sets.{AreHeldOnce}
 use Rattle.descriptor_manager.specs.LayoutRegistries.{layout_slots}
+use Rattle.descriptor_manager.specs.Managers.{seen}
 use Rattle.descriptor_manager.specs.Stores.{NoneComes, generations_in, slots_in}
-use Rattle.descriptor_manager.proofs.Owned.{sets_settle}
+use Rattle.descriptor_manager.proofs.Owned.{only_store, sets_settle}
 use Rattle.descriptor_manager.proofs.Showing.{freed_names}
 use Rattle.descriptor_manager.proofs.manager.SetManager.free.Goals as goal
 
@@ -17,3 +18,9 @@ returns-clause-names g c =
     let once = subst (λ n. AreHeldOnce n (slots_in old.store) (g.N.SetName.handles_of c.args.sets.now)) old.sets.number (c.if-not-free_each.ensures.once.0 refl).0 in
     let frees = c.if-not-free_each.ensures.frees refl in
     freed_names old.frame old.is_open (generations_in old.store) old.manager old.store.table.keep (g.N.SetName.handles_of c.args.sets.now) (slots_in old.store) (slots_in c.free_each.new.self) once frees.turns
+
+pub returns-then-not-free_each-clause-stay : goal.returns-then-not-free_each-clause-stay
+returns-then-not-free_each-clause-stay g c = only_store c.args.self.now c.free_each.new.self c.free_each.ensures.settles.stays ∙ (λ i. record (seen c.args.self.now) { slots = (c.if-not-free_each.ensures.none refl).0 i; side = (c.if-not-free_each.ensures.none refl).1 i })
+
+pub returns-then-not-free_each-clause-rest : goal.returns-then-not-free_each-clause-rest
+returns-then-not-free_each-clause-rest g c = only_store c.args.self.now c.free_each.new.self c.free_each.ensures.settles.stays
