@@ -3,8 +3,8 @@
 // The host writes its requests as a program for the line program (docs/LINES.md), and the output that it
 // expects. The line program has the same allocator over a scripted device, so the two agree in the pool of
 // each set, in each failure, and in the number of calls. The host counts the sets that it got, in the order
-// in which the driver allocated them, and writes these numbers as tickets. In the program, sets that wait for
-// a frame are freed at the end of their frame, in the order in which the driver frees them.
+// in which the driver allocated them, and writes these numbers as tickets. In the program, sets are freed in the
+// order in which the driver frees them, and those that wait for a frame at its end.
 //
 // Without a program to write, the driver also returns unknown statuses. If one in some number of allocations
 // fails, the program is of no use. gd_free, gd_frame_done, gd_allocator_set_max_kept and gd_cleanup never
@@ -262,7 +262,7 @@ static void check_freed(size_t *tickets, size_t count) {
     CHECK(driver_calls.releases == runs);
 }
 
-// The runs of a list, which the driver is to free by as many calls.
+// The runs of a list, which the driver is to free by no more calls: sets of one key go next to each other.
 static size_t runs_of(const size_t *tickets, size_t count) {
     size_t runs = 0;
     for (size_t place = 0; place < count; place++)
@@ -311,10 +311,10 @@ static void free_some(void) {
     leave(tickets, sets, count);
     for (uint32_t place = 0; place < count; place++)
         unuse(tickets[place]);
-    write_free(tickets, count);
     CHECK(free_now(sets, count) == GD_OK);
-    CHECK(keep > 0 || driver_calls.releases == runs_of(tickets, count));
+    CHECK(keep > 0 || driver_calls.releases <= runs_of(tickets, count));
     check_freed(tickets, count);
+    write_free(tickets, count);
 }
 
 // Lets sets wait for a frame, mostly this one, sometimes an earlier or a later one.

@@ -54,12 +54,12 @@ impl<T> SetTable<T> {
         head.chain.count += 1;
     }
 
-    /// Whether a set goes at a place.
+    /// Whether a set of a group goes at a place.
     #[inline]
-    fn goes(&self, place: u32) -> bool
+    fn goes(&self, place: u32, group: u8) -> bool
     {
         match self.slots.get(place) {
-            Some(slot) => slot.set.is_some() && slot.used().goes(),
+            Some(slot) => slot.group == group && slot.set.is_some() && slot.used().goes(),
             None => false,
         }
     }
@@ -76,10 +76,11 @@ impl<T> SetTable<T> {
     #[inline(always)]
     pub(super) fn let_go(&mut self, place: usize)
     {
-        let group = usize::from(self.slots.at(place).group) % GROUPS;
-        let near = self.near[group];
-        self.near[group] = place as u32;
-        if self.goes(near) {
+        let group = self.slots.at(place).group;
+        let index = usize::from(group) % GROUPS;
+        let near = self.near[index];
+        self.near[index] = place as u32;
+        if self.goes(near, group) {
             self.link_after(near as usize, place);
             return;
         }
