@@ -19,6 +19,7 @@ use std::collections::VecDeque;
 impl<P> DescriptorBucket<P> {
     /// Destroys the pools without sets, everywhere or only at the front. The limit has room for their
     /// descriptors again.
+    #[inline(always)]
     pub(crate) fn destroy_empty<L, S, D: DescriptorDevice<L, P, S>>(
         &mut self,
         device: &mut D,
@@ -47,6 +48,31 @@ impl<P> DescriptorBucket<P> {
         if all_have_sets(&self.pools) {
             return;
         }
+        self.destroy_all_empty(device, key, room);
+    }
+
+    /// Destroys the pools without sets. It is out of line, so that a call that finds none saves no registers
+    /// for it.
+    #[inline(never)]
+    fn destroy_all_empty<L, S, D: DescriptorDevice<L, P, S>>(
+        &mut self,
+        device: &mut D,
+        key: &BucketKey,
+        room: &mut u32,
+    )
+        requires room { room.old + pools_load (key_of key.now) self.old.pools.items < 2 ^ 32 }
+        requires stored { (k : Key) × AreBookedIn k (D.ledger device.old).pools
+            (bucket_of D.meaning.pool_name self.old).pools }
+        ensures books { bucket_of D.meaning.pool_name self.new
+            ≡ record (bucket_of D.meaning.pool_name self.old) {
+              pools = left_of true (bucket_of D.meaning.pool_name self.old).pools;
+            } }
+        ensures ledger { D.ledger device.new ≡ ledger_but (gone_of true
+            (bucket_of D.meaning.pool_name self.old).pools) (D.ledger device.old) }
+        ensures total { self.new.total ≡ self.old.total }
+        ensures room { room.new + pools_load (key_of key.now) self.new.pools.items
+            ≡ room.old + pools_load (key_of key.now) self.old.pools.items }
+    {
         destroy_without_sets(&mut self.pools, device, key, room);
         relist(&mut self.listed, &self.pools);
         self.first = first_ordinal_of(&self.pools);

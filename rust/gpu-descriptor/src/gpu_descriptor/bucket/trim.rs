@@ -9,6 +9,7 @@ use crate::kit::collections::VecDeque;
 impl<P> DescriptorBucket<P> {
     /// Destroys the pools without sets, everywhere or only at the front. The limit has room for their
     /// descriptors again.
+    #[inline(always)]
     pub(crate) fn destroy_empty<L, S, D: DescriptorDevice<L, P, S>>(
         &mut self,
         device: &mut D,
@@ -24,6 +25,19 @@ impl<P> DescriptorBucket<P> {
         if all_have_sets(&self.pools) {
             return;
         }
+        self.destroy_all_empty(device, key, room);
+    }
+
+    /// Destroys the pools without sets. It is out of line, so that a call that finds none saves no registers
+    /// for it.
+    #[inline(never)]
+    fn destroy_all_empty<L, S, D: DescriptorDevice<L, P, S>>(
+        &mut self,
+        device: &mut D,
+        key: &BucketKey,
+        room: &mut u32,
+    )
+    {
         destroy_without_sets(&mut self.pools, device, key, room);
         relist(&mut self.listed, &self.pools);
         self.first = first_ordinal_of(&self.pools);
