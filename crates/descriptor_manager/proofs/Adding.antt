@@ -6,6 +6,7 @@ use Rattle.descriptor_table.specs.Sets.{AreHeldOnce, LoseNames, NameEach, is_hel
 use Rattle.descriptor_table.specs.Slots.{Slot, is_live, slot_at}
 use Rattle.descriptor_table.specs.Tables.{Grows, Puts, Renews, current, place_at, renewed, vacated}
 use Rattle.descriptor_table.specs.declared.handle.SetHandle.{SetHandle}
+use Rattle.descriptor_table.specs.declared.slot.Use.{Use}
 use Rattle.descriptor_table.specs.declared.slot.Use.TheVariants.{Held}
 use Rattle.descriptor_manager.specs.Own.{AreCounted}
 use Rattle.descriptor_table.proofs.Counting.{same_or}
@@ -18,35 +19,37 @@ use Rattle.descriptor_manager.proofs.Handing.{new_one}
 use Rattle.descriptor_manager.proofs.Joining.{are_named}
 use Rattle.descriptor_manager.proofs.Owned.{same_some}
 
-module _ {T : Type 0} {number p : ℕ} {x : T} {handle : SetHandle} {old mid new : List (Slot T)} {generations : ℕ → ℕ} (puts : Puts generations 0 x p old mid) (renews : Renews number p Held handle mid new) where
-  slot_here : slot_at new p ≡ renewed Held (slot_at mid p)
-  slot_here = ap (λ l. slot_at l p) renews.slots ∙ slot_set mid p (renewed Held (slot_at mid p)) puts.within
+module _ {T : Type 0} {number p layout : ℕ} {x : T} {u : Use} {handle : SetHandle} {old mid new : List (Slot T)} {generations : ℕ → ℕ} (puts : Puts generations layout x p old mid) (renews : Renews number p u handle mid new) where
+  slot_here : slot_at new p ≡ renewed u (slot_at mid p)
+  slot_here = ap (λ l. slot_at l p) renews.slots ∙ slot_set mid p (renewed u (slot_at mid p)) puts.within
 
-  added_here : (slot_at new p).set ≡ Some x
+  -- its set is there
+  pub added_here : (slot_at new p).set ≡ Some x
   added_here = ap (λ (s : Slot T). s.set) slot_here ∙ ap (λ (s : Slot T). s.set) puts.here
 
   added_there : (n : ℕ) → n ≢ p → slot_at new n ≡ slot_at old n
-  added_there n ne = ap (λ l. slot_at l n) renews.slots ∙ other_slots mid p (renewed Held (slot_at mid p)) n ne ∙ puts.others n ne
+  added_there n ne = ap (λ l. slot_at l n) renews.slots ∙ other_slots mid p (renewed u (slot_at mid p)) n ne ∙ puts.others n ne
 
+module _ {T : Type 0} {number p : ℕ} {x : T} {handle : SetHandle} {old mid new : List (Slot T)} {generations : ℕ → ℕ} (puts : Puts generations 0 x p old mid) (renews : Renews number p Held handle mid new) where
   -- the handle, and no other one, names something else
   pub added_names : NameEach (handle ∷ []) (sets_of number 0 false old) (sets_of number 0 false new)
   added_names = are_named number (current generations 0) Held (handle ∷ []) old old new (λ q. same_clears (slot_at old q) (slot_at old q) refl) (new_one number p Held handle generations 0 x old mid new puts renews) 0 false refl
 
   -- each layout that is there was there before, or is the new one
   pub added_only : (n : ℕ) (y : T) → (slot_at new n).set ≡ Some y → ((slot_at old n).set ≡ Some y) ⊎ (y ≡ x)
-  added_only n y is = grind (arith, common_steps, added_here, added_there, same_or, same_some)
+  added_only n y is = grind (arith, common_steps, added_here puts renews, added_there puts renews, same_or, same_some)
 
   -- and is held, as those before
   pub added_held : ((n : ℕ) → is_some (slot_at old n).set ≡ true → (slot_at old n).used ≡ Held) → (n : ℕ) → is_some (slot_at new n).set ≡ true → (slot_at new n).used ≡ Held
-  added_held held n some = search (rules, same_or, slot_here, added_there)
+  added_held held n some = search (rules, same_or, slot_here puts renews, added_there puts renews)
 
   -- its slot gave one handle more
   pub added_counted : (removed : ℕ → ℕ) → AreCounted removed old → AreCounted removed new
-  added_counted removed counted n = grind (arith, common_steps, same_or n p, slot_here, added_there n, puts.empty, puts.here, puts.next, counted n)
+  added_counted removed counted n = grind (arith, common_steps, same_or n p, slot_here puts renews, added_there puts renews n, puts.empty, puts.here, puts.next, counted n)
 
   -- each layout that was there stays
   pub added_stay : (n : ℕ) (y : T) → (slot_at old n).set ≡ Some y → (slot_at new n).set ≡ Some y
-  added_stay n y is = grind (arith, common_steps, same_or n p, added_there n, puts.empty, none-some)
+  added_stay n y is = grind (arith, common_steps, same_or n p, added_there puts renews n, puts.empty, none-some)
 
   pub added_grows : Grows old new
   added_grows = grow_new number generations 0 p x Held handle old mid new (λ s. refl) puts renews

@@ -10,7 +10,7 @@ ghost use Rattle.descriptor_manager.specs.Own.{AreCounted, AreMeant};
 
 use descriptor_table::{SetHandle, SetTable, Use, place_of};
 use gpu_descriptor::{DescriptorDevice, SetLayout};
-use std::alloc::{AllocError, AllocFailed, Global};
+use std::alloc::{AllocError, Global};
 use std::marker::PhantomData;
 
 /// The handle of a layout. It is valid only for the set manager that gave it, and only until the layout
@@ -74,6 +74,7 @@ impl<L, P, S, D: DescriptorDevice<L, P, S>> LayoutRegistry<L, P, S, D> {
     }
 
     /// Gives the table its lists, if it has none yet.
+    #[inline]
     fn reserve_list(&mut self) -> Result<(), AllocError>
         ensures lists { OnOk result (2 < lists_of self.new.table) }
         ensures keeps { KeepsLayouts self.old self.new }
@@ -87,7 +88,8 @@ impl<L, P, S, D: DescriptorDevice<L, P, S>> LayoutRegistry<L, P, S, D> {
     }
 
     /// Reserves memory for one more layout.
-    fn reserve(&mut self) -> Result<(), AllocError>
+    #[inline]
+    pub fn reserve(&mut self) -> Result<(), AllocError>
         ensures room { OnOk result (HasRoom 1 self.new.table) }
         ensures lists { OnOk result (2 < lists_of self.new.table) }
         ensures keeps { KeepsLayouts self.old self.new }
@@ -96,33 +98,29 @@ impl<L, P, S, D: DescriptorDevice<L, P, S>> LayoutRegistry<L, P, S, D> {
         self.table.reserve(1)
     }
 
-    /// Adds a layout and returns its handle. It takes the slot that was vacated last, or else a new one.
-    /// If memory runs out it returns the layout in the error, and nothing changes.
-    pub fn add(&mut self, layout: SetLayout<L>) -> Result<LayoutHandle, AllocFailed<SetLayout<L>>>
+    /// Adds a layout, in reserved memory, and returns its handle. It takes the slot that was vacated last,
+    /// or else a new one.
+    #[inline]
+    pub fn add(&mut self, layout: SetLayout<L>) -> LayoutHandle
         requires meant { IsMeant D.meaning layout }
-        ensures names { IfOk result (λ handle. NameEach (handle.slot ∷ []) (layouts_by self.old)
-            (layouts_by self.new)) }
-        ensures added { IfOk result (λ handle. layout_at self.new handle ≡ Some layout) }
-        ensures fresh { IfOk result (λ handle. layout_at self.old handle ≡ None) }
+        requires room { HasRoom 1 self.old.table }
+        requires lists { 2 < lists_of self.old.table }
+        ensures names { NameEach (result.slot ∷ []) (layouts_by self.old) (layouts_by self.new) }
+        ensures added { layout_at self.new result ≡ Some layout }
+        ensures fresh { layout_at self.old result ≡ None }
         ensures counted { (generations : ℕ → ℕ) → AreCounted generations (layout_slots self.old)
             → AreCounted generations (layout_slots self.new) }
         ensures stay { (n : ℕ) (known : SetLayout L) → (slot_at (layout_slots self.old) n).set
             ≡ Some known → (slot_at (layout_slots self.new) n).set ≡ Some known }
-        ensures grows { OnOk result (Grows (layout_slots self.old) (layout_slots self.new)) }
-        ensures one { OnOk result ((length (layout_slots self.new) ≡ length (layout_slots self.old))
-            ⊎ (length (layout_slots self.new) ≡ length (layout_slots self.old) + 1)) }
-        ensures none { OnErr result (layout_slots self.new ≡ layout_slots self.old) }
-        ensures back { IfErr result (λ failed. failed.value ≡ layout) }
+        ensures grows { Grows (layout_slots self.old) (layout_slots self.new) }
+        ensures one { (length (layout_slots self.new) ≡ length (layout_slots self.old))
+            ⊎ (length (layout_slots self.new) ≡ length (layout_slots self.old) + 1) }
         ensures registry { registry_of self.new ≡ registry_of self.old }
     {
-        if self.reserve().is_err() {
-            return Err(AllocFailed { value: layout });
-        }
         // In their own table all layouts have one number.
-        let place = self.table.put(0, 0, layout);
-        Ok(LayoutHandle {
-            slot: self.table.hold(place, Use::Held),
-        })
+        LayoutHandle {
+            slot: self.table.put(0, 0, layout, Use::Held),
+        }
     }
 
     /// Removes a layout and returns it; `None` if the handle is invalid, and then nothing changes. It

@@ -1,13 +1,18 @@
--- The lists of slots, when a slot comes at the end, whose set a call has: for `SetTable::push`.
+-- The lists of slots, when a slot without a set comes at the end: for `SetTable::add_place`.
 use Rattle.std.proofs.lemmas.Grind.{common_steps}
-use Rattle.std.proofs.Common.{◌≡◌, ℕ, zero, suc, ◌+◌, Bool, false, if◌then◌else◌, List, [], ◌∷◌, ◌++◌, length, get_or, Some, refl, sym, ap, ◌∙◌, arith, rules}
+use Rattle.std.proofs.Common.{◌≡◌, ℕ, zero, suc, ◌+◌, Bool, true, if◌then◌else◌, List, [], ◌∷◌, ◌++◌, length, get_or, set, refl, sym, ap, subst, ◌∙◌, arith, rules}
+use Rattle.std.proofs.Math.Seq.{get_or-append_seam, set-append_seam}
+use Rattle.std.proofs.lemmas.List.{get_or_append_left, length_push}
 use Rattle.descriptor_table.specs.Places.{times, walk}
-use Rattle.descriptor_table.specs.Slots.{AreLinked, HasLists, IsListed, IsQueue, Slot, chain_at, frame_of, is_in, no_slot, slot_at, waits}
-use Rattle.descriptor_table.specs.Tables.{Puts, count, is_usable}
-use Rattle.descriptor_table.specs.declared.slot.Use.TheVariants.{Taken}
+use Rattle.descriptor_table.specs.Slots.{AreLinked, HasLists, IsListed, IsQueue, Slot, chain_at, filled, frame_of, is_in, no_slot, slot_at, waits}
+use Rattle.descriptor_table.specs.Tables.{Settings, AreAllUsed, At, Changes, HasRoom, Puts, count, generations_of, is_usable, slots_of, used_for}
+use Rattle.descriptor_table.specs.declared.set_table.SetTable.{SetTable}
+use Rattle.descriptor_table.specs.declared.slot.Use.TheVariants.{Taken, Vacant}
 use Rattle.descriptor_table.specs.declared.slot.Chain.{Chain}
 use Rattle.descriptor_table.proofs.Chains.{taken_no_list, taken_out}
 use Rattle.descriptor_table.proofs.Counting.{same_or}
+use Rattle.descriptor_table.proofs.Counts.{count_none}
+use Rattle.descriptor_table.proofs.Listed.{test_within}
 
 -- the next of each place stays with a 0 at the end, and so does each list
 next_grown : (next : List ℕ) (q : ℕ) → get_or (next ++ 0 ∷ []) q 0 ≡ get_or next q 0
@@ -44,19 +49,25 @@ module _ {T : Type 0} where
   count_grown test [] s = omega arith
   count_grown test (x ∷ slots) s = let h = count_grown test slots s in omega arith
 
-  -- a set came to a new slot
-  pub puts_last :
-      (generations : ℕ → ℕ) (layout : ℕ) (x : T) (old new : List (Slot T)) (p : ℕ) → p ≡ length old
-      → new
-      ≡ old
-      ++ record {
-        generation = 0;
-        layout = layout;
-        layout_generation = generations layout;
-        used = Taken;
-        kept_below = 4294967295;
-        set = Some x;
-      }
-      ∷ []
-      → ((q : ℕ) → is_usable (slot_at old q) ≡ false) → Puts generations layout x p old new
-  puts_last generations layout x old new p at is full = grind (arith, common_steps)
+  -- the slot at the end is the only usable one, if none was before
+  last_place : (slots : List (Slot T)) (s : Slot T) (p : ℕ) → AreAllUsed slots → is_usable (slot_at (slots ++ s ∷ []) p) ≡ true → p ≡ length slots
+  last_place slots s p full usable = grind (arith, common_steps, get_or_append_left slots (s ∷ []) no_slot p, length_push, test_within is_usable (slots ++ s ∷ []) p refl usable, full p)
+
+  puts_end : (generations : ℕ → ℕ) (layout : ℕ) (x : T) (p : ℕ) (old mid : List (Slot T)) → AreAllUsed old → p ≡ length old → mid ≡ old ++ filled layout (generations layout) x no_slot ∷ [] → Puts generations layout x p old mid
+  puts_end generations layout x p old mid full at is = grind (arith, common_steps)
+
+  module _ (a b : SetTable T) (none : count is_usable (slots_of a) ≡ 0) (grows : Changes (λ old new. new ≡ old ++ used_for Vacant no_slot ∷ []) a b) where
+    -- a set came to it
+    pub puts_last : (layout : ℕ) (x : T) (p : ℕ) (mid : List (Slot T)) → is_usable (slot_at (slots_of b) p) ≡ true → At p (filled layout (generations_of b layout) x) (slots_of b) mid → Puts (generations_of a) layout x p (slots_of a) mid
+    puts_last layout x p mid usable is =
+        let l = slots_of a in
+        let last : Slot T = used_for Vacant no_slot in
+        let full = count_none is_usable l refl none in
+        let at = last_place l last p full (ap (λ m. is_usable (slot_at m p)) (sym grows.slots) ∙ usable) in
+        let into = λ (m : List (Slot T)) (q : ℕ). set m q (filled layout (generations_of b layout) x (slot_at m q)) in
+        let made = is ∙ ap (λ m. into m p) grows.slots ∙ ap (into (l ++ last ∷ [])) at ∙ set-append_seam l last [] _ ∙ ap (λ s. l ++ filled layout (generations_of b layout) x s ∷ []) (get_or-append_seam l last [] no_slot) in
+        subst (λ generations. Puts generations layout x p l mid) (ap (λ (s : Settings). s.generations) grows.stays.settings) (puts_end (generations_of b) layout x p l mid full at made)
+
+    -- and there is room for as many sets as before
+    pub room_grown : (n : ℕ) → HasRoom (n + 1) a → HasRoom (n + 1) b
+    room_grown n room = grind (arith, common_steps, count_grown, length_push)

@@ -2,7 +2,7 @@
 -- Sets are counted by a weight that each has: with weight 1 it is their number, and for `Given` and `Returned` of the set manager how often
 -- an item is among them. `xs` are the sets that were given, `s` and `t` the iterator, or its table, before and after.
 use Rattle.std.proofs.lemmas.Grind.{common_steps}
-use Rattle.std.proofs.Common.{◌≡◌, ℕ, zero, suc, ◌+◌, ◌<◌, ne_eqb, Bool, true, false, is_some, List, [], ◌∷◌, length, set, zero-add, Option, Some, None, refl, sym, ap, subst, ◌∙◌, arith, rules}
+use Rattle.std.proofs.Common.{◌≡◌, ℕ, zero, suc, ◌+◌, ◌<◌, ne_eqb, Bool, false, List, [], ◌∷◌, length, set, zero-add, Option, Some, None, refl, sym, ap, subst, ◌∙◌, arith, rules}
 use Rattle.std.specs.Borrow.{MutBor}
 use Rattle.std.specs.Iterator.{MakesProgress, Yields, YieldsThen, at_most}
 use Rattle.std.specs.declared.iter.Iterator.{can_next-default}
@@ -14,8 +14,7 @@ use Rattle.descriptor_table.specs.declared.giving.Giving.{Giving}
 use Rattle.descriptor_table.specs.declared.giving.Group.{Group}
 use Rattle.descriptor_table.specs.declared.set_table.SetTable.{SetTable}
 use Rattle.descriptor_table.specs.Slots.{Slot}
-use Rattle.descriptor_table.proofs.Renewing.{goes_full, kept_is}
-use Rattle.descriptor_table.proofs.Turning.{Turning, due_full, stays_more, stays_same, turn_end, turn_start, turn_step}
+use Rattle.descriptor_table.proofs.Turning.{Turning, stays_more, stays_same, turn_end, turn_start, turn_step}
 
 -- what sets weigh
 abbrev pub tally : {T : Type 0} → (T → ℕ) → List T → ℕ
@@ -66,11 +65,7 @@ module _ {T : Type 0} where
   progress table test s t None gives = record { on = λ finite. tt; keeps = tt; rests = λ finite. tt }
   progress table test s t (Some x) gives = record { on = λ finite. (tt, tt, one_set_fewer test x (slots_of (table s).now) (slots_of (table t).now) gives); keeps = tt; rests = λ finite. tt }
 
-  -- a set of a group is there
-  pub group_full : (group : Group) (s : Slot T) → is_of group s ≡ true → is_some s.set ≡ true
-  group_full x0 s e = search (rules, due_full, goes_full, kept_is)
-
-  -- and a vacant slot has none
+  -- a vacant slot has no set of a group
   pub group_out : (group : Group) (s : Slot T) → is_of group (vacated s) ≡ false
   group_out x0 s = search (rules, ne_eqb)
 

@@ -4,6 +4,7 @@ pub mod Counting
 pub mod Counts
 pub mod Entries
 pub mod Growing
+pub mod Heads
 pub mod Holding
 pub mod Leaving
 pub mod Listed

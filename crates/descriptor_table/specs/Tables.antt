@@ -194,12 +194,6 @@ module _ {T : Type 0} where
     -- the table grows only if each slot has a set, or had its last generation
     pub grows : (length new ≡ length old) ⊎ ((length new ≡ length old + 1) × AreAllUsed old)
 
-  -- a set of the layout is in the table at the place, and used up room for one
-  pub record PutsInto (layout : ℕ) (set : T) (place : ℕ) (old new : SetTable T) : Type 0 where
-    pub puts : Puts (generations_of old) layout set place (slots_of old) (slots_of new)
-    pub reserve : (n : ℕ) → HasRoom (n + 1) old → HasRoom n new
-    pub settings : settings_of new ≡ settings_of old
-
   -- there are more slots only if each then has a set, or had its last generation
   abbrev pub Grows : Slots T → Slots T → Type 0
   Grows old new = (length new ≡ length old) ⊎ AreAllUsed new

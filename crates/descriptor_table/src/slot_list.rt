@@ -37,22 +37,21 @@ impl<T> Entry<T> {
     ghost use Rattle.descriptor_table.specs.Slots.{filled, no_slot, slot_of};
     ghost use Rattle.descriptor_table.specs.Tables.{used_for};
 
-    /// A new slot with a set that a call has taken.
-    #[inline]
-    pub(crate) fn new(layout: u32, layout_generation: u32, group: u8, set: T) -> Self
-        ensures slot { slot_of result ≡ filled layout layout_generation set no_slot }
+    /// A new slot, without a set, that a call has taken.
+    pub(crate) fn new() -> Self
+        ensures slot { slot_of result ≡ no_slot }
         ensures next { result.next ≡ 0 }
     {
         Entry {
             generation: 0,
-            layout,
-            layout_generation,
+            layout: 0,
+            layout_generation: 0,
             next: 0,
             frame: 0,
             state: State::Taken,
-            group,
-            kept_below: u32::MAX,
-            set: Some(set),
+            group: 0,
+            kept_below: 0,
+            set: None,
         }
     }
 
@@ -235,7 +234,7 @@ impl<T> SlotList<T> {
         self.entries[place].set.take()
     }
 
-    /// Puts a set into a slot that has none.
+    /// Puts a set into a slot that has none, and to a use, raises the slot's generation, and returns it.
     #[inline]
     pub(crate) fn fill(
         &mut self,
@@ -244,35 +243,37 @@ impl<T> SlotList<T> {
         layout_generation: u32,
         group: u8,
         set: T,
-    )
+        used: Use,
+    ) -> u32
         requires within { place < length (slots_in self.old) }
         requires empty { (slot_at (slots_in self.old) place).set ≡ None }
-        ensures writes { Writes place (filled layout layout_generation set) self.old self.new }
-        ensures nexts { nexts_in self.new ≡ slice_set (nexts_in self.old) place 0 }
+        requires next { (slot_at (slots_in self.old) place).generation < 4294967295 }
+        ensures generation { result ≡ (slot_at (slots_in self.old) place).generation + 1 }
+        ensures writes { Writes place (λ slot. renewed used (filled layout layout_generation set slot))
+            self.old self.new }
+        ensures nexts { nexts_in self.new ≡ nexts_in self.old }
     {
         let entry = &mut self.entries[place];
         entry.layout = layout;
         entry.layout_generation = layout_generation;
-        entry.next = 0;
-        entry.state = State::Taken;
         entry.group = group;
         entry.kept_below = u32::MAX;
         match entry.set.replace(set) {
             None => {}
             Some(_) => unreachable!(),
         }
+        entry.generation += 1;
+        entry.set_use(used);
+        entry.generation
     }
 
-    /// Puts a set into a new slot, in reserved memory.
-    #[inline]
-    pub(crate) fn push(&mut self, layout: u32, layout_generation: u32, group: u8, set: T)
+    /// Adds a slot without a set, in reserved memory.
+    pub(crate) fn push(&mut self)
         requires { length (slots_in self.old) < space_in self.old }
-        ensures slots { slots_in self.new ≡ slots_in self.old
-            ++ filled layout layout_generation set no_slot ∷ [] }
+        ensures slots { slots_in self.new ≡ slots_in self.old ++ no_slot ∷ [] }
         ensures nexts { nexts_in self.new ≡ nexts_in self.old ++ 0 ∷ [] }
         ensures space { space_in self.new ≡ space_in self.old }
     {
-        self.entries
-            .push_reserved(Entry::new(layout, layout_generation, group, set));
+        self.entries.push_reserved(Entry::new());
     }
 }

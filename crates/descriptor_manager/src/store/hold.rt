@@ -3,7 +3,7 @@ ghost use Rattle.std.specs.Prelude.{◌≡◌, ℕ, ◌+◌, ◌<◌, ◌≤◌,
 ghost use Rattle.gpu_descriptor.specs.Caller.Sets.{AreOfLayout};
 
 use super::Store;
-use descriptor_table::{SetHandle, SetName, Use};
+use descriptor_table::{SetName, Use};
 use gpu_descriptor::{DescriptorDevice, DescriptorSet};
 
 impl<L: Drop, P: Drop, S: Drop, D: DescriptorDevice<L, P, S>> Store<L, P, S, D> {
@@ -61,13 +61,14 @@ impl<L: Drop, P: Drop, S: Drop, D: DescriptorDevice<L, P, S>> Store<L, P, S, D> 
 
     /// Puts one of the new sets in `coming` to a use.
     #[inline(always)]
-    pub(super) fn hold_last(&mut self, layout: u32, used: Use) -> SetHandle
+    pub(super) fn hold_last<N: SetName<DescriptorSet<S>>>(&mut self, layout: u32, used: Use) -> N
         requires some { 0 < length self.old.coming.items }
         requires layout { HasLayout layout self.old }
         requires room { HasRoom (length self.old.coming.items) self.old.table }
         requires live { is_live (frame_of used) true used ≡ true }
-        ensures holds { HoldEach self.old.table.number (current_in layout self.old) used (result ∷ [])
-            (slots_in self.old) (slots_in self.new) }
+        ensures holds { HoldEach self.old.table.number (current_in layout self.old) used
+            (N.handle_of result ∷ []) (slots_in self.old) (slots_in self.new) }
+        ensures fits { N.fit result (slot_at (slots_in self.new) (N.handle_of result).place).set ≡ true }
         ensures fewer { length self.new.coming.items + 1 ≡ length self.old.coming.items }
         ensures own { (known : L) → AreOfLayout D.meaning known self.old.coming.items
             → AreOfLayout D.meaning known self.new.coming.items }
@@ -79,8 +80,7 @@ impl<L: Drop, P: Drop, S: Drop, D: DescriptorDevice<L, P, S>> Store<L, P, S, D> 
         match self.coming.pop() {
             Some(set) => {
                 let group = (set.key_id() % 256) as u8;
-                let place = self.table.put(layout, group, set);
-                self.table.hold(place, used)
+                self.table.put(layout, group, set, used)
             }
             None => unreachable!(),
         }
@@ -106,8 +106,7 @@ impl<L: Drop, P: Drop, S: Drop, D: DescriptorDevice<L, P, S>> Store<L, P, S, D> 
             → Holds (ComesOf D.meaning known layout) self.old self.new }
     {
         for index in 0..names.len() {
-            let handle = self.hold_last(layout, used);
-            names[index] = self.table.name_of(handle);
+            names[index] = self.hold_last(layout, used);
         }
     }
 }

@@ -1,6 +1,7 @@
 //! Sets that are put into slots, get handles, and leave.
-ghost use Rattle.std.specs.Prelude.{◌≡◌, ◌+◌, ◌<◌, true, false, is_some, IsSome, None, Some};
+ghost use Rattle.std.specs.Prelude.{◌≡◌, ◌≢◌, ℕ, ◌+◌, ◌<◌, [], ◌∷◌, ◌++◌, true, false, is_some, IsSome, None, Some};
 
+use super::waiting::enqueue;
 use super::{GOING, KEPT, SetTable, VACANT};
 use crate::giving::Group;
 use crate::handle::{SetHandle, SetName};
@@ -9,63 +10,85 @@ use crate::slot::Use;
 impl<T> SetTable<T> {
     ghost use Rattle.descriptor_table.specs.Giving.{is_of};
     ghost use Rattle.descriptor_table.specs.Sets.{find, is_held};
-    ghost use Rattle.descriptor_table.specs.Slots.{IsNowhere, filled, slot_at};
-    ghost use Rattle.descriptor_table.specs.Tables.{AreAllUsed, At, Changes, GivesAny};
-    ghost use Rattle.descriptor_table.specs.Tables.{HasRoom, HasTaken, IsTaken, PicksAny, PutsInto, Renews, Stays};
-    ghost use Rattle.descriptor_table.specs.Tables.{generations_of, lists_of};
-    ghost use Rattle.descriptor_table.specs.Tables.{slots_of, used_for, vacated};
+    ghost use Rattle.descriptor_table.specs.Slots.{Slots, filled, frame_of, is_due, is_in, is_live, no_slot, slot_at};
+    ghost use Rattle.descriptor_table.specs.Tables.{At, Changes, GivesAny, HasPlaces, HasRoom, IsTaken, Puts};
+    ghost use Rattle.descriptor_table.specs.Tables.{Renews, Stays, count, generations_of, is_usable, lists_of};
+    ghost use Rattle.descriptor_table.specs.Tables.{settings_of, slots_of, used_for, vacated};
 
-    /// Puts a set into a slot, in reserved memory, and returns its place. Sets of one group go next to each
-    /// other.
-    #[inline]
-    pub fn put(&mut self, layout: u32, group: u8, set: T) -> usize
+    /// Puts a set into a slot, in reserved memory, and to a use, and returns its name. In the list of those
+    /// that go, sets of one group come next to each other.
+    #[inline(always)]
+    pub fn put<N: SetName<T>>(&mut self, layout: u32, group: u8, set: T, used: Use) -> N
         requires room { HasRoom 1 self.old }
         requires layout { layout + 2 < lists_of self.old }
-        ensures { PutsInto layout set result self.old self.new }
+        requires live { is_live (frame_of used) true used ≡ true }
+        ensures puts { (mid : Slots T) × Puts (generations_of self.old) layout set
+            (N.handle_of result).place (slots_of self.old) mid × Renews self.old.number
+            (N.handle_of result).place used (N.handle_of result) mid (slots_of self.new) }
+        ensures fits { N.fit result (Some set) ≡ true }
+        ensures reserve { (n : ℕ) → HasRoom (n + 1) self.old → HasRoom n self.new }
+        ensures settings { settings_of self.new ≡ settings_of self.old }
     {
-        if let Some(place) = self.pick(VACANT) {
-            self.fill(place, layout, group, set);
-            return place;
+        if self.chain(VACANT).count == 0 {
+            self.add_place();
         }
-        self.push(layout, group, set)
+        self.fill(layout, group, set, used)
     }
 
-    /// Puts a set into a slot that has none.
-    #[inline]
-    fn fill(&mut self, place: usize, layout: u32, group: u8, set: T)
-        requires taken { IsTaken place (slots_of self.old) }
-        requires empty { (slot_at (slots_of self.old) place).set ≡ None }
-        requires layout { layout + 2 < lists_of self.old }
-        ensures { Changes (At place (filled layout (generations_of self.old layout) set)) self.old
-            self.new }
-    {
-        let layout_generation = self.generation(layout);
-        self.slots
-            .fill(place, layout, layout_generation, group, set);
-    }
-
-    /// Puts a set into a new slot, and returns its place.
-    #[inline]
-    fn push(&mut self, layout: u32, group: u8, set: T) -> usize
-        requires room { HasRoom 1 self.old }
-        requires layout { layout + 2 < lists_of self.old }
-        requires full { AreAllUsed (slots_of self.old) }
-        ensures { PutsInto layout set result self.old self.new }
+    /// Adds a slot without a set, in reserved memory. It is out of line, so that a set that gets a slot that is
+    /// there saves no registers for it.
+    #[inline(never)]
+    fn add_place(&mut self)
+        requires room { HasPlaces 1 self.old }
+        requires lists { 2 < lists_of self.old }
+        ensures { Changes (λ old new. new ≡ old ++ used_for Use.Vacant no_slot ∷ []) self.old self.new }
     {
         let place = self.slots.len();
-        let layout_generation = self.generation(layout);
-        self.slots.push(layout, layout_generation, group, set);
-        place
+        self.slots.push();
+        self.link(VACANT, place, Use::Vacant);
     }
 
-    /// The name of the set of a handle.
-    #[inline]
-    pub fn name_of<N: SetName<T>>(&self, handle: SetHandle) -> N
-        requires { is_some (slot_at (slots_of self.now) handle.place).set ≡ true }
-        ensures handle { N.handle_of result ≡ handle }
-        ensures fits { N.fit result (slot_at (slots_of self.now) handle.place).set ≡ true }
+    /// Puts a set into a slot that has none, and to a use, and returns its name.
+    #[inline(always)]
+    fn fill<N: SetName<T>>(&mut self, layout: u32, group: u8, set: T, used: Use) -> N
+        requires some { 0 < count is_usable (slots_of self.old) }
+        requires layout { layout + 2 < lists_of self.old }
+        requires live { is_live (frame_of used) true used ≡ true }
+        ensures usable { is_usable (slot_at (slots_of self.old) (N.handle_of result).place) ≡ true }
+        ensures renews { (mid : Slots T) × At (N.handle_of result).place (filled layout
+            (generations_of self.old layout) set) (slots_of self.old) mid × Renews self.old.number
+            (N.handle_of result).place used (N.handle_of result) mid (slots_of self.new) }
+        ensures fits { N.fit result (Some set) ≡ true }
+        ensures stays { Stays self.old self.new }
     {
-        N::of(handle, self.slots.at(handle.place as usize).set.as_ref())
+        let layout_generation = self.kept_list(layout).generation;
+        let head = &mut self.lists[VACANT];
+        let place = head.chain.first;
+        let next = self.slots.at(place as usize).next;
+        let generation = self.slots.fill(
+            place as usize,
+            layout,
+            layout_generation,
+            group,
+            set,
+            used,
+        );
+        head.chain.first = next;
+        head.chain.count -= 1;
+        let handle = SetHandle {
+            manager: self.number,
+            place,
+            generation,
+        };
+        let name = N::of(handle, self.slots.at(place as usize).set.as_ref());
+        enqueue(
+            &mut self.waiting,
+            &mut self.newest,
+            &self.slots,
+            place,
+            used,
+        );
+        name
     }
 
     /// Takes the set out of a slot.
@@ -98,24 +121,30 @@ impl<T> SetTable<T> {
     fn take_out(&mut self, place: usize) -> Option<T>
         requires taken { IsTaken place (slots_of self.old) }
         ensures set { result ≡ (slot_at (slots_of self.old) place).set }
-        ensures changes { Changes (λ old new. IsSome result → At place vacated old new) self.old
-            self.new }
+        ensures changes { Changes (At place vacated) self.old self.new }
     {
-        let set = self.empty(place)?;
+        let set = self.empty(place);
         self.vacate(place);
-        Some(set)
+        set
     }
 
-    /// Takes a set of a group out of its list, or out of the queue.
+    /// Takes a set out of its list, and out of its slot.
     #[inline]
-    fn pick_of(&mut self, group: Group) -> Option<usize>
-        ensures { Changes (PicksAny (is_of group) result) self.old self.new }
+    fn take_listed(&mut self, list: usize) -> Option<T>
+        requires { list ≢ 0 }
+        ensures { Changes (GivesAny (is_in list) result) self.old self.new }
     {
-        match group {
-            Group::Going => self.pick(GOING),
-            Group::Due(frame) => self.pick_due(frame),
-            Group::KeptOf(layout) => self.pick(layout as usize + KEPT),
-        }
+        let place = self.pick(list)?;
+        self.take_out(place)
+    }
+
+    /// Takes a set that waits for a frame up to this one out of its slot.
+    #[inline(never)]
+    fn take_due(&mut self, frame: u64) -> Option<T>
+        ensures { Changes (GivesAny (is_due frame) result) self.old self.new }
+    {
+        let place = self.pick_due(frame)?;
+        self.take_out(place)
     }
 
     /// Takes a set of a group out of its slot.
@@ -123,8 +152,12 @@ impl<T> SetTable<T> {
     pub(crate) fn take_of(&mut self, group: Group) -> Option<T>
         ensures { Changes (GivesAny (is_of group) result) self.old self.new }
     {
-        let place = self.pick_of(group)?;
-        self.take_out(place)
+        let list = match group {
+            Group::Going => GOING,
+            Group::KeptOf(layout) => layout as usize + KEPT,
+            Group::Due(frame) => return self.take_due(frame),
+        };
+        self.take_listed(list)
     }
 
     /// Takes the held set of a handle out of its slot.

@@ -5,7 +5,6 @@ ghost use Rattle.std.specs.List.Sorted.{IsNonDecreasingBy, IsPartitionPoint};
 ghost use Rattle.descriptor_table.specs.Slots.{IsQueue, Slot, frame_of, slot_at, slots_in, waits};
 
 use super::SetTable;
-use crate::handle::SetHandle;
 use crate::slot::Use;
 use crate::slot_list::SlotList;
 use std::collections::VecDeque;
@@ -94,30 +93,6 @@ impl<T> SetTable<T> {
             place as u32,
             used,
         );
-    }
-
-    /// Puts the set at a place, which a call has taken, to a use, and returns its next handle, for which
-    /// the slot's generation rises.
-    #[inline]
-    pub fn hold(&mut self, place: usize, used: Use) -> SetHandle
-        requires taken { HasTaken place (slots_of self.old) }
-        requires next { (slot_at (slots_of self.old) place).generation < 4294967295 }
-        requires live { is_live (frame_of used) true used ≡ true }
-        ensures { Changes (Renews self.old.number place used result) self.old self.new }
-    {
-        let generation = self.slots.renew(place, used);
-        enqueue(
-            &mut self.waiting,
-            &mut self.newest,
-            &self.slots,
-            place as u32,
-            used,
-        );
-        SetHandle {
-            manager: self.number,
-            place: place as u32,
-            generation,
-        }
     }
 
     /// Takes the first set that waits.

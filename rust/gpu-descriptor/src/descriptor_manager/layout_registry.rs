@@ -3,7 +3,7 @@
 
 use crate::descriptor_table::{SetHandle, SetTable, Use, place_of};
 use crate::gpu_descriptor::{DescriptorDevice, SetLayout};
-use crate::kit::alloc::{AllocError, AllocFailed, Global};
+use crate::kit::alloc::{AllocError, Global};
 use crate::kit::marker::PhantomData;
 
 /// The handle of a layout. It is valid only for the set manager that gave it, and only until the layout
@@ -52,6 +52,7 @@ impl<L, P, S, D: DescriptorDevice<L, P, S>> LayoutRegistry<L, P, S, D> {
     }
 
     /// Gives the table its lists, if it has none yet.
+    #[inline]
     fn reserve_list(&mut self) -> Result<(), AllocError>
     {
         if self.table.has_layouts() {
@@ -63,24 +64,22 @@ impl<L, P, S, D: DescriptorDevice<L, P, S>> LayoutRegistry<L, P, S, D> {
     }
 
     /// Reserves memory for one more layout.
-    fn reserve(&mut self) -> Result<(), AllocError>
+    #[inline]
+    pub fn reserve(&mut self) -> Result<(), AllocError>
     {
         self.reserve_list()?;
         self.table.reserve(1)
     }
 
-    /// Adds a layout and returns its handle. It takes the slot that was vacated last, or else a new one.
-    /// If memory runs out it returns the layout in the error, and nothing changes.
-    pub fn add(&mut self, layout: SetLayout<L>) -> Result<LayoutHandle, AllocFailed<SetLayout<L>>>
+    /// Adds a layout, in reserved memory, and returns its handle. It takes the slot that was vacated last,
+    /// or else a new one.
+    #[inline]
+    pub fn add(&mut self, layout: SetLayout<L>) -> LayoutHandle
     {
-        if self.reserve().is_err() {
-            return Err(AllocFailed { value: layout });
-        }
         // In their own table all layouts have one number.
-        let place = self.table.put(0, 0, layout);
-        Ok(LayoutHandle {
-            slot: self.table.hold(place, Use::Held),
-        })
+        LayoutHandle {
+            slot: self.table.put(0, 0, layout, Use::Held),
+        }
     }
 
     /// Removes a layout and returns it; `None` if the handle is invalid, and then nothing changes. It

@@ -78,19 +78,15 @@ impl<L, P, S, D: DescriptorDevice<L, P, S>> SetManager<L, P, S, D> {
         layout: SetLayout<L>,
     ) -> Result<LayoutHandle, AllocFailed<SetLayout<L>>>
     {
-        if self.store.reserve_layout().is_err() {
+        if self.store.reserve_layout().is_err() || self.layouts.reserve().is_err() {
             return Err(AllocFailed { value: layout });
         }
         let places = self.layouts.places();
-        match self.layouts.add(layout) {
-            Ok(handle) => {
-                if self.layouts.places() > places {
-                    self.store.add_layout();
-                }
-                Ok(handle)
-            }
-            Err(failed) => Err(failed),
+        let handle = self.layouts.add(layout);
+        if self.layouts.places() > places {
+            self.store.add_layout();
         }
+        Ok(handle)
     }
 
     /// Removes a layout and returns it. Its handle is invalid from now on. The layout's kept sets return

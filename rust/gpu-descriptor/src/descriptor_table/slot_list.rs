@@ -32,20 +32,19 @@ pub struct Entry<T> {
 }
 
 impl<T> Entry<T> {
-    /// A new slot with a set that a call has taken.
-    #[inline]
-    pub(crate) fn new(layout: u32, layout_generation: u32, group: u8, set: T) -> Self
+    /// A new slot, without a set, that a call has taken.
+    pub(crate) fn new() -> Self
     {
         Entry {
             generation: 0,
-            layout,
-            layout_generation,
+            layout: 0,
+            layout_generation: 0,
             next: 0,
             frame: 0,
             state: State::Taken,
-            group,
-            kept_below: u32::MAX,
-            set: Some(set),
+            group: 0,
+            kept_below: 0,
+            set: None,
         }
     }
 
@@ -182,7 +181,7 @@ impl<T> SlotList<T> {
         self.entries[place].set.take()
     }
 
-    /// Puts a set into a slot that has none.
+    /// Puts a set into a slot that has none, and to a use, raises the slot's generation, and returns it.
     #[inline]
     pub(crate) fn fill(
         &mut self,
@@ -191,26 +190,26 @@ impl<T> SlotList<T> {
         layout_generation: u32,
         group: u8,
         set: T,
-    )
+        used: Use,
+    ) -> u32
     {
         let entry = &mut self.entries[place];
         entry.layout = layout;
         entry.layout_generation = layout_generation;
-        entry.next = 0;
-        entry.state = State::Taken;
         entry.group = group;
         entry.kept_below = u32::MAX;
         match entry.set.replace(set) {
             None => {}
             Some(_) => unreachable!(),
         }
+        entry.generation += 1;
+        entry.set_use(used);
+        entry.generation
     }
 
-    /// Puts a set into a new slot, in reserved memory.
-    #[inline]
-    pub(crate) fn push(&mut self, layout: u32, layout_generation: u32, group: u8, set: T)
+    /// Adds a slot without a set, in reserved memory.
+    pub(crate) fn push(&mut self)
     {
-        self.entries
-            .push_reserved(Entry::new(layout, layout_generation, group, set));
+        self.entries.push_reserved(Entry::new());
     }
 }

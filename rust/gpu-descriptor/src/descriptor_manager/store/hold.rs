@@ -2,7 +2,7 @@
 //! Sets that are put to a use, under the next handles of their slots.
 
 use super::Store;
-use crate::descriptor_table::{SetHandle, SetName, Use};
+use crate::descriptor_table::{SetName, Use};
 use crate::gpu_descriptor::{DescriptorDevice, DescriptorSet};
 
 impl<L, P, S, D: DescriptorDevice<L, P, S>> Store<L, P, S, D> {
@@ -29,13 +29,12 @@ impl<L, P, S, D: DescriptorDevice<L, P, S>> Store<L, P, S, D> {
 
     /// Puts one of the new sets in `coming` to a use.
     #[inline(always)]
-    pub(super) fn hold_last(&mut self, layout: u32, used: Use) -> SetHandle
+    pub(super) fn hold_last<N: SetName<DescriptorSet<S>>>(&mut self, layout: u32, used: Use) -> N
     {
         match self.coming.pop() {
             Some(set) => {
                 let group = (set.key_id() % 256) as u8;
-                let place = self.table.put(layout, group, set);
-                self.table.hold(place, used)
+                self.table.put(layout, group, set, used)
             }
             None => unreachable!(),
         }
@@ -50,8 +49,7 @@ impl<L, P, S, D: DescriptorDevice<L, P, S>> Store<L, P, S, D> {
     )
     {
         for index in 0..names.len() {
-            let handle = self.hold_last(layout, used);
-            names[index] = self.table.name_of(handle);
+            names[index] = self.hold_last(layout, used);
         }
     }
 }

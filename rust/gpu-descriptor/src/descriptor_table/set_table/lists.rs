@@ -18,16 +18,6 @@ impl<T> SetTable<T> {
         }
     }
 
-    /// How many layouts of a number were removed.
-    #[inline]
-    pub(super) fn generation(&self, layout: u32) -> u32
-    {
-        match self.lists.get(layout as usize + KEPT) {
-            Some(head) => head.generation,
-            None => 0,
-        }
-    }
-
     /// Takes the first slot out of a list.
     #[inline]
     pub(super) fn pick(&mut self, list: usize) -> Option<usize>

@@ -2,7 +2,6 @@
 //! The queue of the sets that wait for a frame.
 
 use super::SetTable;
-use crate::descriptor_table::handle::SetHandle;
 use crate::descriptor_table::slot::Use;
 use crate::descriptor_table::slot_list::SlotList;
 use crate::kit::collections::VecDeque;
@@ -66,26 +65,6 @@ impl<T> SetTable<T> {
             place as u32,
             used,
         );
-    }
-
-    /// Puts the set at a place, which a call has taken, to a use, and returns its next handle, for which
-    /// the slot's generation rises.
-    #[inline]
-    pub fn hold(&mut self, place: usize, used: Use) -> SetHandle
-    {
-        let generation = self.slots.renew(place, used);
-        enqueue(
-            &mut self.waiting,
-            &mut self.newest,
-            &self.slots,
-            place as u32,
-            used,
-        );
-        SetHandle {
-            manager: self.number,
-            place: place as u32,
-            generation,
-        }
     }
 
     /// Takes the first set that waits.

@@ -1,14 +1,12 @@
 use Rattle.std.proofs.lemmas.Grind.{common_steps}
-use Rattle.std.proofs.Common.{◌≡◌, true, ◌+◌, ◌∙◌, [], ◌∷◌, sym, subst, take, arith}
+use Rattle.std.proofs.Common.{◌+◌, ◌∙◌, refl, sym, subst, take, arith}
 use Rattle.std.proofs.lemmas.List.{length-set, take_all}
 use Rattle.descriptor_table.specs.Sets.{AllFit}
-use Rattle.descriptor_table.specs.Slots.{slot_at}
-use Rattle.descriptor_table.specs.declared.handle.SetHandle.{SetHandle}
 use Rattle.descriptor_table.proofs.Names.{handles_long, handles_written}
 use Rattle.descriptor_manager.specs.Stores.{HoldEach, ComesOf, current_in, slots_in}
 use Rattle.descriptor_manager.proofs.Fitting.{fit_more}
 use Rattle.descriptor_manager.proofs.Growing.{grow_more}
-use Rattle.descriptor_manager.proofs.Joining.{held_full, held_next, held_start, held_stays, sets_then, stays_then, store_same}
+use Rattle.descriptor_manager.proofs.Joining.{held_next, held_start, held_stays, sets_then, stays_then, store_same}
 use Rattle.descriptor_manager.proofs.store.Store.hold_coming.Goals as goal
 
 pub loop-index-init : goal.loop-index-init
@@ -17,19 +15,18 @@ loop-index-init g c = grind (arith, common_steps, held_start, store_same)
 pub loop-index-preserved : goal.loop-index-preserved
 loop-index-preserved g c =
     let was = c.loop-index.invariant in
-    let now = c.hold_last-handle.ensures in
+    let now = c.hold_last.ensures in
     let i = c.loop-index.index in
     let s = c.args.self.now in
-    let new = c.hold_last-handle.new.self in
-    let written = handles_written g.N.SetName g.met.N.SetName.each c.loop-index.names _ _ _ c.name_of.ensures.handle in
+    let new = c.hold_last.new.self in
+    let written = handles_written g.N.SetName g.met.N.SetName.each c.loop-index.names _ _ _ refl in
     let all = handles_long g.N.SetName g.met.N.SetName.each c.loop-index.names in
     record {
       long = length-set _ _ _ ∙ was.long;
       holds = subst (λ l. HoldEach s.table.number (current_in c.args.layout s) c.args.used (take (i + 1) l) (slots_in s) (slots_in new))
           (sym written) (held_next _ _ c.requires.live _ _ _ s c.loop-index.self new was.stays (omega arith) was.holds now.holds);
       fit = fit_more g.N.SetName g.met.N.SetName.each _ _ _ c.requires.live c.loop-index.names i _ _ _ _ (omega arith) was.holds
-          (subst (λ h. HoldEach s.table.number (current_in c.args.layout s) c.args.used (h ∷ []) (slots_in c.loop-index.self) (slots_in new)) (sym c.name_of.ensures.handle) (held_stays _ _ _ _ _ s c.loop-index.self was.stays now.holds))
-          was.fit (subst (λ (h : SetHandle). g.N.SetName.fit c.name_of.result (slot_at (slots_in new) h.place).set ≡ true) (sym c.name_of.ensures.handle) c.name_of.ensures.fits);
+          (held_stays _ _ _ _ _ s c.loop-index.self was.stays now.holds) was.fit now.fits;
       fewer = omega arith;
       own = λ known own. now.own known (was.own known own);
       table = now.table;
@@ -44,9 +41,6 @@ loop-index-preserved g c =
             stays = stays_then _ _ _ before.stays here.stays;
           };
     }
-
-pub name_of-requires : goal.name_of-requires
-name_of-requires g c = held_full _ _ _ _ _ _ c.hold_last-handle.ensures.holds
 
 pub returns-clause-fit : goal.returns-clause-fit
 returns-clause-fit g c = subst (AllFit g.N.SetName.handle_of g.N.SetName.fit (slots_in c.loop-index.self)) (take_all c.loop-index.index c.loop-index.names (let end = c.loop-index-test.false in let long = c.loop-index.invariant.long in omega arith)) c.loop-index.invariant.fit
