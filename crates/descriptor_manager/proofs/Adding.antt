@@ -37,7 +37,7 @@ module _ {T : Type 0} {number p : ℕ} {x : T} {handle : SetHandle} {old mid new
 
   -- each layout that is there was there before, or is the new one
   pub added_only : (n : ℕ) (y : T) → (slot_at new n).set ≡ Some y → ((slot_at old n).set ≡ Some y) ⊎ (y ≡ x)
-  added_only n y is = grind (arith, common_steps, added_here puts renews, added_there puts renews, same_or, same_some)
+  added_only n y is = grind (arith, common_steps, added_here puts renews, added_there puts renews n, same_or n p, same_some)
 
   -- and is held, as those before
   pub added_held : ((n : ℕ) → is_some (slot_at old n).set ≡ true → (slot_at old n).used ≡ Held) → (n : ℕ) → is_some (slot_at new n).set ≡ true → (slot_at new n).used ≡ Held

@@ -51,14 +51,17 @@ module _ {T : Type 0} where
 
     -- no two of all these handles have one place
     join_apart : (i j : ℕ) → i < j → j < length (a ++ b) → place_at (a ++ b) i ≢ place_at (a ++ b) j
-    join_apart i j lt less e = search (rules, apart_places, spot)
+    join_apart i j lt less e = grind (arith, apart_places, spot a b j less, spot a b i (omega arith))
 
     -- sets with the handles `a`, and then sets with `b`, have the handles of both lists
     pub joined : HoldEach number layout u (a ++ b) old new
     joined = record {
       apart = join_apart;
-      is = λ i e lt. search (rules, get_or-append-add, get_or_append_left, later, next_of, spot);
-      comes = λ i lt. search (rules, first, later, spot);
+      is = λ i e lt. elim (spot a b i lt) [
+        | inl s ↦ get_or_append_left a b e i s.0 ∙ x.is i e s.0 ∙ ap (λ p. next_of number p (slot_at old p)) (sym s.1)
+        | inr s ↦ ap (λ j. get_or (a ++ b) j e) s.2 ∙ get_or-append-add a b s.0 e ∙ y.is s.0 e s.1 ∙ ap (next_of number (place_at b s.0)) (later s.0 s.1) ∙ ap (λ p. next_of number p (slot_at old p)) (sym s.3)
+      ];
+      comes = λ i lt. search (rules, first, later, x.comes, y.comes, spot a b i lt);
       rest = λ p none.
           y.rest p (λ k less e. none (length a + k) (let long = length-append a b in omega arith) (ap (λ (h : SetHandle). h.place) (get_or-append-add a b k (record { manager = 0; place = 0; generation = 0 })) ∙ e))
           ∙ x.rest p (λ i lt e. none i (let long = length-append a b in omega arith) (ap (λ (h : SetHandle). h.place) (get_or_append_left a b (record { manager = 0; place = 0; generation = 0 }) i lt) ∙ e));
@@ -72,7 +75,7 @@ module _ {T : Type 0} where
       → (i : ℕ) → i < n + 1 → is_kept_of layout (slot_at old (place_at (set now n handle) i)) ≡ true
   were_kept number under u layout n now handle old mid live within x each last i lt = elim (cases_lt i n) [
     | inl less ↦ search rules
-    | inr le ↦ search rules
+    | inr le ↦ let same : i ≡ n = omega arith in search rules
   ]
 
   -- kept sets may have left their slots before the first set came
@@ -113,7 +116,7 @@ module _ {T : Type 0} where
 
     -- each of the handles names a set
     names_set : (frame : ℕ) (opened : Bool) → is_live frame opened u ≡ true → (i : ℕ) (d : SetHandle) → i < length handles → IsSome (find number frame opened new (get_or handles i d))
-    names_set frame opened live i d lt = search (rules, came_full, came_next, came_used, seen_next)
+    names_set frame opened live i d lt = grind (arith, common_steps, x.is i d lt, came_full, came_next, came_used, seen_next)
 
     -- none of them was ever given before, and all others name what they named
     pub are_named : (frame : ℕ) (opened : Bool) → is_live frame opened u ≡ true → NameEach handles (sets_of number frame opened old) (sets_of number frame opened new)

@@ -1,5 +1,5 @@
 -- Requests that kept sets met, or kept and new ones, or none: for `Store::allocate`, `allocate_new`, `allocate_each` and `allocate_with_new`.
-use Rattle.std.proofs.Common.{◌≡◌, ◌∙◌, ℕ, ◌+◌, ◌-◌, ◌<◌, ◌≤◌, true, List, [], length, Ok, Err, inl, refl, ap, arith, rules}
+use Rattle.std.proofs.Common.{◌≡◌, ◌∙◌, ℕ, ◌+◌, ◌-◌, ◌<◌, ◌≤◌, true, List, [], length, Ok, Err, inl, refl, ap, arith}
 use Rattle.gpu_descriptor_types.specs.declared.device.DescriptorDevice.{Ghosts}
 use Rattle.gpu_descriptor_types.specs.Side.{Side}
 use Rattle.gpu_descriptor.specs.Caller.Sets.{items_of}
@@ -89,4 +89,10 @@ module _ {L P S D : Type 0} {d : Ghosts D L P S} {R : Type 0} (known : L) (layou
   pub from_refused :
       (handles : List SetHandle) (error : AllocationError) → KeepsStore old asked → IsRefusedAtLast known (many - kept_of layout old) many error old asked → asked.coming.items ≡ []
       → Requests {R = R} known layout many u handles (Err error) old asked
-  from_refused handles error stays refused none = search (rules, arrived, grow_refused, refused_arrives)
+  from_refused handles error stays refused none = record {
+    takes = tt;
+    kept = λ enough. absurd (omega arith);
+    refused = refused;
+    settles = arrived _ old asked (refused_arrives _ known (many - kept_of layout old) many error old asked refused) none rest stays;
+    grows = grow_refused known (many - kept_of layout old) many error old asked refused;
+  }

@@ -1,4 +1,3 @@
-use Rattle.std.proofs.lemmas.Grind.{common_steps}
 use Rattle.std.proofs.Common.{false, ◌≡◌, ◌≢◌, ◌<◌, ℕ, suc, [], ◌∷◌, length, slice_index_or, refl, sym, ap, ◌∙◌, subst, arith, rules}
 use Rattle.descriptor_table.specs.Sets.{find, is_given}
 use Rattle.descriptor_table.specs.Tables.{Settings, Grows, lists_with}
@@ -32,7 +31,7 @@ invariant_of-self-then-is_err-2-clause-sets g c = let d = goal.at.invariant_of-s
 pub invariant_of-self-then-places-clause-sets : goal.invariant_of-self-then-places-clause-sets
 invariant_of-self-then-places-clause-sets g c =
     let d = goal.at.invariant_of-self-then-places-clause-sets g c in
-    let long : suc (length (layout_slots c.reserve.new.self)) ≡ length (layout_slots c.add-handle.new.self) = grind (arith, common_steps) in
+    let long : suc (length (layout_slots c.reserve.new.self)) ≡ length (layout_slots c.add-handle.new.self) = omega (arith, c.add-handle.ensures.one) in
     let now = c.add_layout.ensures in
     let s = now.settings in
     let sets = reserved_both g d.After-reserve (reserved g d.After-reserve_layout) in
@@ -43,7 +42,7 @@ invariant_of-self-then-places-clause-sets g c =
 pub invariant_of-self-else-places-clause-sets : goal.invariant_of-self-else-places-clause-sets
 invariant_of-self-else-places-clause-sets g c =
     let d = goal.at.invariant_of-self-else-places-clause-sets g c in
-    let long : length (layout_slots c.reserve.new.self) ≡ length (layout_slots c.add-handle.new.self) = grind (arith, common_steps) in
+    let long : length (layout_slots c.reserve.new.self) ≡ length (layout_slots c.add-handle.new.self) = omega (arith, c.add-handle.ensures.one) in
     let sets = reserved_both g d.After-reserve (reserved g d.After-reserve_layout) in
     sets_as _ _ _ _ _ refl refl refl refl (sets.lists ∙ ap lists_for long) c.add-handle.ensures.stay (c.add-handle.ensures.counted _) sets
 

@@ -1,5 +1,4 @@
-use Rattle.std.proofs.lemmas.Grind.{common_steps}
-use Rattle.std.proofs.Common.{arith, rules}
+use Rattle.std.proofs.Common.{rules}
 use Rattle.descriptor_manager.specs.Stores.{slots_in}
 use Rattle.descriptor_manager.proofs.Owned.{sets_stay}
 use Rattle.descriptor_manager.proofs.Showing.{cleaned_names}
@@ -11,7 +10,7 @@ pub invariant_of-self-clause-sets : goal.invariant_of-self-clause-sets
 invariant_of-self-clause-sets g c = sets_stay c.cleanup.ensures.settles c.args.self.now.sets
 
 pub returns-clause-emptied : goal.returns-clause-emptied
-returns-clause-emptied g c = grind (arith, common_steps, cleaned_empty)
+returns-clause-emptied g c = λ held waits. c.cleanup.ensures.emptied (cleaned_empty (slots_in c.args.self.now.store) (slots_in c.cleanup.new.self) c.args.self.now.sets.rest.placed c.cleanup.ensures.cleaned held waits)
 
 pub returns-clause-none_kept : goal.returns-clause-none_kept
 returns-clause-none_kept g c = none_left (slots_in c.args.self.now.store) (slots_in c.cleanup.new.self) c.cleanup.ensures.cleaned

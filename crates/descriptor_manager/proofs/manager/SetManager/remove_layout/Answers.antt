@@ -15,8 +15,9 @@ use Rattle.descriptor_table.proofs.Leaving.{group_out}
 use Rattle.descriptor_table.proofs.Naming.{names_kept}
 use Rattle.descriptor_table.proofs.Listed.{other_slots, slot_set}
 use Rattle.descriptor_manager.specs.Own.{AreCounted, AreOwn, IsOwn}
-use Rattle.descriptor_manager.specs.LayoutRegistries.{layout_slots}
-use Rattle.descriptor_manager.specs.Stores.{generations_in, lists_for, slots_in}
+use Rattle.descriptor_manager.specs.LayoutRegistries.{layout_slots, layouts_by}
+use Rattle.descriptor_manager.specs.Stores.{generations_in, lists_for, side_of, slots_in}
+use Rattle.descriptor_manager.specs.Managers.{seen}
 use Rattle.descriptor_manager.proofs.Naming.{kept_as}
 use Rattle.descriptor_manager.proofs.Showing.{quiet_shown, turned}
 use Rattle.descriptor_manager.proofs.Owned.{layout_here, layout_within}
@@ -118,4 +119,4 @@ returns-in-Some-clause-others g c = λ other ne.
     (c.in-Some.ensures.names refl).others other.slot (All-cons (λ h. h ≢ other.slot) c.args.layout.slot [] apart (All-nil (λ h. h ≢ other.slot)))
 
 pub returns-in-Some-clause-rest : goal.returns-in-Some-clause-rest
-returns-in-Some-clause-rest g c = let names = c.in-Some.ensures.names refl in search rules
+returns-in-Some-clause-rest g c = let new = c.remove_layout.new.self in let stays = c.remove_layout.ensures.settles.stays in λ i. record (seen c.args.self.now) { layouts = λ h. (layouts_by c.remove.new.self).set h.slot; given = λ h. (c.in-Some.ensures.names refl).given h.slot i; slots = slots_in new; generations = generations_in new; keep = (stays.settings i).keep; side = side_of new; pools_besides = stays.besides i; limit = stays.limit i; bound = stays.bound i }

@@ -1,4 +1,4 @@
-use Rattle.std.proofs.Common.{◌≡◌, ◌<◌, ℕ, [], ◌∷◌, length, true, arith, rules}
+use Rattle.std.proofs.Common.{◌≡◌, ◌<◌, ℕ, zero, suc, [], ◌∷◌, length, true, arith}
 use Rattle.descriptor_table.specs.Slots.{is_kept_of, slot_at}
 use Rattle.descriptor_table.specs.Tables.{place_at}
 use Rattle.descriptor_manager.specs.Stores.{slots_in}
@@ -7,7 +7,8 @@ use Rattle.descriptor_manager.proofs.store.Store.allocate.Goals.{After-hold_next
 use Rattle.descriptor_manager.proofs.store.Store.allocate.Goals as goal
 
 was_kept : (g : _) (c : After-hold_next g) (i : ℕ) → i < length (c.hold_next.result ∷ []) → is_kept_of c.args.layout (slot_at (slots_in c.args.self.now) (place_at (c.hold_next.result ∷ []) i)) ≡ true
-was_kept g c x2 lt = search rules
+was_kept g c zero lt = c.hold_next.ensures.was_kept
+was_kept g c (suc i) lt = absurd (omega arith)
 
 pub returns : goal.returns
 returns g c =

@@ -1,5 +1,5 @@
 use Rattle.std.proofs.lemmas.Grind.{common_steps}
-use Rattle.std.proofs.Common.{◌≡◌, rules, arith}
+use Rattle.std.proofs.Common.{◌≡◌, ◌∙◌, rules, arith}
 use Rattle.descriptor_table.specs.Sets.{sets_in}
 use Rattle.descriptor_table.specs.Tables.{is_kept, slots_of}
 use Rattle.descriptor_manager.proofs.Given.{accounted_as, exact_as}
@@ -22,4 +22,4 @@ pub returns-clause-cleaned : goal.returns-clause-cleaned
 returns-clause-cleaned g c = search (rules, cleaned)
 
 pub returns-clause-settles : goal.returns-clause-settles
-returns-clause-settles g c = search (rules, cleaned, follow_cleaned, settled)
+returns-clause-settles g c = settled _ _ (follow_cleaned _ _ (returns-clause-cleaned g c)) (c.give.ensures.coming ∙ c.requires.rest.none_coming) c.requires.rest (search rules)

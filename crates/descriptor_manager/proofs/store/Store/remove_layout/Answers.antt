@@ -40,4 +40,4 @@ returns-clause-removes g c =
     }
 
 pub returns-clause-settles : goal.returns-clause-settles
-returns-clause-settles g c = search (rules, follow_turns, follows_vacated, settled, turns)
+returns-clause-settles g c = settled _ _ (follow_turns _ _ _ _ (turns g (goal.at.returns-clause-settles g c).After-remove_layout) follows_vacated) (c.give.ensures.coming ∙ c.requires.rest.none_coming) c.requires.rest (search rules)

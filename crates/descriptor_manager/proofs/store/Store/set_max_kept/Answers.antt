@@ -1,5 +1,5 @@
 use Rattle.std.proofs.lemmas.Grind.{common_steps}
-use Rattle.std.proofs.Common.{◌≡◌, ◌+◌, ◌-◌, ap, subst, arith, rules}
+use Rattle.std.proofs.Common.{◌≡◌, ◌∙◌, ◌+◌, ◌-◌, ap, subst, arith, rules}
 use Rattle.descriptor_table.specs.Sets.{sets_in}
 use Rattle.descriptor_table.specs.Slots.{goes, is_in, chains_in, nexts_in, slots_in}
 use Rattle.descriptor_table.specs.Tables.{Turns, Becomes, count, is_kept, slots_of, vacated, MayBecome}
@@ -45,4 +45,4 @@ pub returns-clause-as_many : goal.returns-clause-as_many
 returns-clause-as_many g c = grind (arith, common_steps, given_kept, gives)
 
 pub returns-clause-settles : goal.returns-clause-settles
-returns-clause-settles g c = search (rules, all, follow_turns, follows_left, settled)
+returns-clause-settles g c = settled _ _ (follow_turns _ _ _ _ (all g c) (follows_left (slots_of c.give.new.self.table))) (c.give.ensures.coming ∙ c.requires.rest.none_coming) c.requires.rest (search rules)
