@@ -65,12 +65,14 @@ pub(super) fn enqueue<T>(
         return;
     }
     let frame = used.frame();
-    if *newest > frame {
-        enqueue_earlier(waiting, slots, place, frame);
-        return;
+    if *newest != frame {
+        if *newest > frame {
+            enqueue_earlier(waiting, slots, place, frame);
+            return;
+        }
+        *newest = frame;
     }
     waiting.push_back_reserved(place);
-    *newest = frame;
 }
 
 impl<T> SetTable<T> {

@@ -8,7 +8,7 @@ use Rattle.descriptor_table.specs.declared.slot.Use.{Use}
 use Rattle.descriptor_table.proofs.Waiting.{few_wait, out_queue, put_queue, still_bound, still_rises}
 use Rattle.descriptor_table.proofs.set_table.waiting.enqueue.Given.{Over}
 use Rattle.descriptor_table.proofs.set_table.waiting.enqueue.Goals as goal
-use Rattle.descriptor_table.proofs.set_table.waiting.enqueue.Goals.{After-frame-frame}
+use Rattle.descriptor_table.proofs.set_table.waiting.enqueue.Goals.{After-frame-frame, Joined-newest-frame, then-newest-frame+else-newest-frame-2, else-newest-frame}
 
 -- whether a set in this use waits
 waits_in : {T : Type 0} (s : Slot T) (used : Use) (b : _) → s.used ≡ used → is_some s.set ≡ true → waits_for (λ f. true) used ≡ b → waits s ≡ b
@@ -48,12 +48,12 @@ enqueue_earlier-requires-clause-rises g c =
     let came = c.requires.came in
     subst (λ l. IsNonDecreasingBy (λ p. frame_of (slot_at l p).used) c.args.waiting.now.items) (sym came.2) (still_rises came.0 c.args.waiting.now.items c.args.newest.now came.6 c.args.place came.1 (within g d) came.5 (now_waits g d))
 
-pub returns-then-newest-frame-clause-queue : goal.returns-then-newest-frame-clause-queue
-returns-then-newest-frame-clause-queue g c =
-    let d = (goal.at.returns-then-newest-frame-clause-queue g c).After-frame-frame in
+pub returns-then-newest-frame-2-clause-queue : goal.returns-then-newest-frame-2-clause-queue
+returns-then-newest-frame-2-clause-queue g c =
+    let d = (goal.at.returns-then-newest-frame-2-clause-queue g c).After-frame-frame in
     let came = c.requires.came in
     let put = c.enqueue_earlier.ensures.items in
-    let above = c.if-newest-frame.true in
+    let above = c.if-newest-frame-2.true in
     let f = c.frame-frame.result in
     let point = subst (λ l. IsPartitionPoint (λ q. frame_of (slot_at l q).used ≤ f) (λ q. f < frame_of (slot_at l q).used) c.args.waiting.now.items put.0) came.2 put.2 in
     subst (λ l. IsQueue l c.enqueue_earlier.new.waiting.items c.args.newest.now) (sym came.2)
@@ -64,17 +64,26 @@ returns-then-newest-frame-clause-queue g c =
 pub push_back_reserved-requires : goal.push_back_reserved-requires
 push_back_reserved-requires g c = (let room = room g (goal.at.push_back_reserved-requires g c).After-frame-frame in let ok = c.args.waiting.now.ok in omega arith)
 
+-- no set waits for a later frame than this one
+newest : (g : Over) (c : Joined-newest-frame g) → (c.args.newest.now ≤ c.frame-frame.result) × (c.if-newest-frame.newest ≡ c.frame-frame.result)
+newest g c = elim c.if-newest-frame.branch [
+  | then-newest-frame+else-newest-frame-2 w ↦ grind (arith, common_steps)
+  | else-newest-frame w ↦ grind (arith, common_steps)
+]
+
 pub returns-clause-queue : goal.returns-clause-queue
 returns-clause-queue g c =
     let d = (goal.at.returns-clause-queue g c).After-frame-frame in
     let came = c.requires.came in
     let l = c.args.waiting.now.items in
-    let newest = c.args.newest.now in
+    let was = c.args.newest.now in
     let f = c.frame-frame.result in
-    let not_above = c.if-newest-frame.false in
-    subst (λ l. IsQueue l c.push_back_reserved.new.self.items f) (sym came.2)
+    let is = newest g (goal.at.returns-clause-queue g c).Joined-newest-frame in
+    let not_above = is.0 in
+    subst (IsQueue (slots_in c.args.slots.now) c.push_back_reserved.new.self.items) (sym is.1)
+    (subst (λ l. IsQueue l c.push_back_reserved.new.self.items f) (sym came.2)
     (subst (λ l. IsQueue (slice_set came.0 c.args.place came.1) l f) (insert_end l c.args.place ∙ sym c.push_back_reserved.ensures.items)
-    (put_queue came.0 l newest came.6 c.args.place came.1 (within g d) came.5 (now_waits g d)
+    (put_queue came.0 l was came.6 c.args.place came.1 (within g d) came.5 (now_waits g d)
     f (length l) f (frame_is came.1 c.args.used f came.3 c.frame-frame.ensures) (omega arith)
-    (λ k d' low lt. (let bound = still_bound came.0 l newest came.6 c.args.place came.1 (within g d) came.5 (now_waits g d) k d' (omega arith) in omega arith), λ k d' past lt. absurd (omega arith))
-    (omega arith) (omega arith)))
+    (λ k d' low lt. (let bound = still_bound came.0 l was came.6 c.args.place came.1 (within g d) came.5 (now_waits g d) k d' (omega arith) in omega arith), λ k d' past lt. absurd (omega arith))
+    (omega arith) (omega arith))))
