@@ -116,27 +116,25 @@ impl<L: Drop, P: Drop, S: Drop, D: DescriptorDevice<L, P, S>> Store<L, P, S, D> 
         ensures names { OnErr result (names.new ≡ names.old) }
     {
         if names.len() > self.table.kept_count(layout) as usize {
-            return self.allocate_with_new(known, layout, Use::Held, names);
+            return self.allocate_with_new(known, layout, names);
         }
         self.hold_kept(layout, Use::Held, names);
         Ok(())
     }
 
-    /// Takes sets of a layout for a use, more than are kept. It is out of line, so that a call that finds
+    /// Holds sets of a layout, more than are kept. It is out of line, so that a call that finds
     /// enough saves no registers for it.
     #[inline(never)]
     fn allocate_with_new<N: SetName<DescriptorSet<S>> + Drop>(
         &mut self,
         known: &SetLayout<L>,
         layout: u32,
-        used: Use,
         names: &mut [N],
     ) -> Result<(), AllocationError>
         requires can { CanTake known.now layout self.old }
         requires few { length names.old ≤ 4294967295 }
-        requires live { is_live (frame_of used) true used ≡ true }
         requires short { kept_of layout self.old < length names.old }
-        ensures requests { Requests known.now.layout layout (length names.old) used
+        ensures requests { Requests known.now.layout layout (length names.old) Use.Held
             (N.handles_of names.new) result self.old self.new }
         ensures fit { OnOk result (AllFit N.handle_of N.fit (slots_in self.new) names.new) }
         ensures long { length names.new ≡ length names.old }
@@ -144,8 +142,8 @@ impl<L: Drop, P: Drop, S: Drop, D: DescriptorDevice<L, P, S>> Store<L, P, S, D> 
     {
         self.bring(known, layout, names.len() as u32)?;
         let (kept, new) = names.split_at_mut(names.len() - self.coming.len());
-        self.hold_kept(layout, used, kept);
-        self.hold_coming(layout, used, new);
+        self.hold_kept(layout, Use::Held, kept);
+        self.hold_coming(layout, Use::Held, new);
         Ok(())
     }
 }

@@ -74,27 +74,26 @@ impl<L, P, S, D: DescriptorDevice<L, P, S>> Store<L, P, S, D> {
     ) -> Result<(), AllocationError>
     {
         if names.len() > self.table.kept_count(layout) as usize {
-            return self.allocate_with_new(known, layout, Use::Held, names);
+            return self.allocate_with_new(known, layout, names);
         }
         self.hold_kept(layout, Use::Held, names);
         Ok(())
     }
 
-    /// Takes sets of a layout for a use, more than are kept. It is out of line, so that a call that finds
+    /// Holds sets of a layout, more than are kept. It is out of line, so that a call that finds
     /// enough saves no registers for it.
     #[inline(never)]
     fn allocate_with_new<N: SetName<DescriptorSet<S>>>(
         &mut self,
         known: &SetLayout<L>,
         layout: u32,
-        used: Use,
         names: &mut [N],
     ) -> Result<(), AllocationError>
     {
         self.bring(known, layout, names.len() as u32)?;
         let (kept, new) = names.split_at_mut(names.len() - self.coming.len());
-        self.hold_kept(layout, used, kept);
-        self.hold_coming(layout, used, new);
+        self.hold_kept(layout, Use::Held, kept);
+        self.hold_coming(layout, Use::Held, new);
         Ok(())
     }
 }

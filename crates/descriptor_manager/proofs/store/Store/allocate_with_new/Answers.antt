@@ -1,11 +1,12 @@
 use Rattle.std.proofs.lemmas.Grind.{common_steps}
-use Rattle.std.proofs.Common.{◌≡◌, ℕ, ◌<◌, ◌++◌, ◌∙◌, true, length, sym, ap, subst, arith}
+use Rattle.std.proofs.Common.{◌≡◌, ℕ, ◌<◌, ◌++◌, ◌∙◌, true, length, refl, sym, ap, subst, arith}
 use Rattle.std.proofs.lemmas.List.{get_or_append_left, length-append}
 use Rattle.gpu_descriptor.specs.Caller.Sets.{AreOfLayout}
 use Rattle.gpu_descriptor.proofs.request.Passed.{passed}
 use Rattle.descriptor_table.specs.Slots.{is_kept_of, slot_at}
 use Rattle.descriptor_table.specs.Tables.{place_at}
 use Rattle.descriptor_table.specs.declared.handle.SetHandle.{SetHandle}
+use Rattle.descriptor_table.specs.declared.slot.Use.TheVariants.{Held}
 use Rattle.descriptor_table.proofs.Names.{handles_both, handles_long}
 use Rattle.descriptor_manager.specs.Stores.{ComesOf, HoldEach, current_in, kept_of, slots_in}
 use Rattle.descriptor_manager.proofs.Bringing.{Brings, brought}
@@ -23,7 +24,7 @@ brings g c = brought c.args.known.now.layout c.args.layout (length c.args.names.
 both : (g : _) (c : After-hold_coming g) → g.N.SetName.handles_of (c.hold_kept.new.names ++ c.hold_coming.new.names) ≡ g.N.SetName.handles_of c.hold_kept.new.names ++ g.N.SetName.handles_of c.hold_coming.new.names
 both g c = handles_both g.N.SetName g.met.N.SetName.each c.hold_kept.new.names c.hold_coming.new.names
 
-all_held : (g : _) (c : After-hold_coming g) → HoldEach c.bring.new.self.table.number (current_in c.args.layout c.bring.new.self) c.args.used (g.N.SetName.handles_of (c.hold_kept.new.names ++ c.hold_coming.new.names)) (slots_in c.bring.new.self) (slots_in c.hold_coming.new.self)
+all_held : (g : _) (c : After-hold_coming g) → HoldEach c.bring.new.self.table.number (current_in c.args.layout c.bring.new.self) Held (g.N.SetName.handles_of (c.hold_kept.new.names ++ c.hold_coming.new.names)) (slots_in c.bring.new.self) (slots_in c.hold_coming.new.self)
 all_held g c = grind (arith, common_steps, both, brought, held_both)
 
 -- the kept ones have the first handles
@@ -54,15 +55,15 @@ returns-clause-requests g c =
     let a = (goal.at.returns-clause-requests g c).After-hold_coming in
     let kept = c.hold_kept.ensures.keeps in
     let came = c.hold_coming.ensures.keeps c.args.known.now.layout (subst (AreOfLayout g.D.DescriptorDevice.meaning c.args.known.now.layout) (sym c.hold_kept.ensures.coming) (brings g a).own) in
-    from_asked _ _ _ _ _ c.bring.new.self c.requires.can.rest c.requires.short _ _ _ c.requires.live c.bring.ensures.stays c.in_ok-bring.ensures.asks
+    from_asked _ _ _ _ _ c.bring.new.self c.requires.can.rest c.requires.short _ _ _ refl c.bring.ensures.stays c.in_ok-bring.ensures.asks
     (all_held g a) (first g a)
     (record {
       side = came.side ∙ kept.side;
       sets = kept_then (ComesOf g.D.DescriptorDevice.meaning c.args.known.now.layout c.args.layout) _ _ _ kept.sets came.sets;
-      grows = grow_more _ _ _ _ _ _ _ c.requires.live kept.grows came.grows c.hold_coming.ensures.holds;
+      grows = grow_more _ _ _ _ _ _ _ refl kept.grows came.grows c.hold_coming.ensures.holds;
       stays = stays_then _ _ _ kept.stays came.stays;
     })
     c.hold_coming.ensures.none
 
 pub returns-clause-fit : goal.returns-clause-fit
-returns-clause-fit g c = fit_both g.N.SetName g.met.N.SetName.each c.bring.new.self.table.number (current_in c.args.layout c.bring.new.self) c.args.used c.requires.live c.hold_kept.new.names c.hold_coming.new.names (slots_in c.bring.new.self) (slots_in c.hold_kept.new.self) (slots_in c.hold_coming.new.self) c.hold_kept.ensures.holds (held_stays c.args.layout c.args.used (g.N.SetName.handles_of c.hold_coming.new.names) (slots_in c.hold_kept.new.self) (slots_in c.hold_coming.new.self) c.bring.new.self c.hold_kept.new.self c.hold_kept.ensures.keeps.stays c.hold_coming.ensures.holds) c.hold_kept.ensures.fit c.hold_coming.ensures.fit
+returns-clause-fit g c = fit_both g.N.SetName g.met.N.SetName.each c.bring.new.self.table.number (current_in c.args.layout c.bring.new.self) Held refl c.hold_kept.new.names c.hold_coming.new.names (slots_in c.bring.new.self) (slots_in c.hold_kept.new.self) (slots_in c.hold_coming.new.self) c.hold_kept.ensures.holds (held_stays c.args.layout Held (g.N.SetName.handles_of c.hold_coming.new.names) (slots_in c.hold_kept.new.self) (slots_in c.hold_coming.new.self) c.bring.new.self c.hold_kept.new.self c.hold_kept.ensures.keeps.stays c.hold_coming.ensures.holds) c.hold_kept.ensures.fit c.hold_coming.ensures.fit
