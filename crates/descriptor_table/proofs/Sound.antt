@@ -8,7 +8,7 @@ use Rattle.descriptor_table.specs.Tables.{is_kept, removed_at}
 use Rattle.descriptor_table.specs.declared.slot.Chain.{Chain}
 use Rattle.descriptor_table.specs.declared.slot.Use.TheVariants.{Held, Taken}
 use Rattle.descriptor_table.specs.declared.slot_list.SlotList.{SlotList}
-use Rattle.descriptor_table.proofs.Chains.{few_set, filled_linked, listed_out, lists_set, nowhere_out, out_linked, pick_linked, picked, taken_no_list, taken_out, waits_no_list}
+use Rattle.descriptor_table.proofs.Chains.{few_set, listed_out, lists_set, nowhere_out, out_linked, pick_linked, picked, waits_no_list}
 use Rattle.descriptor_table.proofs.Counting.{same_or}
 use Rattle.descriptor_table.proofs.Growing.{known_grown, linked_grown, queue_grown}
 use Rattle.descriptor_table.proofs.Waiting.{first_waits, out_queue, pop_queue}
@@ -53,10 +53,6 @@ module _ {T : Type 0} (l l' : SlotList T) (chains : List Chain) (generations wai
   -- a slot came at the end, whose set a call has
   pub push_sound : (s : Slot T) → s.used ≡ Taken → slots_in l' ≡ slots_in l ++ s ∷ [] → nexts_in l' ≡ nexts_in l ++ 0 ∷ [] → IsListed (length chains) (generation_at generations) s → length (slots_in l) + 1 < 4294967296 → length (slots_in l) + 1 ≤ room → AreSound l' chains generations waiting room keep newest
   push_sound s taken slots nexts here few space = grind (arith, common_steps, length_push, linked_grown (slots_in l) (nexts_in l) chains s taken h.linked, queue_grown (slots_in l) waiting newest s taken h.queue, known_grown (slots_in l) s (length chains) (generation_at generations) here h.known)
-
-  -- a slot that a call has changed
-  pub fill_sound : (p x : ℕ) (s : Slot T) → p < length (slots_in l) → (slot_at (slots_in l) p).used ≡ Taken → s.used ≡ Taken → slots_in l' ≡ set (slots_in l) p s → nexts_in l' ≡ set (nexts_in l) p x → IsListed (length chains) (generation_at generations) s → AreSound l' chains generations waiting room keep newest
-  fill_sound p x s within was taken slots nexts here = grind (arith, common_steps, long p s slots, known p s slots within here, filled_linked (slots_in l) (nexts_in l) chains h.linked p s within (subst IsNowhere (sym was) tt) x (taken_no_list s taken), out_queue (slots_in l) waiting newest h.queue p s within (taken_out (slot_at (slots_in l) p) was) (taken_out s taken))
 
 -- one layout more of a number was removed
 pub removed_here : (generations : List ℕ) (layout x : ℕ) → layout + 2 < length generations → generation_at (set generations (layout + 2) x) layout ≡ x

@@ -59,7 +59,7 @@ impl<L: Drop, P: Drop, S: Drop, D: DescriptorDevice<L, P, S>> Store<L, P, S, D> 
         }
     }
 
-    /// Puts one of the new sets in `coming` to a use.
+    /// Puts one of the new sets in `coming` to a use, and returns its name.
     #[inline(always)]
     pub(super) fn hold_last<N: SetName<DescriptorSet<S>>>(&mut self, layout: u32, used: Use) -> N
         requires some { 0 < length self.old.coming.items }

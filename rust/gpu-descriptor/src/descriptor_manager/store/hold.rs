@@ -27,7 +27,7 @@ impl<L, P, S, D: DescriptorDevice<L, P, S>> Store<L, P, S, D> {
         }
     }
 
-    /// Puts one of the new sets in `coming` to a use.
+    /// Puts one of the new sets in `coming` to a use, and returns its name.
     #[inline(always)]
     pub(super) fn hold_last<N: SetName<DescriptorSet<S>>>(&mut self, layout: u32, used: Use) -> N
     {
