@@ -97,10 +97,6 @@ fn main() {
         "waits" => Scene::waits,
         "grown" => Scene::grown,
         "layout" => Scene::layout,
-        "unkept" => {
-            scene.manager.set_max_kept(0);
-            Scene::frame
-        }
         _ => panic!("no cost has this name"),
     };
     for _ in 0..operations {

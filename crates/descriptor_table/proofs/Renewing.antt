@@ -1,4 +1,4 @@
--- A set that comes into a slot, gets a handle, or leaves: for `SetTable::put`, `hold_kept`, `take_out` and `take_of`, and for `Store`.
+-- A set that comes into a slot, gets a handle, or leaves: for `SetTable::put`, `hold_kept`, `take_out` and `take_listed`, and for `Store`.
 -- `old` are the slots before, `mid` those once the slot was picked from its list or its set taken out, `new` those after.
 use Rattle.std.proofs.lemmas.Grind.{common_steps}
 use Rattle.std.proofs.Common.{◌≡◌, ◌≢◌, ℕ, ◌+◌, ◌<◌, ◌≤◌, Bool, true, false, List, length, set, Option, None, is_some, refl, arith, rules}
@@ -7,11 +7,11 @@ use Rattle.std.proofs.lemmas.Bool.{false≢true}
 use Rattle.descriptor_table.specs.Slots.{filled, is_in, slot_at}
 use Rattle.descriptor_table.specs.Tables.{At, GivesAny, HasRoom, Picks, Puts, Stays, count, is_usable, slots_of, used_for, vacated}
 use Rattle.descriptor_table.specs.declared.set_table.SetTable.{SetTable}
-use Rattle.descriptor_table.specs.declared.slot.Use.TheVariants.{Taken, Vacant}
+use Rattle.descriptor_table.specs.declared.slot.Use.TheVariants.{Taken}
 use Rattle.descriptor_table.specs.Slots.{Slot}
 use Rattle.descriptor_table.proofs.Chains.{and_true}
 use Rattle.descriptor_table.proofs.Counts.{bit, count_set}
-use Rattle.descriptor_table.proofs.Listed.{other_slots, slot_set, test_within, with_use}
+use Rattle.descriptor_table.proofs.Listed.{other_slots, slot_set, test_within}
 
 module _ {T : Type 0} where
   -- what is known of a vacant slot
@@ -29,10 +29,6 @@ module _ {T : Type 0} where
   -- a vacant slot is used, and so there is room for one fewer
   pub room_less : (n p : ℕ) (s t : Slot T) (a b : SetTable T) (mid : List (Slot T)) → is_usable (slot_at (slots_of a) p) ≡ true → mid ≡ set (slots_of a) p s → slots_of b ≡ set mid p t → is_usable t ≡ false → Stays a b → HasRoom (n + 1) a → HasRoom n b
   room_less n p s t a b mid usable put is used stays room = grind (arith, common_steps, bit, count_set, length-set, set-set, test_within is_usable (slots_of a) p refl usable)
-
-  -- a slot whose set was taken is vacant
-  pub leaves_vacant : (p : ℕ) (old mid new : List (Slot T)) → p < length old → mid ≡ set old p (record (slot_at old p) { set = None }) → new ≡ with_use p Vacant mid → new ≡ set old p (vacated (slot_at old p))
-  leaves_vacant p old mid new within taken is = grind (arith, common_steps, set-set, slot_set)
 
   -- a set that passes the test left its list, then its slot
   pub gives : (test : Slot T → Bool) (p : ℕ) (r : Option T) (old mid new : List (Slot T)) → Picks test (used_for Taken) p old mid → is_some (slot_at old p).set ≡ true → r ≡ (slot_at mid p).set → (is_some r ≡ true → new ≡ set mid p (vacated (slot_at mid p))) → GivesAny test r old new

@@ -1,16 +1,15 @@
 -- Sets that return to their pools.
 use Rattle.std.specs.Prelude.{◌≡◌, Bool, Option}
-use Rattle.descriptor_table.specs.Slots.{Slot, goes, is_due, is_kept_of}
+use Rattle.descriptor_table.specs.Slots.{Slot, goes, is_kept_of}
 use Rattle.descriptor_table.specs.Tables.{Changes, GivesAny}
 use Rattle.descriptor_table.specs.declared.giving.Giving.{Giving}
 use Rattle.descriptor_table.specs.declared.giving.Group.{Group}
-use Rattle.descriptor_table.specs.declared.giving.Group.TheVariants.{Going, Due, KeptOf}
+use Rattle.descriptor_table.specs.declared.giving.Group.TheVariants.{Going, KeptOf}
 
 module _ {T : Type 0} where
   -- whether a slot has a set of the group
   abbrev pub is_of : Group → Slot T → Bool
   is_of Going = goes
-  is_of (Due frame) = is_due frame
   is_of (KeptOf layout) = is_kept_of layout
 
   -- one of the group was taken out of its slot, if there was one

@@ -94,7 +94,7 @@ pub struct SlotList<T> {
 impl<T> SlotList<T> {
     ghost use Rattle.descriptor_table.specs.Slots.{Writes, filled, frame_of, nexts_in, slot_at, slot_of, slots_in, space_in};
     ghost use Rattle.descriptor_table.specs.Slots.{no_slot, waits};
-    ghost use Rattle.descriptor_table.specs.Tables.{aged, renewed, used_for};
+    ghost use Rattle.descriptor_table.specs.Tables.{aged, renewed, used_for, vacated};
 
     /// A list without slots. It allocates no memory.
     pub(crate) fn new(alloc: Global) -> Self
@@ -232,6 +232,20 @@ impl<T> SlotList<T> {
         ensures nexts { nexts_in self.new ≡ nexts_in self.old }
     {
         self.entries[place].set.take()
+    }
+
+    /// Takes the set out of a slot, leaves the slot vacant, and makes `next` the slot that follows in its list.
+    #[inline]
+    pub(crate) fn vacate(&mut self, place: usize, next: u32) -> Option<T>
+        requires { place < length (slots_in self.old) }
+        ensures set { result ≡ (slot_at (slots_in self.old) place).set }
+        ensures writes { Writes place vacated self.old self.new }
+        ensures nexts { nexts_in self.new ≡ slice_set (nexts_in self.old) place next }
+    {
+        let entry = &mut self.entries[place];
+        entry.next = next;
+        entry.set_use(Use::Vacant);
+        entry.set.take()
     }
 
     /// Puts a set into a slot that has none, and to a use, raises the slot's generation, and returns it.

@@ -29,7 +29,7 @@ impl<L: Drop, P: Drop, S: Drop, D: DescriptorDevice<L, P, S>> Store<L, P, S, D> 
         ensures stays { KeepsStore self.old self.new }
         ensures coming { self.new.coming.items ≡ self.old.coming.items }
     {
-        if self.table.is_known_empty(group) {
+        if self.table.is_empty(group) {
             // A proof knows the allocator's invariant only from what its readers promise.
             prove!(self.allocator.update_after_bind_descriptors() <= u32::MAX);
             prove!(self.allocator.update_after_bind_capacity() <= u32::MAX);
@@ -88,10 +88,6 @@ impl<L: Drop, P: Drop, S: Drop, D: DescriptorDevice<L, P, S>> Store<L, P, S, D> 
         ensures none_due { (p : ℕ) → is_due frame (slot_at (slots_in self.new) p) ≡ false }
         ensures settles { Settles NoneComes self.old self.new }
     {
-        if self.table.keep() == 0 {
-            self.give(Group::Due(frame));
-            return;
-        }
         self.table.settle_due(frame);
         self.give(Group::Going);
     }

@@ -16,14 +16,6 @@ impl<T> SetTable<T> {
         self.slots.len()
     }
 
-    /// How many sets of a layout are kept at most.
-    #[inline]
-    pub fn keep(&self) -> u32
-        ensures { result ≡ self.now.keep }
-    {
-        self.keep
-    }
-
     /// Sets how many sets of a layout are kept at most. When it is called, no more than `max` of any
     /// are.
     pub fn set_max_kept(&mut self, max: u32)

@@ -1,5 +1,5 @@
 //! The lists of slots without a set, of sets that go back to their pools, and of kept sets.
-ghost use Rattle.std.specs.Prelude.{◌≡◌, ◌+◌, ◌<◌, ◌≤◌, IfSome, IsTrue, is_some, length, true, false, ℕ};
+ghost use Rattle.std.specs.Prelude.{◌≡◌, ◌==◌, ◌+◌, ◌<◌, ◌≤◌, IfSome, IsTrue, is_some, length, true, false, ℕ};
 
 use super::waiting::enqueue;
 use super::{GOING, GROUPS, KEPT, SetTable};
@@ -151,15 +151,14 @@ impl<T> SetTable<T> {
         self.kept_list(layout).chain.count
     }
 
-    /// Whether a group is known to be empty, by its list. Of the sets that wait it isn't known.
+    /// Whether a group is empty.
     #[inline]
-    pub fn is_known_empty(&self, group: Group) -> bool
-        ensures { IsTrue result → (p : ℕ) → is_of group (slot_at (slots_of self.now) p) ≡ false }
+    pub fn is_empty(&self, group: Group) -> bool
+        ensures { result ≡ (count (is_of group) (slots_of self.now) == 0) }
     {
         match group {
             Group::Going => self.chain(GOING).count == 0,
             Group::KeptOf(layout) => self.chain(layout as usize + KEPT).count == 0,
-            Group::Due(_) => false,
         }
     }
 }

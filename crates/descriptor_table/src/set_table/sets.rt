@@ -91,40 +91,33 @@ impl<T> SetTable<T> {
         name
     }
 
-    /// Takes the set out of a slot.
-    #[inline]
-    fn empty(&mut self, place: usize) -> Option<T>
+    /// Takes the set out of a slot that had its last generation, so the slot is never used again.
+    #[cold]
+    fn retire(&mut self, place: usize) -> Option<T>
         requires taken { IsTaken place (slots_of self.old) }
+        requires last { (slot_at (slots_of self.old) place).generation ≡ 4294967295 }
         ensures set { result ≡ (slot_at (slots_of self.old) place).set }
-        ensures empties { Changes (At place (λ slot. record slot { set = None })) self.old self.new }
+        ensures changes { Changes (At place vacated) self.old self.new }
     {
+        self.slots.set_use(place, Use::Vacant);
         self.slots.take_set(place)
     }
 
-    /// Leaves a slot vacant whose set was taken out. The slot is reused, unless it had its last
-    /// generation.
-    #[inline]
-    fn vacate(&mut self, place: usize)
-        requires taken { IsTaken place (slots_of self.old) }
-        requires empty { (slot_at (slots_of self.old) place).set ≡ None }
-        ensures { Changes (At place (used_for Use.Vacant)) self.old self.new }
-    {
-        if self.slots.at(place).generation < u32::MAX {
-            self.link(VACANT, place, Use::Vacant);
-        } else {
-            self.slots.set_use(place, Use::Vacant);
-        }
-    }
-
-    /// Takes the set out of a slot that a call has taken, and leaves the slot vacant.
+    /// Takes the set out of a slot that a call has taken, and leaves the slot vacant. The slot is reused,
+    /// unless it had its last generation.
     #[inline]
     fn take_out(&mut self, place: usize) -> Option<T>
         requires taken { IsTaken place (slots_of self.old) }
         ensures set { result ≡ (slot_at (slots_of self.old) place).set }
         ensures changes { Changes (At place vacated) self.old self.new }
     {
-        let set = self.empty(place);
-        self.vacate(place);
+        if self.slots.at(place).generation == u32::MAX {
+            return self.retire(place);
+        }
+        let head = &mut self.lists[VACANT];
+        let set = self.slots.vacate(place, head.chain.first);
+        head.chain.first = place as u32;
+        head.chain.count += 1;
         set
     }
 
@@ -138,15 +131,6 @@ impl<T> SetTable<T> {
         self.take_out(place)
     }
 
-    /// Takes a set that waits for a frame up to this one out of its slot.
-    #[inline(never)]
-    fn take_due(&mut self, frame: u64) -> Option<T>
-        ensures { Changes (GivesAny (is_due frame) result) self.old self.new }
-    {
-        let place = self.pick_due(frame)?;
-        self.take_out(place)
-    }
-
     /// Takes a set of a group out of its slot.
     #[inline]
     pub(crate) fn take_of(&mut self, group: Group) -> Option<T>
@@ -155,7 +139,6 @@ impl<T> SetTable<T> {
         let list = match group {
             Group::Going => GOING,
             Group::KeptOf(layout) => layout as usize + KEPT,
-            Group::Due(frame) => return self.take_due(frame),
         };
         self.take_listed(list)
     }

@@ -9,9 +9,6 @@ pub enum Group {
     /// Those that go.
     Going,
 
-    /// Those that wait for this frame or an earlier one.
-    Due(u64),
-
     /// The kept ones of a layout.
     KeptOf(u32),
 }

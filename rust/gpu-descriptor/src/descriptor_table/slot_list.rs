@@ -181,6 +181,16 @@ impl<T> SlotList<T> {
         self.entries[place].set.take()
     }
 
+    /// Takes the set out of a slot, leaves the slot vacant, and makes `next` the slot that follows in its list.
+    #[inline]
+    pub(crate) fn vacate(&mut self, place: usize, next: u32) -> Option<T>
+    {
+        let entry = &mut self.entries[place];
+        entry.next = next;
+        entry.set_use(Use::Vacant);
+        entry.set.take()
+    }
+
     /// Puts a set into a slot that has none, and to a use, raises the slot's generation, and returns it.
     #[inline]
     pub(crate) fn fill(

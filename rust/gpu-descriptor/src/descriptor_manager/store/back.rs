@@ -10,7 +10,7 @@ impl<L, P, S, D: DescriptorDevice<L, P, S>> Store<L, P, S, D> {
     #[inline]
     fn give(&mut self, group: Group)
     {
-        if self.table.is_known_empty(group) {
+        if self.table.is_empty(group) {
             return;
         }
         self.give_each(group);
@@ -47,10 +47,6 @@ impl<L, P, S, D: DescriptorDevice<L, P, S>> Store<L, P, S, D> {
     /// Frees the sets that wait for `frame` or an earlier one: each is kept, or returns to its pool.
     pub(crate) fn finish(&mut self, frame: u64)
     {
-        if self.table.keep() == 0 {
-            self.give(Group::Due(frame));
-            return;
-        }
         self.table.settle_due(frame);
         self.give(Group::Going);
     }

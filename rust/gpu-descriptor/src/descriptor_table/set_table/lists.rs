@@ -110,14 +110,13 @@ impl<T> SetTable<T> {
         self.kept_list(layout).chain.count
     }
 
-    /// Whether a group is known to be empty, by its list. Of the sets that wait it isn't known.
+    /// Whether a group is empty.
     #[inline]
-    pub fn is_known_empty(&self, group: Group) -> bool
+    pub fn is_empty(&self, group: Group) -> bool
     {
         match group {
             Group::Going => self.chain(GOING).count == 0,
             Group::KeptOf(layout) => self.chain(layout as usize + KEPT).count == 0,
-            Group::Due(_) => false,
         }
     }
 }

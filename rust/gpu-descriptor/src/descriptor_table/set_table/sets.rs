@@ -63,31 +63,26 @@ impl<T> SetTable<T> {
         name
     }
 
-    /// Takes the set out of a slot.
-    #[inline]
-    fn empty(&mut self, place: usize) -> Option<T>
+    /// Takes the set out of a slot that had its last generation, so the slot is never used again.
+    #[cold]
+    fn retire(&mut self, place: usize) -> Option<T>
     {
+        self.slots.set_use(place, Use::Vacant);
         self.slots.take_set(place)
     }
 
-    /// Leaves a slot vacant whose set was taken out. The slot is reused, unless it had its last
-    /// generation.
-    #[inline]
-    fn vacate(&mut self, place: usize)
-    {
-        if self.slots.at(place).generation < u32::MAX {
-            self.link(VACANT, place, Use::Vacant);
-        } else {
-            self.slots.set_use(place, Use::Vacant);
-        }
-    }
-
-    /// Takes the set out of a slot that a call has taken, and leaves the slot vacant.
+    /// Takes the set out of a slot that a call has taken, and leaves the slot vacant. The slot is reused,
+    /// unless it had its last generation.
     #[inline]
     fn take_out(&mut self, place: usize) -> Option<T>
     {
-        let set = self.empty(place);
-        self.vacate(place);
+        if self.slots.at(place).generation == u32::MAX {
+            return self.retire(place);
+        }
+        let head = &mut self.lists[VACANT];
+        let set = self.slots.vacate(place, head.chain.first);
+        head.chain.first = place as u32;
+        head.chain.count += 1;
         set
     }
 
@@ -99,14 +94,6 @@ impl<T> SetTable<T> {
         self.take_out(place)
     }
 
-    /// Takes a set that waits for a frame up to this one out of its slot.
-    #[inline(never)]
-    fn take_due(&mut self, frame: u64) -> Option<T>
-    {
-        let place = self.pick_due(frame)?;
-        self.take_out(place)
-    }
-
     /// Takes a set of a group out of its slot.
     #[inline]
     pub(crate) fn take_of(&mut self, group: Group) -> Option<T>
@@ -114,7 +101,6 @@ impl<T> SetTable<T> {
         let list = match group {
             Group::Going => GOING,
             Group::KeptOf(layout) => layout as usize + KEPT,
-            Group::Due(frame) => return self.take_due(frame),
         };
         self.take_listed(list)
     }

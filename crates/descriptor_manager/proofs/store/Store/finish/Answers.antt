@@ -6,7 +6,7 @@ use Rattle.descriptor_table.proofs.Turning.{due_full}
 use Rattle.descriptor_manager.proofs.Given.{accounted_as, exact_as}
 use Rattle.descriptor_manager.proofs.Back.{came_back, settled_sets}
 use Rattle.descriptor_manager.proofs.Following.{none_goes}
-use Rattle.descriptor_manager.proofs.store.Store.finish.Goals.{After-give-2, After-settle_due}
+use Rattle.descriptor_manager.proofs.store.Store.finish.Goals.{After-give, After-settle_due}
 use Rattle.descriptor_manager.proofs.store.Store.finish.Goals as goal
 
 -- the sets are as they were
@@ -20,8 +20,8 @@ pub invariant_of-self-clause-accounted : goal.invariant_of-self-clause-accounted
 invariant_of-self-clause-accounted g c = accounted_as c.args.self.now (same_sets g (goal.at.invariant_of-self-clause-accounted g c).After-settle_due)
 
 -- those that were due were freed
-turns : (g : _) (c : After-give-2 g) → Turns (is_due c.args.frame) (IsBack vacated (generations_of c.args.self.now.table) c.args.self.now.table.keep) (slots_of c.args.self.now.table) (slots_of c.give-2.new.self.table)
+turns : (g : _) (c : After-give g) → Turns (is_due c.args.frame) (IsBack vacated (generations_of c.args.self.now.table) c.args.self.now.table.keep) (slots_of c.args.self.now.table) (slots_of c.give.new.self.table)
 turns g c = search (rules, came_back, due_full, none_goes)
 
 pub returns-clause-back : goal.returns-clause-back
-returns-clause-back g c = record { turns = turns g c; back = c.give-2.ensures.frees.back }
+returns-clause-back g c = record { turns = turns g c; back = c.give.ensures.frees.back }
